@@ -1,0 +1,38 @@
+//! What a handler leaves.
+use crate::memory::{Duplicate, NoMemory};
+use crate::record::ProductionList;
+use crate::state::State;
+use crate::timer::TimerList;
+use std::alloc::Global;
+use std::marker::Model;
+
+/// The key's new state, the timers that were set, in order, and the records that were produced.
+#[derive(Debug, Drop)]
+pub struct Effects {
+    /// The key's state after the handler.
+    pub state: State,
+    /// The timers that the handler set, in the order of its calls.
+    pub timers: TimerList,
+    /// The records that the handler produced, in the order of its calls.
+    pub productions: ProductionList,
+}
+
+impl Model for Effects {
+    ghost use Rattle.mw_types.specs.Outcomes.{Outcome, IsOutcome};
+
+    ghost Value = { Outcome };
+
+    ghost view = { λ e. record { state = e.state; timers = e.timers; productions = e.productions } };
+
+    ghost invariant = { λ e. IsOutcome e.state e.timers e.productions };
+}
+
+impl Duplicate for Effects {
+    fn copy(&self, alloc: Global) -> Result<Effects, NoMemory> {
+        Ok(Effects {
+            state: self.state.copy(alloc)?,
+            timers: self.timers.copy(alloc)?,
+            productions: self.productions.copy(alloc)?,
+        })
+    }
+}

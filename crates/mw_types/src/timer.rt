@@ -1,0 +1,48 @@
+//! Timers, Akidau et al., VLDB 2013, section 4.6.
+ghost use Rattle.std.specs.Prelude.{◌≡◌};
+
+use crate::memory::{Duplicate, NoMemory};
+use crate::seq::Seq;
+use std::alloc::Global;
+
+/// A timer of one row, which is the same timer as another of that row with this tag and time.
+#[derive(Clone, Copy, Debug, PartialEq, Eq)]
+pub struct Timer {
+    /// What its computation knows it by.
+    pub tag: u64,
+    /// When it is due, in whole microseconds.
+    pub time: u64,
+    /// Whether it was set by late causes alone.
+    pub late: bool,
+}
+
+/// A list of timers.
+pub type TimerList = Seq<Timer>;
+
+impl Duplicate for Timer {
+    fn copy(&self, _alloc: Global) -> Result<Timer, NoMemory> {
+        Ok(*self)
+    }
+}
+
+/// What tells the timers of one row apart, in the order in which they fire.
+#[derive(Clone, Copy, Debug, PartialEq, Eq, PartialOrd, Ord)]
+pub struct TimerPair {
+    /// When the timer is due, in whole microseconds.
+    pub time: u64,
+    /// What its computation knows it by.
+    pub tag: u64,
+}
+
+impl Timer {
+    /// The pair of its time and its tag.
+    pub fn pair(&self) -> TimerPair
+        ensures time { result.time ≡ self.now.time }
+        ensures tag { result.tag ≡ self.now.tag }
+    {
+        TimerPair {
+            time: self.time,
+            tag: self.tag,
+        }
+    }
+}
