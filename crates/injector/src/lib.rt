@@ -1,0 +1,8 @@
+//! The records of one injector's file, in order, with what each line declared late.
+//!
+//! Stands on `mw_types`. The definition is `specs/Sources.antt`, which is to be read from the top.
+#![tactic(auto)]
+
+mod item;
+
+pub use item::Item;
