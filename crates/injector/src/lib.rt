@@ -4,5 +4,7 @@
 #![tactic(auto)]
 
 mod item;
+mod items;
 
 pub use item::Item;
+pub use items::{Items, ItemsList};
