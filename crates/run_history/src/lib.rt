@@ -4,3 +4,8 @@
 //! `emissions` and `result_text` answer what the definitions say. Definitions: `specs/Lib.antt` names
 //! them in the order of reading; `specs/Legal.antt` says which histories are legal.
 #![tactic(auto)]
+
+mod history;
+mod line;
+
+pub use history::History;
