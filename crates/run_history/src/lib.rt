@@ -5,7 +5,16 @@
 //! them in the order of reading; `specs/Legal.antt` says which histories are legal.
 #![tactic(auto)]
 
+mod case;
+mod emitted;
 mod history;
+mod lateness;
 mod line;
+mod made;
+mod text;
 
+pub use case::Case;
+pub use emitted::emissions;
 pub use history::History;
+pub use made::{Made, make};
+pub use text::result_text;
