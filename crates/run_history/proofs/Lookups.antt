@@ -11,12 +11,12 @@ use Rattle.std.specs.Map.{lookup, keys_of}
 use Rattle.std.specs.BTreeMap.{insert_entry, is_at}
 
 -- of two tests that are the same, the inner one is never reached
-shadowed : {A : Type 0} (b : Bool) (x y z : A) → cond b x z ≡ cond b x (cond b y z)
+pub shadowed : {A : Type 0} (b : Bool) (x y z : A) → cond b x z ≡ cond b x (cond b y z)
 shadowed true x y z = refl
 shadowed false x y z = refl
 
 -- of two tests that do not both pass, either may come first
-swapped : {A : Type 0} (a b : Bool) (x y z : A) → (a ≡ true → b ≡ false) → cond a x (cond b y z) ≡ cond b y (cond a x z)
+pub swapped : {A : Type 0} (a b : Bool) (x y z : A) → (a ≡ true → b ≡ false) → cond a x (cond b y z) ≡ cond b y (cond a x z)
 swapped true b x y z apart = ap (λ c. cond true x (cond c y z)) (apart refl) ∙ sym (ap (λ c. cond c y (cond true x z)) (apart refl))
 swapped false b x y z apart = refl
 
@@ -29,6 +29,12 @@ equal_from_tie Greater e = cc
 -- an order that is no tie, by its value
 no_tie : (o p : Ordering) → o ≡ p → is_eq p ≡ false → is_eq o ≡ false
 no_tie o p e f = ap is_eq e ∙ f
+
+-- what a key is before, each key is that is before it
+above_too : {K : Type 0} {R : K → K → Ordering} (o : IsTotalOrder R) (x y : K) (ks : List K) → R x y ≡ Less
+    → AllByRecursion (λ (q : K). R y q ≡ Less) ks → AllByRecursion (λ (q : K). R x q ≡ Less) ks
+above_too o x y [] less above = tt
+above_too o x y (k ∷ ks) less above = (o.trans x y k less above.0, above_too o x y ks less above.1)
 
 module _ {K X : Type 0} {R : K → K → Ordering} (o : IsTotalOrder R) where
   -- a look-up finds a value that was put at its key, and at other keys what was there
@@ -61,3 +67,37 @@ module _ {K X : Type 0} {R : K → K → Ordering} (o : IsTotalOrder R) where
       later (f ∷ fs) found above = (
           ap (λ r. cond (is_eq r) (Some e.1) (lookup (is_at (R f.0)) es)) (o.antisymm f.0 e.0 ∙ ap ordering_reverse above.0) ∙ found.0,
           later fs found.1 above.1 )
+
+  -- a key before others is before one that is put among them, where it is before that one too
+  below-insert_entry : (x k : K) (v : X) (es : List (K × X)) → R x k ≡ Less → AllByRecursion (λ (q : K). R x q ≡ Less) (keys_of es)
+      → AllByRecursion (λ (q : K). R x q ≡ Less) (keys_of (insert_entry R es k v))
+  below-insert_entry x k v [] less above = (less, tt)
+  below-insert_entry x k v (e ∷ es) less above =
+      elim (R k e.0) as (λ r. AllByRecursion (λ (q : K). R x q ≡ Less) (keys_of (match_ordering r ((k, v) ∷ e ∷ es) ((e.0, v) ∷ es) (e ∷ insert_entry R es k v)))) [
+        | Less ↦ (less, above)
+        | Equal ↦ above
+        | Greater ↦ (above.0, below-insert_entry x k v es less above.1)
+      ]
+
+  -- entries stay in the order of their keys where one is put among them
+  pub sorted-insert_entry : (es : List (K × X)) (k : K) (v : X) → IsStrictlySortedBy R (keys_of es)
+      → IsStrictlySortedBy R (keys_of (insert_entry R es k v))
+  unfolding IsStrictlySortedBy
+  sorted-insert_entry [] k v sorted = (tt, tt)
+  sorted-insert_entry (e ∷ es) k v sorted =
+      elim (R k e.0) as (λ r. R k e.0 ≡ r → IsStrictlySortedBy R (keys_of (match_ordering r ((k, v) ∷ e ∷ es) ((e.0, v) ∷ es) (e ∷ insert_entry R es k v)))) [
+        | Less ↦ λ p. ((p, above_too o k e.0 (keys_of es) p sorted.0), sorted)
+        | Equal ↦ λ p. sorted
+        | Greater ↦ λ p. (below-insert_entry e.0 k v es (o.antisymm e.0 k ∙ ap ordering_reverse p) sorted.0, sorted-insert_entry es k v sorted.1)
+      ] refl
+
+-- what holds of each value, and of one that is put among them, holds of each then
+pub each-insert_entry : {K X : Type 0} (R : K → K → Ordering) (P : X → Type 0) (es : List (K × X)) (k : K) (v : X)
+    → AllByRecursion (λ (e : K × X). P e.1) es → P v → AllByRecursion (λ (e : K × X). P e.1) (insert_entry R es k v)
+each-insert_entry R P [] k v each new = (new, tt)
+each-insert_entry {K} {X} R P (e ∷ es) k v each new =
+    elim (R k e.0) as (λ r. AllByRecursion (λ (f : K × X). P f.1) (match_ordering r ((k, v) ∷ e ∷ es) ((e.0, v) ∷ es) (e ∷ insert_entry R es k v))) [
+      | Less ↦ (new, each)
+      | Equal ↦ (new, each.1)
+      | Greater ↦ (each.0, each-insert_entry R P es k v each.1 new)
+    ]

@@ -1,0 +1,4 @@
+pub mod Orderings
+pub mod TimerLaws
+pub mod SlotLaws
+pub mod RowLaws
