@@ -2,3 +2,4 @@ pub mod Orderings
 pub mod TimerLaws
 pub mod SlotLaws
 pub mod RowLaws
+pub mod FireLaws

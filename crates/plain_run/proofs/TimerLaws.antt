@@ -61,7 +61,7 @@ above_too t u [] e above = tt
 above_too t u (x ∷ xs) e above = (timer_cmp-total.trans t u x e above.0, above_too t u xs e above.1)
 
 -- whether a timer at the head of a list, or one behind it, is found
-late_at-cons : (tag time : ℕ) (u : Timer) (us : List Timer) (b : Bool) → is_timer tag time u ≡ b
+pub late_at-cons : (tag time : ℕ) (u : Timer) (us : List Timer) (b : Bool) → is_timer tag time u ≡ b
     → late_at tag time (u ∷ us) ≡ cond b (Some u.late) (late_at tag time us)
 late_at-cons tag time u us true e = ap (λ b. option_map (λ (x : Timer). x.late) (cond b (Some u) (find (is_timer tag time) us))) e
 late_at-cons tag time u us false e = ap (λ b. option_map (λ (x : Timer). x.late) (cond b (Some u) (find (is_timer tag time) us))) e
