@@ -1,12 +1,13 @@
 -- What a search in an ascending list finds, and what an edit at that place does.
-use Rattle.std.proofs.Common.{◌≡◌, ℕ, zero, suc, ◌+◌, ◌<◌, ◌≤◌, ◌==◌, not, List, [], ◌∷◌, length, get_or, set, Some, None, Option, Result, Ok, Err, IfOk, IfErr, slice_get, map, filter, find, refl, sym, ap, subst, arith}
+use Rattle.std.proofs.Common.{◌≡◌, ℕ, zero, suc, ◌+◌, ◌<◌, ◌≤◌, ◌==◌, not, List, [], ◌∷◌, length, get_or, set, Some, None, Option, Result, Ok, Err, IfOk, IfErr, slice_get, map, filter, find, refl, sym, ap, ◌∙◌, arith}
 use Rattle.std.specs.List.{insert, remove}
 use Rattle.std.specs.List.Sorted.{IsSearchInRange, IsBinarySearchResult, IsNonDecreasingBy, IsStrictlySortedBy}
 use Rattle.std.specs.Ordering.{nat_cmp, ordering_index}
 use Rattle.std.proofs.lemmas.Cmp.{ranked}
 use Rattle.std.proofs.lemmas.Map.Keys.{below_from_sorted}
 use Rattle.std.proofs.lemmas.Bool.Decides.{nat_tests}
-use Rattle.std.proofs.lemmas.Grind.{common_steps}
+use Rattle.std.proofs.lemmas.List.{get_or-map, length-map}
+use Rattle.std.proofs.lemmas.Option.{get_or_from_slice_get}
 use Rattle.computations.specs.Handlers.{entered}
 use Rattle.computations.specs.Places.{IsPlace, IsGap}
 
@@ -41,6 +42,10 @@ module _ {X : Type 0} (number : X → ℕ) where
   entered-place x change (z ∷ zs) zero y p e = grind (arith, nat_tests, p.here z)
   entered-place x change (z ∷ zs) (suc at) y p e = grind (arith, nat_tests, p.before 0 z (omega arith), entered-place x change zs at y (IsPlace-tail z zs _ at p) e)
 
+  -- the element that is read at a number's place has the number
+  pub number-place : (xs : List X) (n at : ℕ) (y : X) → IsPlace number xs n at → slice_get xs at ≡ Some y → number y ≡ n
+  number-place xs n at y p e = sym (ap number (get_or_from_slice_get xs at y y e)) ∙ p.here y
+
   -- the element at the number's place is the one that has it
   pub find-place : (xs : List X) (n at : ℕ) → IsPlace number xs n at → find (λ x. number x == n) xs ≡ slice_get xs at
   find-place [] n at p = absurd (omega (arith, p.in_range))
@@ -63,3 +68,40 @@ module _ {X : Type 0} (number : X → ℕ) where
   filter-place [] n at p = absurd (omega (arith, p.in_range))
   filter-place (x ∷ xs) n zero p = grind (arith, nat_tests, p.here x, filter-above xs n (λ j d within. p.after (suc j) d (omega arith) (omega arith)))
   filter-place (x ∷ xs) n (suc at) p = grind (arith, nat_tests, p.before 0 x (omega arith), filter-place xs n at (IsPlace-tail x xs n at p))
+
+module _ {X : Type 0} (number : X → ℕ) (xs : List X) (n : ℕ) (up : IsStrictlySortedBy nat_cmp (map number xs)) where
+  -- of two elements the later has the greater number
+  rises : (i j : ℕ) (d : X) → i < j → j < length xs → number (get_or xs i d) < number (get_or xs j d)
+  rises i j d lt within =
+      let below = below_from_sorted (map number xs) i j (number d) up lt (omega (arith, length-map xs number)) in
+      let at_i = get_or-map number xs i d (number d) (omega arith) in
+      let at_j = get_or-map number xs j d (number d) within in
+      omega (arith, below, at_i, at_j)
+
+  -- the comparisons with the number rise along the list, as a binary search asks
+  comparisons_rise : IsNonDecreasingBy (λ x. ordering_index (nat_cmp (number x) n)) xs
+  comparisons_rise i j d le within =
+      let numbers_rise : number (get_or xs i d) ≤ number (get_or xs j d) = grind (arith, rises i j d, λ (same : i ≡ j). ap (λ k. number (get_or xs k d)) same) in
+      grind (arith, nat_tests)
+
+  -- a binary search by number ends at the number's place, or at its gap
+  pub searched : (r : Result ℕ ℕ) → IsSearchInRange r (length xs) → IsBinarySearchResult (λ x. nat_cmp (number x) n) xs r → record { found : IfOk r (IsPlace number xs n); absent : IfErr r (IsGap number xs n) }
+  searched (Ok at) within equal =
+      let here : (d : X) → number (get_or xs at d) ≡ n = λ d. ranked _ n _ (sym (equal d)) in
+      record {
+        found = record {
+          in_range = within;
+          before = λ j d lt. omega (arith, rises j at d lt within, here d);
+          here = here;
+          after = λ j d lt inside. omega (arith, rises at j d lt inside, here d);
+        };
+        absent = tt;
+      }
+  searched (Err at) within parted = record {
+    found = tt;
+    absent = record {
+      in_range = within;
+      before = λ j d lt. ranked _ n _ (sym ((parted comparisons_rise).0 j d (omega arith) lt));
+      after = λ j d le inside. ranked _ n _ (sym ((parted comparisons_rise).1 j d le inside));
+    };
+  }

@@ -4,3 +4,6 @@ pub mod Parts
 pub mod Handlings
 pub mod Lending
 pub mod Places
+pub mod Entering
+pub mod Bounded
+pub mod HandlerLaws

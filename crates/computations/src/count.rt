@@ -84,24 +84,29 @@ fn place_of(windows: &[Window], end: u64) -> Result<usize, usize>
 
 // Counts one record in the window that ends here, which may be a new one.
 fn count(windows: &mut WindowList, end: u64) -> Result<(), NoMemory>
-    requires { AreWindows windows.old }
+    requires in_time { end ≤ MAX_STAMP }
+    requires within { AreWindows windows.old }
     ensures counted { OnOk result (windows.new ≡ counted windows.old end) }
-    ensures few { OnOk result (length windows.new < 2 ^ 32) }
+    ensures within { OnOk result (AreWindows windows.new) }
 {
     match place_of(windows.as_slice(), end) {
         Ok(at) => {
-            let window = Window {
-                end,
-                count: one_more(count_at(windows.as_slice(), at)),
-            };
-            windows.set(at, window);
+            let Window { end, count } = window_at(windows.as_slice(), at);
+            windows.set(
+                at,
+                Window {
+                    end,
+                    count: one_more(count),
+                },
+            );
             Ok(())
         }
         Err(at) => {
             if windows.len() >= WINDOWS_MAX {
                 return Err(NoMemory);
             }
-            windows.insert(at, Window { end, count: 1 })
+            windows.insert(at, Window { end, count: 1 })?;
+            Ok(())
         }
     }
 }
@@ -112,7 +117,8 @@ fn close(windows: &mut WindowList, end: u64) -> Option<Window>
     ensures closed { result ≡ find (λ w. w.end == end) windows.old }
     ensures gone { IfSome result (λ due. windows.new ≡ filter (λ w. not (w.end == due.end)) windows.old) }
     ensures stays { IfNone result (windows.new ≡ windows.old) }
-    ensures within { IfSome result (λ due. (due.end ≡ end) × (due.count ≤ MAX_STAMP)) }
+    ensures due { IfSome result (λ due. (due.end ≡ end) × (due.count ≤ MAX_STAMP)) }
+    ensures within { AreWindows windows.new }
 {
     match place_of(windows.as_slice(), end) {
         Ok(at) => Some(windows.remove(at)),
@@ -123,10 +129,10 @@ fn close(windows: &mut WindowList, end: u64) -> Option<Window>
 // How many windows a state may have.
 const WINDOWS_MAX: usize = (1 << 32) - 1;
 
-// The count of the window at a place.
-fn count_at(windows: &[Window], at: usize) -> u64
+// The window at a place.
+fn window_at(windows: &[Window], at: usize) -> Window
     requires { at < length windows.now }
-    ensures { IfSome (slice_get windows.now at) (λ w. result ≡ w.count) }
+    ensures { slice_get windows.now at ≡ Some result }
 {
-    windows[at].count
+    windows[at]
 }

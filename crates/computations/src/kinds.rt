@@ -64,6 +64,7 @@ impl Kinds {
 
 impl Computation for Kinds {
     ghost use Rattle.computations.specs.Parts.{HasState, part_record, part_timer};
+    ghost use Rattle.computations.specs.HandlerLaws.{part_record-lawful, part_timer-lawful, part_timer-timers};
 
     ghost has = { HasState };
 
@@ -99,9 +100,9 @@ impl Computation for Kinds {
         }
     }
 
-    ghost record_lawful = { ? };
+    ghost record_lawful = { part_record-lawful };
 
-    ghost timer_lawful = { ? };
+    ghost timer_lawful = { part_timer-lawful };
 
-    ghost timer_sets_none = { ? };
+    ghost timer_sets_none = { part_timer-timers };
 }
