@@ -35,8 +35,8 @@ module _ (windows : List Window) (end at : ℕ) where
 
   module _ (due : Window) (place : IsWindowPlace windows end at) (read : slice_get windows at ≡ Some due) where
     -- a record of a window that is there
-    pub counted-place : (count : ℕ) → count ≡ one_more due.count → set windows at (record { end = due.end; count = count }) ≡ counted windows end
-    counted-place count more = ap (λ n. set windows at (record { end = due.end; count = n })) more ∙ sym (entered-place (λ w. w.end) (record { end = end; count = 1 }) (λ w. record w { count = one_more w.count }) windows at due place read)
+    pub counted-place : set windows at (record due { count = one_more due.count }) ≡ counted windows end
+    counted-place = sym (entered-place (λ w. w.end) (record { end = end; count = 1 }) (λ w. record w { count = one_more w.count }) windows at due place read)
 
     -- the window at its place is the one that is found
     pub find_due : Some due ≡ find (λ w. w.end == end) windows

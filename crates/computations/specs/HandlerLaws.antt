@@ -16,7 +16,7 @@ use Rattle.mw_types.specs.declared.timer.Timer.{Timer}
 use Rattle.mw_types.specs.Kinds.{IsKind}
 use Rattle.mw_types.specs.Bounds.{IsWithin, AreWindows, AreHeld}
 use Rattle.computations.specs.Handlers.{IsOfKind, unchanged, with_timer, with_record, one_more, window_end, counted, count_record, window_due, count_timer, due_time, held_with, spike_record, total_due, is_spike, known_with, spike_timer, pass_record, effects_of_record, effects_of_timer}
-use Rattle.computations.specs.Laws.{IsShort, IsLawful}
+use Rattle.computations.specs.Laws.{IsShort, IsLawful, LawfulAtRecords, LawfulAtTimers, SetsNoneAtTimers}
 use Rattle.computations.specs.Parts.{Parts, kind_at, HasState, part_record, part_timer}
 use Rattle.computations.specs.Bounded.{AreWindows-counted, AreWindows-others, AreHeld-held_with, AreHeld-others, length-known_with}
 
@@ -162,13 +162,13 @@ kind_timer-lawful MayHave (kinds.Spike last times) key (states.Count late window
 kind_timer-lawful MayHave (kinds.Spike last times) key (states.Pass late) timer ranged may of_kind within in_time = absurd of_kind
 
 -- a part keeps the laws at each record
-pub part_record-lawful : (parts : Parts) (part : ℕ) (key : List ℕ) (state : State) (item : Record) → HasState parts part state → IsWithin state → item.stamp ≤ MAX_STAMP → IsLawful item.stamp item.late (HasState parts part) (part_record parts part key state item)
+pub part_record-lawful : LawfulAtRecords HasState part_record
 part_record-lawful parts part key state item (kind, at, ranged, of_kind) within in_time =
     subst (λ o. IsLawful item.stamp item.late (HasState parts part) (option_map_or (λ kind. effects_of_record kind key state item) o (unchanged state))) (sym at)
     (kind_record-lawful (HasState parts part) kind key state item ranged (λ s of. (kind, at, ranged, of)) of_kind within in_time)
 
 -- a part keeps the laws at each timer
-pub part_timer-lawful : (parts : Parts) (part : ℕ) (key : List ℕ) (state : State) (timer : Timer) → HasState parts part state → IsWithin state → timer.time ≤ MAX_STAMP → IsLawful timer.time timer.late (HasState parts part) (part_timer parts part key state timer)
+pub part_timer-lawful : LawfulAtTimers HasState part_timer
 part_timer-lawful parts part key state timer (kind, at, ranged, of_kind) within in_time =
     subst (λ o. IsLawful timer.time timer.late (HasState parts part) (option_map_or (λ kind. effects_of_timer kind key state timer) o (unchanged state))) (sym at)
     (kind_timer-lawful (HasState parts part) kind key state timer ranged (λ s of. (kind, at, ranged, of)) of_kind within in_time)
@@ -198,7 +198,7 @@ kind_timer-timers (kinds.Spike last times) key (states.Pass late) timer = refl
 kind_timer-timers kinds.Pass key state timer = refl
 
 -- a part sets no timer at a timer
-pub part_timer-timers : (parts : Parts) (part : ℕ) (key : List ℕ) (state : State) (timer : Timer) → HasState parts part state → IsWithin state → timer.time ≤ MAX_STAMP → (part_timer parts part key state timer).timers ≡ []
+pub part_timer-timers : SetsNoneAtTimers HasState part_timer
 part_timer-timers parts part key state timer has within in_time =
     elim (kind_at parts part) as (λ o. (option_map_or (λ kind. effects_of_timer kind key state timer) o (unchanged state)).timers ≡ []) [
       | None ↦ refl

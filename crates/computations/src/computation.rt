@@ -9,14 +9,12 @@ use std::alloc::Global;
 
 /// What is done with the records and timers of each row, part by part.
 pub trait Computation {
-    ghost use Rattle.std.specs.Prelude.{List, ℕ, [], ◌≡◌, ◌≤◌};
-    ghost use Rattle.mw_types.specs.declared.TheConstants.{MAX_STAMP};
+    ghost use Rattle.std.specs.Prelude.{List, ℕ};
     ghost use Rattle.mw_types.specs.declared.record.Record.{Record};
     ghost use Rattle.mw_types.specs.declared.state.State.{State};
     ghost use Rattle.mw_types.specs.declared.timer.Timer.{Timer};
     ghost use Rattle.mw_types.specs.Outcomes.{Outcome};
-    ghost use Rattle.mw_types.specs.Bounds.{IsWithin};
-    ghost use Rattle.computations.specs.Laws.{IsLawful};
+    ghost use Rattle.computations.specs.Laws.{LawfulAtRecords, LawfulAtTimers, SetsNoneAtTimers};
 
     /// Whether a part is a computation, and its rows may have a state.
     ghost has: { Self → ℕ → State → Type 0 };
@@ -59,12 +57,12 @@ pub trait Computation {
             OnOk result (context.new ≡ ended_with context.old o) }
         ensures within { OnOk result (IsWithin context.new.state) };
 
-    /// Nothing of a record is earlier than it, and its handler makes few things.
-    ghost record_lawful: { (c : Self) (part : ℕ) (key : List ℕ) (state : State) (item : Record) → has c part state → IsWithin state → item.stamp ≤ MAX_STAMP → IsLawful item.stamp item.late (has c part) (gives_record c part key state item) };
+    /// Of a record comes nothing that is earlier, and no more than eight timers and eight productions.
+    ghost record_lawful: { LawfulAtRecords has gives_record };
 
-    /// Nothing of a timer is earlier than it, and its handler makes few things.
-    ghost timer_lawful: { (c : Self) (part : ℕ) (key : List ℕ) (state : State) (timer : Timer) → has c part state → IsWithin state → timer.time ≤ MAX_STAMP → IsLawful timer.time timer.late (has c part) (gives_timer c part key state timer) };
+    /// Of a timer comes nothing that is earlier, and no more than eight productions.
+    ghost timer_lawful: { LawfulAtTimers has gives_timer };
 
-    /// The handler of a timer sets none.
-    ghost timer_sets_none: { (c : Self) (part : ℕ) (key : List ℕ) (state : State) (timer : Timer) → has c part state → IsWithin state → timer.time ≤ MAX_STAMP → (gives_timer c part key state timer).timers ≡ [] };
+    /// A timer sets no timer.
+    ghost timer_sets_none: { SetsNoneAtTimers has gives_timer };
 }

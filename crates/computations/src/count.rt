@@ -13,6 +13,9 @@ use crate::context::Context;
 use mw_types::{Duplicate, MAX_STAMP, NoMemory, Record, State, Timer, Window, WindowList};
 use std::alloc::Global;
 
+// How many windows a state may have.
+const WINDOWS_MAX: usize = (1 << 32) - 1;
+
 // The handler of records of a count with windows of this size.
 pub(crate) fn on_record(context: &mut Context, size: u64, item: &Record) -> Result<(), NoMemory>
     requires made { context.old ≡ begun_by_record context.old.key context.old.state item.now }
@@ -73,6 +76,16 @@ fn one_more(count: u64) -> u64
     count.saturating_add(1).min(MAX_STAMP)
 }
 
+// A window with one more record.
+fn with_one_more(window: Window) -> Window
+    ensures { result ≡ record window { count = one_more window.count } }
+{
+    Window {
+        end: window.end,
+        count: one_more(window.count),
+    }
+}
+
 // The place of the window that ends here, or else the place where it belongs.
 fn place_of(windows: &[Window], end: u64) -> Result<usize, usize>
     requires { IsStrictlySortedBy nat_cmp (map (λ w. w.end) windows.now) }
@@ -91,14 +104,8 @@ fn count(windows: &mut WindowList, end: u64) -> Result<(), NoMemory>
 {
     match place_of(windows.as_slice(), end) {
         Ok(at) => {
-            let Window { end, count } = window_at(windows.as_slice(), at);
-            windows.set(
-                at,
-                Window {
-                    end,
-                    count: one_more(count),
-                },
-            );
+            let window = window_at(windows.as_slice(), at);
+            windows.set(at, with_one_more(window));
             Ok(())
         }
         Err(at) => {
@@ -125,9 +132,6 @@ fn close(windows: &mut WindowList, end: u64) -> Option<Window>
         Err(_) => None,
     }
 }
-
-// How many windows a state may have.
-const WINDOWS_MAX: usize = (1 << 32) - 1;
 
 // The window at a place.
 fn window_at(windows: &[Window], at: usize) -> Window

@@ -1,4 +1,4 @@
-use Rattle.std.proofs.Common.{slice_get, ◌≡◌, ◌<◌, ◌^◌, Some, length, subst, sym, ◌∙◌, ap, arith}
+use Rattle.std.proofs.Common.{slice_get, set, ◌≡◌, ◌<◌, ◌^◌, Some, length, subst, sym, ◌∙◌, ap, arith}
 use Rattle.std.specs.List.{insert}
 use Rattle.mw_types.specs.declared.state.Window.{Window}
 use Rattle.std.proofs.lemmas.List.{length-set}
@@ -10,10 +10,10 @@ use Rattle.computations.proofs.count.count.Goals as goal
 pub returns-in-Ok : goal.returns-in-Ok
 returns-in-Ok c =
     let windows = c.args.windows.now in
-    let due = c.window_at-end.result in
+    let due = c.window_at-window.result in
     let place = subst (λ l. IsWindowPlace l c.args.end c.in-Ok.at) c.as_slice.ensures.elements c.in-Ok.ensures.found in
-    let read = subst (λ l. slice_get l c.in-Ok.at ≡ Some due) c.as_slice-in-Ok.ensures.elements c.window_at-end.ensures in
-    let counted = c.set.ensures ∙ counted-place windows c.args.end c.in-Ok.at due place read c.one_more.result c.one_more.ensures in
+    let read = subst (λ l. slice_get l c.in-Ok.at ≡ Some due) c.as_slice-in-Ok.ensures.elements c.window_at-window.ensures in
+    let counted = c.set.ensures ∙ ap (set windows c.in-Ok.at) c.with_one_more.ensures ∙ counted-place windows c.args.end c.in-Ok.at due place read in
     record {
       counted = counted;
       within = AreWindows-counted_as windows c.args.end c.in-Ok.at c.set.new.self c.requires.within c.requires.in_time counted (omega (arith, ap length c.set.ensures, length-set {A = Window}, c.requires.within.few));
