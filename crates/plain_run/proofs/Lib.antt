@@ -3,3 +3,4 @@ pub mod TimerLaws
 pub mod SlotLaws
 pub mod RowLaws
 pub mod FireLaws
+pub mod ReadyLaws

@@ -9,15 +9,20 @@ use Rattle.std.specs.Map.{keys_of}
 use Rattle.std.specs.BTreeMap.{is_at}
 use Rattle.mw_types.specs.declared.TheConstants.{MAX_STAMP}
 use Rattle.mw_types.specs.declared.identity.RowName.{RowName}
-use Rattle.mw_types.specs.declared.kind.Kind.{Kind}
 use Rattle.mw_types.specs.declared.state.State.{State}
+use Rattle.mw_types.specs.declared.state.State.TheVariants.{Injector}
+use Rattle.mw_types.specs.declared.entry.Entry.{Entry}
 use Rattle.mw_types.specs.declared.timer.Timer.{Timer}
 use Rattle.mw_types.specs.declared.delivery.Delivery.{Delivery}
 use Rattle.mw_types.specs.Bounds.{IsWithin}
 use Rattle.mw_types.specs.Orders.{row_cmp, timer_cmp}
-use Rattle.computations.specs.Handlers.{IsOfKind}
+use Rattle.computations.specs.Parts.{Parts, HasState}
 use Rattle.row_parts.specs.Contents.{Contents, is_timer}
-use Rattle.run_history.specs.Runs.{Run, row_in}
+use Rattle.topology.specs.Shapes.{Shape}
+use Rattle.run_history.specs.Cases.{CaseShape}
+use Rattle.run_history.specs.Runs.{Run, row_in, row_of, run_of}
+use Rattle.run_history.specs.Legal.{IsLegal}
+use Rattle.plain_run.specs.Plain.{IsPlainEntry}
 use Rattle.plain_run.specs.declared.slot.Slot.{Slot}
 
 -- slots stand by time, tag and row
@@ -59,7 +64,27 @@ pub record IsSound (run : Run) : Type 0 where
   pub rows : IsStrictlySortedBy row_cmp (keys_of run.rows)
   pub timers : AllByRecursion (λ (r : RowName × Contents). IsStrictlySortedBy timer_cmp r.1.timers) run.rows
 
--- the rows and timers are those of one part, of this kind
-pub record AreOfPart (part : ℕ) (kind : Kind) (states : RowName → Option State) (timers : Slot → Option Bool) : Type 0 where
-  pub each_state : (row : RowName) → row.part ≡ part → IfSome (states row) (λ s. IsWithin s × IsOfKind kind s)
-  pub each_timer : (slot : Slot) → IfSome (timers slot) (λ _. (slot.row.part ≡ part) × (slot.time ≤ MAX_STAMP))
+-- the rows of part 1 have states that its handlers take, and each timer is of such a row
+pub record AreCounted (parts : Parts) (states : RowName → Option State) (timers : Slot → Option Bool) : Type 0 where
+  pub each_state : (row : RowName) → row.part ≡ 1 → IfSome (states row) (λ s. IsWithin s × HasState parts 1 s)
+  pub each_timer : (slot : Slot) → IfSome (timers slot) (λ _. (slot.row.part ≡ 1) × (slot.time ≤ MAX_STAMP))
+
+-- the row of the injector
+abbrev pub injector_row : RowName
+injector_row = record { part = 0; key = [] }
+
+-- so many lines are injected, these deliveries wait, and the maps mirror the run
+pub record IsAt (shape : Shape) (parts : Parts) (line : ℕ) (waiting : List Delivery) (run : Run)
+    (states : RowName → Option State) (timers : Slot → Option Bool) : Type 0 where
+  pub injected : (row_of shape run injector_row).state ≡ Injector line
+  pub waits : run.unhandled ≡ waiting
+  pub mirrors : Mirrors run states timers
+  pub sound : IsSound run
+  pub counted : AreCounted parts states timers
+
+-- the history is legal and plain, and the maps are at what stands after it
+pub record IsReady (case : CaseShape) (parts : Parts) (line : ℕ) (waiting : List Delivery) (history : List Entry)
+    (states : RowName → Option State) (timers : Slot → Option Bool) : Type 0 where
+  pub legal : IsLegal case history
+  pub plain : All IsPlainEntry history
+  pub at : IsAt case.topology parts line waiting (run_of case.topology history) states timers
