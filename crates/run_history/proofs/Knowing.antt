@@ -143,4 +143,4 @@ learns_none known more none made knows =
 -- a list whose length is tested to be none
 pub empty_list : {X : Type 0} (xs : List X) → (length xs == 0) ≡ true → xs ≡ []
 empty_list [] none = refl
-empty_list (x ∷ xs) none = absurd (omega (arith, eqb-true (length xs + 1) 0 none))
+empty_list (x ∷ xs) none = absurd (omega (arith, eqb-true (length (x ∷ xs)) 0 none))

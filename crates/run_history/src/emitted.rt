@@ -21,10 +21,20 @@ pub fn emissions(alloc: Global, case: &Case, history: &History) -> Result<Emissi
     ensures emitted { IfOk result (λ all. all ≡ (run_of case.now.topology history.now).emissions) }
     ensures parts { IfOk result (λ all. All (λ e. e.part < parts_of case.now.topology) all) }
 {
+    let all = emitted(alloc, &case.topology, history.entries())?;
+    Ok(all)
+}
+
+// The emissions of all entries.
+fn emitted(alloc: Global, topology: &Topology, entries: &[Entry]) -> Result<EmissionList, NoMemory>
+    requires { IsPrintable topology.now entries.now }
+    ensures emitted { IfOk result (λ all. all ≡ (run_of topology.now entries.now).emissions) }
+    ensures parts { IfOk result (λ all. All (λ e. e.part < parts_of topology.now) all) }
+{
     let mut lateness = Lateness::new(alloc);
     let mut emissions = Seq::new(alloc);
-    for (commit, entry) in history.entries().iter().enumerate() {
-        follow(alloc, &case.topology, &mut lateness, &mut emissions, entry, commit as u64)?;
+    for (commit, entry) in entries.iter().enumerate() {
+        follow(alloc, topology, &mut lateness, &mut emissions, entry, commit as u64)?;
     }
     Ok(emissions)
 }

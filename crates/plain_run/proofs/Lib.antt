@@ -1,0 +1,6 @@
+pub mod Orderings
+pub mod TimerLaws
+pub mod SlotLaws
+pub mod RowLaws
+pub mod FireLaws
+pub mod ReadyLaws
