@@ -91,7 +91,7 @@ consumers_few stream n [] = omega arith
 consumers_few stream n (c ∷ cs) =
     let rest = flat_map (subscriptions_to stream) (enumerate_from (n + 1) cs) in
     let all : length (flat_map (subscriptions_to stream) (enumerate_from n (c ∷ cs))) ≡ length (subscriptions_to stream (n, c)) + length rest =
-        length-append (subscriptions_to stream (n, c)) rest in
+    length-append (subscriptions_to stream (n, c)) rest in
     let total : sum_by (λ (d : ComputationShape). length d.reads) (c ∷ cs) ≡ length c.reads + sum_by (λ (d : ComputationShape). length d.reads) cs =
-        sum_by-cons (λ (d : ComputationShape). length d.reads) c cs in
+    sum_by-cons (λ (d : ComputationShape). length d.reads) c cs in
     omega (arith, all, total, subscriptions_few stream n c, consumers_few stream (n + 1) cs)

@@ -11,6 +11,8 @@ mod history;
 mod lateness;
 mod line;
 mod made;
+#[cfg(test)]
+mod tests;
 mod text;
 
 pub use case::Case;

@@ -47,7 +47,8 @@ impl ResultLine {
     {
         let key = self.key.text();
         let stream = self.stream.text();
-        let value = json!(in alloc; {"key": key, "stream": stream, "ts": self.stamp, "value": self.value})?;
+        let value =
+            json!(in alloc; {"key": key, "stream": stream, "ts": self.stamp, "value": self.value})?;
         Ok(value)
     }
 }

@@ -14,6 +14,6 @@ loop-commit-preserved c =
     let at = c.loop-commit.commit in
     let within : at < length entries = omega arith in
     let there : IsOnPart shape c.index-entries-commit.result =
-        subst (λ (e : Entry). IsOnPart shape e) (sym c.index-entries-commit.is) (c.requires.parts at c.index-entries-commit.result within) in
+    subst (λ (e : Entry). IsOnPart shape e) (sym c.index-entries-commit.is) (c.requires.parts at c.index-entries-commit.result within) in
     reached_step shape entries at _ _ _ _ _ within c.index-entries-commit.is there c.loop-commit.invariant
-        c.in_ok-follow.ensures.learnt c.in_ok-follow.ensures.emitted
+    c.in_ok-follow.ensures.learnt c.in_ok-follow.ensures.emitted
