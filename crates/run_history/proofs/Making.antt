@@ -1,12 +1,12 @@
 -- One step of a loop that makes something of each element, where the invariant speaks of the elements that are left.
-use Rattle.std.proofs.Common.{◌≡◌, ℕ, ◌+◌, ◌*◌, ◌<◌, ◌≤◌, List, [], ◌∷◌, ◌++◌, length, get_or, take, drop, map, filter, count_by, sum_by, nat_eq, sym, ◌∙◌, ap, append_assoc, arith, length-append}
+use Rattle.std.proofs.Common.{◌≡◌, ℕ, ◌+◌, ◌<◌, ◌≤◌, List, [], ◌∷◌, ◌++◌, length, get_or, take, drop, map, filter, sum_by, nat_eq, sym, ◌∙◌, ap, append_assoc, arith, length-append}
 use Rattle.std.specs.List.{flat_map, enumerate_from}
 use Rattle.std.specs.Cmp.Lexicographic.{pointwise}
 use Rattle.std.proofs.lemmas.List.{at_drop_more, at_drop_all, take_more, map-append, length-map, append-nil}
 use Rattle.std.proofs.lemmas.List.Folds.{flat_map-map}
 use Rattle.std.proofs.lemmas.List.FromFn.{length-enumerate_from}
 use Rattle.std.proofs.lemmas.List.Sums.{sum_by-cons, sum_by-append, length-filter, count_by-le-length}
-use Rattle.topology.specs.Shapes.{Shape, ComputationShape, Reading, subscriptions_to, consumers_of, stream_of, injectors_of}
+use Rattle.topology.specs.Shapes.{ComputationShape, Reading, subscriptions_to}
 
 -- the numbering goes on behind the first list
 pub enumerate_from-append : {X : Type 0} (n : ℕ) (xs ys : List X)

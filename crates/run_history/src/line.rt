@@ -1,5 +1,5 @@
 //! One line of the result, in its order and as text.
-ghost use Rattle.std.specs.Prelude.{◌≡◌, IfOk, codes, string_bytes, is_ok};
+ghost use Rattle.std.specs.Prelude.{◌≡◌, IfOk, string_bytes};
 ghost use Rattle.run_history.specs.Texts.{line_data, as_line};
 ghost use Rattle.serde_json.specs.View.{view};
 
