@@ -4,3 +4,4 @@ pub mod SlotLaws
 pub mod RowLaws
 pub mod FireLaws
 pub mod ReadyLaws
+pub mod MapLaws
