@@ -5,6 +5,9 @@
 
 mod item;
 mod items;
+mod reading;
+mod refusal;
 
 pub use item::Item;
 pub use items::{Items, ItemsList};
+pub use refusal::{LineWhy, LinesRefusal};
