@@ -1,3 +1,4 @@
 pub mod Sources
 pub mod EventLines
+pub mod EventFiles
 pub mod Answers

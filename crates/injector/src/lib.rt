@@ -5,9 +5,11 @@
 
 mod item;
 mod items;
+mod lines;
 mod reading;
 mod refusal;
 
 pub use item::Item;
 pub use items::{Items, ItemsList};
+pub use lines::read_lines;
 pub use refusal::{LineWhy, LinesRefusal};

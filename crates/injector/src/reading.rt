@@ -1,11 +1,12 @@
 //! What one line of an event file says.
-ghost use Rattle.std.specs.Prelude.{◌≡◌, codes, Option, Some, IsTrue, option_and_then};
+ghost use Rattle.std.specs.Prelude.{◌≡◌, ◌≤◌, codes, IfOk, IfSome};
+ghost use Rattle.mw_types.specs.declared.TheConstants.{INPUT_MAX};
 ghost use Rattle.std.specs.Option.{option_map, ok_or};
 ghost use Rattle.serde_json.specs.Data.{Data};
 ghost use Rattle.serde_json.specs.Find.{get};
 ghost use Rattle.serde_json.specs.View.{view};
 ghost use Rattle.injector.specs.EventLines.{is_blank, as_stamp, as_value, key_in, stamp_in, value_in, record_in, watermark_in, object_reading, data_reading, line_reading, json_of};
-ghost use Rattle.injector.specs.Answers.{Gives, ReadsAs};
+ghost use Rattle.injector.specs.Answers.{Gives, ReadsAs, IsInput};
 
 use crate::refusal::{LineRefusal, LineWhy};
 use mw_types::{INPUT_MAX, Key, KeyRefusal};
@@ -42,7 +43,8 @@ fn is_blank(line: &[u8]) -> bool
 
 // The timestamp that a value is.
 fn as_stamp(value: &Value) -> Option<u64>
-    ensures { result ≡ as_stamp (view value.now) }
+    ensures value { result ≡ as_stamp (view value.now) }
+    ensures bounded { IfSome result (λ stamp. stamp ≤ INPUT_MAX) }
 {
     let stamp = value.as_u64()?;
     if stamp <= INPUT_MAX {
@@ -68,7 +70,8 @@ fn key_in(alloc: Global, line: &Value) -> Result<Key, LineRefusal>
 
 // The record's timestamp.
 fn stamp_in(line: &Value) -> Result<u64, LineWhy>
-    ensures { result ≡ stamp_in (view line.now) }
+    ensures value { result ≡ stamp_in (view line.now) }
+    ensures bounded { IfOk result (λ stamp. stamp ≤ INPUT_MAX) }
 {
     match line.get("ts") {
         Some(value) => as_stamp(value).ok_or(LineWhy::BadStamp),
@@ -88,7 +91,8 @@ fn value_in(line: &Value) -> Result<i64, LineWhy>
 
 // The record of a line that has no watermark.
 fn record_in(alloc: Global, line: &Value) -> Result<LineKind, LineRefusal>
-    ensures { Gives result (record_in (view line.now)) }
+    ensures reading { Gives result (record_in (view line.now)) }
+    ensures bounded { IfOk result IsInput }
 {
     let record_key = key_in(alloc, line)?;
     let stamp = stamp_in(line)?;
@@ -102,7 +106,8 @@ fn record_in(alloc: Global, line: &Value) -> Result<LineKind, LineRefusal>
 
 // The watermark that a member is.
 fn watermark_in(value: &Value) -> Result<LineKind, LineWhy>
-    ensures { result ≡ watermark_in (view value.now) }
+    ensures reading { result ≡ watermark_in (view value.now) }
+    ensures bounded { IfOk result IsInput }
 {
     let stamp = as_stamp(value).ok_or(LineWhy::BadStamp)?;
     Ok(LineKind::Watermark { stamp })
@@ -110,7 +115,8 @@ fn watermark_in(value: &Value) -> Result<LineKind, LineWhy>
 
 // What an object says.
 fn object_reading(alloc: Global, line: &Value) -> Result<LineKind, LineRefusal>
-    ensures { Gives result (object_reading (view line.now)) }
+    ensures reading { Gives result (object_reading (view line.now)) }
+    ensures bounded { IfOk result IsInput }
 {
     match line.get("watermark") {
         Some(value) => Ok(watermark_in(value)?),
@@ -120,7 +126,8 @@ fn object_reading(alloc: Global, line: &Value) -> Result<LineKind, LineRefusal>
 
 // What a value says, which has to be an object.
 fn data_reading(alloc: Global, line: &Value) -> Result<LineKind, LineRefusal>
-    ensures { Gives result (data_reading (view line.now)) }
+    ensures reading { Gives result (data_reading (view line.now)) }
+    ensures bounded { IfOk result IsInput }
 {
     if !line.is_object() {
         return Err(LineRefusal::Breaks(LineWhy::NotObject));
@@ -146,7 +153,8 @@ fn json_of(alloc: Global, line: &[u8]) -> Result<Value, LineRefusal>
 
 /// What a line says, or the first rule that it breaks.
 pub fn line_reading(alloc: Global, line: &[u8]) -> Result<LineKind, LineRefusal>
-    ensures { Gives result (line_reading line.now) }
+    ensures reading { Gives result (line_reading line.now) }
+    ensures bounded { IfOk result IsInput }
 {
     if is_blank(line) {
         return Ok(LineKind::Blank);
