@@ -31,7 +31,7 @@ impl Progress {
         requires { stamp ≤ INPUT_MAX }
         ensures ok { OnOk result ((n : ℕ) (rest : ℕ → ℕ → Result Source LinesRefusal)
             → followed_by self.old.items (with_line n self.old.room self.old.mark (Ok (LineKind.Record record_key stamp value)) rest)
-                ≡ followed_by self.new.items (rest self.new.room self.new.mark)) }
+            ≡ followed_by self.new.items (rest self.new.room self.new.mark)) }
         ensures err { IfErr result (λ refusal. (n : ℕ) (rest : ℕ → ℕ → Result Source LinesRefusal)
             → RefusedAt n refusal (with_line n self.old.room self.old.mark (Ok (LineKind.Record record_key stamp value)) rest)) }
     {
@@ -39,7 +39,12 @@ impl Progress {
             return Err(LineRefusal::Breaks(LineWhy::TooManyLines));
         }
         let late = stamp < self.mark;
-        let item = Item { record_key, stamp, value, late };
+        let item = Item {
+            record_key,
+            stamp,
+            value,
+            late,
+        };
         self.items.push(item, self.mark)?;
         self.room -= 1;
         Ok(())
@@ -50,7 +55,7 @@ impl Progress {
         requires { IsInput kind }
         ensures ok { OnOk result ((n : ℕ) (rest : ℕ → ℕ → Result Source LinesRefusal)
             → followed_by self.old.items (with_line n self.old.room self.old.mark (Ok kind) rest)
-                ≡ followed_by self.new.items (rest self.new.room self.new.mark)) }
+            ≡ followed_by self.new.items (rest self.new.room self.new.mark)) }
         ensures err { IfErr result (λ refusal. (n : ℕ) (rest : ℕ → ℕ → Result Source LinesRefusal)
             → RefusedAt n refusal (with_line n self.old.room self.old.mark (Ok kind) rest)) }
     {
@@ -72,7 +77,7 @@ impl Progress {
     fn read(&mut self, alloc: Global, line: &[u8]) -> Result<(), LineRefusal>
         ensures ok { OnOk result ((n : ℕ) (rest : ℕ → ℕ → Result Source LinesRefusal)
             → followed_by self.old.items (with_line n self.old.room self.old.mark (line_reading line.now) rest)
-                ≡ followed_by self.new.items (rest self.new.room self.new.mark)) }
+            ≡ followed_by self.new.items (rest self.new.room self.new.mark)) }
         ensures err { IfErr result (λ refusal. (n : ℕ) (rest : ℕ → ℕ → Result Source LinesRefusal)
             → RefusedAt n refusal (with_line n self.old.room self.old.mark (line_reading line.now) rest)) }
     {
