@@ -8,6 +8,8 @@ mod items;
 mod lines;
 mod reading;
 mod refusal;
+#[cfg(test)]
+mod tests;
 
 pub use item::Item;
 pub use items::{Items, ItemsList};
