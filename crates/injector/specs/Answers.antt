@@ -1,10 +1,9 @@
 -- How the functions that read a line answer. No public clause cites this module.
-use Rattle.std.specs.Prelude.{◌≡◌, ◌≤◌, ◌++◌, ℕ, ⊤, Option, Some, None, Result, Ok, Err}
+use Rattle.std.specs.Prelude.{◌≡◌, ◌≤◌, ℕ, ⊤, Option, Some, None, Result, Ok, Err}
 use Rattle.serde_json.specs.Data.{Data}
 use Rattle.serde_json.specs.View.{view}
 use Rattle.serde_json.specs.declared.value.Value.{Value}
 use Rattle.mw_types.specs.declared.TheConstants.{INPUT_MAX}
-use Rattle.injector.specs.Sources.{Source}
 use Rattle.injector.specs.declared.reading.LineKind.{LineKind}
 use Rattle.injector.specs.declared.reading.LineKind.TheVariants.{Blank, Watermark, Record}
 use Rattle.injector.specs.declared.refusal.LineWhy.{LineWhy}
@@ -27,23 +26,13 @@ ReadsAs (Ok value) found = found ≡ Some (view value)
 ReadsAs (Err (Breaks why)) found = (found ≡ None) × (why ≡ NotJson)
 ReadsAs (Err NoMemory) found = ⊤
 
--- no timestamp of the line is above the greatest of an input
-abbrev pub IsInput : LineKind → Type 0
-IsInput Blank = ⊤
-IsInput (Watermark stamp) = stamp ≤ INPUT_MAX
-IsInput (Record key stamp value) = stamp ≤ INPUT_MAX
-
 -- the refusal of a line as that of its file
 abbrev pub refusal_at : ℕ → LineRefusal → LinesRefusal
 refusal_at n (Breaks why) = Line n why
 refusal_at n NoMemory = refusals.NoMemory
 
--- these lines, and then what follows them
-abbrev pub followed_by : Source → Result Source LinesRefusal → Result Source LinesRefusal
-followed_by lines (Ok rest) = Ok (lines ++ rest)
-followed_by lines (Err refusal) = Err refusal
-
--- the whole is refused for this line, unless memory was wanting
-abbrev pub RefusedAt : ℕ → LineRefusal → Result Source LinesRefusal → Type 0
-RefusedAt n (Breaks why) whole = whole ≡ Err (Line n why)
-RefusedAt n NoMemory whole = ⊤
+-- no timestamp of the line is above the greatest of an input
+abbrev pub IsInput : LineKind → Type 0
+IsInput Blank = ⊤
+IsInput (Watermark stamp) = stamp ≤ INPUT_MAX
+IsInput (Record key stamp value) = stamp ≤ INPUT_MAX

@@ -1,5 +1,5 @@
 -- What an event file holds: the record lines of its lines, in order, each behind the watermark lines before it. Own.
-use Rattle.std.specs.Prelude.{ℕ, ◌+◌, ◌-◌, ◌==◌, ℤ, List, [], ◌∷◌, length, map, max, take, nat_lt, slice_index, if◌then◌else◌, Result, Ok, Err}
+use Rattle.std.specs.Prelude.{◌≡◌, ◌≢◌, ℕ, ◌+◌, ◌-◌, ◌==◌, ℤ, List, [], ◌∷◌, length, map, max, take, nat_lt, slice_index, if◌then◌else◌, Result, Ok, Err}
 use Rattle.std.specs.List.{slice_split}
 use Rattle.injector.specs.Sources.{SourceLine, Source}
 use Rattle.injector.specs.EventLines.{line_reading}
@@ -8,7 +8,7 @@ use Rattle.injector.specs.declared.reading.LineKind.TheVariants.{Blank, Watermar
 use Rattle.injector.specs.declared.refusal.LineWhy.{LineWhy}
 use Rattle.injector.specs.declared.refusal.LineWhy.TheVariants.{TooManyLines}
 use Rattle.injector.specs.declared.refusal.LinesRefusal.{LinesRefusal}
-use Rattle.injector.specs.declared.refusal.LinesRefusal.TheVariants.{Line}
+use Rattle.injector.specs.declared.refusal.LinesRefusal.TheVariants.{Line, NoMemory}
 
 -- the last part of a text is a line where it is not empty
 abbrev pub last_line : List ℕ → List (List ℕ)
@@ -56,3 +56,7 @@ source_from n room mark (line ∷ lines) =
 -- what a file holds, or the first line that breaks a rule, counted from 1, and the first rule that it breaks
 abbrev pub source_of : ℕ → List ℕ → Result Source LinesRefusal
 source_of room bytes = source_from 1 room 0 (lines_of bytes)
+
+-- a refusal is that of the file, unless memory was wanting
+abbrev pub IsRefusalOf : Result Source LinesRefusal → LinesRefusal → Type 0
+IsRefusalOf whole refusal = refusal ≢ NoMemory → whole ≡ Err refusal

@@ -2,3 +2,4 @@ pub mod Sources
 pub mod EventLines
 pub mod EventFiles
 pub mod Answers
+pub mod Progress

@@ -1,90 +1,13 @@
 //! What the lines of an event file hold together.
-ghost use Rattle.std.specs.Prelude.{◌≡◌, ◌≢◌, ℕ, ◌+◌, ◌^◌, ◌<◌, ◌≤◌, ◌∷◌, All, length, IfErr, IfOk, OnOk, Ok, Result};
-ghost use Rattle.mw_types.specs.declared.TheConstants.{INPUT_MAX};
-ghost use Rattle.injector.specs.Sources.{Source};
-ghost use Rattle.injector.specs.EventLines.{line_reading};
-ghost use Rattle.injector.specs.EventFiles.{without_return, lines_of, with_line, source_of};
-ghost use Rattle.injector.specs.Answers.{IsInput, refusal_at, followed_by, RefusedAt};
+ghost use Rattle.std.specs.Prelude.{◌≡◌, ◌^◌, ◌<◌, ◌∷◌, length, IfErr, IfOk, Ok};
+ghost use Rattle.injector.specs.EventFiles.{without_return, lines_of, source_of, IsRefusalOf};
+ghost use Rattle.injector.specs.Answers.{refusal_at};
 
-use crate::item::Item;
 use crate::items::Items;
-use crate::reading::{LineKind, line_reading};
-use crate::refusal::{LineRefusal, LineWhy, LinesRefusal};
+use crate::progress::Progress;
+use crate::refusal::{LineRefusal, LinesRefusal};
 use memchr::memchr;
-use mw_types::{INPUT_MAX, Key};
 use std::alloc::Global;
-
-// What the lines so far hold, with the greatest watermark line and the room that is left.
-#[derive(Drop)]
-struct Progress {
-    items: Items,
-    mark: u64,
-    room: u32,
-    ghost below: { All (λ line. line.stated ≤ mark) items },
-    ghost bounded: { mark ≤ INPUT_MAX },
-    ghost few: { length items + room < 2 ^ 32 },
-}
-
-impl Progress {
-    // Appends a record line.
-    fn push(&mut self, record_key: Key, stamp: u64, value: i64) -> Result<(), LineRefusal>
-        requires { stamp ≤ INPUT_MAX }
-        ensures ok { OnOk result ((n : ℕ) (rest : ℕ → ℕ → Result Source LinesRefusal)
-            → followed_by self.old.items (with_line n self.old.room self.old.mark (Ok (LineKind.Record record_key stamp value)) rest)
-            ≡ followed_by self.new.items (rest self.new.room self.new.mark)) }
-        ensures err { IfErr result (λ refusal. (n : ℕ) (rest : ℕ → ℕ → Result Source LinesRefusal)
-            → RefusedAt n refusal (with_line n self.old.room self.old.mark (Ok (LineKind.Record record_key stamp value)) rest)) }
-    {
-        if self.room == 0 {
-            return Err(LineRefusal::Breaks(LineWhy::TooManyLines));
-        }
-        let late = stamp < self.mark;
-        let item = Item {
-            record_key,
-            stamp,
-            value,
-            late,
-        };
-        self.items.push(item, self.mark)?;
-        self.room -= 1;
-        Ok(())
-    }
-
-    // Takes in what the next line says.
-    fn add(&mut self, kind: LineKind) -> Result<(), LineRefusal>
-        requires { IsInput kind }
-        ensures ok { OnOk result ((n : ℕ) (rest : ℕ → ℕ → Result Source LinesRefusal)
-            → followed_by self.old.items (with_line n self.old.room self.old.mark (Ok kind) rest)
-            ≡ followed_by self.new.items (rest self.new.room self.new.mark)) }
-        ensures err { IfErr result (λ refusal. (n : ℕ) (rest : ℕ → ℕ → Result Source LinesRefusal)
-            → RefusedAt n refusal (with_line n self.old.room self.old.mark (Ok kind) rest)) }
-    {
-        match kind {
-            LineKind::Blank => Ok(()),
-            LineKind::Watermark { stamp } => {
-                self.mark = self.mark.max(stamp);
-                Ok(())
-            }
-            LineKind::Record {
-                record_key,
-                stamp,
-                value,
-            } => self.push(record_key, stamp, value),
-        }
-    }
-
-    // Reads the next line.
-    fn read(&mut self, alloc: Global, line: &[u8]) -> Result<(), LineRefusal>
-        ensures ok { OnOk result ((n : ℕ) (rest : ℕ → ℕ → Result Source LinesRefusal)
-            → followed_by self.old.items (with_line n self.old.room self.old.mark (line_reading line.now) rest)
-            ≡ followed_by self.new.items (rest self.new.room self.new.mark)) }
-        ensures err { IfErr result (λ refusal. (n : ℕ) (rest : ℕ → ℕ → Result Source LinesRefusal)
-            → RefusedAt n refusal (with_line n self.old.room self.old.mark (line_reading line.now) rest)) }
-    {
-        let kind = line_reading(alloc, line)?;
-        self.add(kind)
-    }
-}
 
 // The line without the one carriage return at its end.
 fn without_return(line: &[u8]) -> &[u8]
@@ -125,13 +48,9 @@ pub fn read_lines(alloc: Global, bytes: &[u8], room: u32) -> Result<Items, Lines
     requires { length bytes.now < 2 ^ 32 }
 
     ensures source { IfOk result (λ items. source_of room bytes.now ≡ Ok items) }
-    ensures refused { IfErr result (λ refusal. refusal ≢ LinesRefusal.NoMemory → source_of room bytes.now ≡ Err refusal) }
+    ensures refused { IfErr result (IsRefusalOf (source_of room bytes.now)) }
 {
-    let mut progress = Progress {
-        items: Items::new(alloc),
-        mark: 0,
-        room,
-    };
+    let mut progress = Progress::new(alloc, room);
     let mut rest = bytes;
     let mut line: u32 = 0;
     while !rest.is_empty() {
@@ -142,5 +61,5 @@ pub fn read_lines(alloc: Global, bytes: &[u8], room: u32) -> Result<Items, Lines
         }
         rest = after;
     }
-    Ok(progress.items)
+    Ok(progress.into_items())
 }

@@ -1,6 +1,6 @@
 use Rattle.std.proofs.Common.{◌≡◌, ◌+◌, ◌≤◌, length}
 use Rattle.injector.specs.EventFiles.{lines_of, source_from, source_of}
-use Rattle.injector.specs.Answers.{followed_by}
+use Rattle.injector.specs.Progress.{followed_by}
 use Rattle.injector.proofs.lines.read_lines.Given as goal
 
 -- the file holds what has been read, and then what the lines that are left hold
