@@ -4,3 +4,4 @@ pub mod Runs
 pub mod Watermarks
 pub mod Legal
 pub mod Texts
+pub mod Printing
