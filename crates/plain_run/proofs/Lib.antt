@@ -5,3 +5,4 @@ pub mod RowLaws
 pub mod FireLaws
 pub mod ReadyLaws
 pub mod MapLaws
+pub mod DoneLaws

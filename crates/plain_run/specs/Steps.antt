@@ -8,6 +8,7 @@ use Rattle.mw_types.specs.declared.state.State.TheVariants.{Count}
 use Rattle.mw_types.specs.declared.delivery.Delivery.{Delivery}
 use Rattle.mw_types.specs.declared.entry.Entry.{Entry}
 use Rattle.mw_types.specs.Bounds.{IsWithin}
+use Rattle.mw_types.specs.Kinds.{IsKind}
 use Rattle.mw_types.specs.Orders.{row_cmp}
 use Rattle.topology.specs.Shapes.{Shape, kind_of}
 use Rattle.computations.specs.Parts.{Parts, HasState, kind_at}
@@ -21,6 +22,7 @@ use Rattle.plain_run.specs.Ledgers.{IsReady, slot_cmp}
 pub record IsJob (shape : Shape) (parts : Parts) : Type 0 where
   pub plain : IsPlain shape
   pub work : kind_at parts 1 ≡ kind_of shape 1
+  pub within : IfSome (kind_at parts 1) IsKind
 
 -- the engine is between two steps: so many lines are injected, and these deliveries wait
 abbrev pub IsBetween : CaseShape → Parts → ℕ → List Delivery → List Entry → Ledger → Type 0
