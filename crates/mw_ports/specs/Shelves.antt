@@ -1,0 +1,14 @@
+-- What a shelf holds, and what a read of it may answer. Own.
+use Rattle.std.specs.Prelude.{◌≡◌, ◌<◌, ◌≤◌, ℕ, List, Option, Some, None, Result, length, IfOk, IsErrOf, IfSome, IsSomeAnd}
+use Rattle.mw_ports.specs.declared.shelf.ShelfFault.{ShelfFault}
+use Rattle.mw_ports.specs.declared.shelf.ShelfFault.TheVariants.{Missing, TooLong}
+
+-- the bytes of each file by its name, and none where there is no such file
+abbrev pub Files : Type 0
+Files = List ℕ → Option (List ℕ)
+
+-- what a read says of the file of that name, where the shelf tells its files
+pub record ReadsFile (found : Option (List ℕ)) (limit : ℕ) (result : Result (List ℕ) ShelfFault) : Type 0 where
+  pub bytes : IfOk result (λ bytes. found ≡ Some bytes)
+  pub missing : IsErrOf result Missing → found ≡ None
+  pub too_long : IsErrOf result TooLong → IsSomeAnd found (λ bytes. limit < length bytes)
