@@ -1,5 +1,5 @@
 -- What the shelf and the sink in memory are. Own.
-use Rattle.std.specs.Prelude.{ℕ, List, Option, find, option_map}
+use Rattle.std.specs.Prelude.{ℕ, List, find, option_map}
 use Rattle.std.specs.Str.{bytes_eq}
 use Rattle.mw_ports.specs.declared.mem_shelf.NamedFile.{NamedFile}
 use Rattle.mw_ports.specs.Shelves.{Files}

@@ -1,5 +1,5 @@
 -- What a shelf holds, and what a read of it may answer. Own.
-use Rattle.std.specs.Prelude.{◌≡◌, ◌<◌, ◌≤◌, ℕ, List, Option, Some, None, Result, length, IfOk, IsErrOf, IfSome, IsSomeAnd}
+use Rattle.std.specs.Prelude.{◌≡◌, ◌<◌, ℕ, List, Option, Some, None, Result, length, IfOk, IsErrOf, IsSomeAnd}
 use Rattle.mw_ports.specs.declared.shelf.ShelfFault.{ShelfFault}
 use Rattle.mw_ports.specs.declared.shelf.ShelfFault.TheVariants.{Missing, TooLong}
 

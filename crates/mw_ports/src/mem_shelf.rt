@@ -69,9 +69,8 @@ impl Shelf for MemShelf {
         // Each call counts, and each fault and lack once.
         ensures counted { self.new.calls ≡ raised self.old.calls }
         ensures faults { Counts (IsErrOf result ShelfFault.Failed) self.old.faults self.new.faults }
-        ensures lacks {
-            Counts (IsErrOf result ShelfFault.Missing ⊎ IsErrOf result ShelfFault.TooLong)
-                self.old.lacks self.new.lacks }
+        ensures lacks { Counts (IsErrOf result ShelfFault.Missing ⊎ IsErrOf result ShelfFault.TooLong)
+            self.old.lacks self.new.lacks }
         ensures files { self.new.files ≡ self.old.files }
         ensures failing { self.new.failing ≡ self.old.failing }
     {
@@ -90,12 +89,7 @@ impl Shelf for MemShelf {
 }
 
 // The bytes of the first file of that name, copied where they are not too many.
-fn found(
-    alloc: Global,
-    files: &[NamedFile],
-    name: &str,
-    limit: u64,
-) -> Result<Bytes, ShelfFault>
+fn found(alloc: Global, files: &[NamedFile], name: &str, limit: u64) -> Result<Bytes, ShelfFault>
     ensures failed { IsErrOf result ShelfFault.Failed → ⊥ }
     ensures within { IfOk result (λ bytes. length bytes ≤ limit) }
     ensures told { ReadsFile (file_of files.now name.now) limit result }

@@ -61,13 +61,11 @@ impl Sink for MemSink {
     ghost faults = { λ s. s.faults };
 
     fn write(&mut self, piece: &[u8]) -> Result<usize, SinkFault>
-        ensures failed {
-            IsErrOf result SinkFault.Failed ↔
-                (Contains self.old.failing self.old.calls ⊎ Contains self.old.empty self.old.calls) }
+        ensures failed { IsErrOf result SinkFault.Failed ↔
+            (Contains self.old.failing self.old.calls ⊎ Contains self.old.empty self.old.calls) }
         ensures count { IfOk result (λ count. count ≡ min self.old.most (length piece.now)) }
         ensures some { IfOk result (λ count. piece.now ≢ [] → 0 < count) }
-        ensures appended {
-            IfOk result (λ count. self.new.text ≡ self.old.text ++ take count piece.now) }
+        ensures appended { IfOk result (λ count. self.new.text ≡ self.old.text ++ take count piece.now) }
         ensures unchanged { OnErr result (self.new.text ≡ self.old.text) }
 
         // Each call counts, and each fault once.

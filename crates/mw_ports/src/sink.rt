@@ -1,7 +1,8 @@
 //! Where text is written.
 ghost use Rattle.std.specs.Prelude.{◌≡◌, ◌≢◌, ◌≤◌, ◌<◌, ℕ, List, Option, [], length, take, IfOk, OnOk, OnErr};
 ghost use Rattle.mw_ports.specs.Causes.{HasCause};
-ghost use Rattle.mw_ports.specs.Sinks.{with_piece, AppendsPrefix};
+ghost use Rattle.std.specs.Io.KnownBytes.{append_known};
+ghost use Rattle.mw_ports.specs.Sinks.{AppendsPrefix};
 
 use mw_types::NoMemory;
 use std::alloc::AllocError;
@@ -49,15 +50,14 @@ pub trait Sink: Drop {
     fn write(&mut self, piece: &[u8]) -> Result<usize, SinkFault>
         ensures within { IfOk result (λ count. count ≤ length piece.now) }
         ensures some { IfOk result (λ count. piece.now ≢ [] → 0 < count) }
-        ensures appended {
-            IfOk result (λ count. text self.new ≡ with_piece (take count piece.now) (text self.old)) }
+        ensures appended { IfOk result (λ count. text self.new ≡ append_known (text self.old) (take count piece.now)) }
         ensures unchanged { OnErr result (text self.new ≡ text self.old) }
         ensures cause { HasCause (faults self.old) (faults self.new) result SinkFault.Failed };
 }
 
 /// Appends the whole piece, by as many writes as that takes.
 pub fn write_all<O: Sink>(out: &mut O, piece: &[u8]) -> Result<(), SinkFault>
-    ensures whole { OnOk result (O.text out.new ≡ with_piece piece.now (O.text out.old)) }
+    ensures whole { OnOk result (O.text out.new ≡ append_known (O.text out.old) piece.now) }
     ensures part { OnErr result (AppendsPrefix piece.now (O.text out.old) (O.text out.new)) }
     ensures cause { HasCause (O.faults out.old) (O.faults out.new) result SinkFault.Failed }
 {

@@ -1,5 +1,5 @@
-use Rattle.std.proofs.Common.{rules, ap, Some, ◌≡◌, ◌≤◌, ◌++◌, length, take, min, arith}
-use Rattle.std.proofs.lemmas.Result.{IfOk-weaker, IfErr-weaker}
+use Rattle.std.proofs.Common.{ap, Some, ◌≡◌, ◌≤◌, length, min, arith}
+use Rattle.std.proofs.lemmas.Result.{IfOk-weaker, on_err_weaker}
 use Rattle.mw_ports.specs.declared.sink.SinkFault.TheVariants.{Failed}
 use Rattle.mw_ports.proofs.Causings.{cause_of}
 use Rattle.mw_ports.proofs.mem_sink.MemSinkSink.TheImpl.Goals as goal
@@ -12,6 +12,6 @@ write-tells x c =
       within = IfOk-weaker c.result (λ count. count ≡ min old.most (length piece)) (λ count. count ≤ length piece) (λ count is. omega arith) told.count;
       some = told.some;
       appended = IfOk-weaker c.result _ _ (λ count is. ap Some is) told.appended;
-      unchanged = IfErr-weaker c.result _ _ (λ fault is. ap Some is) told.unchanged;
+      unchanged = on_err_weaker c.result (ap Some) told.unchanged;
       cause = cause_of _ _ c.result Failed (λ came. came) told.faults;
     }
