@@ -20,8 +20,3 @@ pub record Counts (happened : Type 0) (before now : ℕ) : Type 0 where
   pub later : before ≤ now
   pub up : happened → now ≡ raised before
   pub same : ¬ happened → now ≡ before
-
--- how often the outside world failed, and how often something was not there or too long
-pub record ShelfCounts : Type 0 where
-  pub faults : ℕ
-  pub lacks : ℕ

@@ -16,7 +16,8 @@ pub record ShelfView : Type 0 where
   pub faults : ℕ
   pub lacks : ℕ
 
--- a sink in memory: its text, how much a call takes at most, the calls that fail or take nothing, how many calls there were, and its count
+-- a sink in memory: its text, how much a call takes at most, the calls that fail and those that take nothing,
+-- how many calls there were, and its count
 pub record SinkView : Type 0 where
   pub text : List ℕ
   pub most : ℕ

@@ -3,7 +3,7 @@ ghost use Rattle.std.specs.Prelude.{◌≡◌, ◌≤◌, ◌<◌, ◌↔◌, �
 ghost use Rattle.std.specs.IoError.{error_kind};
 ghost use Rattle.std.specs.Io.KnownBytes.{IsAtEnd};
 ghost use Rattle.mw_ports.specs.Causes.{Counts};
-ghost use Rattle.mw_ports.specs.Shelves.{ReadsFile};
+ghost use Rattle.mw_ports.specs.Shelves.{IsLack, ReadsFile};
 ghost use Rattle.mw_ports.specs.Readers.{Moves, TakesMoreThan, TakesAtMost};
 
 use crate::shelf::{Shelf, ShelfFault};
@@ -23,7 +23,7 @@ pub struct FileShelf<'a, R: Files> {
 }
 
 impl<'a, R: Files> Model for FileShelf<'a, R> {
-    ghost use Rattle.mw_ports.specs.Causes.{ShelfCounts};
+    ghost use Rattle.mw_ports.specs.Shelves.{ShelfCounts};
 
     ghost Value = { ShelfCounts };
 
@@ -55,8 +55,7 @@ impl<'a, R: Files> Shelf for FileShelf<'a, R> {
 
         // Each fault and each lack counts once.
         ensures faults { Counts (IsErrOf result ShelfFault.Failed) self.old.faults self.new.faults }
-        ensures lacks { Counts (IsErrOf result ShelfFault.Missing ⊎ IsErrOf result ShelfFault.TooLong)
-            self.old.lacks self.new.lacks }
+        ensures lacks { Counts (IsLack result) self.old.lacks self.new.lacks }
     {
         let bytes = contents(self.rt, alloc, name, limit);
         match bytes {
@@ -129,7 +128,8 @@ fn take_portion<F: Read>(
     requires one_above { length portion.old ≤ left + 1 }
     ensures within { IfOk result (λ count. count ≤ left) }
     ensures end { IfOk result (λ count. count ≡ 0 → IsAtEnd (F.remaining file.new)) }
-    ensures moved { IfOk result (Moves (F.remaining file.old) (F.remaining file.new) bytes.old bytes.new) }
+    ensures moved { IfOk result
+        (Moves (F.remaining file.old) (F.remaining file.new) bytes.old bytes.new) }
     ensures not_missing { IsErrOf result ShelfFault.Missing → ⊥ }
     ensures too_long { IsErrOf result ShelfFault.TooLong →
         TakesMoreThan left (F.remaining file.old) (F.remaining file.new) }

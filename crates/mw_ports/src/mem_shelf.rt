@@ -1,7 +1,7 @@
 //! A shelf in memory, which tells its files and fails at named calls.
-ghost use Rattle.std.specs.Prelude.{◌≡◌, ◌≤◌, ◌⊎◌, ◌↔◌, [], length, Some, IfOk, IsErrOf, Contains, option_copied};
-ghost use Rattle.mw_ports.specs.Causes.{HasCause, Counts, raised};
-ghost use Rattle.mw_ports.specs.Shelves.{ReadsFile};
+ghost use Rattle.std.specs.Prelude.{◌≡◌, ◌≤◌, ◌↔◌, length, Some, IfOk, IsErrOf, Contains, option_copied};
+ghost use Rattle.mw_ports.specs.Causes.{Counts, raised};
+ghost use Rattle.mw_ports.specs.Shelves.{IsLack, ReadsFile};
 ghost use Rattle.mw_ports.specs.Fakes.{file_of};
 
 use crate::shelf::{Shelf, ShelfFault};
@@ -36,13 +36,20 @@ impl Model for MemShelf {
 
     ghost Value = { ShelfView };
 
-    ghost view = { λ s. record { files = s.files; failing = s.failing; calls = s.calls; faults = s.faults; lacks = s.lacks } };
+    ghost view = { λ s. record {
+      files = s.files;
+      failing = s.failing;
+      calls = s.calls;
+      faults = s.faults;
+      lacks = s.lacks;
+    } };
 }
 
 impl MemShelf {
     /// A shelf with these files, whose reads of these numbers, from 0, fail.
     pub fn of(files: FileList, failing: CallList) -> MemShelf
-        ensures { result ≡ record { files = files; failing = failing; calls = 0; faults = 0; lacks = 0 } }
+        ensures { result ≡
+            record { files = files; failing = failing; calls = 0; faults = 0; lacks = 0 } }
     {
         MemShelf {
             files,
@@ -62,15 +69,15 @@ impl Shelf for MemShelf {
     ghost lacks = { λ s. s.lacks };
 
     fn read(&mut self, alloc: Global, name: &str, limit: u64) -> Result<Bytes, ShelfFault>
-        ensures failed { IsErrOf result ShelfFault.Failed ↔ Contains self.old.failing self.old.calls }
+        ensures failed { IsErrOf result ShelfFault.Failed ↔
+            Contains self.old.failing self.old.calls }
         ensures within { IfOk result (λ bytes. length bytes ≤ limit) }
         ensures told { ReadsFile (file_of self.old.files name.now) limit result }
 
         // Each call counts, and each fault and lack once.
         ensures counted { self.new.calls ≡ raised self.old.calls }
         ensures faults { Counts (IsErrOf result ShelfFault.Failed) self.old.faults self.new.faults }
-        ensures lacks { Counts (IsErrOf result ShelfFault.Missing ⊎ IsErrOf result ShelfFault.TooLong)
-            self.old.lacks self.new.lacks }
+        ensures lacks { Counts (IsLack result) self.old.lacks self.new.lacks }
         ensures files { self.new.files ≡ self.old.files }
         ensures failing { self.new.failing ≡ self.old.failing }
     {

@@ -1,6 +1,6 @@
 //! A sink in memory, which tells its text and fails at named calls.
 ghost use Rattle.std.specs.Prelude.{◌≡◌, ◌≢◌, ◌≤◌, ◌<◌, ◌⊎◌, ◌↔◌, ◌++◌, [], length, min, take, Some, IfOk, OnErr, IsErrOf, Contains};
-ghost use Rattle.mw_ports.specs.Causes.{HasCause, Counts, raised};
+ghost use Rattle.mw_ports.specs.Causes.{Counts, raised};
 
 use crate::sink::{Sink, SinkFault};
 use mw_types::CallList;
@@ -24,18 +24,31 @@ impl Model for MemSink {
 
     ghost Value = { SinkView };
 
-    ghost view = { λ s. record { text = s.text.items; most = s.most; failing = s.failing; empty = s.empty; calls = s.calls; faults = s.faults } };
+    ghost view = { λ s. record {
+      text = s.text.items;
+      most = s.most;
+      failing = s.failing;
+      empty = s.empty;
+      calls = s.calls;
+      faults = s.faults;
+    } };
 
     ghost invariant = { λ s. 1 ≤ s.most };
 }
 
 impl MemSink {
-    /// An empty sink that takes at most so many bytes a call. Its writes of the numbers in `failing`,
-    /// from 0, fail, and those in `empty` take nothing, which is a failure too.
+    /// An empty sink that takes at most `most` bytes a call. Its writes of the numbers in
+    /// `failing`, from 0, fail, and those in `empty` take nothing, which is a failure too.
     pub fn of(alloc: Global, most: usize, failing: CallList, empty: CallList) -> MemSink
         requires { 1 ≤ most }
-        ensures { result ≡
-            record { text = []; most = most; failing = failing; empty = empty; calls = 0; faults = 0 } }
+        ensures { result ≡ record {
+          text = [];
+          most = most;
+          failing = failing;
+          empty = empty;
+          calls = 0;
+          faults = 0;
+        } }
     {
         MemSink {
             text: Vec::new(alloc),
@@ -65,7 +78,8 @@ impl Sink for MemSink {
             (Contains self.old.failing self.old.calls ⊎ Contains self.old.empty self.old.calls) }
         ensures count { IfOk result (λ count. count ≡ min self.old.most (length piece.now)) }
         ensures some { IfOk result (λ count. piece.now ≢ [] → 0 < count) }
-        ensures appended { IfOk result (λ count. self.new.text ≡ self.old.text ++ take count piece.now) }
+        ensures appended { IfOk result (λ count.
+            self.new.text ≡ self.old.text ++ take count piece.now) }
         ensures unchanged { OnErr result (self.new.text ≡ self.old.text) }
 
         // Each call counts, and each fault once.

@@ -50,7 +50,8 @@ pub trait Sink: Drop {
     fn write(&mut self, piece: &[u8]) -> Result<usize, SinkFault>
         ensures within { IfOk result (λ count. count ≤ length piece.now) }
         ensures some { IfOk result (λ count. piece.now ≢ [] → 0 < count) }
-        ensures appended { IfOk result (λ count. text self.new ≡ append_known (text self.old) (take count piece.now)) }
+        ensures appended { IfOk result (λ count.
+            text self.new ≡ append_known (text self.old) (take count piece.now)) }
         ensures unchanged { OnErr result (text self.new ≡ text self.old) }
         ensures cause { HasCause (faults self.old) (faults self.new) result SinkFault.Failed };
 }

@@ -1,4 +1,4 @@
-//! The fakes fail at the calls that they are told, and the real ones reach real files and standard output.
+//! Shelves and sinks in memory fail as told; the real ones reach files and standard output.
 use crate::{
     FileList, FileShelf, MemShelf, MemSink, NamedFile, OutSink, Shelf, ShelfFault, Sink, SinkFault,
     write_all,
