@@ -1,12 +1,12 @@
 -- The rows at which intervals begin, in the order of rows.
-use Rattle.std.proofs.Common.{◌≡◌, ◌<◌, ◌≤◌, ◌+◌, ◌∙◌, ℕ, List, [], ◌∷◌, Bool, true, false, Option, Some, None, length, arith, refl, sym, ap, true≢false, subst, ◌⊎◌, inl, inr}
+use Rattle.std.proofs.Common.{◌≡◌, ◌<◌, ◌≤◌, ◌+◌, ◌∙◌, ℕ, List, [], ◌∷◌, Bool, true, false, Option, Some, None, length, arith, refl, sym, ap, true≢false, subst, inl, inr}
 use Rattle.std.proofs.lemmas.Bool.Decides.{nat_tests}
 use Rattle.std.proofs.Math.Nat.{eq-or-lt_of_le}
 use Rattle.std.specs.Prelude.{MatchOption}
 use Rattle.std.specs.declared.cmp.Ordering.{Ordering}
 use Rattle.std.specs.declared.cmp.Ordering.TheVariants.{Less, Equal, Greater}
 use Rattle.std.specs.Ordering.{is_le, is_lt, nat_cmp, ordering_then, ordering_reverse}
-use Rattle.std.specs.Cmp.{IsTotalOrder, alike_right}
+use Rattle.std.specs.Cmp.{alike_right}
 use Rattle.std.specs.List.{AllAdjacentBelow}
 use Rattle.std.specs.List.Sorted.{IsStrictlySortedBy, IsPartitionedBy}
 use Rattle.std.proofs.lemmas.List.{get_or-map, length-map}
@@ -70,10 +70,10 @@ starts_ascend b next m = meets b.part next.part b.from next.from b.to m
 pub before_at_most : (a b n : RowName) → row_cmp a b ≡ Less → is_le (row_cmp b n) ≡ true → is_le (row_cmp a n) ≡ true
 before_at_most a b n l h = by_case (row_cmp b n) refl h
   where
-  by_case : (o : Ordering) → row_cmp b n ≡ o → is_le o ≡ true → is_le (row_cmp a n) ≡ true
-  by_case Less e h = ap is_le (row_cmp-total.trans a b n l e)
-  by_case Equal e h = ap is_le (sym (alike_right row_cmp-total b n a e) ∙ l)
-  by_case Greater e h = absurd (true≢false (sym h))
+    by_case : (o : Ordering) → row_cmp b n ≡ o → is_le o ≡ true → is_le (row_cmp a n) ≡ true
+    by_case Less e h = ap is_le (row_cmp-total.trans a b n l e)
+    by_case Equal e h = ap is_le (sym (alike_right row_cmp-total b n a e) ∙ l)
+    by_case Greater e h = absurd (true≢false (sym h))
 
 -- whether an interval begins at a row or before it
 abbrev pub begins_by : RowName → Bounds → Bool
@@ -83,10 +83,10 @@ begins_by name b = is_le (row_cmp (start_of b) name)
 pub starts_sorted : (all : List Bounds) (d : Bounds) → AllAdjacentBelow Meets all (length all) → IsStrictlySortedBy row_cmp (map start_of all)
 starts_sorted all d next = sorted_from_all_adjacent row_cmp-total (map start_of all) (start_of d) (λ k h. step k (subst (λ n. k + 1 < n) (length-map all start_of) h))
   where
-  step : (k : ℕ) → k + 1 < length all → row_cmp (get_or (map start_of all) k (start_of d)) (get_or (map start_of all) (k + 1) (start_of d)) ≡ Less
-  step k h =
-    let low : k < length all = omega arith in
-    ap (λ r. row_cmp r (get_or (map start_of all) (k + 1) (start_of d))) (get_or-map start_of all k d (start_of d) low)
+    step : (k : ℕ) → k + 1 < length all → row_cmp (get_or (map start_of all) k (start_of d)) (get_or (map start_of all) (k + 1) (start_of d)) ≡ Less
+    step k h =
+        let low : k < length all = omega arith in
+        ap (λ r. row_cmp r (get_or (map start_of all) (k + 1) (start_of d))) (get_or-map start_of all k d (start_of d) low)
         ∙ ap (λ r. row_cmp (start_of (get_or all k d)) r) (get_or-map start_of all (k + 1) d (start_of d) h)
         ∙ starts_ascend (get_or all k d) (get_or all (k + 1) d) (next k d h)
 
@@ -96,20 +96,20 @@ pub in_order : (all : List Bounds) (d : Bounds) → AllAdjacentBelow Meets all (
 in_order all d next i j lt short =
     let low : i < length all = omega arith in
     ap (λ r. row_cmp r (start_of (get_or all j d))) (sym (get_or-map start_of all i d (start_of d) low))
-        ∙ ap (λ r. row_cmp (get_or (map start_of all) i (start_of d)) r) (sym (get_or-map start_of all j d (start_of d) short))
-        ∙ Less-from_sorted row_cmp (map start_of all) i j (start_of d) (starts_sorted all d next) lt (subst (λ n. j < n) (sym (length-map all start_of)) short)
+    ∙ ap (λ r. row_cmp (get_or (map start_of all) i (start_of d)) r) (sym (get_or-map start_of all j d (start_of d) short))
+    ∙ Less-from_sorted row_cmp (map start_of all) i j (start_of d) (starts_sorted all d next) lt (subst (λ n. j < n) (sym (length-map all start_of)) short)
 
 -- the intervals that begin by a row come before those that begin after it
 pub begin_in_two : (all : List Bounds) (name : RowName) → AllAdjacentBelow Meets all (length all) → IsPartitionedBy (begins_by name) all
 begin_in_two all name next i j d le short at = elim (eq-or-lt_of_le le) [
-      inl e ↦ subst (λ k. begins_by name (get_or all k d) ≡ true) (sym e) at
-    | inr lt ↦ before_at_most _ _ name (in_order all d next i j lt short) at
-  ]
+  | inl e ↦ subst (λ k. begins_by name (get_or all k d) ≡ true) (sym e) at
+  | inr lt ↦ before_at_most _ _ name (in_order all d next i j lt short) at
+]
 
 -- no interval is of a part before that of an earlier one
 pub parts_rise : (all : List Bounds) (d : Bounds) → AllAdjacentBelow Meets all (length all) → (i j : ℕ) → i ≤ j → j < length all
     → (get_or all i d).part ≤ (get_or all j d).part
 parts_rise all d next i j le short = elim (eq-or-lt_of_le le) [
-      inl e ↦ subst (λ k. (get_or all i d).part ≤ (get_or all k d).part) e (omega arith)
-    | inr lt ↦ part_below _ _ _ (ap is_le (in_order all d next i j lt short))
-  ]
+  | inl e ↦ subst (λ k. (get_or all i d).part ≤ (get_or all k d).part) e (omega arith)
+  | inr lt ↦ part_below _ _ _ (ap is_le (in_order all d next i j lt short))
+]

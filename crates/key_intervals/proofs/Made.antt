@@ -1,11 +1,10 @@
 -- The intervals of parts that are numbered in order have each key of the parts, and none twice.
-use Rattle.std.proofs.Common.{◌≡◌, ◌∙◌, ◌<◌, ◌≤◌, ◌+◌, ◌++◌, ℕ, zero, suc, List, [], ◌∷◌, Option, Some, None, length, get_or, arith, refl, sym, ap, subst}
+use Rattle.std.proofs.Common.{◌≡◌, ◌∙◌, ◌<◌, ◌≤◌, ◌+◌, ◌++◌, ℕ, zero, suc, List, [], ◌∷◌, Some, None, length, get_or, arith, refl, sym, ap, subst, Less}
 use Rattle.std.specs.Prelude.{IfSome, All, Any, slice_get}
 use Rattle.std.proofs.lemmas.List.{get_or_default, get_or-append-add, length-append}
-use Rattle.std.specs.declared.cmp.Ordering.TheVariants.{Less}
 use Rattle.std.specs.List.{AllAdjacentBelow}
 use Rattle.std.specs.List.Sorted.{IsStrictlySortedBy}
-use Rattle.std.proofs.lemmas.List.Elements.{All-head, All-tail}
+use Rattle.std.proofs.lemmas.List.Elements.{All-head, All-tail, All-weaker, recursion_from_All}
 use Rattle.std.proofs.lemmas.Map.Keys.{sorted_head, sorted_tail}
 use Rattle.mw_types.specs.Orders.{key_cmp}
 use Rattle.mw_types.specs.declared.key.PartCuts.{PartCuts}
@@ -42,8 +41,8 @@ meet_from : (part : ℕ) (from : List ℕ) (cuts : List (List ℕ)) (rest : List
 meet_from part from [] rest s begin a = meet_cons (record { part = part; from = from; to = None }) rest begin a
 meet_from part from (cut ∷ cuts) rest s begin a =
     meet_cons (record { part = part; from = from; to = Some cut }) (bounds_from part cut cuts ++ rest)
-        (λ d l. let w = begins_with part cut cuts rest d in (w.0, w.1, (sorted_head key_cmp from (cut ∷ cuts) s).0))
-        (meet_from part cut cuts rest (sorted_tail key_cmp from (cut ∷ cuts) s) begin a)
+    (λ d l. let w = begins_with part cut cuts rest d in (w.0, w.1, (sorted_head key_cmp from (cut ∷ cuts) s).0))
+    (meet_from part cut cuts rest (sorted_tail key_cmp from (cut ∷ cuts) s) begin a)
 
 -- the last of these intervals has no end
 abbrev LastEnds : List Bounds → Type 0
@@ -64,8 +63,8 @@ meet_of : (n : ℕ) (parts : List PartCuts) → AreNumbered n parts → All (λ 
 meet_of n [] a cuts = λ k d l. absurd (omega arith)
 meet_of n (p ∷ ps) a cuts =
     meet_from p.part [] p.cuts (bounds_of ps) (All-head (λ (p : PartCuts). AreCuts p.cuts) p ps cuts)
-        (subst (λ m. Begin (m + 1) (bounds_of ps)) (sym a.0) (begin_of (n + 1) ps a.1))
-        (meet_of (n + 1) ps a.1 (All-tail (λ (p : PartCuts). AreCuts p.cuts) p ps cuts))
+    (subst (λ m. Begin (m + 1) (bounds_of ps)) (sym a.0) (begin_of (n + 1) ps a.1))
+    (meet_of (n + 1) ps a.1 (All-tail (λ (p : PartCuts). AreCuts p.cuts) p ps cuts))
 
 last_of : (parts : List PartCuts) → LastEnds (bounds_of parts)
 last_of [] = λ k d e. absurd (omega arith)
@@ -85,7 +84,6 @@ intervals_of parts a cuts few = record {
   few = few;
 }
 
-
 -- each part that there is has an interval
 pub has_part : (parts : List PartCuts) (n k : ℕ) → AreNumbered n parts → k < length parts → Any (λ (b : Bounds). b.part ≡ n + k) (bounds_of parts)
 has_part [] n k a l = absurd (omega arith)
@@ -99,6 +97,20 @@ has_part (p ∷ ps) n (suc k) a l =
     let m = length (part_bounds_of p) in
     (m + h.0, h.1, omega (arith, length-append (part_bounds_of p) (bounds_of ps), h.2), get_or-append-add (part_bounds_of p) (bounds_of ps) h.0 h.1 ∙ h.3, h.4 ∙ omega arith)
 
+-- a part may have no cuts
+pub no_cuts : AreCuts []
+unfolding IsStrictlySortedBy
+no_cuts = (tt, tt)
+
+-- cuts that ascend strictly, and none of which is empty, may divide a part
+pub cuts_of : (cuts : List (List ℕ)) → IsStrictlySortedBy key_cmp cuts → All (λ cut. 0 < length cut) cuts → AreCuts cuts
+unfolding IsStrictlySortedBy
+cuts_of cuts sorted some = (recursion_from_All (λ cut. key_cmp [] cut ≡ Less) cuts (All-weaker (λ cut. 0 < length cut) (λ cut. key_cmp [] cut ≡ Less) above cuts some), sorted)
+  where
+    above : (cut : List ℕ) → 0 < length cut → key_cmp [] cut ≡ Less
+    above [] l = absurd (omega arith)
+    above (b ∷ bs) l = refl
+
 -- the next part keeps the numbers in order
 pub AreNumbered-push : (n : ℕ) (parts : List PartCuts) (p : PartCuts) → AreNumbered n parts → p.part ≡ n + length parts → AreNumbered n (parts ++ p ∷ [])
 AreNumbered-push n [] p a e = (omega (arith, e), tt)
@@ -109,5 +121,5 @@ pub length-bounds_of : (parts : List PartCuts) → All (λ (p : PartCuts). p.cut
 length-bounds_of [] h = refl
 length-bounds_of (p ∷ ps) h =
     let whole : bounds_of (p ∷ ps) ≡ bounds_from p.part [] [] ++ bounds_of ps =
-        ap (λ cuts. bounds_from p.part [] cuts ++ bounds_of ps) (All-head (λ (q : PartCuts). q.cuts ≡ []) p ps h) in
+    ap (λ cuts. bounds_from p.part [] cuts ++ bounds_of ps) (All-head (λ (q : PartCuts). q.cuts ≡ []) p ps h) in
     ap length whole ∙ omega (arith, length-bounds_of ps (All-tail (λ (q : PartCuts). q.cuts ≡ []) p ps h))

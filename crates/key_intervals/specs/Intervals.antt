@@ -54,8 +54,8 @@ start_of b = record { part = b.part; key = b.from }
 -- after an interval without an end comes the first of the next part, and after another the one that begins at its end
 abbrev pub Meets : Bounds → Bounds → Type 0
 Meets b next = MatchOption b.to
-  ((next.part ≡ b.part + 1) × (next.from ≡ []))
-  (λ end. (next.part ≡ b.part) × (next.from ≡ end) × (key_cmp b.from end ≡ Less))
+    ((next.part ≡ b.part + 1) × (next.from ≡ []))
+    (λ end. (next.part ≡ b.part) × (next.from ≡ end) × (key_cmp b.from end ≡ Less))
 
 -- intervals that together have each key of their parts, and none twice
 pub record AreIntervals (all : List Bounds) : Type 0 where

@@ -22,14 +22,19 @@ impl Bounds {
     pub fn covers(&self, name: &RowName) -> bool
         ensures { result ≡ covers self.now name.now }
     {
-        self.part == name.part && self.from.cmp(&name.key).is_le() && ends_after(&self.to, &name.key)
+        self.part == name.part
+            && self.from.cmp(&name.key).is_le()
+            && ends_after(&self.to, &name.key)
     }
 
     // Whether the interval begins at this row or before it, in the order of rows.
     pub(crate) fn begins_by(&self, name: &RowName) -> bool
         ensures { result ≡ is_le (row_cmp (start_of self.now) name.now) }
     {
-        self.part.cmp(&name.part).then(self.from.cmp(&name.key)).is_le()
+        self.part
+            .cmp(&name.part)
+            .then(self.from.cmp(&name.key))
+            .is_le()
     }
 }
 

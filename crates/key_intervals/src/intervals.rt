@@ -57,7 +57,10 @@ impl Intervals {
         ensures found { HasRow self.now result name.now }
         ensures only { (other : ℕ) → HasRow self.now other name.now → other ≡ result }
     {
-        let after = self.all.as_slice().partition_point(|bounds| bounds.begins_by(name));
+        let after = self
+            .all
+            .as_slice()
+            .partition_point(|bounds| bounds.begins_by(name));
         (after - 1) as u32
     }
 

@@ -1,9 +1,10 @@
 //! Which interval has a row, of parts with and without cuts.
-ghost use Rattle.std.specs.Prelude.{◌≡◌, ◌∷◌, ◌++◌, ◌≤◌, [], ℕ, List, All, codes, length, IfOk, OnOk};
+ghost use Rattle.std.specs.Prelude.{◌≡◌, ◌∷◌, ◌≤◌, ◌<◌, [], ℕ, All, Any, codes, length, IfOk};
+ghost use Rattle.key_intervals.specs.declared.bounds.Bounds.{Bounds};
 ghost use Rattle.mw_types.specs.declared.key.PartCuts.{PartCuts};
-ghost use Rattle.key_intervals.specs.Intervals.{bounds_of, AreCuts, AreNumbered};
+ghost use Rattle.key_intervals.specs.Intervals.{AreNumbered};
 
-use crate::{Bounds, Intervals};
+use crate::{Bounds, INTERVALS_MAX, Intervals};
 use mw_types::{Key, KeyList, KeyRefusal, NoMemory, PartCuts, PartCutsList, RowName};
 use std::alloc::Global;
 
@@ -38,7 +39,15 @@ fn a_cut_begins_an_interval(rt: HostRuntime) -> Result<(), KeyRefusal> {
     let parts = three_parts(alloc)?;
     let intervals = Intervals::of(alloc, parts.as_slice())?;
     assert_eq!(rt; intervals.count(), 5);
-    for (text, number) in [("a", 1), ("gz", 1), ("h", 2), ("h0", 2), ("p", 2), ("q", 3), ("z", 3)] {
+    for (text, number) in [
+        ("a", 1),
+        ("gz", 1),
+        ("h", 2),
+        ("h0", 2),
+        ("p", 2),
+        ("q", 3),
+        ("z", 3),
+    ] {
         let name = RowName {
             part: 1,
             key: Key::of(alloc, text)?,
@@ -78,19 +87,31 @@ fn whole_parts(alloc: Global, count: u32) -> Result<PartCutsList, NoMemory>
     Ok(parts)
 }
 
-#[test]
-fn as_many_intervals_as_there_may_be(rt: HostRuntime) -> Result<(), NoMemory> {
-    let alloc = rt.alloc();
-    let one = Intervals::of(alloc, whole_parts(alloc, 1)?.as_slice())?;
-    assert_eq!(rt; one.count(), 1);
-    let parts = whole_parts(alloc, 61)?;
+// The intervals of so many parts without cuts.
+fn whole_intervals(alloc: Global, count: u32) -> Result<Intervals, NoMemory>
+    requires { count ≤ INTERVALS_MAX }
+    ensures parts { IfOk result (λ all. (k : ℕ) → k < count → Any (λ (b : Bounds). b.part ≡ k) all) }
+    ensures count { IfOk result (λ all. length all ≡ count) }
+{
+    let parts = whole_parts(alloc, count)?;
     let intervals = Intervals::of(alloc, parts.as_slice())?;
+    Ok(intervals)
+}
+
+#[test]
+fn a_part_without_cuts_has_one_interval(rt: HostRuntime) -> Result<(), NoMemory> {
+    let alloc = rt.alloc();
+    let one = whole_intervals(alloc, 1)?;
+    assert_eq!(rt; one.count(), 1);
+    let intervals = whole_intervals(alloc, 61)?;
     assert_eq!(rt; intervals.count(), 61);
     let last = RowName {
         part: 60,
         key: Key::none(alloc),
     };
     assert_eq!(rt; intervals.find(&last), 60);
-    assert!(rt; intervals.bounds(60).to.is_none());
+    let bounds = intervals.bounds(60);
+    assert_eq!(rt; bounds.part, 60);
+    assert!(rt; bounds.to.is_none());
     Ok(())
 }
