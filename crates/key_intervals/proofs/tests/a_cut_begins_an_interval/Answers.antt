@@ -1,4 +1,4 @@
-use Rattle.std.proofs.Common.{◌≡◌, ◌∙◌, ◌∷◌, [], List, codes, All, subst, sym, refl, rules}
+use Rattle.std.proofs.Common.{◌∙◌, ◌∷◌, [], List, codes, All, subst, sym, refl}
 use Rattle.std.specs.List.Sorted.{IsStrictlySortedBy}
 use Rattle.std.proofs.lemmas.List.Elements.{All-from_recursion}
 use Rattle.mw_types.specs.declared.key.PartCuts.{PartCuts}

@@ -12,10 +12,10 @@ found c =
     let same = c.as_slice.ensures.value ∙ c.self.view_is in
     let intervals : AreIntervals c.as_slice.result.now = subst AreIntervals (sym c.as_slice.ensures.value) c.self.invariant in
     let point = c.partition_point-after.ensures.partitioned (begins_by c.args.name.now)
-        (always_returns_same _ _ _ (λ a r f k. search (rules, of_calls))) (begin_in_two _ _ intervals.next) in
+    (always_returns_same _ _ _ (λ a r f k. search (rules, of_calls))) (begin_in_two _ _ intervals.next) in
     let part = subst (Any (λ (b : Bounds). b.part ≡ c.args.name.now.part)) (sym same) c.requires.part in
     subst (λ all. IsFound all c.args.name.now c.partition_point-after.result) same
-        (found_at_end _ _ _ intervals c.partition_point-after.ensures.bound point part)
+    (found_at_end _ _ _ intervals c.partition_point-after.ensures.bound point part)
 
 pub overflow_sub-result : goal.overflow_sub-result
 overflow_sub-result c = (found c).some
