@@ -45,27 +45,27 @@ first_of_part all d a (suc j) l =
     ])
 
 -- an interval that has a row begins by it
-begins_by_row : (b : Bounds) (name : RowName) → covers b name ≡ true → begins_by name b ≡ true
+pub begins_by_row : (b : Bounds) (name : RowName) → covers b name ≡ true → begins_by name b ≡ true
 begins_by_row b name h = by_parts b.part name.part (key_cmp b.from name.key) (ends_after b.to name.key) h
   where
     by_parts : (m n : ℕ) (o : Ordering) (e : Bool) → ((m == n) && is_le o && e) ≡ true → is_le (ordering_then (nat_cmp m n) o) ≡ true
     by_parts m n o e h = grind (arith, nat_tests)
 
 -- an interval has a row of its part from its first key on and below its end
-has_row : (b : Bounds) (name : RowName) → b.part ≡ name.part → is_le (key_cmp b.from name.key) ≡ true → ends_after b.to name.key ≡ true → covers b name ≡ true
+pub has_row : (b : Bounds) (name : RowName) → b.part ≡ name.part → is_le (key_cmp b.from name.key) ≡ true → ends_after b.to name.key ≡ true → covers b name ≡ true
 has_row b name part from to = by_parts _ _ _ _ part from to
   where
     by_parts : (m n : ℕ) (l e : Bool) → m ≡ n → l ≡ true → e ≡ true → ((m == n) && l && e) ≡ true
     by_parts m n l e p q r = grind (arith, nat_tests)
 
 -- an interval that has a row is of its part, and goes on past it
-of_part : (b : Bounds) (name : RowName) → covers b name ≡ true → b.part ≡ name.part
+pub of_part : (b : Bounds) (name : RowName) → covers b name ≡ true → b.part ≡ name.part
 of_part b name h = first b.part name.part (is_le (key_cmp b.from name.key)) (ends_after b.to name.key) h
   where
     first : (m n : ℕ) (l e : Bool) → ((m == n) && l && e) ≡ true → m ≡ n
     first m n l e h = grind (arith, nat_tests)
 
-goes_past : (b : Bounds) (name : RowName) → covers b name ≡ true → ends_after b.to name.key ≡ true
+pub goes_past : (b : Bounds) (name : RowName) → covers b name ≡ true → ends_after b.to name.key ≡ true
 goes_past b name h = third (b.part == name.part) (is_le (key_cmp b.from name.key)) (ends_after b.to name.key) h
   where
     third : (t l e : Bool) → (t && l && e) ≡ true → e ≡ true
