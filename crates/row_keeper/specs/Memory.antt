@@ -5,14 +5,16 @@ use Rattle.row_keeper.specs.Rows.{Rows}
 use Rattle.row_keeper.specs.declared.keeper.KeeperFault.{KeeperFault}
 use Rattle.row_keeper.specs.declared.keeper.KeeperFault.TheVariants as faults
 
--- a keeper in memory: its rows, the numbers of the calls that fail, how many calls there were, and how many failed
+-- a keeper in memory: its rows, the numbers of the calls that fail, how many calls there were,
+-- and how many failed
 pub record KeeperView : Type 0 where
   pub rows : Rows
   pub failing : List ℕ
   pub calls : ℕ
   pub faults : ℕ
 
--- a call fails exactly where its number is one of those that do; each call counts, and each fault once
+-- a call fails exactly where its number is one of those that do; each call counts, and each
+-- failure once
 pub record CountsCall {T : Type 0} (old new : KeeperView) (result : Result T KeeperFault) : Type 0 where
   pub failed : IsErrOf result faults.Failed ↔ Contains old.failing old.calls
   pub calls : new.calls ≡ raised old.calls

@@ -16,10 +16,12 @@ pub(crate) struct Calls {
 impl Calls {
     // Counts the call that begins, and fails where its number is one of those that do.
     pub(crate) fn begin(&mut self) -> Result<(), KeeperFault>
-        ensures failed { IsErrOf result KeeperFault.Failed ↔ Contains self.old.failing self.old.count }
+        ensures failed { IsErrOf result KeeperFault.Failed
+            ↔ Contains self.old.failing self.old.count }
         ensures only_failed { IsErr result → IsErrOf result KeeperFault.Failed }
         ensures count { self.new.count ≡ raised self.old.count }
-        ensures faults { Counts (IsErrOf result KeeperFault.Failed) self.old.faults self.new.faults }
+        ensures faults { Counts (IsErrOf result KeeperFault.Failed)
+            self.old.faults self.new.faults }
         ensures failing { self.new.failing ≡ self.old.failing }
     {
         let fails = self.failing.as_slice().contains(&self.count);

@@ -12,10 +12,13 @@ use std::alloc::Global;
 use std::collections::BTreeMap;
 use std::marker::Model;
 
+// Rows by their names, each with its bytes.
+type RowMap = BTreeMap<RowName, Bytes>;
+
 /// A keeper that holds its rows in memory.
 #[derive(Drop)]
 pub struct MemKeeper {
-    rows: BTreeMap<RowName, Bytes>,
+    rows: RowMap,
     calls: Calls,
 }
 
@@ -26,7 +29,11 @@ impl Model for MemKeeper {
     ghost Value = { KeeperView };
 
     ghost view = { λ k. record {
-        rows = k.rows.entries; failing = k.calls.failing; calls = k.calls.count; faults = k.calls.faults } };
+      rows = k.rows.entries;
+      failing = k.calls.failing;
+      calls = k.calls.count;
+      faults = k.calls.faults;
+    } };
 
     ghost invariant = { λ k. AreInOrder k.rows.entries };
 }
@@ -88,7 +95,8 @@ impl Keeper for MemKeeper {
     }
 
     fn first(&mut self, alloc: Global) -> Result<Option<KeptRow>, KeeperFault>
-        ensures least { IfOk result (λ found. option_map entry_of found ≡ slice_get self.old.rows 0) }
+        ensures least { IfOk result (λ found.
+            option_map entry_of found ≡ slice_get self.old.rows 0) }
         ensures unchanged { self.new.rows ≡ self.old.rows }
         ensures ordered { AreInOrder self.new.rows }
         ensures counts { CountsCall self.old self.new result }
@@ -109,7 +117,7 @@ fn copied(alloc: Global, name: &RowName, bytes: &Bytes) -> Result<KeptRow, NoMem
 }
 
 // Holds these bytes under this name.
-fn hold(alloc: Global, rows: &mut BTreeMap<RowName, Bytes>, name: &RowName, bytes: &[u8]) -> Result<(), NoMemory>
+fn hold(alloc: Global, rows: &mut RowMap, name: &RowName, bytes: &[u8]) -> Result<(), NoMemory>
     ensures held { OnOk result (rows.new.entries ≡ with_row name.now bytes.now rows.old.entries) }
     ensures unchanged { OnErr result (rows.new.entries ≡ rows.old.entries) }
     ensures ordered { AreInOrder rows.old.entries → AreInOrder rows.new.entries }
@@ -132,7 +140,7 @@ fn list_of(alloc: Global, bytes: &[u8]) -> Result<Bytes, NoMemory>
 }
 
 // The rows of the interval: those from where it begins, as long as it has them.
-fn found_within(alloc: Global, rows: &BTreeMap<RowName, Bytes>, bounds: &Bounds) -> Result<KeptRowList, NoMemory>
+fn found_within(alloc: Global, rows: &RowMap, bounds: &Bounds) -> Result<KeptRowList, NoMemory>
     ensures { IfOk result (λ found. map entry_of found ≡ rows_within bounds.now rows.now.entries) }
 {
     let start = RowName {
@@ -150,7 +158,7 @@ fn found_within(alloc: Global, rows: &BTreeMap<RowName, Bytes>, bounds: &Bounds)
 }
 
 // The row with the least name.
-fn found_first(alloc: Global, rows: &BTreeMap<RowName, Bytes>) -> Result<Option<KeptRow>, NoMemory>
+fn found_first(alloc: Global, rows: &RowMap) -> Result<Option<KeptRow>, NoMemory>
     ensures { IfOk result (λ found. option_map entry_of found ≡ slice_get rows.now.entries 0) }
 {
     match rows.first_key_value() {

@@ -42,7 +42,16 @@ fn middle(alloc: Global) -> Result<Bounds, NoMemory> {
 
 // Puts rows of one byte each into a keeper, and answers those of the interval from h to q.
 fn put_and_scan<K: Keeper>(alloc: Global, keeper: &mut K) -> Result<KeptRowList, KeeperFault> {
-    for (part, text, byte) in [(2, "h", 1), (1, "q", 2), (1, "pz", 3), (1, "h", 4), (1, "a", 5), (0, "", 6), (1, "h", 7)] {
+    let rows = [
+        (2, "h", 1),
+        (1, "q", 2),
+        (1, "pz", 3),
+        (1, "h", 4),
+        (1, "a", 5),
+        (0, "", 6),
+        (1, "h", 7),
+    ];
+    for (part, text, byte) in rows {
         let name = named(alloc, part, text)?;
         keeper.put(alloc, &name, &[byte])?;
     }
@@ -61,12 +70,9 @@ fn an_interval_has_its_rows_in_order(rt: HostRuntime) -> Result<(), KeeperFault>
     assert!(rt; found.get(1) == Some(&row(alloc, 1, "pz", 3)?));
     assert!(rt; keeper.first(alloc)? == Some(row(alloc, 0, "", 6)?));
     let all = keeper.rows(alloc)?;
-    let mut last = 0;
-    for (place, byte) in [6, 5, 7, 3, 2, 1].iter().enumerate() {
-        assert!(rt; all.get(place).is_some_and(|kept| kept.bytes.get(0) == Some(byte)), "{place}");
-        last = place;
-    }
-    assert_eq!(rt; all.len(), last + 1);
+    assert_eq!(rt; all.len(), 6);
+    assert!(rt; all.get(1) == Some(&row(alloc, 1, "a", 5)?));
+    assert!(rt; all.get(5) == Some(&row(alloc, 2, "h", 1)?));
     Ok(())
 }
 
