@@ -1,7 +1,6 @@
 -- The first state of a row, and one with a single window, are within bounds.
-use Rattle.std.proofs.Common.{◌≤◌, ◌∷◌, [], map, ℕ, arith}
+use Rattle.std.proofs.Common.{◌≤◌, ◌∷◌, [], arith}
 use Rattle.std.specs.List.Sorted.{IsStrictlySortedBy}
-use Rattle.std.specs.Ordering.{nat_cmp}
 use Rattle.std.proofs.lemmas.List.Elements.{All-nil, All-cons}
 use Rattle.mw_types.specs.declared.TheConstants.{MAX_STAMP}
 use Rattle.mw_types.specs.declared.kind.Kind.{Kind}
