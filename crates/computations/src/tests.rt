@@ -253,7 +253,7 @@ fn a_late_record_counts_as_late(rt: HostRuntime) -> Result<(), Fail> {
     Ok(())
 }
 
-// A timer of the row `a` with one window that ends at 60 leaves these windows, and produces so much.
+// A timer of the row `a`, which has a window to 60, leaves these windows and produces this.
 fn fires(
     rt: &impl Abort,
     alloc: Global,
