@@ -39,12 +39,16 @@ escape-plain (x ∷ xs) plain =
     ∙ ap (λ rest. x ∷ rest) (escape-plain xs p.1)
 
 -- the line is the compact text of its value
-compact_text-plain : (key : List ℕ) (stamp : ℕ) → IsPlain key → compact_text (plain_data key stamp) ≡ plain_line key (decimal stamp)
+compact_text-plain :
+    (key : List ℕ) (stamp : ℕ) → IsPlain key → compact_text (plain_data key stamp) ≡ plain_line key (decimal stamp)
 unfolding escape_byte
 compact_text-plain key stamp plain = rw (escape-plain key plain, append_assoc key (34 ∷ [])) refl
 
 -- and is read as that value
-read-plain : (key : List ℕ) (stamp : ℕ) → stamp < 2 ^ 64 → read (compact_text (plain_data key stamp)) ≡ Some (plain_data key stamp)
+read-plain :
+    (key : List ℕ) (stamp : ℕ)
+    → stamp < 2 ^ 64
+    → read (compact_text (plain_data key stamp)) ≡ Some (plain_data key stamp)
 unfolding ArePrintable
 read-plain key stamp fits =
     let j = outline (plain_data key stamp) in
@@ -108,12 +112,22 @@ plain_reading-is line key digits text record_key stamp is spelt same plain utf8 
     bounded
 
 -- what `strip_prefix` says of bytes
-pub prefix-is : (text front rest : List ℕ) → pointwise nat_eq (take (length front) text) front ≡ true → rest ≡ drop (length front) text → text ≡ front ++ rest
+pub prefix-is :
+    (text front rest : List ℕ)
+    → pointwise nat_eq (take (length front) text) front ≡ true
+    → rest ≡ drop (length front) text
+    → text ≡ front ++ rest
 prefix-is text front rest same is =
-    sym (take-append-drop (length front) text) ∙ ap (λ b. b ++ drop (length front) text) (same_text _ _ (sym same)) ∙ ap (λ b. front ++ b) (sym is)
+    sym (take-append-drop (length front) text)
+    ∙ ap (λ b. b ++ drop (length front) text) (same_text _ _ (sym same))
+    ∙ ap (λ b. front ++ b) (sym is)
 
 -- what `strip_suffix` says of bytes
-pub suffix-is : (text back rest : List ℕ) → pointwise nat_eq (drop (length text - length back) text) back ≡ true → rest ≡ take (length text - length back) text → text ≡ rest ++ back
+pub suffix-is :
+    (text back rest : List ℕ)
+    → pointwise nat_eq (drop (length text - length back) text) back ≡ true
+    → rest ≡ take (length text - length back) text
+    → text ≡ rest ++ back
 suffix-is text back rest same is =
     sym (take-append-drop (length text - length back) text)
     ∙ ap (λ b. take (length text - length back) text ++ b) (same_text _ _ (sym same))
@@ -131,6 +145,12 @@ plain_line-parts line rest key behind after digits a b c d =
     a ∙ ap (λ l. codes "{\"key\":\"" ++ l) (b ∙ ap (λ l. key ++ l) (c ∙ ap (λ l. codes "\",\"ts\":" ++ l) d))
 
 -- what `split_at` says of bytes
-pub split-is : (text front back : List ℕ) (at : ℕ) → front ≡ take at text → back ≡ drop at text → text ≡ front ++ back
+pub split-is :
+    (text front back : List ℕ) (at : ℕ)
+    → front ≡ take at text
+    → back ≡ drop at text
+    → text ≡ front ++ back
 split-is text front back at before after =
-    sym (take-append-drop at text) ∙ ap (λ b. b ++ drop at text) (sym before) ∙ ap (λ b. front ++ b) (sym after)
+    sym (take-append-drop at text)
+    ∙ ap (λ b. b ++ drop at text) (sym before)
+    ∙ ap (λ b. front ++ b) (sym after)

@@ -79,8 +79,8 @@ fn text_of(key: &[u8]) -> Option<&str>
 
 /// What a line says that is spelt plainly, and none where it is spelt otherwise.
 pub fn plain_reading(alloc: Global, line: &[u8]) -> Result<Option<LineKind>, NoMemory>
-    ensures reading { IfOk result (λ found. IfSome found (λ kind. line_reading line.now ≡ Ok kind)) }
-    ensures bounded { IfOk result (λ found. IfSome found IsInput) }
+    ensures reading { IfOk result (λ o. IfSome o (λ kind. line_reading line.now ≡ Ok kind)) }
+    ensures bounded { IfOk result (λ o. IfSome o IsInput) }
 {
     let Some((key, digits)) = parts(line) else {
         return Ok(None);
