@@ -1,0 +1,3 @@
+pub mod ByPart
+pub mod Steps
+pub mod Samples

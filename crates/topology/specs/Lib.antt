@@ -1,1 +1,4 @@
 pub mod Shapes
+pub mod Rules
+pub mod Samples
+pub mod Kept

@@ -1,9 +1,19 @@
 //! The parts of a run, the streams between them, and how a consumer's key is extracted.
 //!
-//! Stands on `mw_types`. Public contract: the accessors of `Topology` give what its shape says. The
-//! definition is `specs/Shapes.antt`, which is to be read from the top.
+//! Stands on `mw_types`. Public contract: the accessors of `Topology` give what its shape says, and
+//! every `Topology` keeps the rules. Definitions: `specs/Shapes.antt`, what a topology is;
+//! `specs/Rules.antt`, which shapes are topologies.
 #![tactic(auto)]
 
+mod extraction;
+mod parts;
+mod sample;
 mod subscription;
+#[cfg(test)]
+mod tests;
+mod topology;
+mod wiring;
 
+pub use extraction::extract;
 pub use subscription::{By, Subscription};
+pub use topology::Topology;

@@ -1,0 +1,63 @@
+//! The topology of the first run.
+ghost use Rattle.std.specs.Prelude.{◌≡◌, ◌≤◌, ◌^◌, IfOk};
+ghost use Rattle.topology.specs.Samples.{clicks_shape, per_minute_shape, one_count};
+
+use crate::parts::{ComputationPart, InjectorPart, Parts, ReadingPart};
+use crate::subscription::By;
+use crate::topology::Topology;
+use mw_types::{Kind, Name, NoMemory, Seq};
+use std::alloc::Global;
+
+impl Topology {
+    /// One injector, and one count over windows of this size that reads its stream by key.
+    pub fn one_count(alloc: Global, size: u64) -> Result<Topology, NoMemory>
+        requires some { 1 ≤ size }
+        requires most { size ≤ 2 ^ 40 }
+        ensures shape { IfOk result (λ topology. topology ≡ one_count size) }
+    {
+        let parts = parts(alloc, size)?;
+        Topology::of(alloc, parts)
+    }
+}
+
+// Its parts.
+fn parts(alloc: Global, size: u64) -> Result<Parts, NoMemory>
+    ensures { IfOk result (λ made. made ≡ one_count size) }
+{
+    let mut injectors = Seq::new(alloc);
+    injectors.push(clicks(alloc)?)?;
+    let mut computations = Seq::new(alloc);
+    computations.push(per_minute(alloc, size)?)?;
+    Ok(Parts {
+        injectors,
+        computations,
+    })
+}
+
+// Its injector.
+fn clicks(alloc: Global) -> Result<InjectorPart, NoMemory>
+    ensures { IfOk result (λ made. made ≡ clicks_shape) }
+{
+    Ok(InjectorPart {
+        name: Name::of(alloc, "clicks")?,
+        stream: Name::of(alloc, "raw")?,
+    })
+}
+
+// Its count.
+fn per_minute(alloc: Global, size: u64) -> Result<ComputationPart, NoMemory>
+    ensures { IfOk result (λ made. made ≡ per_minute_shape size) }
+{
+    let mut reads = Seq::new(alloc);
+    reads.push(ReadingPart {
+        stream: Name::of(alloc, "raw")?,
+        by: By::Key,
+    })?;
+    Ok(ComputationPart {
+        name: Name::of(alloc, "per_minute")?,
+        kind: Kind::Count { size },
+        reads,
+        stream: Name::of(alloc, "windows")?,
+        cuts: Seq::new(alloc),
+    })
+}

@@ -1,0 +1,117 @@
+//! Who reads which stream: the lists of a topology that its parts determine.
+ghost use Rattle.std.specs.Prelude.{◌≡◌, ◌++◌, ◌+◌, ◌<◌, ◌^◌, length, map, filter, nat_eq, if◌then◌else◌, Some, None, IfOk, OnOk, ℕ, List};
+ghost use Rattle.std.specs.List.{list_any, filter_map, flat_map, enumerate_from};
+ghost use Rattle.std.specs.Cmp.Lexicographic.{pointwise};
+ghost use Rattle.topology.specs.Shapes.{Reading, parts_of, streams_of, injectors_of, subscriptions_to, consumers_of, reads_stream, feeds_of};
+ghost use Rattle.topology.specs.Kept.{is_among, numbers_from, subscriptions_by, subscriptions_from, by_part};
+
+use crate::parts::{ComputationPart, Parts, ReadingPart};
+use crate::subscription::{By, Subscription};
+use mw_types::{Duplicate, Name, NoMemory, NumberList, Seq};
+use std::alloc::Global;
+
+/// The subscriptions to one stream.
+pub type SubscriptionList = Seq<Subscription>;
+
+/// The stream of each part, by number.
+pub fn streams_in(alloc: Global, parts: &Parts) -> Result<Seq<Name>, NoMemory>
+    ensures { IfOk result (λ streams. streams ≡ streams_of parts.now) }
+{
+    let mut streams = Seq::new(alloc);
+    for injector in parts.injectors() {
+        streams.push(injector.stream().copy(alloc)?)?;
+    }
+    for computation in parts.computations() {
+        streams.push(computation.stream().copy(alloc)?)?;
+    }
+    Ok(streams)
+}
+
+/// The subscriptions to the stream of each part, by number.
+pub fn consumers_in(
+    alloc: Global,
+    parts: &Parts,
+    streams: &[Name],
+) -> Result<Seq<SubscriptionList>, NoMemory>
+    requires small { parts_of parts.now < 2 ^ 32 }
+    requires published { streams.now ≡ streams_of parts.now }
+    ensures { IfOk result (λ consumers. consumers ≡ by_part consumers_of parts.now) }
+{
+    let mut consumers = Seq::new(alloc);
+    for stream in streams {
+        consumers.push(subscriptions(alloc, parts, stream.text())?)?;
+    }
+    Ok(consumers)
+}
+
+// The subscriptions to a stream, in the order of the file.
+fn subscriptions(alloc: Global, parts: &Parts, stream: &str) -> Result<SubscriptionList, NoMemory>
+    requires { parts_of parts.now < 2 ^ 32 }
+    ensures { IfOk result (λ found. found ≡ subscriptions_from stream.now (injectors_of parts.now) parts.now.computations) }
+{
+    let injectors = parts.injector_count();
+    let mut found = Seq::new(alloc);
+    for (at, computation) in parts.computations().iter().enumerate() {
+        subscribe(
+            &mut found,
+            injectors + at as u32,
+            computation.reads(),
+            stream,
+        )?;
+    }
+    Ok(found)
+}
+
+// Adds the subscriptions of one computation to a stream.
+fn subscribe(
+    found: &mut SubscriptionList,
+    to: u32,
+    reads: &[ReadingPart],
+    stream: &str,
+) -> Result<(), NoMemory>
+    ensures { OnOk result (found.new ≡ found.old ++ subscriptions_by stream.now to reads.now) }
+{
+    for reading in reads {
+        if reading.stream() == stream {
+            found.push(Subscription {
+                to,
+                by: reading.by(),
+            })?;
+        }
+    }
+    Ok(())
+}
+
+/// The parts that each part reads, by number.
+pub fn feeds_in(alloc: Global, parts: &Parts, streams: &[Name]) -> Result<Seq<NumberList>, NoMemory>
+    requires small { parts_of parts.now < 2 ^ 32 }
+    requires published { streams.now ≡ streams_of parts.now }
+    ensures { IfOk result (λ feeds. feeds ≡ by_part feeds_of parts.now) }
+{
+    let mut feeds = Seq::new(alloc);
+    for part in 0..parts.count() {
+        feeds.push(sources(alloc, parts.reads(part), streams)?)?;
+    }
+    Ok(feeds)
+}
+
+// The numbers of the streams that are read, ascending.
+fn sources(alloc: Global, reads: &[ReadingPart], streams: &[Name]) -> Result<NumberList, NoMemory>
+    requires { length streams.now < 2 ^ 32 }
+    ensures { IfOk result (λ found. found ≡ numbers_from (is_among reads.now) 0 streams.now) }
+{
+    let mut found = Seq::new(alloc);
+    for (at, stream) in streams.iter().enumerate() {
+        if is_read(reads, stream.text()) {
+            found.push(at as u32)?;
+        }
+    }
+    Ok(found)
+}
+
+// Whether a stream is read.
+fn is_read(reads: &[ReadingPart], stream: &str) -> bool
+    ensures { result ≡ is_among reads.now stream.now }
+{
+    reads.iter().any(|reading| reading.stream() == stream)
+}
