@@ -1,3 +1,4 @@
 pub mod Growth
 pub mod Texts
 pub mod Splitting
+pub mod Plainness

@@ -12,7 +12,8 @@ none_behind true found none = none refl
 none_behind false found none = refl
 
 -- what is read of a text is the line's value
-pub json_of-read : (line : List ℕ) (value : Data) → IsUtf8 line → read line ≡ Some value → json_of line ≡ Some value
+pub json_of-read :
+    (line : List ℕ) (value : Data) → IsUtf8 line → read line ≡ Some value → json_of line ≡ Some value
 json_of-read line value text is = rw (is_utf8-from_IsUtf8 line text) is
 
 -- a line that is no text, or of which nothing is read, has no value

@@ -3,3 +3,4 @@ pub mod EventLines
 pub mod EventFiles
 pub mod Answers
 pub mod Progress
+pub mod PlainLines

@@ -36,9 +36,11 @@ RefusedAt n NoMemory whole = ⊤
 abbrev pub TakesIn : Standing → Result LineKind LineWhy → Standing → Type 0
 TakesIn old reading new =
     (n : ℕ) (rest : ℕ → ℕ → Result Source LinesRefusal)
-    → followed_by old.items (with_line n old.room old.mark reading rest) ≡ followed_by new.items (rest new.room new.mark)
+    → followed_by old.items (with_line n old.room old.mark reading rest)
+    ≡ followed_by new.items (rest new.room new.mark)
 
 -- whatever follows, a line with this reading is refused
 abbrev pub Refuses : Standing → Result LineKind LineWhy → LineRefusal → Type 0
 Refuses old reading refusal =
-    (n : ℕ) (rest : ℕ → ℕ → Result Source LinesRefusal) → RefusedAt n refusal (with_line n old.room old.mark reading rest)
+    (n : ℕ) (rest : ℕ → ℕ → Result Source LinesRefusal)
+    → RefusedAt n refusal (with_line n old.room old.mark reading rest)

@@ -8,6 +8,7 @@ ghost use Rattle.serde_json.specs.View.{view};
 ghost use Rattle.injector.specs.EventLines.{is_blank, as_stamp, as_value, key_in, stamp_in, value_in, record_in, watermark_in, object_reading, data_reading, line_reading, json_of};
 ghost use Rattle.injector.specs.Answers.{Gives, ReadsAs, IsInput};
 
+use crate::plain::plain_reading;
 use crate::refusal::{LineRefusal, LineWhy};
 use mw_types::{INPUT_MAX, Key, KeyRefusal};
 use serde_json::Value;
@@ -151,8 +152,8 @@ fn json_of(alloc: Global, line: &[u8]) -> Result<Value, LineRefusal>
     }
 }
 
-/// What a line says, or the first rule that it breaks.
-pub fn line_reading(alloc: Global, line: &[u8]) -> Result<LineKind, LineRefusal>
+// What a line says in whatever spelling.
+fn any_reading(alloc: Global, line: &[u8]) -> Result<LineKind, LineRefusal>
     ensures reading { Gives result (line_reading line.now) }
     ensures bounded { IfOk result IsInput }
 {
@@ -161,4 +162,16 @@ pub fn line_reading(alloc: Global, line: &[u8]) -> Result<LineKind, LineRefusal>
     }
     let value = json_of(alloc, line)?;
     data_reading(alloc, &value)
+}
+
+/// What a line says, or the first rule that it breaks.
+pub fn line_reading(alloc: Global, line: &[u8]) -> Result<LineKind, LineRefusal>
+    ensures reading { Gives result (line_reading line.now) }
+    ensures bounded { IfOk result IsInput }
+{
+    // Most lines are spelt plainly, and a JSON reader takes several times as long for them.
+    match plain_reading(alloc, line)? {
+        Some(kind) => Ok(kind),
+        None => any_reading(alloc, line),
+    }
 }

@@ -101,6 +101,8 @@ fn the_first_rule_that_a_line_breaks_is_named(rt: HostRuntime) {
     for (text, why) in [
         (b"{\"key\":\"\xff\",\"ts\":1}".as_slice(), LineWhy::NotJson),
         (b"\r\r\n".as_slice(), LineWhy::NotJson),
+        (b"{\"key\":\"a\",\"ts\":05}".as_slice(), LineWhy::NotJson),
+        (b"{\"key\":\"a\\\",\"ts\":5}".as_slice(), LineWhy::NotJson),
         (b"[1]".as_slice(), LineWhy::NotObject),
         (b"{\"ts\":1}".as_slice(), LineWhy::BadKey),
         (b"{\"key\":7,\"ts\":-1}".as_slice(), LineWhy::BadKey),
@@ -206,4 +208,26 @@ fn the_line_after_the_room_is_refused(rt: HostRuntime) {
             why: LineWhy::TooManyLines
         })
     );
+}
+
+#[test]
+fn a_record_may_be_spelt_in_many_ways(rt: HostRuntime) -> Result<(), Fail> {
+    for text in [
+        b"{\"key\":\"\xc3\xa9/a\",\"ts\":50}".as_slice(),
+        b"{\"key\":\"\\u00e9\\/a\",\"ts\":50}".as_slice(),
+        b" { \"ts\" : 50 , \"key\" : \"\xc3\xa9/a\" }\r".as_slice(),
+        b"{\"key\":\"b\",\"key\":\"\xc3\xa9/a\",\"ts\":50,\"more\":[{}]}".as_slice(),
+    ] {
+        let items = read(&rt, rt.alloc(), text)?;
+        assert!(rt; items.count() == 1);
+        assert_eq!(rt;
+            items.at(0).record_key.text().as_bytes(),
+            b"\xc3\xa9/a".as_slice()
+        );
+        assert_eq!(rt;
+            (items.at(0).stamp, items.at(0).value, items.at(0).late),
+            (50, 1, false)
+        );
+    }
+    Ok(())
 }
