@@ -51,13 +51,18 @@ with_record state key stamp value =
 abbrev pub window_end : ℕ → ℕ → ℕ
 window_end size stamp = min (stamp - stamp % size + size) MAX_STAMP
 
--- the windows, ascending by end, with one more record in the one that ends there; a new one begins with 1
+-- a list that ascends by a number, with this element at its place; one that has the place already is changed instead
+abbrev pub entered : {X : Type 0} → (X → ℕ) → X → (X → X) → List X → List X
+entered number x change [] = x ∷ []
+entered number x change (y ∷ ys) = match_ordering (nat_cmp (number x) (number y))
+    (x ∷ y ∷ ys)
+    (change y ∷ ys)
+    (y ∷ entered number x change ys)
+
+-- the windows with one more record in the one that ends there; a new window begins with 1
 abbrev pub counted : List Window → ℕ → List Window
-counted [] end = record { end = end; count = 1 } ∷ []
-counted (w ∷ ws) end = match_ordering (nat_cmp end w.end)
-    (record { end = end; count = 1 } ∷ w ∷ ws)
-    (record w { count = one_more w.count } ∷ ws)
-    (w ∷ counted ws end)
+counted windows end =
+    entered (λ w. w.end) (record { end = end; count = 1 }) (λ w. record w { count = one_more w.count }) windows
 
 -- a count takes a record that is not late into its window, and sets the window's timer
 abbrev pub count_record : ℕ → ℕ → List Window → Record → Outcome
@@ -79,13 +84,10 @@ count_timer key late windows (Some due) =
 abbrev pub due_time : ℕ → ℕ
 due_time stamp = min (stamp + 1) MAX_STAMP
 
--- the totals held, ascending by timestamp, with this one; of two at one timestamp the greater stays
+-- the totals held, with this one; of two at one timestamp the greater stays
 abbrev pub held_with : List HeldTotal → ℕ → ℤ → List HeldTotal
-held_with [] stamp value = record { stamp = stamp; value = value } ∷ []
-held_with (h ∷ hs) stamp value = match_ordering (nat_cmp stamp h.stamp)
-    (record { stamp = stamp; value = value } ∷ h ∷ hs)
-    (record h { value = int_max h.value value } ∷ hs)
-    (h ∷ held_with hs stamp value)
+held_with held stamp value =
+    entered (λ h. h.stamp) (record { stamp = stamp; value = value }) (λ h. record h { value = int_max h.value value }) held
 
 -- a spike holds a record that is not late, and sets the timer of its total
 abbrev pub spike_record : ℕ → List HeldTotal → List ℤ → Record → Outcome

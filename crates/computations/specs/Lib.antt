@@ -1,1 +1,9 @@
 pub mod Handlers
+pub mod Laws
+pub mod Parts
+pub mod Handlings
+pub mod Lending
+pub mod Places
+pub mod Entering
+pub mod Bounded
+pub mod HandlerLaws

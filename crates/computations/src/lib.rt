@@ -1,15 +1,18 @@
 //! The handlers of computations: what each kind does with a record and with a timer.
 //!
-//! Stands on `mw_types` alone.
+//! A handler runs in a context, which has the row's key and state and takes what the handler sets and
+//! produces. Stands on `mw_types` alone. Public contract: the handlers of `Kinds` leave exactly what
+//! their definition says, and every computation keeps the laws of the trait. Definitions:
+//! `specs/Handlers.antt`, what each kind leaves; `specs/Laws.antt`, what every computation keeps to.
 #![tactic(auto)]
 
-ghost use Rattle.std.specs.Prelude.{◌≡◌, ◌<◌};
-ghost use Rattle.computations.specs.Handlers.{window_end, effects_of_record, effects_of_timer};
+mod computation;
+mod context;
+mod count;
+mod kinds;
+#[cfg(test)]
+mod tests;
 
-use mw_types::{State};
-
-fn probe(x: u64) -> u64
-    ensures { window_end 60 10 ≡ 60 }
-{
-    x
-}
+pub use computation::Computation;
+pub use context::Context;
+pub use kinds::Kinds;

@@ -1,1 +1,5 @@
 pub mod Sources
+pub mod EventLines
+pub mod EventFiles
+pub mod Answers
+pub mod Progress

@@ -1,6 +1,6 @@
 -- What an injector reads from its file: record lines, and the watermark that the file has stated before each.
 -- Akidau et al., VLDB 2013, section 5.2: injectors seed low watermarks. Own: watermark lines, and what is late.
-use Rattle.std.specs.Prelude.{◌≡◌, ℕ, ◌+◌, ◌<◌, ◌≤◌, List, length, map, All, nat_lt, slice_get, Option}
+use Rattle.std.specs.Prelude.{◌≡◌, ℕ, ◌≤◌, List, map, All, nat_lt, slice_get, Option}
 use Rattle.std.specs.Option.{option_map, option_map_or}
 use Rattle.std.specs.List.Sorted.{IsNonDecreasing}
 use Rattle.mw_types.specs.declared.TheConstants.{INPUT_MAX, END}

@@ -1,8 +1,23 @@
 //! The records of one injector's file, in order, with what each line declared late.
 //!
-//! Stands on `mw_types`. The definition is `specs/Sources.antt`, which is to be read from the top.
+//! An event file has record lines and watermark lines, each of which is one JSON object. A record is
+//! late where it is below a watermark line before it. Stands on `mw_types`, `serde_json` and `memchr`.
+//! Public contract: `read_lines` is Ok exactly where each line keeps the rules, with the source that the
+//! definition gives; else it names the first line that breaks a rule, and the first rule that it breaks.
+//! Definitions, in the order of reading: `specs/Sources.antt`, what is read; `specs/EventLines.antt`, what
+//! one line says; `specs/EventFiles.antt`, what a file holds.
 #![tactic(auto)]
 
 mod item;
+mod items;
+mod lines;
+mod progress;
+mod reading;
+mod refusal;
+#[cfg(test)]
+mod tests;
 
 pub use item::Item;
+pub use items::{Items, ItemsList};
+pub use lines::read_lines;
+pub use refusal::{LineWhy, LinesRefusal};

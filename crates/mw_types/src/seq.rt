@@ -1,5 +1,5 @@
 //! A list of values, which contracts see as that list.
-ghost use Rattle.std.specs.Prelude.{◌≡◌, ◌==◌, ◌++◌, ◌∷◌, ◌↔◌, ◌<◌, ◌-◌, [], length, take, slice_get, IfOk, OnErr, OnOk, IsSome, option_copied, option_to_list};
+ghost use Rattle.std.specs.Prelude.{◌≡◌, ◌==◌, ◌++◌, ◌∷◌, ◌↔◌, ◌<◌, ◌≤◌, ◌-◌, [], length, take, slice_get, slice_set, insert, remove, IfOk, OnErr, OnOk, IsSome, option_copied, option_to_list};
 
 use crate::memory::{Duplicate, NoMemory};
 use std::alloc::Global;
@@ -56,6 +56,37 @@ impl<X> Seq<X> {
         ensures rest { self.new ≡ take (length self.old - 1) self.old }
     {
         self.items.pop()
+    }
+
+    /// Puts an element at a place, counted from 0; those from there on move up by one.
+    pub fn insert(&mut self, at: usize, x: X) -> Result<(), NoMemory>
+    where
+        X: Drop,
+        requires { at ≤ length self.old }
+        ensures inserted { OnOk result (self.new ≡ insert self.old at x) }
+        ensures unchanged { OnErr result (self.new ≡ self.old) }
+    {
+        self.items.insert(at, x)?;
+        Ok(())
+    }
+
+    /// Takes the element at a place away; those after it move down by one.
+    pub fn remove(&mut self, at: usize) -> X
+        requires { at < length self.old }
+        ensures element { slice_get self.old at ≡ Some result }
+        ensures removed { self.new ≡ remove self.old at }
+    {
+        self.items.remove(at)
+    }
+
+    /// Puts another element in the place of the one that is there.
+    pub fn set(&mut self, at: usize, x: X)
+    where
+        X: Drop,
+        requires { at < length self.old }
+        ensures { self.new ≡ slice_set self.old at x }
+    {
+        self.items[at] = x;
     }
 
     /// How many elements the list has.

@@ -1,0 +1,55 @@
+-- A handler at work: what it was given, and what it has set and produced. Own.
+use Rattle.std.specs.Prelude.{ℕ, ◌≤◌, Bool, true, false, List, [], All}
+use Rattle.mw_types.specs.declared.TheConstants.{MAX_STAMP}
+use Rattle.mw_types.specs.declared.state.State.{State}
+use Rattle.mw_types.specs.declared.record.Record.{Record}
+use Rattle.mw_types.specs.declared.record.Production.{Production}
+use Rattle.mw_types.specs.declared.timer.Timer.{Timer}
+use Rattle.mw_types.specs.Outcomes.{Outcome}
+
+-- the row's key and state, the cause's timestamp, whether it is late and a record, and what was made so far
+pub record Handling : Type 0 where
+  pub key : List ℕ
+  pub state : State
+  pub stamp : ℕ
+  pub late : Bool
+  pub of_record : Bool
+  pub timers : List Timer
+  pub productions : List Production
+
+-- a handler that begins with a record has made nothing yet
+abbrev pub begun_by_record : List ℕ → State → Record → Handling
+begun_by_record key state item = record {
+  key = key;
+  state = state;
+  stamp = item.stamp;
+  late = item.late;
+  of_record = true;
+  timers = [];
+  productions = [];
+}
+
+-- a handler that begins with a timer has made nothing yet
+abbrev pub begun_by_timer : List ℕ → State → Timer → Handling
+begun_by_timer key state timer = record {
+  key = key;
+  state = state;
+  stamp = timer.time;
+  late = timer.late;
+  of_record = false;
+  timers = [];
+  productions = [];
+}
+
+-- what the handler leaves if it ends here
+abbrev pub outcome_of : Handling → Outcome
+outcome_of h = record { state = h.state; timers = h.timers; productions = h.productions }
+
+-- the handler, where it ends with this outcome
+abbrev pub ended_with : Handling → Outcome → Handling
+ended_with h o = record h { state = o.state; timers = o.timers; productions = o.productions }
+
+-- nothing that was made is above the greatest timestamp
+pub record IsInTime (timers : List Timer) (productions : List Production) : Type 0 where
+  pub times : All (λ (t : Timer). t.time ≤ MAX_STAMP) timers
+  pub stamps : All (λ (p : Production). p.stamp ≤ MAX_STAMP) productions

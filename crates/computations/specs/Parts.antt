@@ -1,0 +1,39 @@
+-- Which part of a topology has which kind of computation. Own.
+use Rattle.std.specs.Prelude.{◌≡◌, ℕ, ◌-◌, nat_lt, if◌then◌else◌, List, slice_get, Option, None, Some, ⊤}
+use Rattle.std.specs.Option.{option_map_or}
+use Rattle.mw_types.specs.declared.kind.Kind.{Kind}
+use Rattle.mw_types.specs.declared.kind.Kind.TheVariants as kinds
+use Rattle.mw_types.specs.declared.state.State.{State}
+use Rattle.mw_types.specs.declared.record.Record.{Record}
+use Rattle.mw_types.specs.declared.timer.Timer.{Timer}
+use Rattle.mw_types.specs.Kinds.{IsKind}
+use Rattle.mw_types.specs.Outcomes.{Outcome}
+use Rattle.computations.specs.Handlers.{IsOfKind, unchanged, effects_of_record, effects_of_timer}
+
+-- the parts by number: so many injectors, and then the computations, by kind
+pub record Parts : Type 0 where
+  pub injectors : ℕ
+  pub kinds : List Kind
+
+-- the kind of a part, where it is a computation
+abbrev pub kind_at : Parts → ℕ → Option Kind
+kind_at parts part = if nat_lt part parts.injectors then None else slice_get parts.kinds (part - parts.injectors)
+
+-- the part is a computation, whose kind is in range, and a row of it may have the state
+abbrev pub HasState : Parts → ℕ → State → Type 0
+HasState parts part state = (kind : Kind) × (kind_at parts part ≡ Some kind) × IsKind kind × IsOfKind kind state
+
+-- what a part leaves of a record; a part that is no computation changes nothing
+abbrev pub part_record : Parts → ℕ → List ℕ → State → Record → Outcome
+part_record parts part key state item =
+    option_map_or (λ kind. effects_of_record kind key state item) (kind_at parts part) (unchanged state)
+
+-- what a part leaves of a timer; a part that is no computation changes nothing
+abbrev pub part_timer : Parts → ℕ → List ℕ → State → Timer → Outcome
+part_timer parts part key state timer =
+    option_map_or (λ kind. effects_of_timer kind key state timer) (kind_at parts part) (unchanged state)
+
+-- the kind counts records
+abbrev pub IsCount : Kind → Type 0
+IsCount (kinds.Count size) = ⊤
+IsCount _ = ⊥

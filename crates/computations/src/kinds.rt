@@ -1,0 +1,108 @@
+//! The computations of a topology, by the kinds of its parts.
+ghost use Rattle.std.specs.Prelude.{◌≡◌, All, IfOk, IsSome};
+ghost use Rattle.mw_types.specs.Kinds.{IsKind};
+ghost use Rattle.computations.specs.Parts.{IsCount};
+
+use crate::computation::Computation;
+use crate::context::Context;
+use crate::count;
+use mw_types::{Kind, KindTable, NoMemory, Record, Seq, Timer};
+use std::alloc::Global;
+use std::marker::Model;
+
+/// The computations that the kinds of a table name.
+#[derive(Debug, Drop)]
+pub struct Kinds {
+    injectors: u32,
+    kinds: Seq<Kind>,
+}
+
+impl Model for Kinds {
+    ghost use Rattle.std.specs.Prelude.{All};
+    ghost use Rattle.mw_types.specs.Kinds.{IsKind};
+    ghost use Rattle.computations.specs.Parts.{Parts, IsCount};
+
+    ghost Value = { Parts };
+
+    ghost view = { λ k. record { injectors = k.injectors; kinds = k.kinds } };
+
+    ghost invariant = { λ k. All IsKind k.kinds × All IsCount k.kinds };
+}
+
+impl Kinds {
+    ghost use Rattle.computations.specs.Parts.{kind_at};
+
+    /// The computations of a table, which are counts.
+    pub fn of<T: KindTable>(alloc: Global, table: &T) -> Result<Kinds, NoMemory>
+        requires counts { All IsCount (T.kinds table.now) }
+        ensures injectors { IfOk result (λ kinds. kinds.injectors ≡ T.injector_count table.now) }
+        ensures kinds { IfOk result (λ kinds. kinds.kinds ≡ T.kinds table.now) }
+        ensures within { IfOk result (λ kinds. All IsKind kinds.kinds) }
+    {
+        let injectors = table.injectors();
+        let mut kinds = Seq::new(alloc);
+        for part in injectors..table.parts() {
+            kinds.push(table.kind(part))?;
+        }
+        Ok(Kinds { injectors, kinds })
+    }
+
+    // The kind of a computation.
+    fn kind(&self, part: u32) -> Kind
+        requires { IsSome (kind_at self.now part) }
+        ensures kind { kind_at self.now part ≡ Some result }
+        ensures within { IsKind result }
+        ensures count { IsCount result }
+    {
+        let at = part - self.injectors;
+        match self.kinds.get(at as usize) {
+            Some(kind) => *kind,
+            None => Kind::Pass,
+        }
+    }
+}
+
+impl Computation for Kinds {
+    ghost use Rattle.computations.specs.Parts.{HasState, part_record, part_timer};
+    ghost use Rattle.computations.specs.HandlerLaws.{part_record-lawful, part_timer-lawful, part_timer-timers};
+
+    ghost has = { HasState };
+
+    ghost gives_record = { part_record };
+
+    ghost gives_timer = { part_timer };
+
+    fn on_record(
+        &self,
+        _alloc: Global,
+        part: u32,
+        context: &mut Context,
+        item: &Record,
+    ) -> Result<(), NoMemory> {
+        match self.kind(part) {
+            Kind::Count { size } => count::on_record(context, size, item),
+            // A table that was taken has counts alone.
+            Kind::Spike { .. } | Kind::Pass => Ok(()),
+        }
+    }
+
+    fn on_timer(
+        &self,
+        alloc: Global,
+        part: u32,
+        context: &mut Context,
+        timer: &Timer,
+    ) -> Result<(), NoMemory> {
+        match self.kind(part) {
+            Kind::Count { .. } => count::on_timer(alloc, context, timer),
+            // A table that was taken has counts alone.
+            Kind::Spike { .. } | Kind::Pass => Ok(()),
+        }
+    }
+
+    ghost record_lawful = { part_record-lawful };
+
+    ghost timer_lawful = { part_timer-lawful };
+
+    ghost timer_sets_none = { part_timer-timers };
+}

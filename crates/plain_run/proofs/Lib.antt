@@ -1,0 +1,7 @@
+pub mod Orderings
+pub mod TimerLaws
+pub mod SlotLaws
+pub mod RowLaws
+pub mod FireLaws
+pub mod ReadyLaws
+pub mod MapLaws

@@ -1,0 +1,5 @@
+pub mod Making
+pub mod Knowing
+pub mod Reaching
+pub mod Lookups
+pub mod RunLaws

@@ -1,0 +1,25 @@
+-- What one more entry does to the run of a history, and to its being legal.
+use Rattle.std.proofs.Common.{◌≡◌, List, [], ◌∷◌, ◌++◌, subst, sym}
+use Rattle.std.proofs.lemmas.List.Sums.{fold-append}
+use Rattle.mw_types.specs.declared.entry.Entry.{Entry}
+use Rattle.topology.specs.Shapes.{Shape}
+use Rattle.run_history.specs.Cases.{CaseShape}
+use Rattle.run_history.specs.Runs.{Run, run_of, followed, empty_run}
+use Rattle.run_history.specs.Legal.{MayFollow, AreLegal, IsLegal}
+
+-- the run of a history with one more entry is that of the history, and the entry followed
+pub run_of-push : (shape : Shape) (history : List Entry) (entry : Entry)
+    → run_of shape (history ++ entry ∷ []) ≡ followed shape (run_of shape history) entry
+run_of-push shape history entry = fold-append (followed shape) empty_run history (entry ∷ [])
+
+-- entries that are legal, and one that may follow them, are legal together
+AreLegal-push : (case : CaseShape) (run : Run) (entries : List Entry) (entry : Entry) → AreLegal case run entries
+    → MayFollow case (Rattle.std.specs.List.fold (followed case.topology) run entries) entry
+    → AreLegal case run (entries ++ entry ∷ [])
+AreLegal-push case run [] entry legal may = (may, tt)
+AreLegal-push case run (e ∷ es) entry legal may = (legal.0, AreLegal-push case (followed case.topology run e) es entry legal.1 may)
+
+-- a legal history and an entry that may follow it are legal together
+pub IsLegal-push : (case : CaseShape) (history : List Entry) (entry : Entry) → IsLegal case history
+    → MayFollow case (run_of case.topology history) entry → IsLegal case (history ++ entry ∷ [])
+IsLegal-push case history entry = AreLegal-push case empty_run history entry

@@ -1,0 +1,104 @@
+-- Which entry may come next, and which histories are legal: each entry does what one thread would do.
+-- Akidau et al., VLDB 2013, section 6.1, for what a worker does on receipt of a record. Own: the conditions.
+use Rattle.std.specs.Prelude.{◌≡◌, ℕ, ◌+◌, ◌<◌, ◌≤◌, min, ⊤, List, [], ◌∷◌, length, map, fold, sum_by, slice_get, IsTrue, IsSome, IsNone, Option, Some}
+use Rattle.std.specs.Option.{option_map}
+use Rattle.std.specs.List.{flat_map, AllByRecursion}
+use Rattle.mw_types.specs.declared.identity.RecordId.{RecordId}
+use Rattle.mw_types.specs.declared.identity.RowName.{RowName}
+use Rattle.mw_types.specs.declared.record.Record.{Record}
+use Rattle.mw_types.specs.declared.timer.Timer.{Timer}
+use Rattle.mw_types.specs.declared.delivery.Delivery.{Delivery}
+use Rattle.mw_types.specs.declared.entry.Entry.{Entry}
+use Rattle.mw_types.specs.declared.entry.Entry.TheVariants.{Claim, Inject, Handle, Fire, Ack, Purge}
+use Rattle.mw_types.specs.Outcomes.{Outcome}
+use Rattle.injector.specs.Sources.{item_at}
+use Rattle.topology.specs.Shapes.{Shape, ComputationShape, injectors_of, kind_of}
+use Rattle.computations.specs.Handlers.{effects_of_record, effects_of_timer}
+use Rattle.row_parts.specs.Contents.{Contents}
+use Rattle.run_history.specs.Cases.{CaseShape, is_injector, source_of, record_of}
+use Rattle.run_history.specs.Made.{found_delivery}
+use Rattle.run_history.specs.Runs.{Run, row_in, row_of, followed, empty_run}
+use Rattle.run_history.specs.Watermarks.{cursor_of, low_watermark}
+
+-- how many intervals of keys the parts have: one of each injector, and one more than the cuts of each computation
+abbrev pub intervals_of : Shape → ℕ
+intervals_of shape = injectors_of shape + sum_by (λ (c : ComputationShape). length c.cuts + 1) shape.computations
+
+-- what a computation's handler leaves of a record, or none of an injector
+abbrev pub record_outcome : CaseShape → Run → RowName → Record → Option Outcome
+record_outcome case run row item = option_map
+    (λ kind. effects_of_record kind row.key (row_of case.topology run row).state item) (kind_of case.topology row.part)
+
+-- what a computation's handler leaves of a timer, or none of an injector
+abbrev pub timer_outcome : CaseShape → Run → RowName → Timer → Option Outcome
+timer_outcome case run row timer = option_map
+    (λ kind. effects_of_timer kind row.key (row_of case.topology run row).state timer) (kind_of case.topology row.part)
+
+-- the commit number below which every delivery that was made is acknowledged, and the next one where all are
+abbrev pub floor_of : Run → ℕ
+floor_of run = fold min run.next
+    (map (λ (d : Delivery). d.id.commit) (flat_map (λ (r : RowName × Contents). r.1.pending) run.rows))
+
+-- a worker may claim an interval that is there
+pub record MayClaim (case : CaseShape) (worker interval : ℕ) : Type 0 where
+  pub worker_there : worker < 16
+  pub interval_there : interval < intervals_of case.topology
+
+-- an injector may inject its next line, and no other
+pub record MayInject (case : CaseShape) (run : Run) (part line : ℕ) (item : Record) : Type 0 where
+  pub injector : IsTrue (is_injector case.topology part)
+  pub next_line : line ≡ cursor_of case run part
+  pub of_line : option_map record_of (item_at (source_of case part) line) ≡ Some item
+
+-- a row may handle a delivery that waits for it, and does to it what its computation does
+pub record MayHandle (case : CaseShape) (run : Run) (row : RowName) (id : RecordId) (effects : Outcome) : Type 0 where
+  pub delivery : Delivery
+  pub waits : found_delivery id run.unhandled ≡ Some delivery
+  pub to_row : delivery.to ≡ row
+  pub does : record_outcome case run row delivery.item ≡ Some effects
+
+-- a row may fire the least of its timers, under a mark that is not above the low watermark of its part
+pub record MayFire (case : CaseShape) (run : Run) (row : RowName) (timer : Timer) (mark : ℕ) (effects : Outcome) : Type 0 where
+  pub least_timer : slice_get (row_of case.topology run row).timers 0 ≡ Some timer
+  pub due : timer.time ≤ mark
+  pub under_watermark : mark ≤ low_watermark case run row.part
+  pub does : timer_outcome case run row timer ≡ Some effects
+
+-- a sender may learn that what it made was handled, once
+pub record MayAcknowledge (case : CaseShape) (run : Run) (row : RowName) (id : RecordId) : Type 0 where
+  pub pending : IsSome (found_delivery id (row_of case.topology run row).pending)
+  pub handled : IsNone (found_delivery id run.unhandled)
+
+-- a row that is there may forget finished ids: its floor rises, not above the floor of the whole run
+pub record MayPurge (case : CaseShape) (run : Run) (row : RowName) (floor : ℕ) : Type 0 where
+  pub there : IsSome (row_in run row)
+  pub rises : (row_of case.topology run row).floor < floor
+  pub finished : floor ≤ floor_of run
+
+-- the entry may come next
+abbrev pub MayFollow : CaseShape → Run → Entry → Type 0
+MayFollow case run (Claim worker interval) = MayClaim case worker interval
+MayFollow case run (Inject seq part line item) = MayInject case run part line item
+MayFollow case run (Handle seq row id effects) = MayHandle case run row id effects
+MayFollow case run (Fire seq row timer mark effects) = MayFire case run row timer mark effects
+MayFollow case run (Ack seq row id) = MayAcknowledge case run row id
+MayFollow case run (Purge seq row floor) = MayPurge case run row floor
+
+-- each of these entries may follow what stands before it
+abbrev pub AreLegal : CaseShape → Run → List Entry → Type 0
+AreLegal case run [] = ⊤
+AreLegal case run (entry ∷ entries) = MayFollow case run entry × AreLegal case (followed case.topology run entry) entries
+
+-- the history is a legal one: each entry may follow those before it
+abbrev pub IsLegal : CaseShape → List Entry → Type 0
+IsLegal case history = AreLegal case empty_run history
+
+-- each source is at its end
+abbrev pub AreInjected : CaseShape → Run → Type 0
+AreInjected case run = (part : ℕ) → part < injectors_of case.topology → cursor_of case run part ≡ length (source_of case part)
+
+-- all work is done: each line is injected, nothing waits to be handled, and no timer is pending
+pub record IsDone (case : CaseShape) (run : Run) : Type 0 where
+  pub injected : AreInjected case run
+  pub handled : run.unhandled ≡ []
+  pub fired : AllByRecursion (λ (r : RowName × Contents). r.1.timers ≡ []) run.rows

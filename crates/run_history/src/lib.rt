@@ -1,0 +1,20 @@
+//! Histories: which are legal, what stands after one, and what is written of it.
+//!
+//! Stands on `topology`, `injector`, `computations` and `row_parts`. Public contract: `make`,
+//! `emissions` and `result_text` answer what the definitions say. Definitions: `specs/Lib.antt` names
+//! them in the order of reading; `specs/Legal.antt` says which histories are legal.
+#![tactic(auto)]
+
+mod case;
+mod emitted;
+mod history;
+mod lateness;
+mod line;
+mod made;
+mod text;
+
+pub use case::Case;
+pub use emitted::emissions;
+pub use history::History;
+pub use made::{Made, make};
+pub use text::result_text;
