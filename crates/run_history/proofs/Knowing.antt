@@ -1,5 +1,5 @@
 -- What is known of the deliveries that were made, as more of them are noted.
-use Rattle.std.proofs.Common.{◌≡◌, ℕ, ◌+◌, ◌<◌, ◌==◌, ◌&&◌, Bool, true, false, cond, nat_lt, List, [], ◌∷◌, ◌++◌, length, get_or, take, find, map, Option, Some, None, refl, sym, ◌∙◌, ap, subst, append_assoc, arith, inl, inr}
+use Rattle.std.proofs.Common.{◌≡◌, ℕ, ◌+◌, ◌<◌, ◌==◌, ◌&&◌, Bool, true, false, cond, nat_lt, List, [], ◌∷◌, ◌++◌, length, get_or, take, map, Option, Some, None, refl, sym, ◌∙◌, ap, subst, append_assoc, arith, inl, inr}
 use Rattle.std.specs.Option.{option_map, option_or, is_some}
 use Rattle.std.specs.Map.{lookup}
 use Rattle.std.specs.BTreeMap.{is_at}
@@ -29,8 +29,9 @@ tested false false apart = refl
 -- the comparison of two numbers tells whether they are equal
 is_eq-nat_cmp : (a b : ℕ) → is_eq (nat_cmp a b) ≡ (a == b)
 is_eq-nat_cmp a b = tested (nat_lt a b) (a == b) (λ less. elim (eqb_tells a b) [
-    inl w ↦ let below : a < b = ltb-true a b less in let same : a ≡ b = w.1 in absurd (omega arith)
-  | inr w ↦ w.0 ])
+  | inl w ↦ let below : a < b = ltb-true a b less in let same : a ≡ b = w.1 in absurd (omega arith)
+  | inr w ↦ w.0
+])
 
 -- what two comparisons in turn do not tell apart, neither does
 is_eq-ordering_then : (a b : Ordering) → is_eq (ordering_then a b) ≡ (is_eq a && is_eq b)
@@ -78,7 +79,7 @@ noted_new seen old new id late same absent updated q =
     updated q
     ∙ ap (λ t. cond t (Some late) (lookup (is_at (id_cmp q)) old)) (is_eq-id_cmp id q)
     ∙ chosen (same_id id q) late (lookup (is_at (id_cmp q)) old)
-        (λ same. subst (λ (r : RecordId). lookup (is_at (id_cmp r)) old ≡ None) (same_id-true id q same) (is_some-false _ absent))
+    (λ same. subst (λ (r : RecordId). lookup (is_at (id_cmp r)) old ≡ None) (same_id-true id q same) (is_some-false _ absent))
     ∙ ap (λ l. option_or (lookup (is_at (id_cmp q)) l) (cond (same_id id q) (Some late) None)) (sym same)
 
 -- the first of two, where there is one
@@ -94,7 +95,7 @@ pub noted_old : (old : List (RecordId × Bool)) (id : RecordId) (late : Bool) �
     → (q : RecordId) → lookup (is_at (id_cmp q)) old ≡ option_or (lookup (is_at (id_cmp q)) old) (cond (same_id id q) (Some late) None)
 noted_old old id late present q =
     first_stays (same_id id q) late (lookup (is_at (id_cmp q)) old)
-        (λ same. subst (λ (r : RecordId). is_some (lookup (is_at (id_cmp r)) old) ≡ true) (same_id-true id q same) present)
+    (λ same. subst (λ (r : RecordId). is_some (lookup (is_at (id_cmp r)) old) ≡ true) (same_id-true id q same) present)
 
 -- whether the first that is found is late
 late_of_two : (a : Option Delivery) (t : Bool) (d : Delivery)
@@ -123,8 +124,8 @@ pub learns_step : (old mid new : List (RecordId × Bool)) (ds : List Delivery) (
 learns_step old mid new ds i d within is learns noted made knows =
     let more : take (i + 1) ds ≡ take i ds ++ d ∷ [] = take_more ds i d within ∙ ap (λ x. take i ds ++ x ∷ []) (sym is) in
     subst (λ (l : List Delivery). KnowsLate new l)
-        (append_assoc made (take i ds) (d ∷ []) ∙ ap (λ l. made ++ l) (sym more))
-        (knows_one mid new (made ++ take i ds) d (learns made knows) noted)
+    (append_assoc made (take i ds) (d ∷ []) ∙ ap (λ l. made ++ l) (sym more))
+    (knows_one mid new (made ++ take i ds) d (learns made knows) noted)
 
 -- records go nowhere where there is no subscription
 no_sends : (items : List Record) → flat_map (sends_of []) items ≡ []

@@ -48,7 +48,7 @@ module _ {K X : Type 0} {R : K → K → Ordering} (o : IsTotalOrder R) where
             ∙ ap (λ r. cond (is_eq r) (Some v) (lookup (is_at (R q)) (e ∷ es))) (sym (alike_right o k e.0 q p))
         | Greater ↦ λ p. ap (cond (is_eq (R q e.0)) (Some e.1)) (lookup-insert_entry es k v q)
             ∙ swapped (is_eq (R q e.0)) (is_eq (R q k)) (Some e.1) (Some v) (lookup (is_at (R q)) es)
-              (λ at. no_tie (R q k) Less (o.congr q e.0 k (equal_from_tie (R q e.0) at) ∙ o.antisymm e.0 k ∙ ap ordering_reverse p) refl)
+            (λ at. no_tie (R q k) Less (o.congr q e.0 k (equal_from_tie (R q e.0) at) ∙ o.antisymm e.0 k ∙ ap ordering_reverse p) refl)
       ] refl
 
   -- each entry is the one that a look-up of its key finds
@@ -57,16 +57,18 @@ module _ {K X : Type 0} {R : K → K → Ordering} (o : IsTotalOrder R) where
   unfolding IsStrictlySortedBy
   each_found [] sorted = tt
   each_found (e ∷ es) sorted = (
-      ap (λ r. cond (is_eq r) (Some e.1) (lookup (is_at (R e.0)) es)) (tied_itself o e.0),
-      later es (each_found es sorted.1) sorted.0 )
+    ap (λ r. cond (is_eq r) (Some e.1) (lookup (is_at (R e.0)) es)) (tied_itself o e.0),
+    later es (each_found es sorted.1) sorted.0,
+  )
     where
       later : (fs : List (K × X)) → AllByRecursion (λ (f : K × X). lookup (is_at (R f.0)) es ≡ Some f.1) fs
           → AllByRecursion (λ (k : K). R e.0 k ≡ Less) (keys_of fs)
           → AllByRecursion (λ (f : K × X). lookup (is_at (R f.0)) (e ∷ es) ≡ Some f.1) fs
       later [] found above = tt
       later (f ∷ fs) found above = (
-          ap (λ r. cond (is_eq r) (Some e.1) (lookup (is_at (R f.0)) es)) (o.antisymm f.0 e.0 ∙ ap ordering_reverse above.0) ∙ found.0,
-          later fs found.1 above.1 )
+        ap (λ r. cond (is_eq r) (Some e.1) (lookup (is_at (R f.0)) es)) (o.antisymm f.0 e.0 ∙ ap ordering_reverse above.0) ∙ found.0,
+        later fs found.1 above.1,
+      )
 
   -- a key before others is before one that is put among them, where it is before that one too
   below-insert_entry : (x k : K) (v : X) (es : List (K × X)) → R x k ≡ Less → AllByRecursion (λ (q : K). R x q ≡ Less) (keys_of es)

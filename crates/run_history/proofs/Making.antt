@@ -1,12 +1,12 @@
 -- One step of a loop that makes something of each element, where the invariant speaks of the elements that are left.
-use Rattle.std.proofs.Common.{◌≡◌, ℕ, ◌+◌, ◌*◌, ◌<◌, ◌≤◌, List, [], ◌∷◌, ◌++◌, length, get_or, take, drop, map, filter, count_by, sum_by, nat_eq, sym, ◌∙◌, ap, append_assoc, arith, length-append}
+use Rattle.std.proofs.Common.{◌≡◌, ℕ, ◌+◌, ◌<◌, ◌≤◌, List, [], ◌∷◌, ◌++◌, length, get_or, take, drop, map, filter, sum_by, nat_eq, sym, ◌∙◌, ap, append_assoc, arith, length-append}
 use Rattle.std.specs.List.{flat_map, enumerate_from}
 use Rattle.std.specs.Cmp.Lexicographic.{pointwise}
 use Rattle.std.proofs.lemmas.List.{at_drop_more, at_drop_all, take_more, map-append, length-map, append-nil}
 use Rattle.std.proofs.lemmas.List.Folds.{flat_map-map}
 use Rattle.std.proofs.lemmas.List.FromFn.{length-enumerate_from}
 use Rattle.std.proofs.lemmas.List.Sums.{sum_by-cons, sum_by-append, length-filter, count_by-le-length}
-use Rattle.topology.specs.Shapes.{Shape, ComputationShape, Reading, subscriptions_to, consumers_of, stream_of, injectors_of}
+use Rattle.topology.specs.Shapes.{ComputationShape, Reading, subscriptions_to}
 
 -- the numbering goes on behind the first list
 pub enumerate_from-append : {X : Type 0} (n : ℕ) (xs ys : List X)
@@ -91,7 +91,7 @@ consumers_few stream n [] = omega arith
 consumers_few stream n (c ∷ cs) =
     let rest = flat_map (subscriptions_to stream) (enumerate_from (n + 1) cs) in
     let all : length (flat_map (subscriptions_to stream) (enumerate_from n (c ∷ cs))) ≡ length (subscriptions_to stream (n, c)) + length rest =
-        length-append (subscriptions_to stream (n, c)) rest in
+    length-append (subscriptions_to stream (n, c)) rest in
     let total : sum_by (λ (d : ComputationShape). length d.reads) (c ∷ cs) ≡ length c.reads + sum_by (λ (d : ComputationShape). length d.reads) cs =
-        sum_by-cons (λ (d : ComputationShape). length d.reads) c cs in
+    sum_by-cons (λ (d : ComputationShape). length d.reads) c cs in
     omega (arith, all, total, subscriptions_few stream n c, consumers_few stream (n + 1) cs)

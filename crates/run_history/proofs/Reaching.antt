@@ -1,5 +1,5 @@
 -- How far the printing of a history has come.
-use Rattle.std.proofs.Common.{◌≡◌, ℕ, ◌+◌, ◌<◌, Bool, List, [], ◌∷◌, ◌++◌, length, get_or, drop, map, fold, All, Option, Some, None, refl, sym, ◌∙◌, ap, subst, arith}
+use Rattle.std.proofs.Common.{◌≡◌, ℕ, ◌+◌, ◌<◌, Bool, List, [], ◌∷◌, ◌++◌, length, get_or, drop, fold, All, refl, sym, ◌∙◌, ap, subst, arith}
 use Rattle.std.specs.List.{enumerate_from}
 use Rattle.std.specs.Map.{lookup}
 use Rattle.std.specs.BTreeMap.{is_at}
@@ -7,7 +7,6 @@ use Rattle.mw_types.specs.Orders.{id_cmp}
 use Rattle.std.proofs.lemmas.List.{at_drop_more, drop_all}
 use Rattle.std.proofs.lemmas.List.Elements.{All-append, All-map}
 use Rattle.mw_types.specs.declared.identity.RecordId.{RecordId}
-use Rattle.mw_types.specs.declared.identity.RowName.{RowName}
 use Rattle.mw_types.specs.declared.record.Record.{Record}
 use Rattle.mw_types.specs.declared.delivery.Delivery.{Delivery}
 use Rattle.mw_types.specs.declared.delivery.Emission.{Emission}
@@ -15,7 +14,7 @@ use Rattle.mw_types.specs.declared.entry.Entry.{Entry}
 use Rattle.mw_types.specs.declared.entry.Entry.TheVariants.{Claim, Inject, Handle, Fire, Ack, Purge}
 use Rattle.topology.specs.declared.subscription.Subscription.{Subscription}
 use Rattle.topology.specs.Shapes.{Shape, parts_of, consumers_of}
-use Rattle.run_history.specs.Made.{productions_of, produced, late_cause, emission_at, emissions_to, emissions_made, emissions_of, deliveries_of}
+use Rattle.run_history.specs.Made.{emission_at, emissions_to, emissions_of, deliveries_of}
 use Rattle.run_history.specs.Runs.{Run, empty_run, followed, run_of}
 use Rattle.run_history.specs.Printing.{IsOnPart, KnowsLate}
 

@@ -34,13 +34,27 @@ fn emitted(alloc: Global, topology: &Topology, entries: &[Entry]) -> Result<Emis
     let mut lateness = Lateness::new(alloc);
     let mut emissions = Seq::new(alloc);
     for (commit, entry) in entries.iter().enumerate() {
-        follow(alloc, topology, &mut lateness, &mut emissions, entry, commit as u64)?;
+        follow(
+            alloc,
+            topology,
+            &mut lateness,
+            &mut emissions,
+            entry,
+            commit as u64,
+        )?;
     }
     Ok(emissions)
 }
 
 // Appends what one more entry emits, and learns what it sends.
-fn follow(alloc: Global, topology: &Topology, lateness: &mut Lateness, emissions: &mut EmissionList, entry: &Entry, commit: u64) -> Result<(), NoMemory>
+fn follow(
+    alloc: Global,
+    topology: &Topology,
+    lateness: &mut Lateness,
+    emissions: &mut EmissionList,
+    entry: &Entry,
+    commit: u64,
+) -> Result<(), NoMemory>
     requires part { IsOnPart topology.now entry.now }
     requires few { length (productions_of entry.now) ≤ 8 }
     requires commit { commit < 2 ^ 32 }
@@ -54,13 +68,40 @@ fn follow(alloc: Global, topology: &Topology, lateness: &mut Lateness, emissions
     match entry {
         Entry::Inject { part, item, .. } => {
             let production = production(alloc, item)?;
-            add(alloc, topology, lateness, emissions, *part, &[production], late, commit)?;
+            add(
+                alloc,
+                topology,
+                lateness,
+                emissions,
+                *part,
+                &[production],
+                late,
+                commit,
+            )?;
         }
         Entry::Handle { row, effects, .. } => {
-            add(alloc, topology, lateness, emissions, row.part, effects.productions.as_slice(), late, commit)?;
+            add(
+                alloc,
+                topology,
+                lateness,
+                emissions,
+                row.part,
+                effects.productions.as_slice(),
+                late,
+                commit,
+            )?;
         }
         Entry::Fire { row, effects, .. } => {
-            add(alloc, topology, lateness, emissions, row.part, effects.productions.as_slice(), late, commit)?;
+            add(
+                alloc,
+                topology,
+                lateness,
+                emissions,
+                row.part,
+                effects.productions.as_slice(),
+                late,
+                commit,
+            )?;
         }
         _ => {}
     }
@@ -91,7 +132,16 @@ fn production(alloc: Global, item: &Record) -> Result<Production, NoMemory>
 }
 
 // Appends what productions of a part emit, or learns what they send.
-fn add(alloc: Global, topology: &Topology, lateness: &mut Lateness, emissions: &mut EmissionList, part: u32, productions: &[Production], late: bool, commit: u64) -> Result<(), NoMemory>
+fn add(
+    alloc: Global,
+    topology: &Topology,
+    lateness: &mut Lateness,
+    emissions: &mut EmissionList,
+    part: u32,
+    productions: &[Production],
+    late: bool,
+    commit: u64,
+) -> Result<(), NoMemory>
     requires part { part < parts_of topology.now }
     requires few { length productions.now ≤ 8 }
     requires commit { commit < 2 ^ 32 }

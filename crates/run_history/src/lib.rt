@@ -2,7 +2,8 @@
 //!
 //! Stands on `topology`, `injector`, `computations` and `row_parts`. Public contract: `make`,
 //! `emissions` and `result_text` answer what the definitions say. Definitions: `specs/Lib.antt` names
-//! them in the order of reading; `specs/Legal.antt` says which histories are legal.
+//! them in the order of reading; `specs/Legal.antt` says which histories are legal, and
+//! `specs/Printing.antt` which can be printed.
 #![tactic(auto)]
 
 mod case;
@@ -11,6 +12,8 @@ mod history;
 mod lateness;
 mod line;
 mod made;
+#[cfg(test)]
+mod tests;
 mod text;
 
 pub use case::Case;

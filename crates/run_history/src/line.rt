@@ -1,5 +1,5 @@
 //! One line of the result, in its order and as text.
-ghost use Rattle.std.specs.Prelude.{◌≡◌, IfOk, codes, string_bytes, is_ok};
+ghost use Rattle.std.specs.Prelude.{◌≡◌, IfOk, string_bytes};
 ghost use Rattle.run_history.specs.Texts.{line_data, as_line};
 ghost use Rattle.serde_json.specs.View.{view};
 
@@ -47,7 +47,8 @@ impl ResultLine {
     {
         let key = self.key.text();
         let stream = self.stream.text();
-        let value = json!(in alloc; {"key": key, "stream": stream, "ts": self.stamp, "value": self.value})?;
+        let value =
+            json!(in alloc; {"key": key, "stream": stream, "ts": self.stamp, "value": self.value})?;
         Ok(value)
     }
 }

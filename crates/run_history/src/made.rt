@@ -4,7 +4,10 @@ ghost use Rattle.std.specs.List.{enumerate_from};
 ghost use Rattle.topology.specs.Shapes.{parts_of, consumers_of};
 ghost use Rattle.run_history.specs.Made.{deliveries_made, emissions_made, produced, row_to, sends_of, delivery_at, deliveries_to, emission_at};
 
-use mw_types::{Delivery, DeliveryList, Duplicate, Emission, EmissionList, NoMemory, Production, Record, RecordId, RowName, Seq};
+use mw_types::{
+    Delivery, DeliveryList, Duplicate, Emission, EmissionList, NoMemory, Production, Record,
+    RecordId, RowName, Seq,
+};
 use std::alloc::Global;
 use topology::{Subscription, Topology, extract};
 
@@ -19,7 +22,14 @@ pub struct Made {
 
 /// What productions of a part become under a commit number: one delivery of each to each consumer, or
 /// one emission of each where there is no consumer. A caller writes it into the history's next entry.
-pub fn make(alloc: Global, topology: &Topology, part: u32, productions: &[Production], late: bool, commit: u64) -> Result<Made, NoMemory>
+pub fn make(
+    alloc: Global,
+    topology: &Topology,
+    part: u32,
+    productions: &[Production],
+    late: bool,
+    commit: u64,
+) -> Result<Made, NoMemory>
     requires part { part < parts_of topology.now }
     requires few { length productions.now ≤ 8 }
     requires commit { commit < 2 ^ 32 }
@@ -51,7 +61,13 @@ pub(crate) fn consumers(topology: &Topology, part: u32) -> &[Subscription]
 }
 
 // The deliveries of productions to consumers.
-pub(crate) fn deliveries(alloc: Global, consumers: &[Subscription], productions: &[Production], late: bool, commit: u64) -> Result<DeliveryList, NoMemory>
+pub(crate) fn deliveries(
+    alloc: Global,
+    consumers: &[Subscription],
+    productions: &[Production],
+    late: bool,
+    commit: u64,
+) -> Result<DeliveryList, NoMemory>
     requires consumers { length consumers.now ≤ 64 }
     requires few { length productions.now ≤ 8 }
     ensures { IfOk result (λ made. made ≡ deliveries_to consumers.now commit (map (produced late) productions.now)) }
@@ -64,20 +80,39 @@ pub(crate) fn deliveries(alloc: Global, consumers: &[Subscription], productions:
 }
 
 // Appends a delivery of one production to each consumer.
-fn send(alloc: Global, deliveries: &mut DeliveryList, consumers: &[Subscription], production: &Production, late: bool, commit: u64) -> Result<(), NoMemory>
+fn send(
+    alloc: Global,
+    deliveries: &mut DeliveryList,
+    consumers: &[Subscription],
+    production: &Production,
+    late: bool,
+    commit: u64,
+) -> Result<(), NoMemory>
     requires { length deliveries.old + length consumers.now < 2 ^ 32 }
     ensures { OnOk result (deliveries.new ≡ deliveries.old ++ map (delivery_at commit) (enumerate_from (length deliveries.old) (sends_of consumers.now (produced late production.now)))) }
 {
     for consumer in consumers {
         let index = deliveries.len() as u32;
-        let delivery = delivery(alloc, RecordId { commit, index }, consumer, production, late)?;
+        let delivery = delivery(
+            alloc,
+            RecordId { commit, index },
+            consumer,
+            production,
+            late,
+        )?;
         deliveries.push(delivery)?;
     }
     Ok(())
 }
 
 // The delivery of a production to a consumer, by the key that it extracts.
-fn delivery(alloc: Global, id: RecordId, consumer: &Subscription, production: &Production, late: bool) -> Result<Delivery, NoMemory>
+fn delivery(
+    alloc: Global,
+    id: RecordId,
+    consumer: &Subscription,
+    production: &Production,
+    late: bool,
+) -> Result<Delivery, NoMemory>
     ensures { IfOk result (λ made. made ≡ delivery_at id.commit (id.index, (row_to (produced late production.now) consumer.now, produced late production.now))) }
 {
     let to = RowName {
@@ -101,7 +136,14 @@ fn record(alloc: Global, production: &Production, late: bool) -> Result<Record, 
 }
 
 // Appends an emission of each production of a part.
-pub(crate) fn emit(alloc: Global, emissions: &mut EmissionList, part: u32, productions: &[Production], late: bool, commit: u64) -> Result<(), NoMemory>
+pub(crate) fn emit(
+    alloc: Global,
+    emissions: &mut EmissionList,
+    part: u32,
+    productions: &[Production],
+    late: bool,
+    commit: u64,
+) -> Result<(), NoMemory>
     requires { length productions.now ≤ 8 }
     ensures { OnOk result (emissions.new ≡ emissions.old ++ map (emission_at part commit) (enumerate_from 0 (map (produced late) productions.now))) }
 {

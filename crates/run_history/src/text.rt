@@ -1,5 +1,5 @@
 //! The text that is written of a history.
-ghost use Rattle.std.specs.Prelude.{◌≡◌, ◌+◌, ◌++◌, ◌<◌, ◌≤◌, ◌^◌, [], ◌∷◌, if◌then◌else◌, All, length, map, count_by, IfOk, OnOk, string_bytes};
+ghost use Rattle.std.specs.Prelude.{◌≡◌, ◌+◌, ◌++◌, ◌<◌, ◌^◌, [], ◌∷◌, if◌then◌else◌, All, map, count_by, IfOk, OnOk};
 ghost use Rattle.std.specs.List.{flat_map};
 ghost use Rattle.std.specs.List.Sorted.{IsPermutation, IsSorted};
 ghost use Rattle.topology.specs.Shapes.{parts_of};
@@ -31,7 +31,11 @@ pub fn result_text(alloc: Global, case: &Case, history: &History) -> Result<Byte
 }
 
 // The lines of emissions, in order.
-fn sorted_lines(alloc: Global, topology: &Topology, emissions: &[Emission]) -> Result<Vec<ResultLine>, NoMemory>
+fn sorted_lines(
+    alloc: Global,
+    topology: &Topology,
+    emissions: &[Emission],
+) -> Result<Vec<ResultLine>, NoMemory>
     requires { All (λ e. e.part < parts_of topology.now) emissions.now }
     ensures each_once { IfOk result (λ lines. IsPermutation (map (line_of topology.now) emissions.now) lines.items) }
     ensures in_order { IfOk result (λ lines. IsSorted line_cmp lines.items) }
@@ -42,7 +46,11 @@ fn sorted_lines(alloc: Global, topology: &Topology, emissions: &[Emission]) -> R
 }
 
 // The lines of emissions.
-fn lines(alloc: Global, topology: &Topology, emissions: &[Emission]) -> Result<Vec<ResultLine>, NoMemory>
+fn lines(
+    alloc: Global,
+    topology: &Topology,
+    emissions: &[Emission],
+) -> Result<Vec<ResultLine>, NoMemory>
     requires { All (λ e. e.part < parts_of topology.now) emissions.now }
     ensures { IfOk result (λ lines. lines.items ≡ map (line_of topology.now) emissions.now) }
 {
@@ -100,7 +108,8 @@ fn summary(alloc: Global, entries: &[Entry]) -> Result<Value, NoMemory>
     ensures { IfOk result (λ value. view value ≡ summary_data entries.now) }
 {
     let counts = counted(entries);
-    let value = json!(in alloc; {"fired": counts.fired, "handled": counts.handled, "injected": counts.injected, "late": counts.late})?;
+    let value =
+        json!(in alloc; {"fired": counts.fired, "handled": counts.handled, "injected": counts.injected, "late": counts.late})?;
     Ok(value)
 }
 

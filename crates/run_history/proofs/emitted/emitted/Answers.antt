@@ -1,4 +1,4 @@
-use Rattle.std.proofs.Common.{◌≡◌, ◌<◌, sym, subst, length, arith}
+use Rattle.std.proofs.Common.{◌<◌, sym, subst, length, arith}
 use Rattle.mw_types.specs.declared.entry.Entry.{Entry}
 use Rattle.run_history.specs.Printing.{IsOnPart}
 use Rattle.run_history.proofs.Reaching.{reached_none, reached_step}
@@ -13,7 +13,7 @@ loop-commit-preserved c =
     let entries = c.args.entries.now in
     let at = c.loop-commit.commit in
     let within : at < length entries = omega arith in
-    let there : IsOnPart shape c.entry-item.result =
-        subst (λ (e : Entry). IsOnPart shape e) (sym c.entry-item.is) (c.requires.parts at c.entry-item.result within) in
-    reached_step shape entries at _ _ _ _ _ within c.entry-item.is there c.loop-commit.invariant
-        c.in_ok-follow.ensures.learnt c.in_ok-follow.ensures.emitted
+    let there : IsOnPart shape c.index-entries-commit.result =
+    subst (λ (e : Entry). IsOnPart shape e) (sym c.index-entries-commit.is) (c.requires.parts at c.index-entries-commit.result within) in
+    reached_step shape entries at _ _ _ _ _ within c.index-entries-commit.is there c.loop-commit.invariant
+    c.in_ok-follow.ensures.learnt c.in_ok-follow.ensures.emitted

@@ -1,4 +1,4 @@
-use Rattle.std.proofs.Common.{◌<◌, ◌≤◌, ◌++◌, List, length, arith, subst}
+use Rattle.std.proofs.Common.{◌<◌, ◌≤◌, List, length, arith, subst}
 use Rattle.std.proofs.lemmas.List.{take_all}
 use Rattle.mw_types.specs.declared.delivery.Delivery.{Delivery}
 use Rattle.run_history.specs.Printing.{Learns}

@@ -1,8 +1,7 @@
-use Rattle.std.proofs.Common.{◌≡◌, false, sym, ◌∙◌, rules}
+use Rattle.std.proofs.Common.{◌≡◌, false, sym, ◌∙◌}
 use Rattle.std.specs.Option.{is_some}
 use Rattle.std.specs.Map.{lookup}
 use Rattle.std.specs.BTreeMap.{is_at}
-use Rattle.std.proofs.lemmas.Grind.{common_steps}
 use Rattle.mw_types.specs.Orders.{id_cmp}
 use Rattle.run_history.proofs.Knowing.{noted_new}
 use Rattle.run_history.proofs.lateness.Lateness.note.Goals as goal
