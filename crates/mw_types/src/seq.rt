@@ -1,5 +1,7 @@
 //! A list of values, which contracts see as that list.
-ghost use Rattle.std.specs.Prelude.{◌≡◌, ◌==◌, ◌++◌, ◌∷◌, ◌↔◌, ◌<◌, ◌-◌, [], length, take, slice_get, IfOk, OnErr, OnOk, IsSome, option_copied, option_to_list};
+ghost use Rattle.std.specs.Prelude.{◌≡◌, ◌==◌, ◌++◌, ◌∷◌, ◌↔◌, ◌<◌, ◌≤◌, ◌-◌, [], length, take, slice_get, slice_set, insert, remove, IfOk, OnErr, OnOk, IsSome, option_copied, option_to_list};
+ghost use Rattle.std.specs.Fn.{CalledAt};
+ghost use Rattle.std.specs.List.Retain.{IsFiltered};
 
 use crate::memory::{Duplicate, NoMemory};
 use std::alloc::Global;
@@ -56,6 +58,54 @@ impl<X> Seq<X> {
         ensures rest { self.new ≡ take (length self.old - 1) self.old }
     {
         self.items.pop()
+    }
+
+    /// Puts an element at a place, before those from there on.
+    pub fn insert(&mut self, at: usize, x: X) -> Result<(), NoMemory>
+    where
+        X: Drop,
+        requires { at ≤ length self.old }
+        ensures inserted { OnOk result (self.new ≡ insert self.old at x) }
+        ensures unchanged { OnErr result (self.new ≡ self.old) }
+    {
+        self.items.insert(at, x)?;
+        Ok(())
+    }
+
+    /// Takes the element at a place away.
+    pub fn remove(&mut self, at: usize) -> X
+        requires { at < length self.old }
+        ensures element { slice_get self.old at ≡ Some result }
+        ensures rest { self.new ≡ remove self.old at }
+    {
+        self.items.remove(at)
+    }
+
+    /// Puts an element in place of another.
+    pub fn set(&mut self, at: usize, x: X)
+    where
+        X: Drop,
+        requires { at < length self.old }
+        ensures { self.new ≡ slice_set self.old at x }
+    {
+        self.items[at] = x;
+    }
+
+    /// Keeps the elements that pass a test.
+    pub fn retain<F: FnMut(&X) -> bool>(&mut self, f: F)
+    where
+        X: Drop,
+        requires { F.IsAlwaysCallable f }
+        ensures { IsFiltered (CalledAt F.FnMut) f self.old self.new }
+    {
+        self.items.retain(f);
+    }
+
+    /// The list of a vector's elements.
+    pub fn from_vec(items: Vec<X>) -> Self
+        ensures { result ≡ items.items }
+    {
+        Seq { items }
     }
 
     /// How many elements the list has.
