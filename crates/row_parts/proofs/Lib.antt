@@ -1,3 +1,4 @@
 pub mod PlaceLemmas
 pub mod Ranks
 pub mod RowLemmas
+pub mod Times

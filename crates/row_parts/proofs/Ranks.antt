@@ -12,18 +12,11 @@ use Rattle.mw_types.specs.declared.delivery.Delivery.{Delivery}
 use Rattle.mw_types.specs.declared.timer.Timer.{Timer}
 use Rattle.mw_types.specs.Orders.{id_cmp, timer_cmp}
 use Rattle.mw_types.proofs.OrderLaws.{id_cmp-total}
+use Rattle.row_parts.specs.Orders.{timer_cmp-total, delivery_cmp-total}
 use Rattle.row_parts.specs.Contents.{is_timer, same_id, delivery_cmp}
 use Rattle.row_parts.specs.Places.{IsPlace, IsGap, timer_rank, id_rank, delivery_rank}
 use Rattle.row_parts.proofs.PlaceLemmas.{is_place, gap_at_end}
 use Rattle.std.specs.declared.cmp.Ordering.TheVariants.{Less, Equal, Greater}
-
--- timers are in a total order
-pub timer_cmp-total : IsTotalOrder timer_cmp
-timer_cmp-total = then_total (on_total (λ (t : Timer). t.time) nat_cmp_total) (on_total (λ (t : Timer). t.tag) nat_cmp_total)
-
--- deliveries are in the order of their ids
-pub delivery_cmp-total : IsTotalOrder delivery_cmp
-delivery_cmp-total = on_total (λ (d : Delivery). d.id) id_cmp-total
 
 -- a timer is the one that is wanted where its rank is equal
 pub is_timer-rank : (tag time : ℕ) (t : Timer) → is_timer tag time t ≡ is_eq (timer_rank tag time t)

@@ -21,7 +21,8 @@ use Rattle.mw_types.proofs.OrderLaws.{id_cmp-total}
 use Rattle.row_parts.specs.Contents.{Contents, fresh, IsRow, AreTimers, AreSeen, ArePending, IsId, IsDelivery, set_again, with_timer, without_timer, is_timer, with_id, same_id, ids_from, delivery_cmp, without_delivery}
 use Rattle.row_parts.specs.Places.{IsHit, IsGap, IsPlace, timer_rank, id_rank, delivery_rank}
 use Rattle.row_parts.proofs.PlaceLemmas.{put_in-hit, put_in-gap, sorted-put_in, All-put_in, sorted-push, filter-hit, filter-gap}
-use Rattle.row_parts.proofs.Ranks.{timer_cmp-total, delivery_cmp-total, is_timer-rank, same_id-rank, delivery-rank}
+use Rattle.row_parts.specs.Orders.{timer_cmp-total, delivery_cmp-total}
+use Rattle.row_parts.proofs.Ranks.{is_timer-rank, same_id-rank, delivery-rank}
 
 -- a fresh row can be kept
 pub IsRow-fresh : (state : State) → IsWithin state → IsRow (fresh state)

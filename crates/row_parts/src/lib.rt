@@ -3,8 +3,13 @@
 
 mod deliveries;
 mod ids;
+mod lists;
+mod parts;
 mod places;
+mod refusal;
 mod row;
+mod spelled;
 mod timers;
 
+pub use refusal::StateRefusal;
 pub use row::Row;
