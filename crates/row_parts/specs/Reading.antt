@@ -1,6 +1,6 @@
 -- Reading from left to right: a value and the bytes after it, or nothing where no value stands there.
 -- No public clause cites this module.
-use Rattle.std.specs.Prelude.{◌≡◌, ℕ, zero, suc, ℤ, List, [], ◌∷◌, length, take, drop, Option, Some, None, Result, Ok, Err, nat_lt, nat_le, ◌^◌, Bool, true, false, ◌&&◌, if◌then◌else◌, option_and_then, ⊤}
+use Rattle.std.specs.Prelude.{◌≡◌, ℕ, zero, suc, ℤ, List, [], ◌∷◌, length, take, drop, Option, Some, None, Result, Ok, Err, nat_lt, nat_le, ◌^◌, Bool, true, false, ◌&&◌, ◌==◌, if◌then◌else◌, option_and_then, ⊤}
 use Rattle.std.specs.Str.{is_utf8}
 use Rattle.std.specs.Ordering.{is_lt}
 use Rattle.std.specs.declared.cmp.Ordering.{Ordering}
@@ -8,11 +8,14 @@ use Rattle.std.specs.Int.{Width, w16, w32, w64, byte_len, from_be_bytes, cast_si
 use Rattle.mw_types.specs.declared.TheConstants.{MAX_STAMP}
 use Rattle.mw_types.specs.declared.state.Window.{Window}
 use Rattle.mw_types.specs.declared.state.HeldTotal.{HeldTotal}
+use Rattle.mw_types.specs.declared.state.State.{State}
+use Rattle.mw_types.specs.declared.state.State.TheVariants.{Injector, Count, Spike, Pass}
 use Rattle.mw_types.specs.declared.timer.Timer.{Timer}
 use Rattle.mw_types.specs.declared.identity.RecordId.{RecordId}
 use Rattle.mw_types.specs.declared.identity.RowName.{RowName}
 use Rattle.mw_types.specs.declared.record.Record.{Record}
 use Rattle.mw_types.specs.declared.delivery.Delivery.{Delivery}
+use Rattle.row_parts.specs.Orders.{window_cmp, held_cmp}
 use Rattle.row_parts.specs.declared.refusal.StateRefusal.{StateRefusal}
 use Rattle.row_parts.specs.declared.refusal.StateRefusal.TheVariants as refusals
 
@@ -138,3 +141,51 @@ delivery_at bytes = do
   to ← name_at id.1
   item ← record_at to.1
   Some (record { id = id.0; to = to.0; item = item.0 }, item.1)
+
+-- ---- states, behind the byte that tells the kind
+
+-- of an injector
+unfoldable pub injector_at : List ℕ → Option (State × List ℕ)
+injector_at bytes = do
+  cursor ← number_at w32 bytes
+  Some (Injector cursor.0, cursor.1)
+
+-- of a count
+unfoldable pub count_at : List ℕ → Option (State × List ℕ)
+count_at bytes = do
+  late ← number_at w64 bytes
+  windows ← ascending_at window_cmp window_at late.1
+  keep (nat_le late.0 MAX_STAMP) (Count late.0 windows.0, windows.1)
+
+-- of a spike
+unfoldable pub spike_at : List ℕ → Option (State × List ℕ)
+spike_at bytes = do
+  late ← number_at w64 bytes
+  held ← ascending_at held_cmp held_at late.1
+  known ← list_at signed_at held.1
+  keep (nat_le late.0 MAX_STAMP && nat_le (length known.0) 64) (Spike late.0 held.0 known.0, known.1)
+
+-- of a pass
+unfoldable pub pass_at : List ℕ → Option (State × List ℕ)
+pass_at bytes = do
+  late ← number_at w64 bytes
+  keep (nat_le late.0 MAX_STAMP) (Pass late.0, late.1)
+
+-- of each kind
+abbrev pub state_of : ℕ → List ℕ → Option (State × List ℕ)
+state_of zero rest = injector_at rest
+state_of (suc zero) rest = count_at rest
+state_of (suc (suc zero)) rest = spike_at rest
+state_of (suc (suc (suc zero))) rest = pass_at rest
+state_of (suc (suc (suc (suc kind)))) rest = None
+
+-- a state
+unfoldable pub state_at : List ℕ → Option (State × List ℕ)
+state_at [] = None
+state_at (kind ∷ rest) = state_of kind rest
+
+-- a state, and nothing after it
+unfoldable pub whole_state : List ℕ → Option State
+whole_state bytes = do
+  state ← state_at bytes
+  keep (length state.1 == 0) state.0

@@ -9,7 +9,9 @@ mod places;
 mod refusal;
 mod row;
 mod spelled;
+mod states;
 mod timers;
 
 pub use refusal::StateRefusal;
 pub use row::Row;
+pub use states::{read_state, state_bytes};

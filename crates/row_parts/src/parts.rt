@@ -1,7 +1,6 @@
 //! The parts of a row that are written to bytes and read from them.
 ghost use Rattle.std.specs.Prelude.{◌≡◌, ◌++◌, ◌<◌, ◌≤◌, ◌^◌, ⊤, length, FitsSigned, IfOk, OnOk};
 ghost use Rattle.std.specs.Int.{w64};
-ghost use Rattle.std.specs.Ordering.{nat_cmp, on};
 ghost use Rattle.mw_types.specs.Orders.{id_cmp, timer_cmp};
 ghost use Rattle.row_parts.specs.Contents.{delivery_cmp};
 ghost use Rattle.row_parts.specs.Spelling.{key_spelling, id_spelling, window_spelling, held_spelling, timer_spelling, name_spelling, record_spelling, delivery_spelling, DeliveryFits};
@@ -113,15 +112,15 @@ impl Spelled for Window {
 }
 
 impl Ranked for Window {
-    ghost use Rattle.std.specs.Cmp.{on_total, nat_cmp_total};
+    ghost use Rattle.row_parts.specs.Orders.{window_cmp, window_cmp-total};
 
-    ghost rank = { λ a b. nat_cmp a.end b.end };
+    ghost rank = { window_cmp };
 
     fn is_below(&self, other: &Window) -> bool {
         self.end < other.end
     }
 
-    ghost total = { on_total (λ w. w.end) nat_cmp_total };
+    ghost total = { window_cmp-total };
 }
 
 impl Spelled for HeldTotal {
@@ -148,15 +147,15 @@ impl Spelled for HeldTotal {
 }
 
 impl Ranked for HeldTotal {
-    ghost use Rattle.std.specs.Cmp.{on_total, nat_cmp_total};
+    ghost use Rattle.row_parts.specs.Orders.{held_cmp, held_cmp-total};
 
-    ghost rank = { λ a b. nat_cmp a.stamp b.stamp };
+    ghost rank = { held_cmp };
 
     fn is_below(&self, other: &HeldTotal) -> bool {
         self.stamp < other.stamp
     }
 
-    ghost total = { on_total (λ h. h.stamp) nat_cmp_total };
+    ghost total = { held_cmp-total };
 }
 
 impl Spelled for Timer {
