@@ -67,16 +67,16 @@ flag_reads = record { takes = flag_takes; again = λ b rest fits. flag_again b r
 
 -- ---- tests
 
-always : {X : Type 0} (x : X) → Decides true ⊤
+pub always : {X : Type 0} (x : X) → Decides true ⊤
 always x = (λ e. tt, λ p. refl)
 
-at_most : (a b : ℕ) → Decides (nat_le a b) (a ≤ b)
+pub at_most : (a b : ℕ) → Decides (nat_le a b) (a ≤ b)
 at_most a b = (leb-true a b, le-leb a b)
 
-below : (a b : ℕ) → Decides (nat_lt a b) (a < b)
+pub below : (a b : ℕ) → Decides (nat_lt a b) (a < b)
 below a b = (ltb-true a b, lt-ltb a b)
 
-both : {P Q : Type 0} {x y : Bool} → Decides x P → Decides y Q → Decides (x && y) (P × Q)
+pub both : {P Q : Type 0} {x y : Bool} → Decides x P → Decides y Q → Decides (x && y) (P × Q)
 both {P} {Q} {x} {y} p q = Decides-and x y p q
 
 -- ---- parts

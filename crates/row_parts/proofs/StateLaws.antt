@@ -33,9 +33,9 @@ weaker f [] all = tt
 weaker f (x ∷ xs) all = (f x all.0, weaker f xs all.1)
 
 -- what holds of each element twice
-pub twice : {X : Type 0} {P Q : X → Type 0} (xs : List X) → AllByRecursion P xs → AllByRecursion Q xs → AllByRecursion (λ x. P x × Q x) xs
-twice [] p q = tt
-twice (x ∷ xs) p q = ((p.0, q.0), twice xs p.1 q.1)
+pub twice : {X : Type 0} (P Q : X → Type 0) (xs : List X) → AllByRecursion P xs → AllByRecursion Q xs → AllByRecursion (λ x. P x × Q x) xs
+twice P Q [] p q = tt
+twice P Q (x ∷ xs) p q = ((p.0, q.0), twice P Q xs p.1 q.1)
 
 heads : {X : Type 0} (f : X → ℕ) (x : X) (xs : List X) → AllByRecursion (λ y. on f nat_cmp x y ≡ Less) xs → AllByRecursion (λ n. nat_cmp (f x) n ≡ Less) (map f xs)
 heads f x [] all = tt
@@ -71,7 +71,7 @@ windows_are ws f = record {
 
 windows_read : (ws : List Window) → AreWindows ws → ReadWindows ws
 windows_read ws are =
-    ((are.few, twice ws (recursion_from_All (λ (w : Window). w.end ≤ MAX_STAMP) ws are.ends) (recursion_from_All (λ (w : Window). w.count ≤ MAX_STAMP) ws are.counts)),
+    ((are.few, twice _ _ ws (recursion_from_All (λ (w : Window). w.end ≤ MAX_STAMP) ws are.ends) (recursion_from_All (λ (w : Window). w.count ≤ MAX_STAMP) ws are.counts)),
      sorted_by_keys (λ (w : Window). w.end) ws are.ascending)
 
 abbrev InHeld : HeldTotal → Type 0
@@ -89,7 +89,7 @@ held_are hs f = (record {
 
 held_read : (hs : List HeldTotal) → AreHeld hs → All (λ (h : HeldTotal). FitsSigned w64 h.value) hs → ReadHeld hs
 held_read hs are values =
-    ((are.few, twice hs (recursion_from_All (λ (h : HeldTotal). h.stamp ≤ MAX_STAMP) hs are.stamps) (recursion_from_All (λ (h : HeldTotal). FitsSigned w64 h.value) hs values)),
+    ((are.few, twice _ _ hs (recursion_from_All (λ (h : HeldTotal). h.stamp ≤ MAX_STAMP) hs are.stamps) (recursion_from_All (λ (h : HeldTotal). FitsSigned w64 h.value) hs values)),
      sorted_by_keys (λ (h : HeldTotal). h.stamp) hs are.ascending)
 
 -- ---- each kind
@@ -105,9 +105,12 @@ takes_kind {X} {s} {F} r test Q decides to reads kind spelled fits bytes z are e
     let whole : kind ∷ bytes ≡ state_spelling (to a.0.0) ++ a.0.1 = ap (λ (l : List ℕ). kind ∷ l) t.0 ∙ ap (λ (l : List ℕ). l ++ a.0.1) (sym (spelled a.0.0)) in
     subst (λ (y : State × List ℕ). (kind ∷ bytes ≡ state_spelling y.0 ++ y.1) × IsBytes y.1 × IsSpelledState y.0) k.1 (whole, t.1, fits a.0.0 t.2 ((decides a.0.0).0 k.0))
 
+abbrev kept : {X : Type 0} → (X → Bool) → (X → State) → X × List ℕ → Option (State × List ℕ)
+kept test to y = keep (test y.0) (to y.0, y.1)
+
 -- what reading gives for a state of one kind
 again_kind : {X : Type 0} {s : X → List ℕ} {F : X → Type 0} (r : List ℕ → Option (X × List ℕ)) (test : X → Bool) (Q : X → Type 0) → ((x : X) → Decides (test x) (Q x)) → (to : X → State) → Reads s F r
-    → (x : X) (rest : List ℕ) → F x → Q x → (r (s x ++ rest) >>= λ y. keep (test y.0) (to y.0, y.1)) ≡ Some (to x, rest)
+    → (x : X) (rest : List ℕ) → F x → Q x → (r (s x ++ rest) >>= kept test to) ≡ Some (to x, rest)
 again_kind r test Q decides to reads x rest fits q = rw (reads.again x rest fits, (decides x).1 q) refl
 
 abbrev injector_parts : List ℕ → Option ((ℕ × ⊤) × List ℕ)

@@ -1,4 +1,4 @@
--- The orders of windows, held totals, timers and deliveries, and that they are total. No public clause cites this module.
+-- The orders of windows, held totals, timers and deliveries, and that they are total.
 use Rattle.std.specs.Cmp.{IsTotalOrder, then_total, on_total, nat_cmp_total}
 use Rattle.std.specs.Ordering.{nat_cmp}
 use Rattle.std.specs.declared.cmp.Ordering.{Ordering}

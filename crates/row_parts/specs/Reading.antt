@@ -1,5 +1,5 @@
 -- Reading from left to right: a value and the bytes after it, or nothing where no value stands there.
--- No public clause cites this module.
+-- Only the readers of parts cite this module, and neither `read_state` nor what reads a whole row.
 use Rattle.std.specs.Prelude.{◌≡◌, ℕ, zero, suc, ℤ, List, [], ◌∷◌, length, take, drop, Option, Some, None, Result, Ok, Err, nat_lt, nat_le, ◌^◌, Bool, true, false, ◌&&◌, ◌==◌, if◌then◌else◌, option_and_then, ⊤}
 use Rattle.std.specs.Str.{is_utf8}
 use Rattle.std.specs.Ordering.{is_lt}
