@@ -1,6 +1,6 @@
 -- A count that goes up where a refusal comes is that refusal's cause.
 use Rattle.std.proofs.Common.{ℕ, Result, Ok, Err, OnErr, IsErrOf, arith}
-use Rattle.mw_ports.specs.Causes.{HasCause, Counts}
+use Rattle.mw_types.specs.Causes.{HasCause, Counts}
 
 -- counted where this happened, it is the cause of each refusal that comes only where this happened
 pub cause_of : {T E : Type 0} {happened : Type 0} (before now : ℕ) (result : Result T E) (refusal : E)

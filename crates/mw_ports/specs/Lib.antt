@@ -1,4 +1,3 @@
-pub mod Causes
 pub mod Shelves
 pub mod Sinks
 pub mod Fakes

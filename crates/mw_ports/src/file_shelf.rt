@@ -2,7 +2,7 @@
 ghost use Rattle.std.specs.Prelude.{◌≡◌, ◌≤◌, ◌<◌, ◌↔◌, ◌⊎◌, ◌++◌, ◌+◌, None, Some, length, IfOk, IfSome, OnOk, IsErrOf};
 ghost use Rattle.std.specs.IoError.{error_kind};
 ghost use Rattle.std.specs.Io.KnownBytes.{IsAtEnd};
-ghost use Rattle.mw_ports.specs.Causes.{Counts};
+ghost use Rattle.mw_types.specs.Causes.{Counts};
 ghost use Rattle.mw_ports.specs.Shelves.{IsLack, ReadsFile};
 ghost use Rattle.mw_ports.specs.Readers.{Moves, TakesMoreThan, TakesAtMost};
 

@@ -1,6 +1,6 @@
 //! A shelf in memory, which tells its files and fails at named calls.
 ghost use Rattle.std.specs.Prelude.{◌≡◌, ◌≤◌, ◌↔◌, length, Some, IfOk, IsErrOf, Contains, option_copied};
-ghost use Rattle.mw_ports.specs.Causes.{Counts, raised};
+ghost use Rattle.mw_types.specs.Causes.{Counts, raised};
 ghost use Rattle.mw_ports.specs.Shelves.{IsLack, ReadsFile};
 ghost use Rattle.mw_ports.specs.Fakes.{file_of};
 

@@ -1,6 +1,6 @@
 //! A sink in memory, which tells its text and fails at named calls.
 ghost use Rattle.std.specs.Prelude.{◌≡◌, ◌≢◌, ◌≤◌, ◌<◌, ◌⊎◌, ◌↔◌, ◌++◌, [], length, min, take, Some, IfOk, OnErr, IsErrOf, Contains};
-ghost use Rattle.mw_ports.specs.Causes.{Counts, raised};
+ghost use Rattle.mw_types.specs.Causes.{Counts, raised};
 
 use crate::sink::{Sink, SinkFault};
 use mw_types::CallList;

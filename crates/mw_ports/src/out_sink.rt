@@ -1,6 +1,6 @@
 //! Standard output as a sink, which tells nothing.
 ghost use Rattle.std.specs.Prelude.{◌≡◌, ◌≢◌, ◌≤◌, ◌<◌, [], None, length, IfOk, IsErrOf};
-ghost use Rattle.mw_ports.specs.Causes.{Counts};
+ghost use Rattle.mw_types.specs.Causes.{Counts};
 
 use crate::sink::{Sink, SinkFault};
 use std::io::Print;

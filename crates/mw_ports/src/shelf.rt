@@ -1,6 +1,6 @@
 //! Where files are read.
 ghost use Rattle.std.specs.Prelude.{◌≡◌, ◌≤◌, ℕ, Option, length, IfOk, IfSome};
-ghost use Rattle.mw_ports.specs.Causes.{HasCause};
+ghost use Rattle.mw_types.specs.Causes.{HasCause};
 ghost use Rattle.mw_ports.specs.Shelves.{Files, ReadsFile};
 
 use mw_types::{Bytes, NoMemory};

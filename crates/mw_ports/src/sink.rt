@@ -1,6 +1,6 @@
 //! Where text is written.
 ghost use Rattle.std.specs.Prelude.{◌≡◌, ◌≢◌, ◌≤◌, ◌<◌, ℕ, List, Option, [], length, take, IfOk, OnOk, OnErr};
-ghost use Rattle.mw_ports.specs.Causes.{HasCause};
+ghost use Rattle.mw_types.specs.Causes.{HasCause};
 ghost use Rattle.std.specs.Io.KnownBytes.{append_known};
 ghost use Rattle.mw_ports.specs.Sinks.{AppendsPrefix};
 

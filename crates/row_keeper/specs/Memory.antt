@@ -1,6 +1,6 @@
 -- What the keeper in memory is. Own.
 use Rattle.std.specs.Prelude.{◌≡◌, ◌↔◌, ℕ, List, Result, Contains, IsErrOf}
-use Rattle.row_keeper.specs.Causes.{raised, Counts}
+use Rattle.mw_types.specs.Causes.{raised, Counts}
 use Rattle.row_keeper.specs.Rows.{Rows}
 use Rattle.row_keeper.specs.declared.keeper.KeeperFault.{KeeperFault}
 use Rattle.row_keeper.specs.declared.keeper.KeeperFault.TheVariants as faults

@@ -1,6 +1,6 @@
 //! The calls of a keeper in memory, by number, and which of them fail.
 ghost use Rattle.std.specs.Prelude.{◌≡◌, ◌↔◌, Contains, IsErr, IsErrOf};
-ghost use Rattle.row_keeper.specs.Causes.{Counts, raised};
+ghost use Rattle.mw_types.specs.Causes.{Counts, raised};
 
 use crate::keeper::KeeperFault;
 use mw_types::CallList;

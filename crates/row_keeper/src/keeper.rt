@@ -1,6 +1,6 @@
 //! What every keeper of rows does.
 ghost use Rattle.std.specs.Prelude.{◌≡◌, ℕ, Option, map, slice_get, option_map, IfOk, IfSome, OnErr, OnOk};
-ghost use Rattle.row_keeper.specs.Causes.{HasCause};
+ghost use Rattle.mw_types.specs.Causes.{HasCause};
 ghost use Rattle.row_keeper.specs.Rows.{Rows, AreInOrder, entry_of, rows_within, with_row};
 
 use key_intervals::Bounds;
