@@ -1,5 +1,5 @@
 -- What counting a record or closing a window does to the windows, by the place that a search found.
-use Rattle.std.proofs.Common.{◌≡◌, ℕ, ◌≤◌, ◌==◌, not, List, set, Some, None, slice_get, find, filter, sym, ap, subst, ◌∙◌, ◌<◌, ◌^◌, length}
+use Rattle.std.proofs.Common.{◌≡◌, ℕ, ◌≤◌, ◌==◌, not, List, set, Some, None, slice_get, find, filter, sym, subst, ◌∙◌, ◌<◌, ◌^◌, length}
 use Rattle.std.specs.List.{insert, remove}
 use Rattle.std.proofs.lemmas.Option.{get_or_from_slice_get}
 use Rattle.std.proofs.lemmas.List.Elements.{All-get_or}

@@ -1,5 +1,5 @@
 -- The windows and held totals of a state stay within bounds: lemmas for the laws.
-use Rattle.std.proofs.Common.{◌≡◌, ◌==◌, ◌<◌, ◌≤◌, ◌^◌, ◌-◌, not, ℕ, ℤ, List, [], ◌∷◌, ◌++◌, length, map, filter, drop, refl, subst, sym, arith, length-drop, length-append}
+use Rattle.std.proofs.Common.{◌==◌, ◌<◌, ◌≤◌, ◌^◌, ◌-◌, not, ℕ, ℤ, List, [], ◌∷◌, ◌++◌, length, map, filter, refl, subst, sym, arith, length-drop}
 use Rattle.std.specs.List.Sorted.{IsStrictlySortedBy}
 use Rattle.std.specs.Ordering.{nat_cmp}
 use Rattle.std.proofs.lemmas.List.Elements.{All-filter}

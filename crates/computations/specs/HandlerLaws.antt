@@ -1,5 +1,5 @@
 -- What a handler of each kind leaves keeps the laws of computations: lemmas, of which a reader needs none.
-use Rattle.std.proofs.Common.{◌≡◌, ◌==◌, ◌<◌, ◌≤◌, ◌^◌, ◌+◌, ◌-◌, ◌%◌, not, ℕ, ℤ, pos, Bool, true, false, cond, Option, Some, None, List, [], ◌∷◌, length, find, filter, All, IfSome, refl, sym, subst, arith}
+use Rattle.std.proofs.Common.{◌≡◌, ◌==◌, ◌≤◌, not, ℕ, ℤ, pos, Bool, true, false, cond, Option, Some, None, List, [], ◌∷◌, find, filter, All, IfSome, refl, sym, subst, arith}
 use Rattle.std.specs.Option.{option_map_or}
 use Rattle.std.proofs.lemmas.List.Elements.{All-nil, All-cons}
 use Rattle.std.proofs.lemmas.Bool.Decides.{nat_tests}
@@ -14,10 +14,10 @@ use Rattle.mw_types.specs.declared.record.Record.{Record}
 use Rattle.mw_types.specs.declared.record.Production.{Production}
 use Rattle.mw_types.specs.declared.timer.Timer.{Timer}
 use Rattle.mw_types.specs.Kinds.{IsKind}
-use Rattle.mw_types.specs.Bounds.{IsWithin, AreWindows, AreHeld}
+use Rattle.mw_types.specs.Bounds.{IsWithin}
 use Rattle.computations.specs.Handlers.{IsOfKind, unchanged, with_timer, with_record, one_more, window_end, counted, count_record, window_due, count_timer, due_time, held_with, spike_record, total_due, is_spike, known_with, spike_timer, pass_record, effects_of_record, effects_of_timer}
 use Rattle.computations.specs.Laws.{IsShort, IsLawful, LawfulAtRecords, LawfulAtTimers, SetsNoneAtTimers}
-use Rattle.computations.specs.Parts.{Parts, kind_at, HasState, part_record, part_timer}
+use Rattle.computations.specs.Parts.{kind_at, HasState, part_record, part_timer}
 use Rattle.computations.specs.Bounded.{AreWindows-counted, AreWindows-others, AreHeld-held_with, AreHeld-others, length-known_with}
 
 -- a list of one element has a fact of each where that one has it

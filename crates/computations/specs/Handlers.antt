@@ -1,7 +1,7 @@
 -- What the handlers of each kind leave of a record or a timer, by the row's key and its state.
 -- Akidau et al., VLDB 2013, section 4.1, has such handlers of a computation; what each kind does is our own.
 -- A handler's timers are as late as its cause, and have the tag 0.
-use Rattle.std.specs.Prelude.{ℕ, ◌+◌, ◌-◌, ◌%◌, min, Bool, true, false, not, ◌==◌, ◌&&◌, if◌then◌else◌, List, [], ◌∷◌, ◌++◌, length, drop, filter, find, fold, Option, None, Some, option_and_then, ℤ, pos, ◌+ℤ◌, ◌*ℤ◌, int_lt, ⊤}
+use Rattle.std.specs.Prelude.{ℕ, ◌+◌, ◌-◌, ◌%◌, min, Bool, not, ◌==◌, ◌&&◌, if◌then◌else◌, List, [], ◌∷◌, ◌++◌, length, drop, filter, find, fold, Option, None, Some, ℤ, pos, ◌+ℤ◌, ◌*ℤ◌, int_lt, ⊤}
 use Rattle.std.specs.Int.{int_max}
 use Rattle.std.specs.Ordering.{nat_cmp, match_ordering}
 use Rattle.mw_types.specs.declared.TheConstants.{MAX_STAMP}
@@ -12,7 +12,6 @@ use Rattle.mw_types.specs.declared.state.State.TheVariants as states
 use Rattle.mw_types.specs.declared.state.Window.{Window}
 use Rattle.mw_types.specs.declared.state.HeldTotal.{HeldTotal}
 use Rattle.mw_types.specs.declared.record.Record.{Record}
-use Rattle.mw_types.specs.declared.record.Production.{Production}
 use Rattle.mw_types.specs.declared.timer.Timer.{Timer}
 use Rattle.mw_types.specs.Outcomes.{Outcome}
 

@@ -25,7 +25,7 @@ pub trait Computation {
     /// What a part leaves of a timer, by its row's key and state.
     ghost gives_timer: { Self → ℕ → List ℕ → State → Timer → Outcome };
 
-    /// Handles a record in a context that was made for it. After an `Err` the context is to be given up.
+    /// Handles a record in a context that was made for it; after an `Err` the context is given up.
     fn on_record(
         &self,
         alloc: Global,
@@ -41,7 +41,7 @@ pub trait Computation {
             OnOk result (context.new ≡ ended_with context.old o) }
         ensures within { OnOk result (IsWithin context.new.state) };
 
-    /// Handles a timer in a context that was made for it. After an `Err` the context is to be given up.
+    /// Handles a timer in a context that was made for it; after an `Err` the context is given up.
     fn on_timer(
         &self,
         alloc: Global,
@@ -57,10 +57,10 @@ pub trait Computation {
             OnOk result (context.new ≡ ended_with context.old o) }
         ensures within { OnOk result (IsWithin context.new.state) };
 
-    /// Of a record comes nothing that is earlier, and no more than eight timers and eight productions.
+    /// Of a record comes nothing earlier, and at most eight timers and eight productions.
     ghost record_lawful: { LawfulAtRecords has gives_record };
 
-    /// Of a timer comes nothing that is earlier, and no more than eight productions.
+    /// Of a timer comes nothing earlier, and at most eight productions.
     ghost timer_lawful: { LawfulAtTimers has gives_timer };
 
     /// A timer sets no timer.

@@ -28,7 +28,15 @@ impl Model for Context {
 
     ghost Value = { Handling };
 
-    ghost view = { λ c. record { key = c.key; state = c.state; stamp = c.stamp; late = c.late; of_record = c.of_record; timers = c.timers; productions = c.productions } };
+    ghost view = { λ c. record {
+      key = c.key;
+      state = c.state;
+      stamp = c.stamp;
+      late = c.late;
+      of_record = c.of_record;
+      timers = c.timers;
+      productions = c.productions;
+    } };
 
     ghost invariant = { λ c. IsInTime c.timers c.productions };
 }

@@ -43,7 +43,8 @@ pub(crate) fn on_timer(alloc: Global, context: &mut Context, timer: &Timer) -> R
     requires made { context.old ≡ begun_by_timer context.old.key context.old.state timer.now }
     requires within { IsWithin context.old.state }
     requires in_time { timer.now.time ≤ MAX_STAMP }
-    ensures effects { (size : ℕ) → let o = effects_of_timer (kinds.Count size) context.old.key context.old.state timer.now in
+    ensures effects { (size : ℕ) →
+        let o = effects_of_timer (kinds.Count size) context.old.key context.old.state timer.now in
         OnOk result (context.new ≡ ended_with context.old o) }
     ensures within { OnOk result (IsWithin context.new.state) }
 {
@@ -122,7 +123,8 @@ fn count(windows: &mut WindowList, end: u64) -> Result<(), NoMemory>
 fn close(windows: &mut WindowList, end: u64) -> Option<Window>
     requires { AreWindows windows.old }
     ensures closed { result ≡ find (λ w. w.end == end) windows.old }
-    ensures gone { IfSome result (λ due. windows.new ≡ filter (λ w. not (w.end == due.end)) windows.old) }
+    ensures gone { IfSome result (λ due.
+        windows.new ≡ filter (λ w. not (w.end == due.end)) windows.old) }
     ensures stays { IfNone result (windows.new ≡ windows.old) }
     ensures due { IfSome result (λ due. (due.end ≡ end) × (due.count ≤ MAX_STAMP)) }
     ensures within { AreWindows windows.new }

@@ -1,1 +1,4 @@
-pub mod Lines
+pub mod Growth
+pub mod Texts
+pub mod Splitting
+pub mod Plainness

@@ -1,1 +1,6 @@
 pub mod Sources
+pub mod EventLines
+pub mod EventFiles
+pub mod Answers
+pub mod Progress
+pub mod PlainLines

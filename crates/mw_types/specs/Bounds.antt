@@ -8,14 +8,14 @@ use Rattle.mw_types.specs.declared.state.HeldTotal.{HeldTotal}
 use Rattle.mw_types.specs.declared.state.State.{State}
 use Rattle.mw_types.specs.declared.state.State.TheVariants.{Injector, Count, Spike, Pass}
 
--- open windows stand ascending by end, and no end and no count is above the greatest timestamp
+-- fewer than 2^32 open windows stand ascending by end, and no end and no count is above the greatest timestamp
 pub record AreWindows (windows : List Window) : Type 0 where
   pub ascending : IsStrictlySortedBy nat_cmp (map (λ (w : Window). w.end) windows)
   pub ends : All (λ (w : Window). w.end ≤ MAX_STAMP) windows
   pub counts : All (λ (w : Window). w.count ≤ MAX_STAMP) windows
   pub few : length windows < 2 ^ 32
 
--- held totals stand ascending by timestamp, none above the greatest
+-- fewer than 2^32 held totals stand ascending by timestamp, none above the greatest
 pub record AreHeld (held : List HeldTotal) : Type 0 where
   pub ascending : IsStrictlySortedBy nat_cmp (map (λ (h : HeldTotal). h.stamp) held)
   pub stamps : All (λ (h : HeldTotal). h.stamp ≤ MAX_STAMP) held

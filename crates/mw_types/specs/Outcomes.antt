@@ -12,7 +12,7 @@ pub record Outcome : Type 0 where
   pub timers : List Timer
   pub productions : List Production
 
--- such an outcome can be kept: its state is within bounds, and nothing is above the greatest timestamp
+-- what a handler leaves can be kept: its state is within bounds, and nothing is above the greatest timestamp
 pub record IsOutcome (state : State) (timers : List Timer) (productions : List Production) : Type 0 where
   pub state_within : IsWithin state
   pub times : All (λ (t : Timer). t.time ≤ MAX_STAMP) timers

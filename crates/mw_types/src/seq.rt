@@ -1,4 +1,6 @@
 //! A list of values, which contracts see as that list.
+ghost use Rattle.std.specs.Fn.{CalledAt};
+ghost use Rattle.std.specs.List.Retain.{IsFiltered};
 ghost use Rattle.std.specs.Prelude.{◌≡◌, ◌==◌, ◌++◌, ◌∷◌, ◌↔◌, ◌<◌, ◌≤◌, ◌-◌, [], length, take, slice_get, slice_set, insert, remove, IfOk, OnErr, OnOk, IsSome, option_copied, option_to_list};
 
 use crate::memory::{Duplicate, NoMemory};
@@ -87,6 +89,23 @@ impl<X> Seq<X> {
         ensures { self.new ≡ slice_set self.old at x }
     {
         self.items[at] = x;
+    }
+
+    /// Keeps the elements that pass a test.
+    pub fn retain<F: FnMut(&X) -> bool>(&mut self, f: F)
+    where
+        X: Drop,
+        requires { F.IsAlwaysCallable f }
+        ensures { IsFiltered (CalledAt F.FnMut) f self.old self.new }
+    {
+        self.items.retain(f);
+    }
+
+    /// The list of a vector's elements.
+    pub fn from_vec(items: Vec<X>) -> Self
+        ensures { result ≡ items.items }
+    {
+        Seq { items }
     }
 
     /// How many elements the list has.

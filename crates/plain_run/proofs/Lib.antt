@@ -4,3 +4,5 @@ pub mod SlotLaws
 pub mod RowLaws
 pub mod FireLaws
 pub mod ReadyLaws
+pub mod MapLaws
+pub mod DoneLaws

@@ -94,19 +94,19 @@ same_id-itself : (id : RecordId) → same_id id id ≡ true
 same_id-itself id = ap (λ b. b && (id.index == id.index)) (eq-eqb id.commit id.commit refl) ∙ eq-eqb id.index id.index refl
 
 -- what a slot of a map has to be
-abbrev pub IsCountedSlot : Slot → Option Bool → Type 0
-IsCountedSlot slot late = IfSome late (λ _. (slot.row.part ≡ 1) × (slot.time ≤ MAX_STAMP))
+abbrev pub IsCountedSlot : Shape → Slot → Option Bool → Type 0
+IsCountedSlot shape slot late = IfSome late (λ _. (slot.row.part ≡ 1) × (slot.time ≤ MAX_STAMP) × IsCounted shape)
 
 -- setting timers of a row of part 1 leaves slots of part 1 alone
-counted-sets : (set : List Timer) (map : Slot → Option Bool) (row : RowName) → row.part ≡ 1 → AllByRecursion (λ (t : Timer). t.time ≤ MAX_STAMP) set
-    → ((slot : Slot) → IsCountedSlot slot (map slot)) → (slot : Slot) → IsCountedSlot slot (slots_set map row set slot)
-counted-sets [] map row part times counted = counted
-counted-sets (t ∷ set) map row part times counted = counted-sets set (slot_set map row t) row part times.1
+counted-sets : (shape : Shape) → IsCounted shape → (set : List Timer) (map : Slot → Option Bool) (row : RowName) → row.part ≡ 1 → AllByRecursion (λ (t : Timer). t.time ≤ MAX_STAMP) set
+    → ((slot : Slot) → IsCountedSlot shape slot (map slot)) → (slot : Slot) → IsCountedSlot shape slot (slots_set map row set slot)
+counted-sets shape is [] map row part times counted = counted
+counted-sets shape is (t ∷ set) map row part times counted = counted-sets shape is set (slot_set map row t) row part times.1
     (λ slot. one slot (is_at (slot_cmp slot) (slot_of row t)) refl)
   where
     one : (slot : Slot) (b : Bool) → is_at (slot_cmp slot) (slot_of row t) ≡ b
-        → IsCountedSlot slot (cond b (Some (t.late && unwrap_or (map (slot_of row t)) true)) (map slot))
-    one slot true e = subst (λ (s : Slot). (s.row.part ≡ 1) × (s.time ≤ MAX_STAMP)) (sym (same_slot slot (slot_of row t) (from_tie _ e))) (part, times.0)
+        → IsCountedSlot shape slot (cond b (Some (t.late && unwrap_or (map (slot_of row t)) true)) (map slot))
+    one slot true e = subst (λ (s : Slot). (s.row.part ≡ 1) × (s.time ≤ MAX_STAMP) × IsCounted shape) (sym (same_slot slot (slot_of row t) (from_tie _ e))) (part, times.0, is)
     one slot false e = counted slot
 
 module _ (shape : Shape) (parts : Parts) (line : ℕ) (run : Run) (states states' : RowName → Option State) (timers timers' : Slot → Option Bool) where
@@ -170,7 +170,7 @@ module _ (shape : Shape) (parts : Parts) (line : ℕ) (run : Run) (states states
         sound = IsSound-followed shape run entry delivery.to refl at.sound (sorted-with_timers effects.timers (row_of shape run delivery.to).timers (sorted-row_of shape run delivery.to at.sound));
         counted = record {
           each_state = counted-states delivery.to effects.state at.counted.each_state within has new_states;
-          each_timer = λ slot. subst (IsCountedSlot slot) (sym (new_timers slot)) (counted-sets effects.timers timers delivery.to part times at.counted.each_timer slot) };
+          each_timer = λ slot. subst (IsCountedSlot shape slot) (sym (new_timers slot)) (counted-sets shape counted effects.timers timers delivery.to part times at.counted.each_timer slot) };
       }
 
   -- a timer that is fired is pending no longer
@@ -189,8 +189,8 @@ module _ (shape : Shape) (parts : Parts) (line : ℕ) (run : Run) (states states
           (IsStrictlySortedBy-filter timer_cmp (λ t. not (is_timer timer.tag timer.time t)) (row_of shape run row).timers (sorted-row_of shape run row at.sound));
         counted = record {
           each_state = counted-states row effects.state at.counted.each_state within has new_states;
-          each_timer = λ slot. subst (IsCountedSlot slot) (sym (new_timers slot))
-            (elim (is_at (slot_cmp (slot_of row timer)) slot) as (λ b. IsCountedSlot slot (cond b None (timers slot))) [
+          each_timer = λ slot. subst (IsCountedSlot shape slot) (sym (new_timers slot))
+            (elim (is_at (slot_cmp (slot_of row timer)) slot) as (λ b. IsCountedSlot shape slot (cond b None (timers slot))) [
               | true ↦ tt
               | false ↦ at.counted.each_timer slot
             ]) };

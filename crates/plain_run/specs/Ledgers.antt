@@ -22,7 +22,7 @@ use Rattle.topology.specs.Shapes.{Shape}
 use Rattle.run_history.specs.Cases.{CaseShape}
 use Rattle.run_history.specs.Runs.{Run, row_in, row_of, run_of}
 use Rattle.run_history.specs.Legal.{IsLegal}
-use Rattle.plain_run.specs.Plain.{IsPlainEntry}
+use Rattle.plain_run.specs.Plain.{IsPlainEntry, IsCounted}
 use Rattle.plain_run.specs.declared.slot.Slot.{Slot}
 
 -- slots stand by time, tag and row
@@ -64,10 +64,10 @@ pub record IsSound (run : Run) : Type 0 where
   pub rows : IsStrictlySortedBy row_cmp (keys_of run.rows)
   pub timers : AllByRecursion (λ (r : RowName × Contents). IsStrictlySortedBy timer_cmp r.1.timers) run.rows
 
--- the rows of part 1 have states that its handlers take, and each timer is of such a row
-pub record AreCounted (parts : Parts) (states : RowName → Option State) (timers : Slot → Option Bool) : Type 0 where
+-- the rows of part 1 have states that its handlers take, and each timer is of such a row, of a count
+pub record AreCounted (shape : Shape) (parts : Parts) (states : RowName → Option State) (timers : Slot → Option Bool) : Type 0 where
   pub each_state : (row : RowName) → row.part ≡ 1 → IfSome (states row) (λ s. IsWithin s × HasState parts 1 s)
-  pub each_timer : (slot : Slot) → IfSome (timers slot) (λ _. (slot.row.part ≡ 1) × (slot.time ≤ MAX_STAMP))
+  pub each_timer : (slot : Slot) → IfSome (timers slot) (λ _. (slot.row.part ≡ 1) × (slot.time ≤ MAX_STAMP) × IsCounted shape)
 
 -- the row of the injector
 abbrev pub injector_row : RowName
@@ -80,7 +80,7 @@ pub record IsAt (shape : Shape) (parts : Parts) (line : ℕ) (waiting : List Del
   pub waits : run.unhandled ≡ waiting
   pub mirrors : Mirrors run states timers
   pub sound : IsSound run
-  pub counted : AreCounted parts states timers
+  pub counted : AreCounted shape parts states timers
 
 -- the history is legal and plain, and the maps are at what stands after it
 pub record IsReady (case : CaseShape) (parts : Parts) (line : ℕ) (waiting : List Delivery) (history : List Entry)

@@ -1,9 +1,11 @@
 -- Which topologies the plain engine runs, and which entries it writes. Own.
-use Rattle.std.specs.Prelude.{◌≡◌, ℕ, ◌||◌, ◌⊎◌, List, [], ◌∷◌, IsTrue, Some}
+use Rattle.std.specs.Prelude.{◌≡◌, ℕ, ◌||◌, ◌⊎◌, List, [], ◌∷◌, map, All, IsTrue, Some}
 use Rattle.mw_types.specs.declared.kind.Kind.TheVariants.{Count}
 use Rattle.mw_types.specs.declared.entry.Entry.{Entry}
 use Rattle.topology.specs.declared.subscription.By.TheVariants as by
-use Rattle.topology.specs.Shapes.{Shape, injectors_of, kind_of, consumers_of}
+use Rattle.topology.specs.declared.subscription.Subscription.{Subscription}
+use Rattle.topology.specs.Shapes.{Shape, ComputationShape, injectors_of, kind_of, consumers_of}
+use Rattle.computations.specs.Parts.{IsCount}
 use Rattle.run_history.specs.Texts.{is_inject, is_handle, is_fire}
 
 -- part 1 is a count, which alone reads the stream of part 0, once and by the whole key, and is read by none
@@ -13,9 +15,10 @@ pub record IsCounted (shape : Shape) : Type 0 where
   pub read : consumers_of shape 0 ≡ record { to = 1; by = by.Key } ∷ []
   pub unread : consumers_of shape 1 ≡ []
 
--- there is one injector, whose stream is counted or read by none
+-- there is one injector, whose stream is counted or read by none, and no computation that does not count
 pub record IsPlain (shape : Shape) : Type 0 where
   pub injector : injectors_of shape ≡ 1
+  pub counts : All IsCount (map (λ (c : ComputationShape). c.kind) shape.computations)
   pub heard : (consumers_of shape 0 ≡ []) ⊎ IsCounted shape
 
 -- an entry that the plain engine writes: no claim, no acknowledgement and no purge

@@ -1,1 +1,10 @@
+pub mod PlaceLemmas
+pub mod Ranks
 pub mod RowLemmas
+pub mod Times
+pub mod Written
+pub mod KeyLemmas
+pub mod Ascending
+pub mod Codec
+pub mod PartLaws
+pub mod StateLaws

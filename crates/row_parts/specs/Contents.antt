@@ -1,6 +1,8 @@
 -- What a row is, and what happens to its lists.
 -- Own; timers and their lateness after Akidau et al., VLDB 2013, section 4.6, finished ids after section 6.1.
-use Rattle.std.specs.Prelude.{◌≡◌, ℕ, List, [], ◌∷◌, length, map, filter, All, Contains, Bool, not, ◌&&◌, ◌==◌, nat_le, ◌<◌, ◌≤◌, ◌^◌, ◌⊎◌}
+use Rattle.std.specs.Prelude.{ℕ, List, [], ◌∷◌, length, filter, All, Bool, not, ◌&&◌, ◌||◌, ◌==◌, nat_lt, nat_le, ◌<◌, ◌≤◌, ◌^◌}
+use Rattle.std.specs.List.{list_any}
+use Rattle.std.specs.declared.cmp.Ordering.{Ordering}
 use Rattle.std.specs.Ordering.{match_ordering}
 use Rattle.std.specs.Str.{IsUtf8}
 use Rattle.std.specs.List.Sorted.{IsStrictlySortedBy}
@@ -28,14 +30,18 @@ fresh state = record { state = state; timers = []; pending = []; seen = []; floo
 
 -- ---- what happens to the lists
 
+-- a list in order with one more element; `again` says what stands where one of its rank stood
+abbrev pub put_in : {X : Type 0} → (X → X → Ordering) → (X → X → X) → X → List X → List X
+put_in cmp again new [] = new ∷ []
+put_in cmp again new (x ∷ xs) = match_ordering (cmp new x) (new ∷ x ∷ xs) (again new x ∷ xs) (x ∷ put_in cmp again new xs)
+
 -- a timer that is set again stays one timer, which is late only where both settings are
 abbrev pub set_again : Timer → Timer → Timer
-set_again new old = record old { late = new.late && old.late }
+set_again new old = record { tag = old.tag; time = old.time; late = new.late && old.late }
 
 -- the timers once this one is set too, in order
 abbrev pub with_timer : Timer → List Timer → List Timer
-with_timer new [] = new ∷ []
-with_timer new (t ∷ ts) = match_ordering (timer_cmp new t) (new ∷ t ∷ ts) (set_again new t ∷ ts) (t ∷ with_timer new ts)
+with_timer = put_in timer_cmp set_again
 
 -- the timer of this tag and time
 abbrev pub is_timer : ℕ → ℕ → Timer → Bool
@@ -47,8 +53,7 @@ without_timer tag time = filter (λ t. not (is_timer tag time t))
 
 -- the ids with this one among them, in order
 abbrev pub with_id : RecordId → List RecordId → List RecordId
-with_id new [] = new ∷ []
-with_id new (id ∷ ids) = match_ordering (id_cmp new id) (new ∷ id ∷ ids) (id ∷ ids) (id ∷ with_id new ids)
+with_id = put_in id_cmp (λ new old. old)
 
 -- whether two ids are the same
 abbrev pub same_id : RecordId → RecordId → Bool
@@ -62,9 +67,9 @@ without_delivery id = filter (λ (d : Delivery). not (same_id d.id id))
 abbrev pub ids_from : ℕ → List RecordId → List RecordId
 ids_from floor = filter (λ (id : RecordId). nat_le floor id.commit)
 
--- an id is finished for a row where it is below the floor or was handled
-abbrev pub IsFinished : RecordId → Contents → Type 0
-IsFinished id row = (id.commit < row.floor) ⊎ Contains row.seen id
+-- whether an id is finished for a row: it is below the floor, or the row handled it
+abbrev pub is_finished : RecordId → Contents → Bool
+is_finished id row = nat_lt id.commit row.floor || list_any (same_id id) row.seen
 
 -- ---- what a row may be
 
@@ -91,9 +96,13 @@ pub record AreTimers (timers : List Timer) : Type 0 where
   pub times : All (λ (t : Timer). t.time ≤ MAX_STAMP) timers
   pub few : length timers < 2 ^ 32
 
+-- deliveries stand by their ids
+abbrev pub delivery_cmp : Delivery → Delivery → Ordering
+delivery_cmp a b = id_cmp a.id b.id
+
 -- deliveries stand strictly ascending by id
 pub record ArePending (pending : List Delivery) : Type 0 where
-  pub ascending : IsStrictlySortedBy id_cmp (map (λ (d : Delivery). d.id) pending)
+  pub ascending : IsStrictlySortedBy delivery_cmp pending
   pub each : All IsDelivery pending
   pub few : length pending < 2 ^ 32
 

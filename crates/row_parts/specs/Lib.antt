@@ -1,1 +1,5 @@
 pub mod Contents
+pub mod Spelling
+pub mod Orders
+pub mod Places
+pub mod Reading

@@ -1,9 +1,16 @@
-//! The row of one key, Akidau et al., VLDB 2013, section 6.1.
-ghost use Rattle.std.specs.Prelude.{◌≡◌};
+//! The row of one key, Akidau et al., VLDB 2013, sections 4.4, 4.6 and 6.1.
+ghost use Rattle.std.specs.Prelude.{◌≡◌, ◌≤◌, ◌^◌, ◌++◌, ◌∷◌, [], Bool, false, All, slice_get, OnOk, OnErr};
+ghost use Rattle.std.specs.List.{list_any};
+ghost use Rattle.std.specs.declared.cmp.Ordering.TheVariants.{Less};
 ghost use Rattle.mw_types.specs.Bounds.{IsWithin};
-ghost use Rattle.row_parts.specs.Contents.{fresh};
+ghost use Rattle.row_parts.specs.Contents.{fresh, IsId, IsDelivery, is_finished, is_timer, same_id, delivery_cmp, with_timer, without_timer, with_id, without_delivery, ids_from};
 
-use mw_types::{DeliveryList, IdList, State, TimerList};
+use crate::deliveries::{add_delivery, take_delivery};
+use crate::ids::{add_id, forget_below, has_id};
+use crate::timers::{set_timer, take_timer};
+use mw_types::{
+    Delivery, DeliveryList, Duplicate, IdList, NoMemory, RecordId, State, Timer, TimerList, MAX_STAMP,
+};
 use std::alloc::Global;
 use std::marker::Model;
 
@@ -12,11 +19,11 @@ use std::marker::Model;
 pub struct Row {
     /// The key's state.
     pub state: State,
-    /// The timers that are set, by time and tag.
+    /// The timers that are set, ascending by time and tag.
     pub timers: TimerList,
-    /// What the row produced and is not yet acknowledged, by id.
+    /// What the row produced and no receiver acknowledged yet, ascending by id.
     pub pending: DeliveryList,
-    /// The ids that the row handled, in order.
+    /// The ids that the row handled, ascending; none is below the floor.
     pub seen: IdList,
     /// The commit number below which every id is finished.
     pub floor: u64,
@@ -48,5 +55,89 @@ impl Row {
             floor: 0,
             last: 0,
         }
+    }
+
+    /// Sets a timer. A pair that is set already stays one timer, which is late only where both are.
+    pub fn set_timer(&mut self, timer: Timer) -> Result<(), NoMemory>
+        requires { timer.time ≤ MAX_STAMP }
+        ensures ok { OnOk result (self.new ≡ record self.old { timers = with_timer timer self.old.timers }) }
+        ensures err { OnErr result (self.new ≡ self.old) }
+    {
+        set_timer(&mut self.timers, timer)
+    }
+
+    /// The timer that is due first, or none where none is set.
+    pub fn least_timer(&self) -> Option<Timer>
+        ensures first { result ≡ slice_get self.now.timers 0 }
+    {
+        self.timers.get(0).copied()
+    }
+
+    /// Takes the timer with this tag and time away, and tells whether it was set.
+    pub fn take_timer(&mut self, tag: u64, time: u64) -> bool
+        ensures found { result ≡ list_any (is_timer tag time) self.old.timers }
+        ensures rest { self.new ≡ record self.old { timers = without_timer tag time self.old.timers } }
+    {
+        take_timer(&mut self.timers, tag, time)
+    }
+
+    /// Whether an id is finished for this row: it is below the floor, or the row handled it.
+    pub fn is_finished(&self, id: RecordId) -> bool
+        ensures { result ≡ is_finished id self.now }
+    {
+        id.commit < self.floor || has_id(self.seen.as_slice(), id)
+    }
+
+    /// Notes that the row handled an id.
+    pub fn note_handled(&mut self, id: RecordId) -> Result<(), NoMemory>
+        requires id { IsId id }
+        requires new { is_finished id self.old ≡ false }
+        ensures ok { OnOk result (self.new ≡ record self.old { seen = with_id id self.old.seen }) }
+        ensures err { OnErr result (self.new ≡ self.old) }
+    {
+        add_id(&mut self.seen, self.floor, id)
+    }
+
+    /// Adds a delivery that the row produced; its id is above those of all that are pending.
+    pub fn add_pending(&mut self, delivery: Delivery) -> Result<(), NoMemory>
+        requires id { IsId delivery.id }
+        requires stamp { delivery.item.stamp ≤ MAX_STAMP }
+        requires above { All (λ d. delivery_cmp d delivery ≡ Less) self.old.pending }
+        ensures ok { OnOk result (self.new ≡ record self.old { pending = self.old.pending ++ delivery ∷ [] }) }
+        ensures err { OnErr result (self.new ≡ self.old) }
+    {
+        add_delivery(&mut self.pending, delivery)
+    }
+
+    /// Takes the delivery with this id away, since its receiver acknowledged it, and tells whether it was
+    /// pending.
+    pub fn settle(&mut self, id: RecordId) -> bool
+        ensures found { result ≡ list_any (λ d. same_id d.id id) self.old.pending }
+        ensures rest { self.new ≡ record self.old { pending = without_delivery id self.old.pending } }
+    {
+        take_delivery(&mut self.pending, id)
+    }
+
+    /// Raises the floor, and forgets the ids below it.
+    pub fn purge(&mut self, floor: u64)
+        requires rises { self.old.floor ≤ floor }
+        requires floor { floor ≤ 2 ^ 32 }
+        ensures { self.new ≡ record self.old { seen = ids_from floor self.old.seen; floor = floor } }
+    {
+        forget_below(&mut self.seen, self.floor, floor);
+        self.floor = floor;
+    }
+}
+
+impl Duplicate for Row {
+    fn copy(&self, alloc: Global) -> Result<Row, NoMemory> {
+        Ok(Row {
+            state: self.state.copy(alloc)?,
+            timers: self.timers.copy(alloc)?,
+            pending: self.pending.copy(alloc)?,
+            seen: self.seen.copy(alloc)?,
+            floor: self.floor,
+            last: self.last,
+        })
     }
 }

@@ -1,3 +1,4 @@
 pub mod ByPart
 pub mod Steps
 pub mod Samples
+pub mod Feeds

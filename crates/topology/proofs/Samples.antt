@@ -1,9 +1,8 @@
 -- The topology of one count keeps the rules.
-use Rattle.std.proofs.Common.{◌≡◌, ℕ, zero, suc, ◌+◌, ◌-◌, ◌<◌, ◌≤◌, Bool, true, false, cond, Option, Some, None, List, [], ◌∷◌, length, take, slice_get, All, Contains, refl, ap, sym, subst, arith, lit≤, lit<}
+use Rattle.std.proofs.Common.{◌≡◌, ℕ, zero, suc, ◌-◌, ◌≤◌, Bool, true, false, cond, Option, None, [], ◌∷◌, length, take, All, Contains, refl, arith, lit≤, lit<}
 use Rattle.std.specs.List.Sorted.{IsStrictlySortedBy}
 use Rattle.std.proofs.lemmas.List.Elements.{All-nil, All-cons}
 use Rattle.std.proofs.lemmas.Option.{slice_get_past}
-use Rattle.mw_types.specs.Orders.{key_cmp}
 use Rattle.mw_types.specs.Kinds.{IsKind}
 use Rattle.mw_types.specs.declared.kind.Kind.TheVariants.{Count}
 use Rattle.topology.specs.Shapes.{Shape, Reading, ComputationShape, injectors_of, parts_of, streams_of, computation_of, reads_of}

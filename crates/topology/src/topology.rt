@@ -1,5 +1,7 @@
 //! The topology of a run, which keeps the rules.
 ghost use Rattle.std.specs.Prelude.{◌≡◌, ◌≤◌, ◌<◌, ◌^◌, IfOk, Some};
+ghost use Rattle.std.specs.List.Sorted.{IsStrictlySortedBy};
+ghost use Rattle.std.specs.Ordering.{nat_cmp};
 ghost use Rattle.mw_types.specs.Kinds.{IsKind};
 ghost use Rattle.topology.specs.Shapes.{injectors_of, parts_of, stream_of, kind_of, cuts_of, consumers_of, feeds_of};
 ghost use Rattle.topology.specs.Rules.{IsTopology, part_cuts_of};
@@ -98,6 +100,7 @@ impl Topology {
     pub fn feeds(&self, part: u32) -> &[u32]
         requires { part < parts_of self.now }
         ensures fed { result.now ≡ feeds_of self.now part }
+        ensures ascending { IsStrictlySortedBy nat_cmp result.now }
     {
         self.feeds.as_slice()[part as usize].as_slice()
     }

@@ -1,5 +1,4 @@
 use Rattle.std.proofs.Common.{ℕ, List, ap}
-use Rattle.topology.specs.Shapes.{cuts_of}
 use Rattle.mw_types.specs.declared.key.PartCuts.{PartCuts}
 use Rattle.topology.proofs.ByPart.{by_part_push}
 use Rattle.topology.proofs.topology.part_cuts_in.Goals as goal

@@ -1,4 +1,4 @@
-use Rattle.std.proofs.Common.{◌≡◌, ◌∙◌, ◌++◌, ◌<◌, ◌+◌, ap, sym, length, drop, arith}
+use Rattle.std.proofs.Common.{◌∙◌, ◌++◌, ◌<◌, ◌+◌, ap, sym, length, drop, arith}
 use Rattle.topology.specs.Kept.{is_among, numbers_from}
 use Rattle.topology.proofs.Steps.{numbers_step_yes, numbers_step_no}
 use Rattle.topology.proofs.wiring.sources.Goals as goal

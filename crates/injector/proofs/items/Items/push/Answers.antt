@@ -1,4 +1,4 @@
-use Rattle.injector.proofs.Lines.{IsSource-push, room-push}
+use Rattle.injector.proofs.Growth.{IsSource-push, room-push}
 use Rattle.injector.proofs.items.Items.push.Goals as goal
 
 -- the line is within bounds, so the lines are a source still

@@ -1,4 +1,4 @@
-use Rattle.std.proofs.Common.{◌∙◌, sym, ap}
+use Rattle.std.proofs.Common.{◌∙◌}
 use Rattle.topology.specs.Shapes.{consumers_of}
 use Rattle.topology.proofs.ByPart.{by_part_covers, by_part_at}
 use Rattle.topology.proofs.topology.Topology.consumers.Goals as goal

@@ -1,0 +1,42 @@
+-- The first state of a row, and one with a single window, are within bounds.
+use Rattle.std.proofs.Common.{◌≤◌, ◌∷◌, [], arith}
+use Rattle.std.specs.List.Sorted.{IsStrictlySortedBy}
+use Rattle.std.proofs.lemmas.List.Elements.{All-nil, All-cons}
+use Rattle.mw_types.specs.declared.TheConstants.{MAX_STAMP}
+use Rattle.mw_types.specs.declared.kind.Kind.{Kind}
+use Rattle.mw_types.specs.declared.kind.Kind.TheVariants as kinds
+use Rattle.mw_types.specs.declared.state.Window.{Window}
+use Rattle.mw_types.specs.Bounds.{IsWithin, AreWindows, AreHeld}
+use Rattle.computations.specs.Handlers.{fresh_state, IsOfKind}
+
+-- no window
+pub AreWindows-none : AreWindows []
+unfolding IsStrictlySortedBy
+AreWindows-none = record { ascending = tt; ends = All-nil _; counts = All-nil _; few = omega arith }
+
+-- one window
+pub AreWindows-one : (w : Window) → w.end ≤ MAX_STAMP → w.count ≤ MAX_STAMP → AreWindows (w ∷ [])
+unfolding IsStrictlySortedBy
+AreWindows-one w in_time few = record {
+  ascending = (tt, tt);
+  ends = All-cons (λ w. w.end ≤ MAX_STAMP) w [] in_time (All-nil _);
+  counts = All-cons (λ w. w.count ≤ MAX_STAMP) w [] few (All-nil _);
+  few = omega arith;
+}
+
+-- no held total
+pub AreHeld-none : AreHeld []
+unfolding IsStrictlySortedBy
+AreHeld-none = record { ascending = tt; stamps = All-nil _; few = omega arith }
+
+-- the first state of a row is within bounds
+pub IsWithin-fresh_state : (kind : Kind) → IsWithin (fresh_state kind)
+IsWithin-fresh_state (kinds.Count size) = (omega arith, AreWindows-none)
+IsWithin-fresh_state (kinds.Spike last times) = (omega arith, AreHeld-none, omega arith)
+IsWithin-fresh_state kinds.Pass = omega arith
+
+-- and of its kind
+pub IsOfKind-fresh_state : (kind : Kind) → IsOfKind kind (fresh_state kind)
+IsOfKind-fresh_state (kinds.Count size) = tt
+IsOfKind-fresh_state (kinds.Spike last times) = tt
+IsOfKind-fresh_state kinds.Pass = tt

@@ -1,0 +1,156 @@
+-- A line that is spelt plainly says what its key and its timestamp are.
+use Rattle.std.proofs.Common.{◌≡◌, ◌∙◌, ℕ, ◌<◌, ◌≤◌, ◌^◌, ◌++◌, pos, true, List, [], ◌∷◌, length, take, drop, nat_eq, ◌-◌, rules, codes, decimal, Some, Ok, Err, refl, ap, sym, arith, append_assoc}
+use Rattle.std.specs.Option.{option_map_or}
+use Rattle.std.specs.Str.{IsUtf8}
+use Rattle.std.specs.Cmp.Lexicographic.{pointwise, same_text}
+use Rattle.std.proofs.lemmas.Bool.{and_parts, or_parts, not-true, eqb-false, ltb-false, le-leb}
+use Rattle.std.proofs.lemmas.List.{take-append-drop}
+use Rattle.std.proofs.lemmas.Fmt.{IsAscii-decimal}
+use Rattle.std.proofs.lemmas.Str.{IsUtf8-append, IsUtf8-from_ascii}
+use Rattle.json.specs.Lex.{tokens}
+use Rattle.json.specs.Print.{ArePrintable, escape, escape_byte}
+use Rattle.json.specs.Run.{is_stop}
+use Rattle.json.specs.Tree.{json_tokens}
+use Rattle.json.specs.Json as json
+use Rattle.json.proofs.Printed.Decimals.{IsNumber-decimal}
+use Rattle.json.proofs.Printed.Strings.{escape_byte_plain}
+use Rattle.json.proofs.Printed.Tokens.{tokens-print}
+use Rattle.json.proofs.Printed.Trees.{value-json_tokens}
+use Rattle.json.proofs.Printed.Utf8.{IsUtf8-are_ascii}
+use Rattle.serde_json.specs.Read.{read, of_json}
+use Rattle.serde_json.specs.Written.{outline, compact_text}
+use Rattle.serde_json.proofs.Numbers.{number_of-decimal}
+use Rattle.serde_json.proofs.Texts.{print-outline}
+use Rattle.mw_types.specs.declared.TheConstants.{INPUT_MAX}
+use Rattle.injector.specs.EventLines.{json_of, key_within, data_reading, line_reading}
+use Rattle.injector.specs.PlainLines.{plain_data, plain_line, IsPlain}
+use Rattle.injector.specs.declared.refusal.LineWhy.TheVariants.{NotJson}
+use Rattle.injector.specs.declared.reading.LineKind.TheVariants.{Record}
+use Rattle.injector.proofs.Texts.{json_of-read}
+
+-- a plain text is not escaped
+escape-plain : (text : List ℕ) → IsPlain text → escape text ≡ text
+escape-plain [] plain = refl
+escape-plain (x ∷ xs) plain =
+    let p = and_parts _ _ plain in
+    let stop = or_parts _ _ (not-true (is_stop x) p.0) in
+    let quote = or_parts _ _ stop.0 in
+    ap (λ first. first ++ escape xs) (escape_byte_plain x (eqb-false x 34 quote.0) (eqb-false x 92 quote.1) (ltb-false x 32 stop.1))
+    ∙ ap (λ rest. x ∷ rest) (escape-plain xs p.1)
+
+-- the line is the compact text of its value
+compact_text-plain :
+    (key : List ℕ) (stamp : ℕ) → IsPlain key → compact_text (plain_data key stamp) ≡ plain_line key (decimal stamp)
+unfolding escape_byte
+compact_text-plain key stamp plain = rw (escape-plain key plain, append_assoc key (34 ∷ [])) refl
+
+-- and is read as that value
+read-plain :
+    (key : List ℕ) (stamp : ℕ)
+    → stamp < 2 ^ 64
+    → read (compact_text (plain_data key stamp)) ≡ Some (plain_data key stamp)
+unfolding ArePrintable
+read-plain key stamp fits =
+    let j = outline (plain_data key stamp) in
+    let printable : ArePrintable (json_tokens j) = (tt, (tt, (tt, (tt, (IsNumber-decimal stamp fits, (tt, tt)))))) in
+    let told : tokens (compact_text (plain_data key stamp)) ≡ json_tokens j =
+    ap tokens (sym (print-outline (plain_data key stamp))) ∙ tokens-print (json_tokens j) printable in
+    let value : json.value 127 (json_tokens j) ≡ Some (j, []) = value-json_tokens j 127 [] (omega arith) in
+    let held : of_json j ≡ Some (plain_data key stamp) = rw (number_of-decimal stamp fits) refl in
+    rw (told, value) held
+
+-- it is text where its key is
+IsUtf8-plain : (key : List ℕ) (stamp : ℕ) → IsUtf8 key → stamp < 2 ^ 64 → IsUtf8 (plain_line key (decimal stamp))
+IsUtf8-plain key stamp text fits =
+    IsUtf8-append _ _ (IsUtf8-are_ascii (codes "{\"key\":\"") refl)
+    (IsUtf8-append key _ text
+    (IsUtf8-append _ _ (IsUtf8-are_ascii (codes "\",\"ts\":") refl)
+    (IsUtf8-append _ _ (IsUtf8-from_ascii _ (IsAscii-decimal stamp fits)) (IsUtf8-are_ascii (codes "}") refl))))
+
+-- a text of 1 to 256 bytes is a key
+key_within-some : (text : List ℕ) → 0 < length text → length text ≤ 256 → key_within text ≡ Some text
+key_within-some text some short = search (arith, rules)
+
+-- what such a line says
+pub line_reading-plain :
+    (line key : List ℕ) (stamp : ℕ)
+    → line ≡ plain_line key (decimal stamp)
+    → IsPlain key
+    → IsUtf8 key
+    → (0 < length key) × (length key ≤ 256)
+    → stamp ≤ INPUT_MAX
+    → line_reading line ≡ Ok (Record key stamp (pos 1))
+line_reading-plain line key stamp is plain text within bounded =
+    let fits : stamp < 2 ^ 64 = omega (arith, bounded) in
+    let held : json_of (plain_line key (decimal stamp)) ≡ Some (plain_data key stamp) =
+    json_of-read _ _ (IsUtf8-plain key stamp text fits)
+    (ap read (sym (compact_text-plain key stamp plain)) ∙ read-plain key stamp fits) in
+    let says : data_reading (plain_data key stamp) ≡ Ok (Record key stamp (pos 1)) =
+    rw (key_within-some key within.0 within.1, le-leb stamp INPUT_MAX bounded) refl in
+    ap line_reading is
+    ∙ ap (λ found. option_map_or data_reading found (Err NotJson)) held
+    ∙ says
+
+-- what is read of such a line by its parts
+pub plain_reading-is :
+    (line key digits text record_key : List ℕ) (stamp : ℕ)
+    → line ≡ plain_line key digits
+    → digits ≡ decimal stamp
+    → text ≡ key
+    → IsPlain text
+    → IsUtf8 text
+    → record_key ≡ text
+    → (0 < length record_key) × (length record_key ≤ 256)
+    → stamp ≤ INPUT_MAX
+    → line_reading line ≡ Ok (Record record_key stamp (pos 1))
+plain_reading-is line key digits text record_key stamp is spelt same plain utf8 held within bounded =
+    line_reading-plain line record_key stamp
+    (is ∙ ap (λ k. plain_line k digits) (sym (held ∙ same)) ∙ ap (λ d. plain_line record_key d) spelt)
+    (rw held plain)
+    (rw held utf8)
+    within
+    bounded
+
+-- what `strip_prefix` says of bytes
+pub prefix-is :
+    (text front rest : List ℕ)
+    → pointwise nat_eq (take (length front) text) front ≡ true
+    → rest ≡ drop (length front) text
+    → text ≡ front ++ rest
+prefix-is text front rest same is =
+    sym (take-append-drop (length front) text)
+    ∙ ap (λ b. b ++ drop (length front) text) (same_text _ _ (sym same))
+    ∙ ap (λ b. front ++ b) (sym is)
+
+-- what `strip_suffix` says of bytes
+pub suffix-is :
+    (text back rest : List ℕ)
+    → pointwise nat_eq (drop (length text - length back) text) back ≡ true
+    → rest ≡ take (length text - length back) text
+    → text ≡ rest ++ back
+suffix-is text back rest same is =
+    sym (take-append-drop (length text - length back) text)
+    ∙ ap (λ b. take (length text - length back) text ++ b) (same_text _ _ (sym same))
+    ∙ ap (λ b. b ++ back) (sym is)
+
+-- a line that is cut four times in this way is spelt plainly
+pub plain_line-parts :
+    (line rest key behind after digits : List ℕ)
+    → line ≡ codes "{\"key\":\"" ++ rest
+    → rest ≡ key ++ behind
+    → behind ≡ codes "\",\"ts\":" ++ after
+    → after ≡ digits ++ codes "}"
+    → line ≡ plain_line key digits
+plain_line-parts line rest key behind after digits a b c d =
+    a ∙ ap (λ l. codes "{\"key\":\"" ++ l) (b ∙ ap (λ l. key ++ l) (c ∙ ap (λ l. codes "\",\"ts\":" ++ l) d))
+
+-- what `split_at` says of bytes
+pub split-is :
+    (text front back : List ℕ) (at : ℕ)
+    → front ≡ take at text
+    → back ≡ drop at text
+    → text ≡ front ++ back
+split-is text front back at before after =
+    sym (take-append-drop at text)
+    ∙ ap (λ b. b ++ drop at text) (sym before)
+    ∙ ap (λ b. front ++ b) (sym after)

@@ -1,0 +1,4 @@
+pub mod Shelves
+pub mod Sinks
+pub mod Fakes
+pub mod Readers

@@ -1,0 +1,25 @@
+//! The outside world as traits: where files are read and where text is written.
+//!
+//! Each trait has an implementation in memory, which tells what it holds and fails at the calls
+//! that it is told, and a thin one over the runtime, which tells nothing. Stands on `mw_types`.
+//! Public contract: a fault or a lack is answered only where its count rose in that call; a read
+//! gives the file's bytes, and a write appends a beginning of the piece. Definitions:
+//! `specs/Causes.antt`, what a count says of an answer; `specs/Shelves.antt` and
+//! `specs/Sinks.antt`, what a shelf and a sink hold; `specs/Fakes.antt`, what those in memory are.
+#![tactic(auto)]
+
+mod file_shelf;
+mod mem_shelf;
+mod mem_sink;
+mod out_sink;
+mod shelf;
+mod sink;
+#[cfg(test)]
+mod tests;
+
+pub use file_shelf::FileShelf;
+pub use mem_shelf::{FileList, MemShelf, NamedFile};
+pub use mem_sink::MemSink;
+pub use out_sink::OutSink;
+pub use shelf::{Shelf, ShelfFault};
+pub use sink::{Sink, SinkFault, write_all};

@@ -1,0 +1,67 @@
+//! A keeper that tells nothing of its rows, and shows one row whatever was put.
+ghost use Rattle.std.specs.Prelude.{◌≡◌, ◌∷◌, [], if◌then◌else◌, Ok, None, IfErr, IfOk, IsOk};
+ghost use Rattle.key_intervals.specs.Intervals.{covers};
+
+use crate::keeper::{Keeper, KeeperFault, KeptRow, KeptRowList};
+use key_intervals::Bounds;
+use mw_types::{Duplicate, RowName};
+use std::alloc::Global;
+use std::marker::Model;
+
+/// A keeper that says that it is empty, and yet has a row in each interval that covers it.
+#[derive(Debug, Drop)]
+pub struct BlindKeeper {
+    row: KeptRow,
+}
+
+impl Model for BlindKeeper {
+    ghost use Rattle.row_keeper.specs.declared.keeper.KeptRow.{KeptRow};
+
+    ghost Value = { KeptRow };
+
+    ghost view = { λ k. k.row };
+}
+
+impl BlindKeeper {
+    /// A keeper that shows this row.
+    pub fn new(row: KeptRow) -> BlindKeeper
+        ensures { result ≡ row }
+    {
+        BlindKeeper { row }
+    }
+}
+
+impl Keeper for BlindKeeper {
+    ghost use Rattle.std.specs.Prelude.{None};
+
+    ghost rows = { λ _. None };
+
+    ghost faults = { λ _. 0 };
+
+    fn put(&mut self, _alloc: Global, _name: &RowName, _bytes: &[u8]) -> Result<(), KeeperFault>
+        ensures done { IsOk result }
+        ensures unchanged { self.new ≡ self.old }
+    {
+        Ok(())
+    }
+
+    fn scan(&mut self, alloc: Global, bounds: &Bounds) -> Result<KeptRowList, KeeperFault>
+        ensures shown { IfOk result (λ found.
+            found ≡ (if covers bounds.now self.old.name then self.old ∷ [] else [])) }
+        ensures no_memory { IfErr result (λ fault. fault ≡ KeeperFault.NoMemory) }
+        ensures unchanged { self.new ≡ self.old }
+    {
+        let mut found = KeptRowList::new(alloc);
+        if bounds.covers(&self.row.name) {
+            found.push(self.row.copy(alloc)?)?;
+        }
+        Ok(found)
+    }
+
+    fn first(&mut self, _alloc: Global) -> Result<Option<KeptRow>, KeeperFault>
+        ensures none { result ≡ Ok None }
+        ensures unchanged { self.new ≡ self.old }
+    {
+        Ok(None)
+    }
+}

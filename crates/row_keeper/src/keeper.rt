@@ -1,0 +1,82 @@
+//! What every keeper of rows does.
+ghost use Rattle.std.specs.Prelude.{◌≡◌, ℕ, Option, map, slice_get, option_map, IfOk, IfSome, OnErr, OnOk};
+ghost use Rattle.mw_types.specs.Causes.{HasCause};
+ghost use Rattle.row_keeper.specs.Rows.{Rows, AreInOrder, entry_of, rows_within, with_row};
+
+use key_intervals::Bounds;
+use mw_types::{Bytes, Duplicate, NoMemory, RowName, Seq};
+use std::alloc::Global;
+
+/// Why a keeper did not do a call.
+#[derive(Clone, Copy, Debug, PartialEq, Eq)]
+pub enum KeeperFault {
+    /// The keeper failed.
+    Failed,
+    /// Memory was wanted and not to be had.
+    NoMemory,
+}
+
+impl From<NoMemory> for KeeperFault {
+    ghost use Rattle.std.specs.Prelude.{◌≡◌};
+    ghost use Rattle.row_keeper.specs.declared.keeper.KeeperFault.TheVariants as faults;
+
+    ghost from_gives = { λ _ fault. fault ≡ faults.NoMemory };
+
+    fn from(_want: NoMemory) -> KeeperFault {
+        KeeperFault::NoMemory
+    }
+}
+
+/// A row that a keeper holds.
+#[derive(Debug, Drop, PartialEq, Eq)]
+pub struct KeptRow {
+    /// The row's name.
+    pub name: RowName,
+    /// The row's bytes.
+    pub bytes: Bytes,
+}
+
+impl Duplicate for KeptRow {
+    fn copy(&self, alloc: Global) -> Result<KeptRow, NoMemory> {
+        Ok(KeptRow {
+            name: self.name.copy(alloc)?,
+            bytes: self.bytes.copy(alloc)?,
+        })
+    }
+}
+
+/// A list of rows.
+pub type KeptRowList = Seq<KeptRow>;
+
+/// What holds rows by their names. After a refusal it holds what it held before.
+pub trait Keeper: Drop {
+    /// The rows that it holds, where it tells them.
+    ghost rows: { Self → Option Rows };
+
+    /// How often it failed.
+    ghost faults: { Self → ℕ };
+
+    /// Sets the bytes of one row, which may be new.
+    fn put(&mut self, alloc: Global, name: &RowName, bytes: &[u8]) -> Result<(), KeeperFault>
+        ensures held { OnOk result
+            (rows self.new ≡ option_map (with_row name.now bytes.now) (rows self.old)) }
+        ensures unchanged { OnErr result (rows self.new ≡ rows self.old) }
+        ensures ordered { IfSome (rows self.new) AreInOrder }
+        ensures failed { HasCause (faults self.old) (faults self.new) result KeeperFault.Failed };
+
+    /// The rows of an interval, ascending by name.
+    fn scan(&mut self, alloc: Global, bounds: &Bounds) -> Result<KeptRowList, KeeperFault>
+        ensures within { IfOk result (λ found. IfSome (rows self.old)
+            (λ held. map entry_of found ≡ rows_within bounds.now held)) }
+        ensures unchanged { rows self.new ≡ rows self.old }
+        ensures ordered { IfSome (rows self.new) AreInOrder }
+        ensures failed { HasCause (faults self.old) (faults self.new) result KeeperFault.Failed };
+
+    /// The row with the least name, or none where it holds no row.
+    fn first(&mut self, alloc: Global) -> Result<Option<KeptRow>, KeeperFault>
+        ensures least { IfOk result (λ found. IfSome (rows self.old)
+            (λ held. option_map entry_of found ≡ slice_get held 0)) }
+        ensures unchanged { rows self.new ≡ rows self.old }
+        ensures ordered { IfSome (rows self.new) AreInOrder }
+        ensures failed { HasCause (faults self.old) (faults self.new) result KeeperFault.Failed };
+}

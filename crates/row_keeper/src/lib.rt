@@ -1,0 +1,19 @@
+//! The keeper of rows: what stores a row's bytes under its name, and a keeper in memory.
+//!
+//! Stands on `key_intervals` and `mw_types`. Public contract: over a keeper that tells its rows, `put`
+//! sets one row, `scan` answers the rows of an interval and `first` the least row; it says that it
+//! failed only where a count rose, and a refusal changes no row. Definitions: `specs/Rows.antt`, what
+//! a keeper holds; `specs/Causes.antt`, when it may say that it failed; `specs/Memory.antt`, what the
+//! keeper in memory is.
+#![tactic(auto)]
+
+mod blind_keeper;
+mod calls;
+mod keeper;
+mod mem_keeper;
+#[cfg(test)]
+mod tests;
+
+pub use blind_keeper::BlindKeeper;
+pub use keeper::{Keeper, KeeperFault, KeptRow, KeptRowList};
+pub use mem_keeper::MemKeeper;

@@ -1,0 +1,168 @@
+//! A keeper in memory, which tells its rows and fails at named calls.
+ghost use Rattle.std.specs.Prelude.{◌≡◌, [], map, slice_get, option_map, IfOk, OnErr, OnOk};
+ghost use Rattle.mw_types.specs.Orders.{row_cmp};
+ghost use Rattle.row_keeper.specs.Rows.{AreInOrder, entry_of, rows_within, with_row};
+ghost use Rattle.row_keeper.specs.Memory.{CountsCall};
+
+use crate::calls::Calls;
+use crate::keeper::{Keeper, KeeperFault, KeptRow, KeptRowList};
+use key_intervals::Bounds;
+use mw_types::{Bytes, CallList, Duplicate, NoMemory, RowName};
+use std::alloc::Global;
+use std::collections::BTreeMap;
+use std::marker::Model;
+
+// Rows by their names, each with its bytes.
+type RowMap = BTreeMap<RowName, Bytes>;
+
+/// A keeper that holds its rows in memory.
+#[derive(Drop)]
+pub struct MemKeeper {
+    rows: RowMap,
+    calls: Calls,
+}
+
+impl Model for MemKeeper {
+    ghost use Rattle.row_keeper.specs.Rows.{AreInOrder};
+    ghost use Rattle.row_keeper.specs.Memory.{KeeperView};
+
+    ghost Value = { KeeperView };
+
+    ghost view = { λ k. record {
+      rows = k.rows.entries;
+      failing = k.calls.failing;
+      calls = k.calls.count;
+      faults = k.calls.faults;
+    } };
+
+    ghost invariant = { λ k. AreInOrder k.rows.entries };
+}
+
+impl MemKeeper {
+    /// A keeper without rows, whose calls of these numbers, from 0, fail.
+    pub fn new(alloc: Global, failing: CallList) -> MemKeeper
+        ensures { result ≡ record { rows = []; failing = failing; calls = 0; faults = 0 } }
+    {
+        MemKeeper {
+            rows: BTreeMap::new(alloc),
+            calls: Calls {
+                failing,
+                count: 0,
+                faults: 0,
+            },
+        }
+    }
+
+    /// The rows that it holds, ascending by name. This is no call that counts.
+    pub fn rows(&self, alloc: Global) -> Result<KeptRowList, NoMemory>
+        ensures all { IfOk result (λ found. map entry_of found ≡ self.now.rows) }
+    {
+        let mut found = KeptRowList::new(alloc);
+        for (name, bytes) in &self.rows {
+            found.push(copied(alloc, name, bytes)?)?;
+        }
+        Ok(found)
+    }
+}
+
+impl Keeper for MemKeeper {
+    ghost use Rattle.std.specs.Prelude.{Some};
+
+    ghost rows = { λ k. Some k.rows };
+
+    ghost faults = { λ k. k.faults };
+
+    fn put(&mut self, alloc: Global, name: &RowName, bytes: &[u8]) -> Result<(), KeeperFault>
+        ensures held { OnOk result (self.new.rows ≡ with_row name.now bytes.now self.old.rows) }
+        ensures unchanged { OnErr result (self.new.rows ≡ self.old.rows) }
+        ensures ordered { AreInOrder self.new.rows }
+        ensures counts { CountsCall self.old self.new result }
+    {
+        self.calls.begin()?;
+        hold(alloc, &mut self.rows, name, bytes)?;
+        Ok(())
+    }
+
+    fn scan(&mut self, alloc: Global, bounds: &Bounds) -> Result<KeptRowList, KeeperFault>
+        ensures within { IfOk result (λ found.
+            map entry_of found ≡ rows_within bounds.now self.old.rows) }
+        ensures unchanged { self.new.rows ≡ self.old.rows }
+        ensures ordered { AreInOrder self.new.rows }
+        ensures counts { CountsCall self.old self.new result }
+    {
+        self.calls.begin()?;
+        Ok(found_within(alloc, &self.rows, bounds)?)
+    }
+
+    fn first(&mut self, alloc: Global) -> Result<Option<KeptRow>, KeeperFault>
+        ensures least { IfOk result (λ found.
+            option_map entry_of found ≡ slice_get self.old.rows 0) }
+        ensures unchanged { self.new.rows ≡ self.old.rows }
+        ensures ordered { AreInOrder self.new.rows }
+        ensures counts { CountsCall self.old self.new result }
+    {
+        self.calls.begin()?;
+        Ok(found_first(alloc, &self.rows)?)
+    }
+}
+
+// A row that is held, again.
+fn copied(alloc: Global, name: &RowName, bytes: &Bytes) -> Result<KeptRow, NoMemory>
+    ensures { IfOk result (λ row. entry_of row ≡ (name.now, bytes.now)) }
+{
+    Ok(KeptRow {
+        name: name.copy(alloc)?,
+        bytes: bytes.copy(alloc)?,
+    })
+}
+
+// Holds these bytes under this name.
+fn hold(alloc: Global, rows: &mut RowMap, name: &RowName, bytes: &[u8]) -> Result<(), NoMemory>
+    ensures held { OnOk result (rows.new.entries ≡ with_row name.now bytes.now rows.old.entries) }
+    ensures unchanged { OnErr result (rows.new.entries ≡ rows.old.entries) }
+    ensures ordered { AreInOrder rows.old.entries → AreInOrder rows.new.entries }
+{
+    let own_name = name.copy(alloc)?;
+    let own_bytes = list_of(alloc, bytes)?;
+    rows.insert(own_name, own_bytes)?;
+    Ok(())
+}
+
+// These bytes as a list of their own.
+fn list_of(alloc: Global, bytes: &[u8]) -> Result<Bytes, NoMemory>
+    ensures { IfOk result (λ list. list ≡ bytes.now) }
+{
+    let mut list = Bytes::new(alloc);
+    for byte in bytes {
+        list.push(*byte)?;
+    }
+    Ok(list)
+}
+
+// The rows of the interval: those from where it begins, as long as it has them.
+fn found_within(alloc: Global, rows: &RowMap, bounds: &Bounds) -> Result<KeptRowList, NoMemory>
+    ensures { IfOk result (λ found. map entry_of found ≡ rows_within bounds.now rows.now.entries) }
+{
+    let start = RowName {
+        part: bounds.part,
+        key: bounds.from.copy(alloc)?,
+    };
+    let mut found = KeptRowList::new(alloc);
+    for (name, bytes) in rows.range(&start..) {
+        if !bounds.covers(name) {
+            return Ok(found);
+        }
+        found.push(copied(alloc, name, bytes)?)?;
+    }
+    Ok(found)
+}
+
+// The row with the least name.
+fn found_first(alloc: Global, rows: &RowMap) -> Result<Option<KeptRow>, NoMemory>
+    ensures { IfOk result (λ found. option_map entry_of found ≡ slice_get rows.now.entries 0) }
+{
+    match rows.first_key_value() {
+        Some((name, bytes)) => Ok(Some(copied(alloc, name, bytes)?)),
+        None => Ok(None),
+    }
+}

@@ -1,0 +1,42 @@
+//! The ids that a row handled: looking one up, adding one and forgetting the finished ones.
+ghost use Rattle.std.specs.Prelude.{◌≡◌, ◌≤◌, OnOk, OnErr};
+ghost use Rattle.std.specs.List.{list_any};
+ghost use Rattle.std.specs.List.Sorted.{IsStrictlySortedBy};
+ghost use Rattle.mw_types.specs.Orders.{id_cmp};
+ghost use Rattle.row_parts.specs.Contents.{AreSeen, IsId, same_id, with_id, ids_from};
+
+use crate::places::{id_place, room};
+use mw_types::{IdList, NoMemory, RecordId};
+
+// Whether an id is among these.
+pub fn has_id(ids: &[RecordId], id: RecordId) -> bool
+    requires { IsStrictlySortedBy id_cmp ids.now }
+    ensures { result ≡ list_any (same_id id) ids.now }
+{
+    id_place(ids, id).is_ok()
+}
+
+// Adds an id to these, in order.
+pub fn add_id(ids: &mut IdList, floor: u64, id: RecordId) -> Result<(), NoMemory>
+    requires ids { AreSeen floor ids.old }
+    requires id { IsId id }
+    requires kept { floor ≤ id.commit }
+    ensures ok { OnOk result (ids.new ≡ with_id id ids.old) }
+    ensures err { OnErr result (ids.new ≡ ids.old) }
+    ensures ids { AreSeen floor ids.new }
+{
+    if let Err(at) = id_place(ids.as_slice(), id) {
+        room(ids.len())?;
+        ids.insert(at, id)?;
+    }
+    Ok(())
+}
+
+// Forgets the ids below a floor.
+pub fn forget_below(ids: &mut IdList, old: u64, floor: u64)
+    requires ids { AreSeen old ids.old }
+    ensures rest { ids.new ≡ ids_from floor ids.old }
+    ensures ids { AreSeen floor ids.new }
+{
+    ids.retain(|id| id.commit >= floor);
+}

@@ -1,0 +1,81 @@
+//! Lists that are written to bytes and read from them.
+ghost use Rattle.std.specs.Prelude.{◌≡◌, ◌++◌, ◌<◌, ◌^◌, length, All, OnOk};
+ghost use Rattle.std.specs.Ordering.{is_lt};
+ghost use Rattle.row_parts.specs.Spelling.{list_spelling};
+ghost use Rattle.row_parts.specs.Reading.{Gives, times_at, list_at, ascends, ascending_at};
+
+use crate::refusal::StateRefusal;
+use crate::spelled::Spelled;
+use mw_types::{NoMemory, Seq};
+use std::alloc::Global;
+
+/// A value that stands in order in its lists.
+pub trait Ranked: Spelled {
+    ghost use Rattle.std.specs.declared.cmp.Ordering.{Ordering};
+    ghost use Rattle.std.specs.Cmp.{IsTotalOrder};
+
+    /// The order.
+    ghost rank: { Self → Self → Ordering };
+
+    /// Whether it stands before another.
+    fn is_below(&self, other: &Self) -> bool
+        ensures { result ≡ is_lt (rank self.now other.now) };
+
+    /// Each two values have one order.
+    ghost total: { IsTotalOrder rank };
+}
+
+/// Appends the bytes of a list.
+pub fn put_list<X: Spelled>(out: &mut Vec<u8>, xs: &[X]) -> Result<(), NoMemory>
+    requires { length xs.now < 2 ^ 32 }
+    ensures written { OnOk result (out.new.items ≡ out.old.items ++ list_spelling X.spelling xs.now) }
+    ensures typed { OnOk result (All X.typed xs.now) }
+{
+    (xs.len() as u32).put(out)?;
+    for x in xs {
+        x.put(out)?;
+    }
+    Ok(())
+}
+
+// Reads as many elements as were counted; each is read before room is made for it.
+fn take_times<X: Spelled>(alloc: Global, count: u32, bytes: &[u8]) -> Result<(Seq<X>, &[u8]), StateRefusal>
+    ensures { Gives (λ x. (x.0, x.1.now)) result (times_at X.reading count bytes.now) }
+{
+    let mut xs = Seq::new(alloc);
+    let mut rest = bytes;
+    for _ in 0..count {
+        let (x, after) = X::take(alloc, rest)?;
+        xs.push(x)?;
+        rest = after;
+    }
+    Ok((xs, rest))
+}
+
+/// Reads a list from the front, and answers the bytes after it too.
+#[tactic(auto, unfolding(crate::specs::Reading::list_at))]
+pub fn take_list<X: Spelled>(alloc: Global, bytes: &[u8]) -> Result<(Seq<X>, &[u8]), StateRefusal>
+    ensures { Gives (λ x. (x.0, x.1.now)) result (list_at X.reading bytes.now) }
+{
+    let (count, rest) = u32::take(alloc, bytes)?;
+    take_times(alloc, count, rest)
+}
+
+// Whether each element is below the next.
+fn ascend<X: Ranked>(xs: &[X]) -> bool
+    ensures { result ≡ ascends X.rank xs.now }
+{
+    xs.is_sorted_by(|a, b| a.is_below(b))
+}
+
+/// Reads a list that stands in order from the front, and answers the bytes after it too.
+#[tactic(auto, unfolding(crate::specs::Reading::ascending_at))]
+pub fn take_ascending<X: Ranked>(alloc: Global, bytes: &[u8]) -> Result<(Seq<X>, &[u8]), StateRefusal>
+    ensures { Gives (λ x. (x.0, x.1.now)) result (ascending_at X.rank X.reading bytes.now) }
+{
+    let (xs, rest) = take_list::<X>(alloc, bytes)?;
+    if !ascend(xs.as_slice()) {
+        return Err(StateRefusal::Damaged);
+    }
+    Ok((xs, rest))
+}

@@ -1,0 +1,45 @@
+//! Where a timer, an id or a delivery stands in its list, or where it would stand.
+ghost use Rattle.std.specs.Prelude.{◌+◌, ◌<◌, ◌^◌, OnOk};
+ghost use Rattle.std.specs.List.Sorted.{IsStrictlySortedBy};
+ghost use Rattle.mw_types.specs.Orders.{id_cmp, timer_cmp};
+ghost use Rattle.row_parts.specs.Contents.{delivery_cmp};
+ghost use Rattle.row_parts.specs.Places.{IsPlace, timer_rank, id_rank, delivery_rank};
+
+use mw_types::{Delivery, NoMemory, RecordId, Timer};
+
+// A list is shorter than 2^32, which is as far as its length is written.
+const LIST_MAX: usize = u32::MAX as usize;
+
+// Whether a list of this length may have one more element.
+pub fn room(len: usize) -> Result<(), NoMemory>
+    ensures { OnOk result (len + 1 < 2 ^ 32) }
+{
+    if len < LIST_MAX { Ok(()) } else { Err(NoMemory) }
+}
+
+// The place of the timer with this tag and time.
+pub fn timer_place(timers: &[Timer], tag: u64, time: u64) -> Result<usize, usize>
+    requires { IsStrictlySortedBy timer_cmp timers.now }
+    ensures { IsPlace (timer_rank tag time) timers.now result }
+{
+    timers.binary_search_by(|timer| timer.time.cmp(&time).then(timer.tag.cmp(&tag)))
+}
+
+// The place of an id, which is mostly at the end.
+pub fn id_place(ids: &[RecordId], id: RecordId) -> Result<usize, usize>
+    requires { IsStrictlySortedBy id_cmp ids.now }
+    ensures { IsPlace (id_rank id) ids.now result }
+{
+    match ids.last() {
+        Some(last) if *last < id => Err(ids.len()),
+        _ => ids.binary_search(&id),
+    }
+}
+
+// The place of the delivery with this id.
+pub fn delivery_place(deliveries: &[Delivery], id: RecordId) -> Result<usize, usize>
+    requires { IsStrictlySortedBy delivery_cmp deliveries.now }
+    ensures { IsPlace (delivery_rank id) deliveries.now result }
+{
+    deliveries.binary_search_by(|delivery| delivery.id.cmp(&id))
+}

@@ -1,0 +1,54 @@
+//! The timers of a row: setting one and taking one away.
+ghost use Rattle.std.specs.Prelude.{◌≡◌, ◌≤◌, OnOk, OnErr};
+ghost use Rattle.std.specs.List.{list_any};
+ghost use Rattle.row_parts.specs.Contents.{AreTimers, is_timer, set_again, with_timer, without_timer};
+
+use crate::places::{room, timer_place};
+use mw_types::{NoMemory, Timer, TimerList, MAX_STAMP};
+
+// What is left of a timer that is set again.
+fn again(new: Timer, old: Timer) -> Timer
+    ensures { result ≡ set_again new old }
+{
+    Timer {
+        late: new.late && old.late,
+        ..old
+    }
+}
+
+// Sets a timer among these, in order.
+pub fn set_timer(timers: &mut TimerList, timer: Timer) -> Result<(), NoMemory>
+    requires timers { AreTimers timers.old }
+    requires time { timer.time ≤ MAX_STAMP }
+    ensures ok { OnOk result (timers.new ≡ with_timer timer timers.old) }
+    ensures err { OnErr result (timers.new ≡ timers.old) }
+    ensures timers { AreTimers timers.new }
+{
+    match timer_place(timers.as_slice(), timer.tag, timer.time) {
+        Ok(at) => {
+            let old = timers.as_slice()[at];
+            timers.set(at, again(timer, old));
+        }
+        Err(at) => {
+            room(timers.len())?;
+            timers.insert(at, timer)?;
+        }
+    }
+    Ok(())
+}
+
+// Takes the timer with this tag and time away, and tells whether it was there.
+pub fn take_timer(timers: &mut TimerList, tag: u64, time: u64) -> bool
+    requires { AreTimers timers.old }
+    ensures found { result ≡ list_any (is_timer tag time) timers.old }
+    ensures rest { timers.new ≡ without_timer tag time timers.old }
+    ensures timers { AreTimers timers.new }
+{
+    match timer_place(timers.as_slice(), tag, time) {
+        Ok(at) => {
+            timers.remove(at);
+            true
+        }
+        Err(_) => false,
+    }
+}
