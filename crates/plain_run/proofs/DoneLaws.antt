@@ -55,7 +55,7 @@ record_done case parts counted run states timers row item effects work mirrors p
     ap (option_map (λ kind. effects_of_record kind row.key (row_of case.topology run row).state item)) (kind-here case.topology counted row part)
     ∙ ap (λ s. Some (effects_of_record (Count counted.size) row.key s item)) (sym (state-here case.topology counted run states timers row mirrors part))
     ∙ sym (ap Some (done ∙ ap (λ k. option_map_or (λ kind. effects_of_record kind row.key (counted_state (states row)) item) k (unchanged (counted_state (states row))))
-        (work ∙ counted.counts)))
+    (work ∙ counted.counts)))
 
 -- what the computations give of a timer is what the definition says
 pub timer_done : (case : CaseShape) (parts : Parts) (counted : IsCounted case.topology) (run : Run) (states : RowName → Option State) (timers : Slot → Option Bool)
@@ -65,13 +65,14 @@ timer_done case parts counted run states timers row timer effects work mirrors p
     ap (option_map (λ kind. effects_of_timer kind row.key (row_of case.topology run row).state timer)) (kind-here case.topology counted row part)
     ∙ ap (λ s. Some (effects_of_timer (Count counted.size) row.key s timer)) (sym (state-here case.topology counted run states timers row mirrors part))
     ∙ sym (ap Some (done ∙ ap (λ k. option_map_or (λ kind. effects_of_timer kind row.key (counted_state (states row)) timer) k (unchanged (counted_state (states row))))
-        (work ∙ counted.counts)))
+    (work ∙ counted.counts)))
 
 -- a fresh state of the count can be kept
 fresh_kept : (parts : Parts) (size : ℕ) → kind_at parts 1 ≡ Some (Count size) → IsKind (Count size) → CanKeep parts (states.Count 0 [])
 fresh_kept parts size kind within = record {
-    within = (omega arith, record { ascending = ?; ends = All-nil _; counts = All-nil _; few = omega arith });
-    has = (Count size, kind, within, tt) }
+  within = (omega arith, record { ascending = ?; ends = All-nil _; counts = All-nil _; few = omega arith });
+  has = (Count size, kind, within, tt);
+}
 
 -- the state of a row of the count can be kept, there or fresh
 pub can_keep : (shape : Shape) (parts : Parts) (counted : IsCounted shape) (states : RowName → Option State) (timers : Slot → Option Bool) (row : RowName)
@@ -80,6 +81,7 @@ can_keep shape parts counted states timers row job are part = by_case (states ro
   where
     kind : kind_at parts 1 ≡ Some (Count counted.size)
     kind = job.work ∙ counted.counts
+
     by_case : (o : Option State) → IfSome o (λ s. IsWithin s × HasState parts 1 s) → CanKeep parts (counted_state o)
     by_case (Some s) each = record { within = each.0; has = each.1 }
     by_case None each = fresh_kept parts counted.size kind (subst (λ o. IfSome o IsKind) kind job.within)
@@ -101,14 +103,16 @@ pub may_fire : (case : CaseShape) (parts : Parts) (history : List Entry) (states
     → timer_outcome case (run_of case.topology history) row (record { tag = tag; time = time; late = late }) ≡ Some effects
     → MayFire case (run_of case.topology history) row (record { tag = tag; time = time; late = late }) time effects
 may_fire case parts history states timers row tag time late effects one ready here first in_time does = record {
-    least_timer = least_of_first timers row (row_of case.topology run row).timers tag time late (sorted-row_of case.topology run row ready.at.sound)
+  least_timer = least_of_first timers row (row_of case.topology run row).timers tag time late (sorted-row_of case.topology run row ready.at.sound)
       (HasTimers-mirrored case.topology run states timers row ready.at.mirrors) here first;
-    due = omega arith;
-    under_watermark = low_from case run time (omega (arith, in_time)) ready.at.waits
+  due = omega arith;
+  under_watermark = low_from case run time (omega (arith, in_time)) ready.at.waits
       (all_due_from_first run states timers (slot_at row tag time) ready.at.sound ready.at.mirrors first) ended _ row.part;
-    does = does }
+  does = does;
+}
   where
     run : Run
     run = run_of case.topology history
+
     ended : (feeding : ℕ) → is_injector case.topology feeding ≡ true → time ≤ source_mark case run feeding
     ended feeding e = ?

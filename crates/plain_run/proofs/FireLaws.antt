@@ -47,10 +47,10 @@ found_above : (h : Timer) (tag time : ℕ) (late : Bool) (ts : List Timer) → A
     → late_at tag time ts ≡ Some late → ordering_then (nat_cmp h.time time) (nat_cmp h.tag tag) ≡ Less
 found_above h tag time late [] above found = absurd (cc)
 found_above h tag time late (u ∷ us) above found = elim (is_timer tag time u) as (λ b. is_timer tag time u ≡ b → ordering_then (nat_cmp h.time time) (nat_cmp h.tag tag) ≡ Less) [
-    | true ↦ λ e. let p = tag_and_time tag time u e in
-        subst (λ n. ordering_then (nat_cmp h.time time) (nat_cmp h.tag n) ≡ Less) p.0 (subst (λ n. ordering_then (nat_cmp h.time n) (nat_cmp h.tag u.tag) ≡ Less) p.1 above.0)
-    | false ↦ λ e. found_above h tag time late us above.1 (sym (late_at-cons tag time u us false e) ∙ found)
-  ] refl
+  | true ↦ λ e. let p = tag_and_time tag time u e in
+      subst (λ n. ordering_then (nat_cmp h.time time) (nat_cmp h.tag n) ≡ Less) p.0 (subst (λ n. ordering_then (nat_cmp h.time n) (nat_cmp h.tag u.tag) ≡ Less) p.1 above.0)
+  | false ↦ λ e. found_above h tag time late us above.1 (sym (late_at-cons tag time u us false e) ∙ found)
+] refl
 
 -- what a choice holds is there
 some_there : {A : Type 0} (o : Option A) (x : A) → o ≡ Some x → IsSome o
@@ -78,8 +78,8 @@ least_of_first map row (h ∷ ts) tag time late sorted has here first =
     later less =
         let there : IsSome (map (slot_of row h)) = some_there _ h.late (has h.tag h.time ∙ late_at-cons h.tag h.time h ts true (is_timer-itself h)) in
         let greater : slot_cmp (slot_at row tag time) (slot_of row h) ≡ Greater =
-          slot_cmp-total.antisymm (slot_at row tag time) (slot_of row h)
-          ∙ ap ordering_reverse (less_by_two (nat_cmp h.time time) (nat_cmp h.tag tag) (row_cmp row row) less) in
+        slot_cmp-total.antisymm (slot_at row tag time) (slot_of row h)
+        ∙ ap ordering_reverse (less_by_two (nat_cmp h.time time) (nat_cmp h.tag tag) (row_cmp row row) less) in
         both_ways (is_gt (slot_cmp (slot_at row tag time) (slot_of row h))) (first (slot_of row h) there) (ap is_gt greater)
 
 -- each timer of a list is found in it
@@ -89,18 +89,21 @@ each_found_timer (u ∷ us) = (some_there _ u.late (late_at-cons u.tag u.time u 
   where
     later : (ws : List Timer) → AllByRecursion (λ (t : Timer). IsSome (late_at t.tag t.time us)) ws → AllByRecursion (λ (t : Timer). IsSome (late_at t.tag t.time (u ∷ us))) ws
     later [] each = tt
-    later (w ∷ ws) each = (elim (is_timer w.tag w.time u) as (λ b. is_timer w.tag w.time u ≡ b → IsSome (late_at w.tag w.time (u ∷ us))) [
+    later (w ∷ ws) each = (
+      elim (is_timer w.tag w.time u) as (λ b. is_timer w.tag w.time u ≡ b → IsSome (late_at w.tag w.time (u ∷ us))) [
         | true ↦ λ e. some_there _ u.late (late_at-cons w.tag w.time u us true e)
         | false ↦ λ e. subst IsSome (sym (late_at-cons w.tag w.time u us false e)) each.0
-      ] refl, later ws each.1)
+      ] refl,
+      later ws each.1,
+    )
 
 -- a slot that is not after another is due no later
 not_later : (a b : Slot) → is_gt (slot_cmp a b) ≡ false → a.time ≤ b.time
 not_later a b e = elim (nat_lt b.time a.time) as (λ t. nat_lt b.time a.time ≡ t → a.time ≤ b.time) [
-    | true ↦ λ less. absurd (both_ways (is_gt (slot_cmp a b)) e
-        (ap (λ o. is_gt (ordering_then o (ordering_then (nat_cmp a.tag b.tag) (row_cmp a.row b.row)))) (sym (nat_cmp_is a.time b.time Greater (ltb-true b.time a.time less)))))
-    | false ↦ λ less. ltb-false b.time a.time less
-  ] refl
+  | true ↦ λ less. absurd (both_ways (is_gt (slot_cmp a b)) e
+      (ap (λ o. is_gt (ordering_then o (ordering_then (nat_cmp a.tag b.tag) (row_cmp a.row b.row)))) (sym (nat_cmp_is a.time b.time Greater (ltb-true b.time a.time less)))))
+  | false ↦ λ less. ltb-false b.time a.time less
+] refl
 
 -- each timer is due at this time or later
 abbrev pub DueFrom : ℕ → List Timer → Type 0
@@ -111,8 +114,9 @@ due_from_first : (map : Slot → Option Bool) (row : RowName) (all ts : List Tim
     → AllByRecursion (λ (t : Timer). IsSome (late_at t.tag t.time all)) ts → DueFrom slot.time ts
 due_from_first map row all [] slot has first found = tt
 due_from_first map row all (t ∷ ts) slot has first found = (
-    not_later slot (slot_of row t) (first (slot_of row t) (subst IsSome (sym (has t.tag t.time)) found.0)),
-    due_from_first map row all ts slot has first found.1 )
+  not_later slot (slot_of row t) (first (slot_of row t) (subst IsSome (sym (has t.tag t.time)) found.0)),
+  due_from_first map row all ts slot has first found.1,
+)
 
 -- a map that mirrors a run has the timers of each row that is found
 HasTimers-found : (run : Run) (states : RowName → Option State) (map : Slot → Option Bool) (row : RowName) (r : Contents)
@@ -130,8 +134,9 @@ all_due_from_first run states map slot sound mirrors first = each run.rows (each
         → AllByRecursion (λ (r : RowName × Contents). DueFrom slot.time r.1.timers) rows
     each [] found = tt
     each (e ∷ es) found = (
-        due_from_first map e.0 e.1.timers e.1.timers slot (HasTimers-found run states map e.0 e.1 mirrors found.0) first (each_found_timer e.1.timers),
-        each es found.1 )
+      due_from_first map e.0 e.1.timers e.1.timers slot (HasTimers-found run states map e.0 e.1 mirrors found.0) first (each_found_timer e.1.timers),
+      each es found.1,
+    )
 
 -- the least of marks that are all at least a time is at least it, where the end is
 pub least-above : (time : ℕ) (marks : List ℕ) → time ≤ END → AllByRecursion (λ m. time ≤ m) marks → time ≤ least marks
@@ -147,9 +152,9 @@ each-append P (x ∷ xs) ys each other = (each.0, each-append P xs ys each.1 oth
 times_from : (time : ℕ) (ts : List Timer) → DueFrom time ts → AllByRecursion (λ m. time ≤ m) (map (λ (t : Timer). t.time) (filter (λ (t : Timer). not t.late) ts))
 times_from time [] due = tt
 times_from time (t ∷ ts) due = elim (not t.late) as (λ b. AllByRecursion (λ m. time ≤ m) (map (λ (u : Timer). u.time) (cond b (t ∷ filter (λ (u : Timer). not u.late) ts) (filter (λ (u : Timer). not u.late) ts)))) [
-    | true ↦ (due.0, times_from time ts due.1)
-    | false ↦ times_from time ts due.1
-  ]
+  | true ↦ (due.0, times_from time ts due.1)
+  | false ↦ times_from time ts due.1
+]
 
 -- the timer times of a part are from a time on where all timers are
 part_times_from : (time part : ℕ) (rows : List (RowName × Contents)) → AllByRecursion (λ (r : RowName × Contents). DueFrom time r.1.timers) rows
@@ -180,10 +185,13 @@ low_from case run time end idle due stated (suc depth) part =
     each : ((f : ℕ) → time ≤ low_under case run depth f) → (feeds : List ℕ)
         → AllByRecursion (λ m. time ≤ m) (map (λ feeding. cond (is_injector case.topology feeding) (source_mark case run feeding) (low_under case run depth feeding)) feeds)
     each deeper [] = tt
-    each deeper (f ∷ fs) = (elim (is_injector case.topology f) as (λ b. is_injector case.topology f ≡ b → time ≤ cond b (source_mark case run f) (low_under case run depth f)) [
+    each deeper (f ∷ fs) = (
+      elim (is_injector case.topology f) as (λ b. is_injector case.topology f ≡ b → time ≤ cond b (source_mark case run f) (low_under case run depth f)) [
         | true ↦ λ e. stated f e
         | false ↦ λ e. deeper f
-      ] refl, each deeper fs)
+      ] refl,
+      each deeper fs,
+    )
 
 -- where the map is empty no timer is pending
 pub none_pending : (run : Run) (states : RowName → Option State) (map : Slot → Option Bool) → IsSound run → Mirrors run states map
@@ -196,6 +204,7 @@ none_pending run states map sound mirrors empty = each run.rows (each_found row_
       where
         unlike : None ≡ Some t.late → ⊥
         unlike e = cc
+
     each : (rows : List (RowName × Contents)) → AllByRecursion (λ (e : RowName × Contents). row_in run e.0 ≡ Some e.1) rows
         → AllByRecursion (λ (r : RowName × Contents). r.1.timers ≡ []) rows
     each [] found = tt

@@ -32,4 +32,4 @@ pub slot_put : (old new : Slot → Option Bool) (row : RowName) (timer : Timer) 
 slot_put old new row timer name {late} same once q put =
     let slot : RowName → Slot = λ n. record { time = timer.time; tag = timer.tag; row = n } in
     put_there slot_cmp-total q (slot name) (slot row) late (timer.late && unwrap_or (old (slot row)) true) (old q) (new q)
-      (ap slot same) (once ∙ ap (λ n. timer.late && unwrap_or (old (slot n)) true) same) put
+    (ap slot same) (once ∙ ap (λ n. timer.late && unwrap_or (old (slot n)) true) same) put

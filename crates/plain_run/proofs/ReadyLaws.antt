@@ -61,16 +61,16 @@ row_of-other : (shape : Shape) (run : Run) (entry : Entry) (name row : RowName) 
     → row_of shape (followed shape run entry) row ≡ row_of shape run row
 row_of-other shape run entry name row written apart =
     ap (λ o. unwrap_or o (fresh (fresh_of shape row.part)))
-      (row_in-followed shape run entry name row written
-        ∙ ap (λ b. cond b (Some (row_after shape run entry (deliveries_of shape run.made run.next entry) name)) (row_in run row)) apart)
+    (row_in-followed shape run entry name row written
+    ∙ ap (λ b. cond b (Some (row_after shape run entry (deliveries_of shape run.made run.next entry) name)) (row_in run row)) apart)
 
 -- the row that an entry is on is as the entry left it
 row_of-here : (shape : Shape) (run : Run) (entry : Entry) (name : RowName) → row_written entry ≡ Some name
     → row_of shape (followed shape run entry) name ≡ row_after shape run entry (deliveries_of shape run.made run.next entry) name
 row_of-here shape run entry name written =
     ap (λ o. unwrap_or o (fresh (fresh_of shape name.part)))
-      (row_in-followed shape run entry name name written
-        ∙ ap (λ r. cond (is_eq r) (Some (row_after shape run entry (deliveries_of shape run.made run.next entry) name)) (row_in run name)) (tied_itself row_cmp-total name))
+    (row_in-followed shape run entry name name written
+    ∙ ap (λ r. cond (is_eq r) (Some (row_after shape run entry (deliveries_of shape run.made run.next entry) name)) (row_in run name)) (tied_itself row_cmp-total name))
 
 -- a row of another part is another row
 other_part : (a b : RowName) → is_eq (nat_cmp a.part b.part) ≡ false → is_at (row_cmp a) b ≡ false
@@ -115,17 +115,18 @@ module _ (shape : Shape) (parts : Parts) (line : ℕ) (run : Run) (states states
       → ((row : RowName) → states' row ≡ cond (is_at (row_cmp row) injector_row) (Some (Injector (line + 1))) (states row))
       → IsAt shape parts (line + 1) (deliveries_to (consumers_of shape 0) run.next (item ∷ [])) (followed shape run (Inject 0 0 line item)) states' timers
   at-inject item at new_states = record {
-      injected = ap (λ (r : Contents). r.state) (row_of-here shape run (Inject 0 0 line item) injector_row refl) ∙ ap advanced at.injected;
-      waits = ap (λ w. w ++ deliveries_of shape run.made run.next (Inject 0 0 line item)) at.waits;
-      mirrors = Mirrors-inject shape run 0 0 line item states states' timers at.mirrors
+    injected = ap (λ (r : Contents). r.state) (row_of-here shape run (Inject 0 0 line item) injector_row refl) ∙ ap advanced at.injected;
+    waits = ap (λ w. w ++ deliveries_of shape run.made run.next (Inject 0 0 line item)) at.waits;
+    mirrors = Mirrors-inject shape run 0 0 line item states states' timers at.mirrors
         (λ row. new_states row ∙ ap (λ s. cond (is_at (row_cmp row) injector_row) (Some (advanced s)) (states row)) (sym at.injected));
-      sound = IsSound-followed shape run (Inject 0 0 line item) injector_row refl at.sound (sorted-row_of shape run injector_row at.sound);
-      counted = record {
-        each_state = λ row part. subst (λ o. IfSome o (λ s. IsWithin s × HasState parts 1 s))
+    sound = IsSound-followed shape run (Inject 0 0 line item) injector_row refl at.sound (sorted-row_of shape run injector_row at.sound);
+    counted = record {
+      each_state = λ row part. subst (λ o. IfSome o (λ s. IsWithin s × HasState parts 1 s))
           (sym (new_states row ∙ ap (λ b. cond b (Some (Injector (line + 1))) (states row)) (other_part row injector_row (ap (λ n. is_eq (nat_cmp n 0)) part))))
           (at.counted.each_state row part);
-        each_timer = at.counted.each_timer };
-    }
+      each_timer = at.counted.each_timer;
+    };
+  }
 
   -- states of part 1 stay such where a row of part 1 gets one
   counted-states : (name : RowName) (state : State) → ((row : RowName) → row.part ≡ 1 → IfSome (states row) (λ s. IsWithin s × HasState parts 1 s))
@@ -134,10 +135,10 @@ module _ (shape : Shape) (parts : Parts) (line : ℕ) (run : Run) (states states
       → (row : RowName) → row.part ≡ 1 → IfSome (states' row) (λ s. IsWithin s × HasState parts 1 s)
   counted-states name state each within has new_states row part =
       subst (λ o. IfSome o (λ s. IsWithin s × HasState parts 1 s)) (sym (new_states row))
-        (elim (is_at (row_cmp row) name) as (λ b. IfSome (cond b (Some state) (states row)) (λ s. IsWithin s × HasState parts 1 s)) [
-          | true ↦ (within, has)
-          | false ↦ each row part
-        ])
+      (elim (is_at (row_cmp row) name) as (λ b. IfSome (cond b (Some state) (states row)) (λ s. IsWithin s × HasState parts 1 s)) [
+        | true ↦ (within, has)
+        | false ↦ each row part
+      ])
 
   -- what an entry on a row of part 1 makes is no delivery
   unread : (counted : IsCounted shape) (entry : Entry) (name : RowName) → row_written entry ≡ Some name → name.part ≡ 1
@@ -164,13 +165,14 @@ module _ (shape : Shape) (parts : Parts) (line : ℕ) (run : Run) (states states
       record {
         injected = ap (λ (r : Contents). r.state) (row_of-other shape run entry delivery.to injector_row refl (injector_apart delivery.to part)) ∙ at.injected;
         waits = ap (λ w. without_delivery delivery.id w ++ deliveries_of shape run.made run.next entry) at.waits
-          ∙ ap (λ b. cond (not b) (delivery ∷ []) [] ++ deliveries_of shape run.made run.next entry) (same_id-itself delivery.id)
-          ∙ unread counted entry delivery.to refl part;
+            ∙ ap (λ b. cond (not b) (delivery ∷ []) [] ++ deliveries_of shape run.made run.next entry) (same_id-itself delivery.id)
+            ∙ unread counted entry delivery.to refl part;
         mirrors = Mirrors-handle shape run 0 delivery.to delivery.id effects states states' timers timers' at.mirrors (sorted-row_of shape run delivery.to at.sound) new_states new_timers;
         sound = IsSound-followed shape run entry delivery.to refl at.sound (sorted-with_timers effects.timers (row_of shape run delivery.to).timers (sorted-row_of shape run delivery.to at.sound));
         counted = record {
           each_state = counted-states delivery.to effects.state at.counted.each_state within has new_states;
-          each_timer = λ slot. subst (IsCountedSlot shape slot) (sym (new_timers slot)) (counted-sets shape counted effects.timers timers delivery.to part times at.counted.each_timer slot) };
+          each_timer = λ slot. subst (IsCountedSlot shape slot) (sym (new_timers slot)) (counted-sets shape counted effects.timers timers delivery.to part times at.counted.each_timer slot);
+        };
       }
 
   -- a timer that is fired is pending no longer
@@ -186,14 +188,15 @@ module _ (shape : Shape) (parts : Parts) (line : ℕ) (run : Run) (states states
         waits = ap (λ w. w ++ deliveries_of shape run.made run.next entry) at.waits ∙ unread counted entry row refl part;
         mirrors = Mirrors-fire shape run 0 row timer timer.time effects states states' timers timers' at.mirrors new_states new_timers;
         sound = IsSound-followed shape run entry row refl at.sound
-          (IsStrictlySortedBy-filter timer_cmp (λ t. not (is_timer timer.tag timer.time t)) (row_of shape run row).timers (sorted-row_of shape run row at.sound));
+            (IsStrictlySortedBy-filter timer_cmp (λ t. not (is_timer timer.tag timer.time t)) (row_of shape run row).timers (sorted-row_of shape run row at.sound));
         counted = record {
           each_state = counted-states row effects.state at.counted.each_state within has new_states;
           each_timer = λ slot. subst (IsCountedSlot shape slot) (sym (new_timers slot))
-            (elim (is_at (slot_cmp (slot_of row timer)) slot) as (λ b. IsCountedSlot shape slot (cond b None (timers slot))) [
-              | true ↦ tt
-              | false ↦ at.counted.each_timer slot
-            ]) };
+              (elim (is_at (slot_cmp (slot_of row timer)) slot) as (λ b. IsCountedSlot shape slot (cond b None (timers slot))) [
+                | true ↦ tt
+                | false ↦ at.counted.each_timer slot
+              ]);
+        };
       }
 
 -- a step by an entry that may follow, is plain, and leaves the maps at the run that follows
@@ -204,9 +207,10 @@ pub ready-step : (case : CaseShape) (parts : Parts) (line line' : ℕ) (waiting 
     → IsAt case.topology parts line' waiting' (followed case.topology (run_of case.topology history) entry) states' timers'
     → IsReady case parts line' waiting' (history ++ entry ∷ []) states' timers'
 ready-step case parts line line' waiting waiting' history entry states states' timers timers' ready may plain at = record {
-    legal = IsLegal-push case history entry ready.legal may;
-    plain = All-push IsPlainEntry history entry ready.plain plain;
-    at = subst (λ (r : Run). IsAt case.topology parts line' waiting' r states' timers') (sym (run_of-push case.topology history entry)) at }
+  legal = IsLegal-push case history entry ready.legal may;
+  plain = All-push IsPlainEntry history entry ready.plain plain;
+  at = subst (λ (r : Run). IsAt case.topology parts line' waiting' r states' timers') (sym (run_of-push case.topology history entry)) at;
+}
 
 -- a line that is injected leaves what it made to wait
 pub ready-inject : (case : CaseShape) (parts : Parts) (line : ℕ) (history : List Entry) (item : Record)
@@ -216,14 +220,14 @@ pub ready-inject : (case : CaseShape) (parts : Parts) (line : ℕ) (history : Li
     → option_map record_of (item_at (source_of case 0) line) ≡ Some item
     → ((row : RowName) → states' row ≡ cond (is_at (row_cmp row) injector_row) (Some (Injector (line + 1))) (states row))
     → IsReady case parts (line + 1) (deliveries_to (consumers_of case.topology 0) (length history) (item ∷ []))
-        (history ++ Inject 0 0 line item ∷ []) states' timers
+    (history ++ Inject 0 0 line item ∷ []) states' timers
 ready-inject case parts line history item states states' timers ready there of_line new_states =
     ready-step case parts line (line + 1) [] _ history (Inject 0 0 line item) states states' timers timers ready
-      (record { injector = there; next_line = sym (ap cursor_in ready.at.injected); of_line = of_line }) refl
-      (subst (λ n. IsAt case.topology parts (line + 1) (deliveries_to (consumers_of case.topology 0) n (item ∷ []))
-          (followed case.topology (run_of case.topology history) (Inject 0 0 line item)) states' timers)
-        (run_of-next case.topology history)
-        (at-inject case.topology parts line (run_of case.topology history) states states' timers timers item ready.at new_states))
+    (record { injector = there; next_line = sym (ap cursor_in ready.at.injected); of_line = of_line }) refl
+    (subst (λ n. IsAt case.topology parts (line + 1) (deliveries_to (consumers_of case.topology 0) n (item ∷ []))
+    (followed case.topology (run_of case.topology history) (Inject 0 0 line item)) states' timers)
+    (run_of-next case.topology history)
+    (at-inject case.topology parts line (run_of case.topology history) states states' timers timers item ready.at new_states))
 
 -- a delivery that is handled waits no longer
 pub ready-handle : (case : CaseShape) (parts : Parts) (line : ℕ) (history : List Entry) (delivery : Delivery) (effects : Outcome)
@@ -238,11 +242,15 @@ pub ready-handle : (case : CaseShape) (parts : Parts) (line : ℕ) (history : Li
     → IsReady case parts line [] (history ++ Handle 0 delivery.to delivery.id effects ∷ []) states' timers'
 ready-handle case parts line history delivery effects states states' timers timers' counted ready part does within has times new_states new_timers =
     ready-step case parts line line (delivery ∷ []) [] history (Handle 0 delivery.to delivery.id effects) states states' timers timers' ready
-      (record { delivery = delivery; waits = ap (found_delivery delivery.id) ready.at.waits ∙ ap (λ b. cond b (Some delivery) None) (same_id-itself delivery.id);
-                to_row = refl; does = does })
-      refl
-      (at-handle case.topology parts line (run_of case.topology history) states states' timers timers' counted delivery effects ready.at part within has
-        (recursion_from_All (λ (t : Timer). t.time ≤ MAX_STAMP) effects.timers times) new_states new_timers)
+    (record {
+      delivery = delivery;
+      waits = ap (found_delivery delivery.id) ready.at.waits ∙ ap (λ b. cond b (Some delivery) None) (same_id-itself delivery.id);
+      to_row = refl;
+      does = does;
+    })
+    refl
+    (at-handle case.topology parts line (run_of case.topology history) states states' timers timers' counted delivery effects ready.at part within has
+    (recursion_from_All (λ (t : Timer). t.time ≤ MAX_STAMP) effects.timers times) new_states new_timers)
 
 -- a timer that is fired is pending no longer
 pub ready-fire : (case : CaseShape) (parts : Parts) (line : ℕ) (history : List Entry) (row : RowName) (timer : Timer) (effects : Outcome)
@@ -257,4 +265,4 @@ pub ready-fire : (case : CaseShape) (parts : Parts) (line : ℕ) (history : List
     → IsReady case parts line [] (history ++ Fire 0 row timer timer.time effects ∷ []) states' timers'
 ready-fire case parts line history row timer effects states states' timers timers' counted ready part may within has new_states new_timers =
     ready-step case parts line line [] [] history (Fire 0 row timer timer.time effects) states states' timers timers' ready may refl
-      (at-fire case.topology parts line (run_of case.topology history) states states' timers timers' counted row timer effects ready.at part within has new_states new_timers)
+    (at-fire case.topology parts line (run_of case.topology history) states states' timers timers' counted row timer effects ready.at part within has new_states new_timers)

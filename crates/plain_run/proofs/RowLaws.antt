@@ -34,10 +34,10 @@ use Rattle.plain_run.proofs.SlotLaws.{HasTimers, slot_at, HasTimers-sets, slots_
 -- the row that an entry is on is found as the entry left it, and every other row as it was
 pub row_in-followed : (shape : Shape) (run : Run) (entry : Entry) (name row : RowName) → row_written entry ≡ Some name
     → row_in (followed shape run entry) row
-      ≡ cond (is_at (row_cmp row) name) (Some (row_after shape run entry (deliveries_of shape run.made run.next entry) name)) (row_in run row)
+    ≡ cond (is_at (row_cmp row) name) (Some (row_after shape run entry (deliveries_of shape run.made run.next entry) name)) (row_in run row)
 row_in-followed shape run entry name row written =
     ap (λ w. lookup (is_at (row_cmp row)) (option_map_or
-        (λ (n : RowName). insert_entry row_cmp run.rows n (row_after shape run entry (deliveries_of shape run.made run.next entry) n)) w run.rows)) written
+    (λ (n : RowName). insert_entry row_cmp run.rows n (row_after shape run entry (deliveries_of shape run.made run.next entry) n)) w run.rows)) written
     ∙ lookup-insert_entry row_cmp-total run.rows name (row_after shape run entry (deliveries_of shape run.made run.next entry) name) row
 
 -- a choice of a row, seen by one of its parts
@@ -62,22 +62,22 @@ pub Mirrors-changed : (run next : Run) (name : RowName) (after : Contents) (stat
     → ((slot : Slot) → is_at (row_cmp slot.row) name ≡ false → timers' slot ≡ timers slot)
     → Mirrors next states' timers'
 Mirrors-changed run next name after states states' timers timers' mirrors rows new_states here others = record {
-    states_as = λ row. new_states row
+  states_as = λ row. new_states row
       ∙ ap (cond (is_at (row_cmp row) name) (Some after.state)) (mirrors.states_as row)
       ∙ sym (ap (option_map (λ (r : Contents). r.state)) (rows row) ∙ option_map-cond (λ (r : Contents). r.state) (is_at (row_cmp row) name) after (row_in run row));
-    timers_as = λ slot. elim (is_at (row_cmp slot.row) name) as (λ b. is_at (row_cmp slot.row) name ≡ b
-        → timers' slot ≡ late_at slot.tag slot.time (timers_of next slot.row)) [
-      | true ↦ λ e.
-          ap (λ r. timers' (slot_at r slot.tag slot.time)) (same_row slot.row name (from_tie _ e))
-          ∙ here slot.tag slot.time
-          ∙ sym (ap (late_at slot.tag slot.time) (ap (λ o. option_map_or (λ (r : Contents). r.timers) o []) (rows slot.row)
-              ∙ timers-at (is_at (row_cmp slot.row) name) after (row_in run slot.row) e))
-      | false ↦ λ e.
-          others slot e ∙ mirrors.timers_as slot
-          ∙ sym (ap (late_at slot.tag slot.time) (ap (λ o. option_map_or (λ (r : Contents). r.timers) o []) (rows slot.row)
-              ∙ timers-else (is_at (row_cmp slot.row) name) after (row_in run slot.row) e))
-    ] refl;
-  }
+  timers_as = λ slot. elim (is_at (row_cmp slot.row) name) as (λ b. is_at (row_cmp slot.row) name ≡ b
+      → timers' slot ≡ late_at slot.tag slot.time (timers_of next slot.row)) [
+        | true ↦ λ e.
+            ap (λ r. timers' (slot_at r slot.tag slot.time)) (same_row slot.row name (from_tie _ e))
+            ∙ here slot.tag slot.time
+            ∙ sym (ap (late_at slot.tag slot.time) (ap (λ o. option_map_or (λ (r : Contents). r.timers) o []) (rows slot.row)
+            ∙ timers-at (is_at (row_cmp slot.row) name) after (row_in run slot.row) e))
+        | false ↦ λ e.
+            others slot e ∙ mirrors.timers_as slot
+            ∙ sym (ap (late_at slot.tag slot.time) (ap (λ o. option_map_or (λ (r : Contents). r.timers) o []) (rows slot.row)
+            ∙ timers-else (is_at (row_cmp slot.row) name) after (row_in run slot.row) e))
+      ] refl;
+}
 
 -- the timers of a row, there or fresh
 row_of-timers : (shape : Shape) (run : Run) (name : RowName) → (row_of shape run name).timers ≡ timers_of run name
@@ -98,17 +98,17 @@ HasTimers-mirrored shape run states timers name mirrors tag time =
 pub Mirrors-inject : (shape : Shape) (run : Run) (seq part line : ℕ) (item : Record) (states states' : RowName → Option State) (timers : Slot → Option Bool)
     → Mirrors run states timers
     → let name : RowName = record { part = part; key = [] } in
-      ((row : RowName) → states' row ≡ cond (is_at (row_cmp row) name) (Some (advanced (row_of shape run name).state)) (states row))
+    ((row : RowName) → states' row ≡ cond (is_at (row_cmp row) name) (Some (advanced (row_of shape run name).state)) (states row))
     → Mirrors (followed shape run (Inject seq part line item)) states' timers
 Mirrors-inject shape run seq part line item states states' timers mirrors new_states =
     let name : RowName = record { part = part; key = [] } in
     Mirrors-changed run (followed shape run (Inject seq part line item)) name
-      (row_after shape run (Inject seq part line item) (deliveries_of shape run.made run.next (Inject seq part line item)) name)
-      states states' timers timers mirrors
-      (λ row. row_in-followed shape run (Inject seq part line item) name row refl)
-      new_states
-      (HasTimers-mirrored shape run states timers name mirrors)
-      (λ slot apart. refl)
+    (row_after shape run (Inject seq part line item) (deliveries_of shape run.made run.next (Inject seq part line item)) name)
+    states states' timers timers mirrors
+    (λ row. row_in-followed shape run (Inject seq part line item) name row refl)
+    new_states
+    (HasTimers-mirrored shape run states timers name mirrors)
+    (λ slot apart. refl)
 
 -- a handled record changes its row's state, and sets the row's timers
 pub Mirrors-handle : (shape : Shape) (run : Run) (seq : ℕ) (name : RowName) (id : RecordId) (effects : Outcome)
@@ -119,13 +119,13 @@ pub Mirrors-handle : (shape : Shape) (run : Run) (seq : ℕ) (name : RowName) (i
     → Mirrors (followed shape run (Handle seq name id effects)) states' timers'
 Mirrors-handle shape run seq name id effects states states' timers timers' mirrors sorted new_states new_timers =
     Mirrors-changed run (followed shape run (Handle seq name id effects)) name
-      (row_after shape run (Handle seq name id effects) (deliveries_of shape run.made run.next (Handle seq name id effects)) name)
-      states states' timers timers' mirrors
-      (λ row. row_in-followed shape run (Handle seq name id effects) name row refl)
-      new_states
-      (λ tag time. new_timers (slot_at name tag time)
-        ∙ HasTimers-sets effects.timers timers name (row_of shape run name).timers sorted (HasTimers-mirrored shape run states timers name mirrors) tag time)
-      (λ slot apart. new_timers slot ∙ slots_set-other effects.timers timers name slot apart)
+    (row_after shape run (Handle seq name id effects) (deliveries_of shape run.made run.next (Handle seq name id effects)) name)
+    states states' timers timers' mirrors
+    (λ row. row_in-followed shape run (Handle seq name id effects) name row refl)
+    new_states
+    (λ tag time. new_timers (slot_at name tag time)
+    ∙ HasTimers-sets effects.timers timers name (row_of shape run name).timers sorted (HasTimers-mirrored shape run states timers name mirrors) tag time)
+    (λ slot apart. new_timers slot ∙ slots_set-other effects.timers timers name slot apart)
 
 -- a fired timer leaves its row's timers, and changes the row's state
 pub Mirrors-fire : (shape : Shape) (run : Run) (seq : ℕ) (name : RowName) (timer : Timer) (mark : ℕ) (effects : Outcome)
@@ -136,19 +136,21 @@ pub Mirrors-fire : (shape : Shape) (run : Run) (seq : ℕ) (name : RowName) (tim
     → Mirrors (followed shape run (Fire seq name timer mark effects)) states' timers'
 Mirrors-fire shape run seq name timer mark effects states states' timers timers' mirrors new_states new_timers =
     Mirrors-changed run (followed shape run (Fire seq name timer mark effects)) name
-      (row_after shape run (Fire seq name timer mark effects) (deliveries_of shape run.made run.next (Fire seq name timer mark effects)) name)
-      states states' timers timers' mirrors
-      (λ row. row_in-followed shape run (Fire seq name timer mark effects) name row refl)
-      new_states
-      (λ tag time. new_timers (slot_at name tag time) ∙ taken tag time (is_at (slot_cmp (slot_of name timer)) (slot_at name tag time)) refl)
-      (λ slot apart. new_timers slot ∙ kept slot (is_at (slot_cmp (slot_of name timer)) slot) refl apart)
+    (row_after shape run (Fire seq name timer mark effects) (deliveries_of shape run.made run.next (Fire seq name timer mark effects)) name)
+    states states' timers timers' mirrors
+    (λ row. row_in-followed shape run (Fire seq name timer mark effects) name row refl)
+    new_states
+    (λ tag time. new_timers (slot_at name tag time) ∙ taken tag time (is_at (slot_cmp (slot_of name timer)) (slot_at name tag time)) refl)
+    (λ slot apart. new_timers slot ∙ kept slot (is_at (slot_cmp (slot_of name timer)) slot) refl apart)
   where
     tied_slots : (tag time : ℕ) → tag ≡ timer.tag → time ≡ timer.time → is_at (slot_cmp (slot_of name timer)) (slot_at name tag time) ≡ true
     tied_slots tag time p q =
         subst (λ n. is_at (slot_cmp (slot_of name timer)) (slot_at name n time) ≡ true) (sym p)
-          (subst (λ n. is_at (slot_cmp (slot_of name timer)) (slot_at name timer.tag n) ≡ true) (sym q) (ap is_eq (tied_itself slot_cmp-total (slot_of name timer))))
+        (subst (λ n. is_at (slot_cmp (slot_of name timer)) (slot_at name timer.tag n) ≡ true) (sym q) (ap is_eq (tied_itself slot_cmp-total (slot_of name timer))))
+
     before : List Timer
     before = (row_of shape run name).timers
+
     taken : (tag time : ℕ) (b : Bool) → is_at (slot_cmp (slot_of name timer)) (slot_at name tag time) ≡ b
         → cond b None (timers (slot_at name tag time)) ≡ late_at tag time (without_timer timer.tag timer.time before)
     taken tag time true e =
@@ -157,6 +159,7 @@ Mirrors-fire shape run seq name timer mark effects states states' timers timers'
     taken tag time false e =
         HasTimers-mirrored shape run states timers name mirrors tag time
         ∙ sym (late_at-left tag time timer.tag timer.time (λ same. both_ways _ e (tied_slots tag time same.0 same.1)) before)
+
     kept : (slot : Slot) (b : Bool) → is_at (slot_cmp (slot_of name timer)) slot ≡ b → is_at (row_cmp slot.row) name ≡ false
         → cond b None (timers slot) ≡ timers slot
     kept slot true e apart =
@@ -171,11 +174,11 @@ pub IsSound-followed : (shape : Shape) (run : Run) (entry : Entry) (name : RowNa
 IsSound-followed shape run entry name written sound sorted =
     let after = row_after shape run entry (deliveries_of shape run.made run.next entry) name in
     let rows : (followed shape run entry).rows ≡ insert_entry row_cmp run.rows name after =
-      ap (λ w. option_map_or (λ (n : RowName). insert_entry row_cmp run.rows n (row_after shape run entry (deliveries_of shape run.made run.next entry) n)) w run.rows) written in
+    ap (λ w. option_map_or (λ (n : RowName). insert_entry row_cmp run.rows n (row_after shape run entry (deliveries_of shape run.made run.next entry) n)) w run.rows) written in
     record {
       rows = subst (λ (r : List (RowName × Contents)). IsStrictlySortedBy row_cmp (keys_of r)) (sym rows) (sorted-insert_entry row_cmp-total run.rows name after sound.rows);
       timers = subst (λ (r : List (RowName × Contents)). AllByRecursion (λ (e : RowName × Contents). IsStrictlySortedBy timer_cmp e.1.timers) r) (sym rows)
-        (each-insert_entry row_cmp (λ (r : Contents). IsStrictlySortedBy timer_cmp r.timers) run.rows name after sound.timers sorted);
+          (each-insert_entry row_cmp (λ (r : Contents). IsStrictlySortedBy timer_cmp r.timers) run.rows name after sound.timers sorted);
     }
 
 -- what holds of each row of a run holds of the one that is found

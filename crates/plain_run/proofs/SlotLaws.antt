@@ -32,11 +32,11 @@ slot_at row tag time = record { time = time; tag = tag; row = row }
 pub slot_tie : (row : RowName) (tag time : ℕ) (t : Timer) → is_at (slot_cmp (slot_at row tag time)) (slot_of row t) ≡ is_timer tag time t
 slot_tie row tag time t = same_test _ _
     (λ e. let s = same_slot (slot_at row tag time) (slot_of row t) (from_tie _ e) in
-        subst (λ (u : Slot). is_timer u.tag u.time t ≡ true) (sym s) (is_timer-itself t))
+    subst (λ (u : Slot). is_timer u.tag u.time t ≡ true) (sym s) (is_timer-itself t))
     (λ e. let p = tag_and_time tag time t e in
-        subst (λ n. is_at (slot_cmp (slot_at row n time)) (slot_of row t) ≡ true) p.0
-          (subst (λ n. is_at (slot_cmp (slot_at row t.tag n)) (slot_of row t) ≡ true) p.1
-            (ap is_eq (tied_itself slot_cmp-total (slot_of row t)))))
+    subst (λ n. is_at (slot_cmp (slot_at row n time)) (slot_of row t) ≡ true) p.0
+    (subst (λ n. is_at (slot_cmp (slot_at row t.tag n)) (slot_of row t) ≡ true) p.1
+    (ap is_eq (tied_itself slot_cmp-total (slot_of row t)))))
 
 -- the map has the timers of this row
 abbrev pub HasTimers : (Slot → Option Bool) → RowName → List Timer → Type 0
@@ -61,10 +61,10 @@ HasTimers-sets (t ∷ set) map row ts sorted has =
 -- a slot of another row does not tie
 other_row : (slot : Slot) (row : RowName) (t : Timer) → is_at (row_cmp slot.row) row ≡ false → is_at (slot_cmp slot) (slot_of row t) ≡ false
 other_row slot row t apart = elim (is_at (slot_cmp slot) (slot_of row t)) as (λ b. is_at (slot_cmp slot) (slot_of row t) ≡ b → b ≡ false) [
-    | false ↦ λ _. refl
-    | true ↦ λ e. let s = same_slot slot (slot_of row t) (from_tie _ e) in
-        sym (ap is_eq (tied_itself row_cmp-total row)) ∙ subst (λ (u : Slot). is_at (row_cmp u.row) row ≡ false) s apart
-  ] refl
+  | false ↦ λ _. refl
+  | true ↦ λ e. let s = same_slot slot (slot_of row t) (from_tie _ e) in
+      sym (ap is_eq (tied_itself row_cmp-total row)) ∙ subst (λ (u : Slot). is_at (row_cmp u.row) row ≡ false) s apart
+] refl
 
 -- setting a row's timers leaves the slots of other rows as they were
 pub slots_set-other : (set : List Timer) (map : Slot → Option Bool) (row : RowName) (slot : Slot) → is_at (row_cmp slot.row) row ≡ false

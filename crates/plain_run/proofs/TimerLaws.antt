@@ -32,16 +32,17 @@ tied a b tag time =
 -- a timer of this tag and time has this tag and this time
 pub tag_and_time : (tag time : ℕ) (t : Timer) → is_timer tag time t ≡ true → (t.tag ≡ tag) × (t.time ≡ time)
 tag_and_time tag time t same = (
-    eqb-true t.tag tag (first_so (t.tag == tag) (t.time == time) same),
-    eqb-true t.time time (second_so (t.tag == tag) (t.time == time) same) )
+  eqb-true t.tag tag (first_so (t.tag == tag) (t.time == time) same),
+  eqb-true t.time time (second_so (t.tag == tag) (t.time == time) same),
+)
 
 -- timers that do not tie differ in tag or time
 pub is_timer-apart : (a b : Timer) (o : Ordering) → timer_cmp a b ≡ o → is_eq o ≡ false → is_timer a.tag a.time b ≡ false
 is_timer-apart a b o e apart = elim (is_timer a.tag a.time b) as (λ t. is_timer a.tag a.time b ≡ t → t ≡ false) [
-    | false ↦ λ _. refl
-    | true ↦ λ same. let pair = tag_and_time a.tag a.time b same in
-        sym (ap is_eq (tied a b pair.0 pair.1)) ∙ ap is_eq e ∙ apart
-  ] refl
+  | false ↦ λ _. refl
+  | true ↦ λ same. let pair = tag_and_time a.tag a.time b same in
+      sym (ap is_eq (tied a b pair.0 pair.1)) ∙ ap is_eq e ∙ apart
+] refl
 
 -- tests for two timers that tie are one test
 pub is_timer-tied : (tag time : ℕ) (a b : Timer) → timer_cmp a b ≡ Equal → is_timer tag time a ≡ is_timer tag time b
@@ -84,7 +85,7 @@ unfolding IsStrictlySortedBy
 late_at-with_timer tag time t [] sorted = late_at-first tag time t [] refl
 late_at-with_timer tag time t (u ∷ us) sorted =
     elim (timer_cmp t u) as (λ r. timer_cmp t u ≡ r → late_at tag time (match_ordering r (t ∷ u ∷ us) (set_again t u ∷ us) (u ∷ with_timer t us))
-        ≡ cond (is_timer tag time t) (now_late t (u ∷ us)) (late_at tag time (u ∷ us))) [
+    ≡ cond (is_timer tag time t) (now_late t (u ∷ us)) (late_at tag time (u ∷ us))) [
       | Less ↦ λ e. late_at-first tag time t (u ∷ us) (late_at-above t (u ∷ us) (e, above_too t u us e sorted.0))
       | Equal ↦ λ e. again e
       | Greater ↦ λ e. behind e (late_at-with_timer tag time t us sorted.1)
@@ -94,9 +95,10 @@ late_at-with_timer tag time t (u ∷ us) sorted =
     again e =
         late_at-cons tag time (set_again t u) us (is_timer tag time t) (sym (is_timer-tied tag time t u e))
         ∙ ap (λ o. cond (is_timer tag time t) (Some (t.late && unwrap_or o true)) (late_at tag time us))
-          (sym (late_at-cons t.tag t.time u us true (sym (is_timer-tied t.tag t.time t u e) ∙ is_timer-itself t)))
+        (sym (late_at-cons t.tag t.time u us true (sym (is_timer-tied t.tag t.time t u e) ∙ is_timer-itself t)))
         ∙ shadowed (is_timer tag time t) (now_late t (u ∷ us)) (Some u.late) (late_at tag time us)
         ∙ ap (λ o. cond (is_timer tag time t) (now_late t (u ∷ us)) o) (sym (late_at-cons tag time u us (is_timer tag time t) (sym (is_timer-tied tag time t u e))))
+
     behind : timer_cmp t u ≡ Greater
         → late_at tag time (with_timer t us) ≡ cond (is_timer tag time t) (now_late t us) (late_at tag time us)
         → late_at tag time (u ∷ with_timer t us) ≡ cond (is_timer tag time t) (now_late t (u ∷ us)) (late_at tag time (u ∷ us))
@@ -105,13 +107,13 @@ late_at-with_timer tag time t (u ∷ us) sorted =
         ∙ ap (cond (is_timer tag time u) (Some u.late)) deeper
         ∙ swapped (is_timer tag time u) (is_timer tag time t) (Some u.late) (now_late t us) (late_at tag time us) (λ at. apart at)
         ∙ ap (λ o. cond (is_timer tag time t) (Some (t.late && unwrap_or o true)) (cond (is_timer tag time u) (Some u.late) (late_at tag time us)))
-          (sym (late_at-cons t.tag t.time u us false (is_timer-apart t u Greater e refl)))
+        (sym (late_at-cons t.tag t.time u us false (is_timer-apart t u Greater e refl)))
         ∙ ap (λ o. cond (is_timer tag time t) (now_late t (u ∷ us)) o) (sym (late_at-cons tag time u us (is_timer tag time u) refl))
       where
         apart : is_timer tag time u ≡ true → is_timer tag time t ≡ false
         apart at = let p = tag_and_time tag time u at in
             subst (λ n. is_timer n time t ≡ false) p.0 (subst (λ n. is_timer u.tag n t ≡ false) p.1
-              (is_timer-apart u t Less (timer_cmp-total.antisymm u t ∙ ap ordering_reverse e) refl))
+            (is_timer-apart u t Less (timer_cmp-total.antisymm u t ∙ ap ordering_reverse e) refl))
 
 -- a timer that is set goes before timers that are after both it and what it is set among
 below_with_timer : (x t : Timer) (ts : List Timer) → timer_cmp x t ≡ Less → AllByRecursion (λ u. timer_cmp x u ≡ Less) ts
@@ -145,9 +147,9 @@ pub late_at-gone : (tag time : ℕ) (ts : List Timer) → late_at tag time (with
 late_at-gone tag time [] = refl
 late_at-gone tag time (u ∷ us) = elim (is_timer tag time u) as (λ b. is_timer tag time u ≡ b
     → late_at tag time (cond (not b) (u ∷ without_timer tag time us) (without_timer tag time us)) ≡ None) [
-    | true ↦ λ e. late_at-gone tag time us
-    | false ↦ λ e. late_at-cons tag time u (without_timer tag time us) false e ∙ late_at-gone tag time us
-  ] refl
+      | true ↦ λ e. late_at-gone tag time us
+      | false ↦ λ e. late_at-cons tag time u (without_timer tag time us) false e ∙ late_at-gone tag time us
+    ] refl
 
 -- a timer is found as it was where another is taken away
 pub late_at-left : (tag time gone_tag gone_time : ℕ) → ((tag ≡ gone_tag) × (time ≡ gone_time) → ⊥) → (ts : List Timer)
@@ -155,10 +157,10 @@ pub late_at-left : (tag time gone_tag gone_time : ℕ) → ((tag ≡ gone_tag) �
 late_at-left tag time gone_tag gone_time other [] = refl
 late_at-left tag time gone_tag gone_time other (u ∷ us) = elim (is_timer gone_tag gone_time u) as (λ b. is_timer gone_tag gone_time u ≡ b
     → late_at tag time (cond (not b) (u ∷ without_timer gone_tag gone_time us) (without_timer gone_tag gone_time us)) ≡ late_at tag time (u ∷ us)) [
-    | true ↦ λ gone. late_at-left tag time gone_tag gone_time other us ∙ sym (late_at-cons tag time u us false (unlike (is_timer tag time u) refl gone))
-    | false ↦ λ kept. late_at-cons tag time u (without_timer gone_tag gone_time us) (is_timer tag time u) refl
-        ∙ ap (cond (is_timer tag time u) (Some u.late)) (late_at-left tag time gone_tag gone_time other us) ∙ sym (late_at-cons tag time u us (is_timer tag time u) refl)
-  ] refl
+      | true ↦ λ gone. late_at-left tag time gone_tag gone_time other us ∙ sym (late_at-cons tag time u us false (unlike (is_timer tag time u) refl gone))
+      | false ↦ λ kept. late_at-cons tag time u (without_timer gone_tag gone_time us) (is_timer tag time u) refl
+          ∙ ap (cond (is_timer tag time u) (Some u.late)) (late_at-left tag time gone_tag gone_time other us) ∙ sym (late_at-cons tag time u us (is_timer tag time u) refl)
+    ] refl
   where
     unlike : (b : Bool) → is_timer tag time u ≡ b → is_timer gone_tag gone_time u ≡ true → is_timer tag time u ≡ false
     unlike false e gone = e

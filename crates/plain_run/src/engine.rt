@@ -70,7 +70,7 @@ fn inject_all(
 
     ensures kept { IsKept job.now.case.now history.new }
     ensures ended { let lines = length (source_of job.now.case.now 0) in
-      OnOk result (IsBetween job.now.case.now job.now.work lines [] history.new ledger.new) }
+        OnOk result (IsBetween job.now.case.now job.now.work lines [] history.new ledger.new) }
 {
     for line in 0..items(job.case).count() {
         let waiting = inject(alloc, job, ledger, history, line)?;
@@ -94,7 +94,7 @@ fn inject(
     ensures kept { IsKept job.now.case.now history.new }
     ensures waits { IfOk result (AwaitsCount job.now.case.now.topology) }
     ensures ended { IfOk result (λ waiting.
-      IsBetween job.now.case.now job.now.work (line + 1) waiting history.new ledger.new) }
+        IsBetween job.now.case.now job.now.work (line + 1) waiting history.new ledger.new) }
 {
     let item = record_of(alloc, items(job.case).at(line))?;
     let deliveries = sent(alloc, job.case, &item, history.len() as u64)?;
@@ -102,7 +102,12 @@ fn inject(
         part: 0,
         key: Key::none(alloc),
     };
-    keep_state(alloc, &mut ledger.states, &name, &State::Injector { cursor: line + 1 })?;
+    keep_state(
+        alloc,
+        &mut ledger.states,
+        &name,
+        &State::Injector { cursor: line + 1 },
+    )?;
     history.push(Entry::Inject {
         seq: 0,
         part: 0,
@@ -125,12 +130,7 @@ fn record_of(alloc: Global, item: &Item) -> Result<Record, NoMemory>
 }
 
 // The deliveries that an injected record becomes.
-fn sent(
-    alloc: Global,
-    case: &Case,
-    item: &Record,
-    commit: u64,
-) -> Result<DeliveryList, NoMemory>
+fn sent(alloc: Global, case: &Case, item: &Record, commit: u64) -> Result<DeliveryList, NoMemory>
     requires { injectors_of case.now.topology ≡ 1 }
     ensures { IfOk result (λ made. made ≡ deliveries_to (consumers_of case.now.topology 0) commit (item.now ∷ [])) }
 {
@@ -166,7 +166,7 @@ fn handle_waiting(
 
     ensures kept { IsKept job.now.case.now history.new }
     ensures ended { OnOk result
-      (IsBetween job.now.case.now job.now.work line [] history.new ledger.new) }
+        (IsBetween job.now.case.now job.now.work line [] history.new ledger.new) }
 {
     let mut waiting = waiting;
     match waiting.pop() {
@@ -192,7 +192,7 @@ fn handle(
 
     ensures kept { IsKept job.now.case.now history.new }
     ensures ended { OnOk result
-      (IsBetween job.now.case.now job.now.work line [] history.new ledger.new) }
+        (IsBetween job.now.case.now job.now.work line [] history.new ledger.new) }
 {
     let Delivery { id, to, item } = delivery;
     let effects = record_effects(alloc, &job.work, &ledger.states, &to, &item)?;
@@ -219,7 +219,7 @@ fn record_effects(
     requires in_time { item.now.stamp ≤ MAX_STAMP }
 
     ensures effects { let state = counted_state (get row_cmp states.now row.now) in
-      IfOk result (λ effects. effects ≡ part_record work.now 1 row.now.key state item.now) }
+        IfOk result (λ effects. effects ≡ part_record work.now 1 row.now.key state item.now) }
     ensures can { IfOk result (λ effects. CanKeep work.now effects.state) }
     ensures times { IfOk result (λ effects. All (λ t. t.time ≤ MAX_STAMP) effects.timers) }
 {
@@ -246,7 +246,7 @@ fn timer_effects(
     requires in_time { timer.now.time ≤ MAX_STAMP }
 
     ensures effects { let state = counted_state (get row_cmp states.now row.now) in
-      IfOk result (λ effects. effects ≡ part_timer work.now 1 row.now.key state timer.now) }
+        IfOk result (λ effects. effects ≡ part_timer work.now 1 row.now.key state timer.now) }
     ensures can { IfOk result (λ effects. CanKeep work.now effects.state) }
 {
     let fresh = State::Count {
@@ -268,11 +268,11 @@ fn fire_all(
 ) -> Result<(), NoMemory>
     requires job { IsJob job.now.case.now.topology job.now.work }
     requires begun { let lines = length (source_of job.now.case.now 0) in
-      IsBetween job.now.case.now job.now.work lines [] history.old ledger.old }
+        IsBetween job.now.case.now job.now.work lines [] history.old ledger.old }
 
     ensures kept { IsKept job.now.case.now history.new }
     ensures done { OnOk result
-      (IsDone job.now.case.now (run_of job.now.case.now.topology history.new)) }
+        (IsDone job.now.case.now (run_of job.now.case.now.topology history.new)) }
 {
     while fire_first(alloc, job, ledger, history)? {}
     Ok(())
@@ -287,15 +287,15 @@ fn fire_first(
 ) -> Result<bool, NoMemory>
     requires job { IsJob job.now.case.now.topology job.now.work }
     requires begun { let lines = length (source_of job.now.case.now 0) in
-      IsBetween job.now.case.now job.now.work lines [] history.old ledger.old }
+        IsBetween job.now.case.now job.now.work lines [] history.old ledger.old }
 
     ensures kept { IsKept job.now.case.now history.new }
     ensures ended { let lines = length (source_of job.now.case.now 0) in
-      OnOk result (IsBetween job.now.case.now job.now.work lines [] history.new ledger.new) }
+        OnOk result (IsBetween job.now.case.now job.now.work lines [] history.new ledger.new) }
     ensures fired { IfOk result (λ fired.
-      IsTrue fired → btree_map_len ledger.new.timers < btree_map_len ledger.old.timers) }
+        IsTrue fired → btree_map_len ledger.new.timers < btree_map_len ledger.old.timers) }
     ensures none { IfOk result (λ fired.
-      fired ≡ false → IsDone job.now.case.now (run_of job.now.case.now.topology history.new)) }
+        fired ≡ false → IsDone job.now.case.now (run_of job.now.case.now.topology history.new)) }
 {
     let Some((slot, late)) = ledger.timers.pop_first() else {
         return Ok(false);

@@ -26,7 +26,7 @@ pub(crate) fn keep_state(
     state: &State,
 ) -> Result<(), NoMemory>
     ensures { OnOk result ((q : RowName) →
-      get row_cmp states.new q ≡ cond (is_at (row_cmp q) row.now) (Some state.now) (get row_cmp states.old q)) }
+        get row_cmp states.new q ≡ cond (is_at (row_cmp q) row.now) (Some state.now) (get row_cmp states.old q)) }
 {
     let name = row.copy(alloc)?;
     let state = state.copy(alloc)?;
@@ -52,7 +52,7 @@ fn set_timer(
     timer: &Timer,
 ) -> Result<(), NoMemory>
     ensures { OnOk result ((q : Slot) →
-      get slot_cmp timers.new q ≡ slot_set (get slot_cmp timers.old) row.now timer.now q) }
+        get slot_cmp timers.new q ≡ slot_set (get slot_cmp timers.old) row.now timer.now q) }
 {
     let slot = Slot {
         time: timer.time,
@@ -72,7 +72,7 @@ pub(crate) fn set_timers(
     set: &[Timer],
 ) -> Result<(), NoMemory>
     ensures { OnOk result ((q : Slot) →
-      get slot_cmp timers.new q ≡ slots_set (get slot_cmp timers.old) row.now set.now q) }
+        get slot_cmp timers.new q ≡ slots_set (get slot_cmp timers.old) row.now set.now q) }
 {
     for timer in set {
         set_timer(alloc, timers, row, timer)?;

@@ -10,5 +10,3 @@
 mod engine;
 mod ledger;
 mod slot;
-
-

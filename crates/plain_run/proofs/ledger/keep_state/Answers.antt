@@ -6,4 +6,4 @@ use Rattle.plain_run.proofs.ledger.keep_state.Goals as goal
 pub returns : goal.returns
 returns c q =
     put_there row_cmp-total q _ _ _ _ _ _ c.in_ok-name.ensures.copied c.in_ok-state.ensures.copied
-      (c.in_ok-insert.ensures.updates.0 q)
+    (c.in_ok-insert.ensures.updates.0 q)
