@@ -22,6 +22,7 @@ fn is_kept_from(floor: u64, ids: &[RecordId]) -> bool
 }
 
 // Reads what follows a row's version.
+#[tactic(auto, unfolding(crate::specs::Reading::fields_at))]
 fn take_fields(alloc: Global, bytes: &[u8]) -> Result<(Row, &[u8]), StateRefusal>
     ensures { Gives (λ x. (x.0, x.1.now)) result (fields_at bytes.now) }
 {
