@@ -5,7 +5,7 @@ use Rattle.std.specs.Bool.{Decides}
 use Rattle.std.specs.List.{AllByRecursion, list_all}
 use Rattle.std.specs.List.Sorted.{IsStrictlySortedBy}
 use Rattle.std.specs.Int.{w64, to_be_bytes}
-use Rattle.std.proofs.lemmas.List.{append-nil}
+use Rattle.std.proofs.lemmas.Bool.{lt-ltb, le-leb}
 use Rattle.std.proofs.lemmas.List.Elements.{All-from_recursion, recursion_from_All}
 use Rattle.mw_types.specs.declared.TheConstants.{MAX_STAMP}
 use Rattle.mw_types.specs.declared.state.State.{State}
@@ -14,8 +14,6 @@ use Rattle.mw_types.specs.declared.identity.RecordId.{RecordId}
 use Rattle.mw_types.specs.declared.delivery.Delivery.{Delivery}
 use Rattle.mw_types.specs.Orders.{id_cmp, timer_cmp}
 use Rattle.mw_types.proofs.OrderLaws.{id_cmp-total}
-use Rattle.row_parts.specs.declared.refusal.StateRefusal.{StateRefusal}
-use Rattle.row_parts.specs.declared.refusal.StateRefusal.TheVariants as parts
 use Rattle.row_parts.specs.Contents.{Contents, IsRow, IsId, IsDelivery, delivery_cmp}
 use Rattle.row_parts.specs.Orders.{timer_cmp-total, delivery_cmp-total}
 use Rattle.row_parts.specs.Spelling.{spelling_of, state_spelling, timer_spelling, delivery_spelling, id_spelling, list_spelling, IsSpelledState, IsSpelledRow, DeliveryFits}
@@ -24,12 +22,6 @@ use Rattle.row_parts.proofs.Codec.{IsBytes, bind_some, some_is, Reads, as_read, 
 use Rattle.row_parts.proofs.PartLaws.{u64_reads, timer_reads, delivery_reads, id_reads, at_most, below, both}
 use Rattle.row_parts.proofs.StateLaws.{state_reads, weaker, twice, whole_takes, whole_again}
 use Rattle.record_codec.specs.Reading.{kept_from, fields_at, row_at, whole_row}
-
--- ---- seven writes
-
-pub wrote_7 : (out a b c d e f g o1 o2 o3 o4 o5 o6 o7 : List ℕ) → o1 ≡ out ++ a → o2 ≡ o1 ++ b → o3 ≡ o2 ++ c → o4 ≡ o3 ++ d → o5 ≡ o4 ++ e → o6 ≡ o5 ++ f → o7 ≡ o6 ++ g
-    → o7 ≡ out ++ (a ++ (b ++ (c ++ (d ++ (e ++ (f ++ (g ++ [])))))))
-wrote_7 out a b c d e f g o1 o2 o3 o4 o5 o6 o7 w1 w2 w3 w4 w5 w6 w7 = rw (w7, w6, w5, w4, w3, w2, w1) (simp (append_assoc, append-nil))
 
 -- ---- the fields
 
@@ -156,6 +148,13 @@ fields_reads =
 pub fields_row : (bytes rest : List ℕ) (row : Contents) → IsBytes bytes → fields_at bytes ≡ Some (row, rest) → IsRow row
 fields_row bytes rest row are e = (fields_reads.takes bytes (row, rest) are e).2.is_row
 
+-- fields that are read one after the other
+pub fields_read : (bytes r1 r2 r3 r4 r5 r6 : List ℕ) (row : Contents) → number_at w64 bytes ≡ Some (row.last, r1) → number_at w64 r1 ≡ Some (row.floor, r2) → state_at r2 ≡ Some (row.state, r3)
+    → ascending_at timer_cmp timer_at r3 ≡ Some (row.timers, r4) → ascending_at delivery_cmp delivery_at r4 ≡ Some (row.pending, r5) → ascending_at id_cmp id_at r5 ≡ Some (row.seen, r6)
+    → row.last < 2 ^ 32 → row.floor ≤ 2 ^ 32 → kept_from row.floor row.seen ≡ true → fields_at bytes ≡ Some (row, r6)
+unfolding fields_at
+fields_read bytes r1 r2 r3 r4 r5 r6 row e1 e2 e3 e4 e5 e6 last floor kept = rw (e1, e2, e3, e4, e5, e6, lt-ltb row.last (2 ^ 32) last, le-leb row.floor (2 ^ 32) floor, kept) refl
+
 -- ---- rows
 
 row_takes : (bytes : List ℕ) (x : Contents × List ℕ) → IsBytes bytes → row_at bytes ≡ Some x → (bytes ≡ spelling_of x.0 ++ x.1) × IsBytes x.1 × IsSpelledRow x.0
@@ -185,3 +184,10 @@ row_read bytes row fits is = ap whole_row is ∙ whole_again row_at row_reads ro
 
 pub same_row : (row answered : Contents) → Some row ≡ Some answered → answered ≡ row
 same_row row answered e = sym (some_is row answered e)
+
+-- no row is read where nothing is
+pub none_read : (bytes : List ℕ) (row : Contents) → whole_row bytes ≡ None → IsSpelledRow row → bytes ≡ spelling_of row → ⊥
+none_read bytes row none fits is =
+    let some : whole_row bytes ≡ Some row = row_read bytes row fits is in
+    let clash : None ≡ Some row = sym none ∙ some in
+    absurd cc
