@@ -95,11 +95,11 @@ fields_is : (bytes : List ℕ) → fields_at bytes ≡ (pair_at (number_at w64) 
 unfolding fields_at
 fields_is bytes =
     more (number_at w64) after_last bytes made _ (λ a.
-      more (number_at w64) after_floor a.1 (λ p rest. made (a.0, p) rest) _ (λ b.
-        more state_at after_state b.1 (λ p rest. made (a.0, (b.0, p)) rest) _ (λ c.
-          more (ascending_at timer_cmp timer_at) after_timers c.1 (λ p rest. made (a.0, (b.0, (c.0, p))) rest) _ (λ d.
-            more (ascending_at delivery_cmp delivery_at) after_pending d.1 (λ p rest. made (a.0, (b.0, (c.0, (d.0, p)))) rest) _ (λ e.
-              more (ascending_at id_cmp id_at) nothing_at e.1 (λ p rest. made (a.0, (b.0, (c.0, (d.0, (e.0, p))))) rest) _ (λ f. refl))))))
+    more (number_at w64) after_floor a.1 (λ p rest. made (a.0, p) rest) _ (λ b.
+    more state_at after_state b.1 (λ p rest. made (a.0, (b.0, p)) rest) _ (λ c.
+    more (ascending_at timer_cmp timer_at) after_timers c.1 (λ p rest. made (a.0, (b.0, (c.0, p))) rest) _ (λ d.
+    more (ascending_at delivery_cmp delivery_at) after_pending d.1 (λ p rest. made (a.0, (b.0, (c.0, (d.0, p)))) rest) _ (λ e.
+    more (ascending_at id_cmp id_at) nothing_at e.1 (λ p rest. made (a.0, (b.0, (c.0, (d.0, (e.0, p))))) rest) _ (λ f. refl))))))
 
 abbrev Fit : Fields → Type 0
 Fit p = (p.0 < 2 ^ 64) × ((p.1.0 < 2 ^ 64) × (IsSpelledState p.1.1.0 × (ReadTimers p.1.1.1.0 × (ReadPending p.1.1.1.1.0 × (ReadSeen p.1.1.1.1.1.0 × ⊤)))))
@@ -128,21 +128,34 @@ row_fits row f =
 
 fits_row : (row : Contents) → IsSpelledRow row → Fit (fields_of row) × IsInRange (fields_of row)
 fits_row row is =
-    let r = is.is_row in
-    ((omega (arith, r.last), (omega (arith, r.floor), ((r.state, is.state),
-      (((r.timers.few, twice _ _ row.timers (recursion_from_All (λ (t : Timer). t.time ≤ MAX_STAMP) row.timers r.timers.times) (recursion_from_All (λ (t : Timer). t.tag < 2 ^ 64) row.timers is.tags)), r.timers.ascending),
-      (((r.pending.few, twice _ _ row.pending (recursion_from_All IsDelivery row.pending r.pending.each) (recursion_from_All DeliveryFits row.pending is.pending)), r.pending.ascending),
-      (((r.seen.few, recursion_from_All IsId row.seen r.seen.each), r.seen.ascending), tt)))))),
-     (r.last, r.floor, recursion_from_All (λ (id : RecordId). row.floor ≤ id.commit) row.seen r.seen.kept))
+    let r = is.is_row in (
+      (
+        omega (arith, r.last),
+        (
+          omega (arith, r.floor),
+          (
+            (r.state, is.state),
+            (
+              ((r.timers.few, twice _ _ row.timers (recursion_from_All (λ (t : Timer). t.time ≤ MAX_STAMP) row.timers r.timers.times) (recursion_from_All (λ (t : Timer). t.tag < 2 ^ 64) row.timers is.tags)), r.timers.ascending),
+              (
+                ((r.pending.few, twice _ _ row.pending (recursion_from_All IsDelivery row.pending r.pending.each) (recursion_from_All DeliveryFits row.pending is.pending)), r.pending.ascending),
+                (((r.seen.few, recursion_from_All IsId row.seen r.seen.each), r.seen.ascending), tt),
+              ),
+            ),
+          ),
+        ),
+      ),
+      (r.last, r.floor, recursion_from_All (λ (id : RecordId). row.floor ≤ id.commit) row.seen r.seen.kept),
+    )
 
 fields_reads : Reads fields_spelling IsSpelledRow fields_at
 unfolding fields_spelling
 fields_reads =
     as_read fields_at fields_is (λ row. refl) fits_row row_fits
-      (made_reads (pair_at (number_at w64) after_last) row_test IsInRange in_range_decides row_from fields_of (λ row. refl) (λ p. refl)
-        (pair_reads (number_at w64) after_last u64_reads (pair_reads (number_at w64) after_floor u64_reads (pair_reads state_at after_state state_reads
-          (pair_reads (ascending_at timer_cmp timer_at) after_timers timers_law (pair_reads (ascending_at delivery_cmp delivery_at) after_pending pending_law
-            (pair_reads (ascending_at id_cmp id_at) nothing_at seen_law nothing_reads)))))))
+    (made_reads (pair_at (number_at w64) after_last) row_test IsInRange in_range_decides row_from fields_of (λ row. refl) (λ p. refl)
+    (pair_reads (number_at w64) after_last u64_reads (pair_reads (number_at w64) after_floor u64_reads (pair_reads state_at after_state state_reads
+    (pair_reads (ascending_at timer_cmp timer_at) after_timers timers_law (pair_reads (ascending_at delivery_cmp delivery_at) after_pending pending_law
+    (pair_reads (ascending_at id_cmp id_at) nothing_at seen_law nothing_reads)))))))
 
 -- what the fields give is a row that can be kept
 pub fields_row : (bytes rest : List ℕ) (row : Contents) → IsBytes bytes → fields_at bytes ≡ Some (row, rest) → IsRow row

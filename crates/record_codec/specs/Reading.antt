@@ -21,7 +21,7 @@ fields_at bytes = do
   pending ← ascending_at delivery_cmp delivery_at timers.1
   seen ← ascending_at id_cmp id_at pending.1
   keep (nat_lt last.0 (2 ^ 32) && nat_le floor.0 (2 ^ 32) && kept_from floor.0 seen.0)
-    (record { state = state.0; timers = timers.0; pending = pending.0; seen = seen.0; floor = floor.0; last = last.0 }, seen.1)
+      (record { state = state.0; timers = timers.0; pending = pending.0; seen = seen.0; floor = floor.0; last = last.0 }, seen.1)
 
 -- a row
 unfoldable pub row_at : List ℕ → Option (Contents × List ℕ)

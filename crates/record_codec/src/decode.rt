@@ -8,7 +8,7 @@ ghost use Rattle.record_codec.specs.Reading.{kept_from, fields_at, row_at, whole
 
 use crate::refusal::RowRefusal;
 use mw_types::{Delivery, RecordId, Timer};
-use row_parts::{take_ascending, take_state, Row, Spelled, StateRefusal};
+use row_parts::{Row, Spelled, StateRefusal, take_ascending, take_state};
 use std::alloc::Global;
 
 // The number of entries that a history may have.
@@ -77,10 +77,10 @@ pub fn decode_row(alloc: Global, bytes: &[u8]) -> Result<Row, RowRefusal>
     ensures found { IfOk result (λ row. IsSpelledRow row × (bytes.now ≡ spelling_of row)) }
     // The row that has these bytes is answered, unless memory runs out.
     ensures only { (row : Contents) → IsSpelledRow row → bytes.now ≡ spelling_of row
-      → MatchResult result (λ answered. answered ≡ row) (λ refusal. refusal ≡ RowRefusal.NoMemory) }
+        → MatchResult result (λ answered. answered ≡ row) (λ refusal. refusal ≡ RowRefusal.NoMemory) }
     // Damaged is answered only where no row has these bytes.
     ensures damaged { IsErrOf result RowRefusal.Damaged
-      → (row : Contents) → IsSpelledRow row → bytes.now ≢ spelling_of row }
+        → (row : Contents) → IsSpelledRow row → bytes.now ≢ spelling_of row }
 {
     match take_whole(alloc, bytes) {
         Ok(row) => Ok(row),

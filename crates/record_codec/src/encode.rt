@@ -3,7 +3,7 @@ ghost use Rattle.std.specs.Prelude.{◌≡◌, IfOk, OnOk};
 ghost use Rattle.row_parts.specs.Spelling.{spelling_of, IsSpelledRow};
 
 use mw_types::{Bytes, NoMemory};
-use row_parts::{put_list, put_state, Row, Spelled};
+use row_parts::{Row, Spelled, put_list, put_state};
 use std::alloc::Global;
 
 // The version of the form of rows, which is their first byte.

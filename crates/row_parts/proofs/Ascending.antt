@@ -21,9 +21,10 @@ unfolding IsStrictlySortedBy
 adjacent_decides o [] true all = (λ e. tt, λ s. refl)
 adjacent_decides {X} {cmp} o (x ∷ xs) true all = (λ e. sorted_from_all_adjacent o (x ∷ xs) x (λ k h. is_less (cmp (get_or (x ∷ xs) k x) (get_or (x ∷ xs) (k + 1) x)) (all k x h)), λ s. refl)
 adjacent_decides o [] false some = absurd (omega (arith, some.1))
-adjacent_decides {X} {cmp} o (x ∷ xs) false some =
-    (λ e. absurd cc,
-     λ s. some.2 x ∙ ap is_lt (Less-from_sorted cmp (x ∷ xs) some.0 (some.0 + 1) x s (omega arith) some.1))
+adjacent_decides {X} {cmp} o (x ∷ xs) false some = (
+  λ e. absurd cc,
+  λ s. some.2 x ∙ ap is_lt (Less-from_sorted cmp (x ∷ xs) some.0 (some.0 + 1) x s (omega arith) some.1),
+)
 
 both : (a b : Bool) → a && b ≡ true → (a ≡ true) × (b ≡ true)
 both true true e = (refl, refl)

@@ -56,8 +56,8 @@ pub as_read : {X : Type 0} {spelling spelling' : X → List ℕ} {Fits Fits' : X
     → ((bytes : List ℕ) → read' bytes ≡ read bytes) → ((x : X) → spelling' x ≡ spelling x) → ((x : X) → Fits' x → Fits x) → ((x : X) → Fits x → Fits' x) → Reads spelling Fits read → Reads spelling' Fits' read'
 as_read read' same spelled to from reads = record {
   takes = λ bytes x fits e.
-    let t = reads.takes bytes x fits (sym (same bytes) ∙ e) in
-    (t.0 ∙ ap (λ (l : List ℕ). l ++ x.1) (sym (spelled x.0)), t.1, from x.0 t.2);
+      let t = reads.takes bytes x fits (sym (same bytes) ∙ e) in
+      (t.0 ∙ ap (λ (l : List ℕ). l ++ x.1) (sym (spelled x.0)), t.1, from x.0 t.2);
   again = λ x rest fits. same _ ∙ rw (spelled x) (reads.again x rest (to x fits));
 }
 
@@ -97,17 +97,17 @@ wide64 = record {
 pub number_reads : (w : Width) (limit : ℕ) → IsWide w limit → Reads (to_be_bytes w) (λ n. n < limit) (number_at w)
 number_reads w limit wide = record {
   takes = λ bytes x fits e.
-    let g = guard_some (ltb (length bytes) (byte_len w)) (from_be_bytes w (take (byte_len w) bytes), drop (byte_len w) bytes) x e in
-    let long : byte_len w ≤ length bytes = ltb-false _ _ g.0 in
-    let len : length (take (byte_len w) bytes) ≡ byte_len w = omega (arith, length-take (byte_len w) bytes) in
-    let front : IsBytes (take (byte_len w) bytes) = IsBytes-take (byte_len w) bytes fits in
-    let whole : bytes ≡ to_be_bytes w (from_be_bytes w (take (byte_len w) bytes)) ++ drop (byte_len w) bytes =
+      let g = guard_some (ltb (length bytes) (byte_len w)) (from_be_bytes w (take (byte_len w) bytes), drop (byte_len w) bytes) x e in
+      let long : byte_len w ≤ length bytes = ltb-false _ _ g.0 in
+      let len : length (take (byte_len w) bytes) ≡ byte_len w = omega (arith, length-take (byte_len w) bytes) in
+      let front : IsBytes (take (byte_len w) bytes) = IsBytes-take (byte_len w) bytes fits in
+      let whole : bytes ≡ to_be_bytes w (from_be_bytes w (take (byte_len w) bytes)) ++ drop (byte_len w) bytes =
       sym (take-append-drop (byte_len w) bytes) ∙ ap (λ (l : List ℕ). l ++ drop (byte_len w) bytes) (sym (wide.back (take (byte_len w) bytes) len front)) in
-    subst (λ (y : ℕ × List ℕ). (bytes ≡ to_be_bytes w y.0 ++ y.1) × IsBytes y.1 × (y.0 < limit)) g.1 (whole, IsBytes-drop (byte_len w) bytes fits, wide.below (take (byte_len w) bytes) front);
+      subst (λ (y : ℕ × List ℕ). (bytes ≡ to_be_bytes w y.0 ++ y.1) × IsBytes y.1 × (y.0 < limit)) g.1 (whole, IsBytes-drop (byte_len w) bytes fits, wide.below (take (byte_len w) bytes) front);
   again = λ n rest lt.
-    let len = wide.len n in
-    let long : ltb (length (to_be_bytes w n ++ rest)) (byte_len w) ≡ false = le-ltb _ _ (omega (arith, length-append (to_be_bytes w n) rest)) in
-    rw (long, take_at (to_be_bytes w n) rest (byte_len w) len, drop_at (to_be_bytes w n) rest (byte_len w) len, wide.again n lt) refl;
+      let len = wide.len n in
+      let long : ltb (length (to_be_bytes w n ++ rest)) (byte_len w) ≡ false = le-ltb _ _ (omega (arith, length-append (to_be_bytes w n) rest)) in
+      rw (long, take_at (to_be_bytes w n) rest (byte_len w) len, drop_at (to_be_bytes w n) rest (byte_len w) len, wide.again n lt) refl;
 }
 
 -- ---- one value after another
@@ -133,14 +133,14 @@ pub pair_reads : {X Y : Type 0} {s : X → List ℕ} {t : Y → List ℕ} {F : X
     → Reads s F r → Reads t G q → Reads (λ (p : X × Y). s p.0 ++ t p.1) (λ p. F p.0 × G p.1) (pair_at r q)
 pair_reads {X} {Y} {s} {t} {F} {G} r q one two = record {
   takes = λ bytes x fits e.
-    let a = bind_some (r bytes) (λ a. q a.1 >>= λ b. Some ((a.0, b.0), b.1)) x e in
-    let b = bind_some (q a.0.1) (λ b. Some ((a.0.0, b.0), b.1)) x a.2 in
-    let t1 = one.takes bytes a.0 fits a.1 in
-    let t2 = two.takes a.0.1 b.0 t1.1 b.1 in
-    let whole : bytes ≡ (s a.0.0 ++ t b.0.0) ++ b.0.1 = t1.0 ∙ ap (λ (l : List ℕ). s a.0.0 ++ l) t2.0 ∙ sym (append_assoc (s a.0.0) (t b.0.0) b.0.1) in
-    subst (λ (y : (X × Y) × List ℕ). (bytes ≡ (s y.0.0 ++ t y.0.1) ++ y.1) × IsBytes y.1 × (F y.0.0 × G y.0.1)) (some_is ((a.0.0, b.0.0), b.0.1) x b.2) (whole, t2.1, (t1.2, t2.2));
+      let a = bind_some (r bytes) (λ a. q a.1 >>= λ b. Some ((a.0, b.0), b.1)) x e in
+      let b = bind_some (q a.0.1) (λ b. Some ((a.0.0, b.0), b.1)) x a.2 in
+      let t1 = one.takes bytes a.0 fits a.1 in
+      let t2 = two.takes a.0.1 b.0 t1.1 b.1 in
+      let whole : bytes ≡ (s a.0.0 ++ t b.0.0) ++ b.0.1 = t1.0 ∙ ap (λ (l : List ℕ). s a.0.0 ++ l) t2.0 ∙ sym (append_assoc (s a.0.0) (t b.0.0) b.0.1) in
+      subst (λ (y : (X × Y) × List ℕ). (bytes ≡ (s y.0.0 ++ t y.0.1) ++ y.1) × IsBytes y.1 × (F y.0.0 × G y.0.1)) (some_is ((a.0.0, b.0.0), b.0.1) x b.2) (whole, t2.1, (t1.2, t2.2));
   again = λ p rest fits.
-    ap (pair_at r q) (append_assoc (s p.0) (t p.1) rest) ∙ rw (one.again p.0 (t p.1 ++ rest) fits.0, two.again p.1 rest fits.1) refl;
+      ap (pair_at r q) (append_assoc (s p.0) (t p.1) rest) ∙ rw (one.again p.0 (t p.1 ++ rest) fits.0, two.again p.1 rest fits.1) refl;
 }
 
 -- a value that is made of what was read, where a test of it passes
@@ -149,16 +149,16 @@ pub made_reads : {X Z : Type 0} {s : X → List ℕ} {F : X → Type 0} (r : Lis
     → Reads s F r → Reads (λ z. s (from z)) (λ z. F (from z) × Q (from z)) (λ bytes. r bytes >>= λ x. keep (test x.0) (to x.0, x.1))
 made_reads {X} {Z} {s} {F} r test Q decides to from there back reads = record {
   takes = λ bytes z fits e.
-    let a = bind_some (r bytes) (λ x. keep (test x.0) (to x.0, x.1)) z e in
-    let k = keep_some (test a.0.0) (to a.0.0, a.0.1) z a.2 in
-    let t = reads.takes bytes a.0 fits a.1 in
-    let is : a.0.0 ≡ from z.0 = sym (back a.0.0) ∙ ap (λ (y : Z × List ℕ). from y.0) k.1 in
-    let rest : a.0.1 ≡ z.1 = ap (λ (y : Z × List ℕ). y.1) k.1 in
-    let q : Q a.0.0 = (decides a.0.0).0 k.0 in
-    (t.0 ∙ ap (λ (x : X). s x ++ a.0.1) is ∙ ap (λ (l : List ℕ). s (from z.0) ++ l) rest, subst IsBytes rest t.1, (subst F is t.2, subst Q is q));
+      let a = bind_some (r bytes) (λ x. keep (test x.0) (to x.0, x.1)) z e in
+      let k = keep_some (test a.0.0) (to a.0.0, a.0.1) z a.2 in
+      let t = reads.takes bytes a.0 fits a.1 in
+      let is : a.0.0 ≡ from z.0 = sym (back a.0.0) ∙ ap (λ (y : Z × List ℕ). from y.0) k.1 in
+      let rest : a.0.1 ≡ z.1 = ap (λ (y : Z × List ℕ). y.1) k.1 in
+      let q : Q a.0.0 = (decides a.0.0).0 k.0 in
+      (t.0 ∙ ap (λ (x : X). s x ++ a.0.1) is ∙ ap (λ (l : List ℕ). s (from z.0) ++ l) rest, subst IsBytes rest t.1, (subst F is t.2, subst Q is q));
   again = λ z rest fits.
-    let passes : test (from z) ≡ true = (decides (from z)).1 fits.1 in
-    rw (reads.again (from z) rest fits.0, passes, there z) refl;
+      let passes : test (from z) ≡ true = (decides (from z)).1 fits.1 in
+      rw (reads.again (from z) rest fits.0, passes, there z) refl;
 }
 
 by_cases : {A B : Type 0} (o : Option A) (f g : A → Option B) → ((a : A) → f a ≡ g a) → (o >>= f) ≡ (o >>= g)
@@ -209,16 +209,16 @@ pub list_reads : {X : Type 0} {s : X → List ℕ} {F : X → Type 0} (r : List 
 unfolding list_at
 list_reads {X} {s} {F} r reads = record {
   takes = λ bytes x fits e.
-    let a = bind_some (number_at w32 bytes) (λ count. times_at r count.0 count.1) x e in
-    let n = (number_reads w32 (2 ^ 32) wide32).takes bytes a.0 fits a.1 in
-    let xs = times_take r reads a.0.0 a.0.1 x n.1 a.2 in
-    let tail : bytes ≡ to_be_bytes w32 a.0.0 ++ ((flat_map s x.0 ++ []) ++ x.1) = n.0 ∙ ap (λ (l : List ℕ). to_be_bytes w32 a.0.0 ++ l) (xs.0 ∙ ap (λ (l : List ℕ). l ++ x.1) (sym (append-nil (flat_map s x.0)))) in
-    let counted : bytes ≡ to_be_bytes w32 (length x.0) ++ ((flat_map s x.0 ++ []) ++ x.1) = subst (λ (k : ℕ). bytes ≡ to_be_bytes w32 k ++ ((flat_map s x.0 ++ []) ++ x.1)) (sym xs.2) tail in
-    (counted ∙ sym (append_assoc (to_be_bytes w32 (length x.0)) (flat_map s x.0 ++ []) x.1), xs.1, (omega (arith, xs.2, n.2), xs.3));
+      let a = bind_some (number_at w32 bytes) (λ count. times_at r count.0 count.1) x e in
+      let n = (number_reads w32 (2 ^ 32) wide32).takes bytes a.0 fits a.1 in
+      let xs = times_take r reads a.0.0 a.0.1 x n.1 a.2 in
+      let tail : bytes ≡ to_be_bytes w32 a.0.0 ++ ((flat_map s x.0 ++ []) ++ x.1) = n.0 ∙ ap (λ (l : List ℕ). to_be_bytes w32 a.0.0 ++ l) (xs.0 ∙ ap (λ (l : List ℕ). l ++ x.1) (sym (append-nil (flat_map s x.0)))) in
+      let counted : bytes ≡ to_be_bytes w32 (length x.0) ++ ((flat_map s x.0 ++ []) ++ x.1) = subst (λ (k : ℕ). bytes ≡ to_be_bytes w32 k ++ ((flat_map s x.0 ++ []) ++ x.1)) (sym xs.2) tail in
+      (counted ∙ sym (append_assoc (to_be_bytes w32 (length x.0)) (flat_map s x.0 ++ []) x.1), xs.1, (omega (arith, xs.2, n.2), xs.3));
   again = λ xs rest fits.
-    let regrouped : list_spelling s xs ++ rest ≡ to_be_bytes w32 (length xs) ++ (flat_map s xs ++ rest) =
+      let regrouped : list_spelling s xs ++ rest ≡ to_be_bytes w32 (length xs) ++ (flat_map s xs ++ rest) =
       append_assoc (to_be_bytes w32 (length xs)) (flat_map s xs ++ []) rest ∙ ap (λ (l : List ℕ). to_be_bytes w32 (length xs) ++ (l ++ rest)) (append-nil (flat_map s xs)) in
-    ap (list_at r) regrouped ∙ rw ((number_reads w32 (2 ^ 32) wide32).again (length xs) (flat_map s xs ++ rest) fits.0) (times_again r reads xs rest fits.1);
+      ap (list_at r) regrouped ∙ rw ((number_reads w32 (2 ^ 32) wide32).again (length xs) (flat_map s xs ++ rest) fits.0) (times_again r reads xs rest fits.1);
 }
 
 -- a list in strict order

@@ -37,11 +37,11 @@ pub signed_reads : Reads signed_spelling (FitsSigned w64) signed_at
 unfolding signed_at
 signed_reads = record {
   takes = λ bytes x fits e.
-    let a = bind_some (number_at w64 bytes) (λ n. Some (cast_signed w64 n.0, n.1)) x e in
-    let t = u64_reads.takes bytes a.0 fits a.1 in
-    let back : cast_unsigned w64 (cast_signed w64 a.0.0) ≡ a.0.0 = of_z-to_z w64 a.0.0 t.2 in
-    let whole : bytes ≡ to_be_bytes w64 (cast_unsigned w64 (cast_signed w64 a.0.0)) ++ a.0.1 = t.0 ∙ ap (λ (n : ℕ). to_be_bytes w64 n ++ a.0.1) (sym back) in
-    subst (λ (y : ℤ × List ℕ). (bytes ≡ signed_spelling y.0 ++ y.1) × IsBytes y.1 × FitsSigned w64 y.0) (some_is (cast_signed w64 a.0.0, a.0.1) x a.2) (whole, t.1, sfits_to_z {w = w64} {n = a.0.0} (Fits-of_lt t.2));
+      let a = bind_some (number_at w64 bytes) (λ n. Some (cast_signed w64 n.0, n.1)) x e in
+      let t = u64_reads.takes bytes a.0 fits a.1 in
+      let back : cast_unsigned w64 (cast_signed w64 a.0.0) ≡ a.0.0 = of_z-to_z w64 a.0.0 t.2 in
+      let whole : bytes ≡ to_be_bytes w64 (cast_unsigned w64 (cast_signed w64 a.0.0)) ++ a.0.1 = t.0 ∙ ap (λ (n : ℕ). to_be_bytes w64 n ++ a.0.1) (sym back) in
+      subst (λ (y : ℤ × List ℕ). (bytes ≡ signed_spelling y.0 ++ y.1) × IsBytes y.1 × FitsSigned w64 y.0) (some_is (cast_signed w64 a.0.0, a.0.1) x a.2) (whole, t.1, sfits_to_z {w = w64} {n = a.0.0} (Fits-of_lt t.2));
   again = λ z rest fits. rw (u64_reads.again (cast_unsigned w64 z) rest (omega (arith, Fits-of_z {w = w64} {z = z} fits)), to_z-of_z w64 z fits) refl;
 }
 
@@ -101,7 +101,7 @@ key_again : (key rest : List ℕ) → IsKey key → key_at (key_spelling key ++ 
 unfolding key_at
 key_again key rest fits =
     let regrouped : key_spelling key ++ rest ≡ to_be_bytes w16 (length key) ++ (key ++ rest) =
-      append_assoc (to_be_bytes w16 (length key)) (key ++ []) rest ∙ ap (λ (l : List ℕ). to_be_bytes w16 (length key) ++ (l ++ rest)) (append-nil key) in
+    append_assoc (to_be_bytes w16 (length key)) (key ++ []) rest ∙ ap (λ (l : List ℕ). to_be_bytes w16 (length key) ++ (l ++ rest)) (append-nil key) in
     let inside : nat_le (length key) (length (key ++ rest)) ≡ true = le-leb _ _ (omega (arith, length-append key rest)) in
     ap key_at regrouped ∙ rw (u16_reads.again (length key) (key ++ rest) (omega (arith, fits.short)), le-leb (length key) 256 fits.short, inside, take_at key rest (length key) refl, drop_at key rest (length key) refl, is_utf8-from_IsUtf8 key fits.text) refl
 
@@ -117,9 +117,9 @@ id_reads =
     let k : ℕ × (ℕ × ⊤) → List ℕ → Option (RecordId × List ℕ) = λ p rest. keep (test p) (to p, rest) in
     let tail = pair_at (number_at w32) nothing_at in
     as_read id_at (λ bytes. more (number_at w64) tail bytes k _ (λ a. more (number_at w32) nothing_at a.1 (λ p rest. k (a.0, p) rest) _ (λ b. refl)))
-      (λ id. refl) (λ id f. ((omega (arith, f.commit), (omega (arith, f.index), tt)), (f.commit, f.index))) (λ id f. record { commit = f.1.0; index = f.1.1 })
-      (made_reads (pair_at (number_at w64) tail) test (λ p. (p.0 < 2 ^ 32) × (p.1.0 < 512)) (λ p. both (below p.0 (2 ^ 32)) (below p.1.0 512)) to from (λ id. refl) (λ p. refl)
-        (pair_reads (number_at w64) tail u64_reads (pair_reads (number_at w32) nothing_at u32_reads nothing_reads)))
+    (λ id. refl) (λ id f. ((omega (arith, f.commit), (omega (arith, f.index), tt)), (f.commit, f.index))) (λ id f. record { commit = f.1.0; index = f.1.1 })
+    (made_reads (pair_at (number_at w64) tail) test (λ p. (p.0 < 2 ^ 32) × (p.1.0 < 512)) (λ p. both (below p.0 (2 ^ 32)) (below p.1.0 512)) to from (λ id. refl) (λ p. refl)
+    (pair_reads (number_at w64) tail u64_reads (pair_reads (number_at w32) nothing_at u32_reads nothing_reads)))
 
 pub window_reads : Reads window_spelling (λ w. (w.end ≤ MAX_STAMP) × (w.count ≤ MAX_STAMP)) window_at
 unfolding window_at
@@ -130,9 +130,9 @@ window_reads =
     let k : ℕ × (ℕ × ⊤) → List ℕ → Option (Window × List ℕ) = λ p rest. keep (test p) (to p, rest) in
     let tail = pair_at (number_at w64) nothing_at in
     as_read window_at (λ bytes. more (number_at w64) tail bytes k _ (λ a. more (number_at w64) nothing_at a.1 (λ p rest. k (a.0, p) rest) _ (λ b. refl)))
-      (λ w. refl) (λ w f. ((omega (arith, f.0), (omega (arith, f.1), tt)), f)) (λ w f. f.1)
-      (made_reads (pair_at (number_at w64) tail) test (λ p. (p.0 ≤ MAX_STAMP) × (p.1.0 ≤ MAX_STAMP)) (λ p. both (at_most p.0 MAX_STAMP) (at_most p.1.0 MAX_STAMP)) to from (λ w. refl) (λ p. refl)
-        (pair_reads (number_at w64) tail u64_reads (pair_reads (number_at w64) nothing_at u64_reads nothing_reads)))
+    (λ w. refl) (λ w f. ((omega (arith, f.0), (omega (arith, f.1), tt)), f)) (λ w f. f.1)
+    (made_reads (pair_at (number_at w64) tail) test (λ p. (p.0 ≤ MAX_STAMP) × (p.1.0 ≤ MAX_STAMP)) (λ p. both (at_most p.0 MAX_STAMP) (at_most p.1.0 MAX_STAMP)) to from (λ w. refl) (λ p. refl)
+    (pair_reads (number_at w64) tail u64_reads (pair_reads (number_at w64) nothing_at u64_reads nothing_reads)))
 
 pub held_reads : Reads held_spelling (λ h. (h.stamp ≤ MAX_STAMP) × FitsSigned w64 h.value) held_at
 unfolding held_at
@@ -143,9 +143,9 @@ held_reads =
     let k : ℕ × (ℤ × ⊤) → List ℕ → Option (HeldTotal × List ℕ) = λ p rest. keep (test p) (to p, rest) in
     let tail = pair_at signed_at nothing_at in
     as_read held_at (λ bytes. more (number_at w64) tail bytes k _ (λ a. more signed_at nothing_at a.1 (λ p rest. k (a.0, p) rest) _ (λ b. refl)))
-      (λ h. refl) (λ h f. ((omega (arith, f.0), (f.1, tt)), f.0)) (λ h f. (f.1, f.0.1.0))
-      (made_reads (pair_at (number_at w64) tail) test (λ p. p.0 ≤ MAX_STAMP) (λ p. at_most p.0 MAX_STAMP) to from (λ h. refl) (λ p. refl)
-        (pair_reads (number_at w64) tail u64_reads (pair_reads signed_at nothing_at signed_reads nothing_reads)))
+    (λ h. refl) (λ h f. ((omega (arith, f.0), (f.1, tt)), f.0)) (λ h f. (f.1, f.0.1.0))
+    (made_reads (pair_at (number_at w64) tail) test (λ p. p.0 ≤ MAX_STAMP) (λ p. at_most p.0 MAX_STAMP) to from (λ h. refl) (λ p. refl)
+    (pair_reads (number_at w64) tail u64_reads (pair_reads signed_at nothing_at signed_reads nothing_reads)))
 
 pub timer_reads : Reads timer_spelling (λ t. (t.time ≤ MAX_STAMP) × (t.tag < 2 ^ 64)) timer_at
 unfolding timer_at
@@ -157,9 +157,9 @@ timer_reads =
     let tail = pair_at flag_at nothing_at in
     let tails = pair_at (number_at w64) tail in
     as_read timer_at (λ bytes. more (number_at w64) tails bytes k _ (λ a. more (number_at w64) tail a.1 (λ p rest. k (a.0, p) rest) _ (λ b. more flag_at nothing_at b.1 (λ p rest. k (a.0, (b.0, p)) rest) _ (λ c. refl))))
-      (λ t. refl) (λ t f. ((omega (arith, f.0), (f.1, (tt, tt))), f.0)) (λ t f. (f.1, f.0.1.0))
-      (made_reads (pair_at (number_at w64) tails) test (λ p. p.0 ≤ MAX_STAMP) (λ p. at_most p.0 MAX_STAMP) to from (λ t. refl) (λ p. refl)
-        (pair_reads (number_at w64) tails u64_reads (pair_reads (number_at w64) tail u64_reads (pair_reads flag_at nothing_at flag_reads nothing_reads))))
+    (λ t. refl) (λ t f. ((omega (arith, f.0), (f.1, (tt, tt))), f.0)) (λ t f. (f.1, f.0.1.0))
+    (made_reads (pair_at (number_at w64) tails) test (λ p. p.0 ≤ MAX_STAMP) (λ p. at_most p.0 MAX_STAMP) to from (λ t. refl) (λ p. refl)
+    (pair_reads (number_at w64) tails u64_reads (pair_reads (number_at w64) tail u64_reads (pair_reads flag_at nothing_at flag_reads nothing_reads))))
 
 name_reads : Reads name_spelling (λ name. (name.part < 2 ^ 32) × IsKey name.key) name_at
 unfolding name_at
@@ -169,9 +169,9 @@ name_reads =
     let k : ℕ × (List ℕ × ⊤) → List ℕ → Option (RowName × List ℕ) = λ p rest. keep true (to p, rest) in
     let tail = pair_at key_at nothing_at in
     as_read name_at (λ bytes. more (number_at w32) tail bytes k _ (λ a. more key_at nothing_at a.1 (λ p rest. k (a.0, p) rest) _ (λ b. refl)))
-      (λ name. refl) (λ name f. ((f.0, (f.1, tt)), tt)) (λ name f. (f.0.0, f.0.1.0))
-      (made_reads (pair_at (number_at w32) tail) (λ p. true) (λ p. ⊤) always to from (λ name. refl) (λ p. refl)
-        (pair_reads (number_at w32) tail u32_reads (pair_reads key_at nothing_at key_reads nothing_reads)))
+    (λ name. refl) (λ name f. ((f.0, (f.1, tt)), tt)) (λ name f. (f.0.0, f.0.1.0))
+    (made_reads (pair_at (number_at w32) tail) (λ p. true) (λ p. ⊤) always to from (λ name. refl) (λ p. refl)
+    (pair_reads (number_at w32) tail u32_reads (pair_reads key_at nothing_at key_reads nothing_reads)))
 
 record_reads : Reads record_spelling (λ r. IsKey r.key × (r.stamp ≤ MAX_STAMP) × FitsSigned w64 r.value) record_at
 unfolding record_at
@@ -184,11 +184,11 @@ record_reads =
     let second = pair_at signed_at third in
     let first = pair_at (number_at w64) second in
     as_read record_at
-      (λ bytes. more key_at first bytes k _ (λ a. more (number_at w64) second a.1 (λ p rest. k (a.0, p) rest) _
-        (λ b. more signed_at third b.1 (λ p rest. k (a.0, (b.0, p)) rest) _ (λ c. more flag_at nothing_at c.1 (λ p rest. k (a.0, (b.0, (c.0, p))) rest) _ (λ d. refl)))))
-      (λ r. refl) (λ r f. ((f.0, (omega (arith, f.1), (f.2, (tt, tt)))), f.1)) (λ r f. (f.0.0, f.1, f.0.1.1.0))
-      (made_reads (pair_at key_at first) test (λ p. p.1.0 ≤ MAX_STAMP) (λ p. at_most p.1.0 MAX_STAMP) to from (λ r. refl) (λ p. refl)
-        (pair_reads key_at first key_reads (pair_reads (number_at w64) second u64_reads (pair_reads signed_at third signed_reads (pair_reads flag_at nothing_at flag_reads nothing_reads)))))
+    (λ bytes. more key_at first bytes k _ (λ a. more (number_at w64) second a.1 (λ p rest. k (a.0, p) rest) _
+    (λ b. more signed_at third b.1 (λ p rest. k (a.0, (b.0, p)) rest) _ (λ c. more flag_at nothing_at c.1 (λ p rest. k (a.0, (b.0, (c.0, p))) rest) _ (λ d. refl)))))
+    (λ r. refl) (λ r f. ((f.0, (omega (arith, f.1), (f.2, (tt, tt)))), f.1)) (λ r f. (f.0.0, f.1, f.0.1.1.0))
+    (made_reads (pair_at key_at first) test (λ p. p.1.0 ≤ MAX_STAMP) (λ p. at_most p.1.0 MAX_STAMP) to from (λ r. refl) (λ p. refl)
+    (pair_reads key_at first key_reads (pair_reads (number_at w64) second u64_reads (pair_reads signed_at third signed_reads (pair_reads flag_at nothing_at flag_reads nothing_reads)))))
 
 pub delivery_reads : Reads delivery_spelling (λ d. IsDelivery d × DeliveryFits d) delivery_at
 unfolding delivery_at
@@ -199,9 +199,9 @@ delivery_reads =
     let second = pair_at record_at nothing_at in
     let first = pair_at name_at second in
     as_read delivery_at
-      (λ bytes. more id_at first bytes k _ (λ a. more name_at second a.1 (λ p rest. k (a.0, p) rest) _ (λ b. more record_at nothing_at b.1 (λ p rest. k (a.0, (b.0, p)) rest) _ (λ c. refl))))
-      (λ d. refl)
-      (λ d f. ((f.0.id, ((f.1.part, f.0.to), ((f.0.key, f.0.stamp, f.1.value), tt))), tt))
-      (λ d f. (record { id = f.0.0; to = f.0.1.0.1; key = f.0.1.1.0.0; stamp = f.0.1.1.0.1 }, record { part = f.0.1.0.0; value = f.0.1.1.0.2 }))
-      (made_reads (pair_at id_at first) (λ p. true) (λ p. ⊤) always to from (λ d. refl) (λ p. refl)
-        (pair_reads id_at first id_reads (pair_reads name_at second name_reads (pair_reads record_at nothing_at record_reads nothing_reads))))
+    (λ bytes. more id_at first bytes k _ (λ a. more name_at second a.1 (λ p rest. k (a.0, p) rest) _ (λ b. more record_at nothing_at b.1 (λ p rest. k (a.0, (b.0, p)) rest) _ (λ c. refl))))
+    (λ d. refl)
+    (λ d f. ((f.0.id, ((f.1.part, f.0.to), ((f.0.key, f.0.stamp, f.1.value), tt))), tt))
+    (λ d f. (record { id = f.0.0; to = f.0.1.0.1; key = f.0.1.1.0.0; stamp = f.0.1.1.0.1 }, record { part = f.0.1.0.0; value = f.0.1.1.0.2 }))
+    (made_reads (pair_at id_at first) (λ p. true) (λ p. ⊤) always to from (λ d. refl) (λ p. refl)
+    (pair_reads id_at first id_reads (pair_reads name_at second name_reads (pair_reads record_at nothing_at record_reads nothing_reads))))

@@ -31,14 +31,14 @@ is_place key {R} o k xs (Ok at) sorted within here = record {
   within = within;
   here = here;
   before = λ i d h.
-    let below : i < at = omega (arith, length-take at xs) in
-    let up : R (key (get_or xs i d)) (key (get_or xs at d)) ≡ Less = Less-from_sorted (on key R) xs i at d sorted below within in
-    rw (get_or-take at xs i d below) (sym (alike_right o (key (get_or xs at d)) k (key (get_or xs i d)) (here d)) ∙ up);
+      let below : i < at = omega (arith, length-take at xs) in
+      let up : R (key (get_or xs i d)) (key (get_or xs at d)) ≡ Less = Less-from_sorted (on key R) xs i at d sorted below within in
+      rw (get_or-take at xs i d below) (sym (alike_right o (key (get_or xs at d)) k (key (get_or xs i d)) (here d)) ∙ up);
   behind = λ i d h.
-    let above : at + 1 + i < length xs = omega (arith, length-drop (at + 1) xs) in
-    let up : R (key (get_or xs at d)) (key (get_or xs (at + 1 + i) d)) ≡ Less = Less-from_sorted (on key R) xs at (at + 1 + i) d sorted (omega arith) above in
-    let down : R k (key (get_or xs (at + 1 + i) d)) ≡ Less = sym (o.congr (key (get_or xs at d)) k (key (get_or xs (at + 1 + i) d)) (here d)) ∙ up in
-    rw (get_or-drop (at + 1) xs i d) (o.antisymm (key (get_or xs (at + 1 + i) d)) k ∙ ap ordering_reverse down);
+      let above : at + 1 + i < length xs = omega (arith, length-drop (at + 1) xs) in
+      let up : R (key (get_or xs at d)) (key (get_or xs (at + 1 + i) d)) ≡ Less = Less-from_sorted (on key R) xs at (at + 1 + i) d sorted (omega arith) above in
+      let down : R k (key (get_or xs (at + 1 + i) d)) ≡ Less = sym (o.congr (key (get_or xs at d)) k (key (get_or xs (at + 1 + i) d)) (here d)) ∙ up in
+      rw (get_or-drop (at + 1) xs i d) (o.antisymm (key (get_or xs (at + 1 + i) d)) k ∙ ap ordering_reverse down);
 }
 is_place key {R} o k xs (Err at) sorted within parted =
     let p = parted (searchable_from_sorted o key xs k (sorted_from_strict key o xs sorted)) in
@@ -54,14 +54,14 @@ pub gap_at_end : {X K : Type 0} (key : X → K) {R : K → K → Ordering} (o : 
 gap_at_end key {R} o k xs last sorted some at_end below = record {
   within = omega arith;
   before = λ i d h.
-    let inside : i < length xs = omega (arith, length-take (length xs) xs) in
-    let here : get_or xs (length xs - 1) d ≡ last = get_or_default xs (length xs - 1) d last (omega arith) ∙ at_end in
-    rw (get_or-take (length xs) xs i d inside) (elim (cases_lt i (length xs - 1)) [
-      | inl lt ↦ o.trans (key (get_or xs i d)) (key last) k (subst (λ y. R (key (get_or xs i d)) (key y) ≡ Less) here (Less-from_sorted (on key R) xs i (length xs - 1) d sorted lt (omega arith))) below
-      | inr le ↦
-        let same : i ≡ length xs - 1 = omega arith in
-        rw (same, here) below
-    ]);
+      let inside : i < length xs = omega (arith, length-take (length xs) xs) in
+      let here : get_or xs (length xs - 1) d ≡ last = get_or_default xs (length xs - 1) d last (omega arith) ∙ at_end in
+      rw (get_or-take (length xs) xs i d inside) (elim (cases_lt i (length xs - 1)) [
+        | inl lt ↦ o.trans (key (get_or xs i d)) (key last) k (subst (λ y. R (key (get_or xs i d)) (key y) ≡ Less) here (Less-from_sorted (on key R) xs i (length xs - 1) d sorted lt (omega arith))) below
+        | inr le ↦
+            let same : i ≡ length xs - 1 = omega arith in
+            rw (same, here) below
+      ]);
   behind = λ i d h. absurd (omega (arith, length-drop (length xs) xs));
 }
 
@@ -86,8 +86,8 @@ pub put_in-gap : {X : Type 0} {cmp : X → X → Ordering} (o : IsTotalOrder cmp
     → IsGap (λ x. cmp x new) xs at → put_in cmp again new xs ≡ insert xs at new
 put_in-gap {X} {cmp} o again new xs at gap =
     ap (put_in cmp again new) (sym (take-append-drop at xs))
-      ∙ put_in-past o again new (take at xs) (drop at xs) (recursion_from_All (λ x. cmp x new ≡ Less) (take at xs) gap.before)
-      ∙ ap (λ (l : List X). take at xs ++ l) (put_in-before o again new (drop at xs) (recursion_from_All (λ x. cmp x new ≡ Greater) (drop at xs) gap.behind))
+    ∙ put_in-past o again new (take at xs) (drop at xs) (recursion_from_All (λ x. cmp x new ≡ Less) (take at xs) gap.before)
+    ∙ ap (λ (l : List X). take at xs ++ l) (put_in-before o again new (drop at xs) (recursion_from_All (λ x. cmp x new ≡ Greater) (drop at xs) gap.behind))
 
 -- at a hit it takes the place of the one that is there
 pub put_in-hit : {X : Type 0} {cmp : X → X → Ordering} (o : IsTotalOrder cmp) (again : X → X → X) (new : X) (xs : List X) (at : ℕ) (d : X)
@@ -98,9 +98,9 @@ put_in-hit {X} {cmp} o again new xs at d hit =
     let rest : put_in cmp again new (drop at xs) ≡ again new x ∷ drop (at + 1) xs = rw (drop_more xs at d hit.within, tie) refl in
     let set_is : set xs at (again new x) ≡ take at xs ++ again new x ∷ drop (at + 1) xs = rw add-one (set_split xs at (again new x) hit.within) in
     ap (put_in cmp again new) (sym (take-append-drop at xs))
-      ∙ put_in-past o again new (take at xs) (drop at xs) (recursion_from_All (λ y. cmp y new ≡ Less) (take at xs) hit.before)
-      ∙ ap (λ (l : List X). take at xs ++ l) rest
-      ∙ sym set_is
+    ∙ put_in-past o again new (take at xs) (drop at xs) (recursion_from_All (λ y. cmp y new ≡ Less) (take at xs) hit.before)
+    ∙ ap (λ (l : List X). take at xs ++ l) rest
+    ∙ sym set_is
 
 -- what holds of the new element, and stays true where an element is put again, holds of all
 pub All-put_in : {X : Type 0} (P : X → Type 0) (cmp : X → X → Ordering) (again : X → X → X) (new : X) → P new → ((x : X) → P x → P (again new x))
@@ -126,9 +126,11 @@ sorted-put_in {X} {cmp} o again left right new (x ∷ xs) sorted = by (cmp new x
     later : (y : X) → cmp new x ≡ Less → (zs : List X) → AllByRecursion (λ z. cmp x z ≡ Less) zs → AllByRecursion (λ z. cmp new z ≡ Less) zs
     later y e [] all = tt
     later y e (z ∷ zs) all = (o.trans new x z e all.0, later y e zs all.1)
+
     renamed : (zs : List X) → AllByRecursion (λ z. cmp x z ≡ Less) zs → AllByRecursion (λ z. cmp (again new x) z ≡ Less) zs
     renamed [] all = tt
     renamed (z ∷ zs) all = (right new x z ∙ all.0, renamed zs all.1)
+
     by : (r : Ordering) → IsStrictlySortedBy cmp (put_in cmp again new xs) → cmp new x ≡ r → IsStrictlySortedBy cmp (match_ordering r (new ∷ x ∷ xs) (again new x ∷ xs) (x ∷ put_in cmp again new xs))
     by Less rest e = ((e, later x e xs sorted.0), sorted)
     by Equal rest e = (renamed xs sorted.0, sorted.1)
@@ -189,5 +191,5 @@ filter-hit {X} rank test means xs at d hit =
     let back = all_pass test (drop (at + 1) xs) (fails rank test Greater refl means (drop (at + 1) xs) hit.behind) in
     let rest : filter p (drop at xs) ≡ drop (suc at) xs = rw (drop_more xs at d hit.within, here) (back ∙ ap (λ (n : ℕ). drop n xs) (add-one at)) in
     let whole : filter p xs ≡ take at xs ++ drop (suc at) xs =
-      ap (filter p) (sym (take-append-drop at xs)) ∙ filter-append p (take at xs) (drop at xs) ∙ rw (front, rest) refl in
+    ap (filter p) (sym (take-append-drop at xs)) ∙ filter-append p (take at xs) (drop at xs) ∙ rw (front, rest) refl in
     (whole, one_passes test d xs at hit.within here)

@@ -112,13 +112,15 @@ pub id_inserted : (floor : ℕ) (id : RecordId) (ids slice new : List RecordId) 
 id_inserted floor id ids slice new at same are is_id above gap room written =
     let gap' : IsGap (id_rank id) ids at = subst (λ l. IsGap (id_rank id) l at) same gap in
     let whole : with_id id ids ≡ insert ids at id = put_in-gap id_cmp-total (λ new old. old) id ids at gap' in
-    let made : new ≡ with_id id ids = written ∙ sym whole in
-    (made, subst (AreSeen floor) (sym made) (record {
-      ascending = sorted-put_in id_cmp-total (λ new old. old) (λ x new old. refl) (λ new old x. refl) id ids are.ascending;
-      each = All-from_recursion IsId (with_id id ids) (All-put_in IsId id_cmp (λ new old. old) id is_id (λ u h. h) ids (recursion_from_All IsId ids are.each));
-      kept = All-from_recursion (λ (x : RecordId). floor ≤ x.commit) (with_id id ids) (All-put_in (λ (x : RecordId). floor ≤ x.commit) id_cmp (λ new old. old) id above (λ u h. h) ids (recursion_from_All (λ (x : RecordId). floor ≤ x.commit) ids are.kept));
-      few = rw (whole, length-insert ids at id gap'.within) room;
-    }))
+    let made : new ≡ with_id id ids = written ∙ sym whole in (
+      made,
+      subst (AreSeen floor) (sym made) (record {
+        ascending = sorted-put_in id_cmp-total (λ new old. old) (λ x new old. refl) (λ new old x. refl) id ids are.ascending;
+        each = All-from_recursion IsId (with_id id ids) (All-put_in IsId id_cmp (λ new old. old) id is_id (λ u h. h) ids (recursion_from_All IsId ids are.each));
+        kept = All-from_recursion (λ (x : RecordId). floor ≤ x.commit) (with_id id ids) (All-put_in (λ (x : RecordId). floor ≤ x.commit) id_cmp (λ new old. old) id above (λ u h. h) ids (recursion_from_All (λ (x : RecordId). floor ≤ x.commit) ids are.kept));
+        few = rw (whole, length-insert ids at id gap'.within) room;
+      }),
+    )
 
 -- the ids from a floor on
 pub seen_from : (old floor : ℕ) (ids : List RecordId) → AreSeen old ids → AreSeen floor (ids_from floor ids)
@@ -147,12 +149,15 @@ pub delivery_removed : (id : RecordId) (d : Delivery) (ds slice new : List Deliv
 delivery_removed id d ds slice new at same are hit written =
     let test : Delivery → Bool = λ x. same_id x.id id in
     let both = filter-hit (delivery_rank id) test (delivery-rank id) ds at d (subst (λ l. IsHit (delivery_rank id) l at) same hit) in
-    let made : new ≡ without_delivery id ds = written ∙ sym both.0 in
-    (sym both.1, made, subst ArePending (sym made) (record {
-      ascending = IsStrictlySortedBy-filter delivery_cmp (λ x. not (test x)) ds are.ascending;
-      each = All-filter (λ x. not (test x)) IsDelivery ds are.each;
-      few = omega (arith, length-filter (λ x. not (test x)) ds, are.few);
-    }))
+    let made : new ≡ without_delivery id ds = written ∙ sym both.0 in (
+      sym both.1,
+      made,
+      subst ArePending (sym made) (record {
+        ascending = IsStrictlySortedBy-filter delivery_cmp (λ x. not (test x)) ds are.ascending;
+        each = All-filter (λ x. not (test x)) IsDelivery ds are.each;
+        few = omega (arith, length-filter (λ x. not (test x)) ds, are.few);
+      }),
+    )
 
 -- a delivery that is not there
 pub delivery_kept : (id : RecordId) (ds slice : List Delivery) (at : ℕ) → slice ≡ ds → IsGap (delivery_rank id) slice at

@@ -70,9 +70,10 @@ windows_are ws f = record {
 }
 
 windows_read : (ws : List Window) → AreWindows ws → ReadWindows ws
-windows_read ws are =
-    ((are.few, twice _ _ ws (recursion_from_All (λ (w : Window). w.end ≤ MAX_STAMP) ws are.ends) (recursion_from_All (λ (w : Window). w.count ≤ MAX_STAMP) ws are.counts)),
-     sorted_by_keys (λ (w : Window). w.end) ws are.ascending)
+windows_read ws are = (
+  (are.few, twice _ _ ws (recursion_from_All (λ (w : Window). w.end ≤ MAX_STAMP) ws are.ends) (recursion_from_All (λ (w : Window). w.count ≤ MAX_STAMP) ws are.counts)),
+  sorted_by_keys (λ (w : Window). w.end) ws are.ascending,
+)
 
 abbrev InHeld : HeldTotal → Type 0
 InHeld h = (h.stamp ≤ MAX_STAMP) × FitsSigned w64 h.value
@@ -81,16 +82,20 @@ abbrev ReadHeld : List HeldTotal → Type 0
 ReadHeld hs = ((length hs < 2 ^ 32) × AllByRecursion InHeld hs) × IsStrictlySortedBy held_cmp hs
 
 held_are : (hs : List HeldTotal) → ReadHeld hs → AreHeld hs × All (λ (h : HeldTotal). FitsSigned w64 h.value) hs
-held_are hs f = (record {
-  ascending = sorted_keys (λ (h : HeldTotal). h.stamp) hs f.1;
-  stamps = All-from_recursion (λ (h : HeldTotal). h.stamp ≤ MAX_STAMP) hs (weaker (λ h p. p.0) hs f.0.1);
-  few = f.0.0;
-}, All-from_recursion (λ (h : HeldTotal). FitsSigned w64 h.value) hs (weaker (λ h p. p.1) hs f.0.1))
+held_are hs f = (
+  record {
+    ascending = sorted_keys (λ (h : HeldTotal). h.stamp) hs f.1;
+    stamps = All-from_recursion (λ (h : HeldTotal). h.stamp ≤ MAX_STAMP) hs (weaker (λ h p. p.0) hs f.0.1);
+    few = f.0.0;
+  },
+  All-from_recursion (λ (h : HeldTotal). FitsSigned w64 h.value) hs (weaker (λ h p. p.1) hs f.0.1),
+)
 
 held_read : (hs : List HeldTotal) → AreHeld hs → All (λ (h : HeldTotal). FitsSigned w64 h.value) hs → ReadHeld hs
-held_read hs are values =
-    ((are.few, twice _ _ hs (recursion_from_All (λ (h : HeldTotal). h.stamp ≤ MAX_STAMP) hs are.stamps) (recursion_from_All (λ (h : HeldTotal). FitsSigned w64 h.value) hs values)),
-     sorted_by_keys (λ (h : HeldTotal). h.stamp) hs are.ascending)
+held_read hs are values = (
+  (are.few, twice _ _ hs (recursion_from_All (λ (h : HeldTotal). h.stamp ≤ MAX_STAMP) hs are.stamps) (recursion_from_All (λ (h : HeldTotal). FitsSigned w64 h.value) hs values)),
+  sorted_by_keys (λ (h : HeldTotal). h.stamp) hs are.ascending,
+)
 
 -- ---- each kind
 
@@ -138,7 +143,7 @@ spike_is : (bytes : List ℕ) → spike_at bytes ≡ (spike_parts bytes >>= λ p
 unfolding spike_at
 spike_is bytes = more (number_at w64) (pair_at (ascending_at held_cmp held_at) (pair_at (list_at signed_at) nothing_at)) bytes (λ p rest. keep (nat_le p.0 MAX_STAMP && nat_le (length p.1.1.0) 64) (Spike p.0 p.1.0 p.1.1.0, rest)) _
     (λ a. more (ascending_at held_cmp held_at) (pair_at (list_at signed_at) nothing_at) a.1 (λ p rest. keep (nat_le a.0 MAX_STAMP && nat_le (length p.1.0) 64) (Spike a.0 p.0 p.1.0, rest)) _
-      (λ b. more (list_at signed_at) nothing_at b.1 (λ p rest. keep (nat_le a.0 MAX_STAMP && nat_le (length p.0) 64) (Spike a.0 b.0 p.0, rest)) _ (λ c. refl)))
+    (λ b. more (list_at signed_at) nothing_at b.1 (λ p rest. keep (nat_le a.0 MAX_STAMP && nat_le (length p.0) 64) (Spike a.0 b.0 p.0, rest)) _ (λ c. refl)))
 
 pass_is : (bytes : List ℕ) → pass_at bytes ≡ (pass_parts bytes >>= λ p. keep (nat_le p.0.0 MAX_STAMP) (Pass p.0.0, p.1))
 unfolding pass_at
@@ -176,7 +181,7 @@ kind_takes (suc zero) rest z are e =
     takes_kind count_parts (λ p. nat_le p.0 MAX_STAMP) (λ p. p.0 ≤ MAX_STAMP) (λ p. at_most p.0 MAX_STAMP) (λ p. Count p.0 p.1.0) count_law 1 (λ p. refl) (λ p f q. ((q, windows_are p.1.0 f.1.0), tt)) rest z are (sym (count_is rest) ∙ e)
 kind_takes (suc (suc zero)) rest z are e =
     takes_kind spike_parts (λ p. nat_le p.0 MAX_STAMP && nat_le (length p.1.1.0) 64) (λ p. (p.0 ≤ MAX_STAMP) × (length p.1.1.0 ≤ 64)) (λ p. both (at_most p.0 MAX_STAMP) (at_most (length p.1.1.0) 64)) (λ p. Spike p.0 p.1.0 p.1.1.0) spike_law 2 (λ p. refl)
-      (λ p f q. let h = held_are p.1.0 f.1.0 in ((q.0, h.0, q.1), (h.1, All-from_recursion (FitsSigned w64) p.1.1.0 f.1.1.0.1))) rest z are (sym (spike_is rest) ∙ e)
+    (λ p f q. let h = held_are p.1.0 f.1.0 in ((q.0, h.0, q.1), (h.1, All-from_recursion (FitsSigned w64) p.1.1.0 f.1.1.0.1))) rest z are (sym (spike_is rest) ∙ e)
 kind_takes (suc (suc (suc zero))) rest z are e =
     takes_kind pass_parts (λ p. nat_le p.0 MAX_STAMP) (λ p. p.0 ≤ MAX_STAMP) (λ p. at_most p.0 MAX_STAMP) (λ p. Pass p.0) pass_law 3 (λ p. refl) (λ p f q. (q, tt)) rest z are (sym (pass_is rest) ∙ e)
 kind_takes (suc (suc (suc (suc kind)))) rest z are e = absurd cc
@@ -193,7 +198,7 @@ state_again (Count late windows) rest f =
     count_is _ ∙ again_kind count_parts (λ p. nat_le p.0 MAX_STAMP) (λ p. p.0 ≤ MAX_STAMP) (λ p. at_most p.0 MAX_STAMP) (λ p. Count p.0 p.1.0) count_law (late, (windows, tt)) rest (omega (arith, f.0.0), (windows_read windows f.0.1, tt)) f.0.0
 state_again (Spike late held known) rest f =
     spike_is _ ∙ again_kind spike_parts (λ p. nat_le p.0 MAX_STAMP && nat_le (length p.1.1.0) 64) (λ p. (p.0 ≤ MAX_STAMP) × (length p.1.1.0 ≤ 64)) (λ p. both (at_most p.0 MAX_STAMP) (at_most (length p.1.1.0) 64)) (λ p. Spike p.0 p.1.0 p.1.1.0) spike_law (late, (held, (known, tt))) rest
-      (omega (arith, f.0.0), (held_read held f.0.1 f.1.0, ((omega (arith, f.0.2), recursion_from_All (FitsSigned w64) known f.1.1), tt))) (f.0.0, f.0.2)
+    (omega (arith, f.0.0), (held_read held f.0.1 f.1.0, ((omega (arith, f.0.2), recursion_from_All (FitsSigned w64) known f.1.1), tt))) (f.0.0, f.0.2)
 state_again (Pass late) rest f =
     pass_is _ ∙ again_kind pass_parts (λ p. nat_le p.0 MAX_STAMP) (λ p. p.0 ≤ MAX_STAMP) (λ p. at_most p.0 MAX_STAMP) (λ p. Pass p.0) pass_law (late, tt) rest (omega (arith, f.0), tt) f.0
 

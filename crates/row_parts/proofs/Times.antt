@@ -48,6 +48,7 @@ pub put_more : {X : Type 0} (spelling : X → List ℕ) (typed : X → Type 0) (
     → written ≡ items ++ spelling x → typed x → (items ≡ base ++ flat_map spelling (take i xs)) × All typed (take i xs)
     → (written ≡ base ++ flat_map spelling (take (i + 1) xs)) × All typed (take (i + 1) xs)
 put_more {X} spelling typed xs i x base items written within read more is so_far =
-    let next : take (i + 1) xs ≡ take i xs ++ x ∷ [] = take_more xs i x within ∙ ap (λ (y : X). take i xs ++ y ∷ []) (sym read) in
-    (more ∙ ap (λ (l : List ℕ). l ++ spelling x) so_far.0 ∙ flat_map_more spelling base (take i xs) x ∙ ap (λ (l : List X). base ++ flat_map spelling l) (sym next),
-     subst (All typed) (sym next) (All-push typed (take i xs) x so_far.1 is))
+    let next : take (i + 1) xs ≡ take i xs ++ x ∷ [] = take_more xs i x within ∙ ap (λ (y : X). take i xs ++ y ∷ []) (sym read) in (
+      more ∙ ap (λ (l : List ℕ). l ++ spelling x) so_far.0 ∙ flat_map_more spelling base (take i xs) x ∙ ap (λ (l : List X). base ++ flat_map spelling l) (sym next),
+      subst (All typed) (sym next) (All-push typed (take i xs) x so_far.1 is),
+    )

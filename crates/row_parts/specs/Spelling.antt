@@ -73,7 +73,7 @@ delivery_spelling d = concat (id_spelling d.id ∷ name_spelling d.to ∷ record
 abbrev pub spelling_of : Contents → List ℕ
 spelling_of row =
     concat ((1 ∷ []) ∷ to_be_bytes w64 row.last ∷ to_be_bytes w64 row.floor ∷ state_spelling row.state
-      ∷ list_spelling timer_spelling row.timers ∷ list_spelling delivery_spelling row.pending ∷ list_spelling id_spelling row.seen ∷ [])
+    ∷ list_spelling timer_spelling row.timers ∷ list_spelling delivery_spelling row.pending ∷ list_spelling id_spelling row.seen ∷ [])
 
 -- ---- what has a spelling of its own: the numbers fit the bytes that they are given, as those of each state and each row do
 

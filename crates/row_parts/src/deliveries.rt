@@ -5,7 +5,7 @@ ghost use Rattle.std.specs.declared.cmp.Ordering.TheVariants.{Less};
 ghost use Rattle.row_parts.specs.Contents.{ArePending, IsId, IsKey, delivery_cmp, same_id, without_delivery};
 
 use crate::places::{delivery_place, room};
-use mw_types::{Delivery, DeliveryList, Key, NoMemory, RecordId, MAX_STAMP};
+use mw_types::{Delivery, DeliveryList, Key, MAX_STAMP, NoMemory, RecordId};
 
 // Tells of a key what each key is: at most 256 bytes of UTF-8.
 fn is_key(key: &Key)

@@ -21,7 +21,7 @@ mod states;
 mod tests;
 mod timers;
 
-pub use lists::{put_list, take_ascending, take_list, Ranked};
+pub use lists::{Ranked, put_list, take_ascending, take_list};
 pub use refusal::StateRefusal;
 pub use row::Row;
 pub use spelled::Spelled;

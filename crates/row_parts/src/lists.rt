@@ -39,7 +39,11 @@ pub fn put_list<X: Spelled>(out: &mut Vec<u8>, xs: &[X]) -> Result<(), NoMemory>
 }
 
 // Reads as many elements as were counted; each is read before room is made for it.
-fn take_times<X: Spelled>(alloc: Global, count: u32, bytes: &[u8]) -> Result<(Seq<X>, &[u8]), StateRefusal>
+fn take_times<X: Spelled>(
+    alloc: Global,
+    count: u32,
+    bytes: &[u8],
+) -> Result<(Seq<X>, &[u8]), StateRefusal>
     ensures { Gives (λ x. (x.0, x.1.now)) result (times_at X.reading count bytes.now) }
 {
     let mut xs = Seq::new(alloc);
@@ -70,7 +74,10 @@ fn ascend<X: Ranked>(xs: &[X]) -> bool
 
 /// Reads a list that stands in order from the front, and answers the bytes after it too.
 #[tactic(auto, unfolding(crate::specs::Reading::ascending_at))]
-pub fn take_ascending<X: Ranked>(alloc: Global, bytes: &[u8]) -> Result<(Seq<X>, &[u8]), StateRefusal>
+pub fn take_ascending<X: Ranked>(
+    alloc: Global,
+    bytes: &[u8],
+) -> Result<(Seq<X>, &[u8]), StateRefusal>
     ensures { Gives (λ x. (x.0, x.1.now)) result (ascending_at X.rank X.reading bytes.now) }
 {
     let (xs, rest) = take_list::<X>(alloc, bytes)?;

@@ -9,7 +9,9 @@ ghost use Rattle.row_parts.specs.Reading.{Gives, key_at, id_at, window_at, held_
 use crate::lists::Ranked;
 use crate::refusal::StateRefusal;
 use crate::spelled::Spelled;
-use mw_types::{Delivery, HeldTotal, Key, NoMemory, Record, RecordId, RowName, Timer, Window, MAX_STAMP};
+use mw_types::{
+    Delivery, HeldTotal, Key, MAX_STAMP, NoMemory, Record, RecordId, RowName, Timer, Window,
+};
 use std::alloc::Global;
 
 // The key with this text, which may be empty.
@@ -28,7 +30,9 @@ fn key_of(alloc: Global, text: &str) -> Result<Key, NoMemory>
 
 impl Spelled for Key {
     ghost spelling = { key_spelling };
+
     ghost typed = { λ _. ⊤ };
+
     ghost reading = { key_at };
 
     fn put(&self, out: &mut Vec<u8>) -> Result<(), NoMemory> {
@@ -55,7 +59,9 @@ impl Spelled for Key {
 
 impl Spelled for RecordId {
     ghost spelling = { id_spelling };
+
     ghost typed = { λ _. ⊤ };
+
     ghost reading = { id_at };
 
     fn put(&self, out: &mut Vec<u8>) -> Result<(), NoMemory> {
@@ -90,7 +96,9 @@ impl Ranked for RecordId {
 
 impl Spelled for Window {
     ghost spelling = { window_spelling };
+
     ghost typed = { λ _. ⊤ };
+
     ghost reading = { window_at };
 
     fn put(&self, out: &mut Vec<u8>) -> Result<(), NoMemory> {
@@ -125,7 +133,9 @@ impl Ranked for Window {
 
 impl Spelled for HeldTotal {
     ghost spelling = { held_spelling };
+
     ghost typed = { λ h. FitsSigned w64 h.value };
+
     ghost reading = { held_at };
 
     fn put(&self, out: &mut Vec<u8>) -> Result<(), NoMemory> {
@@ -160,7 +170,9 @@ impl Ranked for HeldTotal {
 
 impl Spelled for Timer {
     ghost spelling = { timer_spelling };
+
     ghost typed = { λ t. t.tag < 2 ^ 64 };
+
     ghost reading = { timer_at };
 
     fn put(&self, out: &mut Vec<u8>) -> Result<(), NoMemory> {
@@ -197,7 +209,9 @@ impl Ranked for Timer {
 
 impl Spelled for RowName {
     ghost spelling = { name_spelling };
+
     ghost typed = { λ name. name.part < 2 ^ 32 };
+
     ghost reading = { name_at };
 
     fn put(&self, out: &mut Vec<u8>) -> Result<(), NoMemory> {
@@ -216,7 +230,9 @@ impl Spelled for RowName {
 
 impl Spelled for Record {
     ghost spelling = { record_spelling };
+
     ghost typed = { λ r. FitsSigned w64 r.value };
+
     ghost reading = { record_at };
 
     fn put(&self, out: &mut Vec<u8>) -> Result<(), NoMemory> {
@@ -251,7 +267,9 @@ impl Spelled for Record {
 
 impl Spelled for Delivery {
     ghost spelling = { delivery_spelling };
+
     ghost typed = { DeliveryFits };
+
     ghost reading = { delivery_at };
 
     fn put(&self, out: &mut Vec<u8>) -> Result<(), NoMemory> {

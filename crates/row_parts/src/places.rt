@@ -14,7 +14,11 @@ const LIST_MAX: usize = u32::MAX as usize;
 pub fn room(len: usize) -> Result<(), NoMemory>
     ensures { OnOk result (len + 1 < 2 ^ 32) }
 {
-    if len < LIST_MAX { Ok(()) } else { Err(NoMemory) }
+    if len < LIST_MAX {
+        Ok(())
+    } else {
+        Err(NoMemory)
+    }
 }
 
 // The place of the timer with this tag and time.

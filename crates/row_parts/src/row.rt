@@ -9,7 +9,8 @@ use crate::deliveries::{add_delivery, take_delivery};
 use crate::ids::{add_id, forget_below, has_id};
 use crate::timers::{set_timer, take_timer};
 use mw_types::{
-    Delivery, DeliveryList, Duplicate, IdList, NoMemory, RecordId, State, Timer, TimerList, MAX_STAMP,
+    Delivery, DeliveryList, Duplicate, IdList, MAX_STAMP, NoMemory, RecordId, State, Timer,
+    TimerList,
 };
 use std::alloc::Global;
 use std::marker::Model;

@@ -33,7 +33,9 @@ pub trait Spelled: Drop {
 
 impl Spelled for u16 {
     ghost spelling = { to_be_bytes w16 };
+
     ghost typed = { λ n. n < 2 ^ 16 };
+
     ghost reading = { number_at w16 };
 
     fn put(&self, out: &mut Vec<u8>) -> Result<(), NoMemory> {
@@ -53,7 +55,9 @@ impl Spelled for u16 {
 
 impl Spelled for u32 {
     ghost spelling = { to_be_bytes w32 };
+
     ghost typed = { λ n. n < 2 ^ 32 };
+
     ghost reading = { number_at w32 };
 
     fn put(&self, out: &mut Vec<u8>) -> Result<(), NoMemory> {
@@ -73,7 +77,9 @@ impl Spelled for u32 {
 
 impl Spelled for u64 {
     ghost spelling = { to_be_bytes w64 };
+
     ghost typed = { λ n. n < 2 ^ 64 };
+
     ghost reading = { number_at w64 };
 
     fn put(&self, out: &mut Vec<u8>) -> Result<(), NoMemory> {
@@ -95,7 +101,9 @@ impl Spelled for u64 {
 
 impl Spelled for i64 {
     ghost spelling = { signed_spelling };
+
     ghost typed = { FitsSigned w64 };
+
     ghost reading = { signed_at };
 
     fn put(&self, out: &mut Vec<u8>) -> Result<(), NoMemory> {
@@ -112,7 +120,9 @@ impl Spelled for i64 {
 
 impl Spelled for bool {
     ghost spelling = { flag_spelling };
+
     ghost typed = { λ _. ⊤ };
+
     ghost reading = { flag_at };
 
     fn put(&self, out: &mut Vec<u8>) -> Result<(), NoMemory> {

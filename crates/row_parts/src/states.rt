@@ -9,7 +9,7 @@ ghost use Rattle.row_parts.specs.Reading.{Gives, injector_at, count_at, spike_at
 use crate::lists::{put_list, take_ascending, take_list};
 use crate::refusal::StateRefusal;
 use crate::spelled::Spelled;
-use mw_types::{Bytes, HeldTotal, NoMemory, State, Window, MAX_STAMP};
+use mw_types::{Bytes, HeldTotal, MAX_STAMP, NoMemory, State, Window};
 use std::alloc::Global;
 
 // The greatest number of known values.
@@ -26,7 +26,12 @@ fn put_count(out: &mut Vec<u8>, late: u64, windows: &[Window]) -> Result<(), NoM
 }
 
 // Appends the bytes of a spike's state.
-fn put_spike(out: &mut Vec<u8>, late: u64, held: &[HeldTotal], known: &[i64]) -> Result<(), NoMemory>
+fn put_spike(
+    out: &mut Vec<u8>,
+    late: u64,
+    held: &[HeldTotal],
+    known: &[i64],
+) -> Result<(), NoMemory>
     requires held { length held.now < 2 ^ 32 }
     requires known { length known.now ≤ 64 }
     ensures written { OnOk result (out.new.items ≡ out.old.items ++ state_spelling (Spike late held.now known.now)) }
@@ -51,7 +56,12 @@ pub fn put_state(out: &mut Vec<u8>, state: &State) -> Result<(), NoMemory>
             cursor.put(out)
         }
         State::Count { late, windows } => put_count(out, *late, windows.as_slice()),
-        State::Spike { late, held, known } => put_spike(out, *late, held.as_slice(), known.as_slice()),
+        State::Spike { late, held, known } => put_spike(
+            out,
+            *late,
+            held.as_slice(),
+            known.as_slice(),
+        ),
         State::Pass { late } => {
             out.push(3)?;
             late.put(out)
@@ -164,10 +174,10 @@ pub fn read_state(alloc: Global, bytes: &[u8]) -> Result<State, StateRefusal>
     ensures found { IfOk result (λ state. IsSpelledState state × (bytes.now ≡ state_spelling state)) }
     // The state that has these bytes is answered, unless memory runs out.
     ensures only { (state : State) → IsSpelledState state → bytes.now ≡ state_spelling state
-      → MatchResult result (λ answered. answered ≡ state) (λ refusal. refusal ≡ StateRefusal.NoMemory) }
+        → MatchResult result (λ answered. answered ≡ state) (λ refusal. refusal ≡ StateRefusal.NoMemory) }
     // Damaged is answered only where no state has these bytes.
     ensures damaged { IsErrOf result StateRefusal.Damaged
-      → (state : State) → IsSpelledState state → bytes.now ≢ state_spelling state }
+        → (state : State) → IsSpelledState state → bytes.now ≢ state_spelling state }
 {
     take_whole(alloc, bytes)
 }

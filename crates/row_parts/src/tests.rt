@@ -42,16 +42,34 @@ fn what_is_below_the_floor_stays_finished(rt: HostRuntime) -> Result<(), Fail> {
         row.purge(6);
     }
     assert_eq!(rt; (row.seen.len(), row.floor), (2, 6));
-    assert!(rt; row.is_finished(RecordId { commit: 4, index: 1 }));
-    assert!(rt; row.is_finished(RecordId { commit: 6, index: 1 }));
-    assert!(rt; !row.is_finished(RecordId { commit: 6, index: 2 }));
+    assert!(rt;
+        row.is_finished(RecordId {
+            commit: 4,
+            index: 1
+        })
+    );
+    assert!(rt;
+        row.is_finished(RecordId {
+            commit: 6,
+            index: 1
+        })
+    );
+    assert!(rt;
+        !row.is_finished(RecordId {
+            commit: 6,
+            index: 2
+        })
+    );
     Ok(())
 }
 
 #[test]
 fn a_delivery_is_pending_until_it_is_settled(rt: HostRuntime) -> Result<(), Fail> {
     let mut row = Row::new(rt.alloc(), State::Pass { late: 0 });
-    let id = RecordId { commit: 2, index: 0 };
+    let id = RecordId {
+        commit: 2,
+        index: 0,
+    };
     let key = Key::of(rt.alloc(), "a")?;
     let item = Record {
         key: Key::none(rt.alloc()),

@@ -4,7 +4,7 @@ ghost use Rattle.std.specs.List.{list_any};
 ghost use Rattle.row_parts.specs.Contents.{AreTimers, is_timer, set_again, with_timer, without_timer};
 
 use crate::places::{room, timer_place};
-use mw_types::{NoMemory, Timer, TimerList, MAX_STAMP};
+use mw_types::{MAX_STAMP, NoMemory, Timer, TimerList};
 
 // What is left of a timer that is set again.
 fn again(new: Timer, old: Timer) -> Timer
