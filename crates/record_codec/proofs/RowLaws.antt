@@ -1,8 +1,8 @@
 -- The law of reading for rows.
-use Rattle.std.proofs.Common.{◌≡◌, ℕ, zero, suc, ◌^◌, ◌<◌, ◌≤◌, Bool, true, false, ◌&&◌, List, [], ◌∷◌, ◌++◌, length, FitsSigned, Option, Some, None, Result, Ok, Err, refl, sym, ap, subst, ◌∙◌, append_assoc, arith}
-use Rattle.std.specs.Prelude.{⊤, nat_le, nat_lt, All, IfOk, IsErrOf, MatchResult}
+use Rattle.std.proofs.Common.{◌≡◌, ℕ, zero, suc, ◌^◌, ◌<◌, ◌≤◌, Bool, true, ◌&&◌, List, [], ◌∷◌, ◌++◌, length, Option, Some, None, refl, sym, ap, ◌∙◌, arith}
+use Rattle.std.specs.Prelude.{⊤, nat_le, nat_lt}
 use Rattle.std.specs.Bool.{Decides}
-use Rattle.std.specs.List.{AllByRecursion, list_all}
+use Rattle.std.specs.List.{AllByRecursion}
 use Rattle.std.specs.List.Sorted.{IsStrictlySortedBy}
 use Rattle.std.specs.Int.{w64, to_be_bytes}
 use Rattle.std.proofs.lemmas.Bool.{lt-ltb, le-leb}
@@ -17,8 +17,8 @@ use Rattle.mw_types.proofs.OrderLaws.{id_cmp-total}
 use Rattle.row_parts.specs.Contents.{Contents, IsRow, IsId, IsDelivery, delivery_cmp}
 use Rattle.row_parts.specs.Orders.{timer_cmp-total, delivery_cmp-total}
 use Rattle.row_parts.specs.Spelling.{spelling_of, state_spelling, timer_spelling, delivery_spelling, id_spelling, list_spelling, IsSpelledState, IsSpelledRow, DeliveryFits}
-use Rattle.row_parts.specs.Reading.{◌>>=◌, keep, Gives, number_at, state_at, ascending_at, timer_at, delivery_at, id_at}
-use Rattle.row_parts.proofs.Codec.{IsBytes, bind_some, some_is, Reads, as_read, nothing_at, nothing_reads, pair_at, pair_reads, made_reads, more, ascending_reads}
+use Rattle.row_parts.specs.Reading.{◌>>=◌, keep, number_at, state_at, ascending_at, timer_at, delivery_at, id_at}
+use Rattle.row_parts.proofs.Codec.{IsBytes, some_is, Reads, as_read, nothing_at, nothing_reads, pair_at, pair_reads, made_reads, more, ascending_reads}
 use Rattle.row_parts.proofs.PartLaws.{u64_reads, timer_reads, delivery_reads, id_reads, at_most, below, both}
 use Rattle.row_parts.proofs.StateLaws.{state_reads, weaker, twice, whole_takes, whole_again}
 use Rattle.record_codec.specs.Reading.{kept_from, fields_at, row_at, whole_row}

@@ -1,5 +1,5 @@
 -- Reading a row from left to right. No public clause cites this module.
-use Rattle.std.specs.Prelude.{ℕ, zero, suc, List, [], ◌∷◌, length, Option, Some, None, Bool, ◌&&◌, ◌==◌, nat_lt, nat_le, ◌^◌}
+use Rattle.std.specs.Prelude.{ℕ, zero, suc, List, [], ◌∷◌, length, Option, None, Bool, ◌&&◌, ◌==◌, nat_lt, nat_le, ◌^◌}
 use Rattle.std.specs.List.{list_all}
 use Rattle.std.specs.Int.{w64}
 use Rattle.mw_types.specs.declared.identity.RecordId.{RecordId}
