@@ -39,6 +39,7 @@ use Rattle.run_history.specs.Made.{deliveries_made, productions_of, late_cause, 
 use Rattle.run_history.specs.Runs.{Run, run_of, row_of, row_in, row_after, followed, empty_run, advanced, with_timers}
 use Rattle.run_history.specs.Watermarks.{cursor_in, cursor_of}
 use Rattle.run_history.specs.Legal.{MayFollow, MayInject, MayHandle, MayFire, IsLegal, record_outcome, timer_outcome}
+use Rattle.run_history.specs.Printing.{IsPrintable}
 use Rattle.run_history.proofs.RunLaws.{run_of-push, IsLegal-push}
 use Rattle.plain_run.specs.declared.slot.Slot.{Slot}
 use Rattle.plain_run.specs.Plain.{IsPlain, IsCounted, IsPlainEntry}
@@ -203,12 +204,13 @@ module _ (shape : Shape) (parts : Parts) (line : ℕ) (run : Run) (states states
 pub ready-step : (case : CaseShape) (parts : Parts) (line line' : ℕ) (waiting waiting' : List Delivery) (history : List Entry) (entry : Entry)
     (states states' : RowName → Option State) (timers timers' : Slot → Option Bool)
     → IsReady case parts line waiting history states timers
-    → MayFollow case (run_of case.topology history) entry → IsPlainEntry entry
+    → MayFollow case (run_of case.topology history) entry → IsPlainEntry entry → IsPrintable case.topology (history ++ entry ∷ [])
     → IsAt case.topology parts line' waiting' (followed case.topology (run_of case.topology history) entry) states' timers'
     → IsReady case parts line' waiting' (history ++ entry ∷ []) states' timers'
-ready-step case parts line line' waiting waiting' history entry states states' timers timers' ready may plain at = record {
+ready-step case parts line line' waiting waiting' history entry states states' timers timers' ready may plain printable at = record {
   legal = IsLegal-push case history entry ready.legal may;
   plain = All-push IsPlainEntry history entry ready.plain plain;
+  printable = printable;
   at = subst (λ (r : Run). IsAt case.topology parts line' waiting' r states' timers') (sym (run_of-push case.topology history entry)) at;
 }
 
@@ -216,14 +218,14 @@ ready-step case parts line line' waiting waiting' history entry states states' t
 pub ready-inject : (case : CaseShape) (parts : Parts) (line : ℕ) (history : List Entry) (item : Record)
     (states states' : RowName → Option State) (timers : Slot → Option Bool)
     → IsReady case parts line [] history states timers
-    → is_injector case.topology 0 ≡ true
+    → is_injector case.topology 0 ≡ true → IsPrintable case.topology (history ++ Inject 0 0 line item ∷ [])
     → option_map record_of (item_at (source_of case 0) line) ≡ Some item
     → ((row : RowName) → states' row ≡ cond (is_at (row_cmp row) injector_row) (Some (Injector (line + 1))) (states row))
     → IsReady case parts (line + 1) (deliveries_to (consumers_of case.topology 0) (length history) (item ∷ []))
     (history ++ Inject 0 0 line item ∷ []) states' timers
-ready-inject case parts line history item states states' timers ready there of_line new_states =
+ready-inject case parts line history item states states' timers ready there printable of_line new_states =
     ready-step case parts line (line + 1) [] _ history (Inject 0 0 line item) states states' timers timers ready
-    (record { injector = there; next_line = sym (ap cursor_in ready.at.injected); of_line = of_line }) refl
+    (record { injector = there; next_line = sym (ap cursor_in ready.at.injected); of_line = of_line }) refl printable
     (subst (λ n. IsAt case.topology parts (line + 1) (deliveries_to (consumers_of case.topology 0) n (item ∷ []))
     (followed case.topology (run_of case.topology history) (Inject 0 0 line item)) states' timers)
     (run_of-next case.topology history)
@@ -232,7 +234,7 @@ ready-inject case parts line history item states states' timers ready there of_l
 -- a delivery that is handled waits no longer
 pub ready-handle : (case : CaseShape) (parts : Parts) (line : ℕ) (history : List Entry) (delivery : Delivery) (effects : Outcome)
     (states states' : RowName → Option State) (timers timers' : Slot → Option Bool)
-    → IsCounted case.topology
+    → IsCounted case.topology → IsPrintable case.topology (history ++ Handle 0 delivery.to delivery.id effects ∷ [])
     → IsReady case parts line (delivery ∷ []) history states timers
     → delivery.to.part ≡ 1
     → record_outcome case (run_of case.topology history) delivery.to delivery.item ≡ Some effects
@@ -240,7 +242,7 @@ pub ready-handle : (case : CaseShape) (parts : Parts) (line : ℕ) (history : Li
     → ((row : RowName) → states' row ≡ cond (is_at (row_cmp row) delivery.to) (Some effects.state) (states row))
     → ((slot : Slot) → timers' slot ≡ slots_set timers delivery.to effects.timers slot)
     → IsReady case parts line [] (history ++ Handle 0 delivery.to delivery.id effects ∷ []) states' timers'
-ready-handle case parts line history delivery effects states states' timers timers' counted ready part does within has times new_states new_timers =
+ready-handle case parts line history delivery effects states states' timers timers' counted printable ready part does within has times new_states new_timers =
     ready-step case parts line line (delivery ∷ []) [] history (Handle 0 delivery.to delivery.id effects) states states' timers timers' ready
     (record {
       delivery = delivery;
@@ -248,14 +250,14 @@ ready-handle case parts line history delivery effects states states' timers time
       to_row = refl;
       does = does;
     })
-    refl
+    refl printable
     (at-handle case.topology parts line (run_of case.topology history) states states' timers timers' counted delivery effects ready.at part within has
     (recursion_from_All (λ (t : Timer). t.time ≤ MAX_STAMP) effects.timers times) new_states new_timers)
 
 -- a timer that is fired is pending no longer
 pub ready-fire : (case : CaseShape) (parts : Parts) (line : ℕ) (history : List Entry) (row : RowName) (timer : Timer) (effects : Outcome)
     (states states' : RowName → Option State) (timers timers' : Slot → Option Bool)
-    → IsCounted case.topology
+    → IsCounted case.topology → IsPrintable case.topology (history ++ Fire 0 row timer timer.time effects ∷ [])
     → IsReady case parts line [] history states timers
     → row.part ≡ 1
     → MayFire case (run_of case.topology history) row timer timer.time effects
@@ -263,6 +265,6 @@ pub ready-fire : (case : CaseShape) (parts : Parts) (line : ℕ) (history : List
     → ((name : RowName) → states' name ≡ cond (is_at (row_cmp name) row) (Some effects.state) (states name))
     → ((slot : Slot) → timers' slot ≡ cond (is_at (slot_cmp (slot_of row timer)) slot) None (timers slot))
     → IsReady case parts line [] (history ++ Fire 0 row timer timer.time effects ∷ []) states' timers'
-ready-fire case parts line history row timer effects states states' timers timers' counted ready part may within has new_states new_timers =
-    ready-step case parts line line [] [] history (Fire 0 row timer timer.time effects) states states' timers timers' ready may refl
+ready-fire case parts line history row timer effects states states' timers timers' counted printable ready part may within has new_states new_timers =
+    ready-step case parts line line [] [] history (Fire 0 row timer timer.time effects) states states' timers timers' ready may refl printable
     (at-fire case.topology parts line (run_of case.topology history) states states' timers timers' counted row timer effects ready.at part within has new_states new_timers)
