@@ -1,14 +1,12 @@
 -- What a handler of the count leaves is what the definition says, and can be kept; and a run that is at its end is done.
-use Rattle.std.proofs.Common.{◌≡◌, ℕ, zero, suc, ◌≤◌, ◌<◌, Bool, true, false, cond, List, [], ◌∷◌, map, length, refl, sym, ◌∙◌, ap, subst, arith}
-use Rattle.std.specs.Prelude.{Option, Some, None, IfSome, IsSome, All, unwrap_or, slice_get, nat_lt, is_some}
+use Rattle.std.proofs.Common.{◌≡◌, ℕ, ◌≤◌, ◌<◌, Bool, true, List, [], ◌∷◌, length, refl, sym, ◌∙◌, ap, subst, arith}
+use Rattle.std.specs.Prelude.{Option, Some, None, IfSome, unwrap_or, slice_get}
 use Rattle.std.specs.Option.{option_map, option_map_or}
-use Rattle.std.specs.BTreeMap.{is_at}
 use Rattle.std.specs.List.Sorted.{IsStrictlySortedBy}
-use Rattle.std.proofs.lemmas.Bool.{ltb-true, lt-ltb}
+use Rattle.std.proofs.lemmas.Bool.{ltb-true}
 use Rattle.std.proofs.lemmas.List.Elements.{All-nil}
 use Rattle.mw_types.specs.declared.TheConstants.{MAX_STAMP, END}
 use Rattle.mw_types.specs.declared.identity.RowName.{RowName}
-use Rattle.mw_types.specs.declared.kind.Kind.{Kind}
 use Rattle.mw_types.specs.declared.kind.Kind.TheVariants.{Count}
 use Rattle.mw_types.specs.declared.state.State.{State}
 use Rattle.mw_types.specs.declared.state.State.TheVariants as variants
@@ -19,17 +17,17 @@ use Rattle.mw_types.specs.Outcomes.{Outcome}
 use Rattle.mw_types.specs.Bounds.{IsWithin}
 use Rattle.mw_types.specs.Kinds.{IsKind}
 use Rattle.injector.specs.Sources.{SourceLine, stated_at}
-use Rattle.topology.specs.Shapes.{Shape, ComputationShape, injectors_of, kind_of}
+use Rattle.topology.specs.Shapes.{Shape, injectors_of, kind_of}
 use Rattle.computations.specs.Handlers.{fresh_state, effects_of_record, effects_of_timer, unchanged}
 use Rattle.computations.specs.Parts.{Parts, HasState, kind_at, part_record, part_timer}
 use Rattle.row_parts.specs.Contents.{Contents, fresh}
 use Rattle.run_history.specs.Cases.{CaseShape, is_injector, source_of, fresh_of}
 use Rattle.run_history.specs.Runs.{Run, run_of, row_of, row_in}
-use Rattle.run_history.specs.Watermarks.{cursor_in, cursor_of, source_mark, low_watermark}
+use Rattle.run_history.specs.Watermarks.{cursor_in, cursor_of, source_mark}
 use Rattle.run_history.specs.Legal.{MayFire, IsDone, record_outcome, timer_outcome}
 use Rattle.plain_run.specs.declared.slot.Slot.{Slot}
-use Rattle.plain_run.specs.Plain.{IsPlain, IsCounted}
-use Rattle.plain_run.specs.Ledgers.{IsReady, IsAt, Mirrors, AreCounted, state_in, slot_of}
+use Rattle.plain_run.specs.Plain.{IsCounted}
+use Rattle.plain_run.specs.Ledgers.{IsReady, Mirrors, AreCounted}
 use Rattle.plain_run.specs.Steps.{IsJob, CanKeep, counted_state}
 use Rattle.plain_run.proofs.SlotLaws.{slot_at}
 use Rattle.plain_run.proofs.RowLaws.{HasTimers-mirrored, sorted-row_of}
@@ -134,11 +132,13 @@ pub is_done : (case : CaseShape) (parts : Parts) (history : List Entry) (states 
     → ((slot : Slot) → timers slot ≡ None)
     → IsDone case (run_of case.topology history)
 is_done case parts history states timers one ready empty = record {
-    injected = λ part less. subst (λ p. cursor_of case run p ≡ length (source_of case p)) (zero_part part less) (ap cursor_in ready.at.injected);
-    handled = ready.at.waits;
-    fired = none_pending run states timers ready.at.sound ready.at.mirrors empty }
+  injected = λ part less. subst (λ p. cursor_of case run p ≡ length (source_of case p)) (zero_part part less) (ap cursor_in ready.at.injected);
+  handled = ready.at.waits;
+  fired = none_pending run states timers ready.at.sound ready.at.mirrors empty;
+}
   where
     run : Run
     run = run_of case.topology history
+
     zero_part : (part : ℕ) → part < injectors_of case.topology → 0 ≡ part
     zero_part part less = omega (arith, less, one)

@@ -1,6 +1,6 @@
 -- One step of the plain engine leaves it ready for the next.
-use Rattle.std.proofs.Common.{◌≡◌, ◌≢◌, ℕ, suc, ◌+◌, ◌≤◌, ◌<◌, Bool, true, false, cond, not, ◌&&◌, ◌==◌, List, [], ◌∷◌, ◌++◌, length, map, refl, sym, ◌∙◌, ap, subst, arith}
-use Rattle.std.specs.Prelude.{Option, Some, None, IfSome, IsTrue, All, unwrap_or, fold, find, filter, slice_get, nat_lt}
+use Rattle.std.proofs.Common.{◌≡◌, ℕ, ◌+◌, ◌≤◌, Bool, true, false, cond, not, ◌&&◌, ◌==◌, List, [], ◌∷◌, ◌++◌, length, map, refl, sym, ◌∙◌, ap, subst, arith}
+use Rattle.std.specs.Prelude.{Option, Some, None, IfSome, All, unwrap_or, fold}
 use Rattle.std.specs.Option.{option_map, option_map_or}
 use Rattle.std.specs.Ordering.{nat_cmp, ordering_then, is_eq}
 use Rattle.std.specs.declared.cmp.Ordering.{Ordering}
@@ -8,19 +8,15 @@ use Rattle.std.specs.declared.cmp.Ordering.TheVariants.{Less, Equal, Greater}
 use Rattle.std.specs.BTreeMap.{is_at}
 use Rattle.std.specs.List.{AllByRecursion, flat_map, enumerate_from}
 use Rattle.std.specs.Cmp.{tied_itself}
-use Rattle.std.specs.List.Sorted.{IsStrictlySortedBy}
-use Rattle.std.proofs.lemmas.List.Sums.{fold-append}
 use Rattle.std.proofs.lemmas.List.Elements.{All-push, recursion_from_All}
 use Rattle.std.proofs.lemmas.List.Kept.{IsStrictlySortedBy-filter}
 use Rattle.std.proofs.lemmas.Bool.{eq-eqb}
-use Rattle.mw_types.specs.declared.TheConstants.{MAX_STAMP, END}
+use Rattle.mw_types.specs.declared.TheConstants.{MAX_STAMP}
 use Rattle.mw_types.specs.declared.identity.RecordId.{RecordId}
 use Rattle.mw_types.specs.declared.identity.RowName.{RowName}
-use Rattle.mw_types.specs.declared.kind.Kind.TheVariants.{Count}
 use Rattle.mw_types.specs.declared.state.State.{State}
 use Rattle.mw_types.specs.declared.state.State.TheVariants.{Injector}
 use Rattle.mw_types.specs.declared.record.Record.{Record}
-use Rattle.mw_types.specs.declared.record.Production.{Production}
 use Rattle.mw_types.specs.declared.timer.Timer.{Timer}
 use Rattle.mw_types.specs.declared.delivery.Delivery.{Delivery}
 use Rattle.mw_types.specs.declared.entry.Entry.{Entry}
@@ -30,20 +26,19 @@ use Rattle.mw_types.specs.Bounds.{IsWithin}
 use Rattle.mw_types.specs.Orders.{row_cmp, timer_cmp}
 use Rattle.mw_types.proofs.OrderLaws.{row_cmp-total}
 use Rattle.injector.specs.Sources.{item_at}
-use Rattle.topology.specs.Shapes.{Shape, consumers_of, kind_of, injectors_of}
-use Rattle.topology.specs.declared.subscription.Subscription.{Subscription}
+use Rattle.topology.specs.Shapes.{Shape, consumers_of}
 use Rattle.computations.specs.Parts.{Parts, HasState}
-use Rattle.row_parts.specs.Contents.{Contents, fresh, is_timer, same_id, without_delivery, without_timer}
+use Rattle.row_parts.specs.Contents.{Contents, fresh, is_timer, same_id, without_delivery}
 use Rattle.run_history.specs.Cases.{CaseShape, fresh_of, is_injector, source_of, record_of}
-use Rattle.run_history.specs.Made.{deliveries_made, productions_of, late_cause, deliveries_to, deliveries_of, sends_of, found_delivery, delivery_at, produced, row_to, row_written}
-use Rattle.run_history.specs.Runs.{Run, run_of, row_of, row_in, row_after, followed, empty_run, advanced, with_timers}
-use Rattle.run_history.specs.Watermarks.{cursor_in, cursor_of}
-use Rattle.run_history.specs.Legal.{MayFollow, MayInject, MayHandle, MayFire, IsLegal, record_outcome, timer_outcome}
+use Rattle.run_history.specs.Made.{deliveries_made, productions_of, late_cause, deliveries_to, deliveries_of, sends_of, found_delivery, delivery_at, produced, row_written}
+use Rattle.run_history.specs.Runs.{Run, run_of, row_of, row_in, row_after, followed, empty_run, advanced}
+use Rattle.run_history.specs.Watermarks.{cursor_in}
+use Rattle.run_history.specs.Legal.{MayFollow, MayFire, record_outcome}
 use Rattle.run_history.specs.Printing.{IsPrintable}
 use Rattle.run_history.proofs.RunLaws.{run_of-push, IsLegal-push}
 use Rattle.plain_run.specs.declared.slot.Slot.{Slot}
-use Rattle.plain_run.specs.Plain.{IsPlain, IsCounted, IsPlainEntry}
-use Rattle.plain_run.specs.Ledgers.{IsReady, IsAt, AreCounted, slot_set, Mirrors, IsSound, injector_row, slot_cmp, slot_of, slots_set}
+use Rattle.plain_run.specs.Plain.{IsCounted, IsPlainEntry}
+use Rattle.plain_run.specs.Ledgers.{IsReady, IsAt, slot_set, injector_row, slot_cmp, slot_of, slots_set}
 use Rattle.plain_run.proofs.RowLaws.{row_in-followed, Mirrors-inject, Mirrors-handle, Mirrors-fire, IsSound-followed, sorted-row_of}
 use Rattle.plain_run.proofs.Orderings.{same_slot, from_tie}
 use Rattle.plain_run.proofs.TimerLaws.{sorted-with_timers}

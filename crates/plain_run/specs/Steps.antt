@@ -1,8 +1,7 @@
 -- What the steps of the plain engine need and leave. No public clause cites this module.
-use Rattle.std.specs.Prelude.{◌≡◌, ℕ, ◌≤◌, List, [], ◌∷◌, Option, None, unwrap_or, IfSome, All, ⊤}
+use Rattle.std.specs.Prelude.{◌≡◌, ℕ, ◌≤◌, List, [], ◌∷◌, Option, unwrap_or, IfSome, All, ⊤}
 use Rattle.std.specs.BTreeMap.{get}
 use Rattle.mw_types.specs.declared.TheConstants.{MAX_STAMP}
-use Rattle.mw_types.specs.declared.identity.RowName.{RowName}
 use Rattle.mw_types.specs.declared.state.State.{State}
 use Rattle.mw_types.specs.declared.state.State.TheVariants.{Count}
 use Rattle.mw_types.specs.declared.delivery.Delivery.{Delivery}

@@ -103,6 +103,7 @@ fn inject(
 ) -> Result<DeliveryList, NoMemory>
     requires job { IsJob job.now.case.now.topology job.now.work }
     requires there { line < length (source_of job.now.case.now 0) }
+    requires room { line + 1 < 2 ^ 32 }
     requires begun { IsBetween job.now.case.now job.now.work line [] history.old ledger.old }
 
     ensures kept { IsKept job.now.case.now history.new }
@@ -122,12 +123,15 @@ fn inject(
         &name,
         &State::Injector { cursor: line + 1 },
     )?;
-    append(history, Entry::Inject {
-        seq: 0,
-        part: 0,
-        line,
-        item,
-    })?;
+    append(
+        history,
+        Entry::Inject {
+            seq: 0,
+            part: 0,
+            line,
+            item,
+        },
+    )?;
     Ok(deliveries)
 }
 
@@ -212,12 +216,16 @@ fn handle(
     let effects = record_effects(alloc, &job.work, &ledger.states, &to, &item)?;
     keep_state(alloc, &mut ledger.states, &to, &effects.state)?;
     set_timers(alloc, &mut ledger.timers, &to, effects.timers.as_slice())?;
-    append(history, Entry::Handle {
-        seq: 0,
-        row: to,
-        id,
-        effects,
-    })
+    append(
+        history,
+        Entry::Handle {
+            seq: 0,
+            row: to,
+            id,
+            effects,
+        },
+    )?;
+    Ok(())
 }
 
 // What the handler of the count leaves of a record.
@@ -315,12 +323,15 @@ fn fire_first(
     let timer = Timer { tag, time, late };
     let effects = timer_effects(alloc, &job.work, &ledger.states, &row, &timer)?;
     keep_state(alloc, &mut ledger.states, &row, &effects.state)?;
-    append(history, Entry::Fire {
-        seq: 0,
-        row,
-        timer,
-        mark: time,
-        effects,
-    })?;
+    append(
+        history,
+        Entry::Fire {
+            seq: 0,
+            row,
+            timer,
+            mark: time,
+            effects,
+        },
+    )?;
     Ok(true)
 }
