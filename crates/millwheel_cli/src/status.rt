@@ -1,6 +1,9 @@
 //! How a call of the program ended.
+ghost use Rattle.std.specs.Prelude.{◌≡◌, ◌↔◌};
+
 use injector::LineWhy;
 use mw_types::Name;
+use std::fmt;
 
 /// How a call of the program ended. Its number is the program's exit status.
 #[derive(Debug, Drop, PartialEq, Eq)]
@@ -43,7 +46,9 @@ pub enum Status {
 
 impl Status {
     /// The number with which the program ends.
-    pub fn number(&self) -> u8 {
+    pub fn number(&self) -> u8
+        ensures ok { (result ≡ 0) ↔ (self.now ≡ Status.Ok) }
+    {
         match self {
             Status::Ok => 0,
             Status::Usage => 2,
@@ -54,6 +59,25 @@ impl Status {
             Status::ReadFault { .. } => 13,
             Status::TooLong { .. } => 14,
             Status::NotBuilt => 16,
+        }
+    }
+}
+
+/// What the program says of it: nothing with Ok.
+impl fmt::Display for Status {
+    fn fmt<W: fmt::Write>(&self, f: &mut fmt::Formatter<W>) -> fmt::Result {
+        match self {
+            Status::Ok => Ok(()),
+            Status::Usage => f.write_str("usage: millwheel MODE ARGS"),
+            Status::NoFile { name } => write!(f, "no file {}", name.text()),
+            Status::EventsRefused { file, line, why } => {
+                write!(f, "events refused: file {file} line {line}: {why:?}")
+            }
+            Status::SinkFault => f.write_str("the output failed"),
+            Status::NoMemory => f.write_str("out of memory"),
+            Status::ReadFault { name } => write!(f, "can't read {}", name.text()),
+            Status::TooLong { name } => write!(f, "too long: {}", name.text()),
+            Status::NotBuilt => f.write_str("not built yet"),
         }
     }
 }

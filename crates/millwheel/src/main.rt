@@ -1,0 +1,70 @@
+//! The program `millwheel`: the command line, the files and the output of its process.
+//!
+//! All that it does is `millwheel_alone` of `millwheel_cli`, over the files and the standard output of the
+//! runtime. A status but Ok is told on standard error, and its number is the exit status.
+#![tactic(auto)]
+
+use millwheel_cli::{FirstDone, Status, millwheel_alone};
+use mw_ports::{FileShelf, OutSink};
+use mw_types::{Name, NoMemory, Seq};
+use std::alloc::Global;
+use std::env;
+use std::io::{Error, ErrorKind};
+use std::process::ExitCode;
+
+fn main(rt: HostRuntime) -> ExitCode {
+    let status = status(&rt);
+    if status != Status::Ok {
+        tell(&rt, &status);
+    }
+    ExitCode::from(status.number())
+}
+
+// Tells how the call ended. Where standard error fails, nobody is left to be told.
+fn tell(rt: &HostRuntime, status: &Status) {
+    let _told = eprintln!(rt; "millwheel: {status}");
+}
+
+// Does what the command line says.
+fn status(rt: &HostRuntime) -> Status {
+    let args = match command_line(rt) {
+        Ok(args) => args,
+        Err(error) => return unread(&error),
+    };
+    match named(rt.alloc(), &args) {
+        Ok(words) => run(rt, words.as_slice()),
+        Err(NoMemory) => Status::NoMemory,
+    }
+}
+
+// The command line without the program's name.
+fn command_line(rt: &HostRuntime) -> Result<Vec<String>, Error> {
+    let args = env::args(rt)?.skip(1).collect(rt.alloc())?;
+    Ok(args)
+}
+
+// The words as names.
+fn named(alloc: Global, args: &[String]) -> Result<Seq<Name>, NoMemory> {
+    let mut words = Seq::new(alloc);
+    for word in args {
+        words.push(Name::of(alloc, word.as_str())?)?;
+    }
+    Ok(words)
+}
+
+// The status where the command line was not read: a word that is no text is in no call.
+fn unread(error: &Error) -> Status {
+    if error.kind() == ErrorKind::OutOfMemory {
+        Status::NoMemory
+    } else {
+        Status::Usage
+    }
+}
+
+// Runs these words over the process's files and its standard output.
+fn run(rt: &HostRuntime, words: &[Name]) -> Status {
+    let mut shelf = FileShelf::new(rt);
+    let mut out = OutSink::new(rt);
+    let FirstDone { status, history: _ } = millwheel_alone(rt.alloc(), words, &mut shelf, &mut out);
+    status
+}
