@@ -13,66 +13,87 @@ fn key(alloc: Global, text: &str) -> Result<Key, NoMemory> {
     }
 }
 
-// The name of a row.
-fn named(alloc: Global, part: u32, text: &str) -> Result<RowName, NoMemory> {
-    Ok(RowName {
-        part,
-        key: key(alloc, text)?,
-    })
-}
-
 // A row of one byte.
 fn row(alloc: Global, part: u32, text: &str, byte: u8) -> Result<KeptRow, NoMemory> {
     let mut bytes = Bytes::new(alloc);
     bytes.push(byte)?;
-    Ok(KeptRow {
-        name: named(alloc, part, text)?,
-        bytes,
-    })
+    let name = RowName {
+        part,
+        key: key(alloc, text)?,
+    };
+    Ok(KeptRow { name, bytes })
 }
 
-// The interval of part 1 from h to q.
-fn middle(alloc: Global) -> Result<Bounds, NoMemory> {
-    Ok(Bounds {
+// Puts a row of one byte into a keeper.
+fn put<K: Keeper>(
+    alloc: Global,
+    keeper: &mut K,
+    part: u32,
+    text: &str,
+    byte: u8,
+) -> Result<(), KeeperFault> {
+    let row = row(alloc, part, text, byte)?;
+    keeper.put(alloc, &row.name, row.bytes.as_slice())
+}
+
+// Puts seven rows, the last in the place of an earlier one.
+fn fill<K: Keeper>(alloc: Global, keeper: &mut K) -> Result<(), KeeperFault> {
+    put(alloc, keeper, 2, "h", 1)?;
+    put(alloc, keeper, 1, "q", 2)?;
+    put(alloc, keeper, 1, "pz", 3)?;
+    put(alloc, keeper, 1, "h", 4)?;
+    put(alloc, keeper, 1, "a", 5)?;
+    put(alloc, keeper, 0, "", 6)?;
+    put(alloc, keeper, 1, "h", 7)
+}
+
+// The bytes of rows, one after another.
+fn bytes_of(alloc: Global, rows: &KeptRowList) -> Result<Bytes, KeeperFault> {
+    let mut all = Bytes::new(alloc);
+    for row in rows.as_slice() {
+        for byte in row.bytes.as_slice() {
+            all.push(*byte)?;
+        }
+    }
+    Ok(all)
+}
+
+// The bytes of the rows of part 1 from h to q.
+fn scan<K: Keeper>(alloc: Global, keeper: &mut K) -> Result<Bytes, KeeperFault> {
+    let bounds = Bounds {
         part: 1,
         from: key(alloc, "h")?,
         to: Some(key(alloc, "q")?),
-    })
+    };
+    let found = keeper.scan(alloc, &bounds)?;
+    bytes_of(alloc, &found)
 }
 
-// Puts rows of one byte each into a keeper, and answers those of the interval from h to q.
-fn put_and_scan<K: Keeper>(alloc: Global, keeper: &mut K) -> Result<KeptRowList, KeeperFault> {
-    let rows = [
-        (2, "h", 1),
-        (1, "q", 2),
-        (1, "pz", 3),
-        (1, "h", 4),
-        (1, "a", 5),
-        (0, "", 6),
-        (1, "h", 7),
-    ];
-    for (part, text, byte) in rows {
-        let name = named(alloc, part, text)?;
-        keeper.put(alloc, &name, &[byte])?;
+// The byte of the first row, or 0 where there is none.
+fn first<K: Keeper>(alloc: Global, keeper: &mut K) -> Result<u8, KeeperFault> {
+    match keeper.first(alloc)? {
+        Some(row) => Ok(row.bytes.get(0).copied().unwrap_or(0)),
+        None => Ok(0),
     }
-    let bounds = middle(alloc)?;
-    keeper.scan(alloc, &bounds)
+}
+
+// The bytes of all rows of a keeper in memory.
+fn all(alloc: Global, keeper: &MemKeeper) -> Result<Bytes, KeeperFault> {
+    let rows = keeper.rows(alloc)?;
+    bytes_of(alloc, &rows)
 }
 
 #[test]
 fn an_interval_has_its_rows_in_order(rt: HostRuntime) -> Result<(), KeeperFault> {
     let alloc = rt.alloc();
     let mut keeper = MemKeeper::new(alloc, CallList::new(alloc));
-    assert!(rt; keeper.first(alloc)?.is_none());
-    let found = put_and_scan(alloc, &mut keeper)?;
-    assert_eq!(rt; found.len(), 2);
-    assert!(rt; found.get(0) == Some(&row(alloc, 1, "h", 7)?));
-    assert!(rt; found.get(1) == Some(&row(alloc, 1, "pz", 3)?));
-    assert!(rt; keeper.first(alloc)? == Some(row(alloc, 0, "", 6)?));
-    let all = keeper.rows(alloc)?;
-    assert_eq!(rt; all.len(), 6);
-    assert!(rt; all.get(1) == Some(&row(alloc, 1, "a", 5)?));
-    assert!(rt; all.get(5) == Some(&row(alloc, 2, "h", 1)?));
+    assert_eq!(rt; first(alloc, &mut keeper)?, 0);
+    fill(alloc, &mut keeper)?;
+    let found = scan(alloc, &mut keeper)?;
+    assert!(rt; found.as_slice() == [7, 3].as_slice());
+    assert_eq!(rt; first(alloc, &mut keeper)?, 6);
+    let rows = all(alloc, &keeper)?;
+    assert!(rt; rows.as_slice() == [6, 5, 7, 3, 2, 1].as_slice());
     Ok(())
 }
 
@@ -80,19 +101,16 @@ fn an_interval_has_its_rows_in_order(rt: HostRuntime) -> Result<(), KeeperFault>
 fn each_named_call_fails(rt: HostRuntime) -> Result<(), KeeperFault> {
     let alloc = rt.alloc();
     let mut failing = CallList::new(alloc);
-    for call in [0, 2, 4] {
-        failing.push(call)?;
-    }
+    failing.push(0)?;
+    failing.push(2)?;
+    failing.push(4)?;
     let mut keeper = MemKeeper::new(alloc, failing);
-    let name = named(alloc, 1, "h")?;
-    let bounds = middle(alloc)?;
-    assert_eq!(rt; keeper.put(alloc, &name, &[1]), Err(KeeperFault::Failed));
-    assert!(rt; keeper.rows(alloc)?.is_empty());
-    assert_eq!(rt; keeper.put(alloc, &name, &[2]), Ok(()));
-    assert!(rt; keeper.scan(alloc, &bounds) == Err(KeeperFault::Failed));
-    assert_eq!(rt; keeper.scan(alloc, &bounds)?.len(), 1);
-    assert!(rt; keeper.first(alloc) == Err(KeeperFault::Failed));
-    assert!(rt; keeper.first(alloc)? == Some(row(alloc, 1, "h", 2)?));
+    assert!(rt; put(alloc, &mut keeper, 1, "h", 1) == Err(KeeperFault::Failed));
+    put(alloc, &mut keeper, 1, "h", 2)?;
+    assert!(rt; scan(alloc, &mut keeper) == Err(KeeperFault::Failed));
+    assert_eq!(rt; scan(alloc, &mut keeper)?.len(), 1);
+    assert!(rt; first(alloc, &mut keeper) == Err(KeeperFault::Failed));
+    assert_eq!(rt; first(alloc, &mut keeper)?, 2);
     Ok(())
 }
 
@@ -100,16 +118,9 @@ fn each_named_call_fails(rt: HostRuntime) -> Result<(), KeeperFault> {
 fn a_blind_keeper_shows_its_row(rt: HostRuntime) -> Result<(), KeeperFault> {
     let alloc = rt.alloc();
     let mut keeper = BlindKeeper::new(row(alloc, 1, "p", 9)?);
-    assert!(rt; keeper.first(alloc)?.is_none());
-    let found = put_and_scan(alloc, &mut keeper)?;
-    assert_eq!(rt; found.len(), 1);
-    assert!(rt; found.get(0) == Some(&row(alloc, 1, "p", 9)?));
-    assert!(rt; keeper.first(alloc)?.is_none());
-    let first = Bounds {
-        part: 1,
-        from: Key::none(alloc),
-        to: Some(key(alloc, "p")?),
-    };
-    assert!(rt; keeper.scan(alloc, &first)?.is_empty());
+    fill(alloc, &mut keeper)?;
+    assert_eq!(rt; first(alloc, &mut keeper)?, 0);
+    let found = scan(alloc, &mut keeper)?;
+    assert!(rt; found.as_slice() == [9].as_slice());
     Ok(())
 }
