@@ -33,10 +33,16 @@ named_file : (files : Option Files) (words : List (List ℕ)) (name : List ℕ) 
 named_file files words name limit v is =
     let same : is.names ≡ v.names = same_names words is.names v.names is.named v.named in
     elim is.which [
-    | inl (here, most) ↦ (v.topology, subst (λ n. IsWithin v.held n limit v.topology) (sym (here ∙ ap (λ (n : Names). n.0) same))
-        (subst (λ m. IsWithin v.held v.names.0 m v.topology) (sym most) v.topology_there))
-    | inr (here, most) ↦ (v.events, subst (λ n. IsWithin v.held n limit v.events) (sym (here ∙ ap (λ (n : Names). n.1) same))
-        (subst (λ m. IsWithin v.held v.names.1 m v.events) (sym most) v.events_there))
+      | inl (here, most) ↦ (
+        v.topology,
+        subst (λ n. IsWithin v.held n limit v.topology) (sym (here ∙ ap (λ (n : Names). n.0) same))
+            (subst (λ m. IsWithin v.held v.names.0 m v.topology) (sym most) v.topology_there),
+      )
+      | inr (here, most) ↦ (
+        v.events,
+        subst (λ n. IsWithin v.held n limit v.events) (sym (here ∙ ap (λ (n : Names). n.1) same))
+            (subst (λ m. IsWithin v.held v.names.1 m v.events) (sym most) v.events_there),
+      )
     ]
 
 -- it is not missing
@@ -70,16 +76,16 @@ same_source bytes a b first second = grind (arith, first, second)
 not_other : (files : Option Files) (words : List (List ℕ)) (names : Names) (v : IsValid files words) → names ≡ v.names → HoldsOther files names.0 → ⊥
 not_other files words names v same is =
     let bytes : is.bytes ≡ v.topology =
-      content_of files v.held names.0 v.topology is.bytes v.told (ap (λ (n : Names). v.held n.0) same ∙ v.topology_there.there) is.content in
+    content_of files v.held names.0 v.topology is.bytes v.told (ap (λ (n : Names). v.held n.0) same ∙ v.topology_there.there) is.content in
     subst (λ b. (size : ℕ) → IsCountTopology b size → ⊥) bytes is.other v.size v.form
 
 -- no line has a watermark before it
 not_marked : (files : Option Files) (words : List (List ℕ)) (names : Names) (v : IsValid files words) → names ≡ v.names → HoldsWatermark files names.1 → ⊥
 not_marked files words names v same is =
     let bytes : is.bytes ≡ v.events =
-      content_of files v.held names.1 v.events is.bytes v.told (ap (λ (n : Names). v.held n.1) same ∙ v.events_there.there) is.content in
+    content_of files v.held names.1 v.events is.bytes v.told (ap (λ (n : Names). v.held n.1) same ∙ v.events_there.there) is.content in
     let source : is.source ≡ v.source =
-      same_source v.events is.source v.source (subst (λ b. source_of lines_limit b ≡ Ok is.source) bytes is.lines) v.lines.lines in
+    same_source v.events is.source v.source (subst (λ b. source_of lines_limit b ≡ Ok is.source) bytes is.lines) v.lines.lines in
     is.stated (subst IsUnstated (sym source) v.lines.unstated)
 
 -- what was read is built
@@ -87,8 +93,8 @@ not_unbuilt : (files : Option Files) (words : List (List ℕ)) → IsValid files
 not_unbuilt files words v is =
     let same : is.names ≡ v.names = same_names words is.names v.names is.named v.named in
     elim is.form [
-    | inl other ↦ not_other files words is.names v same other
-    | inr (size, topology, marked) ↦ not_marked files words is.names v same marked
+      | inl other ↦ not_other files words is.names v same other
+      | inr (size, topology, marked) ↦ not_marked files words is.names v same marked
     ]
 
 -- no line is bad
@@ -96,7 +102,7 @@ not_bad : (files : Option Files) (words : List (List ℕ)) (line : ℕ) (why : L
 not_bad files words line why v is =
     let same : is.names ≡ v.names = same_names words is.names v.names is.named v.named in
     let bytes : is.events.bytes ≡ v.events =
-      content_of files v.held is.names.1 v.events is.events.bytes v.told (ap (λ (n : Names). v.held n.1) same ∙ v.events_there.there) is.events.content in
+    content_of files v.held is.names.1 v.events is.events.bytes v.told (ap (λ (n : Names). v.held n.1) same ∙ v.events_there.there) is.events.content in
     ok_is_no_err _ _ (sym v.lines.lines ∙ subst (λ b. source_of lines_limit b ≡ Err (Line line why)) bytes is.events.first)
 
 -- with valid words and files, and no fault, the call comes to its end or wants memory

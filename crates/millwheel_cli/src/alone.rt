@@ -40,10 +40,10 @@ pub fn millwheel_alone<S: Shelf, O: Sink>(
     // Each other status has its reason.
     ensures usage { (result.status ≡ Status.Usage) ↔ (names_of words.now ≡ None) }
     ensures reason { let seen : ShelfSeen = record {
-          files = S.files shelf.old;
-          faults = (S.faults shelf.old, S.faults shelf.new);
-          lacks = (S.lacks shelf.old, S.lacks shelf.new);
-        } in HasReason seen words.now result.status }
+      files = S.files shelf.old;
+      faults = (S.faults shelf.old, S.faults shelf.new);
+      lacks = (S.lacks shelf.old, S.lacks shelf.new);
+    } in HasReason seen words.now result.status }
     ensures sink_fault { result.status ≡ Status.SinkFault →
         Rose (O.faults out.old) (O.faults out.new) }
     ensures valid { IsValid (S.files shelf.old) words.now
@@ -74,10 +74,10 @@ fn solo<S: Shelf, O: Sink>(
 
     ensures usage { names_of words.now ≡ None → result ≡ Err Refusal.Usage }
     ensures reason { let seen : ShelfSeen = record {
-          files = S.files shelf.old;
-          faults = (S.faults shelf.old, S.faults shelf.new);
-          lacks = (S.lacks shelf.old, S.lacks shelf.new);
-        } in HasReason seen words.now (ending_of result) }
+      files = S.files shelf.old;
+      faults = (S.faults shelf.old, S.faults shelf.new);
+      lacks = (S.lacks shelf.old, S.lacks shelf.new);
+    } in HasReason seen words.now (ending_of result) }
     ensures sink_fault { IsErrOf result Refusal.SinkFails →
         Rose (O.faults out.old) (O.faults out.new) }
     ensures written { let old = O.text out.old in let new = O.text out.new in

@@ -94,7 +94,8 @@ fn count_value(alloc: Global, size: u64) -> Result<Value, NoMemory>
     ensures { IfOk result (λ value. view value ≡ count_data size) }
 {
     let reading = reading_value(alloc)?;
-    let value = json!(in alloc; {"kind": "count", "name": "per_minute", "reads": [&reading], "size": size, "stream": "windows"})?;
+    let value =
+        json!(in alloc; {"kind": "count", "name": "per_minute", "reads": [&reading], "size": size, "stream": "windows"})?;
     Ok(value)
 }
 

