@@ -4,6 +4,7 @@ use injector::LineWhy;
 use mw_ports::{FileList, MemShelf, MemSink, NamedFile};
 use mw_types::{Bytes, CallList, Name, NoMemory, Seq};
 use std::alloc::Global;
+use std::process::Abort;
 use std::test::Fail;
 
 // One count over windows of 60.
@@ -68,8 +69,7 @@ fn answer(
 }
 
 // Runs these events to their end, and looks at what is written.
-fn writes(rt: &HostRuntime, events: &str, want: &[u8]) -> Result<(), Fail> {
-    let alloc = rt.alloc();
+fn writes(rt: &impl Abort, alloc: Global, events: &str, want: &[u8]) -> Result<(), Fail> {
     let mut out = sink(alloc);
     let done = answer(alloc, "solo t.json e", events, &mut out)?;
     assert_eq!(rt; done.status, Status::Ok);
@@ -81,6 +81,7 @@ fn writes(rt: &HostRuntime, events: &str, want: &[u8]) -> Result<(), Fail> {
 fn two_windows_and_summary(rt: HostRuntime) -> Result<(), Fail> {
     writes(
         &rt,
+        rt.alloc(),
         EVENTS,
         b"{\"key\":\"a\",\"stream\":\"windows\",\"ts\":60,\"value\":2}\n{\"key\":\"a\",\"stream\":\"windows\",\"ts\":120,\"value\":1}\n{\"fired\":2,\"handled\":3,\"injected\":3,\"late\":0}\n",
     )
@@ -90,6 +91,7 @@ fn two_windows_and_summary(rt: HostRuntime) -> Result<(), Fail> {
 fn empty_event_file(rt: HostRuntime) -> Result<(), Fail> {
     writes(
         &rt,
+        rt.alloc(),
         "",
         b"{\"fired\":0,\"handled\":0,\"injected\":0,\"late\":0}\n",
     )
@@ -99,6 +101,7 @@ fn empty_event_file(rt: HostRuntime) -> Result<(), Fail> {
 fn greatest_timestamp(rt: HostRuntime) -> Result<(), Fail> {
     writes(
         &rt,
+        rt.alloc(),
         "{\"key\":\"a\",\"ts\":4611686018427387904}",
         b"{\"key\":\"a\",\"stream\":\"windows\",\"ts\":4611686018427387960,\"value\":1}\n{\"fired\":1,\"handled\":1,\"injected\":1,\"late\":0}\n",
     )
