@@ -4,8 +4,8 @@
 //! that it is told, and a thin one over the runtime, which tells nothing. Stands on `mw_types`.
 //! Public contract: a fault or a lack is answered only where its count rose in that call; a read
 //! gives the file's bytes, and a write appends a beginning of the piece. Definitions:
-//! `specs/Causes.antt`, what a count says of an answer; `specs/Shelves.antt` and
-//! `specs/Sinks.antt`, what a shelf and a sink hold; `specs/Fakes.antt`, what those in memory are.
+//! `specs/Shelves.antt` and `specs/Sinks.antt`, what a shelf and a sink hold; `specs/Fakes.antt`, what
+//! those in memory are; `specs/Causes.antt` of `mw_types`, what a count says of an answer.
 #![tactic(auto)]
 
 mod file_shelf;

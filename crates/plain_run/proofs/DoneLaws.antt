@@ -1,16 +1,15 @@
 -- What a handler of the count leaves is what the definition says, and can be kept; and a run that is at its end is done.
-use Rattle.std.proofs.Common.{◌≡◌, ℕ, zero, suc, ◌≤◌, ◌<◌, Bool, true, false, cond, List, [], ◌∷◌, map, length, refl, sym, ◌∙◌, ap, subst, arith}
-use Rattle.std.specs.Prelude.{Option, Some, None, IfSome, IsSome, All, unwrap_or, slice_get, nat_lt, is_some}
+use Rattle.std.proofs.Common.{◌≡◌, ℕ, ◌≤◌, ◌<◌, Bool, true, List, [], ◌∷◌, length, refl, sym, ◌∙◌, ap, subst, arith}
+use Rattle.std.specs.Prelude.{Option, Some, None, IfSome, unwrap_or, slice_get}
 use Rattle.std.specs.Option.{option_map, option_map_or}
-use Rattle.std.specs.BTreeMap.{is_at}
-use Rattle.std.proofs.lemmas.Bool.{ltb-true, lt-ltb}
+use Rattle.std.specs.List.Sorted.{IsStrictlySortedBy}
+use Rattle.std.proofs.lemmas.Bool.{ltb-true}
 use Rattle.std.proofs.lemmas.List.Elements.{All-nil}
 use Rattle.mw_types.specs.declared.TheConstants.{MAX_STAMP, END}
 use Rattle.mw_types.specs.declared.identity.RowName.{RowName}
-use Rattle.mw_types.specs.declared.kind.Kind.{Kind}
 use Rattle.mw_types.specs.declared.kind.Kind.TheVariants.{Count}
 use Rattle.mw_types.specs.declared.state.State.{State}
-use Rattle.mw_types.specs.declared.state.State.TheVariants as states
+use Rattle.mw_types.specs.declared.state.State.TheVariants as variants
 use Rattle.mw_types.specs.declared.record.Record.{Record}
 use Rattle.mw_types.specs.declared.timer.Timer.{Timer}
 use Rattle.mw_types.specs.declared.entry.Entry.{Entry}
@@ -18,17 +17,17 @@ use Rattle.mw_types.specs.Outcomes.{Outcome}
 use Rattle.mw_types.specs.Bounds.{IsWithin}
 use Rattle.mw_types.specs.Kinds.{IsKind}
 use Rattle.injector.specs.Sources.{SourceLine, stated_at}
-use Rattle.topology.specs.Shapes.{Shape, ComputationShape, injectors_of, kind_of}
+use Rattle.topology.specs.Shapes.{Shape, injectors_of, kind_of}
 use Rattle.computations.specs.Handlers.{fresh_state, effects_of_record, effects_of_timer, unchanged}
 use Rattle.computations.specs.Parts.{Parts, HasState, kind_at, part_record, part_timer}
 use Rattle.row_parts.specs.Contents.{Contents, fresh}
 use Rattle.run_history.specs.Cases.{CaseShape, is_injector, source_of, fresh_of}
 use Rattle.run_history.specs.Runs.{Run, run_of, row_of, row_in}
-use Rattle.run_history.specs.Watermarks.{cursor_in, cursor_of, source_mark, low_watermark}
+use Rattle.run_history.specs.Watermarks.{cursor_in, cursor_of, source_mark}
 use Rattle.run_history.specs.Legal.{MayFire, IsDone, record_outcome, timer_outcome}
 use Rattle.plain_run.specs.declared.slot.Slot.{Slot}
-use Rattle.plain_run.specs.Plain.{IsPlain, IsCounted}
-use Rattle.plain_run.specs.Ledgers.{IsReady, IsAt, Mirrors, AreCounted, state_in, slot_of}
+use Rattle.plain_run.specs.Plain.{IsCounted}
+use Rattle.plain_run.specs.Ledgers.{IsReady, Mirrors, AreCounted}
 use Rattle.plain_run.specs.Steps.{IsJob, CanKeep, counted_state}
 use Rattle.plain_run.proofs.SlotLaws.{slot_at}
 use Rattle.plain_run.proofs.RowLaws.{HasTimers-mirrored, sorted-row_of}
@@ -45,7 +44,7 @@ state-here shape counted run states timers row mirrors part = ap counted_state (
   where
     by_case : (o : Option Contents) → counted_state (option_map (λ (r : Contents). r.state) o) ≡ (unwrap_or o (fresh (fresh_of shape row.part))).state
     by_case (Some r) = refl
-    by_case None = sym (ap (λ k. option_map_or fresh_state k (states.Injector 0)) (kind-here shape counted row part))
+    by_case None = sym (ap (λ k. option_map_or fresh_state k (variants.Injector 0)) (kind-here shape counted row part))
 
 -- what the computations give of a record is what the definition says
 pub record_done : (case : CaseShape) (parts : Parts) (counted : IsCounted case.topology) (run : Run) (states : RowName → Option State) (timers : Slot → Option Bool)
@@ -68,9 +67,10 @@ timer_done case parts counted run states timers row timer effects work mirrors p
     (work ∙ counted.counts)))
 
 -- a fresh state of the count can be kept
-fresh_kept : (parts : Parts) (size : ℕ) → kind_at parts 1 ≡ Some (Count size) → IsKind (Count size) → CanKeep parts (states.Count 0 [])
+fresh_kept : (parts : Parts) (size : ℕ) → kind_at parts 1 ≡ Some (Count size) → IsKind (Count size) → CanKeep parts (variants.Count 0 [])
+unfolding IsStrictlySortedBy
 fresh_kept parts size kind within = record {
-  within = (omega arith, record { ascending = ?; ends = All-nil _; counts = All-nil _; few = omega arith });
+  within = (omega arith, record { ascending = tt; ends = All-nil _; counts = All-nil _; few = omega arith });
   has = (Count size, kind, within, tt);
 }
 
@@ -92,7 +92,11 @@ only_injector shape one part e = let less = ltb-true part (injectors_of shape) e
 
 -- past the last line a source states its end
 stated_at-end : (source : List SourceLine) → stated_at source (length source) ≡ END
-stated_at-end source = ap (λ o. option_map_or (λ (l : SourceLine). l.stated) o END) ?
+stated_at-end source = ap (λ o. option_map_or (λ (l : SourceLine). l.stated) o END) (past source)
+  where
+    past : (lines : List SourceLine) → slice_get lines (length lines) ≡ None
+    past [] = refl
+    past (l ∷ ls) = past ls
 
 -- where each line is injected, the first slot may fire
 pub may_fire : (case : CaseShape) (parts : Parts) (history : List Entry) (states : RowName → Option State) (timers : Slot → Option Bool)
@@ -115,4 +119,26 @@ may_fire case parts history states timers row tag time late effects one ready he
     run = run_of case.topology history
 
     ended : (feeding : ℕ) → is_injector case.topology feeding ≡ true → time ≤ source_mark case run feeding
-    ended feeding e = ?
+    ended feeding e =
+        let first_part : feeding ≡ 0 = only_injector case.topology one feeding e in
+        let cursor : cursor_of case run 0 ≡ length (source_of case 0) = ap cursor_in ready.at.injected in
+        let mark : source_mark case run 0 ≡ END = ap (stated_at (source_of case 0)) cursor ∙ stated_at-end (source_of case 0) in
+        subst (λ f. time ≤ source_mark case run f) (sym first_part) (subst (λ m. time ≤ m) (sym mark) (omega (arith, in_time)))
+
+-- where each line is injected and no slot is left, all work is done
+pub is_done : (case : CaseShape) (parts : Parts) (history : List Entry) (states : RowName → Option State) (timers : Slot → Option Bool)
+    → injectors_of case.topology ≡ 1
+    → IsReady case parts (length (source_of case 0)) [] history states timers
+    → ((slot : Slot) → timers slot ≡ None)
+    → IsDone case (run_of case.topology history)
+is_done case parts history states timers one ready empty = record {
+  injected = λ part less. subst (λ p. cursor_of case run p ≡ length (source_of case p)) (zero_part part less) (ap cursor_in ready.at.injected);
+  handled = ready.at.waits;
+  fired = none_pending run states timers ready.at.sound ready.at.mirrors empty;
+}
+  where
+    run : Run
+    run = run_of case.topology history
+
+    zero_part : (part : ℕ) → part < injectors_of case.topology → 0 ≡ part
+    zero_part part less = omega (arith, less, one)

@@ -1,13 +1,11 @@
 -- The first slot of a map that mirrors a run is the least timer of its row, and under every low watermark.
-use Rattle.std.proofs.Common.{◌≡◌, ℕ, zero, suc, ◌≤◌, ◌<◌, min, Bool, true, false, cond, ◌&&◌, not, List, [], ◌∷◌, ◌++◌, map, refl, sym, ◌∙◌, ap, subst, arith}
-use Rattle.std.specs.Prelude.{nat_lt, Option, Some, None, IsSome, unwrap_or, slice_get, filter, find, ◌==◌}
-use Rattle.std.specs.Option.{option_map, option_map_or, is_some}
-use Rattle.std.specs.Ordering.{nat_cmp, ordering_then, ordering_reverse, is_eq, is_gt}
+use Rattle.std.proofs.Common.{◌≡◌, ℕ, zero, suc, ◌≤◌, Bool, true, false, cond, ◌&&◌, not, List, [], ◌∷◌, ◌++◌, map, refl, sym, ◌∙◌, ap, subst, arith}
+use Rattle.std.specs.Prelude.{nat_lt, Option, Some, None, IsSome, unwrap_or, slice_get, filter, ◌==◌}
+use Rattle.std.specs.Option.{option_map_or}
+use Rattle.std.specs.Ordering.{nat_cmp, ordering_then, ordering_reverse, is_gt}
 use Rattle.std.specs.declared.cmp.Ordering.{Ordering}
 use Rattle.std.specs.declared.cmp.Ordering.TheVariants.{Less, Equal, Greater}
-use Rattle.std.specs.BTreeMap.{is_at}
-use Rattle.std.specs.Map.{lookup, keys_of}
-use Rattle.std.specs.Cmp.{tied_itself, nat_cmp_is}
+use Rattle.std.specs.Cmp.{nat_cmp_is}
 use Rattle.std.specs.List.{AllByRecursion, flat_map}
 use Rattle.std.specs.List.Sorted.{IsStrictlySortedBy}
 use Rattle.std.proofs.lemmas.Bool.{both_ways, ltb-true, ltb-false}
@@ -18,14 +16,14 @@ use Rattle.mw_types.specs.declared.timer.Timer.{Timer}
 use Rattle.mw_types.specs.declared.delivery.Delivery.{Delivery}
 use Rattle.mw_types.specs.Orders.{row_cmp, timer_cmp}
 use Rattle.mw_types.proofs.OrderLaws.{row_cmp-total}
-use Rattle.topology.specs.Shapes.{feeds_of, parts_of}
+use Rattle.topology.specs.Shapes.{feeds_of}
 use Rattle.row_parts.specs.Contents.{Contents, is_timer}
 use Rattle.run_history.specs.Cases.{CaseShape, is_injector}
 use Rattle.run_history.specs.Runs.{Run, row_in}
-use Rattle.run_history.specs.Watermarks.{least, oldest_work, waiting_stamps, timer_times, times_set, source_mark, low_under, low_watermark}
+use Rattle.run_history.specs.Watermarks.{least, oldest_work, timer_times, times_set, source_mark, low_under}
 use Rattle.run_history.proofs.Lookups.{each_found}
 use Rattle.plain_run.specs.declared.slot.Slot.{Slot}
-use Rattle.plain_run.specs.Ledgers.{Mirrors, IsSound, late_at, slot_cmp, slot_of, timers_of}
+use Rattle.plain_run.specs.Ledgers.{Mirrors, IsSound, late_at, slot_cmp, slot_of}
 use Rattle.plain_run.proofs.Orderings.{slot_cmp-total}
 use Rattle.plain_run.proofs.TimerLaws.{tag_and_time, is_timer-itself, late_at-cons}
 use Rattle.plain_run.proofs.SlotLaws.{HasTimers, slot_at}

@@ -6,3 +6,4 @@ pub mod FireLaws
 pub mod ReadyLaws
 pub mod MapLaws
 pub mod DoneLaws
+pub mod StepLaws

@@ -1,13 +1,14 @@
 -- What putting a value into an ordered map says of a look-up by the other side of the comparison.
-use Rattle.std.proofs.Common.{◌≡◌, Bool, true, cond, ◌&&◌, refl, sym, ◌∙◌, ap, List, [], ◌∷◌, ◌++◌, take}
-use Rattle.std.specs.Prelude.{Option, Some, unwrap_or, fold}
+use Rattle.std.proofs.Common.{◌≡◌, ◌<◌, Bool, true, cond, ◌&&◌, refl, ◌∙◌, ap, List, [], ◌∷◌, length, arith}
+use Rattle.std.specs.Prelude.{Option, Some, None, unwrap_or}
+use Rattle.std.specs.Map.{lookup}
 use Rattle.std.specs.declared.cmp.Ordering.{Ordering}
 use Rattle.std.specs.Cmp.{IsTotalOrder, eq_by_cmp_equiv}
 use Rattle.std.specs.BTreeMap.{is_at}
 use Rattle.mw_types.specs.declared.identity.RowName.{RowName}
 use Rattle.mw_types.specs.declared.timer.Timer.{Timer}
 use Rattle.plain_run.specs.declared.slot.Slot.{Slot}
-use Rattle.plain_run.specs.Ledgers.{slot_cmp, slot_of, slot_set, slots_set}
+use Rattle.plain_run.specs.Ledgers.{slot_cmp, slot_of, slot_set}
 use Rattle.plain_run.proofs.Orderings.{slot_cmp-total}
 
 -- a value that was put at an equal key, looked up from the other side
@@ -33,3 +34,8 @@ slot_put old new row timer name {late} same once q put =
     let slot : RowName → Slot = λ n. record { time = timer.time; tag = timer.tag; row = n } in
     put_there slot_cmp-total q (slot name) (slot row) late (timer.late && unwrap_or (old (slot row)) true) (old q) (new q)
     (ap slot same) (once ∙ ap (λ n. timer.late && unwrap_or (old (slot n)) true) same) put
+
+-- nothing is found among no entries
+pub empty-lookup : {K X : Type 0} (test : K → Bool) (es : List (K × X)) → (0 < length es → ⊥) → lookup test es ≡ None
+empty-lookup test [] none = refl
+empty-lookup test (e ∷ es) none = absurd (none (omega arith))

@@ -1,14 +1,13 @@
 -- What an order that has two parts says of the parts.
-use Rattle.std.proofs.Common.{◌≡◌, ℕ, Bool, true, false, cond, ◌&&◌, ◌==◌, refl, sym, ◌∙◌, ap, subst, List}
+use Rattle.std.proofs.Common.{◌≡◌, true, refl}
 use Rattle.std.specs.declared.cmp.Ordering.{Ordering}
 use Rattle.std.specs.declared.cmp.Ordering.TheVariants.{Less, Equal, Greater}
-use Rattle.std.specs.Ordering.{nat_cmp, ordering_then, is_eq, is_gt, is_lt, ordering_reverse}
-use Rattle.std.specs.Cmp.{IsTotalOrder, tied_itself, nat_cmp_total, then_total, on_total, first_so, second_so}
+use Rattle.std.specs.Ordering.{ordering_then, is_eq}
+use Rattle.std.specs.Cmp.{IsTotalOrder, nat_cmp_total, then_total, on_total}
 use Rattle.std.proofs.lemmas.Map.Lookups.{exact_unsigned, exact_bytes}
-use Rattle.std.proofs.lemmas.Bool.{eqb-true, eq-eqb, cases_Bool}
 use Rattle.mw_types.specs.declared.identity.RowName.{RowName}
 use Rattle.mw_types.specs.declared.timer.Timer.{Timer}
-use Rattle.mw_types.specs.Orders.{row_cmp, timer_cmp, key_cmp}
+use Rattle.mw_types.specs.Orders.{row_cmp, timer_cmp}
 use Rattle.mw_types.proofs.OrderLaws.{row_cmp-total}
 use Rattle.plain_run.specs.declared.slot.Slot.{Slot}
 use Rattle.plain_run.specs.Ledgers.{slot_cmp}

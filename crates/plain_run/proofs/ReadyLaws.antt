@@ -1,6 +1,6 @@
 -- One step of the plain engine leaves it ready for the next.
-use Rattle.std.proofs.Common.{◌≡◌, ◌≢◌, ℕ, suc, ◌+◌, ◌≤◌, ◌<◌, Bool, true, false, cond, not, ◌&&◌, ◌==◌, List, [], ◌∷◌, ◌++◌, length, map, refl, sym, ◌∙◌, ap, subst, arith}
-use Rattle.std.specs.Prelude.{Option, Some, None, IfSome, IsTrue, All, unwrap_or, fold, find, filter, slice_get, nat_lt}
+use Rattle.std.proofs.Common.{◌≡◌, ℕ, ◌+◌, ◌≤◌, Bool, true, false, cond, not, ◌&&◌, ◌==◌, List, [], ◌∷◌, ◌++◌, length, map, refl, sym, ◌∙◌, ap, subst, arith}
+use Rattle.std.specs.Prelude.{Option, Some, None, IfSome, All, unwrap_or, fold}
 use Rattle.std.specs.Option.{option_map, option_map_or}
 use Rattle.std.specs.Ordering.{nat_cmp, ordering_then, is_eq}
 use Rattle.std.specs.declared.cmp.Ordering.{Ordering}
@@ -8,19 +8,15 @@ use Rattle.std.specs.declared.cmp.Ordering.TheVariants.{Less, Equal, Greater}
 use Rattle.std.specs.BTreeMap.{is_at}
 use Rattle.std.specs.List.{AllByRecursion, flat_map, enumerate_from}
 use Rattle.std.specs.Cmp.{tied_itself}
-use Rattle.std.specs.List.Sorted.{IsStrictlySortedBy}
-use Rattle.std.proofs.lemmas.List.Sums.{fold-append}
 use Rattle.std.proofs.lemmas.List.Elements.{All-push, recursion_from_All}
 use Rattle.std.proofs.lemmas.List.Kept.{IsStrictlySortedBy-filter}
 use Rattle.std.proofs.lemmas.Bool.{eq-eqb}
-use Rattle.mw_types.specs.declared.TheConstants.{MAX_STAMP, END}
+use Rattle.mw_types.specs.declared.TheConstants.{MAX_STAMP}
 use Rattle.mw_types.specs.declared.identity.RecordId.{RecordId}
 use Rattle.mw_types.specs.declared.identity.RowName.{RowName}
-use Rattle.mw_types.specs.declared.kind.Kind.TheVariants.{Count}
 use Rattle.mw_types.specs.declared.state.State.{State}
 use Rattle.mw_types.specs.declared.state.State.TheVariants.{Injector}
 use Rattle.mw_types.specs.declared.record.Record.{Record}
-use Rattle.mw_types.specs.declared.record.Production.{Production}
 use Rattle.mw_types.specs.declared.timer.Timer.{Timer}
 use Rattle.mw_types.specs.declared.delivery.Delivery.{Delivery}
 use Rattle.mw_types.specs.declared.entry.Entry.{Entry}
@@ -30,19 +26,19 @@ use Rattle.mw_types.specs.Bounds.{IsWithin}
 use Rattle.mw_types.specs.Orders.{row_cmp, timer_cmp}
 use Rattle.mw_types.proofs.OrderLaws.{row_cmp-total}
 use Rattle.injector.specs.Sources.{item_at}
-use Rattle.topology.specs.Shapes.{Shape, consumers_of, kind_of, injectors_of}
-use Rattle.topology.specs.declared.subscription.Subscription.{Subscription}
+use Rattle.topology.specs.Shapes.{Shape, consumers_of}
 use Rattle.computations.specs.Parts.{Parts, HasState}
-use Rattle.row_parts.specs.Contents.{Contents, fresh, is_timer, same_id, without_delivery, without_timer}
+use Rattle.row_parts.specs.Contents.{Contents, fresh, is_timer, same_id, without_delivery}
 use Rattle.run_history.specs.Cases.{CaseShape, fresh_of, is_injector, source_of, record_of}
-use Rattle.run_history.specs.Made.{deliveries_made, productions_of, late_cause, deliveries_to, deliveries_of, sends_of, found_delivery, delivery_at, produced, row_to, row_written}
-use Rattle.run_history.specs.Runs.{Run, run_of, row_of, row_in, row_after, followed, empty_run, advanced, with_timers}
-use Rattle.run_history.specs.Watermarks.{cursor_in, cursor_of}
-use Rattle.run_history.specs.Legal.{MayFollow, MayInject, MayHandle, MayFire, IsLegal, record_outcome, timer_outcome}
+use Rattle.run_history.specs.Made.{deliveries_made, productions_of, late_cause, deliveries_to, deliveries_of, sends_of, found_delivery, delivery_at, produced, row_written}
+use Rattle.run_history.specs.Runs.{Run, run_of, row_of, row_in, row_after, followed, empty_run, advanced}
+use Rattle.run_history.specs.Watermarks.{cursor_in}
+use Rattle.run_history.specs.Legal.{MayFollow, MayFire, record_outcome}
+use Rattle.run_history.specs.Printing.{IsPrintable}
 use Rattle.run_history.proofs.RunLaws.{run_of-push, IsLegal-push}
 use Rattle.plain_run.specs.declared.slot.Slot.{Slot}
-use Rattle.plain_run.specs.Plain.{IsPlain, IsCounted, IsPlainEntry}
-use Rattle.plain_run.specs.Ledgers.{IsReady, IsAt, AreCounted, slot_set, Mirrors, IsSound, injector_row, slot_cmp, slot_of, slots_set}
+use Rattle.plain_run.specs.Plain.{IsCounted, IsPlainEntry}
+use Rattle.plain_run.specs.Ledgers.{IsReady, IsAt, slot_set, injector_row, slot_cmp, slot_of, slots_set}
 use Rattle.plain_run.proofs.RowLaws.{row_in-followed, Mirrors-inject, Mirrors-handle, Mirrors-fire, IsSound-followed, sorted-row_of}
 use Rattle.plain_run.proofs.Orderings.{same_slot, from_tie}
 use Rattle.plain_run.proofs.TimerLaws.{sorted-with_timers}
@@ -203,12 +199,13 @@ module _ (shape : Shape) (parts : Parts) (line : ℕ) (run : Run) (states states
 pub ready-step : (case : CaseShape) (parts : Parts) (line line' : ℕ) (waiting waiting' : List Delivery) (history : List Entry) (entry : Entry)
     (states states' : RowName → Option State) (timers timers' : Slot → Option Bool)
     → IsReady case parts line waiting history states timers
-    → MayFollow case (run_of case.topology history) entry → IsPlainEntry entry
+    → MayFollow case (run_of case.topology history) entry → IsPlainEntry entry → IsPrintable case.topology (history ++ entry ∷ [])
     → IsAt case.topology parts line' waiting' (followed case.topology (run_of case.topology history) entry) states' timers'
     → IsReady case parts line' waiting' (history ++ entry ∷ []) states' timers'
-ready-step case parts line line' waiting waiting' history entry states states' timers timers' ready may plain at = record {
+ready-step case parts line line' waiting waiting' history entry states states' timers timers' ready may plain printable at = record {
   legal = IsLegal-push case history entry ready.legal may;
   plain = All-push IsPlainEntry history entry ready.plain plain;
+  printable = printable;
   at = subst (λ (r : Run). IsAt case.topology parts line' waiting' r states' timers') (sym (run_of-push case.topology history entry)) at;
 }
 
@@ -216,14 +213,14 @@ ready-step case parts line line' waiting waiting' history entry states states' t
 pub ready-inject : (case : CaseShape) (parts : Parts) (line : ℕ) (history : List Entry) (item : Record)
     (states states' : RowName → Option State) (timers : Slot → Option Bool)
     → IsReady case parts line [] history states timers
-    → is_injector case.topology 0 ≡ true
+    → is_injector case.topology 0 ≡ true → IsPrintable case.topology (history ++ Inject 0 0 line item ∷ [])
     → option_map record_of (item_at (source_of case 0) line) ≡ Some item
     → ((row : RowName) → states' row ≡ cond (is_at (row_cmp row) injector_row) (Some (Injector (line + 1))) (states row))
     → IsReady case parts (line + 1) (deliveries_to (consumers_of case.topology 0) (length history) (item ∷ []))
     (history ++ Inject 0 0 line item ∷ []) states' timers
-ready-inject case parts line history item states states' timers ready there of_line new_states =
+ready-inject case parts line history item states states' timers ready there printable of_line new_states =
     ready-step case parts line (line + 1) [] _ history (Inject 0 0 line item) states states' timers timers ready
-    (record { injector = there; next_line = sym (ap cursor_in ready.at.injected); of_line = of_line }) refl
+    (record { injector = there; next_line = sym (ap cursor_in ready.at.injected); of_line = of_line }) refl printable
     (subst (λ n. IsAt case.topology parts (line + 1) (deliveries_to (consumers_of case.topology 0) n (item ∷ []))
     (followed case.topology (run_of case.topology history) (Inject 0 0 line item)) states' timers)
     (run_of-next case.topology history)
@@ -232,7 +229,7 @@ ready-inject case parts line history item states states' timers ready there of_l
 -- a delivery that is handled waits no longer
 pub ready-handle : (case : CaseShape) (parts : Parts) (line : ℕ) (history : List Entry) (delivery : Delivery) (effects : Outcome)
     (states states' : RowName → Option State) (timers timers' : Slot → Option Bool)
-    → IsCounted case.topology
+    → IsCounted case.topology → IsPrintable case.topology (history ++ Handle 0 delivery.to delivery.id effects ∷ [])
     → IsReady case parts line (delivery ∷ []) history states timers
     → delivery.to.part ≡ 1
     → record_outcome case (run_of case.topology history) delivery.to delivery.item ≡ Some effects
@@ -240,7 +237,7 @@ pub ready-handle : (case : CaseShape) (parts : Parts) (line : ℕ) (history : Li
     → ((row : RowName) → states' row ≡ cond (is_at (row_cmp row) delivery.to) (Some effects.state) (states row))
     → ((slot : Slot) → timers' slot ≡ slots_set timers delivery.to effects.timers slot)
     → IsReady case parts line [] (history ++ Handle 0 delivery.to delivery.id effects ∷ []) states' timers'
-ready-handle case parts line history delivery effects states states' timers timers' counted ready part does within has times new_states new_timers =
+ready-handle case parts line history delivery effects states states' timers timers' counted printable ready part does within has times new_states new_timers =
     ready-step case parts line line (delivery ∷ []) [] history (Handle 0 delivery.to delivery.id effects) states states' timers timers' ready
     (record {
       delivery = delivery;
@@ -248,14 +245,14 @@ ready-handle case parts line history delivery effects states states' timers time
       to_row = refl;
       does = does;
     })
-    refl
+    refl printable
     (at-handle case.topology parts line (run_of case.topology history) states states' timers timers' counted delivery effects ready.at part within has
     (recursion_from_All (λ (t : Timer). t.time ≤ MAX_STAMP) effects.timers times) new_states new_timers)
 
 -- a timer that is fired is pending no longer
 pub ready-fire : (case : CaseShape) (parts : Parts) (line : ℕ) (history : List Entry) (row : RowName) (timer : Timer) (effects : Outcome)
     (states states' : RowName → Option State) (timers timers' : Slot → Option Bool)
-    → IsCounted case.topology
+    → IsCounted case.topology → IsPrintable case.topology (history ++ Fire 0 row timer timer.time effects ∷ [])
     → IsReady case parts line [] history states timers
     → row.part ≡ 1
     → MayFire case (run_of case.topology history) row timer timer.time effects
@@ -263,6 +260,6 @@ pub ready-fire : (case : CaseShape) (parts : Parts) (line : ℕ) (history : List
     → ((name : RowName) → states' name ≡ cond (is_at (row_cmp name) row) (Some effects.state) (states name))
     → ((slot : Slot) → timers' slot ≡ cond (is_at (slot_cmp (slot_of row timer)) slot) None (timers slot))
     → IsReady case parts line [] (history ++ Fire 0 row timer timer.time effects ∷ []) states' timers'
-ready-fire case parts line history row timer effects states states' timers timers' counted ready part may within has new_states new_timers =
-    ready-step case parts line line [] [] history (Fire 0 row timer timer.time effects) states states' timers timers' ready may refl
+ready-fire case parts line history row timer effects states states' timers timers' counted printable ready part may within has new_states new_timers =
+    ready-step case parts line line [] [] history (Fire 0 row timer timer.time effects) states states' timers timers' ready may refl printable
     (at-fire case.topology parts line (run_of case.topology history) states states' timers timers' counted row timer effects ready.at part within has new_states new_timers)

@@ -1,5 +1,5 @@
 -- What one more entry does to the rows of a run, and to maps that mirror them.
-use Rattle.std.proofs.Common.{◌≡◌, ℕ, Bool, true, false, cond, List, [], ◌∷◌, ◌++◌, refl, sym, ◌∙◌, ap, subst}
+use Rattle.std.proofs.Common.{◌≡◌, ℕ, Bool, true, false, cond, List, [], ◌∷◌, refl, sym, ◌∙◌, ap, subst}
 use Rattle.std.specs.Prelude.{Option, Some, None, unwrap_or}
 use Rattle.std.specs.Option.{option_map, option_map_or}
 use Rattle.std.specs.Ordering.{is_eq}
@@ -22,11 +22,11 @@ use Rattle.topology.specs.Shapes.{Shape}
 use Rattle.row_parts.specs.Contents.{Contents, fresh, without_timer}
 use Rattle.run_history.specs.Cases.{fresh_of}
 use Rattle.run_history.specs.Made.{row_written, deliveries_of}
-use Rattle.run_history.specs.Runs.{Run, row_in, row_of, row_after, followed, advanced, with_timers}
+use Rattle.run_history.specs.Runs.{Run, row_in, row_of, row_after, followed, advanced}
 use Rattle.std.specs.List.{AllByRecursion}
 use Rattle.run_history.proofs.Lookups.{lookup-insert_entry, sorted-insert_entry, each-insert_entry}
 use Rattle.plain_run.specs.declared.slot.Slot.{Slot}
-use Rattle.plain_run.specs.Ledgers.{IsSound, Mirrors, state_in, timers_of, late_at, slot_cmp, slot_of, slots_set}
+use Rattle.plain_run.specs.Ledgers.{IsSound, Mirrors, timers_of, late_at, slot_cmp, slot_of, slots_set}
 use Rattle.plain_run.proofs.Orderings.{from_tie, same_row, same_slot, slot_cmp-total}
 use Rattle.plain_run.proofs.TimerLaws.{late_at-gone, late_at-left}
 use Rattle.plain_run.proofs.SlotLaws.{HasTimers, slot_at, HasTimers-sets, slots_set-other}

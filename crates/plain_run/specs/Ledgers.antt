@@ -1,5 +1,5 @@
 -- How the plain engine keeps the run of its history in two ordered maps. No public clause cites this module.
-use Rattle.std.specs.Prelude.{◌≡◌, ℕ, ◌<◌, ◌≤◌, Bool, true, ◌&&◌, cond, List, [], find, fold, map, All, Option, Some, IfSome, unwrap_or}
+use Rattle.std.specs.Prelude.{◌≡◌, ℕ, ◌≤◌, Bool, true, ◌&&◌, cond, List, [], find, fold, All, Option, Some, IfSome, unwrap_or}
 use Rattle.std.specs.Option.{option_map, option_map_or}
 use Rattle.std.specs.declared.cmp.Ordering.{Ordering}
 use Rattle.std.specs.Ordering.{nat_cmp, ordering_then}
@@ -22,6 +22,7 @@ use Rattle.topology.specs.Shapes.{Shape}
 use Rattle.run_history.specs.Cases.{CaseShape}
 use Rattle.run_history.specs.Runs.{Run, row_in, row_of, run_of}
 use Rattle.run_history.specs.Legal.{IsLegal}
+use Rattle.run_history.specs.Printing.{IsPrintable}
 use Rattle.plain_run.specs.Plain.{IsPlainEntry, IsCounted}
 use Rattle.plain_run.specs.declared.slot.Slot.{Slot}
 
@@ -82,9 +83,10 @@ pub record IsAt (shape : Shape) (parts : Parts) (line : ℕ) (waiting : List Del
   pub sound : IsSound run
   pub counted : AreCounted shape parts states timers
 
--- the history is legal and plain, and the maps are at what stands after it
+-- the history is legal, plain and can be printed, and the maps are at what stands after it
 pub record IsReady (case : CaseShape) (parts : Parts) (line : ℕ) (waiting : List Delivery) (history : List Entry)
     (states : RowName → Option State) (timers : Slot → Option Bool) : Type 0 where
   pub legal : IsLegal case history
   pub plain : All IsPlainEntry history
+  pub printable : IsPrintable case.topology history
   pub at : IsAt case.topology parts line waiting (run_of case.topology history) states timers

@@ -1,9 +1,8 @@
 -- Which topologies the plain engine runs, and which entries it writes. Own.
-use Rattle.std.specs.Prelude.{◌≡◌, ℕ, ◌||◌, ◌⊎◌, List, [], ◌∷◌, map, All, IsTrue, Some}
+use Rattle.std.specs.Prelude.{◌≡◌, ℕ, ◌||◌, ◌⊎◌, [], ◌∷◌, map, All, IsTrue, Some}
 use Rattle.mw_types.specs.declared.kind.Kind.TheVariants.{Count}
 use Rattle.mw_types.specs.declared.entry.Entry.{Entry}
 use Rattle.topology.specs.declared.subscription.By.TheVariants as by
-use Rattle.topology.specs.declared.subscription.Subscription.{Subscription}
 use Rattle.topology.specs.Shapes.{Shape, ComputationShape, injectors_of, kind_of, consumers_of}
 use Rattle.computations.specs.Parts.{IsCount}
 use Rattle.run_history.specs.Texts.{is_inject, is_handle, is_fire}

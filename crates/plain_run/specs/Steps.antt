@@ -1,8 +1,7 @@
 -- What the steps of the plain engine need and leave. No public clause cites this module.
-use Rattle.std.specs.Prelude.{◌≡◌, ℕ, ◌≤◌, List, [], ◌∷◌, Option, None, unwrap_or, IfSome, All, ⊤}
+use Rattle.std.specs.Prelude.{◌≡◌, ℕ, ◌≤◌, List, [], ◌∷◌, Option, unwrap_or, IfSome, All, ⊤}
 use Rattle.std.specs.BTreeMap.{get}
 use Rattle.mw_types.specs.declared.TheConstants.{MAX_STAMP}
-use Rattle.mw_types.specs.declared.identity.RowName.{RowName}
 use Rattle.mw_types.specs.declared.state.State.{State}
 use Rattle.mw_types.specs.declared.state.State.TheVariants.{Count}
 use Rattle.mw_types.specs.declared.delivery.Delivery.{Delivery}
@@ -14,6 +13,7 @@ use Rattle.topology.specs.Shapes.{Shape, kind_of}
 use Rattle.computations.specs.Parts.{Parts, HasState, kind_at}
 use Rattle.run_history.specs.Cases.{CaseShape}
 use Rattle.run_history.specs.Legal.{IsLegal}
+use Rattle.run_history.specs.Printing.{IsPrintable}
 use Rattle.plain_run.specs.declared.ledger.Ledger.{Ledger}
 use Rattle.plain_run.specs.Plain.{IsPlain, IsPlainEntry, IsCounted}
 use Rattle.plain_run.specs.Ledgers.{IsReady, slot_cmp}
@@ -29,10 +29,11 @@ abbrev pub IsBetween : CaseShape → Parts → ℕ → List Delivery → List En
 IsBetween case parts line waiting history ledger =
     IsReady case parts line waiting history (get row_cmp ledger.states) (get slot_cmp ledger.timers)
 
--- the history may be handed back: it is legal, and has plain entries alone
+-- the history may be handed back: it is legal, has plain entries alone, and can be printed
 pub record IsKept (case : CaseShape) (history : List Entry) : Type 0 where
   pub legal : IsLegal case history
   pub plain : All IsPlainEntry history
+  pub printable : IsPrintable case.topology history
 
 -- at most one delivery waits, and it waits for the count
 abbrev pub AwaitsCount : Shape → List Delivery → Type 0

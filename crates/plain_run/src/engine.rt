@@ -1,5 +1,5 @@
 //! The plain engine: each line in order, and then each timer, least first.
-ghost use Rattle.std.specs.Prelude.{◌≡◌, ◌+◌, ◌≤◌, ◌<◌, ◌↔◌, [], ◌∷◌, length, All, IfOk, OnOk, IsTrue, false};
+ghost use Rattle.std.specs.Prelude.{◌≡◌, ◌+◌, ◌≤◌, ◌<◌, ◌^◌, ◌++◌, [], ◌∷◌, length, All, IfOk, OnOk, OnErr, IsTrue, false};
 ghost use Rattle.std.specs.BTreeMap.{get, btree_map_len};
 ghost use Rattle.mw_types.specs.declared.TheConstants.{MAX_STAMP};
 ghost use Rattle.mw_types.specs.Orders.{row_cmp};
@@ -9,6 +9,7 @@ ghost use Rattle.run_history.specs.Cases.{source_of, record_of};
 ghost use Rattle.run_history.specs.Made.{deliveries_to};
 ghost use Rattle.run_history.specs.Runs.{run_of};
 ghost use Rattle.run_history.specs.Legal.{IsLegal, IsDone};
+ghost use Rattle.run_history.specs.Printing.{IsPrintable};
 ghost use Rattle.plain_run.specs.Plain.{IsPlain, IsCounted, IsPlainEntry};
 ghost use Rattle.plain_run.specs.Steps.{IsJob, IsBetween, IsKept, AwaitsCount, CanKeep, counted_state};
 
@@ -38,6 +39,7 @@ pub fn plain_run(alloc: Global, case: &Case, history: &mut History) -> Result<()
 
     ensures legal { IsLegal case.now history.new }
     ensures plain { All IsPlainEntry history.new }
+    ensures printable { IsPrintable case.now.topology history.new }
     ensures done { OnOk result (IsDone case.now (run_of case.now.topology history.new)) }
 {
     let work = Kinds::of(alloc, &case.topology)?;
@@ -48,6 +50,18 @@ pub fn plain_run(alloc: Global, case: &Case, history: &mut History) -> Result<()
     };
     inject_all(alloc, &job, &mut ledger, history)?;
     fire_all(alloc, &job, &mut ledger, history)
+}
+
+// Appends an entry, while the next commit number is below 2^32.
+fn append(history: &mut History, entry: Entry) -> Result<(), NoMemory>
+    ensures appended { OnOk result (history.new ≡ history.old ++ entry ∷ []) }
+    ensures few { OnOk result (length history.new ≤ 2 ^ 32) }
+    ensures unchanged { OnErr result (history.new ≡ history.old) }
+{
+    if history.len() >= 1 << 32 {
+        return Err(NoMemory);
+    }
+    history.push(entry)
 }
 
 // The items of the injector.
@@ -89,6 +103,7 @@ fn inject(
 ) -> Result<DeliveryList, NoMemory>
     requires job { IsJob job.now.case.now.topology job.now.work }
     requires there { line < length (source_of job.now.case.now 0) }
+    requires room { line + 1 < 2 ^ 32 }
     requires begun { IsBetween job.now.case.now job.now.work line [] history.old ledger.old }
 
     ensures kept { IsKept job.now.case.now history.new }
@@ -108,12 +123,15 @@ fn inject(
         &name,
         &State::Injector { cursor: line + 1 },
     )?;
-    history.push(Entry::Inject {
-        seq: 0,
-        part: 0,
-        line,
-        item,
-    })?;
+    append(
+        history,
+        Entry::Inject {
+            seq: 0,
+            part: 0,
+            line,
+            item,
+        },
+    )?;
     Ok(deliveries)
 }
 
@@ -198,12 +216,16 @@ fn handle(
     let effects = record_effects(alloc, &job.work, &ledger.states, &to, &item)?;
     keep_state(alloc, &mut ledger.states, &to, &effects.state)?;
     set_timers(alloc, &mut ledger.timers, &to, effects.timers.as_slice())?;
-    history.push(Entry::Handle {
-        seq: 0,
-        row: to,
-        id,
-        effects,
-    })
+    append(
+        history,
+        Entry::Handle {
+            seq: 0,
+            row: to,
+            id,
+            effects,
+        },
+    )?;
+    Ok(())
 }
 
 // What the handler of the count leaves of a record.
@@ -218,10 +240,8 @@ fn record_effects(
     requires can { CanKeep work.now (counted_state (get row_cmp states.now row.now)) }
     requires in_time { item.now.stamp ≤ MAX_STAMP }
 
-    ensures effects { let state = counted_state (get row_cmp states.now row.now) in
+    ensures { let state = counted_state (get row_cmp states.now row.now) in
         IfOk result (λ effects. effects ≡ part_record work.now 1 row.now.key state item.now) }
-    ensures can { IfOk result (λ effects. CanKeep work.now effects.state) }
-    ensures times { IfOk result (λ effects. All (λ t. t.time ≤ MAX_STAMP) effects.timers) }
 {
     let fresh = State::Count {
         late: 0,
@@ -245,9 +265,8 @@ fn timer_effects(
     requires can { CanKeep work.now (counted_state (get row_cmp states.now row.now)) }
     requires in_time { timer.now.time ≤ MAX_STAMP }
 
-    ensures effects { let state = counted_state (get row_cmp states.now row.now) in
+    ensures { let state = counted_state (get row_cmp states.now row.now) in
         IfOk result (λ effects. effects ≡ part_timer work.now 1 row.now.key state timer.now) }
-    ensures can { IfOk result (λ effects. CanKeep work.now effects.state) }
 {
     let fresh = State::Count {
         late: 0,
@@ -304,12 +323,15 @@ fn fire_first(
     let timer = Timer { tag, time, late };
     let effects = timer_effects(alloc, &job.work, &ledger.states, &row, &timer)?;
     keep_state(alloc, &mut ledger.states, &row, &effects.state)?;
-    history.push(Entry::Fire {
-        seq: 0,
-        row,
-        timer,
-        mark: time,
-        effects,
-    })?;
+    append(
+        history,
+        Entry::Fire {
+            seq: 0,
+            row,
+            timer,
+            mark: time,
+            effects,
+        },
+    )?;
     Ok(true)
 }

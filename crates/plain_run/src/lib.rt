@@ -10,3 +10,5 @@
 mod engine;
 mod ledger;
 mod slot;
+
+pub use engine::plain_run;

@@ -1,11 +1,10 @@
 -- Reading a key.
-use Rattle.std.proofs.Common.{◌≡◌, ℕ, ◌≤◌, List, length, take, drop, Bool, true, false, cond, ◌&&◌, Option, Some, None, refl, sym, ap, ◌∙◌, arith}
-use Rattle.std.specs.Prelude.{nat_le}
+use Rattle.std.proofs.Common.{◌≡◌, ℕ, ◌≤◌, List, length, take, drop, Bool, true, false, Some, None, refl}
 use Rattle.std.specs.Str.{IsUtf8, is_utf8}
 use Rattle.std.specs.Int.{w16}
 use Rattle.std.proofs.lemmas.Bool.{le-leb}
 use Rattle.std.proofs.lemmas.Str.{IsUtf8-from_is_utf8, is_utf8-from_IsUtf8}
-use Rattle.row_parts.specs.Reading.{number_at, key_at, keep}
+use Rattle.row_parts.specs.Reading.{number_at, key_at}
 
 -- the bytes of a text are a key
 pub key_read : (bytes rest : List ℕ) (n : ℕ) → number_at w16 bytes ≡ Some (n, rest) → n ≤ 256 → n ≤ length rest → IsUtf8 (take n rest) → key_at bytes ≡ Some (take n rest, drop n rest)

@@ -1,9 +1,8 @@
 -- The law of reading for each part of a row.
-use Rattle.std.proofs.Common.{◌≡◌, ℕ, ℤ, zero, suc, ◌^◌, ◌<◌, ◌≤◌, Bool, true, false, ◌&&◌, List, [], ◌∷◌, ◌++◌, length, take, drop, FitsSigned, Option, Some, None, refl, sym, ap, subst, ◌∙◌, append_assoc, arith}
+use Rattle.std.proofs.Common.{◌≡◌, ℕ, ℤ, zero, suc, ◌^◌, ◌<◌, ◌≤◌, Bool, true, false, ◌&&◌, List, [], ◌∷◌, ◌++◌, length, take, drop, FitsSigned, Option, Some, refl, sym, ap, subst, ◌∙◌, append_assoc, arith}
 use Rattle.std.specs.Prelude.{⊤, nat_le, nat_lt}
 use Rattle.std.specs.Bool.{Decides}
-use Rattle.std.specs.Str.{IsUtf8, is_utf8}
-use Rattle.std.specs.List.{concat}
+use Rattle.std.specs.Str.{is_utf8}
 use Rattle.std.specs.Int.{w16, w32, w64, to_be_bytes, cast_signed, cast_unsigned}
 use Rattle.std.proofs.lemmas.Bool.{ltb-true, lt-ltb, leb-true, le-leb}
 use Rattle.std.proofs.lemmas.Int.{of_z-to_z, to_z-of_z}
@@ -21,7 +20,7 @@ use Rattle.mw_types.specs.declared.record.Record.{Record}
 use Rattle.mw_types.specs.declared.delivery.Delivery.{Delivery}
 use Rattle.row_parts.specs.Contents.{IsId, IsKey, IsDelivery}
 use Rattle.row_parts.specs.Spelling.{signed_spelling, flag_spelling, key_spelling, id_spelling, window_spelling, held_spelling, timer_spelling, name_spelling, record_spelling, delivery_spelling, DeliveryFits}
-use Rattle.row_parts.specs.Reading.{◌>>=◌, keep, number_at, signed_at, flag_at, key_at, id_at, window_at, held_at, timer_at, name_at, record_at, delivery_at}
+use Rattle.row_parts.specs.Reading.{keep, number_at, signed_at, flag_at, key_at, id_at, window_at, held_at, timer_at, name_at, record_at, delivery_at}
 use Rattle.row_parts.proofs.Codec.{IsBytes, IsBytes-drop, bind_some, keep_some, some_is, Reads, as_read, wide16, wide32, wide64, number_reads, nothing_at, nothing_reads, pair_at, pair_reads, made_reads, more}
 
 pub u16_reads : Reads (to_be_bytes w16) (λ n. n < 2 ^ 16) (number_at w16)

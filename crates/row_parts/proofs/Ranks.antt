@@ -1,10 +1,9 @@
 -- The orders of timers, ids and deliveries as ranks.
-use Rattle.std.proofs.Common.{◌≡◌, ℕ, List, length, get_or, ◌<◌, ◌-◌, Bool, true, false, refl, arith, eqb}
+use Rattle.std.proofs.Common.{◌≡◌, ℕ, List, length, ◌<◌, ◌-◌, true, false, refl, arith}
 use Rattle.std.specs.Prelude.{Result, Some, slice_get}
 use Rattle.std.specs.declared.cmp.Ordering.{Ordering}
 use Rattle.std.proofs.lemmas.Option.{get_or_from_slice_get, slice_get_within}
-use Rattle.std.specs.Ordering.{nat_cmp, is_eq, is_lt, is_some_and, ordering_then, partial_ordering_then}
-use Rattle.std.specs.Cmp.{IsTotalOrder, then_total, on_total, nat_cmp_total}
+use Rattle.std.specs.Ordering.{is_eq, is_lt, is_some_and, ordering_then, partial_ordering_then}
 use Rattle.std.specs.List.Sorted.{IsStrictlySortedBy, IsBinarySearchResult, IsSearchInRange}
 use Rattle.std.proofs.lemmas.Bool.Decides.{nat_tests}
 use Rattle.mw_types.specs.declared.identity.RecordId.{RecordId}
@@ -12,7 +11,7 @@ use Rattle.mw_types.specs.declared.delivery.Delivery.{Delivery}
 use Rattle.mw_types.specs.declared.timer.Timer.{Timer}
 use Rattle.mw_types.specs.Orders.{id_cmp, timer_cmp}
 use Rattle.mw_types.proofs.OrderLaws.{id_cmp-total}
-use Rattle.row_parts.specs.Orders.{timer_cmp-total, delivery_cmp-total}
+use Rattle.row_parts.specs.Orders.{timer_cmp-total}
 use Rattle.row_parts.specs.Contents.{is_timer, same_id, delivery_cmp}
 use Rattle.row_parts.specs.Places.{IsPlace, IsGap, timer_rank, id_rank, delivery_rank}
 use Rattle.row_parts.proofs.PlaceLemmas.{is_place, gap_at_end}

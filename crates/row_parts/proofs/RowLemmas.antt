@@ -1,12 +1,12 @@
 -- What a row stays under each change of its lists.
-use Rattle.std.proofs.Common.{◌≡◌, ℕ, suc, List, [], ◌∷◌, ◌++◌, length, get_or, set, take, drop, ◌+◌, ◌<◌, ◌≤◌, ◌^◌, Bool, true, false, refl, sym, ap, subst, ◌∙◌, arith, rules}
+use Rattle.std.proofs.Common.{◌≡◌, ℕ, List, [], ◌∷◌, ◌++◌, length, get_or, set, ◌+◌, ◌<◌, ◌≤◌, ◌^◌, Bool, true, false, refl, sym, ap, subst, ◌∙◌, arith}
 use Rattle.std.specs.Prelude.{All, filter, insert, remove, not, nat_le, Result, Ok, Err, is_ok}
-use Rattle.std.specs.List.{list_any, AllByRecursion}
+use Rattle.std.specs.List.{list_any}
 use Rattle.std.specs.List.Sorted.{IsStrictlySortedBy}
 use Rattle.std.specs.declared.cmp.Ordering.TheVariants.{Less}
 use Rattle.std.proofs.lemmas.Bool.{leb-true}
 use Rattle.std.proofs.lemmas.List.{length-set, length_push, set-get_or}
-use Rattle.std.proofs.lemmas.List.Edits.{length-insert, length-remove}
+use Rattle.std.proofs.lemmas.List.Edits.{length-insert}
 use Rattle.std.proofs.lemmas.List.Elements.{All-from_recursion, recursion_from_All, All-filter, All-push, All-weaker, filter_passes}
 use Rattle.std.proofs.lemmas.List.Kept.{IsStrictlySortedBy-filter}
 use Rattle.std.proofs.lemmas.List.Filters.{length-filter_both}
@@ -18,10 +18,10 @@ use Rattle.mw_types.specs.declared.delivery.Delivery.{Delivery}
 use Rattle.mw_types.specs.Bounds.{IsWithin}
 use Rattle.mw_types.specs.Orders.{id_cmp, timer_cmp}
 use Rattle.mw_types.proofs.OrderLaws.{id_cmp-total}
-use Rattle.row_parts.specs.Contents.{Contents, fresh, IsRow, AreTimers, AreSeen, ArePending, IsId, IsDelivery, set_again, with_timer, without_timer, is_timer, with_id, same_id, ids_from, delivery_cmp, without_delivery}
+use Rattle.row_parts.specs.Contents.{fresh, IsRow, AreTimers, AreSeen, ArePending, IsId, IsDelivery, set_again, with_timer, without_timer, is_timer, with_id, same_id, ids_from, delivery_cmp, without_delivery}
 use Rattle.row_parts.specs.Places.{IsHit, IsGap, IsPlace, timer_rank, id_rank, delivery_rank}
 use Rattle.row_parts.proofs.PlaceLemmas.{put_in-hit, put_in-gap, sorted-put_in, All-put_in, sorted-push, filter-hit, filter-gap}
-use Rattle.row_parts.specs.Orders.{timer_cmp-total, delivery_cmp-total}
+use Rattle.row_parts.specs.Orders.{timer_cmp-total}
 use Rattle.row_parts.proofs.Ranks.{is_timer-rank, same_id-rank, delivery-rank}
 
 -- a fresh row can be kept

@@ -1,5 +1,6 @@
 -- Which entry may come next, and which histories are legal: each entry does what one thread would do.
--- Akidau et al., VLDB 2013, section 6.1, for what a worker does on receipt of a record. Own: the conditions.
+-- Akidau et al., VLDB 2013, section 6.1, for what a worker does on receipt of a record, and section 4.6 for the order
+-- in which the timers of a key fire. Own: the conditions.
 use Rattle.std.specs.Prelude.{◌≡◌, ℕ, ◌+◌, ◌<◌, ◌≤◌, min, ⊤, List, [], ◌∷◌, length, map, fold, sum_by, slice_get, IsTrue, IsSome, IsNone, Option, Some}
 use Rattle.std.specs.Option.{option_map}
 use Rattle.std.specs.List.{flat_map, AllByRecursion}
@@ -12,6 +13,7 @@ use Rattle.mw_types.specs.declared.entry.Entry.{Entry}
 use Rattle.mw_types.specs.declared.entry.Entry.TheVariants.{Claim, Inject, Handle, Fire, Ack, Purge}
 use Rattle.mw_types.specs.Outcomes.{Outcome}
 use Rattle.injector.specs.Sources.{item_at}
+use Rattle.topology.specs.Rules.{interval_count}
 use Rattle.topology.specs.Shapes.{Shape, ComputationShape, injectors_of, kind_of}
 use Rattle.computations.specs.Handlers.{effects_of_record, effects_of_timer}
 use Rattle.row_parts.specs.Contents.{Contents}
@@ -19,10 +21,6 @@ use Rattle.run_history.specs.Cases.{CaseShape, is_injector, source_of, record_of
 use Rattle.run_history.specs.Made.{found_delivery}
 use Rattle.run_history.specs.Runs.{Run, row_in, row_of, followed, empty_run}
 use Rattle.run_history.specs.Watermarks.{cursor_of, low_watermark}
-
--- how many intervals of keys the parts have: one of each injector, and one more than the cuts of each computation
-abbrev pub intervals_of : Shape → ℕ
-intervals_of shape = injectors_of shape + sum_by (λ (c : ComputationShape). length c.cuts + 1) shape.computations
 
 -- what a computation's handler leaves of a record, or none of an injector
 abbrev pub record_outcome : CaseShape → Run → RowName → Record → Option Outcome
@@ -34,7 +32,7 @@ abbrev pub timer_outcome : CaseShape → Run → RowName → Timer → Option Ou
 timer_outcome case run row timer = option_map
     (λ kind. effects_of_timer kind row.key (row_of case.topology run row).state timer) (kind_of case.topology row.part)
 
--- the commit number below which every delivery that was made is acknowledged, and the next one where all are
+-- the least commit number of a delivery that is not acknowledged, or the next one where all are
 abbrev pub floor_of : Run → ℕ
 floor_of run = fold min run.next
     (map (λ (d : Delivery). d.id.commit) (flat_map (λ (r : RowName × Contents). r.1.pending) run.rows))
@@ -42,7 +40,7 @@ floor_of run = fold min run.next
 -- a worker may claim an interval that is there
 pub record MayClaim (case : CaseShape) (worker interval : ℕ) : Type 0 where
   pub worker_there : worker < 16
-  pub interval_there : interval < intervals_of case.topology
+  pub interval_there : interval < interval_count case.topology
 
 -- an injector may inject its next line, and no other
 pub record MayInject (case : CaseShape) (run : Run) (part line : ℕ) (item : Record) : Type 0 where
@@ -50,14 +48,15 @@ pub record MayInject (case : CaseShape) (run : Run) (part line : ℕ) (item : Re
   pub next_line : line ≡ cursor_of case run part
   pub of_line : option_map record_of (item_at (source_of case part) line) ≡ Some item
 
--- a row may handle a delivery that waits for it, and does to it what its computation does
+-- a row may handle a delivery that waits for it, and leaves what its computation's handler leaves
 pub record MayHandle (case : CaseShape) (run : Run) (row : RowName) (id : RecordId) (effects : Outcome) : Type 0 where
   pub delivery : Delivery
   pub waits : found_delivery id run.unhandled ≡ Some delivery
   pub to_row : delivery.to ≡ row
   pub does : record_outcome case run row delivery.item ≡ Some effects
 
--- a row may fire the least of its timers, under a mark that is not above the low watermark of its part
+-- a row may fire the least of its timers, once it is due under a mark that is not above the low watermark of its part,
+-- and leaves what its computation's handler leaves
 pub record MayFire (case : CaseShape) (run : Run) (row : RowName) (timer : Timer) (mark : ℕ) (effects : Outcome) : Type 0 where
   pub least_timer : slice_get (row_of case.topology run row).timers 0 ≡ Some timer
   pub due : timer.time ≤ mark
@@ -97,7 +96,8 @@ IsLegal case history = AreLegal case empty_run history
 abbrev pub AreInjected : CaseShape → Run → Type 0
 AreInjected case run = (part : ℕ) → part < injectors_of case.topology → cursor_of case run part ≡ length (source_of case part)
 
--- all work is done: each line is injected, nothing waits to be handled, and no timer is pending
+-- all work of one thread is done: each line is injected, nothing waits to be handled, and no timer is pending.
+-- Acknowledgements are not asked
 pub record IsDone (case : CaseShape) (run : Run) : Type 0 where
   pub injected : AreInjected case run
   pub handled : run.unhandled ≡ []

@@ -27,7 +27,7 @@ row_to item s = record { part = s.to; key = extracted s.by item.key }
 abbrev pub sends_of : List Subscription → Record → List (RowName × Record)
 sends_of subscriptions item = map (λ s. (row_to item s, item)) subscriptions
 
--- what an entry of this number made at this place
+-- the delivery that an entry of this number made, by its place among them
 abbrev pub delivery_at : ℕ → ℕ × (RowName × Record) → Delivery
 delivery_at commit (index, send) = record { id = record { commit = commit; index = index }; to = send.0; item = send.1 }
 

@@ -15,6 +15,7 @@ use Rattle.mw_types.specs.declared.delivery.Emission.{Emission}
 use Rattle.mw_types.specs.declared.entry.Entry.{Entry}
 use Rattle.mw_types.specs.declared.entry.Entry.TheVariants.{Claim, Inject, Handle, Fire, Ack, Purge}
 use Rattle.mw_types.specs.Orders.{row_cmp}
+use Rattle.mw_types.specs.Outcomes.{Outcome}
 use Rattle.topology.specs.Shapes.{Shape}
 use Rattle.row_parts.specs.Contents.{Contents, fresh, with_timer, without_timer, with_id, without_delivery, ids_from}
 use Rattle.run_history.specs.Cases.{fresh_of}
@@ -54,21 +55,29 @@ with_timers set timers = fold (λ ts t. with_timer t ts) timers set
 abbrev pub noted : RecordId → Contents → List RecordId
 noted id row = if nat_lt id.commit row.floor then row.seen else with_id id row.seen
 
--- what an entry of this number, which made these deliveries, changes in its row, but for the row's last number
-abbrev pub changed : Entry → List Delivery → Contents → Contents
-changed (Claim worker interval) sent row = row
-changed (Inject seq part line item) sent row = record row { state = advanced row.state; pending = row.pending ++ sent }
-changed (Handle seq name id effects) sent row = record row {
+-- a row after a handled record: its handler's state and timers, what was made, and the record's id
+abbrev pub handled_in : RecordId → Outcome → List Delivery → Contents → Contents
+handled_in id effects sent row = record row {
   state = effects.state;
   timers = with_timers effects.timers row.timers;
   pending = row.pending ++ sent;
   seen = noted id row;
 }
-changed (Fire seq name timer mark effects) sent row = record row {
+
+-- a row after a fired timer: its handler's state, without the timer, and with what was made
+abbrev pub fired_in : Timer → Outcome → List Delivery → Contents → Contents
+fired_in timer effects sent row = record row {
   state = effects.state;
   timers = without_timer timer.tag timer.time row.timers;
   pending = row.pending ++ sent;
 }
+
+-- what an entry that made these deliveries changes in its row, but for the row's last number
+abbrev pub changed : Entry → List Delivery → Contents → Contents
+changed (Claim worker interval) sent row = row
+changed (Inject seq part line item) sent row = record row { state = advanced row.state; pending = row.pending ++ sent }
+changed (Handle seq name id effects) sent row = handled_in id effects sent row
+changed (Fire seq name timer mark effects) sent row = fired_in timer effects sent row
 changed (Ack seq name id) sent row = record row { pending = without_delivery id row.pending }
 changed (Purge seq name floor) sent row = record row { floor = floor; seen = ids_from floor row.seen }
 

@@ -43,7 +43,7 @@ line_data line = object
     (member (codes "ts") (number (unsigned line.stamp))
     (member (codes "value") (number (of_integer line.value)) no_members))))
 
--- whether an entry is of a kind
+-- whether an entry injects a record
 abbrev pub is_inject : Entry → Bool
 is_inject (Inject seq part line item) = true
 is_inject _ = false

@@ -1,4 +1,5 @@
--- The low watermark of a computation: the least of its oldest work and of the marks of all that feed it.
+-- The low watermark of a computation: the least of its oldest work, of the low watermarks of the computations that
+-- feed it, and of the watermarks that the injectors that feed it have stated.
 -- Akidau et al., VLDB 2013, section 4.5. Own: a pending timer is work at its time; late work is left out; the end
 -- of an input is a mark, and stands where there is no work.
 use Rattle.std.specs.Prelude.{ℕ, zero, suc, min, ◌==◌, ◌&&◌, not, if◌then◌else◌, List, [], ◌∷◌, ◌++◌, map, filter}
@@ -51,7 +52,7 @@ cursor_of case run part = cursor_in (row_of case.topology run (record { part = p
 abbrev pub source_mark : CaseShape → Run → ℕ → ℕ
 source_mark case run part = stated_at (source_of case part) (cursor_of case run part)
 
--- the low watermark of a part, where at most so many computations stand between it and the injectors
+-- the low watermark of a part, looking back through at most so many streams
 abbrev pub low_under : CaseShape → Run → ℕ → ℕ → ℕ
 low_under case run zero part = oldest_work run part
 low_under case run (suc depth) part = least (oldest_work run part ∷ map

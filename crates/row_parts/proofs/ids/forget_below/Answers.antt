@@ -2,7 +2,7 @@ use Rattle.std.proofs.Common.{subst, sym, rules}
 use Rattle.std.specs.Prelude.{nat_le}
 use Rattle.std.proofs.lemmas.Fn.{filter_same}
 use Rattle.mw_types.specs.declared.identity.RecordId.{RecordId}
-use Rattle.row_parts.specs.Contents.{AreSeen, ids_from}
+use Rattle.row_parts.specs.Contents.{AreSeen}
 use Rattle.row_parts.proofs.RowLemmas.{seen_from}
 use Rattle.row_parts.proofs.ids.forget_below.Goals as goal
 

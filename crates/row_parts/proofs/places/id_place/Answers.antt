@@ -1,4 +1,4 @@
-use Rattle.std.proofs.Common.{◌∙◌, sym, ap, rules}
+use Rattle.std.proofs.Common.{◌∙◌, sym, ap}
 use Rattle.std.specs.Prelude.{option_copied}
 use Rattle.std.specs.Ordering.{nat_cmp}
 use Rattle.row_parts.proofs.Ranks.{id_is_place, id_at_end, below_is}

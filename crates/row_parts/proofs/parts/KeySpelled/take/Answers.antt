@@ -1,4 +1,4 @@
-use Rattle.std.proofs.Common.{◌≡◌, ◌∙◌, sym, ap, subst, arith, rules}
+use Rattle.std.proofs.Common.{sym, subst, arith}
 use Rattle.std.specs.Str.{IsUtf8}
 use Rattle.row_parts.proofs.KeyLemmas.{key_read, key_damaged}
 use Rattle.row_parts.proofs.parts.KeySpelled.take.Goals as goal

@@ -1,0 +1,37 @@
+-- Reading a row from left to right. No public clause cites this module.
+use Rattle.std.specs.Prelude.{ℕ, zero, suc, List, [], ◌∷◌, length, Option, None, Bool, ◌&&◌, ◌==◌, nat_lt, nat_le, ◌^◌}
+use Rattle.std.specs.List.{list_all}
+use Rattle.std.specs.Int.{w64}
+use Rattle.mw_types.specs.declared.identity.RecordId.{RecordId}
+use Rattle.mw_types.specs.Orders.{id_cmp, timer_cmp}
+use Rattle.row_parts.specs.Contents.{Contents, delivery_cmp}
+use Rattle.row_parts.specs.Reading.{◌>>=◌, keep, number_at, state_at, ascending_at, timer_at, delivery_at, id_at}
+
+-- whether each id is at or above the floor
+abbrev pub kept_from : ℕ → List RecordId → Bool
+kept_from floor = list_all (λ (id : RecordId). nat_le floor id.commit)
+
+-- what follows the version
+unfoldable pub fields_at : List ℕ → Option (Contents × List ℕ)
+fields_at bytes = do
+  last ← number_at w64 bytes
+  floor ← number_at w64 last.1
+  state ← state_at floor.1
+  timers ← ascending_at timer_cmp timer_at state.1
+  pending ← ascending_at delivery_cmp delivery_at timers.1
+  seen ← ascending_at id_cmp id_at pending.1
+  keep (nat_lt last.0 (2 ^ 32) && nat_le floor.0 (2 ^ 32) && kept_from floor.0 seen.0)
+      (record { state = state.0; timers = timers.0; pending = pending.0; seen = seen.0; floor = floor.0; last = last.0 }, seen.1)
+
+-- a row
+unfoldable pub row_at : List ℕ → Option (Contents × List ℕ)
+row_at [] = None
+row_at (zero ∷ rest) = None
+row_at (suc zero ∷ rest) = fields_at rest
+row_at (suc (suc version) ∷ rest) = None
+
+-- a row, and nothing after it
+unfoldable pub whole_row : List ℕ → Option Contents
+whole_row bytes = do
+  row ← row_at bytes
+  keep (length row.1 == 0) row.0

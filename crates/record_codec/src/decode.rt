@@ -1,0 +1,90 @@
+//! Reading a row.
+ghost use Rattle.std.specs.Prelude.{◌≡◌, ◌≢◌, nat_le, Ok, Err, IfOk, IsErrOf, MatchResult};
+ghost use Rattle.std.specs.List.{list_all};
+ghost use Rattle.row_parts.specs.Contents.{Contents};
+ghost use Rattle.row_parts.specs.Spelling.{spelling_of, IsSpelledRow};
+ghost use Rattle.row_parts.specs.Reading.{Gives};
+ghost use Rattle.record_codec.specs.Reading.{kept_from, fields_at, row_at, whole_row};
+
+use crate::refusal::RowRefusal;
+use mw_types::{Delivery, RecordId, Timer};
+use row_parts::{Row, Spelled, StateRefusal, take_ascending, take_state};
+use std::alloc::Global;
+
+// The number of entries that a history may have.
+const ENTRIES: u64 = 1 << 32;
+
+// Whether each of these ids is at or above the floor.
+fn is_kept_from(floor: u64, ids: &[RecordId]) -> bool
+    ensures { result ≡ kept_from floor ids.now }
+{
+    ids.iter().all(|id| id.commit >= floor)
+}
+
+// Reads what follows a row's version.
+#[tactic(auto, unfolding(crate::specs::Reading::fields_at))]
+fn take_fields(alloc: Global, bytes: &[u8]) -> Result<(Row, &[u8]), StateRefusal>
+    ensures { Gives (λ x. (x.0, x.1.now)) result (fields_at bytes.now) }
+{
+    let (last, rest) = u64::take(alloc, bytes)?;
+    let (floor, rest) = u64::take(alloc, rest)?;
+    let (state, rest) = take_state(alloc, rest)?;
+    let (timers, rest) = take_ascending::<Timer>(alloc, rest)?;
+    let (pending, rest) = take_ascending::<Delivery>(alloc, rest)?;
+    let (seen, rest) = take_ascending::<RecordId>(alloc, rest)?;
+    if last < ENTRIES && floor <= ENTRIES && is_kept_from(floor, seen.as_slice()) {
+        let row = Row {
+            state,
+            timers,
+            pending,
+            seen,
+            floor,
+            last,
+        };
+        Ok((row, rest))
+    } else {
+        Err(StateRefusal::Damaged)
+    }
+}
+
+// Reads a row from the front.
+#[tactic(auto, unfolding(crate::specs::Reading::row_at))]
+fn take_row(alloc: Global, bytes: &[u8]) -> Result<(Row, &[u8]), StateRefusal>
+    ensures { Gives (λ x. (x.0, x.1.now)) result (row_at bytes.now) }
+{
+    match bytes {
+        [1, rest @ ..] => take_fields(alloc, rest),
+        _ => Err(StateRefusal::Damaged),
+    }
+}
+
+// Reads a row that is all of the bytes.
+#[tactic(auto, unfolding(crate::specs::Reading::whole_row))]
+fn take_whole(alloc: Global, bytes: &[u8]) -> Result<Row, StateRefusal>
+    ensures { Gives (λ row. row) result (whole_row bytes.now) }
+{
+    let (row, rest) = take_row(alloc, bytes)?;
+    if rest.is_empty() {
+        Ok(row)
+    } else {
+        Err(StateRefusal::Damaged)
+    }
+}
+
+/// The row whose bytes these are, all of them.
+pub fn decode_row(alloc: Global, bytes: &[u8]) -> Result<Row, RowRefusal>
+    // What is answered has these bytes.
+    ensures found { IfOk result (λ row. IsSpelledRow row × (bytes.now ≡ spelling_of row)) }
+    // The row that has these bytes is answered, unless memory runs out.
+    ensures only { (row : Contents) → IsSpelledRow row → bytes.now ≡ spelling_of row
+        → MatchResult result (λ answered. answered ≡ row) (λ refusal. refusal ≡ RowRefusal.NoMemory) }
+    // Damaged is answered only where no row has these bytes.
+    ensures damaged { IsErrOf result RowRefusal.Damaged
+        → (row : Contents) → IsSpelledRow row → bytes.now ≢ spelling_of row }
+{
+    match take_whole(alloc, bytes) {
+        Ok(row) => Ok(row),
+        Err(StateRefusal::Damaged) => Err(RowRefusal::Damaged),
+        Err(StateRefusal::NoMemory) => Err(RowRefusal::NoMemory),
+    }
+}

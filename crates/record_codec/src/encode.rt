@@ -1,0 +1,29 @@
+//! Writing a row.
+ghost use Rattle.std.specs.Prelude.{◌≡◌, IfOk, OnOk};
+ghost use Rattle.row_parts.specs.Spelling.{spelling_of, IsSpelledRow};
+
+use mw_types::{Bytes, NoMemory};
+use row_parts::{Row, Spelled, put_list, put_state};
+use std::alloc::Global;
+
+// The version of the form of rows, which is their first byte.
+const VERSION: u8 = 1;
+
+// Room for a row without lists, and some more.
+const ROOM: usize = 256;
+
+/// The bytes of a row.
+pub fn encode_row(alloc: Global, row: &Row) -> Result<Bytes, NoMemory>
+    ensures spelled { IfOk result (λ bytes. bytes ≡ spelling_of row.now) }
+    ensures own { OnOk result (IsSpelledRow row.now) }
+{
+    let mut out = Vec::with_capacity(alloc, ROOM)?;
+    out.push(VERSION)?;
+    row.last.put(&mut out)?;
+    row.floor.put(&mut out)?;
+    put_state(&mut out, &row.state)?;
+    put_list(&mut out, row.timers.as_slice())?;
+    put_list(&mut out, row.pending.as_slice())?;
+    put_list(&mut out, row.seen.as_slice())?;
+    Ok(Bytes::from_vec(out))
+}

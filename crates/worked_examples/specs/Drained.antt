@@ -1,0 +1,46 @@
+-- The first example as several workers would write it: with claims, acknowledgements and a purge, worked by hand.
+use Rattle.std.specs.Prelude.{ℕ, List, [], ◌∷◌}
+use Rattle.mw_types.specs.declared.identity.RecordId.{RecordId}
+use Rattle.mw_types.specs.declared.identity.RowName.{RowName}
+use Rattle.mw_types.specs.declared.state.Window.{Window}
+use Rattle.mw_types.specs.declared.state.State.TheVariants.{Injector, Count}
+use Rattle.mw_types.specs.declared.entry.Entry.{Entry}
+use Rattle.mw_types.specs.declared.entry.Entry.TheVariants.{Claim, Inject, Handle, Fire, Ack, Purge}
+use Rattle.row_parts.specs.Contents.{Contents}
+use Rattle.worked_examples.specs.First.{row_a, record_at, window, end_of, counts, closes}
+
+-- the row of the injector
+abbrev pub injector_row : RowName
+injector_row = record { part = 0; key = [] }
+
+-- the id of the one delivery that an entry made
+abbrev pub id_of : ℕ → RecordId
+id_of commit = record { commit = commit; index = 0 }
+
+-- a line is injected, handled and acknowledged, from this commit number on
+abbrev pub round : ℕ → ℕ → ℕ → List Window → ℕ → List Entry → List Entry
+round commit line stamp windows end rest =
+    Inject 0 0 line (record_at stamp)
+    ∷ Handle 1 row_a (id_of commit) (counts windows end)
+    ∷ Ack 0 injector_row (id_of commit)
+    ∷ rest
+
+-- both intervals are claimed; each line is injected, handled and acknowledged; the windows close; the row is purged
+abbrev pub drained_history : List Entry
+drained_history =
+    Claim 0 0
+    ∷ Claim 0 1
+    ∷ round 2 0 10 (window 60 1 ∷ []) 60
+    (round 5 1 59 (window 60 2 ∷ []) 60
+    (round 8 2 60 (window 60 2 ∷ window 120 1 ∷ []) 120
+    (Fire 1 row_a (end_of 60) 60 (closes (window 120 1 ∷ []) 60 2)
+    ∷ Fire 1 row_a (end_of 120) 120 (closes [] 120 1)
+    ∷ Purge 1 row_a 13
+    ∷ [])))
+
+-- the rows at the end: three lines injected, and nothing of the key a but its floor
+abbrev pub drained_rows : List (RowName × Contents)
+drained_rows =
+    (injector_row, record { state = Injector 3; timers = []; pending = []; seen = []; floor = 0; last = 10 })
+    ∷ (row_a, record { state = Count 0 []; timers = []; pending = []; seen = []; floor = 13; last = 13 })
+    ∷ []

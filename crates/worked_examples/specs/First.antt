@@ -1,0 +1,79 @@
+-- The first example, worked by hand: three records of the key a in windows of 60, on one thread.
+use Rattle.std.specs.Prelude.{◌≡◌, ℕ, ℤ, pos, Bool, false, List, [], ◌∷◌}
+use Rattle.mw_types.specs.declared.identity.RowName.{RowName}
+use Rattle.mw_types.specs.declared.state.State.{State}
+use Rattle.mw_types.specs.declared.state.State.TheVariants.{Count}
+use Rattle.mw_types.specs.declared.state.Window.{Window}
+use Rattle.mw_types.specs.declared.record.Record.{Record}
+use Rattle.mw_types.specs.declared.record.Production.{Production}
+use Rattle.mw_types.specs.declared.timer.Timer.{Timer}
+use Rattle.mw_types.specs.declared.delivery.Emission.{Emission}
+use Rattle.mw_types.specs.declared.entry.Entry.{Entry}
+use Rattle.mw_types.specs.declared.entry.Entry.TheVariants.{Inject, Handle, Fire}
+use Rattle.mw_types.specs.Outcomes.{Outcome}
+use Rattle.injector.specs.Sources.{Source, SourceLine}
+use Rattle.topology.specs.Samples.{one_count}
+use Rattle.run_history.specs.Cases.{CaseShape}
+use Rattle.run_history.specs.Runs.{run_of}
+use Rattle.run_history.specs.Legal.{IsLegal, IsDone}
+use Rattle.run_history.specs.Watermarks.{low_watermark}
+
+-- the key a
+abbrev pub key_a : List ℕ
+key_a = 97 ∷ []
+
+-- the row of the key a of the count
+abbrev pub row_a : RowName
+row_a = record { part = 1; key = key_a }
+
+-- a record of the key a
+abbrev pub record_at : ℕ → Record
+record_at stamp = record { key = key_a; stamp = stamp; value = pos 1; late = false }
+
+-- a line of such a record, before which the file states no watermark
+abbrev pub line_at : ℕ → SourceLine
+line_at stamp = record { item = record { record_key = key_a; stamp = stamp; value = pos 1; late = false }; stated = 0 }
+
+-- windows of 60 over three records
+abbrev pub first_case : CaseShape
+first_case = record { topology = one_count 60; sources = (line_at 10 ∷ line_at 59 ∷ line_at 60 ∷ []) ∷ [] }
+
+-- a timer that ends a window
+abbrev pub end_of : ℕ → Timer
+end_of time = record { tag = 0; time = time; late = false }
+
+-- an open window
+abbrev pub window : ℕ → ℕ → Window
+window end count = record { end = end; count = count }
+
+-- a record that opens or fills a window, and sets its timer
+abbrev pub counts : List Window → ℕ → Outcome
+counts windows time = record { state = Count 0 windows; timers = end_of time ∷ []; productions = [] }
+
+-- a timer that closes a window, and produces its count
+abbrev pub closes : List Window → ℕ → ℕ → Outcome
+closes windows end count = record {
+  state = Count 0 windows;
+  timers = [];
+  productions = record { key = key_a; stamp = end; value = pos count } ∷ [];
+}
+
+-- each record is injected and handled, and then each window is closed
+abbrev pub first_history : List Entry
+first_history =
+    Inject 0 0 0 (record_at 10)
+    ∷ Handle 0 row_a (record { commit = 0; index = 0 }) (counts (window 60 1 ∷ []) 60)
+    ∷ Inject 0 0 1 (record_at 59)
+    ∷ Handle 0 row_a (record { commit = 2; index = 0 }) (counts (window 60 2 ∷ []) 60)
+    ∷ Inject 0 0 2 (record_at 60)
+    ∷ Handle 0 row_a (record { commit = 4; index = 0 }) (counts (window 60 2 ∷ window 120 1 ∷ []) 120)
+    ∷ Fire 0 row_a (end_of 60) 60 (closes (window 120 1 ∷ []) 60 2)
+    ∷ Fire 0 row_a (end_of 120) 120 (closes [] 120 1)
+    ∷ []
+
+-- the two windows that are emitted
+abbrev pub first_emissions : List Emission
+first_emissions =
+    record { id = record { commit = 6; index = 0 }; part = 1; item = record { key = key_a; stamp = 60; value = pos 2; late = false } }
+    ∷ record { id = record { commit = 7; index = 0 }; part = 1; item = record { key = key_a; stamp = 120; value = pos 1; late = false } }
+    ∷ []
