@@ -4,6 +4,7 @@ use injector::LineWhy;
 use mw_ports::{FileList, MemShelf, MemSink, NamedFile};
 use mw_types::{Bytes, CallList, Name, NoMemory, Seq};
 use std::alloc::Global;
+use std::process::Abort;
 use std::test::Fail;
 
 // One count over windows of 60.
@@ -67,45 +68,43 @@ fn answer(
     Ok(millwheel_alone(alloc, words.as_slice(), &mut shelf, out))
 }
 
+// Runs these events to their end, and looks at what is written.
+fn writes(rt: &impl Abort, alloc: Global, events: &str, want: &[u8]) -> Result<(), Fail> {
+    let mut out = sink(alloc);
+    let done = answer(alloc, "solo t.json e", events, &mut out)?;
+    assert_eq!(rt; done.status, Status::Ok);
+    assert_eq!(rt; out.text(), want);
+    Ok(())
+}
+
 #[test]
 fn two_windows_and_summary(rt: HostRuntime) -> Result<(), Fail> {
-    let alloc = rt.alloc();
-    let mut out = sink(alloc);
-    let done = answer(alloc, "solo t.json e", EVENTS, &mut out)?;
-    assert_eq!(rt; done.status, Status::Ok);
-    assert_eq!(rt; done.history.entries().len(), 8);
-    assert_eq!(rt;
-        out.text(),
-        b"{\"key\":\"a\",\"stream\":\"windows\",\"ts\":60,\"value\":2}\n{\"key\":\"a\",\"stream\":\"windows\",\"ts\":120,\"value\":1}\n{\"fired\":2,\"handled\":3,\"injected\":3,\"late\":0}\n".as_slice()
-    );
-    Ok(())
+    writes(
+        &rt,
+        rt.alloc(),
+        EVENTS,
+        b"{\"key\":\"a\",\"stream\":\"windows\",\"ts\":60,\"value\":2}\n{\"key\":\"a\",\"stream\":\"windows\",\"ts\":120,\"value\":1}\n{\"fired\":2,\"handled\":3,\"injected\":3,\"late\":0}\n",
+    )
 }
 
 #[test]
 fn empty_event_file(rt: HostRuntime) -> Result<(), Fail> {
-    let alloc = rt.alloc();
-    let mut out = sink(alloc);
-    let done = answer(alloc, "solo t.json e", "", &mut out)?;
-    assert_eq!(rt; done.status, Status::Ok);
-    assert_eq!(rt;
-        out.text(),
-        b"{\"fired\":0,\"handled\":0,\"injected\":0,\"late\":0}\n".as_slice()
-    );
-    Ok(())
+    writes(
+        &rt,
+        rt.alloc(),
+        "",
+        b"{\"fired\":0,\"handled\":0,\"injected\":0,\"late\":0}\n",
+    )
 }
 
 #[test]
 fn greatest_timestamp(rt: HostRuntime) -> Result<(), Fail> {
-    let alloc = rt.alloc();
-    let mut out = sink(alloc);
-    let events = "{\"key\":\"a\",\"ts\":4611686018427387904}";
-    let done = answer(alloc, "solo t.json e", events, &mut out)?;
-    assert_eq!(rt; done.status, Status::Ok);
-    assert_eq!(rt;
-        out.text(),
-        b"{\"key\":\"a\",\"stream\":\"windows\",\"ts\":4611686018427387960,\"value\":1}\n{\"fired\":1,\"handled\":1,\"injected\":1,\"late\":0}\n".as_slice()
-    );
-    Ok(())
+    writes(
+        &rt,
+        rt.alloc(),
+        "{\"key\":\"a\",\"ts\":4611686018427387904}",
+        b"{\"key\":\"a\",\"stream\":\"windows\",\"ts\":4611686018427387960,\"value\":1}\n{\"fired\":1,\"handled\":1,\"injected\":1,\"late\":0}\n",
+    )
 }
 
 #[test]
@@ -158,27 +157,12 @@ fn sink_fails_after_eight_bytes(rt: HostRuntime) -> Result<(), Fail> {
 }
 
 #[test]
-fn bad_line_and_watermark(rt: HostRuntime) -> Result<(), Fail> {
+fn cut_line(rt: HostRuntime) -> Result<(), Fail> {
     let alloc = rt.alloc();
     let mut out = sink(alloc);
-    let cut = answer(
-        alloc,
-        "solo t.json e",
-        "{\"key\":\"a\",\"ts\":10}\n{\"key\":\"a\",\"ts\":1",
-        &mut out,
-    )?;
-    let want = Status::EventsRefused {
-        file: 0,
-        line: 2,
-        why: LineWhy::NotJson,
-    };
-    assert_eq!(rt; cut.status, want);
-    let marked = answer(
-        alloc,
-        "solo t.json e",
-        "{\"watermark\":100}\n{\"key\":\"a\",\"ts\":50}\n",
-        &mut out,
-    )?;
-    assert_eq!(rt; marked.status, Status::NotBuilt);
+    let events = "{\"key\":\"a\",\"ts\":10}\n{\"key\":\"a\",\"ts\":1";
+    let done = answer(alloc, "solo t.json e", events, &mut out)?;
+    let (line, why) = (2, LineWhy::NotJson);
+    assert_eq!(rt; done.status, Status::EventsRefused { file: 0, line, why });
     Ok(())
 }
