@@ -3,3 +3,4 @@ pub mod Knowing
 pub mod Reaching
 pub mod Lookups
 pub mod RunLaws
+pub mod CaseIntervals

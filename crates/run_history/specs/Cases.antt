@@ -1,18 +1,30 @@
 -- What a run is of: a topology, and a source for each of its injectors. Own.
-use Rattle.std.specs.Prelude.{ℕ, nat_lt, Bool, List, [], slice_get, unwrap_or}
+use Rattle.std.specs.Prelude.{◌≡◌, ℕ, nat_lt, Bool, List, [], length, slice_get, unwrap_or}
 use Rattle.std.specs.Option.{option_map_or}
 use Rattle.mw_types.specs.declared.state.State.{State}
 use Rattle.mw_types.specs.declared.state.State.TheVariants.{Injector}
 use Rattle.mw_types.specs.declared.record.Record.{Record}
+use Rattle.key_intervals.specs.declared.bounds.Bounds.{Bounds}
+use Rattle.key_intervals.specs.Intervals.{bounds_of}
 use Rattle.injector.specs.declared.item.Item.{Item}
 use Rattle.injector.specs.Sources.{Source}
 use Rattle.topology.specs.Shapes.{Shape, injectors_of, kind_of}
+use Rattle.topology.specs.Rules.{part_cuts_of}
 use Rattle.computations.specs.Handlers.{fresh_state}
 
 -- a topology and the sources of its injectors, in their order
 pub record CaseShape : Type 0 where
   pub topology : Shape
   pub sources : List Source
+
+-- the intervals of keys into which the parts are cut, by number
+abbrev pub intervals_of : Shape → List Bounds
+intervals_of shape = bounds_of (part_cuts_of shape)
+
+-- a topology, a source for each of its injectors, and its intervals
+pub record IsCase (topology : Shape) (sources : List Source) (intervals : List Bounds) : Type 0 where
+  pub source_each : length sources ≡ injectors_of topology
+  pub all_intervals : intervals ≡ intervals_of topology
 
 -- whether a part is an injector
 abbrev pub is_injector : Shape → ℕ → Bool

@@ -1,25 +1,67 @@
 //! What a run is of.
+ghost use Rattle.std.specs.Prelude.{◌≡◌, ◌<◌, length, IfOk};
+ghost use Rattle.topology.specs.Shapes.{injectors_of};
+ghost use Rattle.topology.specs.Rules.{interval_count};
+ghost use Rattle.run_history.specs.Cases.{intervals_of};
+
 use injector::ItemsList;
+use key_intervals::Intervals;
+use mw_types::NoMemory;
+use std::alloc::Global;
 use std::marker::Model;
 use topology::Topology;
 
-/// A topology, and what each of its injectors injects, in their order.
+/// A topology, what each of its injectors injects, in their order, and the intervals of its keys.
 #[derive(Debug, Drop)]
 pub struct Case {
     /// The parts of the run, and the streams between them.
     pub topology: Topology,
     /// What the file of each injector holds.
     pub items: ItemsList,
+    /// The intervals of keys into which the parts are cut.
+    pub intervals: Intervals,
 }
 
 impl Model for Case {
-    ghost use Rattle.std.specs.Prelude.{◌≡◌, length};
-    ghost use Rattle.topology.specs.Shapes.{injectors_of};
-    ghost use Rattle.run_history.specs.Cases.{CaseShape};
+    ghost use Rattle.run_history.specs.Cases.{CaseShape, IsCase};
 
     ghost Value = { CaseShape };
 
     ghost view = { λ case. record { topology = case.topology; sources = case.items } };
 
-    ghost invariant = { λ case. length case.items ≡ injectors_of case.topology };
+    ghost invariant = { λ case. IsCase case.topology case.items case.intervals };
+}
+
+impl Case {
+    /// The case of a topology that has an injector for each of these.
+    pub fn of(alloc: Global, topology: Topology, items: ItemsList) -> Result<Case, NoMemory>
+        requires { length items ≡ injectors_of topology }
+        ensures { IfOk result (λ case. case ≡ record { topology = topology; sources = items }) }
+    {
+        let intervals = intervals_in(alloc, &topology)?;
+        Ok(Case {
+            topology,
+            items,
+            intervals,
+        })
+    }
+
+    /// The intervals of keys into which the parts are cut, by number.
+    pub fn intervals(&self) -> &Intervals
+        ensures all { result.now ≡ intervals_of self.now.topology }
+        ensures count { length result.now ≡ interval_count self.now.topology }
+    {
+        &self.intervals
+    }
+}
+
+// The intervals of a topology's cuts.
+fn intervals_in(alloc: Global, topology: &Topology) -> Result<Intervals, NoMemory>
+    ensures { IfOk result (λ all. all ≡ intervals_of topology.now) }
+{
+    // Every topology keeps the rules that intervals need.
+    let _parts = topology.parts();
+    let cuts = topology.part_cuts(alloc)?;
+    let intervals = Intervals::of(alloc, cuts.as_slice())?;
+    Ok(intervals)
 }
