@@ -7,6 +7,8 @@
 
 mod extraction;
 mod parts;
+mod reader;
+mod refusal;
 mod sample;
 mod subscription;
 #[cfg(test)]
@@ -15,5 +17,7 @@ mod topology;
 mod wiring;
 
 pub use extraction::extract;
+pub use reader::read;
+pub use refusal::TopologyRefusal;
 pub use subscription::{By, Subscription};
 pub use topology::Topology;
