@@ -1,7 +1,7 @@
 -- The shape of a topology file: what its JSON value has to look like, and what it then states. Own.
 -- The value is the one that `serde_json` reads, in which no object has two members of one name.
 -- What is tried here is the form alone; which shapes are topologies is tried afterwards.
-use Rattle.std.specs.Prelude.{ℕ, ◌+◌, ◌==◌, ◌^◌, suc, List, [], ◌∷◌, nat_eq, nat_lt, Bool, false, if◌then◌else◌, codes, Option, Some, None, option_and_then}
+use Rattle.std.specs.Prelude.{ℕ, ◌+◌, ◌-◌, ◌==◌, ◌^◌, suc, List, [], ◌∷◌, nat_eq, nat_le, Bool, false, if◌then◌else◌, codes, Option, Some, None, option_and_then}
 use Rattle.std.specs.Option.{option_map, option_map_or}
 use Rattle.std.specs.Cmp.Lexicographic.{pointwise}
 use Rattle.serde_json.specs.Data.{Num, Data, Items, no_items, item, Members, no_members, member}
@@ -27,13 +27,17 @@ each_of form no_items = Some []
 each_of form (item value rest) =
     option_and_then (λ x. option_map (λ xs. x ∷ xs) (each_of form rest)) (form value)
 
--- what each item of an array states
+-- what each item of a value states, which has to be an array
 abbrev pub list_of : {X : Type 0} → (Data → Option X) → Data → Option (List X)
 list_of form value = option_and_then (each_of form) (as_array value)
 
--- what each item of a member states, which has to be an array
+-- the items of the array that a member is
+abbrev pub array_in : List ℕ → Data → Option Items
+array_in name value = option_and_then as_array (get name value)
+
+-- what each of these items states
 abbrev pub list_in : {X : Type 0} → (Data → Option X) → List ℕ → Data → Option (List X)
-list_in form name value = option_and_then (list_of form) (get name value)
+list_in form name value = option_and_then (each_of form) (array_in name value)
 
 -- a list, where it is not empty
 abbrev pub some_of : {X : Type 0} → List X → Option (List X)
@@ -44,14 +48,13 @@ some_of (x ∷ xs) = Some (x ∷ xs)
 abbrev pub text_in : List ℕ → Data → Option (List ℕ)
 text_in name value = option_and_then as_str (get name value)
 
--- the whole number below the limit that is written, or 0, which no kind may have, where it is none
-abbrev pub whole_below : ℕ → Num → ℕ
-whole_below limit number = option_map_or (λ n. if nat_lt n limit then n else 0) (as_u64 number) 0
+-- the whole number up to the greatest one that is written, or 0, which no kind may have, where it is none
+abbrev pub whole_up_to : ℕ → Num → ℕ
+whole_up_to greatest number = option_map_or (λ n. if nat_le n greatest then n else 0) (as_u64 number) 0
 
 -- the number that a member is, of which only its being a JSON number is a matter of form
 abbrev pub number_in : ℕ → List ℕ → Data → Option ℕ
-number_in limit name value =
-    option_map (whole_below limit) (option_and_then as_number (get name value))
+number_in greatest name value = option_map (whole_up_to greatest) (option_and_then as_number (get name value))
 
 -- an injector, which has a name and a stream, and no other member
 abbrev pub injector_in : Data → Option InjectorShape
@@ -81,14 +84,14 @@ reading_in value =
 
 -- a count, with the length of its windows
 abbrev pub count_in : Data → Option Kind
-count_in value = option_map (λ size. Count size) (number_in (2 ^ 64) (codes "size") value)
+count_in value = option_map (λ size. Count size) (number_in (2 ^ 64 - 1) (codes "size") value)
 
 -- a spike, with its two numbers
 abbrev pub spike_in : Data → Option Kind
 spike_in value =
     option_and_then (λ last.
     option_map (λ times. Spike last times)
-    (number_in (2 ^ 32) (codes "times") value)) (number_in (2 ^ 32) (codes "last") value)
+    (number_in (2 ^ 32 - 1) (codes "times") value)) (number_in (2 ^ 32 - 1) (codes "last") value)
 
 -- the kind of this name, with the numbers that the computation states for it
 abbrev pub kind_named : Data → List ℕ → Option Kind

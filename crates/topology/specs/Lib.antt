@@ -4,3 +4,4 @@ pub mod Grammar
 pub mod FileRules
 pub mod Samples
 pub mod Kept
+pub mod Answers

@@ -6,6 +6,9 @@
 #![tactic(auto)]
 
 mod extraction;
+mod file_parts;
+mod file_rules;
+mod grammar;
 mod parts;
 mod reader;
 mod refusal;

@@ -86,6 +86,13 @@ impl ReadingPart {
 }
 
 impl InjectorPart {
+    /// Its name.
+    pub fn name(&self) -> &Name
+        ensures { result.now ≡ self.now.name }
+    {
+        &self.name
+    }
+
     /// The stream that it publishes.
     pub fn stream(&self) -> &Name
         ensures { result.now ≡ self.now.stream }

@@ -36,3 +36,23 @@ impl From<NoMemory> for TopologyRefusal {
         TopologyRefusal::NoMemory
     }
 }
+
+// Why the shape of a file was refused.
+#[derive(Clone, Copy, Debug)]
+pub(crate) enum ShapeRefusal {
+    /// The value has another shape.
+    BadShape,
+    /// Memory was wanted and not to be had.
+    NoMemory,
+}
+
+impl From<NoMemory> for ShapeRefusal {
+    ghost use Rattle.std.specs.Prelude.{◌≡◌};
+    ghost use Rattle.topology.specs.declared.refusal.ShapeRefusal.TheVariants as refusals;
+
+    ghost from_gives = { λ _ refusal. refusal ≡ refusals.NoMemory };
+
+    fn from(_want: NoMemory) -> ShapeRefusal {
+        ShapeRefusal::NoMemory
+    }
+}

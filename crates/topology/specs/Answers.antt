@@ -1,0 +1,15 @@
+-- How the functions that read a file's shape answer. No public clause cites this module.
+use Rattle.std.specs.Prelude.{◌≡◌, ◌++◌, List, ⊤, Option, Some, None, Result, Ok, Err}
+use Rattle.std.specs.Option.{option_map}
+use Rattle.topology.specs.declared.refusal.ShapeRefusal.{ShapeRefusal}
+use Rattle.topology.specs.declared.refusal.ShapeRefusal.TheVariants.{BadShape, NoMemory}
+
+-- the answer is what is found, or that there is nothing, unless memory was wanting
+abbrev pub Gives : {X : Type 0} → Result X ShapeRefusal → Option X → Type 0
+Gives (Ok x) found = found ≡ Some x
+Gives (Err BadShape) found = found ≡ None
+Gives (Err NoMemory) found = ⊤
+
+-- these, and then those that follow, or none where nothing is found of those
+abbrev pub followed_by : {X : Type 0} → List X → Option (List X) → Option (List X)
+followed_by xs rest = option_map (λ ys. xs ++ ys) rest
