@@ -1,7 +1,9 @@
 //! The rules of a topology file, each tried on all of its parts.
-ghost use Rattle.std.specs.Prelude.{◌≡◌, ◌+◌, ◌<◌, ◌^◌, length, sum_by, nat_le, nat_eq,  IfErr, IfOk, OnOk, Ok};
+ghost use Rattle.std.specs.Prelude.{◌≡◌, ◌+◌, ◌<◌, ◌^◌, length, sum_by, nat_le, nat_eq,  ℕ, List, IfErr, IfOk, OnOk, Ok};
+ghost use Rattle.std.specs.Ordering.{is_lt};
 ghost use Rattle.std.specs.List.{list_any, list_all};
 ghost use Rattle.std.specs.Cmp.Lexicographic.{pointwise};
+ghost use Rattle.mw_types.specs.Orders.{key_cmp};
 ghost use Rattle.topology.specs.Shapes.{ComputationShape, streams_of};
 ghost use Rattle.topology.specs.Rules.{is_name_byte, is_name, all_differ, names_of};
 ghost use Rattle.topology.specs.FileRules.{is_few, is_named, reads_among, reads_above, in_range, is_in_range, is_ascending, is_cut, are_cuts, has_cuts, checked, IsRefusalOf};
@@ -62,13 +64,20 @@ fn is_name_byte(b: u8) -> bool
     b.is_ascii_lowercase() || b.is_ascii_digit() || b == b'_'
 }
 
+// Whether a name may have these bytes.
+fn are_name_bytes(bytes: &[u8]) -> bool
+    ensures { result ≡ list_all is_name_byte bytes.now }
+{
+    bytes.iter().all(|b| is_name_byte(*b))
+}
+
 // Whether a text is a name.
 fn is_name(text: &[u8]) -> bool
     ensures { result ≡ is_name text.now }
 {
     match text.split_first() {
         Some((first, rest)) => {
-            first.is_ascii_lowercase() && rest.iter().all(|b| is_name_byte(*b)) && rest.len() <= 63
+            first.is_ascii_lowercase() && are_name_bytes(rest) && rest.len() <= 63
         }
         None => false,
     }
@@ -81,13 +90,20 @@ fn are_names(texts: &[Name]) -> bool
     texts.iter().all(|text| is_name(text.text().as_bytes()))
 }
 
+// Whether a text is among these.
+fn is_among(texts: &[Name], text: &str) -> bool
+    ensures { result ≡ list_any (pointwise nat_eq text.now) texts.now }
+{
+    texts.iter().any(|other| text == other.text())
+}
+
 // Whether no two of the texts are equal.
 fn all_differ(texts: &[Name]) -> bool
     ensures { result ≡ all_differ texts.now }
 {
     let mut rest = texts;
     while let Some((text, others)) = rest.split_first() {
-        if others.iter().any(|other| text.text() == other.text()) {
+        if is_among(others, text.text()) {
             return false;
         }
         rest = others;
@@ -121,13 +137,6 @@ fn streams_in(alloc: Global, file: &FileParts) -> Result<Seq<Name>, NoMemory>
         streams.push(computation.stream().copy(alloc)?)?;
     }
     Ok(streams)
-}
-
-// Whether a stream is among these.
-fn is_among(streams: &[Name], stream: &str) -> bool
-    ensures { result ≡ list_any (pointwise nat_eq stream.now) streams.now }
-{
-    streams.iter().any(|published| stream == published.text())
 }
 
 // Whether all that is read is among these streams.
@@ -180,13 +189,27 @@ fn is_cut(text: &Name) -> bool
     1 <= text.len() && text.len() <= 256
 }
 
+// Whether each text may be a cut.
+fn may_be_cuts(texts: &[Name]) -> bool
+    ensures { result ≡ list_all is_cut texts.now }
+{
+    texts.iter().all(|text| is_cut(text))
+}
+
+// Whether a cut is below those after it.
+fn is_below(cut: &Name, later: &[Name]) -> bool
+    ensures { result ≡ list_all (λ (other : List ℕ). is_lt (key_cmp cut.now other)) later.now }
+{
+    later.iter().all(|other| cut < other)
+}
+
 // Whether each cut is below those after it.
 fn is_ascending(cuts: &[Name]) -> bool
     ensures { result ≡ is_ascending cuts.now }
 {
     let mut rest = cuts;
     while let Some((cut, later)) = rest.split_first() {
-        if !later.iter().all(|other| cut < other) {
+        if !is_below(cut, later) {
             return false;
         }
         rest = later;
@@ -198,7 +221,7 @@ fn is_ascending(cuts: &[Name]) -> bool
 fn are_cuts(cuts: &[Name]) -> bool
     ensures { result ≡ are_cuts cuts.now }
 {
-    cuts.iter().all(|cut| is_cut(cut)) && is_ascending(cuts)
+    may_be_cuts(cuts) && is_ascending(cuts)
 }
 
 // Whether the cuts of each computation are.
