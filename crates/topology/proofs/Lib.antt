@@ -5,3 +5,4 @@ pub mod Feeds
 pub mod Texts
 pub mod RulesHold
 pub mod Stating
+pub mod Forms

@@ -119,10 +119,9 @@ numbers_of Pass = 0
 abbrev pub members_of : Kind → Data → ℕ
 members_of kind value = 4 + numbers_of kind + option_map_or (λ cuts. 1) (get (codes "cuts") value) 0
 
--- a computation, which has a name, a kind with its numbers, readings, a stream, maybe cuts, and no other member
-abbrev pub computation_in : Data → Option ComputationShape
-computation_in value =
-    option_and_then (λ kind.
+-- a computation of this kind, which has a name, readings, a stream, maybe cuts, and no other member
+abbrev pub computation_of : Data → Kind → Option ComputationShape
+computation_of value kind =
     if has_members (members_of kind value) value then
     option_and_then (λ name.
     option_and_then (λ reads.
@@ -132,8 +131,11 @@ computation_in value =
     (text_in (codes "stream") value))
     (option_and_then some_of (list_in reading_in (codes "reads") value)))
     (text_in (codes "name") value)
-    else None)
-    (kind_in value)
+    else None
+
+-- a computation
+abbrev pub computation_in : Data → Option ComputationShape
+computation_in value = option_and_then (computation_of value) (kind_in value)
 
 -- the shape that a file states: injectors, of which there is one at least, computations, and no other member
 abbrev pub shape_in : Data → Option Shape

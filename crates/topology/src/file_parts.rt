@@ -140,10 +140,7 @@ fn computations_in(
 }
 
 // A computation, with keys as cuts.
-fn computation_of(
-    alloc: Global,
-    computation: &FileComputation,
-) -> Result<ComputationPart, NoMemory>
+fn computation_of(alloc: Global, computation: &FileComputation) -> Result<ComputationPart, NoMemory>
     ensures { IfOk result (λ made. made ≡ computation.now) }
 {
     Ok(ComputationPart {

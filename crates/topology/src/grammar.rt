@@ -3,7 +3,7 @@ ghost use Rattle.std.specs.Prelude.{◌≡◌, ◌≤◌, codes, length, IfSome,
 ghost use Rattle.std.specs.Option.{option_map};
 ghost use Rattle.serde_json.specs.Find.{as_str};
 ghost use Rattle.serde_json.specs.View.{view, items_view};
-ghost use Rattle.topology.specs.Grammar.{has_members, each_of, list_of, array_in, list_in, some_of, text_in, number_in, injector_in, by_named, reading_in, count_in, spike_in, kind_named, kind_in, cuts_in, members_of, computation_in, shape_in};
+ghost use Rattle.topology.specs.Grammar.{has_members, each_of, list_of, array_in, list_in, some_of, text_in, number_in, injector_in, by_named, reading_in, count_in, spike_in, kind_named, kind_in, cuts_in, members_of, computation_of, computation_in, shape_in};
 ghost use Rattle.topology.specs.Answers.{Gives};
 
 use crate::file_parts::{FileComputation, FileParts};
@@ -255,13 +255,10 @@ fn reads_in(alloc: Global, value: &Value) -> Result<Seq<ReadingPart>, ShapeRefus
     }
 }
 
-// A computation.
-fn computation_in(alloc: Global, value: &Value) -> Result<FileComputation, ShapeRefusal>
-    ensures { Gives result (computation_in (view value.now)) }
+// A computation of this kind.
+fn computation_of(alloc: Global, value: &Value, kind: Kind) -> Result<FileComputation, ShapeRefusal>
+    ensures { Gives result (computation_of (view value.now) kind) }
 {
-    let Some(kind) = kind_in(value) else {
-        return Err(ShapeRefusal::BadShape);
-    };
     if !has_members(value, members_of(kind, value)) {
         return Err(ShapeRefusal::BadShape);
     }
@@ -276,6 +273,16 @@ fn computation_in(alloc: Global, value: &Value) -> Result<FileComputation, Shape
         stream,
         cuts,
     })
+}
+
+// A computation.
+fn computation_in(alloc: Global, value: &Value) -> Result<FileComputation, ShapeRefusal>
+    ensures { Gives result (computation_in (view value.now)) }
+{
+    match kind_in(value) {
+        Some(kind) => computation_of(alloc, value, kind),
+        None => Err(ShapeRefusal::BadShape),
+    }
 }
 
 // The computations that these values state.

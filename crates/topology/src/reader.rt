@@ -3,6 +3,7 @@ ghost use Rattle.std.specs.Prelude.{◌≡◌, IfErr, IfOk, Ok};
 ghost use Rattle.std.specs.Option.{option_map};
 ghost use Rattle.serde_json.specs.View.{view};
 ghost use Rattle.topology.specs.FileRules.{json_of, checked, topology_of, IsRefusalOf};
+ghost use Rattle.topology.specs.Answers.{IsFull};
 
 use crate::file_parts::{FileParts, parts_in};
 use crate::file_rules::check;
@@ -32,6 +33,7 @@ fn json_of(alloc: Global, bytes: &[u8]) -> Result<Option<Value>, NoMemory>
 // The parts that a file states, whatever its rules say of them.
 fn file_of(alloc: Global, bytes: &[u8]) -> Result<FileParts, TopologyRefusal>
     ensures file { IfOk result (λ file. topology_of bytes.now ≡ checked file) }
+    ensures full { IfOk result IsFull }
     ensures refused { IfErr result (IsRefusalOf (topology_of bytes.now)) }
 {
     let Some(value) = json_of(alloc, bytes)? else {
@@ -46,6 +48,8 @@ fn file_of(alloc: Global, bytes: &[u8]) -> Result<FileParts, TopologyRefusal>
 
 // The topology of these parts, if they keep the rules.
 fn topology_in(alloc: Global, file: &FileParts) -> Result<Topology, TopologyRefusal>
+    requires { IsFull file.now }
+
     ensures topology { IfOk result (λ topology. checked file.now ≡ Ok topology) }
     ensures refused { IfErr result (IsRefusalOf (checked file.now)) }
 {

@@ -102,7 +102,10 @@ fn reads_each_kind(rt: &impl Abort, topology: &Topology) {
         ]
         .as_slice()
     );
-    assert_eq!(rt; topology.consumers(1), [Subscription { to: 2, by: head }].as_slice());
+    assert_eq!(rt;
+        topology.consumers(1),
+        [Subscription { to: 2, by: head }].as_slice()
+    );
     assert_eq!(rt; topology.feeds(2), [0, 1].as_slice());
     assert_eq!(rt; topology.cuts(1).len(), 2);
     assert_eq!(rt; topology.cuts(2).len(), 0);
@@ -429,11 +432,7 @@ fn the_last_member_of_a_name_counts(rt: HostRuntime) -> Result<(), Fail> {
             "\"size\":60,\"size\":0",
             Some(TopologyRefusal::BadNumber),
         ),
-        (
-            "{\"injectors\"",
-            "{\"injectors\":[],\"injectors\"",
-            None,
-        ),
+        ("{\"injectors\"", "{\"injectors\":[],\"injectors\"", None),
     ] {
         assert_eq!(rt; refused(rt.alloc(), old, new)?, why, "{new}");
     }

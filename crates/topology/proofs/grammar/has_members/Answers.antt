@@ -1,4 +1,4 @@
-use Rattle.std.proofs.Common.{◌≡◌, ◌∙◌, ap, sym, nat_eq, false}
+use Rattle.std.proofs.Common.{◌∙◌, ap, sym, nat_eq, false}
 use Rattle.std.specs.Option.{option_map_or}
 use Rattle.topology.specs.Grammar.{member_count}
 use Rattle.topology.proofs.Texts.{member_count-members_view}
