@@ -1,15 +1,15 @@
 -- One step of a loop that reads the items of an array.
-use Rattle.std.proofs.Common.{◌≡◌, ℕ, ◌+◌, ◌<◌, List, [], ◌∷◌, ◌++◌, length, get_or, drop, sym, ◌∙◌, ap, append_assoc, refl, Option, Some, None, option_map}
+use Rattle.std.proofs.Common.{◌≡◌, ℕ, ◌+◌, ◌<◌, List, [], ◌∷◌, ◌++◌, length, get_or, drop, sym, ◌∙◌, ap, append_assoc, refl, Option, Some, None}
 use Rattle.std.proofs.lemmas.List.{at_drop_more}
 use Rattle.serde_json.specs.Data.{Data}
 use Rattle.serde_json.specs.View.{view, items_view}
 use Rattle.serde_json.specs.declared.value.Value.{Value}
-use Rattle.topology.specs.Grammar.{each_of}
+use Rattle.topology.specs.Grammar.{and_then, each_of}
 use Rattle.topology.specs.Answers.{followed_by}
 
 -- one element stands behind those before it, or in front of those after it
 followed_by-cons : {X : Type 0} (found : List X) (x : X) (rest : Option (List X))
-    → followed_by found (option_map (λ xs. x ∷ xs) rest) ≡ followed_by (found ++ x ∷ []) rest
+    → followed_by found (and_then rest (λ xs. Some (x ∷ xs))) ≡ followed_by (found ++ x ∷ []) rest
 followed_by-cons found x None = refl
 followed_by-cons found x (Some xs) = ap Some (sym (append_assoc found (x ∷ []) xs))
 

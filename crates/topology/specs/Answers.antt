@@ -1,6 +1,5 @@
 -- How the functions that read a file's shape answer. No public clause cites this module.
 use Rattle.std.specs.Prelude.{◌≡◌, ◌≤◌, ◌++◌, List, All, length, ⊤, Option, Some, None, Result, Ok, Err}
-use Rattle.std.specs.Option.{option_map}
 use Rattle.topology.specs.Shapes.{Shape, ComputationShape}
 use Rattle.topology.specs.declared.refusal.ShapeRefusal.{ShapeRefusal}
 use Rattle.topology.specs.declared.refusal.ShapeRefusal.TheVariants.{BadShape, NoMemory}
@@ -13,7 +12,8 @@ Gives (Err NoMemory) found = ⊤
 
 -- these, and then those that follow, or none where nothing is found of those
 abbrev pub followed_by : {X : Type 0} → List X → Option (List X) → Option (List X)
-followed_by xs rest = option_map (λ ys. xs ++ ys) rest
+followed_by xs None = None
+followed_by xs (Some ys) = Some (xs ++ ys)
 
 -- there is an injector, and each computation reads something, as the form of a file asks
 pub record IsFull (shape : Shape) : Type 0 where

@@ -12,24 +12,32 @@ use Rattle.topology.specs.declared.subscription.By.{By}
 use Rattle.topology.specs.declared.subscription.By.TheVariants.{Key, Head, Tail}
 use Rattle.topology.specs.Shapes.{Shape, InjectorShape, ComputationShape, Reading}
 
+-- what the second gives of what the first found, or nothing where it found nothing
+abbrev pub and_then : {X Y : Type 0} → Option X → (X → Option Y) → Option Y
+and_then None f = None
+and_then (Some x) f = f x
+
 -- how many members there are
 abbrev pub member_count : Members → ℕ
 member_count no_members = 0
 member_count (member name value rest) = suc (member_count rest)
 
--- whether a value is an object of so many members; with that many known ones it has no other
+-- whether a value is an object of so many members
 abbrev pub has_members : ℕ → Data → Bool
 has_members n value = option_map_or (λ members. member_count members == n) (as_object value) false
 
--- what each item states, in order, or none where one of them has another form
+-- what such an object states; where it has that many members with known names, it has no other
+abbrev pub with_members : {X : Type 0} → ℕ → Data → Option X → Option X
+with_members n value stated = if has_members n value then stated else None
+
+-- what each item states, in order, or nothing where one of them has another form
 abbrev pub each_of : {X : Type 0} → (Data → Option X) → Items → Option (List X)
 each_of form no_items = Some []
-each_of form (item value rest) =
-    option_and_then (λ x. option_map (λ xs. x ∷ xs) (each_of form rest)) (form value)
+each_of form (item value rest) = and_then (form value) (λ x. and_then (each_of form rest) (λ xs. Some (x ∷ xs)))
 
 -- what each item of a value states, which has to be an array
 abbrev pub list_of : {X : Type 0} → (Data → Option X) → Data → Option (List X)
-list_of form value = option_and_then (each_of form) (as_array value)
+list_of form value = and_then (as_array value) (each_of form)
 
 -- the items of the array that a member is
 abbrev pub array_in : List ℕ → Data → Option Items
@@ -37,7 +45,7 @@ array_in name value = option_and_then as_array (get name value)
 
 -- what each of these items states
 abbrev pub list_in : {X : Type 0} → (Data → Option X) → List ℕ → Data → Option (List X)
-list_in form name value = option_and_then (each_of form) (array_in name value)
+list_in form name value = and_then (array_in name value) (each_of form)
 
 -- a list, where it is not empty
 abbrev pub some_of : {X : Type 0} → List X → Option (List X)
@@ -59,11 +67,10 @@ number_in greatest name value = option_map (whole_up_to greatest) (option_and_th
 -- an injector, which has a name and a stream, and no other member
 abbrev pub injector_in : Data → Option InjectorShape
 injector_in value =
-    if has_members 2 value then
-    option_and_then (λ name.
-    option_map (λ stream. record { name = name; stream = stream })
-    (text_in (codes "stream") value)) (text_in (codes "name") value)
-    else None
+    with_members 2 value
+    (and_then (text_in (codes "name") value) (λ name.
+    and_then (text_in (codes "stream") value) (λ stream.
+    Some (record { name = name; stream = stream }))))
 
 -- the extractor of this name
 abbrev pub by_named : List ℕ → Option By
@@ -76,22 +83,22 @@ by_named name =
 -- a reading, which has a stream and an extractor, and no other member
 abbrev pub reading_in : Data → Option Reading
 reading_in value =
-    if has_members 2 value then
-    option_and_then (λ stream.
-    option_map (λ by. record { stream = stream; by = by })
-    (option_and_then by_named (text_in (codes "by") value))) (text_in (codes "stream") value)
-    else None
+    with_members 2 value
+    (and_then (text_in (codes "stream") value) (λ stream.
+    and_then (text_in (codes "by") value) (λ name.
+    and_then (by_named name) (λ by.
+    Some (record { stream = stream; by = by })))))
 
 -- a count, with the length of its windows
 abbrev pub count_in : Data → Option Kind
-count_in value = option_map (λ size. Count size) (number_in (2 ^ 64 - 1) (codes "size") value)
+count_in value = and_then (number_in (2 ^ 64 - 1) (codes "size") value) (λ size. Some (Count size))
 
 -- a spike, with its two numbers
 abbrev pub spike_in : Data → Option Kind
 spike_in value =
-    option_and_then (λ last.
-    option_map (λ times. Spike last times)
-    (number_in (2 ^ 32 - 1) (codes "times") value)) (number_in (2 ^ 32 - 1) (codes "last") value)
+    and_then (number_in (2 ^ 32 - 1) (codes "last") value) (λ last.
+    and_then (number_in (2 ^ 32 - 1) (codes "times") value) (λ times.
+    Some (Spike last times)))
 
 -- the kind of this name, with the numbers that the computation states for it
 abbrev pub kind_named : Data → List ℕ → Option Kind
@@ -103,7 +110,11 @@ kind_named value name =
 
 -- the kind of a computation
 abbrev pub kind_in : Data → Option Kind
-kind_in value = option_and_then (kind_named value) (text_in (codes "kind") value)
+kind_in value = and_then (text_in (codes "kind") value) (kind_named value)
+
+-- what a computation reads, which is something
+abbrev pub reads_in : Data → Option (List Reading)
+reads_in value = and_then (list_in reading_in (codes "reads") value) some_of
 
 -- the cuts of a computation, of which there are none where it has no such member
 abbrev pub cuts_in : Data → Option (List (List ℕ))
@@ -122,27 +133,25 @@ members_of kind value = 4 + numbers_of kind + option_map_or (λ cuts. 1) (get (c
 -- a computation of this kind, which has a name, readings, a stream, maybe cuts, and no other member
 abbrev pub computation_of : Data → Kind → Option ComputationShape
 computation_of value kind =
-    if has_members (members_of kind value) value then
-    option_and_then (λ name.
-    option_and_then (λ reads.
-    option_and_then (λ stream.
-    option_map (λ cuts. record { name = name; kind = kind; reads = reads; stream = stream; cuts = cuts })
-    (cuts_in value))
-    (text_in (codes "stream") value))
-    (option_and_then some_of (list_in reading_in (codes "reads") value)))
-    (text_in (codes "name") value)
-    else None
+    with_members (members_of kind value) value
+    (and_then (text_in (codes "name") value) (λ name.
+    and_then (reads_in value) (λ reads.
+    and_then (text_in (codes "stream") value) (λ stream.
+    and_then (cuts_in value) (λ cuts.
+    Some (record { name = name; kind = kind; reads = reads; stream = stream; cuts = cuts }))))))
 
 -- a computation
 abbrev pub computation_in : Data → Option ComputationShape
-computation_in value = option_and_then (computation_of value) (kind_in value)
+computation_in value = and_then (kind_in value) (computation_of value)
 
--- the shape that a file states: injectors, of which there is one at least, computations, and no other member
+-- the injectors of a file, of which there is one at least
+abbrev pub injectors_in : Data → Option (List InjectorShape)
+injectors_in value = and_then (list_in injector_in (codes "injectors") value) some_of
+
+-- the shape that a file states, which has injectors and computations, and no other member
 abbrev pub shape_in : Data → Option Shape
 shape_in value =
-    if has_members 2 value then
-    option_and_then (λ injectors.
-    option_map (λ computations. record { injectors = injectors; computations = computations })
-    (list_in computation_in (codes "computations") value))
-    (option_and_then some_of (list_in injector_in (codes "injectors") value))
-    else None
+    with_members 2 value
+    (and_then (injectors_in value) (λ injectors.
+    and_then (list_in computation_in (codes "computations") value) (λ computations.
+    Some (record { injectors = injectors; computations = computations }))))

@@ -96,32 +96,11 @@ impl FileParts {
 pub fn parts_in(alloc: Global, file: &FileParts) -> Result<Parts, NoMemory>
     ensures { IfOk result (λ parts. parts ≡ file.now) }
 {
-    let injectors = injectors_in(alloc, file.injectors())?;
+    let injectors = file.injectors.copy(alloc)?;
     let computations = computations_in(alloc, file.computations())?;
     Ok(Parts {
         injectors,
         computations,
-    })
-}
-
-// These injectors again.
-fn injectors_in(alloc: Global, injectors: &[InjectorPart]) -> Result<Seq<InjectorPart>, NoMemory>
-    ensures { IfOk result (λ made. made ≡ injectors.now) }
-{
-    let mut made = Seq::new(alloc);
-    for injector in injectors {
-        made.push(injector_of(alloc, injector)?)?;
-    }
-    Ok(made)
-}
-
-// An injector again.
-fn injector_of(alloc: Global, injector: &InjectorPart) -> Result<InjectorPart, NoMemory>
-    ensures { IfOk result (λ made. made ≡ injector.now) }
-{
-    Ok(InjectorPart {
-        name: injector.name.copy(alloc)?,
-        stream: injector.stream.copy(alloc)?,
     })
 }
 
@@ -146,30 +125,9 @@ fn computation_of(alloc: Global, computation: &FileComputation) -> Result<Comput
     Ok(ComputationPart {
         name: computation.name.copy(alloc)?,
         kind: computation.kind,
-        reads: reads_in(alloc, computation.reads())?,
+        reads: computation.reads.copy(alloc)?,
         stream: computation.stream.copy(alloc)?,
         cuts: cuts_in(alloc, computation.cuts())?,
-    })
-}
-
-// These readings again.
-fn reads_in(alloc: Global, reads: &[ReadingPart]) -> Result<Seq<ReadingPart>, NoMemory>
-    ensures { IfOk result (λ made. made ≡ reads.now) }
-{
-    let mut made = Seq::new(alloc);
-    for reading in reads {
-        made.push(reading_of(alloc, reading)?)?;
-    }
-    Ok(made)
-}
-
-// A reading again.
-fn reading_of(alloc: Global, reading: &ReadingPart) -> Result<ReadingPart, NoMemory>
-    ensures { IfOk result (λ made. made ≡ reading.now) }
-{
-    Ok(ReadingPart {
-        stream: reading.stream.copy(alloc)?,
-        by: reading.by,
     })
 }
 

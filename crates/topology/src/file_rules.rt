@@ -1,12 +1,12 @@
 //! The rules of a topology file, each tried on all of its parts.
-ghost use Rattle.std.specs.Prelude.{◌≡◌, ◌+◌, ◌<◌, ◌^◌, length, sum_by, nat_le, nat_eq, ℕ, List, IfErr, IfOk, OnOk, Ok};
+ghost use Rattle.std.specs.Prelude.{◌≡◌, length, sum_by, nat_le, nat_eq, ℕ, List, IfErr, IfOk, OnOk, Ok};
 ghost use Rattle.std.specs.Ordering.{is_lt};
 ghost use Rattle.std.specs.List.{list_any, list_all};
 ghost use Rattle.std.specs.Cmp.Lexicographic.{pointwise};
 ghost use Rattle.mw_types.specs.Orders.{key_cmp};
 ghost use Rattle.topology.specs.Shapes.{ComputationShape, streams_of};
 ghost use Rattle.topology.specs.Rules.{is_name_byte, is_name, all_differ, names_of};
-ghost use Rattle.topology.specs.FileRules.{is_few, is_named, reads_among, reads_above, in_range, is_in_range, is_ascending, is_cut, are_cuts, has_cuts, checked, IsRefusalOf};
+ghost use Rattle.topology.specs.FileRules.{is_few, reads_among, reads_above, in_range, is_in_range, is_ascending, is_cut, are_cuts, has_cuts, checked, IsRefusalOf};
 
 use crate::file_parts::{FileComputation, FileParts};
 use crate::parts::{InjectorPart, ReadingPart};

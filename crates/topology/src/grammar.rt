@@ -1,9 +1,9 @@
 //! The parts that the JSON value of a topology file states.
-ghost use Rattle.std.specs.Prelude.{◌≡◌, ◌≤◌, codes, length, IfSome, option_and_then};
+ghost use Rattle.std.specs.Prelude.{◌≡◌, ◌≤◌, codes, IfSome};
 ghost use Rattle.std.specs.Option.{option_map};
 ghost use Rattle.serde_json.specs.Find.{as_str};
 ghost use Rattle.serde_json.specs.View.{view, items_view};
-ghost use Rattle.topology.specs.Grammar.{has_members, each_of, list_of, array_in, list_in, some_of, text_in, number_in, injector_in, by_named, reading_in, count_in, spike_in, kind_named, kind_in, cuts_in, members_of, computation_of, computation_in, shape_in};
+ghost use Rattle.topology.specs.Grammar.{and_then, has_members, each_of, list_of, array_in, list_in, some_of, text_in, number_in, injector_in, by_named, reading_in, count_in, spike_in, kind_named, kind_in, reads_in, cuts_in, members_of, computation_of, computation_in, injectors_in, shape_in};
 ghost use Rattle.topology.specs.Answers.{Gives};
 
 use crate::file_parts::{FileComputation, FileParts};
@@ -114,7 +114,7 @@ fn by_named(name: &str) -> Option<By>
 
 // The extractor of a reading.
 fn by_in(value: &Value) -> Option<By>
-    ensures { result ≡ option_and_then by_named (text_in (codes "by") (view value.now)) }
+    ensures { result ≡ and_then (text_in (codes "by") (view value.now)) by_named }
 {
     by_named(text_in(value, "by")?)
 }
@@ -247,7 +247,7 @@ fn members_of(kind: Kind, value: &Value) -> usize
 
 // The readings of a computation, of which there is one at least.
 fn reads_in(alloc: Global, value: &Value) -> Result<Seq<ReadingPart>, ShapeRefusal>
-    ensures { Gives result (option_and_then some_of (list_in reading_in (codes "reads") (view value.now))) }
+    ensures { Gives result (reads_in (view value.now)) }
 {
     match array_in(value, "reads") {
         Some(values) => some_of(readings_of(alloc, values)?),
@@ -298,7 +298,7 @@ fn computations_of(alloc: Global, values: &[Value]) -> Result<Seq<FileComputatio
 
 // The injectors of a file, of which there is one at least.
 fn injectors_in(alloc: Global, value: &Value) -> Result<Seq<InjectorPart>, ShapeRefusal>
-    ensures { Gives result (option_and_then some_of (list_in injector_in (codes "injectors") (view value.now))) }
+    ensures { Gives result (injectors_in (view value.now)) }
 {
     match array_in(value, "injectors") {
         Some(values) => some_of(injectors_of(alloc, values)?),
