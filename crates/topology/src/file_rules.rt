@@ -234,7 +234,7 @@ fn has_cuts(file: &FileParts) -> bool
 }
 
 // The first rule that is broken, if one is.
-fn tried(file: &FileParts, names: &[Name], streams: &[Name]) -> Result<(), TopologyRefusal>
+fn broken_rule(file: &FileParts, names: &[Name], streams: &[Name]) -> Result<(), TopologyRefusal>
     requires names { names.now ≡ names_of file.now }
     requires streams { streams.now ≡ streams_of file.now }
 
@@ -272,5 +272,5 @@ pub fn check(alloc: Global, file: &FileParts) -> Result<(), TopologyRefusal>
 {
     let names = names_in(alloc, file)?;
     let streams = streams_in(alloc, file)?;
-    tried(file, names.as_slice(), streams.as_slice())
+    broken_rule(file, names.as_slice(), streams.as_slice())
 }
