@@ -1,12 +1,18 @@
 //! The parts of a run, the streams between them, and how a consumer's key is extracted.
 //!
-//! Stands on `mw_types`. Public contract: the accessors of `Topology` give what its shape says, and
-//! every `Topology` keeps the rules. Definitions: `specs/Shapes.antt`, what a topology is;
-//! `specs/Rules.antt`, which shapes are topologies.
+//! Stands on `mw_types` and `serde_json`. Public contract: `read` gives the topology that a file states, or
+//! names the first rule that it breaks; the accessors of `Topology` give what its shape says, and every
+//! `Topology` keeps the rules. Definitions: `specs/Shapes.antt`, what a topology is; `specs/Rules.antt`, which
+//! shapes are topologies; `specs/Grammar.antt` and `specs/FileRules.antt`, which bytes are a file.
 #![tactic(auto)]
 
 mod extraction;
+mod file_parts;
+mod file_rules;
+mod grammar;
 mod parts;
+mod reader;
+mod refusal;
 mod sample;
 mod subscription;
 #[cfg(test)]
@@ -15,5 +21,7 @@ mod topology;
 mod wiring;
 
 pub use extraction::extract;
+pub use reader::read;
+pub use refusal::TopologyRefusal;
 pub use subscription::{By, Subscription};
 pub use topology::Topology;

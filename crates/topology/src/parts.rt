@@ -3,7 +3,8 @@ ghost use Rattle.std.specs.Prelude.{◌≡◌, ◌+◌, ◌<◌, ◌^◌, length
 ghost use Rattle.topology.specs.Shapes.{injectors_of, parts_of, computation_of, reads_of, cuts_of};
 
 use crate::subscription::By;
-use mw_types::{Key, KeyList, Kind, Name, Seq};
+use mw_types::{Duplicate, Key, KeyList, Kind, Name, NoMemory, Seq};
+use std::alloc::Global;
 use std::marker::Model;
 
 /// One reading of a computation: the stream, and how it extracts its keys.
@@ -21,6 +22,15 @@ impl Model for ReadingPart {
     ghost view = { λ r. record { stream = r.stream; by = r.by } };
 }
 
+impl Duplicate for ReadingPart {
+    fn copy(&self, alloc: Global) -> Result<ReadingPart, NoMemory> {
+        Ok(ReadingPart {
+            stream: self.stream.copy(alloc)?,
+            by: self.by,
+        })
+    }
+}
+
 /// An injector, with the stream that it publishes.
 #[derive(Debug, Drop)]
 pub struct InjectorPart {
@@ -34,6 +44,15 @@ impl Model for InjectorPart {
     ghost Value = { InjectorShape };
 
     ghost view = { λ i. record { name = i.name; stream = i.stream } };
+}
+
+impl Duplicate for InjectorPart {
+    fn copy(&self, alloc: Global) -> Result<InjectorPart, NoMemory> {
+        Ok(InjectorPart {
+            name: self.name.copy(alloc)?,
+            stream: self.stream.copy(alloc)?,
+        })
+    }
 }
 
 /// A computation, with what it reads, the stream that it publishes, and its cuts.
@@ -86,6 +105,13 @@ impl ReadingPart {
 }
 
 impl InjectorPart {
+    /// Its name.
+    pub fn name(&self) -> &Name
+        ensures { result.now ≡ self.now.name }
+    {
+        &self.name
+    }
+
     /// The stream that it publishes.
     pub fn stream(&self) -> &Name
         ensures { result.now ≡ self.now.stream }
