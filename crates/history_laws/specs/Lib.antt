@@ -1,0 +1,3 @@
+pub mod Fences
+pub mod Finished
+pub mod Stored

@@ -1,0 +1,12 @@
+//! The floor of a run.
+ghost use Rattle.std.specs.Prelude.{List, ◌++◌, ◌≤◌};
+ghost use Rattle.mw_types.specs.declared.entry.Entry.{Entry};
+ghost use Rattle.topology.specs.Shapes.{Shape};
+ghost use Rattle.run_history.specs.Runs.{run_of};
+ghost use Rattle.run_history.specs.Legal.{floor_of};
+
+/// The floor after a history is at least the floor after each beginning of it, whether or not the history is legal.
+pub fn floor_never_falls()
+    ensures floor { (shape : Shape) (front rest : List Entry) →
+        floor_of (run_of shape front) ≤ floor_of (run_of shape (front ++ rest)) }
+{}
