@@ -3,3 +3,7 @@ pub mod Along
 pub mod Made
 pub mod FloorLaws
 pub mod IdLaws
+pub mod RowSteps
+pub mod FeedLaws
+pub mod HandlerBounds
+pub mod PendingLaws
