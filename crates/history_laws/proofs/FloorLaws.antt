@@ -19,7 +19,7 @@ use Rattle.run_history.specs.Made.{row_written, deliveries_of}
 use Rattle.run_history.specs.Runs.{Run, run_of, row_of, changed, row_after, rows_after, followed, empty_run}
 use Rattle.run_history.specs.Legal.{floor_of}
 use Rattle.run_history.proofs.Lookups.{each-insert_entry}
-use Rattle.history_laws.proofs.Lists.{each-append, each-weaker, each-filter, found_of_each}
+use Rattle.history_laws.proofs.Lists.{each-append, each-filter, each-flat_map, flat_map-each, found_of_each}
 use Rattle.history_laws.proofs.Made.{each_of_commit}
 
 -- the least of some numbers and a bound is at most the bound
@@ -55,22 +55,6 @@ commits_from x (d ∷ ds) each = (each.0, commits_from x ds each.1)
 from_commits : (x : ℕ) (ds : List Delivery) → AllByRecursion (λ m. x ≤ m) (map (λ (d : Delivery). d.id.commit) ds) → CommitsFrom x ds
 from_commits x [] each = tt
 from_commits x (d ∷ ds) each = (each.0, from_commits x ds each.1)
-
--- what holds of each element of each row holds of each element of all rows
-pub each-flat_map : {A X : Type 0} (P : X → Type 0) (f : A → List X) (rows : List A)
-    → AllByRecursion (λ a. AllByRecursion P (f a)) rows → AllByRecursion P (flat_map f rows)
-each-flat_map P f [] each = tt
-each-flat_map P f (a ∷ rows) each = each-append P (f a) (flat_map f rows) each.0 (each-flat_map P f rows each.1)
-
--- and back
-pub flat_map-each : {A X : Type 0} (P : X → Type 0) (f : A → List X) (rows : List A)
-    → AllByRecursion P (flat_map f rows) → AllByRecursion (λ a. AllByRecursion P (f a)) rows
-flat_map-each P f [] each = tt
-flat_map-each {A} {X} P f (a ∷ rows) each = let parts = apart (f a) each in (parts.0, flat_map-each P f rows parts.1)
-  where
-    apart : (xs : List X) → AllByRecursion P (xs ++ flat_map f rows) → AllByRecursion P xs × AllByRecursion P (flat_map f rows)
-    apart [] both = (tt, both)
-    apart (x ∷ xs) both = let rest = apart xs both.1 in ((both.0, rest.0), rest.1)
 
 -- the commit numbers of what is pending
 abbrev commits_of : Run → List ℕ

@@ -157,7 +157,7 @@ pub record AreIds (history : List Entry) (run : Run) : Type 0 where
   pub waiting : run.unhandled ≡ filter (is_left history) run.made
 
 -- what was made stays made
-WasMade-more : (made more : List Delivery) (entry : Entry) → WasMade made entry → WasMade (made ++ more) entry
+pub WasMade-more : (made more : List Delivery) (entry : Entry) → WasMade made entry → WasMade (made ++ more) entry
 WasMade-more made more (Claim worker interval) was = tt
 WasMade-more made more (Inject seq part line item) was = tt
 WasMade-more made more (Handle seq row id effects) was =

@@ -7,3 +7,4 @@ pub mod RowSteps
 pub mod FeedLaws
 pub mod HandlerBounds
 pub mod PendingLaws
+pub mod FinishedLaws

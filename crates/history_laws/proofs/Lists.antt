@@ -1,8 +1,8 @@
 -- What holds of each element of a list, where the list is joined, filtered or searched.
-use Rattle.std.proofs.Common.{◌≡◌, ℕ, Bool, true, false, cond, ◌&&◌, List, [], ◌∷◌, ◌++◌, map, refl, sym, ◌∙◌, ap, subst}
+use Rattle.std.proofs.Common.{◌≡◌, ℕ, ◌+◌, Bool, true, false, cond, ◌&&◌, List, [], ◌∷◌, ◌++◌, map, refl, sym, ◌∙◌, ap, subst}
 use Rattle.std.specs.Prelude.{Option, Some, None, unwrap_or, find, filter}
 use Rattle.std.specs.Option.{option_or}
-use Rattle.std.specs.List.{AllByRecursion}
+use Rattle.std.specs.List.{AllByRecursion, enumerate_from, flat_map}
 use Rattle.std.specs.List.Sorted.{IsStrictlySortedBy}
 use Rattle.std.specs.Map.{lookup}
 use Rattle.std.specs.declared.cmp.Ordering.{Ordering}
@@ -166,3 +166,47 @@ find-each_self {X} R test same apart (x ∷ xs) sorted = (
     later [] above found = tt
     later (y ∷ ys) above found =
         (ap (λ b. cond b (Some x) (find (test y) xs)) (apart x y above.0) ∙ found.0, later ys above.1 found.1)
+
+-- what holds of each and what else holds of each hold of each together
+pub each-both : {X : Type 0} (P Q : X → Type 0) (xs : List X) → AllByRecursion P xs → AllByRecursion Q xs → AllByRecursion (λ x. P x × Q x) xs
+each-both P Q [] one other = tt
+each-both P Q (x ∷ xs) one other = ((one.0, other.0), each-both P Q xs one.1 other.1)
+
+-- where a search finds nothing, nothing passes
+pub find-none_each : {X : Type 0} (test : X → Bool) (xs : List X) → find test xs ≡ None → AllByRecursion (λ x. test x ≡ false) xs
+find-none_each test [] none = tt
+find-none_each test (x ∷ xs) none =
+    elim (test x) as (λ b. test x ≡ b → cond b (Some x) (find test xs) ≡ None → AllByRecursion (λ y. test y ≡ false) (x ∷ xs)) [
+      | true ↦ λ e f. absurd (none_some x (sym f))
+      | false ↦ λ e f. (e, find-none_each test xs f)
+    ] refl none
+
+-- what holds of each element holds of each numbered one
+pub each-enumerate : {X : Type 0} (P : X → Type 0) (n : ℕ) (xs : List X) → AllByRecursion P xs → AllByRecursion (λ (p : ℕ × X). P p.1) (enumerate_from n xs)
+each-enumerate P n [] each = tt
+each-enumerate P n (x ∷ xs) each = (each.0, each-enumerate P (n + 1) xs each.1)
+
+-- what holds of each element of each list holds of each element of all of them
+pub each-flat_map : {A X : Type 0} (P : X → Type 0) (f : A → List X) (rows : List A)
+    → AllByRecursion (λ a. AllByRecursion P (f a)) rows → AllByRecursion P (flat_map f rows)
+each-flat_map P f [] each = tt
+each-flat_map P f (a ∷ rows) each = each-append P (f a) (flat_map f rows) each.0 (each-flat_map P f rows each.1)
+
+-- and back
+pub flat_map-each : {A X : Type 0} (P : X → Type 0) (f : A → List X) (rows : List A)
+    → AllByRecursion P (flat_map f rows) → AllByRecursion (λ a. AllByRecursion P (f a)) rows
+flat_map-each P f [] each = tt
+flat_map-each {A} {X} P f (a ∷ rows) each = let parts = apart (f a) each in (parts.0, flat_map-each P f rows parts.1)
+  where
+    apart : (xs : List X) → AllByRecursion P (xs ++ flat_map f rows) → AllByRecursion P xs × AllByRecursion P (flat_map f rows)
+    apart [] both = (tt, both)
+    apart (x ∷ xs) both = let rest = apart xs both.1 in ((both.0, rest.0), rest.1)
+
+-- each element that a filter leaves passes its test
+pub filter-passes : {X : Type 0} (test : X → Bool) (xs : List X) → AllByRecursion (λ x. test x ≡ true) (filter test xs)
+filter-passes test [] = tt
+filter-passes {X} test (x ∷ xs) =
+    elim (test x) as (λ b. test x ≡ b → AllByRecursion (λ y. test y ≡ true) (cond b (x ∷ filter test xs) (filter test xs))) [
+      | true ↦ λ e. (e, filter-passes test xs)
+      | false ↦ λ e. filter-passes test xs
+    ] refl

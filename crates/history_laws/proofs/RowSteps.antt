@@ -30,13 +30,13 @@ use Rattle.history_laws.proofs.Made.{each_of_commit}
 use Rattle.history_laws.proofs.IdLaws.{across, below_next, made-ascend}
 
 -- two parts that are equal together are equal each
-both_Equal : (a b : Ordering) → ordering_then a b ≡ Equal → (a ≡ Equal) × (b ≡ Equal)
+pub both_Equal : (a b : Ordering) → ordering_then a b ≡ Equal → (a ≡ Equal) × (b ≡ Equal)
 both_Equal Less b e = absurd (cc)
 both_Equal Equal b e = (refl, e)
 both_Equal Greater b e = absurd (cc)
 
 -- an order is Equal where it says that it ties
-from_tie : (o : Ordering) → is_eq o ≡ true → o ≡ Equal
+pub from_tie : (o : Ordering) → is_eq o ≡ true → o ≡ Equal
 from_tie Less e = cc
 from_tie Equal e = refl
 from_tie Greater e = cc
