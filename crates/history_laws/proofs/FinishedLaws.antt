@@ -22,9 +22,10 @@ use Rattle.run_history.specs.Made.{found_delivery, row_written, deliveries_of}
 use Rattle.run_history.specs.Runs.{Run, run_of, row_of, followed, changed, noted, empty_run}
 use Rattle.run_history.specs.Legal.{MayFollow, IsLegal}
 use Rattle.history_laws.specs.Finished.{handles, is_handled}
+use Rattle.history_laws.specs.Ids.{is_left}
 use Rattle.history_laws.proofs.Lists.{none_some, some_same, each-append, each-all, each-weaker, each-both, find-none, find-kept, find-passes, filter-passes}
 use Rattle.history_laws.proofs.Along.{along_history}
-use Rattle.history_laws.proofs.IdLaws.{same_id-true, same_id-itself, AreIds, AreIds-followed, WasMade, is_left, legal-ids, WasMade-more}
+use Rattle.history_laws.proofs.IdLaws.{same_id-true, same_id-itself, AreIds, AreIds-followed, WasMade, legal-ids}
 use Rattle.history_laws.proofs.RowSteps.{row_of-step, row_of-here, made_row, both_Equal}
 
 -- one of two tests passes

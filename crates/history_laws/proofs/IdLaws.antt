@@ -1,7 +1,7 @@
 -- What ids tell: what was made, what was handled, and what waits.
-use Rattle.std.proofs.Common.{◌≡◌, ℕ, ◌+◌, ◌<◌, ◌≤◌, ◌==◌, ◌&&◌, Bool, true, false, cond, List, [], ◌∷◌, ◌++◌, length, map, refl, sym, ◌∙◌, ap, subst, arith}
+use Rattle.std.proofs.Common.{◌≡◌, ℕ, ◌+◌, ◌<◌, ◌≤◌, ◌==◌, ◌&&◌, Bool, true, false, cond, List, [], ◌∷◌, ◌++◌, length, map, fold, refl, sym, ◌∙◌, ap, subst, arith}
 use Rattle.std.proofs.lemmas.List.{length_push}
-use Rattle.std.specs.Prelude.{⊤, Option, Some, None, IsSome, IsNone, find, filter, not, ◌||◌}
+use Rattle.std.specs.Prelude.{⊤, Option, Some, None, IsSome, IsNone, IsTrue, find, filter, not, ◌||◌}
 use Rattle.std.specs.Option.{option_map_or}
 use Rattle.std.specs.List.{AllByRecursion, list_any, enumerate_from}
 use Rattle.std.specs.List.Sorted.{IsStrictlySortedBy}
@@ -27,6 +27,7 @@ use Rattle.run_history.specs.Made.{found_delivery, deliveries_of, deliveries_mad
 use Rattle.run_history.specs.Runs.{Run, run_of, followed, empty_run, still_unhandled}
 use Rattle.run_history.specs.Legal.{MayFollow, MayHandle, IsLegal}
 use Rattle.history_laws.specs.Finished.{handles, is_handled}
+use Rattle.history_laws.specs.Ids.{is_left, TellsWhatWaits}
 use Rattle.history_laws.proofs.Lists.{none_some, some_same, each-append, each-all, each-weaker, each-filter, find-passes, find-each, find-none, find-kept, find-more, find-behind, filter-filter, filter-all, sorted-append, find-in_part, find-each_self}
 use Rattle.history_laws.proofs.Along.{along_history, along_any}
 use Rattle.history_laws.proofs.Made.{each_of_commit}
@@ -138,10 +139,6 @@ pub made-in_order : (shape : Shape) (history : List Entry) → IsMadeInOrder (ru
 made-in_order shape history = along_any shape IsMadeInOrder (IsMadeInOrder-followed shape) history empty_run IsMadeInOrder-empty
 
 -- ---- what was handled, and what waits
-
--- whether a delivery was not handled
-abbrev pub is_left : List Entry → Delivery → Bool
-is_left history d = not (is_handled d.id history)
 
 -- a handled record was made, and went to the row that handled it
 abbrev pub WasMade : List Delivery → Entry → Type 0
@@ -270,3 +267,42 @@ AreIds-followed case history run entry ids may = record {
 pub legal-ids : (case : CaseShape) (history : List Entry) → IsLegal case history → AreIds history (run_of case.topology history)
 legal-ids case = along_history case AreIds (λ done run entry ids may. AreIds-followed case done run entry ids may)
     (record { next = refl; made = IsMadeInOrder-empty; handled = tt; waiting = refl })
+
+-- how many entries there are is the next number
+pub next-length : (shape : Shape) (history : List Entry) → (run_of shape history).next ≡ length history
+next-length shape history = counted history empty_run ∙ (let zero_more : 0 + length history ≡ length history = omega arith in zero_more)
+  where
+    counted : (entries : List Entry) (run : Run) → (fold (followed shape) run entries).next ≡ run.next + length entries
+    counted [] run = omega arith
+    counted (e ∷ es) run = counted es (followed shape run e) ∙ omega arith
+
+-- a handled record was made
+pub handled-was_made : (made : List Delivery) (id : RecordId) (entries : List Entry) → AllByRecursion (WasMade made) entries
+    → is_handled id entries ≡ true → IsSome (found_delivery id made)
+handled-was_made made id [] was handled = absurd (cc)
+handled-was_made made id (e ∷ es) was handled =
+    elim (handles id e) as (λ b. handles id e ≡ b → (b || is_handled id es) ≡ true → IsSome (found_delivery id made)) [
+      | true ↦ λ by h. here e by was.0
+      | false ↦ λ by h. handled-was_made made id es was.1 h
+    ] refl handled
+  where
+    here : (entry : Entry) → handles id entry ≡ true → WasMade made entry → IsSome (found_delivery id made)
+    here (Claim worker interval) by was = cc
+    here (Inject seq part line item) by was = cc
+    here (Handle seq row other effects) by was =
+        subst IsSome (sym (ap (λ (i : RecordId). found_delivery i made) (same_id-true id other by) ∙ was.1)) refl
+    here (Fire seq row timer mark effects) by was = cc
+    here (Ack seq row other) by was = cc
+    here (Purge seq row floor) by was = cc
+
+-- what ids tell after each legal history
+pub legal-tells : (case : CaseShape) (history : List Entry) → IsLegal case history → TellsWhatWaits history (run_of case.topology history)
+legal-tells case history legal =
+    let ids = legal-ids case history legal in record {
+      handled = λ id handled. handled-was_made (run_of case.topology history).made id history ids.handled (IsTrue-true (is_handled id history) handled);
+      waiting = ids.waiting;
+    }
+  where
+    IsTrue-true : (b : Bool) → IsTrue b → b ≡ true
+    IsTrue-true true is = refl
+    IsTrue-true false is = absurd (cc)

@@ -8,3 +8,4 @@ pub mod FeedLaws
 pub mod HandlerBounds
 pub mod PendingLaws
 pub mod FinishedLaws
+pub mod FenceLaws

@@ -20,6 +20,7 @@ use Rattle.run_history.specs.Made.{found_delivery, row_written, productions_of, 
 use Rattle.run_history.specs.Runs.{Run, run_of, row_of, followed, changed, still_unhandled, empty_run}
 use Rattle.run_history.specs.Legal.{MayFollow, IsLegal, record_outcome, timer_outcome, floor_of}
 use Rattle.history_laws.specs.Finished.{handles}
+use Rattle.history_laws.specs.Ids.{IsSentBy}
 use Rattle.history_laws.proofs.Lists.{none_some, some_same, each-append, each-all, each-weaker, each-filter, each-both, find-none, find-none_each, find-kept, find-more, find-behind}
 use Rattle.history_laws.proofs.Along.{along_history}
 use Rattle.history_laws.proofs.Made.{each_of_commit, deliveries_made-each}
@@ -83,12 +84,6 @@ sent_fed case run entry name may written = by_kind entry may (row_written entry)
     by_kind (Purge seq row floor) may w e f = tt
 
 -- ---- what waits is pending
-
--- a delivery is pending in a row of a part that feeds the part to which it goes
-pub record IsSentBy (shape : Shape) (run : Run) (d : Delivery) : Type 0 where
-  pub sender : RowName
-  pub pending : found_delivery d.id (row_of shape run sender).pending ≡ Some d
-  pub feeds : Contains (feeds_of shape d.to.part) sender.part
 
 -- an entry that acknowledges something acknowledges another delivery
 abbrev pub SparesFrom : Entry → Delivery → Type 0

@@ -1,3 +1,4 @@
 pub mod Fences
 pub mod Finished
+pub mod Ids
 pub mod Stored

@@ -10,5 +10,7 @@
 #![tactic(auto)]
 
 mod floors;
+mod ids;
 
 pub use floors::floor_never_falls;
+pub use ids::{ids_ascend, ids_tell_what_waits};

@@ -1,0 +1,196 @@
+-- A row that was read under the last claim of its interval is the row of the whole history.
+use Rattle.std.proofs.Common.{◌≡◌, ◌≢◌, ℕ, zero, suc, ◌+◌, ◌<◌, ◌≤◌, Bool, true, false, cond, List, [], ◌∷◌, ◌++◌, length, take, drop, fold, refl, sym, ◌∙◌, ap, subst, arith, append_assoc, length-append, inl, inr}
+use Rattle.std.specs.Prelude.{Option, Some, None, All, ◌⊎◌, not, unwrap_or}
+use Rattle.std.specs.Option.{option_and_then}
+use Rattle.std.specs.List.{AllByRecursion, enumerate_from, take_while}
+use Rattle.std.proofs.lemmas.List.{append-nil, take-append-drop, take-append-le, drop-append-le, length-take}
+use Rattle.std.proofs.lemmas.List.Sums.{fold-append, take_while-cons}
+use Rattle.std.proofs.lemmas.List.Elements.{recursion_from_All}
+use Rattle.mw_types.specs.declared.identity.RowName.{RowName}
+use Rattle.mw_types.specs.declared.entry.Entry.{Entry}
+use Rattle.mw_types.specs.declared.entry.Entry.TheVariants.{Claim, Inject, Handle, Fire, Ack, Purge}
+use Rattle.topology.specs.Shapes.{Shape}
+use Rattle.run_history.specs.Made.{row_written}
+use Rattle.run_history.specs.Cases.{fresh_of}
+use Rattle.row_parts.specs.Contents.{Contents, fresh}
+use Rattle.run_history.specs.Runs.{Run, run_of, row_in, row_of, followed}
+use Rattle.run_history.proofs.Making.{enumerate_from-append}
+use Rattle.run_history.proofs.RunLaws.{run_of-push}
+use Rattle.history_laws.specs.Fences.{Begins, interval_of, sequencer_of, is_claim, later_claim, last_claim, IsUnderLastClaim, IsFenced, CarryNot, known}
+use Rattle.history_laws.proofs.Lists.{some_same, none_some}
+use Rattle.history_laws.proofs.RowSteps.{row_in-elsewhere}
+
+-- ---- beginnings
+
+-- a history is a beginning of itself
+pub Begins-itself : (history : List Entry) → Begins history history
+Begins-itself history = ([], append-nil history)
+
+-- a beginning of a beginning is a beginning
+pub Begins-trans : (one two three : List Entry) → Begins one two → Begins two three → Begins one three
+Begins-trans one two three first second =
+    (first.0 ++ second.0, sym (append_assoc one first.0 second.0) ∙ ap (λ l. l ++ second.0) first.1 ∙ second.1)
+
+-- a beginning is not longer
+pub Begins-length : (front history : List Entry) → Begins front history → length front ≤ length history
+Begins-length front history begins =
+    let whole : length front + length begins.0 ≡ length history = sym (length-append front begins.0) ∙ ap length begins.1 in omega (arith, whole)
+
+-- a beginning of a history with one more entry is the whole of it, or a beginning of the history
+Begins-push : (front history : List Entry) (entry : Entry) → Begins front (history ++ entry ∷ []) → (front ≡ history ++ entry ∷ []) ⊎ Begins front history
+Begins-push [] history entry begins = inr (history, refl)
+Begins-push (x ∷ xs) [] entry begins =
+    inl (whole xs begins.0 (ap (drop 1) begins.1) ∙ sym (ap (λ l. x ∷ l) (whole_rest xs begins.0 (ap (drop 1) begins.1))) ∙ head)
+  where
+    whole : (xs rest : List Entry) → xs ++ rest ≡ [] → x ∷ xs ≡ x ∷ []
+    whole [] rest e = refl
+    whole (y ∷ ys) rest e = cc
+
+    whole_rest : (xs rest : List Entry) → xs ++ rest ≡ [] → xs ++ rest ≡ []
+    whole_rest xs rest e = e
+
+    head : x ∷ (xs ++ begins.0) ≡ entry ∷ []
+    head = begins.1
+Begins-push (x ∷ xs) (y ∷ ys) entry begins = by_case (Begins-push xs ys entry (begins.0, ap (drop 1) begins.1))
+  where
+    heads : x ≡ y
+    heads = ap (λ (l : List Entry). unwrap_or (Rattle.std.specs.List.slice_get l 0) x) begins.1
+
+    by_case : (xs ≡ ys ++ entry ∷ []) ⊎ Begins xs ys → (x ∷ xs ≡ (y ∷ ys) ++ entry ∷ []) ⊎ Begins (x ∷ xs) (y ∷ ys)
+    by_case (inl same) = inl (λ i. heads i ∷ same i)
+    by_case (inr begins) = inr (begins.0, λ i. heads i ∷ begins.1 i)
+
+-- histories with one more entry that are equal are equal before it, and have one last entry
+push_same : (one two : List Entry) (x y : Entry) → one ++ x ∷ [] ≡ two ++ y ∷ [] → (one ≡ two) × (x ≡ y)
+push_same [] [] x y e = (refl, ap (λ (l : List Entry). unwrap_or (Rattle.std.specs.List.slice_get l 0) x) e)
+push_same [] (b ∷ bs) x y e = absurd (none_left bs (ap (drop 1) e))
+  where
+    none_left : (bs : List Entry) → [] ≡ bs ++ y ∷ [] → ⊥
+    none_left [] e = cc
+    none_left (b ∷ bs) e = cc
+push_same (a ∷ xs) [] x y e = absurd (none_left xs (ap (drop 1) e))
+  where
+    none_left : (xs : List Entry) → xs ++ x ∷ [] ≡ [] → ⊥
+    none_left [] e = cc
+    none_left (a ∷ xs) e = cc
+push_same (a ∷ xs) (b ∷ bs) x y e =
+    let rest = push_same xs bs x y (ap (drop 1) e) in
+    let heads : a ≡ b = ap (λ (l : List Entry). unwrap_or (Rattle.std.specs.List.slice_get l 0) a) e in
+    ((λ i. heads i ∷ rest.0 i), rest.1)
+
+-- ---- claims
+
+-- the last claim among entries that are numbered from n on, after an earlier one
+abbrev claim_from : ℕ → ℕ → Option ℕ → List Entry → Option ℕ
+claim_from interval n last entries = fold (later_claim interval) last (enumerate_from n entries)
+
+-- the last claim of a history that goes on
+last_claim-append : (interval : ℕ) (front rest : List Entry)
+    → last_claim interval (front ++ rest) ≡ claim_from interval (length front) (last_claim interval front) rest
+last_claim-append interval front rest =
+    let zero_more : 0 + length front ≡ length front = omega arith in
+    ap (fold (later_claim interval) None) (enumerate_from-append 0 front rest)
+    ∙ fold-append (later_claim interval) None (enumerate_from 0 front) (enumerate_from (0 + length front) rest)
+    ∙ ap (λ n. claim_from interval n (last_claim interval front) rest) zero_more
+
+-- the last claim, with one more entry
+pub last_claim-push : (interval : ℕ) (history : List Entry) (entry : Entry)
+    → last_claim interval (history ++ entry ∷ []) ≡ cond (is_claim interval entry) (Some (length history)) (last_claim interval history)
+last_claim-push interval history entry = last_claim-append interval history (entry ∷ [])
+
+-- a last claim was there before, or is among the entries
+claim_from-where : (interval n s : ℕ) (last : Option ℕ) (entries : List Entry) → claim_from interval n last entries ≡ Some s → (last ≡ Some s) ⊎ (n ≤ s)
+claim_from-where interval n s last [] found = inl found
+claim_from-where interval n s last (e ∷ es) found = by_case (claim_from-where interval (n + 1) s (cond (is_claim interval e) (Some n) last) es found)
+  where
+    by_test : (b : Bool) → cond b (Some n) last ≡ Some s → (last ≡ Some s) ⊎ (n ≤ s)
+    by_test true same = let is : n ≡ s = some_same n s same in inr (omega (arith, is))
+    by_test false same = inl same
+
+    by_case : (cond (is_claim interval e) (Some n) last ≡ Some s) ⊎ (n + 1 ≤ s) → (last ≡ Some s) ⊎ (n ≤ s)
+    by_case (inl same) = by_test (is_claim interval e) same
+    by_case (inr later) = inr (omega (arith, later))
+
+-- where the last claim of a history is in a beginning, it is the last claim of the beginning
+pub last_claim-front : (interval s : ℕ) (front rest : List Entry) → last_claim interval (front ++ rest) ≡ Some s → s < length front
+    → last_claim interval front ≡ Some s
+last_claim-front interval s front rest last within =
+    by_case (claim_from-where interval (length front) s (last_claim interval front) rest (sym (last_claim-append interval front rest) ∙ last))
+  where
+    by_case : (last_claim interval front ≡ Some s) ⊎ (length front ≤ s) → last_claim interval front ≡ Some s
+    by_case (inl same) = same
+    by_case (inr past) = absurd (omega (arith, past, within))
+
+-- entries without a claim of the interval leave its last claim
+pub last_claim-rest : (interval : ℕ) (front rest : List Entry) → AllByRecursion (λ e. is_claim interval e ≡ false) rest
+    → last_claim interval (front ++ rest) ≡ last_claim interval front
+last_claim-rest interval front rest none = last_claim-append interval front rest ∙ kept (length front) (last_claim interval front) rest none
+  where
+    kept : (n : ℕ) (last : Option ℕ) (entries : List Entry) → AllByRecursion (λ e. is_claim interval e ≡ false) entries → claim_from interval n last entries ≡ last
+    kept n last [] none = refl
+    kept n last (e ∷ es) none = ap (λ b. claim_from interval (n + 1) (cond b (Some n) last) es) none.0 ∙ kept (n + 1) last es none.1
+
+-- ---- fenced histories
+
+-- a beginning of a fenced history is fenced
+pub IsFenced-begins : (shape : Shape) (front history : List Entry) → Begins front history → IsFenced shape history → IsFenced shape front
+IsFenced-begins shape front history begins fenced before entry inside = fenced before entry (Begins-trans (before ++ entry ∷ []) front history inside begins)
+
+-- the empty history is fenced
+pub IsFenced-empty : (shape : Shape) → IsFenced shape []
+IsFenced-empty shape before entry begins = absurd (omega (arith, length-append before (entry ∷ []), Begins-length (before ++ entry ∷ []) [] begins))
+
+-- a fenced history stays fenced with an entry under the last claim of its row's interval
+pub IsFenced-push : (shape : Shape) (history : List Entry) (entry : Entry) → IsFenced shape history → IsUnderLastClaim shape history entry
+    → IsFenced shape (history ++ entry ∷ [])
+IsFenced-push shape history entry fenced under before e begins = by_case (Begins-push (before ++ e ∷ []) history entry begins)
+  where
+    by_case : (before ++ e ∷ [] ≡ history ++ entry ∷ []) ⊎ Begins (before ++ e ∷ []) history → IsUnderLastClaim shape before e
+    by_case (inl same) =
+        let parts = push_same before history e entry same in
+        subst (λ (b : List Entry). IsUnderLastClaim shape b e) (sym parts.0) (subst (IsUnderLastClaim shape history) (sym parts.1) under)
+    by_case (inr inside) = fenced before e inside
+
+-- a claim is on no row
+pub claim-under : (shape : Shape) (history : List Entry) (worker interval : ℕ) → IsUnderLastClaim shape history (Claim worker interval)
+claim-under shape history worker interval name written = absurd (none_some name written)
+
+-- an entry with the last claim's number, on a row of the interval
+pub entry-under : (shape : Shape) (history : List Entry) (entry : Entry) (name : RowName) (interval s : ℕ) → row_written entry ≡ Some name
+    → interval_of shape name ≡ Some interval → last_claim interval history ≡ Some s → sequencer_of entry ≡ Some s → IsUnderLastClaim shape history entry
+entry-under shape history entry name interval s written lies last carries other here =
+    let same : name ≡ other = some_same name other (sym written ∙ here) in
+    ap (λ (n : RowName). option_and_then (λ (i : ℕ). last_claim i history) (interval_of shape n)) (sym same)
+    ∙ ap (option_and_then (λ (i : ℕ). last_claim i history)) lies ∙ last ∙ sym carries
+
+-- an entry on a row of the interval, in a fenced history, carries the last claim's number
+carried : (shape : Shape) (before : List Entry) (entry : Entry) (name : RowName) (interval s : ℕ) → IsUnderLastClaim shape before entry
+    → row_written entry ≡ Some name → interval_of shape name ≡ Some interval → last_claim interval before ≡ Some s → sequencer_of entry ≡ Some s
+carried shape before entry name interval s under written lies last =
+    sym (under name written) ∙ ap (option_and_then (λ (i : ℕ). last_claim i before)) lies ∙ last
+
+-- a row is found by a beginning of a fenced history as by the whole, where the last claim of its interval is in the beginning, and
+-- nothing after it carries the claim's number
+pub rows_as_seen : (shape : Shape) (interval s : ℕ) (name : RowName) (rest front : List Entry) → interval_of shape name ≡ Some interval
+    → IsFenced shape (front ++ rest) → last_claim interval (front ++ rest) ≡ Some s → s < length front → AllByRecursion (λ e. sequencer_of e ≢ Some s) rest
+    → row_in (run_of shape (front ++ rest)) name ≡ row_in (run_of shape front) name
+rows_as_seen shape interval s name [] front lies fenced last within none = ap (λ (h : List Entry). row_in (run_of shape h) name) (append-nil front)
+rows_as_seen shape interval s name (e ∷ es) front lies fenced last within none =
+    let again : (front ++ e ∷ []) ++ es ≡ front ++ e ∷ es = append_assoc front (e ∷ []) es in
+    sym (ap (λ (h : List Entry). row_in (run_of shape h) name) again)
+    ∙ rows_as_seen shape interval s name es (front ++ e ∷ []) lies
+    (subst (IsFenced shape) (sym again) fenced)
+    (ap (last_claim interval) again ∙ last)
+    (omega (arith, within, length-append front (e ∷ [])))
+    none.1
+    ∙ ap (λ (r : Run). row_in r name) (run_of-push shape front e)
+    ∙ row_in-elsewhere shape (run_of shape front) e name
+    (λ written. none.0 (carried shape front e name interval s (fenced front e (es, again)) written lies (last_claim-front interval s front (e ∷ es) last within)))
+
+-- and so is the row, there or fresh
+pub row_as_seen : (shape : Shape) (interval s : ℕ) (name : RowName) (front rest : List Entry) → interval_of shape name ≡ Some interval
+    → IsFenced shape (front ++ rest) → last_claim interval (front ++ rest) ≡ Some s → s < length front → All (λ e. sequencer_of e ≢ Some s) rest
+    → row_of shape (run_of shape (front ++ rest)) name ≡ row_of shape (run_of shape front) name
+row_as_seen shape interval s name front rest lies fenced last within none =
+    ap (λ o. unwrap_or o (fresh (fresh_of shape name.part)))
+    (rows_as_seen shape interval s name rest front lies fenced last within (recursion_from_All (λ e. sequencer_of e ≢ Some s) rest none))
