@@ -4,11 +4,12 @@ use Rattle.std.specs.Prelude.{Option, Some, None, Contains, All, IsTrue, IfSome,
 use Rattle.std.specs.Option.{option_map}
 use Rattle.std.specs.List.{AllByRecursion, list_any, flat_map, enumerate_from, filter_map, cons_option}
 use Rattle.std.specs.Cmp.Lexicographic.{pointwise}
-use Rattle.std.proofs.lemmas.List.{length-map, length-take, get_or-take}
+use Rattle.std.proofs.lemmas.List.{length-map, length-take, get_or-take, get_or_default}
 use Rattle.std.proofs.lemmas.Bool.{ltb-true, lt-ltb, ltb-false, both_ways}
-use Rattle.std.proofs.lemmas.Bool.Decides.{nat_tests}
-use Rattle.std.proofs.lemmas.List.Elements.{All-contains}
-use Rattle.std.proofs.lemmas.Option.{slice_get_within, slice_get_past, slice_get-get_or, unwrap_or-slice_get}
+use Rattle.std.proofs.lemmas.Bool.Decides.{nat_tests, Decides-eqb}
+use Rattle.std.proofs.lemmas.Slice.Eq.{slice_eq-Decides}
+use Rattle.std.proofs.lemmas.List.Elements.{All-get_or, recursion_from_All}
+use Rattle.std.proofs.lemmas.Option.{slice_get_within, get_or_from_slice_get, unwrap_or-slice_get}
 use Rattle.std.specs.Cmp.{first_so, second_so}
 use Rattle.mw_types.specs.declared.kind.Kind.{Kind}
 use Rattle.mw_types.specs.Kinds.{IsKind}
@@ -111,3 +112,110 @@ consumers-fed shape part there =
     (λ (s : Subscription) reads. feeds-reader shape part s.to there reads) (consumers_of shape part)
     (subst (λ n. AllByRecursion (λ (s : Subscription). reads_stream shape s.to (stream_of shape part) ≡ true) (flat_map (subscriptions_to (stream_of shape part)) (enumerate_from n shape.computations)))
     (omega arith) (consumers-from shape (stream_of shape part) 0 shape.computations (λ i c e. let same : i ≡ 0 + i = omega arith in subst (λ n. slice_get shape.computations n ≡ Some c) same e)))
+
+-- ---- a part is fed by parts before it, and reads only where it is a computation
+
+-- texts that a test finds equal are equal
+same_text : (a b : List ℕ) → pointwise nat_eq a b ≡ true → a ≡ b
+same_text a b e = (slice_eq-Decides Decides-eqb a b (pointwise nat_eq a b) refl).0 e
+
+-- and texts that are equal pass it
+text_same : (a b : List ℕ) → a ≡ b → pointwise nat_eq a b ≡ true
+text_same a b e = (slice_eq-Decides Decides-eqb a b (pointwise nat_eq a b) refl).1 e
+
+-- a text that differs from each is found at no place
+differs_at : (x : List ℕ) (xs : List (List ℕ)) (i : ℕ) → list_any (pointwise nat_eq x) xs ≡ false → i < length xs → x ≡ get_or xs i [] → ⊥
+differs_at x [] i none less same = omega (arith, less)
+differs_at x (y ∷ ys) zero none less same =
+    both_ways (pointwise nat_eq x y || list_any (pointwise nat_eq x) ys) none (ap (λ b. b || list_any (pointwise nat_eq x) ys) (text_same x y same))
+differs_at x (y ∷ ys) (suc i) none less same = differs_at x ys i (rest (pointwise nat_eq x y) none) (omega (arith, less)) same
+  where
+    rest : (b : Bool) → (b || list_any (pointwise nat_eq x) ys) ≡ false → list_any (pointwise nat_eq x) ys ≡ false
+    rest true e = cc
+    rest false e = e
+
+-- texts that all differ are equal only at one place
+one_place : (xs : List (List ℕ)) (i j : ℕ) → all_differ xs ≡ true → i < length xs → j < length xs → get_or xs i [] ≡ get_or xs j [] → i ≡ j
+one_place [] i j differ in_i in_j same = absurd (omega (arith, in_i))
+one_place (x ∷ xs) zero zero differ in_i in_j same = refl
+one_place (x ∷ xs) zero (suc j) differ in_i in_j same = absurd (differs_at x xs j (none (list_any (pointwise nat_eq x) xs) differ) (omega (arith, in_j)) same)
+  where
+    none : (b : Bool) → (not b && all_differ xs) ≡ true → b ≡ false
+    none true e = cc
+    none false e = refl
+one_place (x ∷ xs) (suc i) zero differ in_i in_j same = absurd (differs_at x xs i (none (list_any (pointwise nat_eq x) xs) differ) (omega (arith, in_i)) (sym same))
+  where
+    none : (b : Bool) → (not b && all_differ xs) ≡ true → b ≡ false
+    none true e = cc
+    none false e = refl
+one_place (x ∷ xs) (suc i) (suc j) differ in_i in_j same =
+    ap suc (one_place xs i j (second_so (not (list_any (pointwise nat_eq x) xs)) (all_differ xs) differ) (omega (arith, in_i)) (omega (arith, in_j)) same)
+
+-- the numbers of streams that pass are below a bound where each that passes is
+numbers_from-below : (test : List ℕ → Bool) (n bound : ℕ) (xs : List (List ℕ))
+    → ((i : ℕ) → i < length xs → test (get_or xs i []) ≡ true → n + i < bound) → AllByRecursion (λ m. m < bound) (numbers_from test n xs)
+numbers_from-below test n bound [] below = tt
+numbers_from-below test n bound (x ∷ xs) below =
+    let rest : AllByRecursion (λ m. m < bound) (numbers_from test (n + 1) xs) =
+    numbers_from-below test (n + 1) bound xs (λ i less passes. let next = below (suc i) (omega (arith, less)) passes in omega (arith, next)) in
+    elim (test x) as (λ b. test x ≡ b → AllByRecursion (λ m. m < bound) (cons_option (cond b (Some n) None) (numbers_from test (n + 1) xs))) [
+      | true ↦ λ e. (let first = below 0 (omega arith) e in omega (arith, first), rest)
+      | false ↦ λ e. rest
+    ] refl
+
+-- a list of readings that reads a stream has a reading of it
+read_by : (stream : List ℕ) (P : List ℕ → Type 0) (reads : List Reading) → AllByRecursion (λ (r : Reading). P r.stream) reads
+    → list_any (λ (r : Reading). pointwise nat_eq r.stream stream) reads ≡ true → P stream
+read_by stream P [] each reads = absurd (cc)
+read_by stream P (r ∷ rs) each reads =
+    elim (pointwise nat_eq r.stream stream) as (λ b. pointwise nat_eq r.stream stream ≡ b → (b || list_any (λ (r : Reading). pointwise nat_eq r.stream stream) rs) ≡ true → P stream) [
+      | true ↦ λ e f. subst P (same_text r.stream stream e) each.0
+      | false ↦ λ e f. read_by stream P rs each.1 f
+    ] refl reads
+
+-- each part that feeds another has a lesser number
+pub feeds-before : (shape : Shape) (part : ℕ) → IsTopology shape → AllByRecursion (λ f. f < part) (feeds_of shape part)
+feeds-before shape part rules = numbers_from-below (reads_stream shape part) 0 part (streams_of shape) before
+  where
+    differ : all_differ (streams_of shape) ≡ true
+    differ = IsTrue-true (all_differ (streams_of shape)) rules.streams_differ
+      where
+        IsTrue-true : (b : Bool) → IsTrue b → b ≡ true
+        IsTrue-true true is = refl
+        IsTrue-true false is = absurd (cc)
+
+    before : (i : ℕ) → i < length (streams_of shape) → reads_stream shape part (get_or (streams_of shape) i []) ≡ true → 0 + i < part
+    before i less reads =
+        let has = read_by (get_or (streams_of shape) i []) (Contains (take part (streams_of shape))) (reads_of shape part)
+        (recursion_from_All (λ (r : Reading). Contains (take part (streams_of shape)) r.stream) (reads_of shape part) (rules.above part)) reads in
+        let short : has.0 < length (take part (streams_of shape)) = has.1 in
+        let len = length-take part (streams_of shape) in
+        let early : has.0 < part = omega (arith, short, len) in
+        let there : has.0 < length (streams_of shape) = omega (arith, short, len) in
+        let at : get_or (streams_of shape) has.0 [] ≡ get_or (streams_of shape) i [] =
+        sym (get_or-take part (streams_of shape) has.0 [] early)
+        ∙ get_or_default (take part (streams_of shape)) has.0 [] (get_or (streams_of shape) i []) short ∙ has.2 in
+        let one : has.0 ≡ i = one_place (streams_of shape) has.0 i differ there less at in omega (arith, early, one)
+
+-- the kind of a part is in range
+pub kind-ranged : (shape : Shape) (part : ℕ) (kind : Kind) → IsTopology shape → kind_of shape part ≡ Some kind → IsKind kind
+kind-ranged shape part kind rules e = elim (nat_lt part (injectors_of shape)) as (λ b. nat_lt part (injectors_of shape) ≡ b → IsKind kind) [
+  | true ↦ λ less. absurd (none_some kind (sym (ap (λ b. option_map (λ (c : ComputationShape). c.kind) (cond b None (slice_get shape.computations (part - injectors_of shape)))) less) ∙ e))
+  | false ↦ λ less. by_computation (slice_get shape.computations (part - injectors_of shape)) refl
+      (sym (ap (λ b. option_map (λ (c : ComputationShape). c.kind) (cond b None (slice_get shape.computations (part - injectors_of shape)))) less) ∙ e)
+] refl
+  where
+    by_computation : (o : Option ComputationShape) → slice_get shape.computations (part - injectors_of shape) ≡ o
+        → option_map (λ (c : ComputationShape). c.kind) o ≡ Some kind → IsKind kind
+    by_computation None at e = absurd (none_some kind e)
+    by_computation (Some c) at e =
+        let n = part - injectors_of shape in
+        let within = slice_get_within shape.computations n c at in
+        subst IsKind (some_same c.kind kind e)
+        (subst (λ (d : ComputationShape). IsKind d.kind) (get_or_from_slice_get shape.computations n c c at)
+        (All-get_or (λ (d : ComputationShape). IsKind d.kind) shape.computations n c within rules.kinds))
+
+-- an injector is of no kind
+pub injector-no_kind : (shape : Shape) (part : ℕ) (kind : Kind) → nat_lt part (injectors_of shape) ≡ true → kind_of shape part ≡ Some kind → ⊥
+injector-no_kind shape part kind less e =
+    none_some kind (sym (ap (λ b. option_map (λ (c : ComputationShape). c.kind) (cond b None (slice_get shape.computations (part - injectors_of shape)))) less) ∙ e)

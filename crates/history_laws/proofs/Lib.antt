@@ -9,3 +9,4 @@ pub mod HandlerBounds
 pub mod PendingLaws
 pub mod FinishedLaws
 pub mod FenceLaws
+pub mod StampLaws
