@@ -10,3 +10,4 @@ pub mod PendingLaws
 pub mod FinishedLaws
 pub mod FenceLaws
 pub mod StampLaws
+pub mod WorkLaws
