@@ -11,3 +11,4 @@ pub mod FinishedLaws
 pub mod FenceLaws
 pub mod StampLaws
 pub mod WorkLaws
+pub mod LowLaws

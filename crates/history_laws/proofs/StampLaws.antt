@@ -190,7 +190,7 @@ timers-in_time case run (Ack seq name id) sent row runs in_time may old = old
 timers-in_time case run (Purge seq name floor) sent row runs in_time may old = old
 
 -- one more entry keeps all in time
-AreInTime-followed : (case : CaseShape) (run : Run) (entry : Entry) → IsRunnable case → AreInTime run → MayFollow case run entry
+pub AreInTime-followed : (case : CaseShape) (run : Run) (entry : Entry) → IsRunnable case → AreInTime run → MayFollow case run entry
     → AreInTime (followed case.topology run entry)
 AreInTime-followed case run entry runs in_time may =
     let sent = sent-in_time case run entry runs in_time may in record {
