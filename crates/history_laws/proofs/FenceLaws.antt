@@ -16,7 +16,7 @@ use Rattle.row_parts.specs.Contents.{Contents, fresh}
 use Rattle.run_history.specs.Runs.{Run, run_of, row_in, row_of, followed}
 use Rattle.run_history.proofs.Making.{enumerate_from-append}
 use Rattle.run_history.proofs.RunLaws.{run_of-push}
-use Rattle.history_laws.specs.Fences.{Begins, interval_of, sequencer_of, is_claim, later_claim, last_claim, IsUnderLastClaim, IsFenced, CarryNot, known}
+use Rattle.history_laws.specs.Fences.{Begins, interval_of, sequencer_of, is_claim, later_claim, last_claim, IsUnderLastClaim, IsFenced, HasSeen, known}
 use Rattle.history_laws.proofs.Lists.{some_same, none_some}
 use Rattle.history_laws.proofs.RowSteps.{row_in-elsewhere}
 
@@ -187,10 +187,15 @@ rows_as_seen shape interval s name (e ∷ es) front lies fenced last within none
     ∙ row_in-elsewhere shape (run_of shape front) e name
     (λ written. none.0 (carried shape front e name interval s (fenced front e (es, again)) written lies (last_claim-front interval s front (e ∷ es) last within)))
 
+-- a row of an interval is found by a beginning that has seen the interval's last claim as by the whole
+pub row_in-seen : (shape : Shape) (interval seq : ℕ) (front rest : List Entry) → IsFenced shape (front ++ rest) → HasSeen interval seq front rest
+    → (name : RowName) → interval_of shape name ≡ Some interval → row_in (run_of shape (front ++ rest)) name ≡ row_in (run_of shape front) name
+row_in-seen shape interval seq front rest fenced seen name lies =
+    rows_as_seen shape interval seq name rest front lies fenced seen.last seen.claim
+    (recursion_from_All (λ (e : Entry). sequencer_of e ≢ Some seq) rest seen.written)
+
 -- and so is the row, there or fresh
-pub row_as_seen : (shape : Shape) (interval s : ℕ) (name : RowName) (front rest : List Entry) → interval_of shape name ≡ Some interval
-    → IsFenced shape (front ++ rest) → last_claim interval (front ++ rest) ≡ Some s → s < length front → All (λ e. sequencer_of e ≢ Some s) rest
-    → row_of shape (run_of shape (front ++ rest)) name ≡ row_of shape (run_of shape front) name
-row_as_seen shape interval s name front rest lies fenced last within none =
-    ap (λ o. unwrap_or o (fresh (fresh_of shape name.part)))
-    (rows_as_seen shape interval s name rest front lies fenced last within (recursion_from_All (λ e. sequencer_of e ≢ Some s) rest none))
+pub row_of-seen : (shape : Shape) (interval seq : ℕ) (front rest : List Entry) → IsFenced shape (front ++ rest) → HasSeen interval seq front rest
+    → (name : RowName) → interval_of shape name ≡ Some interval → row_of shape (run_of shape (front ++ rest)) name ≡ row_of shape (run_of shape front) name
+row_of-seen shape interval seq front rest fenced seen name lies =
+    ap (λ o. unwrap_or o (fresh (fresh_of shape name.part))) (row_in-seen shape interval seq front rest fenced seen name lies)

@@ -1,7 +1,7 @@
 -- Which histories are fenced: each write is made under the last claim of its row's interval.
 -- Akidau et al., VLDB 2013, section 6.2, where a sequencer is checked at each write, and section 7.1 for the
 -- intervals. Own: a sequencer is the commit number of a claim, and what is known under a claim that was overtaken.
-use Rattle.std.specs.Prelude.{◌≡◌, ◌≢◌, ℕ, ◌+◌, ◌==◌, not, if◌then◌else◌, Bool, false, List, [], ◌∷◌, ◌++◌, take, drop, fold, All, Option, Some, None}
+use Rattle.std.specs.Prelude.{◌≡◌, ◌≢◌, ℕ, ◌+◌, ◌<◌, ◌==◌, not, if◌then◌else◌, Bool, false, List, [], ◌∷◌, ◌++◌, length, take, drop, fold, All, Option, Some, None}
 use Rattle.std.specs.Option.{option_and_then}
 use Rattle.std.specs.List.{enumerate_from, position_from, take_while}
 use Rattle.mw_types.specs.declared.identity.RowName.{RowName}
@@ -66,3 +66,11 @@ CarryNot seq entries = All (λ (entry : Entry). sequencer_of entry ≢ Some seq)
 abbrev pub known : ℕ → ℕ → List Entry → List Entry
 known interval seq history =
     take (seq + 1) history ++ take_while (λ (entry : Entry). not (is_claim interval entry)) (drop (seq + 1) history)
+
+-- a beginning of a history has seen the last claim of an interval, and all that was written under it
+pub record HasSeen (interval seq : ℕ) (front rest : List Entry) : Type 0 where
+  -- the claim is the last of its interval in the whole history, and in the beginning
+  pub last : last_claim interval (front ++ rest) ≡ Some seq
+  pub claim : seq < length front
+  -- nothing after the beginning was written under the claim
+  pub written : CarryNot seq rest

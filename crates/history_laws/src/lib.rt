@@ -11,6 +11,12 @@
 
 mod floors;
 mod ids;
+mod rows;
+mod stamps;
+mod watermarks;
 
 pub use floors::floor_never_falls;
 pub use ids::{ids_ascend, ids_tell_what_waits};
+pub use rows::{rows_are_as_seen, rows_change_by_their_entries};
+pub use stamps::stamps_are_in_time;
+pub use watermarks::low_watermark_never_falls;
