@@ -164,7 +164,7 @@ entry-under shape history entry name interval s written lies last carries other 
     ∙ ap (option_and_then (λ (i : ℕ). last_claim i history)) lies ∙ last ∙ sym carries
 
 -- an entry on a row of the interval, in a fenced history, carries the last claim's number
-carried : (shape : Shape) (before : List Entry) (entry : Entry) (name : RowName) (interval s : ℕ) → IsUnderLastClaim shape before entry
+pub carried : (shape : Shape) (before : List Entry) (entry : Entry) (name : RowName) (interval s : ℕ) → IsUnderLastClaim shape before entry
     → row_written entry ≡ Some name → interval_of shape name ≡ Some interval → last_claim interval before ≡ Some s → sequencer_of entry ≡ Some s
 carried shape before entry name interval s under written lies last =
     sym (under name written) ∙ ap (option_and_then (λ (i : ℕ). last_claim i before)) lies ∙ last

@@ -12,3 +12,5 @@ pub mod FenceLaws
 pub mod StampLaws
 pub mod WorkLaws
 pub mod LowLaws
+pub mod SentLaws
+pub mod SeenLaws

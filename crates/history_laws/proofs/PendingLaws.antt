@@ -124,7 +124,7 @@ IsSentBy-followed shape run entry d by spared = record {
 }
 
 -- a delivery that an entry made is found behind what was pending
-found_behind : (n : ℕ) (pending sent : List Delivery) (d : Delivery) → AllByRecursion (λ (e : Delivery). e.id.commit < n) pending → d.id.commit ≡ n
+pub found_behind : (n : ℕ) (pending sent : List Delivery) (d : Delivery) → AllByRecursion (λ (e : Delivery). e.id.commit < n) pending → d.id.commit ≡ n
     → found_delivery d.id sent ≡ Some d → found_delivery d.id (pending ++ sent) ≡ Some d
 found_behind n pending sent d below is found =
     find-behind (λ (e : Delivery). same_id e.id d.id) pending sent

@@ -74,3 +74,10 @@ pub record HasSeen (interval seq : ℕ) (front rest : List Entry) : Type 0 where
   pub claim : seq < length front
   -- nothing after the beginning was written under the claim
   pub written : CarryNot seq rest
+
+-- an entry is a write under the claim of an interval that has this number: on a row of the interval, with the number
+pub record IsWriteUnder (shape : Shape) (interval seq : ℕ) (entry : Entry) : Type 0 where
+  pub name : RowName
+  pub on_row : row_written entry ≡ Some name
+  pub of_interval : interval_of shape name ≡ Some interval
+  pub carries : sequencer_of entry ≡ Some seq
