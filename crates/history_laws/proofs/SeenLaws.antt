@@ -20,19 +20,20 @@ use Rattle.run_history.specs.Cases.{CaseShape}
 use Rattle.run_history.specs.Made.{found_delivery, row_written, deliveries_of}
 use Rattle.run_history.specs.Runs.{Run, run_of, row_in, row_of, followed}
 use Rattle.run_history.specs.Watermarks.{cursor_in, cursor_of, low_watermark}
-use Rattle.run_history.specs.Legal.{MayFollow, IsLegal, floor_of}
+use Rattle.run_history.specs.Legal.{MayFollow, MayClaim, IsLegal, floor_of}
 use Rattle.run_history.proofs.RunLaws.{IsLegal-push}
 use Rattle.history_laws.specs.Fences.{interval_of, sequencer_of, last_claim, IsFenced, HasSeen, IsWriteUnder, CarryNot}
 use Rattle.history_laws.specs.Finished.{handles, is_handled}
 use Rattle.history_laws.specs.Ids.{is_left}
 use Rattle.history_laws.specs.Inputs.{IsRunnable}
+use Rattle.history_laws.specs.Writes.{IsLawful, IsSeenWrite}
 use Rattle.history_laws.proofs.Lists.{none_some, some_same, each-weaker, each-both, find-each, find-kept, find-more, find-passes, filter-passes, find-none}
 use Rattle.history_laws.proofs.Along.{run_of-append, AreLegal-apart}
 use Rattle.history_laws.proofs.FloorLaws.{floor_of-rises}
 use Rattle.history_laws.proofs.IdLaws.{same_id-true, AreIds, WasMade, legal-ids, waits_as_made}
 use Rattle.history_laws.proofs.FinishedLaws.{is_handled-more, handled-waits_not}
 use Rattle.history_laws.proofs.PendingLaws.{was_some, kind-there}
-use Rattle.history_laws.proofs.FenceLaws.{last_claim-front, carried, row_in-seen, row_of-seen, IsFenced-push, entry-under}
+use Rattle.history_laws.proofs.FenceLaws.{last_claim-front, carried, row_in-seen, row_of-seen, IsFenced-push, IsFenced-begins, IsFenced-empty, claim-under, entry-under}
 use Rattle.history_laws.proofs.LowLaws.{low_watermark-rises}
 use Rattle.history_laws.proofs.SentLaws.{pending-handled}
 
@@ -213,6 +214,33 @@ pub IsFenced-seen : (shape : Shape) (front rest : List Entry) (interval seq : �
     → IsFenced shape (front ++ rest) → HasSeen interval seq front rest → IsWriteUnder shape interval seq entry → IsFenced shape ((front ++ rest) ++ entry ∷ [])
 IsFenced-seen shape front rest interval seq entry fenced seen under =
     IsFenced-push shape (front ++ rest) entry fenced (entry-under shape (front ++ rest) entry under.name interval seq under.on_row under.of_interval seen.last under.carries)
+
+-- a write that was worked out on a beginning keeps the whole lawful
+pub IsLawful-seen : (case : CaseShape) (front rest : List Entry) (interval seq : ℕ) (entry : Entry) → IsRunnable case
+    → IsSeenWrite case front rest interval seq entry → IsLawful case ((front ++ rest) ++ entry ∷ [])
+IsLawful-seen case front rest interval seq entry runs write = record {
+  legal = IsLegal-seen case front rest interval seq entry runs write.history.legal write.history.fenced write.seen write.under write.may;
+  fenced = IsFenced-seen case.topology front rest interval seq entry write.history.fenced write.seen write.under;
+}
+
+-- and so does a claim
+pub IsLawful-claim : (case : CaseShape) (history : List Entry) (worker interval : ℕ) → IsLawful case history → MayClaim case worker interval
+    → IsLawful case (history ++ Claim worker interval ∷ [])
+IsLawful-claim case history worker interval lawful may = record {
+  legal = IsLegal-push case history (Claim worker interval) lawful.legal may;
+  fenced = IsFenced-push case.topology history (Claim worker interval) lawful.fenced (claim-under case.topology history worker interval);
+}
+
+-- before any entry a history is lawful
+pub IsLawful-empty : (case : CaseShape) → IsLawful case []
+IsLawful-empty case = record { legal = tt; fenced = IsFenced-empty case.topology }
+
+-- a beginning of a lawful history is lawful
+pub IsLawful-front : (case : CaseShape) (front rest : List Entry) → IsLawful case (front ++ rest) → IsLawful case front
+IsLawful-front case front rest lawful = record {
+  legal = (AreLegal-apart case front rest Rattle.run_history.specs.Runs.empty_run lawful.legal).0;
+  fenced = IsFenced-begins case.topology front (front ++ rest) (rest, refl) lawful.fenced;
+}
 
 -- the history up to a number has seen the last claim, where nothing from that number on carries the claim's number
 pub HasSeen-take : (interval seq n : ℕ) (history : List Entry) → last_claim interval history ≡ Some seq → seq < n → n ≤ length history

@@ -1,4 +1,5 @@
 pub mod Fences
+pub mod Writes
 pub mod Finished
 pub mod Inputs
 pub mod Ids

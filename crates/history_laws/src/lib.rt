@@ -14,9 +14,11 @@ mod ids;
 mod rows;
 mod stamps;
 mod watermarks;
+mod writes;
 
 pub use floors::floor_never_falls;
 pub use ids::{ids_ascend, ids_tell_what_waits};
 pub use rows::{rows_are_as_seen, rows_change_by_their_entries};
 pub use stamps::stamps_are_in_time;
 pub use watermarks::low_watermark_never_falls;
+pub use writes::{claims_are_lawful, seen_writes_are_lawful};
