@@ -42,3 +42,12 @@ pub along_any : (shape : Shape) (Holds : Run → Type 0)
     → (entries : List Entry) (run : Run) → Holds run → Holds (fold (followed shape) run entries)
 along_any shape Holds step [] run holds = holds
 along_any shape Holds step (e ∷ es) run holds = along_any shape Holds step es (followed shape run e) (step run e holds)
+
+-- what holds of each history and its run, legal or not, by what one entry does
+pub along_all : (shape : Shape) (Holds : List Entry → Run → Type 0)
+    → ((done : List Entry) (run : Run) (entry : Entry) → Holds done run → Holds (done ++ entry ∷ []) (followed shape run entry))
+    → (entries done : List Entry) (run : Run) → Holds done run → Holds (done ++ entries) (fold (followed shape) run entries)
+along_all shape Holds step [] done run holds = subst (λ (h : List Entry). Holds h run) (sym (append-nil done)) holds
+along_all shape Holds step (e ∷ es) done run holds =
+    subst (λ (h : List Entry). Holds h (fold (followed shape) (followed shape run e) es)) (append_assoc done (e ∷ []) es)
+    (along_all shape Holds step es (done ++ e ∷ []) (followed shape run e) (step done run e holds))

@@ -20,12 +20,14 @@ use Rattle.row_parts.specs.Contents.{Contents, same_id, with_id, ids_from, is_fi
 use Rattle.run_history.specs.Cases.{CaseShape}
 use Rattle.run_history.specs.Made.{found_delivery, row_written, deliveries_of}
 use Rattle.run_history.specs.Runs.{Run, run_of, row_of, followed, changed, noted, empty_run}
-use Rattle.run_history.specs.Legal.{MayFollow, IsLegal}
+use Rattle.run_history.specs.Legal.{MayFollow, IsLegal, floor_of}
 use Rattle.history_laws.specs.Finished.{handles, is_handled}
 use Rattle.history_laws.specs.Ids.{is_left}
-use Rattle.history_laws.proofs.Lists.{none_some, some_same, each-append, each-all, each-weaker, each-both, find-none, find-kept, find-passes, filter-passes}
+use Rattle.history_laws.proofs.Lists.{none_some, some_same, each-append, each-all, each-weaker, each-both, find-none, find-kept, find-passes, filter-passes, each-filter, find-each}
 use Rattle.history_laws.proofs.Along.{along_history}
-use Rattle.history_laws.proofs.IdLaws.{same_id-true, same_id-itself, AreIds, AreIds-followed, WasMade, legal-ids}
+use Rattle.history_laws.proofs.IdLaws.{same_id-true, same_id-itself, AreIds, WasMade, legal-ids, is_handled-push}
+use Rattle.history_laws.proofs.FloorLaws.{floor_of-followed}
+use Rattle.history_laws.proofs.PendingLaws.{waiting-above}
 use Rattle.history_laws.proofs.RowSteps.{row_of-step, row_of-here, made_row, both_Equal}
 
 -- one of two tests passes
@@ -223,3 +225,121 @@ handled-waits_not case history id legal handled =
 -- a record that is handled in a history is handled in each longer one
 pub is_handled-more : (id : RecordId) (front rest : List Entry) → is_handled id front ≡ true → is_handled id (front ++ rest) ≡ true
 is_handled-more id front rest handled = list_any-append (handles id) front rest ∙ ap (λ b. b || list_any (handles id) rest) handled
+
+-- ---- what is finished is handled
+
+-- no row's floor is above the floor of the run, and each id that a row has seen is handled
+pub record AreFloorsKept (case : CaseShape) (history : List Entry) (run : Run) : Type 0 where
+  pub floors : (name : RowName) → (row_of case.topology run name).floor ≤ floor_of run
+  pub seen : (name : RowName) → AllByRecursion (λ (id : RecordId). is_handled id history ≡ true) (row_of case.topology run name).seen
+
+-- what holds of each id and of one more holds of each with that one
+with_id-each : (P : RecordId → Type 0) (new : RecordId) (ids : List RecordId) → P new → AllByRecursion P ids → AllByRecursion P (with_id new ids)
+with_id-each P new [] here each = (here, tt)
+with_id-each P new (x ∷ xs) here each =
+    elim (id_cmp new x) as (λ r. AllByRecursion P (match_ordering r (new ∷ x ∷ xs) (x ∷ xs) (x ∷ with_id new xs))) [
+      | Less ↦ (here, each)
+      | Equal ↦ each
+      | Greater ↦ (each.0, with_id-each P new xs here each.1)
+    ]
+
+-- the ids that an entry leaves in its row are handled
+changed-seen : (history : List Entry) (entry : Entry) (sent : List Delivery) (row : Contents) → AllByRecursion (λ (id : RecordId). is_handled id history ≡ true) row.seen
+    → AllByRecursion (λ (id : RecordId). is_handled id (history ++ entry ∷ []) ≡ true) (changed entry sent row).seen
+changed-seen history entry sent row each = by_kind entry
+  where
+    old : (e : Entry) → AllByRecursion (λ (id : RecordId). is_handled id (history ++ e ∷ []) ≡ true) row.seen
+    old e = each-weaker (λ (id : RecordId). is_handled id history ≡ true) (λ (id : RecordId). is_handled id (history ++ e ∷ []) ≡ true)
+        (λ id handled. is_handled-more id history (e ∷ []) handled) row.seen each
+
+    by_kind : (e : Entry) → AllByRecursion (λ (id : RecordId). is_handled id (history ++ e ∷ []) ≡ true) (changed e sent row).seen
+    by_kind (Claim worker interval) = old (Claim worker interval)
+    by_kind (Inject seq part line item) = old (Inject seq part line item)
+    by_kind (Handle seq name id effects) = elim (nat_lt id.commit row.floor) as (λ b. AllByRecursion (λ (i : RecordId). is_handled i (history ++ Handle seq name id effects ∷ []) ≡ true)
+        (cond b row.seen (with_id id row.seen))) [
+          | true ↦ old (Handle seq name id effects)
+          | false ↦ with_id-each (λ (i : RecordId). is_handled i (history ++ Handle seq name id effects ∷ []) ≡ true) id row.seen
+              (is_handled-push id history (Handle seq name id effects) ∙ ap (λ b. is_handled id history || (b || false)) (same_id-itself id) ∙ or_right (is_handled id history))
+              (old (Handle seq name id effects))
+        ]
+    by_kind (Fire seq name timer mark effects) = old (Fire seq name timer mark effects)
+    by_kind (Ack seq name id) = old (Ack seq name id)
+    by_kind (Purge seq name floor) = each-filter (λ (id : RecordId). is_handled id (history ++ Purge seq name floor ∷ []) ≡ true) (λ (id : RecordId). nat_le floor id.commit) row.seen (old (Purge seq name floor))
+
+-- the floor that an entry leaves in its row is not above that of the run
+changed-floor : (case : CaseShape) (run : Run) (entry : Entry) (sent : List Delivery) (row : Contents) → MayFollow case run entry → row.floor ≤ floor_of run
+    → (changed entry sent row).floor ≤ floor_of run
+changed-floor case run (Claim worker interval) sent row may old = old
+changed-floor case run (Inject seq part line item) sent row may old = old
+changed-floor case run (Handle seq name id effects) sent row may old = old
+changed-floor case run (Fire seq name timer mark effects) sent row may old = old
+changed-floor case run (Ack seq name id) sent row may old = old
+changed-floor case run (Purge seq name floor) sent row may old = may.finished
+
+-- one more entry keeps floors below that of the run
+AreFloorsKept-followed : (case : CaseShape) (history : List Entry) (run : Run) (entry : Entry) → AreFloorsKept case history run → MayFollow case run entry
+    → AreFloorsKept case (history ++ entry ∷ []) (followed case.topology run entry)
+AreFloorsKept-followed case history run entry kept may = record {
+  floors = λ name.
+      let rises : floor_of run ≤ floor_of (followed case.topology run entry) = floor_of-followed case.topology run entry in
+      let now = row_of-step case.topology run entry name (λ (c : Contents). c.floor ≤ floor_of run) (kept.floors name)
+      (λ written. changed-floor case run entry (deliveries_of case.topology run.made run.next entry) (row_of case.topology run name) may (kept.floors name)) in
+      omega (arith, rises, now);
+  seen = λ name. row_of-step case.topology run entry name (λ (c : Contents). AllByRecursion (λ (id : RecordId). is_handled id (history ++ entry ∷ []) ≡ true) c.seen)
+      (each-weaker (λ (id : RecordId). is_handled id history ≡ true) (λ (id : RecordId). is_handled id (history ++ entry ∷ []) ≡ true)
+      (λ id handled. is_handled-more id history (entry ∷ []) handled) (row_of case.topology run name).seen (kept.seen name))
+      (λ written. changed-seen history entry (deliveries_of case.topology run.made run.next entry) (row_of case.topology run name) (kept.seen name));
+}
+
+-- after each legal history no row's floor is above that of the run, and what a row has seen is handled
+pub legal-floors : (case : CaseShape) (history : List Entry) → IsLegal case history → AreFloorsKept case history (run_of case.topology history)
+legal-floors case = along_history case (AreFloorsKept case) (λ done run entry kept may. AreFloorsKept-followed case done run entry kept may)
+    (record { floors = λ name. omega arith; seen = λ name. tt })
+
+-- an id among those of which each has a fact has it
+seen-each : (P : RecordId → Type 0) (id : RecordId) (ids : List RecordId) → AllByRecursion P ids → list_any (same_id id) ids ≡ true → P id
+seen-each P id [] each has = absurd (cc)
+seen-each P id (x ∷ xs) each has =
+    elim (same_id id x) as (λ b. same_id id x ≡ b → (b || list_any (same_id id) xs) ≡ true → P id) [
+      | true ↦ λ e h. subst P (sym (same_id-true id x e)) each.0
+      | false ↦ λ e h. seen-each P id xs each.1 h
+    ] refl has
+
+-- a delivery that was made is finished in the row to which it goes exactly where it is handled
+pub finished-handled : (case : CaseShape) (history : List Entry) (d : Delivery) → IsLegal case history
+    → found_delivery d.id (run_of case.topology history).made ≡ Some d
+    → is_finished d.id (row_of case.topology (run_of case.topology history) d.to) ≡ is_handled d.id history
+finished-handled case history d legal made = elim (is_handled d.id history) as (λ b. is_handled d.id history ≡ b → is_finished d.id row ≡ b) [
+  | true ↦ λ e. finished_where_handled case.topology run d history made ids.handled (legal-done case history legal) e
+  | false ↦ λ e. by_test (is_finished d.id row) refl e
+] refl
+  where
+    run : Run
+    run = run_of case.topology history
+
+    row : Contents
+    row = row_of case.topology run d.to
+
+    ids : AreIds history run
+    ids = legal-ids case history legal
+
+    kept : AreFloorsKept case history run
+    kept = legal-floors case history legal
+
+    waits : is_handled d.id history ≡ false → found_delivery d.id run.unhandled ≡ Some d
+    waits e = subst (λ (l : List Delivery). found_delivery d.id l ≡ Some d) (sym ids.waiting)
+        (find-kept (λ (e : Delivery). same_id e.id d.id) (is_left history) run.made d made (ap not e))
+
+    above : is_handled d.id history ≡ false → floor_of run ≤ d.id.commit
+    above e = waiting-above case history d legal (waits e)
+
+    by_seen : (b : Bool) → nat_lt d.id.commit row.floor ≡ b → (b || list_any (same_id d.id) row.seen) ≡ true → is_handled d.id history ≡ false → ⊥
+    by_seen true below done e =
+        let less = ltb-true d.id.commit row.floor below in
+        let under = kept.floors d.to in
+        let over = above e in absurd (omega (arith, less, under, over))
+    by_seen false below done e = both_ways (is_handled d.id history) e (seen-each (λ (id : RecordId). is_handled id history ≡ true) d.id row.seen (kept.seen d.to) done)
+
+    by_test : (b : Bool) → is_finished d.id row ≡ b → is_handled d.id history ≡ false → b ≡ false
+    by_test true done e = absurd (by_seen (nat_lt d.id.commit row.floor) refl done e)
+    by_test false done e = refl

@@ -110,6 +110,10 @@ IsFloorBelow-followed shape run entry x below = record {
         (changed-from x run.next entry sent (row_of shape run name) below.next (each_of_commit shape run.made run.next entry)
         (found_of_each (λ (r : Contents). CommitsFrom x r.pending) (is_at (row_cmp name)) run.rows (fresh (fresh_of shape name.part)) below.pending tt))
 
+-- one more entry does not lower the floor
+pub floor_of-followed : (shape : Shape) (run : Run) (entry : Entry) → floor_of run ≤ floor_of (followed shape run entry)
+floor_of-followed shape run entry = floor_of-bound (floor_of run) (followed shape run entry) (IsFloorBelow-followed shape run entry (floor_of run) (floor_of-below run))
+
 -- more entries keep each bound of the floor
 IsFloorBelow-fold : (shape : Shape) (entries : List Entry) (run : Run) (x : ℕ) → IsFloorBelow x run → IsFloorBelow x (fold (followed shape) run entries)
 IsFloorBelow-fold shape [] run x below = below
@@ -121,3 +125,8 @@ floor_of-rises shape front rest =
     subst (λ (run : Run). floor_of (run_of shape front) ≤ floor_of run) (sym (fold-append (followed shape) empty_run front rest))
     (floor_of-bound (floor_of (run_of shape front)) _
     (IsFloorBelow-fold shape rest (run_of shape front) (floor_of (run_of shape front)) (floor_of-below (run_of shape front))))
+
+-- what is pending in the row of a name is at or above the floor
+pub row_of-above : (shape : Shape) (run : Run) (name : RowName) → CommitsFrom (floor_of run) (row_of shape run name).pending
+row_of-above shape run name = found_of_each (λ (r : Contents). CommitsFrom (floor_of run) r.pending) (is_at (row_cmp name)) run.rows (fresh (fresh_of shape name.part))
+    (floor_of-below run).pending tt

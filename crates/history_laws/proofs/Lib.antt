@@ -13,4 +13,5 @@ pub mod StampLaws
 pub mod WorkLaws
 pub mod LowLaws
 pub mod SentLaws
+pub mod SenderLaws
 pub mod SeenLaws

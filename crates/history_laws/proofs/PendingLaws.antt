@@ -21,10 +21,11 @@ use Rattle.run_history.specs.Runs.{Run, run_of, row_of, followed, changed, still
 use Rattle.run_history.specs.Legal.{MayFollow, IsLegal, record_outcome, timer_outcome, floor_of}
 use Rattle.history_laws.specs.Finished.{handles}
 use Rattle.history_laws.specs.Ids.{IsSentBy}
-use Rattle.history_laws.proofs.Lists.{none_some, some_same, each-append, each-all, each-weaker, each-filter, each-both, find-none, find-none_each, find-kept, find-more, find-behind}
+use Rattle.history_laws.proofs.Lists.{none_some, some_same, each-append, each-all, each-weaker, each-filter, each-both, find-none, find-none_each, find-kept, find-more, find-behind, find-each}
 use Rattle.history_laws.proofs.Along.{along_history}
 use Rattle.history_laws.proofs.Made.{each_of_commit, deliveries_made-each}
 use Rattle.history_laws.proofs.FeedLaws.{consumers-fed}
+use Rattle.history_laws.proofs.FloorLaws.{row_of-above}
 use Rattle.history_laws.proofs.IdLaws.{same_id-true, each_found_delivery, made-ascend, still_unhandled-filter}
 use Rattle.history_laws.proofs.RowSteps.{row_of-step, row_of-here, made_row, ArePendingInOrder, ArePendingInOrder-followed, row_of-in_order}
 
@@ -194,3 +195,12 @@ AreSent-followed case run entry sent may = record {
 pub legal-sent : (case : CaseShape) (history : List Entry) → IsLegal case history → AreSent case.topology (run_of case.topology history)
 legal-sent case = along_history case (λ done run. AreSent case.topology run) (λ done run entry sent may. AreSent-followed case run entry sent may)
     (record { order = record { each = tt }; each = tt })
+
+-- a delivery that waits has a number at or above the floor
+pub waiting-above : (case : CaseShape) (history : List Entry) (d : Delivery) → IsLegal case history
+    → found_delivery d.id (run_of case.topology history).unhandled ≡ Some d → floor_of (run_of case.topology history) ≤ d.id.commit
+waiting-above case history d legal waits =
+    let run = run_of case.topology history in
+    let by = find-each (IsSentBy case.topology run) (λ (e : Delivery). same_id e.id d.id) run.unhandled d (legal-sent case history legal).each waits in
+    find-each (λ (e : Delivery). floor_of run ≤ e.id.commit) (λ (e : Delivery). same_id e.id d.id) (row_of case.topology run by.sender).pending d
+    (row_of-above case.topology run by.sender) by.pending

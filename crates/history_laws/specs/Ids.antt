@@ -1,11 +1,11 @@
 -- What the ids of a history tell. Own.
-use Rattle.std.specs.Prelude.{◌≡◌, ℕ, Bool, not, List, filter, Some, Contains, IsTrue, IsSome}
+use Rattle.std.specs.Prelude.{◌≡◌, ℕ, Bool, not, List, filter, slice_get, Some, Contains, IsTrue, IsSome}
 use Rattle.mw_types.specs.declared.identity.RecordId.{RecordId}
 use Rattle.mw_types.specs.declared.identity.RowName.{RowName}
 use Rattle.mw_types.specs.declared.delivery.Delivery.{Delivery}
 use Rattle.mw_types.specs.declared.entry.Entry.{Entry}
 use Rattle.topology.specs.Shapes.{Shape, feeds_of}
-use Rattle.run_history.specs.Made.{found_delivery}
+use Rattle.run_history.specs.Made.{found_delivery, row_written}
 use Rattle.run_history.specs.Runs.{Run, row_of}
 use Rattle.history_laws.specs.Finished.{is_handled}
 
@@ -23,3 +23,9 @@ pub record IsSentBy (shape : Shape) (run : Run) (d : Delivery) : Type 0 where
   pub sender : RowName
   pub pending : found_delivery d.id (row_of shape run sender).pending ≡ Some d
   pub feeds : Contains (feeds_of shape d.to.part) sender.part
+
+-- the entry that made a delivery is on this row
+pub record IsMadeOn (history : List Entry) (name : RowName) (d : Delivery) : Type 0 where
+  pub entry : Entry
+  pub numbered : slice_get history d.id.commit ≡ Some entry
+  pub on_row : row_written entry ≡ Some name
