@@ -1,6 +1,7 @@
 -- The floor of a run is at most each commit number that is pending, and never falls.
-use Rattle.std.proofs.Common.{◌≡◌, ℕ, ◌+◌, ◌≤◌, ◌<◌, Bool, true, false, cond, List, [], ◌∷◌, ◌++◌, map, fold, refl, sym, ◌∙◌, ap, subst, arith}
-use Rattle.std.specs.Prelude.{min, not, Option, Some, None, unwrap_or}
+use Rattle.std.proofs.Common.{◌≡◌, ℕ, suc, ◌+◌, ◌≤◌, ◌<◌, Bool, true, false, cond, List, [], ◌∷◌, ◌++◌, map, fold, refl, sym, ◌∙◌, ap, subst, arith, inl, inr}
+use Rattle.std.specs.Prelude.{min, not, ◌⊎◌, Contains, Option, Some, None, unwrap_or}
+use Rattle.std.proofs.lemmas.Bool.{cases_lt}
 use Rattle.std.specs.Option.{option_map_or}
 use Rattle.std.specs.List.{AllByRecursion, flat_map, filter}
 use Rattle.std.specs.BTreeMap.{insert_entry, is_at}
@@ -130,3 +131,23 @@ floor_of-rises shape front rest =
 pub row_of-above : (shape : Shape) (run : Run) (name : RowName) → CommitsFrom (floor_of run) (row_of shape run name).pending
 row_of-above shape run name = found_of_each (λ (r : Contents). CommitsFrom (floor_of run) r.pending) (is_at (row_cmp name)) run.rows (fresh (fresh_of shape name.part))
     (floor_of-below run).pending tt
+
+-- the least of some numbers and a bound is the bound, or one of the numbers
+fold_min-reached : (n : ℕ) (ms : List ℕ) → (fold min n ms ≡ n) ⊎ Contains ms (fold min n ms)
+fold_min-reached n [] = inl refl
+fold_min-reached n (m ∷ ms) = by_case (fold_min-reached (min n m) ms)
+  where
+    by_less : (min n m ≡ n) ⊎ (min n m ≡ m)
+    by_less = elim (cases_lt n m) [ inl less ↦ inl (omega (arith, less)) | inr le ↦ inr (omega (arith, le)) ]
+
+    head : fold min (min n m) ms ≡ min n m → (min n m ≡ n) ⊎ (min n m ≡ m) → (fold min (min n m) ms ≡ n) ⊎ Contains (m ∷ ms) (fold min (min n m) ms)
+    head same (inl one) = inl (same ∙ one)
+    head same (inr other) = inr (0, omega arith, sym (same ∙ other))
+
+    by_case : (fold min (min n m) ms ≡ min n m) ⊎ Contains ms (fold min (min n m) ms) → (fold min (min n m) ms ≡ n) ⊎ Contains (m ∷ ms) (fold min (min n m) ms)
+    by_case (inl same) = head same by_less
+    by_case (inr has) = inr (suc has.0, omega (arith, has.1), has.2)
+
+-- the floor is the next number, or is the number of something that is pending
+pub floor_of-reached : (run : Run) → (floor_of run ≡ run.next) ⊎ Contains (map (λ (d : Delivery). d.id.commit) (flat_map (λ (r : RowName × Contents). r.1.pending) run.rows)) (floor_of run)
+floor_of-reached run = fold_min-reached run.next (commits_of run)

@@ -14,4 +14,5 @@ pub mod WorkLaws
 pub mod LowLaws
 pub mod SentLaws
 pub mod SenderLaws
+pub mod AckLaws
 pub mod SeenLaws

@@ -116,7 +116,7 @@ changed-pending (Ack seq name id) sent row d found spared =
 changed-pending (Purge seq name floor) sent row d found spared = found
 
 -- a delivery that is pending, and that an entry does not acknowledge, is still pending after it
-IsSentBy-followed : (shape : Shape) (run : Run) (entry : Entry) (d : Delivery) → IsSentBy shape run d → SparesFrom entry d → IsSentBy shape (followed shape run entry) d
+pub IsSentBy-followed : (shape : Shape) (run : Run) (entry : Entry) (d : Delivery) → IsSentBy shape run d → SparesFrom entry d → IsSentBy shape (followed shape run entry) d
 IsSentBy-followed shape run entry d by spared = record {
   sender = by.sender;
   pending = row_of-step shape run entry by.sender (λ (c : Contents). found_delivery d.id c.pending ≡ Some d) by.pending
@@ -139,7 +139,7 @@ found_behind n pending sent d below is found =
     ] refl
 
 -- what an entry made is pending in the row that the entry is on
-sent_pending : (case : CaseShape) (run : Run) (entry : Entry) → ArePendingInOrder run → MayFollow case run entry
+pub sent_pending : (case : CaseShape) (run : Run) (entry : Entry) → ArePendingInOrder run → MayFollow case run entry
     → AllByRecursion (IsSentBy case.topology (followed case.topology run entry)) (deliveries_of case.topology run.made run.next entry)
 sent_pending case run entry order may = by_kind entry may
   where

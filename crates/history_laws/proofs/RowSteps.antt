@@ -5,6 +5,8 @@ use Rattle.std.specs.Option.{option_map_or}
 use Rattle.std.specs.List.{AllByRecursion}
 use Rattle.std.specs.List.Sorted.{IsStrictlySortedBy}
 use Rattle.std.specs.Ordering.{is_eq, ordering_then}
+use Rattle.std.specs.Cmp.{tied_itself}
+use Rattle.std.proofs.lemmas.Bool.{both_ways}
 use Rattle.std.specs.declared.cmp.Ordering.{Ordering}
 use Rattle.std.specs.declared.cmp.Ordering.TheVariants.{Less, Equal, Greater}
 use Rattle.std.specs.BTreeMap.{is_at, insert_entry}
@@ -24,7 +26,7 @@ use Rattle.run_history.specs.Cases.{fresh_of}
 use Rattle.run_history.specs.Made.{row_written, deliveries_of}
 use Rattle.run_history.specs.Runs.{Run, run_of, row_in, row_of, row_after, followed, changed, empty_run}
 use Rattle.run_history.proofs.Lookups.{lookup-insert_entry, each-insert_entry}
-use Rattle.history_laws.proofs.Lists.{each-append, each-weaker, each-filter, found_of_each, sorted-append}
+use Rattle.history_laws.proofs.Lists.{none_some, some_same, each-append, each-weaker, each-filter, found_of_each, sorted-append}
 use Rattle.history_laws.proofs.Along.{along_any}
 use Rattle.history_laws.proofs.Made.{each_of_commit}
 use Rattle.history_laws.proofs.IdLaws.{across, below_next, made-ascend}
@@ -79,6 +81,17 @@ row_step shape run entry row = elim (row_written entry) as (λ w. row_written en
         ≡ cond (is_at (row_cmp row) name) (Some (made_row shape run entry name)) (row_in run row)
     put name = lookup-insert_entry row_cmp-total run.rows name (made_row shape run entry name) row
 
+-- an entry is on a row, or is not
+pub on_row_or_not : (entry : Entry) (name : RowName) → (row_written entry ≡ Some name) ⊎ (row_written entry ≡ Some name → ⊥)
+on_row_or_not entry name = elim (row_written entry) as (λ w. (w ≡ Some name) ⊎ (w ≡ Some name → ⊥)) [
+  | None ↦ inr (λ e. none_some name e)
+  | Some row ↦ elim (is_at (row_cmp name) row) as (λ b. is_at (row_cmp name) row ≡ b → (Some row ≡ Some name) ⊎ (Some row ≡ Some name → ⊥)) [
+      | true ↦ λ tie. inl (ap Some (sym (same_row name row tie)))
+      | false ↦ λ apart. inr (λ e. both_ways (is_at (row_cmp name) row) apart
+          (subst (λ (r : RowName). is_at (row_cmp name) r ≡ true) (sym (some_same row name e)) (ap is_eq (tied_itself row_cmp-total name))))
+    ] refl
+]
+
 -- a row that an entry is not on is found as it was
 pub row_in-elsewhere : (shape : Shape) (run : Run) (entry : Entry) (row : RowName) → (row_written entry ≡ Some row → ⊥)
     → row_in (followed shape run entry) row ≡ row_in run row
@@ -107,7 +120,7 @@ row_of-here shape run entry row written = ap (λ o. unwrap_or o (fresh (fresh_of
         ∙ ap (λ b. cond b (Some (made_row shape run entry row)) (row_in run row)) (tie row)
       where
         tie : (r : RowName) → is_at (row_cmp r) r ≡ true
-        tie r = ap is_eq (Rattle.std.specs.Cmp.tied_itself row_cmp-total r)
+        tie r = ap is_eq (tied_itself row_cmp-total r)
 
 -- what holds of each row still does, where it does of the row that an entry is on
 pub each_row-followed : (shape : Shape) (run : Run) (entry : Entry) (P Q : Contents → Type 0)
@@ -198,3 +211,8 @@ ArePendingInOrder-followed shape run entry order = record {
 -- what is pending is in order after each history
 pub pending-in_order : (shape : Shape) (history : List Entry) → ArePendingInOrder (run_of shape history)
 pending-in_order shape history = along_any shape ArePendingInOrder (ArePendingInOrder-followed shape) history empty_run (record { each = tt })
+
+-- a row that an entry is not on, there or fresh, is as it was
+pub row_of-elsewhere : (shape : Shape) (run : Run) (entry : Entry) (row : RowName) → (row_written entry ≡ Some row → ⊥)
+    → row_of shape (followed shape run entry) row ≡ row_of shape run row
+row_of-elsewhere shape run entry row apart = ap (λ o. unwrap_or o (fresh (fresh_of shape row.part))) (row_in-elsewhere shape run entry row apart)

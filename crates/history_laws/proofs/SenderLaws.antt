@@ -50,7 +50,7 @@ pub record ArePendingOn (shape : Shape) (history : List Entry) (run : Run) : Typ
   pub each : (name : RowName) → AllByRecursion (IsMadeOn history name) (row_of shape run name).pending
 
 -- one more entry keeps it so
-ArePendingOn-followed : (shape : Shape) (history : List Entry) (run : Run) (entry : Entry) → ArePendingOn shape history run
+pub ArePendingOn-followed : (shape : Shape) (history : List Entry) (run : Run) (entry : Entry) → ArePendingOn shape history run
     → ArePendingOn shape (history ++ entry ∷ []) (followed shape run entry)
 ArePendingOn-followed shape history run entry on = record {
   next = ap (λ n. n + 1) on.next ∙ sym (Rattle.std.proofs.lemmas.List.length_push history entry);
@@ -70,16 +70,20 @@ ArePendingOn-followed shape history run entry on = record {
 pub pending-on : (shape : Shape) (history : List Entry) → ArePendingOn shape history (run_of shape history)
 pending-on shape history = along_all shape (ArePendingOn shape) (ArePendingOn-followed shape) history [] empty_run (record { next = refl; each = λ name. tt })
 
--- an id is pending in one row at most
-pub one_sender : (shape : Shape) (history : List Entry) (one other : RowName) (id : RecordId) (d e : Delivery)
-    → found_delivery id (row_of shape (run_of shape history) one).pending ≡ Some d
-    → found_delivery id (row_of shape (run_of shape history) other).pending ≡ Some e → one ≡ other
-one_sender shape history one other id d e here there =
-    let run = run_of shape history in
-    let on = find-each (IsMadeOn history one) (λ (f : Delivery). same_id f.id id) (row_of shape run one).pending d ((pending-on shape history).each one) here in
-    let also = find-each (IsMadeOn history other) (λ (f : Delivery). same_id f.id id) (row_of shape run other).pending e ((pending-on shape history).each other) there in
+-- an id is pending in one row at most, where what is pending was made by entries on its row
+pub one_sender-on : (shape : Shape) (history : List Entry) (run : Run) → ArePendingOn shape history run → (one other : RowName) (id : RecordId) (d e : Delivery)
+    → found_delivery id (row_of shape run one).pending ≡ Some d → found_delivery id (row_of shape run other).pending ≡ Some e → one ≡ other
+one_sender-on shape history run pending one other id d e here there =
+    let on = find-each (IsMadeOn history one) (λ (f : Delivery). same_id f.id id) (row_of shape run one).pending d (pending.each one) here in
+    let also = find-each (IsMadeOn history other) (λ (f : Delivery). same_id f.id id) (row_of shape run other).pending e (pending.each other) there in
     let commits : d.id.commit ≡ e.id.commit = ap (λ (i : RecordId). i.commit)
     (same_id-true d.id id (find-passes (λ (f : Delivery). same_id f.id id) (row_of shape run one).pending d here)
     ∙ sym (same_id-true e.id id (find-passes (λ (f : Delivery). same_id f.id id) (row_of shape run other).pending e there))) in
     let entries : on.entry ≡ also.entry = some_same on.entry also.entry (sym on.numbered ∙ ap (slice_get history) commits ∙ also.numbered) in
     some_same one other (sym on.on_row ∙ ap row_written entries ∙ also.on_row)
+
+-- an id is pending in one row at most
+pub one_sender : (shape : Shape) (history : List Entry) (one other : RowName) (id : RecordId) (d e : Delivery)
+    → found_delivery id (row_of shape (run_of shape history) one).pending ≡ Some d
+    → found_delivery id (row_of shape (run_of shape history) other).pending ≡ Some e → one ≡ other
+one_sender shape history = one_sender-on shape history (run_of shape history) (pending-on shape history)

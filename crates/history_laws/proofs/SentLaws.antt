@@ -62,7 +62,7 @@ pub row_of-made : (shape : Shape) (run : Run) (name : RowName) → ArePendingMad
 row_of-made shape run name made = row_of-each shape run name (λ (c : Contents). AreMade run.made c.pending) made.each tt
 
 -- one more entry keeps what is pending made
-ArePendingMade-followed : (shape : Shape) (run : Run) (entry : Entry) → ArePendingMade run → ArePendingMade (followed shape run entry)
+pub ArePendingMade-followed : (shape : Shape) (run : Run) (entry : Entry) → ArePendingMade run → ArePendingMade (followed shape run entry)
 ArePendingMade-followed shape run entry made =
     let sent = deliveries_of shape run.made run.next entry in record {
       order = IsMadeInOrder-followed shape run entry made.order;
