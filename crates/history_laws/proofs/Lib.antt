@@ -15,4 +15,5 @@ pub mod LowLaws
 pub mod SentLaws
 pub mod SenderLaws
 pub mod AckLaws
+pub mod StoredLaws
 pub mod SeenLaws

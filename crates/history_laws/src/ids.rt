@@ -10,6 +10,7 @@ ghost use Rattle.run_history.specs.Cases.{CaseShape};
 ghost use Rattle.run_history.specs.Made.{deliveries_of, found_delivery};
 ghost use Rattle.run_history.specs.Runs.{run_of, row_of};
 ghost use Rattle.run_history.specs.Legal.{IsLegal};
+ghost use Rattle.history_laws.specs.Finished.{is_handled};
 ghost use Rattle.history_laws.specs.Ids.{TellsWhatWaits, IsSentBy};
 
 /// Ids ascend in the order in which records were made, whether or not the history is legal.
@@ -37,9 +38,15 @@ pub fn ids_tell_what_waits()
     // What waits is pending in the row that made it.
     ensures sent { (case : CaseShape) (history : List Entry) → IsLegal case history →
         let run = run_of case.topology history in All (IsSentBy case.topology run) run.unhandled }
+{}
 
-    // A delivery that was made, and that is not finished in the row to which it goes, waits there.
-    ensures unfinished { (case : CaseShape) (history : List Entry) (d : Delivery) → IsLegal case history →
+/// After a legal history a record that was made is finished, in the row to which it goes, exactly where it is
+/// handled, and waits there where it is not.
+pub fn ids_tell_what_is_finished()
+    ensures finished { (case : CaseShape) (history : List Entry) (d : Delivery) → IsLegal case history →
+        let run = run_of case.topology history in found_delivery d.id run.made ≡ Some d →
+        is_finished d.id (row_of case.topology run d.to) ≡ is_handled d.id history }
+    ensures waits { (case : CaseShape) (history : List Entry) (d : Delivery) → IsLegal case history →
         let run = run_of case.topology history in found_delivery d.id run.made ≡ Some d →
         is_finished d.id (row_of case.topology run d.to) ≡ false → found_delivery d.id run.unhandled ≡ Some d }
 {}

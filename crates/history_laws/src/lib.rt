@@ -12,13 +12,15 @@
 mod floors;
 mod ids;
 mod rows;
+mod senders;
 mod stamps;
 mod watermarks;
 mod writes;
 
-pub use floors::floor_never_falls;
-pub use ids::{ids_ascend, ids_tell_what_waits};
+pub use floors::{floor_is_least_unacknowledged, floor_never_falls};
+pub use ids::{ids_ascend, ids_tell_what_is_finished, ids_tell_what_waits};
 pub use rows::{rows_are_as_seen, rows_change_by_their_entries};
+pub use senders::{pending_is_unacknowledged, senders_keep_what_they_made};
 pub use stamps::stamps_are_in_time;
 pub use watermarks::low_watermark_never_falls;
 pub use writes::{claims_are_lawful, seen_writes_are_lawful};

@@ -3,7 +3,6 @@ use Rattle.run_history.specs.Runs.{run_of}
 use Rattle.history_laws.specs.Ids.{IsSentBy}
 use Rattle.history_laws.proofs.IdLaws.{legal-tells}
 use Rattle.history_laws.proofs.PendingLaws.{legal-sent}
-use Rattle.history_laws.proofs.FinishedLaws.{waits-unless_finished}
 use Rattle.history_laws.proofs.ids.ids_tell_what_waits.Goals as goal
 
 pub returns : goal.returns
@@ -11,5 +10,4 @@ returns c = record {
   waits = legal-tells;
   sent = λ case history legal. All-from_recursion (IsSentBy case.topology (run_of case.topology history)) (run_of case.topology history).unhandled
       (legal-sent case history legal).each;
-  unfinished = waits-unless_finished;
 }
