@@ -178,11 +178,7 @@ pub feeds-before : (shape : Shape) (part : ℕ) → IsTopology shape → AllByRe
 feeds-before shape part rules = numbers_from-below (reads_stream shape part) 0 part (streams_of shape) before
   where
     differ : all_differ (streams_of shape) ≡ true
-    differ = IsTrue-true (all_differ (streams_of shape)) rules.streams_differ
-      where
-        IsTrue-true : (b : Bool) → IsTrue b → b ≡ true
-        IsTrue-true true is = refl
-        IsTrue-true false is = absurd (cc)
+    differ = rules.streams_differ
 
     before : (i : ℕ) → i < length (streams_of shape) → reads_stream shape part (get_or (streams_of shape) i []) ≡ true → 0 + i < part
     before i less reads =

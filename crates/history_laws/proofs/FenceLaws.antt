@@ -199,3 +199,34 @@ pub row_of-seen : (shape : Shape) (interval seq : ℕ) (front rest : List Entry)
     → (name : RowName) → interval_of shape name ≡ Some interval → row_of shape (run_of shape (front ++ rest)) name ≡ row_of shape (run_of shape front) name
 row_of-seen shape interval seq front rest fenced seen name lies =
     ap (λ o. unwrap_or o (fresh (fresh_of shape name.part))) (row_in-seen shape interval seq front rest fenced seen name lies)
+
+-- ---- what is known under a claim
+
+-- a filter of the front of a list ends where its test first fails
+take_while-front : (test : Entry → Bool) (xs : List Entry) → Begins (take_while test xs) xs
+take_while-front test [] = ([], refl)
+take_while-front test (x ∷ xs) =
+    elim (test x) as (λ b. take_while test (x ∷ xs) ≡ cond b (x ∷ take_while test xs) [] → Begins (take_while test (x ∷ xs)) (x ∷ xs)) [
+      | true ↦ λ is. let rest = take_while-front test xs in (rest.0, ap (λ l. l ++ rest.0) is ∙ ap (λ l. x ∷ l) rest.1)
+      | false ↦ λ is. (x ∷ xs, ap (λ l. l ++ x ∷ xs) is)
+    ] (take_while-cons test x xs)
+
+-- each of the front passes the test
+take_while-passes : (test : Entry → Bool) (xs : List Entry) → AllByRecursion (λ e. test e ≡ true) (take_while test xs)
+take_while-passes test [] = tt
+take_while-passes test (x ∷ xs) =
+    elim (test x) as (λ b. test x ≡ b → take_while test (x ∷ xs) ≡ cond b (x ∷ take_while test xs) [] → AllByRecursion (λ e. test e ≡ true) (take_while test (x ∷ xs))) [
+      | true ↦ λ e is. subst (AllByRecursion (λ e. test e ≡ true)) (sym is) (e, take_while-passes test xs)
+      | false ↦ λ e is. subst (AllByRecursion (λ e. test e ≡ true)) (sym is) tt
+    ] refl (take_while-cons test x xs)
+
+-- what is known under a claim is a beginning of the history
+pub known-begins : (interval seq : ℕ) (history : List Entry) → Begins (known interval seq history) history
+known-begins interval seq history =
+    let front = take_while-front (λ (e : Entry). not (is_claim interval e)) (drop (seq + 1) history) in
+    (front.0, append_assoc (take (seq + 1) history) _ front.0 ∙ ap (λ l. take (seq + 1) history ++ l) front.1 ∙ take-append-drop (seq + 1) history)
+
+-- what is known under the last claim of an interval is the whole history
+take_while-all : (test : Entry → Bool) (xs : List Entry) → AllByRecursion (λ e. test e ≡ true) xs → take_while test xs ≡ xs
+take_while-all test [] each = refl
+take_while-all test (x ∷ xs) each = take_while-cons test x xs ∙ ap (λ b. cond b (x ∷ take_while test xs) []) each.0 ∙ ap (λ l. x ∷ l) (take_while-all test xs each.1)

@@ -1,7 +1,7 @@
 -- What ids tell: what was made, what was handled, and what waits.
 use Rattle.std.proofs.Common.{◌≡◌, ℕ, ◌+◌, ◌<◌, ◌≤◌, ◌==◌, ◌&&◌, Bool, true, false, cond, List, [], ◌∷◌, ◌++◌, length, map, fold, refl, sym, ◌∙◌, ap, subst, arith}
 use Rattle.std.proofs.lemmas.List.{length_push}
-use Rattle.std.specs.Prelude.{⊤, Option, Some, None, IsSome, IsNone, IsTrue, find, filter, not, ◌||◌}
+use Rattle.std.specs.Prelude.{⊤, Option, Some, None, IsSome, IsNone, find, filter, not, ◌||◌}
 use Rattle.std.specs.Option.{option_map_or}
 use Rattle.std.specs.List.{AllByRecursion, list_any, enumerate_from}
 use Rattle.std.specs.List.Sorted.{IsStrictlySortedBy}
@@ -299,10 +299,6 @@ handled-was_made made id (e ∷ es) was handled =
 pub legal-tells : (case : CaseShape) (history : List Entry) → IsLegal case history → TellsWhatWaits history (run_of case.topology history)
 legal-tells case history legal =
     let ids = legal-ids case history legal in record {
-      handled = λ id handled. handled-was_made (run_of case.topology history).made id history ids.handled (IsTrue-true (is_handled id history) handled);
+      handled = λ id handled. handled-was_made (run_of case.topology history).made id history ids.handled handled;
       waiting = ids.waiting;
     }
-  where
-    IsTrue-true : (b : Bool) → IsTrue b → b ≡ true
-    IsTrue-true true is = refl
-    IsTrue-true false is = absurd (cc)

@@ -16,4 +16,5 @@ pub mod SentLaws
 pub mod SenderLaws
 pub mod AckLaws
 pub mod StoredLaws
+pub mod IntervalLaws
 pub mod SeenLaws
