@@ -1,9 +1,11 @@
 -- A row that was read under the last claim of its interval is the row of the whole history.
 use Rattle.std.proofs.Common.{◌≡◌, ◌≢◌, ℕ, zero, suc, ◌+◌, ◌<◌, ◌≤◌, Bool, true, false, cond, List, [], ◌∷◌, ◌++◌, length, take, drop, fold, refl, sym, ◌∙◌, ap, subst, arith, append_assoc, length-append, inl, inr}
-use Rattle.std.specs.Prelude.{Option, Some, None, All, ◌⊎◌, not, unwrap_or}
+use Rattle.std.specs.Prelude.{Option, Some, None, All, ◌⊎◌, not, unwrap_or, slice_get}
+use Rattle.std.proofs.lemmas.Bool.{cases_lt, eq-eqb}
+use Rattle.std.proofs.lemmas.Option.{slice_get_within, get_or_from_slice_get}
 use Rattle.std.specs.Option.{option_and_then}
 use Rattle.std.specs.List.{AllByRecursion, enumerate_from, take_while}
-use Rattle.std.proofs.lemmas.List.{append-nil, take-append-drop, take-append-le, drop-append-le, length-take}
+use Rattle.std.proofs.lemmas.List.{append-nil, take-append-drop, take-append-le, drop-append-le, length-take, take_more, drop_all}
 use Rattle.std.proofs.lemmas.List.Sums.{fold-append, take_while-cons}
 use Rattle.std.proofs.lemmas.List.Elements.{recursion_from_All}
 use Rattle.mw_types.specs.declared.identity.RowName.{RowName}
@@ -17,7 +19,7 @@ use Rattle.run_history.specs.Runs.{Run, run_of, row_in, row_of, followed}
 use Rattle.run_history.proofs.Making.{enumerate_from-append}
 use Rattle.run_history.proofs.RunLaws.{run_of-push}
 use Rattle.history_laws.specs.Fences.{Begins, interval_of, sequencer_of, is_claim, later_claim, last_claim, IsUnderLastClaim, IsFenced, HasSeen, known}
-use Rattle.history_laws.proofs.Lists.{some_same, none_some}
+use Rattle.history_laws.proofs.Lists.{some_same, none_some, each-append, each-weaker}
 use Rattle.history_laws.proofs.RowSteps.{row_in-elsewhere}
 
 -- ---- beginnings
@@ -54,7 +56,7 @@ Begins-push (x ∷ xs) [] entry begins =
 Begins-push (x ∷ xs) (y ∷ ys) entry begins = by_case (Begins-push xs ys entry (begins.0, ap (drop 1) begins.1))
   where
     heads : x ≡ y
-    heads = ap (λ (l : List Entry). unwrap_or (Rattle.std.specs.List.slice_get l 0) x) begins.1
+    heads = ap (λ (l : List Entry). unwrap_or (slice_get l 0) x) begins.1
 
     by_case : (xs ≡ ys ++ entry ∷ []) ⊎ Begins xs ys → (x ∷ xs ≡ (y ∷ ys) ++ entry ∷ []) ⊎ Begins (x ∷ xs) (y ∷ ys)
     by_case (inl same) = inl (λ i. heads i ∷ same i)
@@ -62,7 +64,7 @@ Begins-push (x ∷ xs) (y ∷ ys) entry begins = by_case (Begins-push xs ys entr
 
 -- histories with one more entry that are equal are equal before it, and have one last entry
 push_same : (one two : List Entry) (x y : Entry) → one ++ x ∷ [] ≡ two ++ y ∷ [] → (one ≡ two) × (x ≡ y)
-push_same [] [] x y e = (refl, ap (λ (l : List Entry). unwrap_or (Rattle.std.specs.List.slice_get l 0) x) e)
+push_same [] [] x y e = (refl, ap (λ (l : List Entry). unwrap_or (slice_get l 0) x) e)
 push_same [] (b ∷ bs) x y e = absurd (none_left bs (ap (drop 1) e))
   where
     none_left : (bs : List Entry) → [] ≡ bs ++ y ∷ [] → ⊥
@@ -75,7 +77,7 @@ push_same (a ∷ xs) [] x y e = absurd (none_left xs (ap (drop 1) e))
     none_left (a ∷ xs) e = cc
 push_same (a ∷ xs) (b ∷ bs) x y e =
     let rest = push_same xs bs x y (ap (drop 1) e) in
-    let heads : a ≡ b = ap (λ (l : List Entry). unwrap_or (Rattle.std.specs.List.slice_get l 0) a) e in
+    let heads : a ≡ b = ap (λ (l : List Entry). unwrap_or (slice_get l 0) a) e in
     ((λ i. heads i ∷ rest.0 i), rest.1)
 
 -- ---- claims
@@ -230,3 +232,123 @@ known-begins interval seq history =
 take_while-all : (test : Entry → Bool) (xs : List Entry) → AllByRecursion (λ e. test e ≡ true) xs → take_while test xs ≡ xs
 take_while-all test [] each = refl
 take_while-all test (x ∷ xs) each = take_while-cons test x xs ∙ ap (λ b. cond b (x ∷ take_while test xs) []) each.0 ∙ ap (λ l. x ∷ l) (take_while-all test xs each.1)
+
+-- entries among which the last claim of an interval is not found have no claim of it
+claims-none : (interval n s : ℕ) (last : Option ℕ) (entries : List Entry) → claim_from interval n last entries ≡ Some s → s < n
+    → AllByRecursion (λ e. is_claim interval e ≡ false) entries
+claims-none interval n s last [] found before = tt
+claims-none interval n s last (e ∷ es) found before = (here, claims-none interval (n + 1) s (cond (is_claim interval e) (Some n) last) es found (omega (arith, before)))
+  where
+    later : is_claim interval e ≡ true → (Some n ≡ Some s) ⊎ (n + 1 ≤ s) → ⊥
+    later is (inl same) = let equal : n ≡ s = some_same n s same in omega (arith, equal, before)
+    later is (inr after) = omega (arith, after, before)
+
+    here : is_claim interval e ≡ false
+    here = elim (is_claim interval e) as (λ b. is_claim interval e ≡ b → b ≡ false) [
+      | false ↦ λ _. refl
+      | true ↦ λ is. absurd (later is (claim_from-where interval (n + 1) s (Some n) es (ap (λ b. claim_from interval (n + 1) (cond b (Some n) last) es) (sym is) ∙ found)))
+    ] refl
+
+-- the last claim of a history that has a claim, where no claim of its interval follows
+last_claim-at : (interval worker : ℕ) (before after : List Entry) → AllByRecursion (λ e. is_claim interval e ≡ false) after
+    → last_claim interval ((before ++ Claim worker interval ∷ []) ++ after) ≡ Some (length before)
+last_claim-at interval worker before after none =
+    last_claim-rest interval (before ++ Claim worker interval ∷ []) after none
+    ∙ last_claim-push interval before (Claim worker interval)
+    ∙ ap (λ b. cond b (Some (length before)) (last_claim interval before)) (eq-eqb interval interval refl)
+
+-- where the front passes, the front of a longer list goes on behind it, or else it ends within it
+take_while-append : (test : Entry → Bool) (xs ys : List Entry)
+    → (AllByRecursion (λ e. test e ≡ true) xs × (take_while test (xs ++ ys) ≡ xs ++ take_while test ys)) ⊎ (take_while test (xs ++ ys) ≡ take_while test xs)
+take_while-append test [] ys = inl (tt, refl)
+take_while-append test (x ∷ xs) ys = by_test (test x) refl (take_while-append test xs ys)
+  where
+    by_test : (b : Bool) → test x ≡ b
+        → (AllByRecursion (λ e. test e ≡ true) xs × (take_while test (xs ++ ys) ≡ xs ++ take_while test ys)) ⊎ (take_while test (xs ++ ys) ≡ take_while test xs)
+        → (AllByRecursion (λ e. test e ≡ true) (x ∷ xs) × (take_while test (x ∷ xs ++ ys) ≡ x ∷ xs ++ take_while test ys)) ⊎ (take_while test (x ∷ xs ++ ys) ≡ take_while test (x ∷ xs))
+    by_test false e rest = inr (take_while-cons test x (xs ++ ys) ∙ ap (λ b. cond b (x ∷ take_while test (xs ++ ys)) []) e
+        ∙ sym (take_while-cons test x xs ∙ ap (λ b. cond b (x ∷ take_while test xs) []) e))
+    by_test true e (inl whole) = inl ((e, whole.0), take_while-cons test x (xs ++ ys) ∙ ap (λ b. cond b (x ∷ take_while test (xs ++ ys)) []) e ∙ ap (λ l. x ∷ l) whole.1)
+    by_test true e (inr within) = inr (take_while-cons test x (xs ++ ys) ∙ ap (λ b. cond b (x ∷ take_while test (xs ++ ys)) []) e ∙ ap (λ l. x ∷ l) within
+        ∙ sym (take_while-cons test x xs ∙ ap (λ b. cond b (x ∷ take_while test xs) []) e))
+
+-- what holds of each of a list holds of each of a beginning of it
+each-begins : (P : Entry → Type 0) (front history : List Entry) → Begins front history → AllByRecursion P history → AllByRecursion P front
+each-begins P [] history begins each = tt
+each-begins P (x ∷ xs) [] begins each = absurd (none begins.1)
+  where
+    none : x ∷ (xs ++ begins.0) ≡ [] → ⊥
+    none e = cc
+each-begins P (x ∷ xs) (y ∷ ys) begins each =
+    (subst P (sym (ap (λ (l : List Entry). unwrap_or (slice_get l 0) x) begins.1)) each.0, each-begins P xs ys (begins.0, ap (drop 1) begins.1) each.1)
+
+-- a row of an interval, as it is known under a claim of the interval, is the same by a beginning of a fenced history as by the whole, where the beginning
+-- has the claim and all that carries its number; the claim may have been overtaken
+pub row_in-known : (shape : Shape) (interval seq worker : ℕ) (front rest : List Entry) → IsFenced shape (front ++ rest)
+    → slice_get front seq ≡ Some (Claim worker interval) → All (λ (e : Entry). sequencer_of e ≢ Some seq) rest
+    → (name : RowName) → interval_of shape name ≡ Some interval
+    → row_in (run_of shape (known interval seq (front ++ rest))) name ≡ row_in (run_of shape (known interval seq front)) name
+row_in-known shape interval seq worker front rest fenced claimed none name lies = by_case (take_while-append test behind rest)
+  where
+    test : Entry → Bool
+    test = λ (e : Entry). not (is_claim interval e)
+
+    behind : List Entry
+    behind = drop (seq + 1) front
+
+    within : seq < length front
+    within = slice_get_within front seq (Claim worker interval) claimed
+
+    -- the history up to the claim is that of the beginning
+    known-whole : known interval seq (front ++ rest) ≡ take (seq + 1) front ++ take_while test (behind ++ rest)
+    known-whole =
+        let inside : seq + 1 ≤ length front = omega (arith, within) in
+        ap (λ l. l ++ take_while test (drop (seq + 1) (front ++ rest))) (take-append-le (seq + 1) front rest inside)
+        ∙ ap (λ l. take (seq + 1) front ++ take_while test l) (drop-append-le (seq + 1) front rest inside)
+
+    up_to : take (seq + 1) front ≡ take seq front ++ Claim worker interval ∷ []
+    up_to = take_more front seq (Claim worker interval) within
+        ∙ ap (λ e. take seq front ++ e ∷ []) (get_or_from_slice_get front seq (Claim worker interval) (Claim worker interval) claimed)
+
+    off : (b : Bool) → not b ≡ true → b ≡ false
+    off true e = cc
+    off false e = refl
+
+    by_case : (AllByRecursion (λ e. test e ≡ true) behind × (take_while test (behind ++ rest) ≡ behind ++ take_while test rest)) ⊎ (take_while test (behind ++ rest) ≡ take_while test behind)
+        → row_in (run_of shape (known interval seq (front ++ rest))) name ≡ row_in (run_of shape (known interval seq front)) name
+    by_case (inr same) = ap (λ (h : List Entry). row_in (run_of shape h) name) (known-whole ∙ ap (λ l. take (seq + 1) front ++ l) same)
+    by_case (inl whole) =
+        let more = take_while test rest in
+        let goes_on : known interval seq (front ++ rest) ≡ front ++ more =
+        known-whole ∙ ap (λ l. take (seq + 1) front ++ l) whole.1 ∙ sym (append_assoc (take (seq + 1) front) behind more)
+        ∙ ap (λ l. l ++ more) (take-append-drop (seq + 1) front) in
+        let all : known interval seq front ≡ front = ap (λ l. take (seq + 1) front ++ l) (take_while-all test behind whole.0) ∙ take-append-drop (seq + 1) front in
+        let no_claim : AllByRecursion (λ e. is_claim interval e ≡ false) (behind ++ more) = each-append (λ e. is_claim interval e ≡ false) behind more
+        (each-weaker (λ e. test e ≡ true) (λ e. is_claim interval e ≡ false) (λ e passes. off (is_claim interval e) passes) behind whole.0)
+        (each-weaker (λ e. test e ≡ true) (λ e. is_claim interval e ≡ false) (λ e passes. off (is_claim interval e) passes) more (take_while-passes test rest)) in
+        let last : last_claim interval (front ++ more) ≡ Some seq =
+        ap (last_claim interval) (ap (λ l. l ++ more) (sym (take-append-drop (seq + 1) front)) ∙ append_assoc (take (seq + 1) front) behind more ∙ ap (λ l. l ++ (behind ++ more)) up_to)
+        ∙ last_claim-at interval worker (take seq front) (behind ++ more) no_claim
+        ∙ ap Some (let len = length-take seq front in omega (arith, len, within)) in
+        ap (λ (h : List Entry). row_in (run_of shape h) name) goes_on
+        ∙ rows_as_seen shape interval seq name more front lies
+        (subst (IsFenced shape) goes_on (IsFenced-begins shape (known interval seq (front ++ rest)) (front ++ rest) (known-begins interval seq (front ++ rest)) fenced))
+        last within (each-begins (λ e. sequencer_of e ≢ Some seq) more rest (take_while-front test rest) (recursion_from_All (λ (e : Entry). sequencer_of e ≢ Some seq) rest none))
+        ∙ sym (ap (λ (h : List Entry). row_in (run_of shape h) name) all)
+
+-- under the last claim of an interval the whole history is known
+pub known-last : (interval seq : ℕ) (history : List Entry) → last_claim interval history ≡ Some seq → known interval seq history ≡ history
+known-last interval seq history last =
+    let split : take (seq + 1) history ++ drop (seq + 1) history ≡ history = take-append-drop (seq + 1) history in
+    let found : claim_from interval (length (take (seq + 1) history)) (last_claim interval (take (seq + 1) history)) (drop (seq + 1) history) ≡ Some seq =
+    sym (last_claim-append interval (take (seq + 1) history) (drop (seq + 1) history)) ∙ ap (last_claim interval) split ∙ last in
+    ap (λ l. take (seq + 1) history ++ l) (take_while-all (λ (e : Entry). not (is_claim interval e)) (drop (seq + 1) history) (none found)) ∙ split
+  where
+    none : claim_from interval (length (take (seq + 1) history)) (last_claim interval (take (seq + 1) history)) (drop (seq + 1) history) ≡ Some seq
+        → AllByRecursion (λ (e : Entry). not (is_claim interval e) ≡ true) (drop (seq + 1) history)
+    none found = elim (cases_lt seq (length history)) [
+      | inl less ↦ each-weaker (λ e. is_claim interval e ≡ false) (λ (e : Entry). not (is_claim interval e) ≡ true) (λ e is. ap not is) (drop (seq + 1) history)
+          (claims-none interval (length (take (seq + 1) history)) seq (last_claim interval (take (seq + 1) history)) (drop (seq + 1) history) found
+          (let len = length-take (seq + 1) history in omega (arith, len, less)))
+      | inr past ↦ subst (AllByRecursion (λ (e : Entry). not (is_claim interval e) ≡ true)) (sym (drop_all (seq + 1) history (omega (arith, past)))) tt
+    ]
