@@ -17,4 +17,5 @@ pub mod SenderLaws
 pub mod AckLaws
 pub mod StoredLaws
 pub mod IntervalLaws
+pub mod UnfinishedLaws
 pub mod SeenLaws

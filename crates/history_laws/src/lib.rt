@@ -11,16 +11,20 @@
 
 mod floors;
 mod ids;
+mod intervals;
 mod rows;
 mod senders;
 mod stamps;
+mod stored;
 mod watermarks;
 mod writes;
 
 pub use floors::{floor_is_least_unacknowledged, floor_never_falls};
 pub use ids::{ids_ascend, ids_tell_what_is_finished, ids_tell_what_waits};
-pub use rows::{rows_are_as_seen, rows_change_by_their_entries};
+pub use intervals::rows_lie_in_the_interval_that_has_them;
+pub use rows::{rows_are_as_known, rows_are_as_seen, rows_change_by_their_entries};
 pub use senders::{pending_is_unacknowledged, senders_keep_what_they_made};
 pub use stamps::stamps_are_in_time;
+pub use stored::one_row_is_stored_anew;
 pub use watermarks::low_watermark_never_falls;
 pub use writes::{claims_are_lawful, seen_writes_are_lawful};
