@@ -97,10 +97,16 @@ length-bounds_of f n (suc k) =
 
 -- first so many parts, and then the others
 interval_total-add : (f : ℕ → List (List ℕ)) (n a b m : ℕ) → m ≡ n + a → interval_total f n (a + b) ≡ interval_total f n a + interval_total f m b
-interval_total-add f n zero b m at = ap (λ k. interval_total f k b) (sym (omega (arith, at)))
+interval_total-add f n zero b m at =
+    let all : 0 + b ≡ b = omega arith in
+    let start : n ≡ m = omega (arith, at) in
+    let sum : interval_total f m b ≡ 0 + interval_total f m b = omega arith in
+    ap (interval_total f n) all ∙ ap (λ k. interval_total f k b) start ∙ sum
 interval_total-add f n (suc a) b m at =
+    let all : suc a + b ≡ suc (a + b) = omega arith in
     let rest = interval_total-add f (n + 1) a b m (omega (arith, at)) in
-    ap (λ k. suc (length (f n)) + k) rest ∙ omega arith
+    let sum : suc (length (f n)) + (interval_total f (n + 1) a + interval_total f m b) ≡ interval_total f n (suc a) + interval_total f m b = omega arith in
+    ap (interval_total f n) all ∙ ap (λ k. suc (length (f n)) + k) rest ∙ sum
 
 -- parts without cuts have one interval each
 interval_total-uncut : (f : ℕ → List (List ℕ)) (n a : ℕ) → ((part : ℕ) → part < n + a → f part ≡ []) → interval_total f n a ≡ a
@@ -151,3 +157,9 @@ length-intervals shape =
     let uncut = interval_total-uncut f 0 injectors (λ part below. cuts_of-injector shape part (omega (arith, below))) in
     let cut = interval_total-cut f injectors shape.computations (cuts_of-computation shape) in
     omega (arith, all, split, uncut, cut)
+
+-- so has each list of its parts' cuts
+pub intervals-few : (shape : Shape) (cuts : List PartCuts) → IsTopology shape → cuts ≡ part_cuts_of shape → length (bounds_of cuts) ≤ 61
+intervals-few shape cuts rules same =
+    let all : length (bounds_of cuts) ≡ interval_count shape = ap (λ l. length (bounds_of l)) same ∙ length-intervals shape in
+    omega (arith, all, rules.few_intervals)

@@ -1,0 +1,209 @@
+-- No timestamp of a legal history is above the greatest.
+use Rattle.std.proofs.Common.{◌≡◌, ℕ, ◌+◌, ◌<◌, ◌≤◌, Bool, true, false, cond, List, [], ◌∷◌, ◌++◌, refl, sym, ◌∙◌, ap, subst, arith}
+use Rattle.std.specs.Prelude.{⊤, Option, Some, None, IsTrue, All, filter, not, nat_lt, slice_get, unwrap_or, fold}
+use Rattle.std.specs.Option.{option_map, option_map_or}
+use Rattle.std.specs.List.{AllByRecursion}
+use Rattle.std.specs.Ordering.{match_ordering}
+use Rattle.std.specs.declared.cmp.Ordering.{Ordering}
+use Rattle.std.specs.declared.cmp.Ordering.TheVariants.{Less, Equal, Greater}
+use Rattle.std.proofs.lemmas.List.Elements.{All-get_or, All-nil}
+use Rattle.std.proofs.lemmas.Map.Lookups.{exact_unsigned}
+use Rattle.std.proofs.lemmas.Option.{slice_get_within, get_or_from_slice_get}
+use Rattle.mw_types.specs.declared.TheConstants.{MAX_STAMP, INPUT_MAX}
+use Rattle.mw_types.specs.declared.identity.RecordId.{RecordId}
+use Rattle.mw_types.specs.declared.identity.RowName.{RowName}
+use Rattle.mw_types.specs.declared.record.Record.{Record}
+use Rattle.mw_types.specs.declared.record.Production.{Production}
+use Rattle.mw_types.specs.declared.timer.Timer.{Timer}
+use Rattle.mw_types.specs.declared.kind.Kind.{Kind}
+use Rattle.mw_types.specs.declared.delivery.Delivery.{Delivery}
+use Rattle.mw_types.specs.declared.entry.Entry.{Entry}
+use Rattle.mw_types.specs.declared.entry.Entry.TheVariants.{Claim, Inject, Handle, Fire, Ack, Purge}
+use Rattle.mw_types.specs.Orders.{timer_cmp}
+use Rattle.mw_types.specs.Outcomes.{Outcome}
+use Rattle.injector.specs.Sources.{Source, SourceLine, IsSource, item_at, stated_at}
+use Rattle.injector.specs.declared.item.Item.{Item}
+use Rattle.topology.specs.declared.subscription.Subscription.{Subscription}
+use Rattle.topology.specs.Shapes.{Shape, consumers_of, kind_of, injectors_of}
+use Rattle.computations.specs.Handlers.{effects_of_record, effects_of_timer}
+use Rattle.row_parts.specs.Contents.{Contents, fresh, with_timer, set_again, without_timer, is_timer, same_id}
+use Rattle.run_history.specs.Cases.{CaseShape, source_of, record_of, fresh_of}
+use Rattle.run_history.specs.Made.{found_delivery, row_written, productions_of, late_cause, deliveries_of, deliveries_made}
+use Rattle.run_history.specs.Runs.{Run, run_of, row_of, followed, changed, with_timers, still_unhandled, empty_run}
+use Rattle.run_history.specs.Legal.{MayFollow, IsLegal}
+use Rattle.history_laws.specs.Inputs.{IsRunnable}
+use Rattle.history_laws.specs.Finished.{handles}
+use Rattle.history_laws.specs.Ids.{is_left}
+use Rattle.history_laws.proofs.Lists.{none_some, some_same, each-append, each-all, each-weaker, each-filter, find-each}
+use Rattle.history_laws.proofs.Along.{along_history}
+use Rattle.history_laws.proofs.Made.{deliveries_made-each}
+use Rattle.history_laws.proofs.FeedLaws.{kind-ranged}
+use Rattle.history_laws.proofs.HandlerBounds.{IsAfter, IsTimerAfter, IsProductionAfter, record-after, timer-after}
+use Rattle.history_laws.proofs.PendingLaws.{was_some}
+use Rattle.history_laws.proofs.IdLaws.{still_unhandled-filter}
+use Rattle.history_laws.proofs.RowSteps.{each_row-followed, row_of-each, made_row, both_Equal}
+
+-- ---- sources
+
+-- a source without lines keeps the rules of a source
+empty_source : IsSource []
+empty_source = record {
+  stamps = λ k d less. absurd (omega (arith, less));
+  marks = λ k d less. absurd (omega (arith, less));
+  rising = λ i j d le less. absurd (omega (arith, less));
+  lateness = λ k d less. absurd (omega (arith, less));
+}
+
+-- the source of each part keeps the rules of a source
+pub source_of-source : (case : CaseShape) (part : ℕ) → IsRunnable case → IsSource (source_of case part)
+source_of-source case part runs = by_source (slice_get case.sources part) refl
+  where
+    by_source : (o : Option Source) → slice_get case.sources part ≡ o → IsSource (unwrap_or o [])
+    by_source None at = empty_source
+    by_source (Some source) at = subst IsSource (get_or_from_slice_get case.sources part source source at)
+        (All-get_or IsSource case.sources part source (slice_get_within case.sources part source at) runs.sources)
+
+-- the line from which a record was injected
+pub line_of : (source : Source) (line : ℕ) (item : Record) → option_map record_of (item_at source line) ≡ Some item
+    → (l : SourceLine) × (slice_get source line ≡ Some l) × (record_of l.item ≡ item)
+line_of source line item of =
+    let one = was_some record_of (item_at source line) item of in
+    let two = was_some (λ (l : SourceLine). l.item) (slice_get source line) one.0 one.1 in
+    (two.0, two.1, ap record_of two.2 ∙ one.2)
+
+-- what holds of each line holds of a line that is found
+pub line-each : (P : SourceLine → Type 0) (source : Source) (line : ℕ) (l : SourceLine) → All P source → slice_get source line ≡ Some l → P l
+line-each P source line l each at = subst P (get_or_from_slice_get source line l l at) (All-get_or P source line l (slice_get_within source line l at) each)
+
+-- an injected record has an input's timestamp
+pub injected-in_time : (source : Source) (line : ℕ) (item : Record) → IsSource source → option_map record_of (item_at source line) ≡ Some item → item.stamp ≤ INPUT_MAX
+injected-in_time source line item rules of =
+    let l = line_of source line item of in
+    subst (λ (r : Record). r.stamp ≤ INPUT_MAX) l.2 (line-each (λ (l : SourceLine). l.item.stamp ≤ INPUT_MAX) source line l.0 rules.stamps l.1)
+
+-- ---- timers that are set
+
+-- timers that tie are due at one time
+tie_time : (a b : Timer) → timer_cmp a b ≡ Equal → a.time ≡ b.time
+tie_time a b e = exact_unsigned a.time b.time (both_Equal _ _ e).0
+
+-- a fact of timers that are not late, which may be set again at the same time
+with_timer-each : (P : Timer → Type 0) → ((t u : Timer) → t.time ≡ u.time → P t → P u → P (set_again t u)) → (t : Timer) (ts : List Timer)
+    → P t → AllByRecursion P ts → AllByRecursion P (with_timer t ts)
+with_timer-each P again t [] new each = (new, tt)
+with_timer-each P again t (u ∷ us) new each =
+    elim (timer_cmp t u) as (λ r. timer_cmp t u ≡ r → AllByRecursion P (match_ordering r (t ∷ u ∷ us) (set_again t u ∷ us) (u ∷ with_timer t us))) [
+      | Less ↦ λ e. (new, each)
+      | Equal ↦ λ e. (again t u (tie_time t u e) new each.0, each.1)
+      | Greater ↦ λ e. (each.0, with_timer-each P again t us new each.1)
+    ] refl
+
+-- and of several, set one after another
+pub with_timers-each : (P : Timer → Type 0) → ((t u : Timer) → t.time ≡ u.time → P t → P u → P (set_again t u)) → (set ts : List Timer)
+    → AllByRecursion P set → AllByRecursion P ts → AllByRecursion P (with_timers set ts)
+with_timers-each P again [] ts new each = each
+with_timers-each P again (t ∷ set) ts new each = with_timers-each P again set (with_timer t ts) new.1 (with_timer-each P again t ts new.0 each)
+
+-- ---- what is in time
+
+-- each of these timers is due by the greatest timestamp
+abbrev pub InTime : List Timer → Type 0
+InTime = AllByRecursion (λ (t : Timer). t.time ≤ MAX_STAMP)
+
+-- the stamps of all that was made and that waits, and the times of all timers, are at most the greatest timestamp
+pub record AreInTime (run : Run) : Type 0 where
+  pub made : AllByRecursion (λ (d : Delivery). d.item.stamp ≤ MAX_STAMP) run.made
+  pub waiting : AllByRecursion (λ (d : Delivery). d.item.stamp ≤ MAX_STAMP) run.unhandled
+  pub timers : AllByRecursion (λ (r : RowName × Contents). InTime r.1.timers) run.rows
+
+-- the timers of the row of a name are in time
+pub row_of-in_time : (shape : Shape) (run : Run) (name : RowName) → AreInTime run → InTime (row_of shape run name).timers
+row_of-in_time shape run name in_time = row_of-each shape run name (λ (c : Contents). InTime c.timers) in_time.timers tt
+
+-- what stands at a place of a list has what each has
+pub at-each : {X : Type 0} (P : X → Type 0) (xs : List X) (n : ℕ) (x : X) → AllByRecursion P xs → slice_get xs n ≡ Some x → P x
+at-each P [] n x each at = absurd (none_some x at)
+at-each P (y ∷ ys) Rattle.std.proofs.Common.zero x each at = subst P (some_same y x at) each.0
+at-each P (y ∷ ys) (Rattle.std.proofs.Common.suc n) x each at = at-each P ys n x each.1 at
+
+-- a handled record that waited, with what its computation's handler leaves of it
+pub handle-after : (case : CaseShape) (run : Run) (seq : ℕ) (row : RowName) (id : RecordId) (effects : Outcome) → IsRunnable case → AreInTime run
+    → (may : MayFollow case run (Handle seq row id effects)) → IsAfter may.delivery.item.stamp may.delivery.item.late effects
+handle-after case run seq row id effects runs in_time may =
+    let kind = was_some (λ (kind : Kind). effects_of_record kind row.key (row_of case.topology run row).state may.delivery.item) (kind_of case.topology row.part) effects may.does in
+    subst (IsAfter may.delivery.item.stamp may.delivery.item.late) kind.2
+    (record-after kind.0 row.key (row_of case.topology run row).state may.delivery.item (kind-ranged case.topology row.part kind.0 runs.topology kind.1)
+    (find-each (λ (d : Delivery). d.item.stamp ≤ MAX_STAMP) (λ (d : Delivery). same_id d.id id) run.unhandled may.delivery in_time.waiting may.waits))
+
+-- a timer that fires is in time
+pub fire-in_time : (case : CaseShape) (run : Run) (seq : ℕ) (row : RowName) (timer : Timer) (mark : ℕ) (effects : Outcome) → AreInTime run
+    → MayFollow case run (Fire seq row timer mark effects) → timer.time ≤ MAX_STAMP
+fire-in_time case run seq row timer mark effects in_time may =
+    at-each (λ (t : Timer). t.time ≤ MAX_STAMP) (row_of case.topology run row).timers 0 timer (row_of-in_time case.topology run row in_time) may.least_timer
+
+-- a fired timer, with what its computation's handler leaves of it
+pub fire-after : (case : CaseShape) (run : Run) (seq : ℕ) (row : RowName) (timer : Timer) (mark : ℕ) (effects : Outcome) → AreInTime run
+    → MayFollow case run (Fire seq row timer mark effects) → IsAfter timer.time timer.late effects
+fire-after case run seq row timer mark effects in_time may =
+    let kind = was_some (λ (kind : Kind). effects_of_timer kind row.key (row_of case.topology run row).state timer) (kind_of case.topology row.part) effects may.does in
+    subst (IsAfter timer.time timer.late) kind.2
+    (timer-after kind.0 row.key (row_of case.topology run row).state timer (fire-in_time case run seq row timer mark effects in_time may))
+
+-- deliveries of productions that are in time are in time
+made-in_time : (shape : Shape) (part : ℕ) (productions : List Production) (late : Bool) (commit : ℕ)
+    → AllByRecursion (λ (p : Production). p.stamp ≤ MAX_STAMP) productions
+    → AllByRecursion (λ (d : Delivery). d.item.stamp ≤ MAX_STAMP) (deliveries_made shape part productions late commit)
+made-in_time shape part productions late commit in_time =
+    deliveries_made-each shape part productions late commit (λ s. ⊤) (λ (p : Production). p.stamp ≤ MAX_STAMP) (λ to item. item.stamp ≤ MAX_STAMP)
+    (λ s p _ in_time. in_time) (each-all (λ s. ⊤) (λ s. tt) (consumers_of shape part)) in_time
+
+-- what an entry makes is in time
+sent-in_time : (case : CaseShape) (run : Run) (entry : Entry) → IsRunnable case → AreInTime run → MayFollow case run entry
+    → AllByRecursion (λ (d : Delivery). d.item.stamp ≤ MAX_STAMP) (deliveries_of case.topology run.made run.next entry)
+sent-in_time case run (Claim worker interval) runs in_time may = tt
+sent-in_time case run (Inject seq part line item) runs in_time may =
+    let input = injected-in_time (source_of case part) line item (source_of-source case part runs) may.of_line in
+    made-in_time case.topology part (record { key = item.key; stamp = item.stamp; value = item.value } ∷ []) item.late run.next (omega (arith, input), tt)
+sent-in_time case run (Handle seq row id effects) runs in_time may =
+    made-in_time case.topology row.part effects.productions _ run.next
+    (each-weaker (IsProductionAfter may.delivery.item.stamp) (λ (p : Production). p.stamp ≤ MAX_STAMP) (λ p (after : IsProductionAfter may.delivery.item.stamp p). after.in_time)
+    effects.productions (handle-after case run seq row id effects runs in_time may).productions)
+sent-in_time case run (Fire seq row timer mark effects) runs in_time may =
+    made-in_time case.topology row.part effects.productions _ run.next
+    (each-weaker (IsProductionAfter timer.time) (λ (p : Production). p.stamp ≤ MAX_STAMP) (λ p (after : IsProductionAfter timer.time p). after.in_time)
+    effects.productions (fire-after case run seq row timer mark effects in_time may).productions)
+sent-in_time case run (Ack seq row id) runs in_time may = tt
+sent-in_time case run (Purge seq row floor) runs in_time may = tt
+
+-- the timers that an entry leaves in its row are in time
+timers-in_time : (case : CaseShape) (run : Run) (entry : Entry) (sent : List Delivery) (row : Contents) → IsRunnable case → AreInTime run → MayFollow case run entry
+    → InTime row.timers → InTime (changed entry sent row).timers
+timers-in_time case run (Claim worker interval) sent row runs in_time may old = old
+timers-in_time case run (Inject seq part line item) sent row runs in_time may old = old
+timers-in_time case run (Handle seq name id effects) sent row runs in_time may old =
+    with_timers-each (λ (t : Timer). t.time ≤ MAX_STAMP) (λ t u same p q. q) effects.timers row.timers
+    (each-weaker (IsTimerAfter may.delivery.item.stamp may.delivery.item.late) (λ (t : Timer). t.time ≤ MAX_STAMP)
+    (λ t (after : IsTimerAfter may.delivery.item.stamp may.delivery.item.late t). after.in_time) effects.timers (handle-after case run seq name id effects runs in_time may).timers) old
+timers-in_time case run (Fire seq name timer mark effects) sent row runs in_time may old =
+    each-filter (λ (t : Timer). t.time ≤ MAX_STAMP) (λ t. not (is_timer timer.tag timer.time t)) row.timers old
+timers-in_time case run (Ack seq name id) sent row runs in_time may old = old
+timers-in_time case run (Purge seq name floor) sent row runs in_time may old = old
+
+-- one more entry keeps all in time
+pub AreInTime-followed : (case : CaseShape) (run : Run) (entry : Entry) → IsRunnable case → AreInTime run → MayFollow case run entry
+    → AreInTime (followed case.topology run entry)
+AreInTime-followed case run entry runs in_time may =
+    let sent = sent-in_time case run entry runs in_time may in record {
+      made = each-append (λ (d : Delivery). d.item.stamp ≤ MAX_STAMP) run.made _ in_time.made sent;
+      waiting = each-append (λ (d : Delivery). d.item.stamp ≤ MAX_STAMP) (still_unhandled entry run.unhandled) _
+          (subst (AllByRecursion (λ (d : Delivery). d.item.stamp ≤ MAX_STAMP)) (sym (still_unhandled-filter entry run.unhandled))
+          (each-filter (λ (d : Delivery). d.item.stamp ≤ MAX_STAMP) (λ (d : Delivery). not (handles d.id entry)) run.unhandled in_time.waiting)) sent;
+      timers = each_row-followed case.topology run entry (λ (c : Contents). InTime c.timers) (λ (c : Contents). InTime c.timers) in_time.timers (λ c p. p)
+          (λ name written. timers-in_time case run entry (deliveries_of case.topology run.made run.next entry) (row_of case.topology run name) runs in_time may
+          (row_of-in_time case.topology run name in_time));
+    }
+
+-- after each legal history all is in time
+pub legal-in_time : (case : CaseShape) (history : List Entry) → IsRunnable case → IsLegal case history → AreInTime (run_of case.topology history)
+legal-in_time case history runs = along_history case (λ done run. AreInTime run) (λ done run entry in_time may. AreInTime-followed case run entry runs in_time may)
+    (record { made = tt; waiting = tt; timers = tt }) history

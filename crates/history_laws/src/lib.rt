@@ -1,0 +1,30 @@
+//! The laws of histories: what holds of every legal history, whoever wrote it.
+//!
+//! Each law is the contract of a function with an empty body, which says what the definitions of
+//! `run_history` say of each history and of each beginning of it. Stands on `run_history`,
+//! `key_intervals`, `row_parts` and `row_keeper`. Public contract: the floor and the low watermarks
+//! never fall, ids tell what waits, no timestamp is above the greatest, and a row that was read under
+//! the last claim of its interval is the row of the whole history. Definitions: `specs/Fences.antt`,
+//! which histories are fenced; `specs/Finished.antt`, what is handled and how much work is left;
+//! `specs/Stored.antt`, what a keeper has to hold.
+#![tactic(auto)]
+
+mod floors;
+mod ids;
+mod intervals;
+mod rows;
+mod senders;
+mod stamps;
+mod stored;
+mod watermarks;
+mod writes;
+
+pub use floors::{floor_is_least_unacknowledged, floor_never_falls};
+pub use ids::{ids_ascend, ids_tell_what_is_finished, ids_tell_what_waits};
+pub use intervals::rows_lie_in_the_interval_that_has_them;
+pub use rows::{rows_are_as_known, rows_are_as_seen, rows_change_by_their_entries};
+pub use senders::{pending_is_unacknowledged, senders_keep_what_they_made};
+pub use stamps::stamps_are_in_time;
+pub use stored::one_row_is_stored_anew;
+pub use watermarks::low_watermark_never_falls;
+pub use writes::{claims_are_lawful, seen_writes_are_lawful};

@@ -1,0 +1,18 @@
+use Rattle.std.proofs.Common.{◌≡◌, ◌∙◌, List, All, sym, subst}
+use Rattle.mw_types.specs.declared.key.PartCuts.{PartCuts}
+use Rattle.key_intervals.specs.Intervals.{AreNumbered, AreCuts}
+use Rattle.run_history.proofs.CaseIntervals.{part_cuts_of-numbered, part_cuts_of-cuts, intervals-few}
+use Rattle.run_history.proofs.case.intervals_in.Goals as goal
+
+pub of-requires-clause-numbered : goal.of-requires-clause-numbered
+of-requires-clause-numbered c =
+    subst (AreNumbered 0) (sym (c.as_slice.ensures.elements ∙ c.in_ok-cuts.ensures.cut)) (part_cuts_of-numbered c.args.topology.now)
+
+pub of-requires-clause-cuts : goal.of-requires-clause-cuts
+of-requires-clause-cuts c =
+    subst (All (λ (p : PartCuts). AreCuts p.cuts)) (sym (c.as_slice.ensures.elements ∙ c.in_ok-cuts.ensures.cut))
+    (part_cuts_of-cuts c.args.topology.now c.parts-parts.ensures.rules)
+
+pub of-requires-clause-few : goal.of-requires-clause-few
+of-requires-clause-few c =
+    intervals-few c.args.topology.now c.as_slice.result.now c.parts-parts.ensures.rules (c.as_slice.ensures.elements ∙ c.in_ok-cuts.ensures.cut)
