@@ -1,3 +1,6 @@
 pub mod Refusals
 pub mod Reasons
-pub mod Validity
+pub mod Telling
+pub mod Plainness
+pub mod Lines
+pub mod Writing

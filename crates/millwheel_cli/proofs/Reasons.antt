@@ -1,87 +1,100 @@
 -- Why a file was refused is why the call was.
-use Rattle.std.proofs.Common.{◌≡◌, ◌≤◌, ℕ, List, Option, Some, None, IfSome, IsSomeAnd, length, ◌<◌, refl, sym, subst, inl, inr, arith}
+use Rattle.std.proofs.Common.{◌≡◌, ◌≤◌, ◌<◌, ◌⊎◌, ℕ, List, Option, Some, None, IfSome, IsSomeAnd, Result, Err, length, refl, subst, inl, inr, arith}
 use Rattle.mw_types.specs.Causes.{Rose}
 use Rattle.mw_ports.specs.Shelves.{Files}
+use Rattle.topology.specs.Shapes.{Shape}
+use Rattle.millwheel_cli.specs.FileRules.{topology_of}
+use Rattle.injector.specs.EventFiles.{source_of}
+use Rattle.millwheel_cli.specs.declared.status.Status.{Status}
+use Rattle.millwheel_cli.specs.declared.status.Status.TheVariants as status
 use Rattle.millwheel_cli.specs.declared.refusal.Refusal.{Refusal}
-use Rattle.millwheel_cli.specs.declared.refusal.Refusal.TheVariants.{Usage, NoFile, EventsRefused, SinkFails, NoMemory, ReadFault, TooLong, NotBuilt}
-use Rattle.millwheel_cli.specs.Words.{Names, names_of, topology_limit, events_limit}
-use Rattle.millwheel_cli.specs.Files.{HoldsTopology}
-use Rattle.millwheel_cli.specs.Answers.{ShelfSeen, IsNamed, HasReason}
-use Rattle.millwheel_cli.specs.Inside.{status_of, IsSizeRefusal, IsItemsRefusal}
-
--- the topology's file is named by the words
-topology_named : (words : List (List ℕ)) (names : Names) (n : List ℕ) → names_of words ≡ Some names → n ≡ names.0 → IsNamed words n topology_limit
-topology_named words names n named same = record { names = names; named = named; which = inl (same, refl) }
-
--- the event file is named by the words
-events_named : (words : List (List ℕ)) (names : Names) (n : List ℕ) → names_of words ≡ Some names → n ≡ names.1 → IsNamed words n events_limit
-events_named words names n named same = record { names = names; named = named; which = inr (same, refl) }
+use Rattle.millwheel_cli.specs.declared.refusal.Refusal.TheVariants.{Usage, NoFile, TopologyRefused, EventsRefused, SinkFails, NoMemory, ReadFault, TooLong, FileCount, NotBuilt}
+use Rattle.millwheel_cli.specs.Words.{Names, names_of, events_limit, lines_limit}
+use Rattle.millwheel_cli.specs.Files.{HoldsAs, HoldsTopology, source_taken}
+use Rattle.millwheel_cli.specs.Reasons.{ShelfSeen, IsUnread, IsFileRefused, IsTopologyRefused, IsSourceRefused, IsRefused, HasReason}
+use Rattle.millwheel_cli.specs.Inside.{status_of, UnlessWant}
+use Rattle.millwheel_cli.proofs.Refusals.{unless_map, built_of-usage, unstated_of-usage}
 
 -- what rose later rose over the whole
 Rose-before : (a b c : ℕ) → a ≤ b → Rose b c → Rose a c
 Rose-before a b c le rose = omega (arith, le, rose)
 
+-- `Usage` is no reason why a file is refused
+file-usage : {T : Type 0} (seen : ShelfSeen) (name : List ℕ) (limit : ℕ) (taken : List ℕ → Result T Status)
+    → ((bytes : List ℕ) → taken bytes ≡ Err status.Usage → ⊥) → IsFileRefused seen name limit taken status.Usage → ⊥
+file-usage seen name limit taken apart is = elim is [
+  | inl unread ↦ absurd unread
+  | inr held ↦ apart held.bytes held.gives
+]
+
+-- why one of the two files is refused is why the call is
+file_reason : (seen : ShelfSeen) (words : List (List ℕ)) (refusal : Refusal)
+    → (IsRefused seen words status.Usage → ⊥) → UnlessWant (IsRefused seen words) refusal → HasReason seen words (status_of refusal)
+file_reason seen words Usage apart is = absurd (apart is)
+file_reason seen words (NoFile name) apart is = is
+file_reason seen words (TopologyRefused why) apart is = is
+file_reason seen words (EventsRefused line why) apart is = is
+file_reason seen words SinkFails apart is = tt
+file_reason seen words NoMemory apart is = tt
+file_reason seen words (ReadFault name) apart is = is
+file_reason seen words (TooLong name) apart is = is
+file_reason seen words (FileCount files injectors) apart is = is
+file_reason seen words NotBuilt apart is = is
+
+-- `Usage` is no reason why one of the two files is refused
+refused-usage : (seen : ShelfSeen) (words : List (List ℕ)) → IsRefused seen words status.Usage → ⊥
+refused-usage seen words is = elim is.why [
+  | inl topology ↦ file-usage seen is.names.0 _ _ (λ bytes e. built_of-usage (topology_of bytes) e) topology
+  | inr source ↦ file-usage seen is.names.1 _ _ (λ bytes e. unstated_of-usage (source_of lines_limit bytes) e) source.refused
+]
+
 -- why the topology's file was refused is why the call was
-pub size_reason : (seen : ShelfSeen) (words : List (List ℕ)) (names : Names) (refusal : Refusal)
-    → names_of words ≡ Some names → IsSizeRefusal seen names.0 refusal → HasReason seen words (status_of refusal)
-size_reason seen words names Usage named is = absurd is
-size_reason seen words names (NoFile n) named is = record {
-  limit = topology_limit;
-  named = topology_named words names n named is.0;
-  lacked = is.1;
-  told = subst (λ m. IfSome seen.files (λ held. held m ≡ None)) (sym is.0) is.2;
-}
-size_reason seen words names (EventsRefused line why) named is = absurd is
-size_reason seen words names SinkFails named is = tt
-size_reason seen words names NoMemory named is = tt
-size_reason seen words names (ReadFault n) named is = record {
-  limit = topology_limit;
-  named = topology_named words names n named is.0;
-  failed = is.1;
-}
-size_reason seen words names (TooLong n) named is = record {
-  limit = topology_limit;
-  named = topology_named words names n named is.0;
-  lacked = is.1;
-  told = subst (λ m. IfSome seen.files (λ held. IsSomeAnd (held m) (λ bytes. topology_limit < length bytes))) (sym is.0) is.2;
-}
-size_reason seen words names NotBuilt named is = record { names = names; named = named; form = inl is }
+pub topology_reason : (seen : ShelfSeen) (words : List (List ℕ)) (names : Names) (refusal : Refusal)
+    → names_of words ≡ Some names → UnlessWant (IsTopologyRefused seen names.0) refusal → HasReason seen words (status_of refusal)
+topology_reason seen words names refusal named is = file_reason seen words refusal (refused-usage seen words)
+    (unless_map (IsTopologyRefused seen names.0) (IsRefused seen words) refusal
+    (λ s why. record { names = names; named = named; why = inl why }) is)
+
+-- what a later read saw is part of what the whole call saw
+unread_over : (files : Option Files) (f0 f1 f2 l0 l1 l2 : ℕ) (name : List ℕ) (limit : ℕ) (s : Status) → f0 ≤ f1 → l0 ≤ l1
+    → IsUnread (record { files = files; faults = (f1, f2); lacks = (l1, l2) }) name limit s
+    → IsUnread (record { files = files; faults = (f0, f2); lacks = (l0, l2) }) name limit s
+unread_over files f0 f1 f2 l0 l1 l2 name limit status.Ok f l is = absurd is
+unread_over files f0 f1 f2 l0 l1 l2 name limit status.Usage f l is = absurd is
+unread_over files f0 f1 f2 l0 l1 l2 name limit (status.NoFile n) f l is = (is.0, Rose-before l0 l1 l2 l is.1, is.2)
+unread_over files f0 f1 f2 l0 l1 l2 name limit (status.TopologyRefused why) f l is = absurd is
+unread_over files f0 f1 f2 l0 l1 l2 name limit (status.EventsRefused file line why) f l is = absurd is
+unread_over files f0 f1 f2 l0 l1 l2 name limit status.SinkFault f l is = absurd is
+unread_over files f0 f1 f2 l0 l1 l2 name limit status.NoMemory f l is = absurd is
+unread_over files f0 f1 f2 l0 l1 l2 name limit (status.ReadFault n) f l is = (is.0, Rose-before f0 f1 f2 f is.1)
+unread_over files f0 f1 f2 l0 l1 l2 name limit (status.TooLong n) f l is = (is.0, Rose-before l0 l1 l2 l is.1, is.2)
+unread_over files f0 f1 f2 l0 l1 l2 name limit (status.FileCount n m) f l is = absurd is
+unread_over files f0 f1 f2 l0 l1 l2 name limit status.NotBuilt f l is = absurd is
 
 -- why the event file was refused is why the call was, where the topology was taken before
-items_reason_of : (files : Option Files) (f0 f1 f2 l0 l1 l2 : ℕ) (words : List (List ℕ)) (names : Names) (size : ℕ) (refusal : Refusal)
-    → names_of words ≡ Some names → HoldsTopology files names.0 size → f0 ≤ f1 → l0 ≤ l1
-    → IsItemsRefusal (record { files = files; faults = (f1, f2); lacks = (l1, l2) }) names.1 refusal
+items_reason_of : (files : Option Files) (f0 f1 f2 l0 l1 l2 : ℕ) (words : List (List ℕ)) (names : Names) (shape : Shape) (refusal : Refusal)
+    → names_of words ≡ Some names → HoldsTopology files names.0 shape → f0 ≤ f1 → l0 ≤ l1
+    → UnlessWant (IsFileRefused (record { files = files; faults = (f1, f2); lacks = (l1, l2) }) names.1 events_limit source_taken) refusal
     → HasReason (record { files = files; faults = (f0, f2); lacks = (l0, l2) }) words (status_of refusal)
-items_reason_of files f0 f1 f2 l0 l1 l2 words names size Usage named topology f l is = absurd is
-items_reason_of files f0 f1 f2 l0 l1 l2 words names size (NoFile n) named topology f l is = record {
-  limit = events_limit;
-  named = events_named words names n named is.0;
-  lacked = Rose-before l0 l1 l2 l is.1;
-  told = subst (λ m. IfSome files (λ held. held m ≡ None)) (sym is.0) is.2;
-}
-items_reason_of files f0 f1 f2 l0 l1 l2 words names size (EventsRefused line why) named topology f l is =
-    (refl, record { names = names; named = named; size = size; topology = topology; events = is })
-items_reason_of files f0 f1 f2 l0 l1 l2 words names size SinkFails named topology f l is = tt
-items_reason_of files f0 f1 f2 l0 l1 l2 words names size NoMemory named topology f l is = tt
-items_reason_of files f0 f1 f2 l0 l1 l2 words names size (ReadFault n) named topology f l is = record {
-  limit = events_limit;
-  named = events_named words names n named is.0;
-  failed = Rose-before f0 f1 f2 f is.1;
-}
-items_reason_of files f0 f1 f2 l0 l1 l2 words names size (TooLong n) named topology f l is = record {
-  limit = events_limit;
-  named = events_named words names n named is.0;
-  lacked = Rose-before l0 l1 l2 l is.1;
-  told = subst (λ m. IfSome files (λ held. IsSomeAnd (held m) (λ bytes. events_limit < length bytes))) (sym is.0) is.2;
-}
-items_reason_of files f0 f1 f2 l0 l1 l2 words names size NotBuilt named topology f l is =
-    record { names = names; named = named; form = inr (size, topology, is) }
+items_reason_of files f0 f1 f2 l0 l1 l2 words names shape refusal named topology f l is =
+    let later : ShelfSeen = record { files = files; faults = (f1, f2); lacks = (l1, l2) } in
+    let whole : ShelfSeen = record { files = files; faults = (f0, f2); lacks = (l0, l2) } in
+    file_reason whole words refusal (refused-usage whole words)
+    (unless_map (IsFileRefused later names.1 events_limit source_taken) (IsRefused whole words) refusal
+    (λ s why. record { names = names; named = named; why = inr (record {
+      shape = shape;
+      topology = topology;
+      refused = elim why [
+        | inl unread ↦ inl (unread_over files f0 f1 f2 l0 l1 l2 names.1 events_limit s f l unread)
+        | inr held ↦ inr held
+      ];
+    }) }) is)
 
 -- so it is where the shelf's files stayed as they were
-pub items_reason : (files later : Option Files) (f0 f1 f2 l0 l1 l2 : ℕ) (words : List (List ℕ)) (names : Names) (size : ℕ) (refusal : Refusal)
-    → later ≡ files → names_of words ≡ Some names → HoldsTopology files names.0 size → f0 ≤ f1 → l0 ≤ l1
-    → IsItemsRefusal (record { files = later; faults = (f1, f2); lacks = (l1, l2) }) names.1 refusal
+pub items_reason : (files later : Option Files) (f0 f1 f2 l0 l1 l2 : ℕ) (words : List (List ℕ)) (names : Names) (shape : Shape) (refusal : Refusal)
+    → later ≡ files → names_of words ≡ Some names → HoldsTopology files names.0 shape → f0 ≤ f1 → l0 ≤ l1
+    → UnlessWant (IsFileRefused (record { files = later; faults = (f1, f2); lacks = (l1, l2) }) names.1 events_limit source_taken) refusal
     → HasReason (record { files = files; faults = (f0, f2); lacks = (l0, l2) }) words (status_of refusal)
-items_reason files later f0 f1 f2 l0 l1 l2 words names size refusal same named topology f l is =
-    items_reason_of files f0 f1 f2 l0 l1 l2 words names size refusal named topology f l
-    (subst (λ (fs : Option Files). IsItemsRefusal (record { files = fs; faults = (f1, f2); lacks = (l1, l2) }) names.1 refusal) same is)
+items_reason files later f0 f1 f2 l0 l1 l2 words names shape refusal same named topology f l is =
+    items_reason_of files f0 f1 f2 l0 l1 l2 words names shape refusal named topology f l
+    (subst (λ (fs : Option Files). UnlessWant (IsFileRefused (record { files = fs; faults = (f1, f2); lacks = (l1, l2) }) names.1 events_limit source_taken) refusal) same is)

@@ -1,57 +1,66 @@
--- What a call was given: the bytes of the two files, and the case that they are. Own.
-use Rattle.std.specs.Prelude.{◌≡◌, ◌≤◌, ℕ, List, [], ◌∷◌, length, Option, Some, IfSome}
+-- What the bytes of the two files are taken for, what a call was given, and the case of that. Own.
+use Rattle.std.specs.Prelude.{◌≡◌, ◌≤◌, ◌==◌, ℕ, List, [], ◌∷◌, length, if◌then◌else◌, Option, Some, IfSome, Result, Ok, Err}
 use Rattle.mw_ports.specs.Shelves.{Files}
+use Rattle.millwheel_cli.specs.declared.stub.TopologyRefusal.{TopologyRefusal}
+use Rattle.millwheel_cli.specs.FileRules.{topology_of}
+use Rattle.topology.specs.Shapes.{Shape, injectors_of}
 use Rattle.injector.specs.Sources.{Source}
-use Rattle.topology.specs.Samples.{one_count}
+use Rattle.injector.specs.EventFiles.{source_of}
+use Rattle.injector.specs.declared.refusal.LinesRefusal.{LinesRefusal}
+use Rattle.injector.specs.declared.refusal.LinesRefusal.TheVariants.{Line}
+use Rattle.injector.specs.declared.refusal.LinesRefusal.TheVariants as lines
 use Rattle.run_history.specs.Cases.{CaseShape}
-use Rattle.millwheel_cli.specs.Words.{Names, names_of, topology_limit, events_limit, IsCountTopology, IsEventFile}
+use Rattle.millwheel_cli.specs.declared.status.Status.{Status}
+use Rattle.millwheel_cli.specs.declared.status.Status.TheVariants.{TopologyRefused, EventsRefused, FileCount, NoMemory, NotBuilt}
+use Rattle.millwheel_cli.specs.Words.{Names, names_of, topology_limit, events_limit, lines_limit}
+use Rattle.millwheel_cli.specs.Built.{is_built, is_unstated}
+
+-- a topology that is read is taken where it has one injector, for the one event file, and is built
+abbrev pub built_of : Result Shape TopologyRefusal → Result Shape Status
+built_of (Err why) = Err (TopologyRefused why)
+built_of (Ok shape) =
+    if injectors_of shape == 1 then (if is_built shape then Ok shape else Err NotBuilt)
+    else Err (FileCount 1 (injectors_of shape))
+
+-- the topology that the bytes of a file are taken for, or the status with which they are refused
+abbrev pub topology_taken : List ℕ → Result Shape Status
+topology_taken bytes = built_of (topology_of bytes)
+
+-- a source that is read is taken where no watermark stands before a line
+abbrev pub unstated_of : Result Source LinesRefusal → Result Source Status
+unstated_of (Err (Line line why)) = Err (EventsRefused 0 line why)
+unstated_of (Err lines.NoMemory) = Err NoMemory
+unstated_of (Ok source) = if is_unstated source then Ok source else Err NotBuilt
+
+-- the source that the bytes of an event file are taken for, or the status with which they are refused
+abbrev pub source_taken : List ℕ → Result Source Status
+source_taken bytes = unstated_of (source_of lines_limit bytes)
 
 -- the bytes are those of the file of that name, where the shelf tells its files
 abbrev pub IsContent : Option Files → List ℕ → List ℕ → Type 0
 IsContent files name bytes = IfSome files (λ held. held name ≡ Some bytes)
 
--- the file of that name held a topology with windows of this size
-pub record HoldsTopology (files : Option Files) (name : List ℕ) (size : ℕ) : Type 0 where
+-- the file of that name had so many bytes at most, and they are taken or refused so
+pub record HoldsAs {T : Type 0} (files : Option Files) (name : List ℕ) (limit : ℕ) (taken : List ℕ → Result T Status)
+    (result : Result T Status) : Type 0 where
   pub bytes : List ℕ
   pub content : IsContent files name bytes
-  pub topology : IsCountTopology bytes size
+  pub short : length bytes ≤ limit
+  pub gives : taken bytes ≡ result
+
+-- the file of that name held this topology
+abbrev pub HoldsTopology : Option Files → List ℕ → Shape → Type 0
+HoldsTopology files name shape = HoldsAs files name topology_limit topology_taken (Ok shape)
 
 -- the file of that name held this source
-pub record HoldsSource (files : Option Files) (name : List ℕ) (source : Source) : Type 0 where
-  pub bytes : List ℕ
-  pub content : IsContent files name bytes
-  pub events : IsEventFile bytes source
-
--- the case of windows of a size over a source
-abbrev pub count_case : ℕ → Source → CaseShape
-count_case size source = record { topology = one_count size; sources = source ∷ [] }
+abbrev pub HoldsSource : Option Files → List ℕ → Source → Type 0
+HoldsSource files name source = HoldsAs files name events_limit source_taken (Ok source)
 
 -- the case is that of the two files that the words name
 pub record IsCaseRead (files : Option Files) (words : List (List ℕ)) (case : CaseShape) : Type 0 where
   pub names : Names
   pub named : names_of words ≡ Some names
-  pub size : ℕ
-  pub topology : HoldsTopology files names.0 size
+  pub topology : HoldsTopology files names.0 case.topology
   pub source : Source
   pub events : HoldsSource files names.1 source
-  pub both : case ≡ count_case size source
-
--- the file of that name is there, within its limit
-pub record IsWithin (held : Files) (name : List ℕ) (limit : ℕ) (bytes : List ℕ) : Type 0 where
-  pub there : held name ≡ Some bytes
-  pub short : length bytes ≤ limit
-
--- the words and the files are as they have to be, on a shelf that tells its files
-pub record IsValid (files : Option Files) (words : List (List ℕ)) : Type 0 where
-  pub held : Files
-  pub told : files ≡ Some held
-  pub names : Names
-  pub named : names_of words ≡ Some names
-  pub topology : List ℕ
-  pub topology_there : IsWithin held names.0 topology_limit topology
-  pub size : ℕ
-  pub form : IsCountTopology topology size
-  pub events : List ℕ
-  pub events_there : IsWithin held names.1 events_limit events
-  pub source : Source
-  pub lines : IsEventFile events source
+  pub sources : case.sources ≡ source ∷ []

@@ -1,4 +1,9 @@
 pub mod Words
+pub mod Built
 pub mod Files
+pub mod Reasons
 pub mod Answers
+pub mod Numbers
 pub mod Inside
+pub mod Grammar
+pub mod FileRules

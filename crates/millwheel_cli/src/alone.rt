@@ -1,9 +1,10 @@
 //! The call behind the program.
-ghost use Rattle.std.specs.Prelude.{◌≡◌, ◌↔◌, ◌⊎◌, [], Err, IsErrOf, None};
+ghost use Rattle.std.specs.Prelude.{◌≡◌, ◌↔◌, ◌⊎◌, [], Err, IsErrOf, None, Some};
 ghost use Rattle.mw_types.specs.Causes.{HasCause, Rose};
 ghost use Rattle.millwheel_cli.specs.Words.{names_of};
-ghost use Rattle.millwheel_cli.specs.Files.{IsValid};
-ghost use Rattle.millwheel_cli.specs.Answers.{ShelfSeen, HasReason, HasWritten, HasHistory, IsWhole};
+ghost use Rattle.mw_ports.specs.Shelves.{Files};
+ghost use Rattle.millwheel_cli.specs.Reasons.{ShelfSeen, HasReason, answer_of};
+ghost use Rattle.millwheel_cli.specs.Answers.{HasWritten, HasHistory, IsWhole};
 ghost use Rattle.millwheel_cli.specs.Inside.{ending_of};
 
 use crate::reading::read_case;
@@ -46,10 +47,11 @@ pub fn millwheel_alone<S: Shelf, O: Sink>(
     } in HasReason seen words.now result.status }
     ensures sink_fault { result.status ≡ Status.SinkFault →
         Rose (O.faults out.old) (O.faults out.new) }
-    ensures valid { IsValid (S.files shelf.old) words.now
+    // Over a shelf that tells its files they decide the answer, unless something fails.
+    ensures answer { (held : Files) → S.files shelf.old ≡ Some held
         → (Rose (S.faults shelf.old) (S.faults shelf.new) → ⊥)
         → (Rose (O.faults out.old) (O.faults out.new) → ⊥)
-        → (result.status ≡ Status.Ok) ⊎ (result.status ≡ Status.NoMemory) }
+        → (result.status ≡ answer_of held words.now) ⊎ (result.status ≡ Status.NoMemory) }
 
     // Each status leaves what is said of it.
     ensures written { let old = O.text out.old in let new = O.text out.new in

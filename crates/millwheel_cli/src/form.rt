@@ -1,108 +1,89 @@
-//! The topology that is taken: one injector and one count.
-ghost use Rattle.std.specs.Prelude.{◌≡◌, ◌≤◌, ◌^◌, ◌↔◌, None, Some, IfErr, IfOk, IsTrue};
-ghost use Rattle.serde_json.specs.Data.{depth};
-ghost use Rattle.serde_json.specs.Read.{max_depth};
-ghost use Rattle.serde_json.specs.View.{view};
-ghost use Rattle.injector.specs.EventLines.{json_of};
-ghost use Rattle.millwheel_cli.specs.Words.{injector_data, reading_data, count_data, topology_data, IsCountTopology};
-ghost use Rattle.millwheel_cli.specs.Inside.{size_in, IsTopologyRefusal};
+//! The topologies that are taken: one injector, and at most one count.
+ghost use Rattle.std.specs.Prelude.{◌≡◌, ◌&&◌, Err, IfErr, IfOk, Ok};
+ghost use Rattle.topology.specs.Shapes.{injectors_of, parts_of};
+ghost use Rattle.topology.specs.Rules.{IsTopology};
+ghost use Rattle.plain_run.specs.Plain.{IsPlain};
+ghost use Rattle.millwheel_cli.specs.Built.{is_count, is_built};
+ghost use Rattle.millwheel_cli.specs.Files.{topology_taken};
+ghost use Rattle.millwheel_cli.specs.Inside.{UnlessWant, subscribes_once};
 
 use crate::refusal::Refusal;
-use mw_types::NoMemory;
-use serde_json::{Value, json};
+use crate::stub::read;
+use mw_types::Kind;
 use std::alloc::Global;
+use topology::{By, Subscription, Topology};
 
-// The widest windows that a count may have, in whole microseconds.
-const SIZE_MAX: u64 = 1 << 40;
-
-/// The size of the windows of the topology that these bytes are.
-pub fn size_of(alloc: Global, bytes: &[u8]) -> Result<u64, Refusal>
-    ensures topology { IfOk result (IsCountTopology bytes.now) }
-    ensures refused { IfErr result (IsTopologyRefusal bytes.now) }
+/// The topology that these bytes are taken for.
+pub fn topology_of(alloc: Global, bytes: &[u8]) -> Result<Topology, Refusal>
+    ensures taken { IfOk result (λ topology. topology_taken bytes.now ≡ Ok topology) }
+    ensures plain { IfOk result IsPlain }
+    ensures refused { IfErr result (UnlessWant (λ status. topology_taken bytes.now ≡ Err status)) }
 {
-    let value = value_of(alloc, bytes)?;
-    let Some(size) = size_in(&value) else {
-        return Err(Refusal::NotBuilt);
-    };
-    if size < 1 || size > SIZE_MAX {
+    let topology = read(alloc, bytes)?;
+    let injectors = topology.injectors();
+    if injectors != 1 {
+        return Err(Refusal::FileCount {
+            files: 1,
+            injectors,
+        });
+    }
+    if !is_built(&topology) {
         return Err(Refusal::NotBuilt);
     }
-    if !is_of_size(alloc, &value, size)? {
-        return Err(Refusal::NotBuilt);
-    }
-    Ok(size)
+    Ok(topology)
 }
 
-// The value of bytes that are one JSON text.
-fn value_of(alloc: Global, bytes: &[u8]) -> Result<Value, Refusal>
-    ensures value { IfOk result (λ value. json_of bytes.now ≡ Some (view value)) }
-    ensures nests { IfOk result (λ value. depth (view value) ≤ max_depth) }
-    ensures refused { IfErr result (IsTopologyRefusal bytes.now) }
+// Whether a topology of one injector is run.
+fn is_built(topology: &Topology) -> bool
+    requires { injectors_of topology.now ≡ 1 }
+    ensures { result ≡ is_built topology.now }
 {
-    match Value::from_slice(alloc, bytes) {
-        Ok(value) => Ok(value),
-        Err(error) => {
-            if error.is_memory() {
-                Err(Refusal::NoMemory)
-            } else {
-                Err(Refusal::NotBuilt)
-            }
-        }
+    match topology.parts() {
+        1 => true,
+        2 => is_counted(topology),
+        _ => false,
     }
 }
 
-// The size that a topology's value gives.
-fn size_in(value: &Value) -> Option<u64>
-    ensures { result ≡ size_in (view value.now) }
+// Whether the one computation is a count that reads once, by the whole key, and has no cuts.
+fn is_counted(topology: &Topology) -> bool
+    requires rules { IsTopology topology.now }
+    requires injector { injectors_of topology.now ≡ 1 }
+    requires computation { parts_of topology.now ≡ 2 }
+    ensures { result ≡ is_built topology.now }
 {
-    let computations = value.get("computations")?;
-    let computation = computations.get(0)?;
-    computation.get("size")?.as_u64()
+    let counts = is_count(topology.kind(1));
+    let reads = subscribes_once(topology.consumers(0));
+    let uncut = topology.cuts(1).is_empty();
+    all(counts, reads, uncut)
 }
 
-// Whether a value is the topology with windows of this size.
-fn is_of_size(alloc: Global, value: &Value, size: u64) -> Result<bool, NoMemory>
-    requires { depth (view value.now) ≤ max_depth }
-    ensures { IfOk result (λ same. IsTrue same ↔ (view value.now ≡ topology_data size)) }
+// Whether all three are true.
+fn all(first: bool, second: bool, third: bool) -> bool
+    ensures { result ≡ (first && second && third) }
 {
-    let taken = topology_value(alloc, size)?;
-    let want = taken.to_string(alloc)?;
-    let text = value.to_string(alloc)?;
-    Ok(text == want)
+    first && second && third
 }
 
-// The topology with windows of this size, as a value.
-fn topology_value(alloc: Global, size: u64) -> Result<Value, NoMemory>
-    ensures { IfOk result (λ value. view value ≡ topology_data size) }
+// Whether a kind is the count.
+fn is_count(kind: Kind) -> bool
+    ensures { result ≡ is_count kind }
 {
-    let injector = injector_value(alloc)?;
-    let count = count_value(alloc, size)?;
-    let value = json!(in alloc; {"computations": [&count], "injectors": [&injector]})?;
-    Ok(value)
+    match kind {
+        Kind::Count { .. } => true,
+        _ => false,
+    }
 }
 
-// Its injector.
-fn injector_value(alloc: Global) -> Result<Value, NoMemory>
-    ensures { IfOk result (λ value. view value ≡ injector_data) }
+// Whether there is one subscription, by the whole key.
+fn subscribes_once(subscriptions: &[Subscription]) -> bool
+    ensures { result ≡ subscribes_once subscriptions.now }
 {
-    let value = json!(in alloc; {"name": "clicks", "stream": "raw"})?;
-    Ok(value)
-}
-
-// Its count.
-fn count_value(alloc: Global, size: u64) -> Result<Value, NoMemory>
-    ensures { IfOk result (λ value. view value ≡ count_data size) }
-{
-    let reading = reading_value(alloc)?;
-    let value =
-        json!(in alloc; {"kind": "count", "name": "per_minute", "reads": [&reading], "size": size, "stream": "windows"})?;
-    Ok(value)
-}
-
-// What its count reads.
-fn reading_value(alloc: Global) -> Result<Value, NoMemory>
-    ensures { IfOk result (λ value. view value ≡ reading_data) }
-{
-    let value = json!(in alloc; {"by": "key", "stream": "raw"})?;
-    Ok(value)
+    match subscriptions {
+        [subscription] => match subscription.by {
+            By::Key => true,
+            _ => false,
+        },
+        _ => false,
+    }
 }

@@ -15,6 +15,7 @@ mod reading;
 mod refusal;
 mod run;
 mod status;
+mod stub;
 #[cfg(test)]
 mod tests;
 mod words;

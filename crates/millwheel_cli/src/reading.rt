@@ -1,13 +1,15 @@
 //! The reading of the two files that the words name.
 ghost use Rattle.std.specs.Prelude.{◌≡◌, ◌≤◌, ◌^◌, [], ◌∷◌, length, Err, IfErr, IfOk, None};
 ghost use Rattle.mw_ports.specs.Shelves.{Files};
+ghost use Rattle.topology.specs.Shapes.{injectors_of};
+ghost use Rattle.plain_run.specs.Plain.{IsPlain};
 ghost use Rattle.millwheel_cli.specs.Words.{names_of, topology_limit, events_limit};
-ghost use Rattle.millwheel_cli.specs.Files.{IsContent, HoldsTopology, HoldsSource, count_case, IsCaseRead};
-ghost use Rattle.millwheel_cli.specs.Answers.{ShelfSeen, HasReason};
-ghost use Rattle.millwheel_cli.specs.Inside.{of_shelf, status_of, IsReadRefusal, IsSizeRefusal, IsItemsRefusal, IsOfReading};
+ghost use Rattle.millwheel_cli.specs.Files.{source_taken, IsContent, HoldsTopology, HoldsSource, IsCaseRead};
+ghost use Rattle.millwheel_cli.specs.Reasons.{ShelfSeen, IsUnread, IsFileRefused, IsTopologyRefused, HasReason};
+ghost use Rattle.millwheel_cli.specs.Inside.{of_shelf, status_of, UnlessWant, IsOfReading};
 
 use crate::events::items_of;
-use crate::form::size_of;
+use crate::form::topology_of;
 use crate::refusal::Refusal;
 use crate::words::names;
 use injector::Items;
@@ -26,6 +28,7 @@ const EVENTS_MAX: u64 = 1 << 25;
 /// The case of the two files that the words name.
 pub fn read_case<S: Shelf>(alloc: Global, words: &[Name], shelf: &mut S) -> Result<Case, Refusal>
     ensures read { IfOk result (IsCaseRead (S.files shelf.old) words.now) }
+    ensures plain { IfOk result (λ case. IsPlain case.topology) }
     ensures reason { let seen : ShelfSeen = record {
       files = S.files shelf.old;
       faults = (S.faults shelf.old, S.faults shelf.new);
@@ -37,27 +40,32 @@ pub fn read_case<S: Shelf>(alloc: Global, words: &[Name], shelf: &mut S) -> Resu
     let Some((topology, events)) = names(words) else {
         return Err(Refusal::Usage);
     };
-    let size = read_size(alloc, shelf, topology)?;
+    let topology = read_topology(alloc, shelf, topology)?;
     let items = read_items(alloc, shelf, events)?;
-    let case = case_of(alloc, size, items)?;
+    let case = case_of(alloc, topology, items)?;
     Ok(case)
 }
 
-// The size of the windows of the topology in the file of that name.
-fn read_size<S: Shelf>(alloc: Global, shelf: &mut S, name: &Name) -> Result<u64, Refusal>
+// The topology in the file of that name.
+fn read_topology<S: Shelf>(
+    alloc: Global,
+    shelf: &mut S,
+    name: &Name,
+) -> Result<Topology, Refusal>
     ensures files { S.files shelf.new ≡ S.files shelf.old }
     ensures faults_later { S.faults shelf.old ≤ S.faults shelf.new }
     ensures lacks_later { S.lacks shelf.old ≤ S.lacks shelf.new }
     ensures topology { IfOk result (HoldsTopology (S.files shelf.old) name.now) }
+    ensures plain { IfOk result IsPlain }
     ensures refused { let seen : ShelfSeen = record {
       files = S.files shelf.old;
       faults = (S.faults shelf.old, S.faults shelf.new);
       lacks = (S.lacks shelf.old, S.lacks shelf.new);
-    } in IfErr result (IsSizeRefusal seen name.now) }
+    } in IfErr result (UnlessWant (IsTopologyRefused seen name.now)) }
 {
     let bytes = read_file(alloc, shelf, name, TOPOLOGY_MAX)?;
-    let size = size_of(alloc, bytes.as_slice())?;
-    Ok(size)
+    let topology = topology_of(alloc, bytes.as_slice())?;
+    Ok(topology)
 }
 
 // What the event file of that name holds.
@@ -70,7 +78,7 @@ fn read_items<S: Shelf>(alloc: Global, shelf: &mut S, name: &Name) -> Result<Ite
       files = S.files shelf.old;
       faults = (S.faults shelf.old, S.faults shelf.new);
       lacks = (S.lacks shelf.old, S.lacks shelf.new);
-    } in IfErr result (IsItemsRefusal seen name.now) }
+    } in IfErr result (UnlessWant (IsFileRefused seen name.now events_limit source_taken)) }
 {
     let bytes = read_file(alloc, shelf, name, EVENTS_MAX)?;
     let items = items_of(alloc, bytes.as_slice())?;
@@ -93,7 +101,7 @@ fn read_file<S: Shelf>(
       files = S.files shelf.old;
       faults = (S.faults shelf.old, S.faults shelf.new);
       lacks = (S.lacks shelf.old, S.lacks shelf.new);
-    } in IfErr result (IsReadRefusal seen name.now limit) }
+    } in IfErr result (UnlessWant (IsUnread seen name.now limit)) }
 {
     match shelf.read(alloc, name.text(), limit) {
         Ok(bytes) => Ok(bytes),
@@ -120,13 +128,11 @@ fn refusal_of(alloc: Global, name: &Name, fault: ShelfFault) -> Result<Refusal, 
     Ok(refusal)
 }
 
-// The case of windows of this size over these items.
-fn case_of(alloc: Global, size: u64, items: Items) -> Result<Case, NoMemory>
-    requires some { 1 ≤ size }
-    requires most { size ≤ 2 ^ 40 }
-    ensures { IfOk result (λ case. case ≡ count_case size items) }
+// The case of a topology of one injector, which has these items.
+fn case_of(alloc: Global, topology: Topology, items: Items) -> Result<Case, NoMemory>
+    requires { injectors_of topology ≡ 1 }
+    ensures { IfOk result (λ case. case ≡ record { topology = topology; sources = items ∷ [] }) }
 {
-    let topology = Topology::one_count(alloc, size)?;
     let mut all = Seq::new(alloc);
     all.push(items)?;
     Ok(Case {

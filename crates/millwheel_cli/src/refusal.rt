@@ -3,6 +3,7 @@ ghost use Rattle.std.specs.Prelude.{◌≡◌};
 ghost use Rattle.millwheel_cli.specs.Inside.{ending_of};
 
 use crate::status::Status;
+use crate::stub::TopologyRefusal;
 use injector::{LineWhy, LinesRefusal};
 use mw_ports::SinkFault;
 use mw_types::{Name, NoMemory};
@@ -12,11 +13,13 @@ use mw_types::{Name, NoMemory};
 pub enum Refusal {
     Usage,
     NoFile { name: Name },
+    TopologyRefused { why: TopologyRefusal },
     EventsRefused { line: u32, why: LineWhy },
     SinkFails,
     NoMemory,
     ReadFault { name: Name },
     TooLong { name: Name },
+    FileCount { files: u32, injectors: u32 },
     NotBuilt,
 }
 
@@ -28,6 +31,20 @@ impl From<NoMemory> for Refusal {
 
     fn from(_want: NoMemory) -> Refusal {
         Refusal::NoMemory
+    }
+}
+
+impl From<TopologyRefusal> for Refusal {
+    ghost use Rattle.std.specs.Prelude.{◌≡◌};
+    ghost use Rattle.millwheel_cli.specs.Inside.{of_topology};
+
+    ghost from_gives = { λ topology refusal. refusal ≡ of_topology topology };
+
+    fn from(topology: TopologyRefusal) -> Refusal {
+        match topology {
+            TopologyRefusal::NoMemory => Refusal::NoMemory,
+            why => Refusal::TopologyRefused { why },
+        }
     }
 }
 
@@ -67,11 +84,13 @@ pub fn ending_of(ending: Result<(), Refusal>) -> Status
         Ok(()) => Status::Ok,
         Err(Refusal::Usage) => Status::Usage,
         Err(Refusal::NoFile { name }) => Status::NoFile { name },
+        Err(Refusal::TopologyRefused { why }) => Status::TopologyRefused { why },
         Err(Refusal::EventsRefused { line, why }) => Status::EventsRefused { file: 0, line, why },
         Err(Refusal::SinkFails) => Status::SinkFault,
         Err(Refusal::NoMemory) => Status::NoMemory,
         Err(Refusal::ReadFault { name }) => Status::ReadFault { name },
         Err(Refusal::TooLong { name }) => Status::TooLong { name },
+        Err(Refusal::FileCount { files, injectors }) => Status::FileCount { files, injectors },
         Err(Refusal::NotBuilt) => Status::NotBuilt,
     }
 }

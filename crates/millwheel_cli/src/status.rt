@@ -1,6 +1,8 @@
 //! How a call of the program ended.
-ghost use Rattle.std.specs.Prelude.{◌≡◌, ◌↔◌};
+ghost use Rattle.std.specs.Prelude.{◌≡◌};
+ghost use Rattle.millwheel_cli.specs.Numbers.{number_of};
 
+use crate::stub::TopologyRefusal;
 use injector::LineWhy;
 use mw_types::Name;
 use std::fmt;
@@ -16,6 +18,11 @@ pub enum Status {
     NoFile {
         /// The word that names it.
         name: Name,
+    },
+    /// The topology's file breaks a rule.
+    TopologyRefused {
+        /// The first rule that it breaks, which is never want of memory.
+        why: TopologyRefusal,
     },
     /// A line of an event file breaks a rule.
     EventsRefused {
@@ -40,6 +47,13 @@ pub enum Status {
         /// The word that names it.
         name: Name,
     },
+    /// There are not as many event files as injectors.
+    FileCount {
+        /// How many event files the words name.
+        files: u32,
+        /// How many injectors the topology has.
+        injectors: u32,
+    },
     /// What was read asks for more than is built yet.
     NotBuilt,
 }
@@ -47,17 +61,19 @@ pub enum Status {
 impl Status {
     /// The number with which the program ends.
     pub fn number(&self) -> u8
-        ensures ok { (result ≡ 0) ↔ (self.now ≡ Status.Ok) }
+        ensures { result ≡ number_of self.now }
     {
         match self {
             Status::Ok => 0,
             Status::Usage => 2,
             Status::NoFile { .. } => 3,
+            Status::TopologyRefused { .. } => 4,
             Status::EventsRefused { .. } => 5,
             Status::SinkFault => 8,
             Status::NoMemory => 9,
             Status::ReadFault { .. } => 13,
             Status::TooLong { .. } => 14,
+            Status::FileCount { .. } => 15,
             Status::NotBuilt => 16,
         }
     }
@@ -70,6 +86,7 @@ impl fmt::Display for Status {
             Status::Ok => Ok(()),
             Status::Usage => f.write_str("usage: millwheel MODE ARGS"),
             Status::NoFile { name } => write!(f, "no file {}", name.text()),
+            Status::TopologyRefused { why } => write!(f, "topology refused: {why:?}"),
             Status::EventsRefused { file, line, why } => {
                 write!(f, "events refused: file {file} line {line}: {why:?}")
             }
@@ -77,6 +94,9 @@ impl fmt::Display for Status {
             Status::NoMemory => f.write_str("out of memory"),
             Status::ReadFault { name } => write!(f, "can't read {}", name.text()),
             Status::TooLong { name } => write!(f, "too long: {}", name.text()),
+            Status::FileCount { files, injectors } => {
+                write!(f, "{files} event files for {injectors} injectors")
+            }
             Status::NotBuilt => f.write_str("not built yet"),
         }
     }

@@ -1,4 +1,5 @@
 //! The first run, from its words to its text, and refusals by their values.
+use crate::stub::TopologyRefusal;
 use crate::{FirstDone, Status, millwheel_alone};
 use injector::LineWhy;
 use mw_ports::{FileList, MemShelf, MemSink, NamedFile};
@@ -27,10 +28,15 @@ fn file(alloc: Global, name: &str, content: &str) -> Result<NamedFile, NoMemory>
     })
 }
 
-// A shelf with the topology, and with these events, whose reads of these numbers fail.
-fn shelf(alloc: Global, events: &str, failing: CallList) -> Result<MemShelf, NoMemory> {
+// A shelf with these two files, whose reads of these numbers fail.
+fn shelf(
+    alloc: Global,
+    topology: &str,
+    events: &str,
+    failing: CallList,
+) -> Result<MemShelf, NoMemory> {
     let mut files = FileList::new(alloc);
-    files.push(file(alloc, "t.json", TOPOLOGY)?)?;
+    files.push(file(alloc, "t.json", topology)?)?;
     files.push(file(alloc, "e", events)?)?;
     Ok(MemShelf::of(files, failing))
 }
@@ -63,9 +69,26 @@ fn answer(
     events: &str,
     out: &mut MemSink,
 ) -> Result<FirstDone, NoMemory> {
-    let mut shelf = shelf(alloc, events, CallList::new(alloc))?;
+    let mut shelf = shelf(alloc, TOPOLOGY, events, CallList::new(alloc))?;
     let words = words(alloc, text)?;
     Ok(millwheel_alone(alloc, words.as_slice(), &mut shelf, out))
+}
+
+// The status for these two files, which has to come before the run.
+fn refused(
+    rt: &impl Abort,
+    alloc: Global,
+    topology: &str,
+    events: &str,
+) -> Result<Status, Fail> {
+    let mut shelf = shelf(alloc, topology, events, CallList::new(alloc))?;
+    let mut out = sink(alloc);
+    let words = words(alloc, "solo t.json e")?;
+    let FirstDone { status, history } =
+        millwheel_alone(alloc, words.as_slice(), &mut shelf, &mut out);
+    assert_eq!(rt; history.len(), 0);
+    assert_eq!(rt; out.text().len(), 0);
+    Ok(status)
 }
 
 // Runs these events to their end, and looks at what is written.
@@ -114,9 +137,12 @@ fn usage(rt: HostRuntime) -> Result<(), Fail> {
     for text in [
         "",
         "solo",
+        "solo t",
         "solo t.json",
+        "sing t.json e",
         "replay t.json e",
         "solo t.json e e",
+        "--history solo t.json e",
     ] {
         let done = answer(alloc, text, EVENTS, &mut out)?;
         assert_eq!(rt; done.status, Status::Usage, "{text}");
@@ -128,41 +154,241 @@ fn usage(rt: HostRuntime) -> Result<(), Fail> {
 fn no_such_file(rt: HostRuntime) -> Result<(), Fail> {
     let alloc = rt.alloc();
     let mut out = sink(alloc);
-    let done = answer(alloc, "solo t.json f", EVENTS, &mut out)?;
-    let name = Name::of(alloc, "f")?;
-    assert_eq!(rt; done.status, Status::NoFile { name });
+    for (text, missing) in [("solo t e", "t"), ("solo t.json f", "f")] {
+        let done = answer(alloc, text, EVENTS, &mut out)?;
+        let name = Name::of(alloc, missing)?;
+        assert_eq!(rt; done.status, Status::NoFile { name }, "{text}");
+    }
     Ok(())
 }
 
 #[test]
 fn read_fault(rt: HostRuntime) -> Result<(), Fail> {
-    let alloc = rt.alloc();
+    for (number, unread) in [(0, "t.json"), (1, "e")] {
+        let status = read_fails(rt.alloc(), number)?;
+        let name = Name::of(rt.alloc(), unread)?;
+        assert_eq!(rt; status, Status::ReadFault { name });
+    }
+    Ok(())
+}
+
+// The status where the read of this number fails.
+fn read_fails(alloc: Global, number: u64) -> Result<Status, NoMemory> {
+    let mut shelf = shelf(alloc, TOPOLOGY, EVENTS, call(alloc, number)?)?;
     let mut out = sink(alloc);
-    let mut shelf = shelf(alloc, EVENTS, call(alloc, 1)?)?;
     let words = words(alloc, "solo t.json e")?;
-    let done = millwheel_alone(alloc, words.as_slice(), &mut shelf, &mut out);
-    let name = Name::of(alloc, "e")?;
-    assert_eq!(rt; done.status, Status::ReadFault { name });
+    Ok(millwheel_alone(alloc, words.as_slice(), &mut shelf, &mut out).status)
+}
+
+#[test]
+fn topology_too_long(rt: HostRuntime) -> Result<(), Fail> {
+    let mut blank = String::new(rt.alloc());
+    for _ in 0..1 << 20 {
+        blank.push_str(" ")?;
+    }
+    // Blanks alone are within the limit, and are no JSON text.
+    let refused_at = refused(&rt, rt.alloc(), blank.as_str(), EVENTS)?;
+    let why = TopologyRefusal::NotJson;
+    assert_eq!(rt; refused_at, Status::TopologyRefused { why });
+    blank.push_str(" ")?;
+    let refused_above = refused(&rt, rt.alloc(), blank.as_str(), EVENTS)?;
+    let name = Name::of(rt.alloc(), "t.json")?;
+    assert_eq!(rt; refused_above, Status::TooLong { name });
     Ok(())
 }
 
 #[test]
 fn sink_fails_after_eight_bytes(rt: HostRuntime) -> Result<(), Fail> {
-    let alloc = rt.alloc();
-    let mut out = MemSink::of(alloc, 8, call(alloc, 1)?, CallList::new(alloc));
+    let failing = call(rt.alloc(), 1)?;
+    fails_after_eight(&rt, rt.alloc(), failing, CallList::new(rt.alloc()))
+}
+
+#[test]
+fn sink_takes_nothing(rt: HostRuntime) -> Result<(), Fail> {
+    let empty = call(rt.alloc(), 1)?;
+    fails_after_eight(&rt, rt.alloc(), CallList::new(rt.alloc()), empty)
+}
+
+// Writes eight bytes to a sink, after which it fails.
+fn fails_after_eight(
+    rt: &impl Abort,
+    alloc: Global,
+    failing: CallList,
+    empty: CallList,
+) -> Result<(), Fail> {
+    let mut out = MemSink::of(alloc, 8, failing, empty);
     let done = answer(alloc, "solo t.json e", EVENTS, &mut out)?;
     assert_eq!(rt; done.status, Status::SinkFault);
+    assert_eq!(rt; done.history.len(), 8);
     assert_eq!(rt; out.text(), b"{\"key\":\"".as_slice());
     Ok(())
 }
 
 #[test]
-fn cut_line(rt: HostRuntime) -> Result<(), Fail> {
-    let alloc = rt.alloc();
-    let mut out = sink(alloc);
+fn cut_line_is_refused(rt: HostRuntime) -> Result<(), Fail> {
     let events = "{\"key\":\"a\",\"ts\":10}\n{\"key\":\"a\",\"ts\":1";
-    let done = answer(alloc, "solo t.json e", events, &mut out)?;
+    let status = refused(&rt, rt.alloc(), TOPOLOGY, events)?;
     let (line, why) = (2, LineWhy::NotJson);
-    assert_eq!(rt; done.status, Status::EventsRefused { file: 0, line, why });
+    assert_eq!(rt; status, Status::EventsRefused { file: 0, line, why });
+    Ok(())
+}
+
+#[test]
+fn timestamp_above_greatest(rt: HostRuntime) -> Result<(), Fail> {
+    let events = "{\"key\":\"a\",\"ts\":4611686018427387905}";
+    let status = refused(&rt, rt.alloc(), TOPOLOGY, events)?;
+    let (line, why) = (1, LineWhy::BadStamp);
+    assert_eq!(rt; status, Status::EventsRefused { file: 0, line, why });
+    Ok(())
+}
+
+// The topology with one place changed.
+fn changed(alloc: Global, old: &str, new: &str) -> Result<String, Fail> {
+    let mut text = String::new(alloc);
+    if let Some((head, tail)) = TOPOLOGY.split_once(old) {
+        text.push_str(head)?;
+        text.push_str(new)?;
+        text.push_str(tail)?;
+    }
+    Ok(text)
+}
+
+// The status for the topology with this change.
+fn refused_with(rt: &impl Abort, alloc: Global, old: &str, new: &str) -> Result<Status, Fail> {
+    let topology = changed(alloc, old, new)?;
+    refused(rt, alloc, topology.as_str(), EVENTS)
+}
+
+#[test]
+fn unknown_stream(rt: HostRuntime) -> Result<(), Fail> {
+    let old = "\"reads\":[{\"stream\":\"raw\"";
+    let new = "\"reads\":[{\"stream\":\"later\"";
+    let status = refused_with(&rt, rt.alloc(), old, new)?;
+    let why = TopologyRefusal::UnknownStream;
+    assert_eq!(rt; status, Status::TopologyRefused { why });
+    Ok(())
+}
+
+// What stands between the injector of the topology and the end of its list.
+const INJECTORS_END: &str = "],\"computations\"";
+
+#[test]
+fn one_file_for_two_injectors(rt: HostRuntime) -> Result<(), Fail> {
+    let taps = ",{\"name\":\"taps\",\"stream\":\"more\"}],\"computations\"";
+    let status = refused_with(&rt, rt.alloc(), INJECTORS_END, taps)?;
+    let (files, injectors) = (1, 2);
+    assert_eq!(rt; status, Status::FileCount { files, injectors });
+    Ok(())
+}
+
+#[test]
+fn files_for_injectors(rt: HostRuntime) -> Result<(), Fail> {
+    let more =
+        ",{\"name\":\"taps\",\"stream\":\"more\"},{\"name\":\"views\",\"stream\":\"seen\"}],\"computations\"";
+    let status = refused_with(&rt, rt.alloc(), INJECTORS_END, more)?;
+    let (files, injectors) = (1, 3);
+    assert_eq!(rt; status, Status::FileCount { files, injectors });
+    Ok(())
+}
+
+#[test]
+fn other_topologies_are_not_built(rt: HostRuntime) -> Result<(), Fail> {
+    let reading = "{\"stream\":\"raw\",\"by\":\"key\"}";
+    for (old, new) in [
+        ("\"kind\":\"count\",\"size\":60", "\"kind\":\"pass\""),
+        ("\"by\":\"key\"", "\"by\":\"head\""),
+        ("\"stream\":\"windows\"", "\"stream\":\"windows\",\"cuts\":[\"h\"]"),
+        (
+            reading,
+            "{\"stream\":\"raw\",\"by\":\"key\"},{\"stream\":\"raw\",\"by\":\"key\"}",
+        ),
+        (
+            "\"windows\"}]",
+            "\"windows\"},{\"name\":\"all\",\"kind\":\"count\",\"size\":1,\"reads\":[{\"stream\":\"raw\",\"by\":\"key\"}],\"stream\":\"whole\"}]",
+        ),
+    ] {
+        let status = refused_with(&rt, rt.alloc(), old, new)?;
+        assert_eq!(rt; status, Status::NotBuilt, "{new}");
+    }
+    Ok(())
+}
+
+#[test]
+fn a_watermark_before_a_line_is_not_built(rt: HostRuntime) -> Result<(), Fail> {
+    let events = "{\"watermark\":1}\n{\"key\":\"a\",\"ts\":1}";
+    let status = refused(&rt, rt.alloc(), TOPOLOGY, events)?;
+    assert_eq!(rt; status, Status::NotBuilt);
+    Ok(())
+}
+
+#[test]
+fn other_names_and_spellings_are_taken(rt: HostRuntime) -> Result<(), Fail> {
+    let topology =
+        "{ \"computations\": [{\"stream\":\"sums\", \"cuts\":[], \"size\":60, \"kind\":\"count\", \"reads\":[{\"by\":\"key\",\"stream\":\"in_1\"}], \"name\":\"c\"}],\n \"injectors\": [{\"stream\":\"in_1\",\"name\":\"i\"}] }";
+    let events = "\n{\"value\":-3,\"ts\":59,\"key\":\"b\",\"note\":null}\r\n{\"watermark\":60}\n";
+    let mut shelf = shelf(rt.alloc(), topology, events, CallList::new(rt.alloc()))?;
+    let mut out = sink(rt.alloc());
+    let words = words(rt.alloc(), "solo t.json e")?;
+    let done = millwheel_alone(rt.alloc(), words.as_slice(), &mut shelf, &mut out);
+    assert_eq!(rt; done.status, Status::Ok);
+    assert_eq!(rt;
+        out.text(),
+        b"{\"key\":\"b\",\"stream\":\"sums\",\"ts\":60,\"value\":1}\n{\"fired\":1,\"handled\":1,\"injected\":1,\"late\":0}\n".as_slice()
+    );
+    Ok(())
+}
+
+#[test]
+fn an_unread_stream_is_written(rt: HostRuntime) -> Result<(), Fail> {
+    let topology = "{\"injectors\":[{\"name\":\"clicks\",\"stream\":\"raw\"}],\"computations\":[]}";
+    let events = "{\"key\":\"b\",\"ts\":7,\"value\":-3}";
+    let mut shelf = shelf(rt.alloc(), topology, events, CallList::new(rt.alloc()))?;
+    let mut out = sink(rt.alloc());
+    let words = words(rt.alloc(), "solo t.json e")?;
+    let done = millwheel_alone(rt.alloc(), words.as_slice(), &mut shelf, &mut out);
+    assert_eq!(rt; done.status, Status::Ok);
+    assert_eq!(rt;
+        out.text(),
+        b"{\"key\":\"b\",\"stream\":\"raw\",\"ts\":7,\"value\":-3}\n{\"fired\":0,\"handled\":0,\"injected\":1,\"late\":0}\n".as_slice()
+    );
+    Ok(())
+}
+
+#[test]
+fn each_status_has_its_text_and_number(rt: HostRuntime) -> Result<(), Fail> {
+    let alloc = rt.alloc();
+    says(&rt, alloc, &Status::Ok, 0, "")?;
+    says(&rt, alloc, &Status::Usage, 2, "usage: millwheel MODE ARGS")?;
+    let name = Name::of(alloc, "t.json")?;
+    says(&rt, alloc, &Status::NoFile { name }, 3, "no file t.json")?;
+    let why = TopologyRefusal::UnknownStream;
+    let refused = "topology refused: UnknownStream";
+    says(&rt, alloc, &Status::TopologyRefused { why }, 4, refused)?;
+    let (file, line, why) = (0, 2, LineWhy::NotJson);
+    let refused = "events refused: file 0 line 2: NotJson";
+    says(&rt, alloc, &Status::EventsRefused { file, line, why }, 5, refused)?;
+    says(&rt, alloc, &Status::SinkFault, 8, "the output failed")?;
+    says(&rt, alloc, &Status::NoMemory, 9, "out of memory")?;
+    let name = Name::of(alloc, "e")?;
+    says(&rt, alloc, &Status::ReadFault { name }, 13, "can't read e")?;
+    let name = Name::of(alloc, "e")?;
+    says(&rt, alloc, &Status::TooLong { name }, 14, "too long: e")?;
+    let (files, injectors) = (1, 2);
+    let unlike = "1 event files for 2 injectors";
+    says(&rt, alloc, &Status::FileCount { files, injectors }, 15, unlike)?;
+    says(&rt, alloc, &Status::NotBuilt, 16, "not built yet")
+}
+
+// Looks at the text and the number of a status.
+fn says(
+    rt: &impl Abort,
+    alloc: Global,
+    status: &Status,
+    number: u8,
+    text: &str,
+) -> Result<(), Fail> {
+    assert_eq!(rt; status.number(), number);
+    let said = format!(in alloc; "{status}")?;
+    assert_eq!(rt; said.as_str(), text);
     Ok(())
 }

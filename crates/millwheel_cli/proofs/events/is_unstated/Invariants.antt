@@ -1,7 +1,8 @@
-use Rattle.std.proofs.Common.{◌≡◌, ℕ, ◌<◌}
-use Rattle.injector.specs.Sources.{stated_at}
+use Rattle.std.proofs.Common.{◌≡◌, ◌==◌, drop}
+use Rattle.std.specs.List.{list_all}
+use Rattle.millwheel_cli.specs.Built.{is_unstated}
 use Rattle.millwheel_cli.proofs.events.is_unstated.Given as goal
 
--- no line so far has a watermark before it
+-- the lines that are left decide
 abbrev pub invariant-loop-line : goal.invariant-loop-line
-invariant-loop-line l = (line : ℕ) → line < l.line → stated_at l.items line ≡ 0
+invariant-loop-line l = is_unstated (drop l.line l.items) ≡ is_unstated l.items

@@ -1,0 +1,11 @@
+use Rattle.std.proofs.Common.{rules, ◌≡◌, ◌∙◌, sym, ap, ◌&&◌, ◌==◌, length}
+use Rattle.topology.specs.Shapes.{injectors_of, parts_of, kind_of, consumers_of, cuts_of}
+use Rattle.millwheel_cli.specs.Built.{is_count, is_built}
+use Rattle.millwheel_cli.specs.Inside.{subscribes_once}
+use Rattle.millwheel_cli.proofs.Plainness.{counted_by_accessors}
+use Rattle.millwheel_cli.proofs.form.is_counted.Goals as goal
+
+pub returns : goal.returns
+returns c =
+    let shape = c.args.topology.now in
+    search (rules, counted_by_accessors shape c.kind.result c.requires.rules c.requires.injector c.requires.computation c.kind.ensures.kind)

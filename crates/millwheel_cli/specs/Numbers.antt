@@ -1,0 +1,18 @@
+-- The exit status of the program for each status. Own.
+use Rattle.std.specs.Prelude.{ℕ}
+use Rattle.millwheel_cli.specs.declared.status.Status.{Status}
+use Rattle.millwheel_cli.specs.declared.status.Status.TheVariants.{Ok, Usage, NoFile, TopologyRefused, EventsRefused, SinkFault, NoMemory, ReadFault, TooLong, FileCount, NotBuilt}
+
+-- the number with which the program ends
+abbrev pub number_of : Status → ℕ
+number_of Ok = 0
+number_of Usage = 2
+number_of (NoFile name) = 3
+number_of (TopologyRefused why) = 4
+number_of (EventsRefused file line why) = 5
+number_of SinkFault = 8
+number_of NoMemory = 9
+number_of (ReadFault name) = 13
+number_of (TooLong name) = 14
+number_of (FileCount files injectors) = 15
+number_of NotBuilt = 16
