@@ -4,8 +4,8 @@ use Rattle.injector.specs.Sources.{Source}
 use Rattle.injector.specs.declared.refusal.LinesRefusal.{LinesRefusal}
 use Rattle.injector.specs.declared.refusal.LinesRefusal.TheVariants as lines
 use Rattle.topology.specs.Shapes.{Shape, injectors_of}
-use Rattle.millwheel_cli.specs.declared.stub.TopologyRefusal.{TopologyRefusal}
-use Rattle.millwheel_cli.specs.FileRules.{topology_of}
+use Rattle.topology.specs.declared.refusal.TopologyRefusal.{TopologyRefusal}
+use Rattle.topology.specs.FileRules.{topology_of}
 use Rattle.mw_ports.specs.Shelves.{Files}
 use Rattle.millwheel_cli.specs.declared.status.Status.{Status}
 use Rattle.millwheel_cli.specs.declared.status.Status.TheVariants as status

@@ -1,8 +1,8 @@
 -- What the bytes of the two files are taken for, what a call was given, and the case of that. Own.
 use Rattle.std.specs.Prelude.{◌≡◌, ◌≤◌, ◌==◌, ℕ, List, [], ◌∷◌, length, if◌then◌else◌, Option, Some, IfSome, Result, Ok, Err}
 use Rattle.mw_ports.specs.Shelves.{Files}
-use Rattle.millwheel_cli.specs.declared.stub.TopologyRefusal.{TopologyRefusal}
-use Rattle.millwheel_cli.specs.FileRules.{topology_of}
+use Rattle.topology.specs.declared.refusal.TopologyRefusal.{TopologyRefusal}
+use Rattle.topology.specs.FileRules.{topology_of}
 use Rattle.topology.specs.Shapes.{Shape, injectors_of}
 use Rattle.injector.specs.Sources.{Source}
 use Rattle.injector.specs.EventFiles.{source_of}

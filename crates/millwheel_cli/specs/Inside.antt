@@ -8,8 +8,8 @@ use Rattle.mw_ports.specs.declared.sink.SinkFault.{SinkFault}
 use Rattle.mw_ports.specs.declared.sink.SinkFault.TheVariants as sink
 use Rattle.mw_ports.specs.Sinks.{AppendsPrefix}
 use Rattle.topology.specs.declared.subscription.Subscription.{Subscription}
-use Rattle.millwheel_cli.specs.declared.stub.TopologyRefusal.{TopologyRefusal}
-use Rattle.millwheel_cli.specs.declared.stub.TopologyRefusal.TheVariants as topologies
+use Rattle.topology.specs.declared.refusal.TopologyRefusal.{TopologyRefusal}
+use Rattle.topology.specs.declared.refusal.TopologyRefusal.TheVariants as topologies
 use Rattle.injector.specs.declared.refusal.LinesRefusal.{LinesRefusal}
 use Rattle.injector.specs.declared.refusal.LinesRefusal.TheVariants.{Line}
 use Rattle.injector.specs.declared.refusal.LinesRefusal.TheVariants as lines

@@ -5,5 +5,3 @@ pub mod Reasons
 pub mod Answers
 pub mod Numbers
 pub mod Inside
-pub mod Grammar
-pub mod FileRules

@@ -8,10 +8,9 @@ ghost use Rattle.millwheel_cli.specs.Files.{topology_taken};
 ghost use Rattle.millwheel_cli.specs.Inside.{UnlessWant, subscribes_once};
 
 use crate::refusal::Refusal;
-use crate::stub::read;
 use mw_types::Kind;
 use std::alloc::Global;
-use topology::{By, Subscription, Topology};
+use topology::{By, Subscription, Topology, read};
 
 /// The topology that these bytes are taken for.
 pub fn topology_of(alloc: Global, bytes: &[u8]) -> Result<Topology, Refusal>

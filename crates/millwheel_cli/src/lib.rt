@@ -15,7 +15,6 @@ mod reading;
 mod refusal;
 mod run;
 mod status;
-mod stub;
 #[cfg(test)]
 mod tests;
 mod words;

@@ -135,8 +135,5 @@ fn case_of(alloc: Global, topology: Topology, items: Items) -> Result<Case, NoMe
 {
     let mut all = Seq::new(alloc);
     all.push(items)?;
-    Ok(Case {
-        topology,
-        items: all,
-    })
+    Case::of(alloc, topology, all)
 }

@@ -3,10 +3,10 @@ ghost use Rattle.std.specs.Prelude.{◌≡◌};
 ghost use Rattle.millwheel_cli.specs.Inside.{ending_of};
 
 use crate::status::Status;
-use crate::stub::TopologyRefusal;
 use injector::{LineWhy, LinesRefusal};
 use mw_ports::SinkFault;
 use mw_types::{Name, NoMemory};
+use topology::TopologyRefusal;
 
 /// Why a call did not come to its end: each status but Ok.
 #[derive(Debug, Drop)]

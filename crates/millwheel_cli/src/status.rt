@@ -2,10 +2,10 @@
 ghost use Rattle.std.specs.Prelude.{◌≡◌};
 ghost use Rattle.millwheel_cli.specs.Numbers.{number_of};
 
-use crate::stub::TopologyRefusal;
 use injector::LineWhy;
 use mw_types::Name;
 use std::fmt;
+use topology::TopologyRefusal;
 
 /// How a call of the program ended. Its number is the program's exit status.
 #[derive(Debug, Drop, PartialEq, Eq)]

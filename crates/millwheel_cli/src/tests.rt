@@ -1,5 +1,4 @@
 //! The first run, from its words to its text, and refusals by their values.
-use crate::stub::TopologyRefusal;
 use crate::{FirstDone, Status, millwheel_alone};
 use injector::LineWhy;
 use mw_ports::{FileList, MemShelf, MemSink, NamedFile};
@@ -7,6 +6,7 @@ use mw_types::{Bytes, CallList, Name, NoMemory, Seq};
 use std::alloc::Global;
 use std::process::Abort;
 use std::test::Fail;
+use topology::TopologyRefusal;
 
 // One count over windows of 60.
 const TOPOLOGY: &str =
