@@ -110,7 +110,8 @@ fn follow(
 
 // Whether the cause of an entry is late.
 fn is_late(lateness: &Lateness, entry: &Entry) -> bool
-    ensures { (made : List Sent) → KnowsLate lateness.now made → result ≡ late_cause made entry.now }
+    ensures { (made : List Sent) → KnowsLate lateness.now made →
+        result ≡ late_cause made entry.now }
 {
     match entry {
         Entry::Inject { item, .. } => item.late,
@@ -122,7 +123,11 @@ fn is_late(lateness: &Lateness, entry: &Entry) -> bool
 
 // An injected record, as what its injector produces.
 fn production(alloc: Global, item: &Record) -> Result<Production, NoMemory>
-    ensures { IfOk result (λ p. p ≡ record { key = item.now.key; stamp = item.now.stamp; value = item.now.value }) }
+    ensures { IfOk result (λ p. p ≡ record {
+      key = item.now.key;
+      stamp = item.now.stamp;
+      value = item.now.value;
+    }) }
 {
     Ok(Production {
         key: item.key.copy(alloc)?,
@@ -146,8 +151,10 @@ fn add(
     requires few { length productions.now ≤ 8 }
     requires commit { commit < 2 ^ 32 }
 
-    ensures learnt { OnOk result (Learns lateness.old lateness.new (deliveries_made topology.now part productions.now late commit)) }
-    ensures emitted { OnOk result (emissions.new ≡ emissions.old ++ emissions_made topology.now part productions.now late commit) }
+    ensures learnt { let sent = deliveries_made topology.now part productions.now late commit in
+        OnOk result (Learns lateness.old lateness.new sent) }
+    ensures emitted { let made = emissions_made topology.now part productions.now late commit in
+        OnOk result (emissions.new ≡ emissions.old ++ made) }
 {
     let consumers = consumers(topology, part);
     if consumers.is_empty() {

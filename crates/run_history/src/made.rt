@@ -34,8 +34,10 @@ pub fn make(
     requires few { length productions.now ≤ 8 }
     requires commit { commit < 2 ^ 32 }
 
-    ensures deliveries { IfOk result (λ made. made.deliveries ≡ deliveries_made topology.now part productions.now late commit) }
-    ensures emissions { IfOk result (λ made. made.emissions ≡ emissions_made topology.now part productions.now late commit) }
+    ensures deliveries { IfOk result (λ made.
+        made.deliveries ≡ deliveries_made topology.now part productions.now late commit) }
+    ensures emissions { IfOk result (λ made.
+        made.emissions ≡ emissions_made topology.now part productions.now late commit) }
 {
     let consumers = consumers(topology, part);
     let deliveries = deliveries(alloc, consumers, productions, late, commit)?;
@@ -70,7 +72,8 @@ pub(crate) fn deliveries(
 ) -> Result<DeliveryList, NoMemory>
     requires consumers { length consumers.now ≤ 64 }
     requires few { length productions.now ≤ 8 }
-    ensures { IfOk result (λ made. made ≡ deliveries_to consumers.now commit (map (produced late) productions.now)) }
+    ensures { IfOk result (λ made.
+        made ≡ deliveries_to consumers.now commit (map (produced late) productions.now)) }
 {
     let mut deliveries = Seq::new(alloc);
     for production in productions {
@@ -89,7 +92,9 @@ fn send(
     commit: u64,
 ) -> Result<(), NoMemory>
     requires { length deliveries.old + length consumers.now < 2 ^ 32 }
-    ensures { OnOk result (deliveries.new ≡ deliveries.old ++ map (delivery_at commit) (enumerate_from (length deliveries.old) (sends_of consumers.now (produced late production.now)))) }
+    ensures { let sends = sends_of consumers.now (produced late production.now) in
+        OnOk result (deliveries.new ≡ deliveries.old
+        ++ map (delivery_at commit) (enumerate_from (length deliveries.old) sends)) }
 {
     for consumer in consumers {
         let index = deliveries.len() as u32;
@@ -113,7 +118,9 @@ fn delivery(
     production: &Production,
     late: bool,
 ) -> Result<Delivery, NoMemory>
-    ensures { IfOk result (λ made. made ≡ delivery_at id.commit (id.index, (row_to (produced late production.now) consumer.now, produced late production.now))) }
+    ensures { let item = produced late production.now in
+        IfOk result (λ made.
+        made ≡ delivery_at id.commit (id.index, (row_to item consumer.now, item))) }
 {
     let to = RowName {
         part: consumer.to,
@@ -145,7 +152,9 @@ pub(crate) fn emit(
     commit: u64,
 ) -> Result<(), NoMemory>
     requires { length productions.now ≤ 8 }
-    ensures { OnOk result (emissions.new ≡ emissions.old ++ map (emission_at part commit) (enumerate_from 0 (map (produced late) productions.now))) }
+    ensures { let items = map (produced late) productions.now in
+        OnOk result (emissions.new ≡ emissions.old
+        ++ map (emission_at part commit) (enumerate_from 0 items)) }
 {
     for (index, production) in productions.iter().enumerate() {
         let item = record(alloc, production, late)?;

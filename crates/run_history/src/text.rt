@@ -37,7 +37,8 @@ fn sorted_lines(
     emissions: &[Emission],
 ) -> Result<Vec<ResultLine>, NoMemory>
     requires { All (λ e. e.part < parts_of topology.now) emissions.now }
-    ensures each_once { IfOk result (λ lines. IsPermutation (map (line_of topology.now) emissions.now) lines.items) }
+    ensures each_once { IfOk result (λ lines.
+        IsPermutation (map (line_of topology.now) emissions.now) lines.items) }
     ensures in_order { IfOk result (λ lines. IsSorted line_cmp lines.items) }
 {
     let mut lines = lines(alloc, topology, emissions)?;
@@ -76,7 +77,8 @@ fn line(alloc: Global, topology: &Topology, emission: &Emission) -> Result<Resul
 
 // Appends the texts of lines.
 fn write_lines(alloc: Global, text: &mut Bytes, lines: &[ResultLine]) -> Result<(), NoMemory>
-    ensures { OnOk result (text.new ≡ text.old ++ flat_map (λ line. as_line (line_data line)) lines.now) }
+    ensures { OnOk result
+        (text.new ≡ text.old ++ flat_map (λ line. as_line (line_data line)) lines.now) }
 {
     for line in lines {
         append(text, line.text(alloc)?.as_bytes())?;
@@ -172,7 +174,10 @@ impl Counts {
     fn with_inject(self, late: bool) -> Counts
         requires injected { self.injected + 1 < 2 ^ 64 }
         requires late { self.late + 1 < 2 ^ 64 }
-        ensures { result ≡ record self { injected = self.injected + 1; late = self.late + (if late then 1 else 0) } }
+        ensures { result ≡ record self {
+          injected = self.injected + 1;
+          late = self.late + (if late then 1 else 0);
+        } }
     {
         Counts {
             injected: self.injected + 1,

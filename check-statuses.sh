@@ -1,0 +1,47 @@
+#!/usr/bin/env bash
+# Runs the built program once for each status, and compares what it says and how it ends. It is no part
+# of the gate, since a program that is proved may not start another.
+set -u
+root="$(cd "$(dirname "$0")" && pwd)"
+"$root/run-example.sh" > /dev/null || exit 1
+program="$root/crates/millwheel/out/millwheel"
+room="$(mktemp -d)"
+trap 'rm -rf "$room"' EXIT
+cd "$room" || exit 1
+failed=0
+
+# The wanted status, the wanted text on standard error, and the words.
+expect() {
+    local number="$1" text="$2" said status
+    shift 2
+    said="$("$program" "$@" 2>&1 > "${out:-/dev/null}")"
+    status=$?
+    if [ "$status" != "$number" ] || [ "$said" != "$text" ]; then
+        echo "wanted $number '$text', got $status '$said': $*"
+        failed=1
+    fi
+}
+
+cp "$root/examples/t.json" t.json
+cp "$root/examples/e" e
+sed 's/"reads":\[{"stream":"raw"/"reads":[{"stream":"later"/' t.json > later.json
+sed 's/\],"computations"/,{"name":"taps","stream":"more"}],"computations"/' t.json > taps.json
+sed 's/"by":"key"/"by":"head"/' t.json > head.json
+printf '{"key":"a","ts":10}\n{"key":"a","ts":1' > cut
+head -c 1048577 /dev/zero | tr '\0' ' ' > long.json
+mkdir folder
+
+expect 0 '' solo t.json e
+expect 2 'millwheel: usage: millwheel MODE ARGS'
+expect 2 'millwheel: usage: millwheel MODE ARGS' sing t.json e
+expect 3 'millwheel: no file missing' solo t.json missing
+expect 4 'millwheel: topology refused: UnknownStream' solo later.json e
+expect 5 'millwheel: events refused: file 0 line 2: NotJson' solo t.json cut
+out=/dev/full expect 8 'millwheel: the output failed' solo t.json e
+expect 13 "millwheel: can't read folder" solo t.json folder
+expect 14 'millwheel: too long: long.json' solo long.json e
+expect 15 'millwheel: 1 event files for 2 injectors' solo taps.json e
+expect 16 'millwheel: not built yet' solo head.json e
+
+[ "$failed" = 0 ] && echo "each status has its text and its number"
+exit "$failed"
