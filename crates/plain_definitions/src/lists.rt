@@ -30,7 +30,7 @@ pub fn joined<X: Duplicate>(
 }
 
 // A list with one more element before it.
-fn before<X: Drop>(first: X, rest: Seq<X>) -> Result<Seq<X>, NoMemory>
+pub fn before<X: Drop>(first: X, rest: Seq<X>) -> Result<Seq<X>, NoMemory>
     ensures { IfOk result (λ all. all ≡ first ∷ rest) }
 {
     let mut all = rest;
@@ -39,7 +39,7 @@ fn before<X: Drop>(first: X, rest: Seq<X>) -> Result<Seq<X>, NoMemory>
 }
 
 // A list of what a slice holds.
-fn list_of<X: Duplicate>(alloc: Global, items: &[X]) -> Result<Seq<X>, NoMemory>
+pub fn list_of<X: Duplicate>(alloc: Global, items: &[X]) -> Result<Seq<X>, NoMemory>
     ensures { IfOk result (λ all. all ≡ items.now) }
 {
     let mut all = Seq::new(alloc);
