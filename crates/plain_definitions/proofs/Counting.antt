@@ -1,10 +1,9 @@
 -- How the cuts of the parts add up.
-use Rattle.std.proofs.Common.{◌≡◌, ℕ, ◌+◌, ◌-◌, ◌<◌, ◌≤◌, true, false, cond, [], drop, length, get_or, sum_by, refl, sym, ◌∙◌, ap, arith}
+use Rattle.std.proofs.Common.{◌≡◌, ℕ, ◌+◌, ◌-◌, ◌<◌, ◌≤◌, true, false, cond, List, [], drop, length, get_or, sum_by, refl, sym, ◌∙◌, ap, arith}
 use Rattle.std.specs.Prelude.{nat_lt, Some, None, slice_get, unwrap_or}
 use Rattle.std.specs.Option.{option_map}
 use Rattle.std.proofs.lemmas.Bool.{ltb-true}
 use Rattle.std.proofs.lemmas.Option.{slice_get-get_or}
-use Rattle.std.proofs.lemmas.List.{drop_all}
 use Rattle.std.proofs.lemmas.List.Sums.{sum_by-drop_more}
 use Rattle.mw_types.specs.declared.kind.Kind.TheVariants.{Pass}
 use Rattle.topology.specs.Shapes.{Shape, ComputationShape, parts_of, injectors_of, computation_of, cuts_of}
@@ -38,3 +37,12 @@ cuts_more shape part low high =
     sum_by-drop_more cuts shape.computations i no_computation within
     ∙ ap (λ n. n + sum_by cuts (drop (i + 1) shape.computations)) here
     ∙ ap (λ k. length (cuts_of shape part) + sum_by cuts (drop k shape.computations)) next
+
+-- the intervals once the cuts of one more computation are counted
+pub counted_more : (shape : Shape) (part count all : ℕ) (cuts : List (List ℕ)) → injectors_of shape ≤ part → part < parts_of shape
+    → cuts ≡ cuts_of shape part
+    → count + sum_by (λ (c : ComputationShape). length c.cuts) (drop (part - injectors_of shape) shape.computations) ≡ all
+    → count + length cuts + sum_by (λ (c : ComputationShape). length c.cuts) (drop (part + 1 - injectors_of shape) shape.computations) ≡ all
+counted_more shape part count all cuts low high cut left =
+    let longer : length cuts ≡ length (cuts_of shape part) = ap length cut in
+    omega (arith, cuts_more shape part low high, longer, left)

@@ -1,5 +1,5 @@
 //! Which entry may come next, which histories are legal, and when all is done, as truth values.
-ghost use Rattle.std.specs.Prelude.{◌≡◌, ◌↔◌, ◌+◌, ◌≤◌, ◌^◌, All, IsTrue, Some, length, slice_get, option_copied, IfOk, IfSome};
+ghost use Rattle.std.specs.Prelude.{◌≡◌, ◌↔◌, ◌+◌, ◌<◌, ◌≤◌, ◌^◌, All, IsTrue, Some, length, slice_get, option_copied, IfOk, IfSome};
 ghost use Rattle.std.specs.Option.{option_map};
 ghost use Rattle.mw_types.specs.Kinds.{IsKind};
 ghost use Rattle.injector.specs.Sources.{item_at};
@@ -8,6 +8,7 @@ ghost use Rattle.topology.specs.Rules.{interval_count};
 ghost use Rattle.run_history.specs.Cases.{source_of, record_of};
 ghost use Rattle.run_history.specs.Made.{productions_of};
 ghost use Rattle.run_history.specs.Printing.{IsOnPart, IsPrintable};
+ghost use Rattle.run_history.specs.Runs.{followed};
 ghost use Rattle.run_history.specs.Legal.{record_outcome, timer_outcome, MayClaim, MayInject, MayHandle, MayFire, MayAcknowledge, MayPurge, MayFollow, AreLegal, IsLegal};
 
 use crate::follow::{plain_empty_run, plain_followed, plain_row_of};
@@ -251,6 +252,16 @@ pub fn plain_may_follow(
     }
 }
 
+// What stands after one more entry of a case.
+fn followed_in(alloc: Global, case: &Case, run: &Run, entry: &Entry) -> Result<Run, NoMemory>
+    requires part { IsOnPart case.now.topology entry.now }
+    requires few { length (productions_of entry.now) ≤ 8 }
+    requires commit { run.now.next < 2 ^ 32 }
+    ensures { IfOk result (λ after. after ≡ followed case.now.topology run.now entry.now) }
+{
+    plain_followed(alloc, &case.topology, run, entry)
+}
+
 // Whether each of these entries may follow what stands before it.
 fn are_legal(alloc: Global, case: &Case, run: &Run, entries: &[Entry]) -> Result<bool, NoMemory>
     requires parts { All (IsOnPart case.now.topology) entries.now }
@@ -264,7 +275,7 @@ fn are_legal(alloc: Global, case: &Case, run: &Run, entries: &[Entry]) -> Result
     if !plain_may_follow(alloc, case, run, entry)? {
         return Ok(false);
     }
-    let after = plain_followed(alloc, &case.topology, run, entry)?;
+    let after = followed_in(alloc, case, run, entry)?;
     are_legal(alloc, case, &after, rest)
 }
 
