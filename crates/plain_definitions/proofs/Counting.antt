@@ -18,7 +18,7 @@ computation_of-there : (shape : Shape) (part : ℕ) → injectors_of shape ≤ p
 computation_of-there shape part low high =
     let within : part - injectors_of shape < length shape.computations = omega arith in
     elim (nat_lt part (injectors_of shape)) as (λ b. nat_lt part (injectors_of shape) ≡ b
-        → cond b None (slice_get shape.computations (part - injectors_of shape)) ≡ Some (get_or shape.computations (part - injectors_of shape) no_computation)) [
+    → cond b None (slice_get shape.computations (part - injectors_of shape)) ≡ Some (get_or shape.computations (part - injectors_of shape) no_computation)) [
       | true ↦ λ e. absurd (omega (arith, ltb-true part (injectors_of shape) e))
       | false ↦ λ e. slice_get-get_or shape.computations (part - injectors_of shape) no_computation within
     ] refl
@@ -33,7 +33,7 @@ cuts_more shape part low high =
     let within : i < length shape.computations = omega arith in
     let next : i + 1 ≡ part + 1 - injectors_of shape = omega arith in
     let here : length (get_or shape.computations i no_computation).cuts ≡ length (cuts_of shape part) =
-        sym (ap (λ o. length (unwrap_or (option_map (λ (c : ComputationShape). c.cuts) o) [])) (computation_of-there shape part low high)) in
+    sym (ap (λ o. length (unwrap_or (option_map (λ (c : ComputationShape). c.cuts) o) [])) (computation_of-there shape part low high)) in
     sum_by-drop_more cuts shape.computations i no_computation within
     ∙ ap (λ n. n + sum_by cuts (drop (i + 1) shape.computations)) here
     ∙ ap (λ k. length (cuts_of shape part) + sum_by cuts (drop k shape.computations)) next

@@ -15,7 +15,6 @@ use crate::run::{Contents, RowList, Run};
 use mw_types::{
     DeliveryList, Duplicate, Effects, Entry, IdList, NoMemory, RecordId, RowName, Seq, State, Timer,
 };
-
 use std::alloc::Global;
 use topology::Topology;
 
@@ -50,7 +49,7 @@ pub fn plain_row_of(
     run: &Run,
     name: &RowName,
 ) -> Result<Contents, NoMemory>
-    ensures { IfOk result (λ row. row ≡ row_of topology.now run.now name.now) }
+    ensures row { IfOk result (λ row. row ≡ row_of topology.now run.now name.now) }
 {
     match row_in(name, run.rows.as_slice()) {
         Some(contents) => contents.copy(alloc),
@@ -124,12 +123,9 @@ fn fired_in(
 }
 
 // A row after an injected line.
-fn injected_in(
-    alloc: Global,
-    sent: &DeliveryList,
-    row: Contents,
-) -> Result<Contents, NoMemory>
-    ensures { IfOk result (λ after. after ≡ record row { state = advanced row.state; pending = row.pending ++ sent.now }) }
+fn injected_in(alloc: Global, sent: &DeliveryList, row: Contents) -> Result<Contents, NoMemory>
+    ensures { IfOk result (λ after.
+        after ≡ record row { state = advanced row.state; pending = row.pending ++ sent.now }) }
 {
     Ok(Contents {
         state: advanced(row.state)?,
@@ -254,7 +250,7 @@ pub fn plain_followed(
 
 /// Before any entry.
 pub fn plain_empty_run(alloc: Global) -> Run
-    ensures { result ≡ empty_run }
+    ensures empty { result ≡ empty_run }
 {
     Run {
         next: 0,

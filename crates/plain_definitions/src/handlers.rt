@@ -14,7 +14,7 @@ use std::cmp::Ordering;
 
 /// The first state of a row of a computation of this kind.
 pub fn plain_fresh_state(alloc: Global, kind: Kind) -> State
-    ensures { result ≡ fresh_state kind }
+    ensures fresh { result ≡ fresh_state kind }
 {
     match kind {
         Kind::Count { .. } => State::Count {
@@ -184,7 +184,8 @@ fn count_timer(
     windows: &WindowList,
     timer: &Timer,
 ) -> Result<Outcome, NoMemory>
-    ensures { IfOk result (λ left. left ≡ count_timer key.now late windows.now (window_due windows.now timer.now)) }
+    ensures { let due = window_due windows.now timer.now in
+        IfOk result (λ left. left ≡ count_timer key.now late windows.now due) }
 {
     let Some(due) = window_due(windows.as_slice(), timer) else {
         let windows = windows.copy(alloc)?;
@@ -322,7 +323,12 @@ fn is_spike(last: u32, times: u32, known: &[i64], value: i64) -> Result<bool, No
 }
 
 // The last so many of the known totals and this one after them.
-fn known_with(alloc: Global, last: u32, known: &ValueList, value: i64) -> Result<ValueList, NoMemory>
+fn known_with(
+    alloc: Global,
+    last: u32,
+    known: &ValueList,
+    value: i64,
+) -> Result<ValueList, NoMemory>
     ensures { IfOk result (λ all. all ≡ known_with last known.now value) }
 {
     let mut all = known.copy(alloc)?;
@@ -350,7 +356,8 @@ fn spiked(
     }
 }
 
-// A total that is due goes to the known ones, and a spike is produced under the row's key; else nothing changes.
+// A total that is due goes to the known ones, and a spike is produced under the row's key; else nothing
+// changes.
 fn spike_timer(
     alloc: Global,
     last: u32,
@@ -361,7 +368,8 @@ fn spike_timer(
     known: &ValueList,
     timer: &Timer,
 ) -> Result<Outcome, NoMemory>
-    ensures { IfOk result (λ left. left ≡ spike_timer last times key.now late held.now known.now (total_due held.now timer.now)) }
+    ensures { let due = total_due held.now timer.now in
+        IfOk result (λ left. left ≡ spike_timer last times key.now late held.now known.now due) }
 {
     let Some(due) = total_due(held.as_slice(), timer) else {
         let held = held.copy(alloc)?;

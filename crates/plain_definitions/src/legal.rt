@@ -19,9 +19,7 @@ use crate::outcome::Outcome;
 use crate::run::Run;
 use crate::same::{Same, same_outcome};
 use injector::Item;
-use mw_types::{
-    Effects, Entry, Kind, NoMemory, Record, RecordId, RowName, Timer,
-};
+use mw_types::{Effects, Entry, Kind, NoMemory, Record, RecordId, RowName, Timer};
 use run_history::Case;
 use std::alloc::Global;
 use topology::Topology;
@@ -114,7 +112,8 @@ fn line_at(case: &Case, part: u32, line: u32) -> Option<&Item>
 
 // Whether a record is that of a line.
 fn is_of_line(case: &Case, part: u32, line: u32, item: &Record) -> bool
-    ensures { IsTrue result ↔ (option_map record_of (item_at (source_of case.now part) line) ≡ Some item.now) }
+    ensures { IsTrue result
+        ↔ (option_map record_of (item_at (source_of case.now part) line) ≡ Some item.now) }
 {
     match line_at(case, part, line) {
         Some(at) => {
@@ -136,7 +135,8 @@ fn may_inject(
     line: u32,
     item: &Record,
 ) -> Result<bool, NoMemory>
-    ensures { IfOk result (λ may. IsTrue may ↔ MayInject case.now run.now part line item.now) }
+    ensures { IfOk result (λ may. IsTrue may
+        ↔ MayInject case.now run.now part line item.now) }
 {
     let cursor = cursor_of(alloc, case, run, part)?;
     Ok(part < case.topology.injectors() && line == cursor && is_of_line(case, part, line, item))
@@ -151,7 +151,8 @@ fn may_handle(
     id: RecordId,
     effects: &Effects,
 ) -> Result<bool, NoMemory>
-    ensures { IfOk result (λ may. IsTrue may ↔ MayHandle case.now run.now row.now id effects.now) }
+    ensures { IfOk result (λ may. IsTrue may
+        ↔ MayHandle case.now run.now row.now id effects.now) }
 {
     let Some(delivery) = found_delivery(id, run.unhandled.as_slice()) else {
         return Ok(false);
@@ -180,15 +181,18 @@ fn may_fire(
     mark: u64,
     effects: &Effects,
 ) -> Result<bool, NoMemory>
-    ensures { IfOk result (λ may. IsTrue may ↔ MayFire case.now run.now row.now timer.now mark effects.now) }
+    ensures { IfOk result (λ may. IsTrue may
+        ↔ MayFire case.now run.now row.now timer.now mark effects.now) }
 {
     let contents = plain_row_of(alloc, &case.topology, run, row)?;
     let low = plain_low_watermark(alloc, case, run, row.part)?;
     let left = timer_outcome(alloc, case, run, row, timer)?;
-    Ok(is_least(contents.timers.as_slice(), timer)
-        && timer.time <= mark
-        && mark <= low
-        && leaves(&left, effects))
+    Ok(
+        is_least(contents.timers.as_slice(), timer)
+            && timer.time <= mark
+            && mark <= low
+            && leaves(&left, effects),
+    )
 }
 
 // Whether a sender may learn that what it made was handled.
@@ -235,10 +239,16 @@ pub fn plain_may_follow(
     match entry {
         Entry::Claim { worker, interval } => Ok(may_claim(case, *worker, *interval)),
         Entry::Inject {
-            part, line, item, ..
+            part,
+            line,
+            item,
+            ..
         } => may_inject(alloc, case, run, *part, *line, item),
         Entry::Handle {
-            row, id, effects, ..
+            row,
+            id,
+            effects,
+            ..
         } => may_handle(alloc, case, run, row, *id, effects),
         Entry::Fire {
             row,

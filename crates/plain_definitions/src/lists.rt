@@ -82,11 +82,7 @@ fn set_again(new: &Timer, old: &Timer) -> Timer
 }
 
 // The timers once this one is set too.
-pub fn with_timer(
-    alloc: Global,
-    timer: &Timer,
-    timers: &[Timer],
-) -> Result<TimerList, NoMemory>
+pub fn with_timer(alloc: Global, timer: &Timer, timers: &[Timer]) -> Result<TimerList, NoMemory>
     ensures { IfOk result (λ all. all ≡ with_timer timer.now timers.now) }
 {
     let [first, rest @ ..] = timers else {
@@ -100,11 +96,7 @@ pub fn with_timer(
 }
 
 // The timers once these are set too, one after another.
-pub fn with_timers(
-    alloc: Global,
-    set: &[Timer],
-    timers: &TimerList,
-) -> Result<TimerList, NoMemory>
+pub fn with_timers(alloc: Global, set: &[Timer], timers: &TimerList) -> Result<TimerList, NoMemory>
     ensures { IfOk result (λ all. all ≡ with_timers set.now timers.now) }
 {
     let mut all = timers.copy(alloc)?;
@@ -236,9 +228,6 @@ pub fn with_row(
             };
             before(again, list_of(alloc, rest)?)
         }
-        Ordering::Greater => before(
-            first.copy(alloc)?,
-            with_row(alloc, rest, name, contents)?,
-        ),
+        Ordering::Greater => before(first.copy(alloc)?, with_row(alloc, rest, name, contents)?),
     }
 }

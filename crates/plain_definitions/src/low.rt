@@ -118,13 +118,7 @@ fn feeds(topology: &Topology, part: u32) -> &[u32]
 }
 
 // The low watermark of a part, looking back through at most so many streams.
-fn low_under(
-    alloc: Global,
-    case: &Case,
-    run: &Run,
-    depth: u32,
-    part: u32,
-) -> Result<u64, NoMemory>
+fn low_under(alloc: Global, case: &Case, run: &Run, depth: u32, part: u32) -> Result<u64, NoMemory>
     ensures { IfOk result (λ low. low ≡ low_under case.now run.now depth part) }
 {
     let mut low = oldest_work(alloc, run, part)?;
@@ -156,7 +150,8 @@ pub fn plain_low_watermark(
 
 // Appends the commit numbers of deliveries.
 fn add_commits(commits: &mut MarkList, deliveries: &[Delivery]) -> Result<(), NoMemory>
-    ensures { OnOk result (commits.new ≡ commits.old ++ map (λ (d : Sent). d.id.commit) deliveries.now) }
+    ensures { let numbers = map (λ (d : Sent). d.id.commit) deliveries.now in
+        OnOk result (commits.new ≡ commits.old ++ numbers) }
 {
     for delivery in deliveries {
         commits.push(delivery.id.commit)?;
@@ -166,7 +161,8 @@ fn add_commits(commits: &mut MarkList, deliveries: &[Delivery]) -> Result<(), No
 
 // The commit numbers of all deliveries that are not acknowledged.
 fn pending_commits(alloc: Global, run: &Run) -> Result<MarkList, NoMemory>
-    ensures { IfOk result (λ all. all ≡ map (λ (d : Sent). d.id.commit) (flat_map (λ (r : Name × Kept). r.1.pending) run.now.rows)) }
+    ensures { let pending = flat_map (λ (r : Name × Kept). r.1.pending) run.now.rows in
+        IfOk result (λ all. all ≡ map (λ (d : Sent). d.id.commit) pending) }
 {
     let mut all = Seq::new(alloc);
     for row in run.rows.as_slice() {

@@ -75,8 +75,10 @@ pub fn plain_made(
     requires few { length (productions_of entry.now) ≤ 8 }
     requires commit { commit < 2 ^ 32 }
 
-    ensures deliveries { IfOk result (λ all. all.deliveries ≡ deliveries_of topology.now made.now commit entry.now) }
-    ensures emissions { IfOk result (λ all. all.emissions ≡ emissions_of topology.now made.now commit entry.now) }
+    ensures deliveries { IfOk result (λ all.
+        all.deliveries ≡ deliveries_of topology.now made.now commit entry.now) }
+    ensures emissions { IfOk result (λ all.
+        all.emissions ≡ emissions_of topology.now made.now commit entry.now) }
 {
     let Some(row) = row_written(alloc, entry)? else {
         return Ok(Made {

@@ -2,9 +2,7 @@
 ghost use Rattle.std.specs.Prelude.{◌≡◌, ◌↔◌, IsTrue};
 
 use crate::outcome::Outcome;
-use mw_types::{
-    Effects, HeldTotal, Key, Production, Record, RowName, State, Timer, Window,
-};
+use mw_types::{Effects, HeldTotal, Key, Production, Record, RowName, State, Timer, Window};
 
 // A value that tells whether another is the same.
 pub trait Same {

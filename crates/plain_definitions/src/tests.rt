@@ -3,7 +3,7 @@ ghost use Rattle.std.specs.Prelude.{IfOk};
 ghost use Rattle.mw_types.specs.Bounds.{IsWithin};
 
 use crate::{
-    Run, plain_effects_of_record, plain_effects_of_timer, plain_floor, plain_is_done,
+    Outcome, Run, plain_effects_of_record, plain_effects_of_timer, plain_floor, plain_is_done,
     plain_is_legal, plain_is_printable, plain_low_watermark, plain_run_of,
 };
 use injector::read_lines;
@@ -18,7 +18,8 @@ use std::test::Fail;
 use topology::Topology;
 
 // Three records of the key a, and no watermark.
-const LINES: &[u8] = b"{\"key\":\"a\",\"ts\":10}\n{\"key\":\"a\",\"ts\":59}\n{\"key\":\"a\",\"ts\":60}\n";
+const LINES: &[u8] =
+    b"{\"key\":\"a\",\"ts\":10}\n{\"key\":\"a\",\"ts\":59}\n{\"key\":\"a\",\"ts\":60}\n";
 
 // Windows of 60 over the three records.
 fn first_case(alloc: Global) -> Result<Case, Fail> {
@@ -80,12 +81,7 @@ fn counts(alloc: Global, windows: &[(u64, u64)], end: u32) -> Result<Effects, Fa
 }
 
 // A timer closes a window, and produces its count.
-fn closes(
-    alloc: Global,
-    windows: &[(u64, u64)],
-    end: u32,
-    count: i64,
-) -> Result<Effects, Fail> {
+fn closes(alloc: Global, windows: &[(u64, u64)], end: u32, count: i64) -> Result<Effects, Fail> {
     let state = open(alloc, windows)?;
     let key = Key::of(alloc, "a")?;
     let stamp = end as u64;
@@ -115,121 +111,137 @@ fn id_of(commit: u64) -> RecordId {
     RecordId { commit, index: 0 }
 }
 
+// A worker claims an interval.
+fn claim(entries: &mut EntryList, interval: u32) -> Result<(), Fail> {
+    entries.push(Entry::Claim {
+        worker: 0,
+        interval,
+    })?;
+    Ok(())
+}
+
 // A line is injected.
-fn inject(alloc: Global, line: u32, stamp: u64) -> Result<Entry, Fail> {
+fn inject(alloc: Global, entries: &mut EntryList, line: u32, stamp: u64) -> Result<(), Fail> {
     let item = Record {
         key: Key::of(alloc, "a")?,
         stamp,
         value: 1,
         late: false,
     };
-    Ok(Entry::Inject {
+    entries.push(Entry::Inject {
         seq: 0,
         part: 0,
         line,
         item,
-    })
+    })?;
+    Ok(())
 }
 
-// The record that an entry made is handled.
-fn handle(alloc: Global, seq: u64, commit: u64, effects: Effects) -> Result<Entry, Fail> {
-    Ok(Entry::Handle {
+// The record that an entry made is handled, and leaves these windows and the timer of an end.
+fn handle(
+    alloc: Global,
+    entries: &mut EntryList,
+    seq: u64,
+    commit: u64,
+    windows: &[(u64, u64)],
+    end: u32,
+) -> Result<(), Fail> {
+    let effects = counts(alloc, windows, end)?;
+    entries.push(Entry::Handle {
         seq,
         row: row_a(alloc)?,
         id: id_of(commit),
         effects,
-    })
+    })?;
+    Ok(())
 }
 
-// A window's timer fires, under its own time.
-fn fire(alloc: Global, seq: u64, end: u32, effects: Effects) -> Result<Entry, Fail> {
-    Ok(Entry::Fire {
+// The timer of an end fires under its own time, produces a count, and leaves these windows.
+fn fire(
+    alloc: Global,
+    entries: &mut EntryList,
+    seq: u64,
+    windows: &[(u64, u64)],
+    end: u32,
+    count: i64,
+) -> Result<(), Fail> {
+    let effects = closes(alloc, windows, end, count)?;
+    entries.push(Entry::Fire {
         seq,
         row: row_a(alloc)?,
         timer: end_of(end),
         mark: end as u64,
         effects,
-    })
+    })?;
+    Ok(())
 }
 
 // The injector learns that the record that an entry made was handled.
-fn acknowledge(alloc: Global, commit: u64) -> Entry {
-    Entry::Ack {
+fn acknowledge(alloc: Global, entries: &mut EntryList, commit: u64) -> Result<(), Fail> {
+    let row = RowName {
+        part: 0,
+        key: Key::none(alloc),
+    };
+    entries.push(Entry::Ack {
         seq: 0,
-        row: RowName {
-            part: 0,
-            key: Key::none(alloc),
-        },
+        row,
         id: id_of(commit),
-    }
+    })?;
+    Ok(())
 }
 
 // The row of the key a is purged.
-fn purge(alloc: Global, floor: u64) -> Result<Entry, Fail> {
-    Ok(Entry::Purge {
+fn purge(alloc: Global, entries: &mut EntryList, floor: u64) -> Result<(), Fail> {
+    entries.push(Entry::Purge {
         seq: 1,
         row: row_a(alloc)?,
         floor,
-    })
+    })?;
+    Ok(())
 }
 
-// A worker claims an interval.
-fn claim(interval: u32) -> Entry {
-    Entry::Claim {
-        worker: 0,
-        interval,
-    }
-}
+// What one line of the example is: its number and timestamp, and the windows and the timer that it leaves.
+type Step<'a> = (u32, u64, &'a [(u64, u64)], u32);
+
+// The three lines of the example.
+const STEPS: [Step<'static>; 3] = [
+    (0, 10, &[(60, 1)], 60),
+    (1, 59, &[(60, 2)], 60),
+    (2, 60, &[(60, 2), (120, 1)], 120),
+];
 
 // Each record is injected and handled, and then each window is closed.
 fn first_history(alloc: Global) -> Result<EntryList, Fail> {
-    let first = counts(alloc, &[(60, 1)], 60)?;
-    let second = counts(alloc, &[(60, 2)], 60)?;
-    let third = counts(alloc, &[(60, 2), (120, 1)], 120)?;
-    let all = vec![in alloc;
-        inject(alloc, 0, 10)?,
-        handle(alloc, 0, 0, first)?,
-        inject(alloc, 1, 59)?,
-        handle(alloc, 0, 2, second)?,
-        inject(alloc, 2, 60)?,
-        handle(alloc, 0, 4, third)?,
-        fire(alloc, 0, 60, closes(alloc, &[(120, 1)], 60, 2)?)?,
-        fire(alloc, 0, 120, closes(alloc, &[], 120, 1)?)?
-    ]?;
-    Ok(Seq::from_vec(all))
+    let mut all = Seq::new(alloc);
+    for (line, stamp, windows, end) in STEPS {
+        let commit = all.len() as u64;
+        inject(alloc, &mut all, line, stamp)?;
+        handle(alloc, &mut all, 0, commit, windows, end)?;
+    }
+    fire(alloc, &mut all, 0, &[(120, 1)], 60, 2)?;
+    fire(alloc, &mut all, 0, &[], 120, 1)?;
+    Ok(all)
 }
 
 // The same with claims, acknowledgements and a purge.
 fn drained_history(alloc: Global) -> Result<EntryList, Fail> {
-    let first = counts(alloc, &[(60, 1)], 60)?;
-    let second = counts(alloc, &[(60, 2)], 60)?;
-    let third = counts(alloc, &[(60, 2), (120, 1)], 120)?;
-    let all = vec![in alloc;
-        claim(0),
-        claim(1),
-        inject(alloc, 0, 10)?,
-        handle(alloc, 1, 2, first)?,
-        acknowledge(alloc, 2),
-        inject(alloc, 1, 59)?,
-        handle(alloc, 1, 5, second)?,
-        acknowledge(alloc, 5),
-        inject(alloc, 2, 60)?,
-        handle(alloc, 1, 8, third)?,
-        acknowledge(alloc, 8),
-        fire(alloc, 1, 60, closes(alloc, &[(120, 1)], 60, 2)?)?,
-        fire(alloc, 1, 120, closes(alloc, &[], 120, 1)?)?,
-        purge(alloc, 13)?
-    ]?;
-    Ok(Seq::from_vec(all))
+    let mut all = Seq::new(alloc);
+    claim(&mut all, 0)?;
+    claim(&mut all, 1)?;
+    for (line, stamp, windows, end) in STEPS {
+        let commit = all.len() as u64;
+        inject(alloc, &mut all, line, stamp)?;
+        handle(alloc, &mut all, 1, commit, windows, end)?;
+        acknowledge(alloc, &mut all, commit)?;
+    }
+    fire(alloc, &mut all, 1, &[(120, 1)], 60, 2)?;
+    fire(alloc, &mut all, 1, &[], 120, 1)?;
+    purge(alloc, &mut all, 13)?;
+    Ok(all)
 }
 
 // What stands after so many of the entries.
-fn run_after(
-    alloc: Global,
-    case: &Case,
-    entries: &EntryList,
-    count: usize,
-) -> Result<Run, Fail> {
+fn run_after(alloc: Global, case: &Case, entries: &EntryList, count: usize) -> Result<Run, Fail> {
     let entries = entries.as_slice();
     if count > entries.len() {
         return Err("there are fewer entries")?;
@@ -264,11 +276,20 @@ fn rows_are_left(rt: HostRuntime) -> Result<(), Fail> {
     let mut told = Vec::new(alloc);
     for row in run.rows.as_slice() {
         let contents = &row.contents;
-        assert!(rt; contents.timers.is_empty() && contents.pending.is_empty() && contents.seen.is_empty());
+        assert!(rt;
+            contents.timers.is_empty() && contents.pending.is_empty() && contents.seen.is_empty()
+        );
         told.push((row.name.part, contents.floor, contents.last))?;
     }
     assert!(rt; told.as_slice() == [(0, 0, 10), (1, 13, 13)].as_slice());
     Ok(())
+}
+
+// The low watermark of the count after so many of the entries.
+fn low_after(alloc: Global, case: &Case, entries: &EntryList, count: usize) -> Result<u64, Fail> {
+    let run = run_after(alloc, case, entries, count)?;
+    let low = plain_low_watermark(alloc, case, &run, 1)?;
+    Ok(low)
 }
 
 #[test]
@@ -277,11 +298,17 @@ fn the_low_watermark_is_0_then_60_then_120(rt: HostRuntime) -> Result<(), Fail> 
     let case = first_case(alloc)?;
     let history = first_history(alloc)?;
     for (count, want) in [(4, 0), (6, 60), (7, 120)] {
-        let run = run_after(alloc, &case, &history, count)?;
-        let low = plain_low_watermark(alloc, &case, &run, 1)?;
+        let low = low_after(alloc, &case, &history, count)?;
         assert_eq!(rt; low, want, "after {count} entries");
     }
     Ok(())
+}
+
+// The floor after so many of the entries.
+fn floor_after(alloc: Global, case: &Case, entries: &EntryList, count: usize) -> Result<u64, Fail> {
+    let run = run_after(alloc, case, entries, count)?;
+    let floor = plain_floor(alloc, &run)?;
+    Ok(floor)
 }
 
 #[test]
@@ -290,9 +317,159 @@ fn the_floor_is_that_of_what_is_pending(rt: HostRuntime) -> Result<(), Fail> {
     let case = first_case(alloc)?;
     let history = drained_history(alloc)?;
     for (count, want) in [(4, 2), (14, 14)] {
-        let run = run_after(alloc, &case, &history, count)?;
-        let floor = plain_floor(alloc, &run)?;
+        let floor = floor_after(alloc, &case, &history, count)?;
         assert_eq!(rt; floor, want, "after {count} entries");
     }
+    Ok(())
+}
+
+// Whether all is done after so many of the entries.
+fn done_after(alloc: Global, case: &Case, entries: &EntryList, count: usize) -> Result<bool, Fail> {
+    let run = run_after(alloc, case, entries, count)?;
+    let is = plain_is_done(alloc, case, &run)?;
+    Ok(is)
+}
+
+#[test]
+fn all_is_done_once_the_windows_are_closed(rt: HostRuntime) -> Result<(), Fail> {
+    let alloc = rt.alloc();
+    let case = first_case(alloc)?;
+    let history = first_history(alloc)?;
+    for (count, want) in [(0, false), (7, false), (8, true)] {
+        let is = done_after(alloc, &case, &history, count)?;
+        assert_eq!(rt; is, want, "after {count} entries");
+    }
+    let is = done_after(alloc, &case, &drained_history(alloc)?, 14)?;
+    assert!(rt; is);
+    Ok(())
+}
+
+// Whether the definitions call a history of the example's case legal.
+fn is_legal(alloc: Global, entries: &EntryList) -> Result<bool, Fail> {
+    let case = first_case(alloc)?;
+    let entries = entries.as_slice();
+    if !plain_is_printable(&case.topology, entries) {
+        return Err("the entries can't be printed")?;
+    }
+    let is = plain_is_legal(alloc, &case, entries)?;
+    Ok(is)
+}
+
+#[test]
+fn both_histories_are_legal(rt: HostRuntime) -> Result<(), Fail> {
+    let alloc = rt.alloc();
+    let first = is_legal(alloc, &first_history(alloc)?)?;
+    let drained = is_legal(alloc, &drained_history(alloc)?)?;
+    assert!(rt; first && drained);
+    Ok(())
+}
+
+#[test]
+fn a_record_that_is_handled_twice_is_not_legal(rt: HostRuntime) -> Result<(), Fail> {
+    let alloc = rt.alloc();
+    let mut all = Seq::new(alloc);
+    inject(alloc, &mut all, 0, 10)?;
+    handle(alloc, &mut all, 0, 0, &[(60, 1)], 60)?;
+    let once = is_legal(alloc, &all)?;
+    handle(alloc, &mut all, 0, 0, &[(60, 2)], 60)?;
+    let twice = is_legal(alloc, &all)?;
+    assert!(rt; once && !twice);
+    Ok(())
+}
+
+#[test]
+fn a_timer_before_it_is_due_is_not_legal(rt: HostRuntime) -> Result<(), Fail> {
+    let alloc = rt.alloc();
+    let mut all = Seq::new(alloc);
+    inject(alloc, &mut all, 0, 10)?;
+    handle(alloc, &mut all, 0, 0, &[(60, 1)], 60)?;
+    fire(alloc, &mut all, 0, &[], 60, 1)?;
+    let is = is_legal(alloc, &all)?;
+    assert!(rt; !is);
+    Ok(())
+}
+
+#[test]
+fn a_line_that_is_skipped_or_comes_twice_is_not_legal(rt: HostRuntime) -> Result<(), Fail> {
+    let alloc = rt.alloc();
+    for (line, stamp) in [(0, 10), (2, 60)] {
+        let mut all = Seq::new(alloc);
+        inject(alloc, &mut all, 0, 10)?;
+        inject(alloc, &mut all, line, stamp)?;
+        let is = is_legal(alloc, &all)?;
+        assert!(rt; !is);
+    }
+    Ok(())
+}
+
+// What a spike of 2 totals and a factor of 3 leaves of the timer of one held total.
+fn spike(
+    alloc: Global,
+    known: [i64; 2],
+    stamp: u64,
+    value: i64,
+    time: u64,
+) -> Result<Outcome, Fail> {
+    let mut held = Seq::new(alloc);
+    held.push(HeldTotal { stamp, value })?;
+    let mut totals = Seq::new(alloc);
+    totals.push(known[0])?;
+    totals.push(known[1])?;
+    let state = State::Spike {
+        late: 0,
+        held,
+        known: totals,
+    };
+    let key = Key::of(alloc, "a")?;
+    let timer = Timer {
+        tag: 0,
+        time,
+        late: false,
+    };
+    let kind = Kind::Spike { last: 2, times: 3 };
+    let left = plain_effects_of_timer(alloc, kind, &key, &state, &timer)?;
+    Ok(left)
+}
+
+#[test]
+fn a_total_far_above_the_mean_is_a_spike(rt: HostRuntime) -> Result<(), Fail> {
+    let alloc = rt.alloc();
+    // After totals of 1 and 1 a total of 7 is told, and one of 3 is not.
+    for (value, told) in [(7, true), (3, false)] {
+        let left = spike(alloc, [1, 1], 180, value, 181)?;
+        assert_eq!(rt; left.productions.len(), told as usize);
+        for production in left.productions.as_slice() {
+            assert_eq!(rt; (production.stamp, production.value), (181, value));
+        }
+        let State::Spike {
+            late: _,
+            held,
+            known,
+        } = &left.state
+        else {
+            return Err("this is no spike")?;
+        };
+        assert!(rt; held.is_empty() && known.as_slice() == [1, value].as_slice());
+    }
+    Ok(())
+}
+
+#[test]
+fn a_pass_produces_each_record_again(rt: HostRuntime) -> Result<(), Fail> {
+    let alloc = rt.alloc();
+    let item = Record {
+        key: Key::of(alloc, "x/y")?,
+        stamp: 5,
+        value: -3,
+        late: true,
+    };
+    let row = Key::of(alloc, "y")?;
+    let state = State::Pass { late: 0 };
+    let left = plain_effects_of_record(alloc, Kind::Pass, &row, &state, &item)?;
+    let [production] = left.productions.as_slice() else {
+        return Err("there is not one record")?;
+    };
+    assert!(rt; production.key == item.key && production.stamp == 5 && production.value == -3);
+    assert!(rt; left.state == State::Pass { late: 1 } && left.timers.is_empty());
     Ok(())
 }
