@@ -64,7 +64,8 @@ fn none_pending(rows: &[NamedRow]) -> bool
     none_set(&first.contents.timers) && none_pending(rest)
 }
 
-/// Whether all work of one thread is done: each line is injected, nothing waits, and no timer is pending.
+/// Whether all work of one thread is done: each line is injected, nothing waits, and no timer is
+/// pending.
 pub fn plain_is_done(alloc: Global, case: &Case, run: &Run) -> Result<bool, NoMemory>
     ensures done { IfOk result (λ is. IsTrue is ↔ IsDone case.now run.now) }
 {

@@ -356,8 +356,8 @@ fn spiked(
     }
 }
 
-// A total that is due goes to the known ones, and a spike is produced under the row's key; else nothing
-// changes.
+// A total that is due goes to the known ones, and a spike is produced under the row's key; else
+// nothing changes.
 fn spike_timer(
     alloc: Global,
     last: u32,

@@ -1,5 +1,5 @@
 //! What happens to the lists of a row and of a run.
-ghost use Rattle.std.specs.Prelude.{◌≡◌, ◌++◌, ◌∷◌, [], filter, IfOk, OnOk, option_copied};
+ghost use Rattle.std.specs.Prelude.{◌≡◌, ◌++◌, ◌∷◌, IfOk, option_copied};
 ghost use Rattle.std.specs.Map.{lookup};
 ghost use Rattle.std.specs.BTreeMap.{insert_entry, is_at};
 ghost use Rattle.mw_types.specs.Orders.{row_cmp, id_cmp, timer_cmp};
@@ -203,7 +203,8 @@ pub fn row_in<'a>(name: &RowName, rows: &'a [NamedRow]) -> Option<&'a Contents>
     }
 }
 
-// The rows with this one in the place of the one of its name, or among them in the order of the names.
+// The rows with this one in the place of the one of its name, or among them in the order of their
+// names.
 pub fn with_row(
     alloc: Global,
     rows: &[NamedRow],

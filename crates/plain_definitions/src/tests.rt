@@ -1,4 +1,5 @@
-//! The first example on one thread, and drained with all six kinds of entry, as the definitions compute it.
+//! The first example on one thread, and drained with all six kinds of entry, as the definitions
+//! compute it.
 ghost use Rattle.std.specs.Prelude.{IfOk};
 ghost use Rattle.mw_types.specs.Bounds.{IsWithin};
 
@@ -200,7 +201,7 @@ fn purge(alloc: Global, entries: &mut EntryList, floor: u64) -> Result<(), Fail>
     Ok(())
 }
 
-// What one line of the example is: its number and timestamp, and the windows and the timer that it leaves.
+// One line of the example: its number and timestamp, and the windows and the timer that it leaves.
 type Step<'a> = (u32, u64, &'a [(u64, u64)], u32);
 
 // The three lines of the example.

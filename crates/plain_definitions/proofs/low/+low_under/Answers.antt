@@ -1,5 +1,5 @@
-use Rattle.std.proofs.Common.{◌∙◌, sym, arith}
-use Rattle.plain_definitions.proofs.Lowering.{low_under-step, low_ended}
+use Rattle.std.proofs.Common.{arith}
+use Rattle.plain_definitions.proofs.Lowering.{low_ended}
 use Rattle.plain_definitions.proofs.low.+low_under.Goals as goal
 
 pub returns : goal.returns
