@@ -1,0 +1,3 @@
+pub mod Lowering
+pub mod Counting
+pub mod Deciding

@@ -1,0 +1,275 @@
+//! What stands after a history, one entry after another.
+ghost use Rattle.std.specs.Prelude.{◌≡◌, ◌<◌, ◌≤◌, ◌^◌, ◌++◌, length, IfOk};
+ghost use Rattle.row_parts.specs.Contents.{fresh};
+ghost use Rattle.run_history.specs.Cases.{fresh_of};
+ghost use Rattle.run_history.specs.Made.{productions_of};
+ghost use Rattle.run_history.specs.Runs.{empty_run, row_of, advanced, noted, handled_in, fired_in, changed, row_after, rows_after, still_unhandled, followed, run_of};
+ghost use Rattle.run_history.specs.Printing.{IsOnPart, IsPrintable};
+
+use crate::handlers::plain_fresh_state;
+use crate::lists::{
+    ids_from, joined, row_in, with_id, with_row, with_timers, without_delivery, without_timer,
+};
+use crate::made::{plain_made, row_written};
+use crate::run::{Contents, RowList, Run};
+use mw_types::{
+    DeliveryList, Duplicate, Effects, Entry, IdList, NoMemory, RecordId, RowName, Seq, State, Timer,
+};
+use std::alloc::Global;
+use topology::Topology;
+
+// The state that a row of a part has before any entry is on it.
+fn fresh_of(alloc: Global, topology: &Topology, part: u32) -> State
+    ensures { result ≡ fresh_of topology.now part }
+{
+    if part < topology.injectors() || topology.parts() <= part {
+        return State::Injector { cursor: 0 };
+    }
+    plain_fresh_state(alloc, topology.kind(part))
+}
+
+// A row that nothing has written yet.
+fn fresh(alloc: Global, state: State) -> Contents
+    ensures { result ≡ fresh state }
+{
+    Contents {
+        state,
+        timers: Seq::new(alloc),
+        pending: Seq::new(alloc),
+        seen: Seq::new(alloc),
+        floor: 0,
+        last: 0,
+    }
+}
+
+/// A row, which is fresh where no entry is on it.
+pub fn plain_row_of(
+    alloc: Global,
+    topology: &Topology,
+    run: &Run,
+    name: &RowName,
+) -> Result<Contents, NoMemory>
+    ensures row { IfOk result (λ row. row ≡ row_of topology.now run.now name.now) }
+{
+    match row_in(name, run.rows.as_slice()) {
+        Some(contents) => contents.copy(alloc),
+        None => Ok(fresh(alloc, fresh_of(alloc, topology, name.part))),
+    }
+}
+
+// An injector's state after one more line. A cursor that has no successor is not to be had.
+fn advanced(state: State) -> Result<State, NoMemory>
+    ensures { IfOk result (λ next. next ≡ advanced state) }
+{
+    match state {
+        State::Injector { cursor } => {
+            if cursor == u32::MAX {
+                return Err(NoMemory);
+            }
+            Ok(State::Injector { cursor: cursor + 1 })
+        }
+        _ => Ok(state),
+    }
+}
+
+// The handled ids with one more, unless that is below the floor.
+fn noted(alloc: Global, id: &RecordId, row: &Contents) -> Result<IdList, NoMemory>
+    ensures { IfOk result (λ ids. ids ≡ noted id.now row.now) }
+{
+    if id.commit < row.floor {
+        return row.seen.copy(alloc);
+    }
+    with_id(alloc, id, row.seen.as_slice())
+}
+
+// A row after a handled record.
+fn handled_in(
+    alloc: Global,
+    id: &RecordId,
+    effects: &Effects,
+    sent: &DeliveryList,
+    row: &Contents,
+) -> Result<Contents, NoMemory>
+    ensures { IfOk result (λ after. after ≡ handled_in id.now effects.now sent.now row.now) }
+{
+    Ok(Contents {
+        state: effects.state.copy(alloc)?,
+        timers: with_timers(alloc, effects.timers.as_slice(), &row.timers)?,
+        pending: joined(alloc, &row.pending, sent)?,
+        seen: noted(alloc, id, row)?,
+        floor: row.floor,
+        last: row.last,
+    })
+}
+
+// A row after a fired timer.
+fn fired_in(
+    alloc: Global,
+    timer: &Timer,
+    effects: &Effects,
+    sent: &DeliveryList,
+    row: &Contents,
+) -> Result<Contents, NoMemory>
+    ensures { IfOk result (λ after. after ≡ fired_in timer.now effects.now sent.now row.now) }
+{
+    Ok(Contents {
+        state: effects.state.copy(alloc)?,
+        timers: without_timer(alloc, timer.tag, timer.time, row.timers.as_slice())?,
+        pending: joined(alloc, &row.pending, sent)?,
+        seen: row.seen.copy(alloc)?,
+        floor: row.floor,
+        last: row.last,
+    })
+}
+
+// A row after an injected line.
+fn injected_in(alloc: Global, sent: &DeliveryList, row: Contents) -> Result<Contents, NoMemory>
+    ensures { IfOk result (λ after.
+        after ≡ record row { state = advanced row.state; pending = row.pending ++ sent.now }) }
+{
+    Ok(Contents {
+        state: advanced(row.state)?,
+        timers: row.timers,
+        pending: joined(alloc, &row.pending, sent)?,
+        seen: row.seen,
+        floor: row.floor,
+        last: row.last,
+    })
+}
+
+// What an entry that made these deliveries changes in its row, but for the row's last number.
+fn changed(
+    alloc: Global,
+    entry: &Entry,
+    sent: &DeliveryList,
+    row: Contents,
+) -> Result<Contents, NoMemory>
+    ensures { IfOk result (λ after. after ≡ changed entry.now sent.now row) }
+{
+    match entry {
+        Entry::Claim { .. } => Ok(row),
+        Entry::Inject { .. } => injected_in(alloc, sent, row),
+        Entry::Handle { id, effects, .. } => handled_in(alloc, id, effects, sent, &row),
+        Entry::Fire { timer, effects, .. } => fired_in(alloc, timer, effects, sent, &row),
+        Entry::Ack { id, .. } => Ok(Contents {
+            state: row.state,
+            timers: row.timers,
+            pending: without_delivery(alloc, *id, row.pending.as_slice())?,
+            seen: row.seen,
+            floor: row.floor,
+            last: row.last,
+        }),
+        Entry::Purge { floor, .. } => Ok(Contents {
+            state: row.state,
+            timers: row.timers,
+            pending: row.pending,
+            seen: ids_from(alloc, *floor, row.seen.as_slice())?,
+            floor: *floor,
+            last: row.last,
+        }),
+    }
+}
+
+// The row that an entry leaves, which names the entry as its last.
+fn row_after(
+    alloc: Global,
+    topology: &Topology,
+    run: &Run,
+    entry: &Entry,
+    sent: &DeliveryList,
+    name: &RowName,
+) -> Result<Contents, NoMemory>
+    ensures { IfOk result (λ row. row ≡ row_after topology.now run.now entry.now sent.now name.now) }
+{
+    let row = plain_row_of(alloc, topology, run, name)?;
+    let row = changed(alloc, entry, sent, row)?;
+    Ok(Contents {
+        state: row.state,
+        timers: row.timers,
+        pending: row.pending,
+        seen: row.seen,
+        floor: row.floor,
+        last: run.next,
+    })
+}
+
+// The rows after an entry: the one that it is on is changed.
+fn rows_after(
+    alloc: Global,
+    topology: &Topology,
+    run: &Run,
+    entry: &Entry,
+    sent: &DeliveryList,
+) -> Result<RowList, NoMemory>
+    ensures { IfOk result (λ rows. rows ≡ rows_after topology.now run.now entry.now sent.now) }
+{
+    let Some(name) = row_written(alloc, entry)? else {
+        return run.rows.copy(alloc);
+    };
+    let row = row_after(alloc, topology, run, entry, sent, &name)?;
+    with_row(alloc, run.rows.as_slice(), &name, &row)
+}
+
+// The deliveries that still wait: a handler takes its own.
+fn still_unhandled(
+    alloc: Global,
+    entry: &Entry,
+    waiting: &DeliveryList,
+) -> Result<DeliveryList, NoMemory>
+    ensures { IfOk result (λ left. left ≡ still_unhandled entry.now waiting.now) }
+{
+    match entry {
+        Entry::Handle { id, .. } => without_delivery(alloc, *id, waiting.as_slice()),
+        _ => waiting.copy(alloc),
+    }
+}
+
+/// What stands after one more entry.
+pub fn plain_followed(
+    alloc: Global,
+    topology: &Topology,
+    run: &Run,
+    entry: &Entry,
+) -> Result<Run, NoMemory>
+    requires part { IsOnPart topology.now entry.now }
+    requires few { length (productions_of entry.now) ≤ 8 }
+    requires commit { run.now.next < 2 ^ 32 }
+
+    ensures followed { IfOk result (λ after. after ≡ followed topology.now run.now entry.now) }
+{
+    let made = plain_made(alloc, topology, run.made.as_slice(), run.next, entry)?;
+    let waiting = still_unhandled(alloc, entry, &run.unhandled)?;
+    Ok(Run {
+        next: run.next + 1,
+        rows: rows_after(alloc, topology, run, entry, &made.deliveries)?,
+        made: joined(alloc, &run.made, &made.deliveries)?,
+        unhandled: joined(alloc, &waiting, &made.deliveries)?,
+        emissions: joined(alloc, &run.emissions, &made.emissions)?,
+    })
+}
+
+/// Before any entry.
+pub fn plain_empty_run(alloc: Global) -> Run
+    ensures empty { result ≡ empty_run }
+{
+    Run {
+        next: 0,
+        rows: Seq::new(alloc),
+        made: Seq::new(alloc),
+        unhandled: Seq::new(alloc),
+        emissions: Seq::new(alloc),
+    }
+}
+
+/// What stands after a history.
+pub fn plain_run_of(alloc: Global, topology: &Topology, entries: &[Entry]) -> Result<Run, NoMemory>
+    requires printable { IsPrintable topology.now entries.now }
+
+    ensures run { IfOk result (λ run. run ≡ run_of topology.now entries.now) }
+{
+    let mut run = plain_empty_run(alloc);
+    for entry in entries {
+        run = plain_followed(alloc, topology, &run, entry)?;
+    }
+    Ok(run)
+}
