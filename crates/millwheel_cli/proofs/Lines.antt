@@ -1,6 +1,6 @@
 -- Whether a watermark stands before a line, by the lines that are left.
-use Rattle.std.proofs.Common.{◌≡◌, ◌<◌, ◌≤◌, ◌==◌, ◌+◌, ◌&&◌, ℕ, zero, suc, Bool, true, false, List, [], ◌∷◌, length, drop, refl, sym, ap, ◌∙◌, arith}
-use Rattle.injector.specs.Sources.{Source, SourceLine, stated_at}
+use Rattle.std.proofs.Common.{◌≡◌, ◌<◌, ◌≤◌, ◌==◌, ◌+◌, ◌&&◌, ℕ, zero, suc, true, false, [], ◌∷◌, length, drop, refl, sym, ap, ◌∙◌, arith}
+use Rattle.injector.specs.Sources.{Source, stated_at}
 use Rattle.millwheel_cli.specs.Built.{is_unstated}
 
 -- a number above 0 is not 0

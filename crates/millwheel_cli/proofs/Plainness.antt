@@ -1,5 +1,5 @@
 -- What is built is plain: one injector, and at most one count that reads its stream once, by the whole key.
-use Rattle.std.proofs.Common.{◌≡◌, ◌≢◌, ◌∙◌, ℕ, zero, suc, ◌<◌, ◌≤◌, ◌&&◌, ◌||◌, ◌==◌, not, Bool, true, false, cond, List, [], ◌∷◌, ◌++◌, length, map, filter, get_or, nat_eq, All, Contains, IsTrue, Some, refl, sym, ap, inl, inr, true≢false, arith}
+use Rattle.std.proofs.Common.{◌≡◌, ◌≢◌, ◌∙◌, ℕ, zero, suc, ◌≤◌, ◌&&◌, ◌||◌, ◌==◌, not, Bool, true, false, cond, List, [], ◌∷◌, ◌++◌, length, map, filter, get_or, nat_eq, All, Contains, IsTrue, Some, refl, sym, ap, inl, inr, true≢false, arith}
 use Rattle.std.specs.Cmp.Lexicographic.{pointwise, bytes_decides}
 use Rattle.std.specs.List.{list_any}
 use Rattle.std.specs.List.{AllByRecursion}
@@ -62,7 +62,7 @@ kept_all : (stream : List ℕ) (to : ℕ) (reads : List Reading) → AllByRecurs
 kept_all stream to [] all = refl
 kept_all stream to (r ∷ rs) all =
     ap (λ b. map (subscription_of to) (cond b (r ∷ filter (λ (q : Reading). pointwise nat_eq q.stream stream) rs) (filter (λ (q : Reading). pointwise nat_eq q.stream stream) rs)))
-        ((bytes_decides r.stream stream).1 all.0)
+    ((bytes_decides r.stream stream).1 all.0)
     ∙ ap (λ l. subscription_of to r ∷ l) (kept_all stream to rs all.1)
 
 -- where each reading is of another stream, none becomes a subscription
@@ -71,7 +71,7 @@ kept_none : (stream other : List ℕ) (to : ℕ) (reads : List Reading) → poin
 kept_none stream other to [] apart all = refl
 kept_none stream other to (r ∷ rs) apart all =
     ap (λ b. map (subscription_of to) (cond b (r ∷ filter (λ (q : Reading). pointwise nat_eq q.stream stream) rs) (filter (λ (q : Reading). pointwise nat_eq q.stream stream) rs)))
-        (ap (λ t. pointwise nat_eq t stream) all.0 ∙ apart)
+    (ap (λ t. pointwise nat_eq t stream) all.0 ∙ apart)
     ∙ kept_none stream other to rs apart all.1
 
 -- one injector and one computation

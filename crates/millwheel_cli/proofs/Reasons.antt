@@ -1,5 +1,5 @@
 -- Why a file was refused is why the call was.
-use Rattle.std.proofs.Common.{◌≡◌, ◌≤◌, ◌<◌, ◌⊎◌, ℕ, List, Option, Some, None, IfSome, IsSomeAnd, Result, Err, length, refl, subst, inl, inr, arith}
+use Rattle.std.proofs.Common.{◌≡◌, ◌≤◌, ℕ, List, Option, Some, Result, Err, subst, inl, inr, arith}
 use Rattle.mw_types.specs.Causes.{Rose}
 use Rattle.mw_ports.specs.Shelves.{Files}
 use Rattle.topology.specs.Shapes.{Shape}
@@ -10,8 +10,8 @@ use Rattle.millwheel_cli.specs.declared.status.Status.TheVariants as status
 use Rattle.millwheel_cli.specs.declared.refusal.Refusal.{Refusal}
 use Rattle.millwheel_cli.specs.declared.refusal.Refusal.TheVariants.{Usage, NoFile, TopologyRefused, EventsRefused, SinkFails, NoMemory, ReadFault, TooLong, FileCount, NotBuilt}
 use Rattle.millwheel_cli.specs.Words.{Names, names_of, events_limit, lines_limit}
-use Rattle.millwheel_cli.specs.Files.{HoldsAs, HoldsTopology, source_taken}
-use Rattle.millwheel_cli.specs.Reasons.{ShelfSeen, IsUnread, IsFileRefused, IsTopologyRefused, IsSourceRefused, IsRefused, HasReason}
+use Rattle.millwheel_cli.specs.Files.{HoldsTopology, source_taken}
+use Rattle.millwheel_cli.specs.Reasons.{ShelfSeen, IsUnread, IsFileRefused, IsTopologyRefused, IsRefused, HasReason}
 use Rattle.millwheel_cli.specs.Inside.{status_of, UnlessWant}
 use Rattle.millwheel_cli.proofs.Refusals.{unless_map, built_of-usage, unstated_of-usage}
 
@@ -81,14 +81,18 @@ items_reason_of files f0 f1 f2 l0 l1 l2 words names shape refusal named topology
     let whole : ShelfSeen = record { files = files; faults = (f0, f2); lacks = (l0, l2) } in
     file_reason whole words refusal (refused-usage whole words)
     (unless_map (IsFileRefused later names.1 events_limit source_taken) (IsRefused whole words) refusal
-    (λ s why. record { names = names; named = named; why = inr (record {
-      shape = shape;
-      topology = topology;
-      refused = elim why [
-        | inl unread ↦ inl (unread_over files f0 f1 f2 l0 l1 l2 names.1 events_limit s f l unread)
-        | inr held ↦ inr held
-      ];
-    }) }) is)
+    (λ s why. record {
+      names = names;
+      named = named;
+      why = inr (record {
+        shape = shape;
+        topology = topology;
+        refused = elim why [
+          | inl unread ↦ inl (unread_over files f0 f1 f2 l0 l1 l2 names.1 events_limit s f l unread)
+          | inr held ↦ inr held
+        ];
+      });
+    }) is)
 
 -- so it is where the shelf's files stayed as they were
 pub items_reason : (files later : Option Files) (f0 f1 f2 l0 l1 l2 : ℕ) (words : List (List ℕ)) (names : Names) (shape : Shape) (refusal : Refusal)

@@ -1,11 +1,10 @@
 -- What was refused in one step is refused in the next.
-use Rattle.std.proofs.Common.{◌≡◌, ◌≤◌, ◌∙◌, ℕ, Bool, true, false, cond, List, length, Option, Result, ◌==◌, Ok, Err, refl, sym, ap, subst, inl, inr, arith}
+use Rattle.std.proofs.Common.{◌≡◌, ◌≤◌, ◌∙◌, ℕ, Bool, true, false, cond, List, length, Option, Result, ◌==◌, Ok, Err, sym, ap, inl, inr, arith}
 use Rattle.injector.specs.Sources.{Source}
 use Rattle.injector.specs.declared.refusal.LinesRefusal.{LinesRefusal}
 use Rattle.injector.specs.declared.refusal.LinesRefusal.TheVariants as lines
 use Rattle.topology.specs.Shapes.{Shape, injectors_of}
 use Rattle.topology.specs.declared.refusal.TopologyRefusal.{TopologyRefusal}
-use Rattle.topology.specs.FileRules.{topology_of}
 use Rattle.mw_ports.specs.Shelves.{Files}
 use Rattle.millwheel_cli.specs.declared.status.Status.{Status}
 use Rattle.millwheel_cli.specs.declared.status.Status.TheVariants as status
@@ -14,7 +13,7 @@ use Rattle.millwheel_cli.specs.declared.refusal.Refusal.TheVariants.{Usage, NoFi
 use Rattle.millwheel_cli.specs.Built.{is_built, is_unstated}
 use Rattle.millwheel_cli.specs.Files.{IsContent, HoldsAs, built_of, unstated_of}
 use Rattle.millwheel_cli.specs.Reasons.{ShelfSeen, IsUnread, IsFileRefused}
-use Rattle.millwheel_cli.specs.Inside.{UnlessWant, status_of}
+use Rattle.millwheel_cli.specs.Inside.{UnlessWant}
 
 -- what is so of each status is so of a refusal
 pub unless_map : (P Q : Status → Type 0) (refusal : Refusal) → ((s : Status) → P s → Q s) → UnlessWant P refusal → UnlessWant Q refusal

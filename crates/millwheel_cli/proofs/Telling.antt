@@ -1,5 +1,5 @@
 -- A shelf that tells its files decides the answer.
-use Rattle.std.proofs.Common.{◌≡◌, ◌≤◌, ◌<◌, ◌⊎◌, ◌∙◌, ℕ, nat_le, Bool, true, false, cond, List, Option, Some, None, IfSome, IsSomeAnd, Result, Ok, Err, length, refl, sym, ap, subst, inl, inr, arith}
+use Rattle.std.proofs.Common.{◌≡◌, ◌≤◌, ◌<◌, ◌⊎◌, ◌∙◌, ℕ, nat_le, true, false, cond, List, Option, Some, None, IfSome, IsSomeAnd, Result, Ok, Err, length, refl, sym, ap, subst, inl, inr, arith}
 use Rattle.std.specs.Option.{option_map_or}
 use Rattle.mw_types.specs.Causes.{Rose}
 use Rattle.mw_ports.specs.Shelves.{Files}
@@ -9,8 +9,8 @@ use Rattle.millwheel_cli.specs.declared.status.Status.{Status}
 use Rattle.millwheel_cli.specs.declared.status.Status.TheVariants.{Usage, NoFile, TopologyRefused, EventsRefused, SinkFault, NoMemory, ReadFault, TooLong, FileCount, NotBuilt}
 use Rattle.millwheel_cli.specs.declared.status.Status.TheVariants as status
 use Rattle.millwheel_cli.specs.Words.{Names, names_of, topology_limit, events_limit}
-use Rattle.millwheel_cli.specs.Files.{IsContent, HoldsAs, IsCaseRead, topology_taken, source_taken}
-use Rattle.millwheel_cli.specs.Reasons.{ShelfSeen, IsUnread, IsFileRefused, IsSourceRefused, IsRefused, HasReason, and_then, file_within, file_as, ended, answer_for, answer_of}
+use Rattle.millwheel_cli.specs.Files.{HoldsAs, IsCaseRead, topology_taken, source_taken}
+use Rattle.millwheel_cli.specs.Reasons.{ShelfSeen, IsUnread, IsFileRefused, IsRefused, HasReason, and_then, file_within, file_as, ended, answer_for, answer_of}
 use Rattle.millwheel_cli.specs.Answers.{HasWritten}
 
 -- what is said of the files where they are told is said of them
@@ -86,10 +86,10 @@ answer_refused : (seen : ShelfSeen) (words : List (List ℕ)) (held : Files) (s 
     → seen.files ≡ Some held → (Rose seen.faults.0 seen.faults.1 → ⊥) → IsRefused seen words s → s ≡ answer_of held words
 answer_refused seen words held s told well is = sym (answer_of-named held words is.names is.named ∙ elim is.why [
   | inl topology ↦ ap (λ found. ended (and_then found (λ shape. file_as held is.names.1 events_limit source_taken)))
-        (refused_as seen held is.names.0 topology_limit topology_taken s told well topology)
+      (refused_as seen held is.names.0 topology_limit topology_taken s told well topology)
   | inr source ↦ ap (λ found. ended (and_then found (λ shape. file_as held is.names.1 events_limit source_taken)))
-        (held_as seen.files held is.names.0 topology_limit topology_taken _ told source.topology)
-        ∙ ap (λ found. ended found) (refused_as seen held is.names.1 events_limit source_taken s told well source.refused)
+      (held_as seen.files held is.names.0 topology_limit topology_taken _ told source.topology)
+      ∙ ap (λ found. ended found) (refused_as seen held is.names.1 events_limit source_taken s told well source.refused)
 ])
 
 -- a case that was read is answered with Ok
@@ -97,7 +97,7 @@ answer_read : (seen : ShelfSeen) (words : List (List ℕ)) (held : Files) (case 
     → seen.files ≡ Some held → IsCaseRead seen.files words case → status.Ok ≡ answer_of held words
 answer_read seen words held case told is = sym (answer_of-named held words is.names is.named
     ∙ ap (λ found. ended (and_then found (λ shape. file_as held is.names.1 events_limit source_taken)))
-        (held_as seen.files held is.names.0 topology_limit topology_taken _ told is.topology)
+    (held_as seen.files held is.names.0 topology_limit topology_taken _ told is.topology)
     ∙ ap (λ found. ended found) (held_as seen.files held is.names.1 events_limit source_taken _ told is.events))
 
 -- words that name no files are answered with Usage

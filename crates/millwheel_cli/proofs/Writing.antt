@@ -1,5 +1,5 @@
 -- What a run leaves is what its status says.
-use Rattle.std.proofs.Common.{◌≡◌, ◌⊎◌, ℕ, List, Option, Result, Ok, Err, inl, inr}
+use Rattle.std.proofs.Common.{ℕ, List, Option, Result, Ok, Err, inl, inr}
 use Rattle.mw_types.specs.declared.entry.Entry.{Entry}
 use Rattle.mw_ports.specs.Shelves.{Files}
 use Rattle.run_history.specs.Cases.{CaseShape}

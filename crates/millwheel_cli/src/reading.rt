@@ -47,11 +47,7 @@ pub fn read_case<S: Shelf>(alloc: Global, words: &[Name], shelf: &mut S) -> Resu
 }
 
 // The topology in the file of that name.
-fn read_topology<S: Shelf>(
-    alloc: Global,
-    shelf: &mut S,
-    name: &Name,
-) -> Result<Topology, Refusal>
+fn read_topology<S: Shelf>(alloc: Global, shelf: &mut S, name: &Name) -> Result<Topology, Refusal>
     ensures files { S.files shelf.new ≡ S.files shelf.old }
     ensures faults_later { S.faults shelf.old ≤ S.faults shelf.new }
     ensures lacks_later { S.lacks shelf.old ≤ S.lacks shelf.new }

@@ -75,17 +75,16 @@ fn answer(
 }
 
 // The status for these two files, which has to come before the run.
-fn refused(
-    rt: &impl Abort,
-    alloc: Global,
-    topology: &str,
-    events: &str,
-) -> Result<Status, Fail> {
+fn refused(rt: &impl Abort, alloc: Global, topology: &str, events: &str) -> Result<Status, Fail> {
     let mut shelf = shelf(alloc, topology, events, CallList::new(alloc))?;
     let mut out = sink(alloc);
     let words = words(alloc, "solo t.json e")?;
-    let FirstDone { status, history } =
-        millwheel_alone(alloc, words.as_slice(), &mut shelf, &mut out);
+    let FirstDone { status, history } = millwheel_alone(
+        alloc,
+        words.as_slice(),
+        &mut shelf,
+        &mut out,
+    );
     assert_eq!(rt; history.len(), 0);
     assert_eq!(rt; out.text().len(), 0);
     Ok(status)
@@ -297,7 +296,10 @@ fn other_topologies_are_not_built(rt: HostRuntime) -> Result<(), Fail> {
     for (old, new) in [
         ("\"kind\":\"count\",\"size\":60", "\"kind\":\"pass\""),
         ("\"by\":\"key\"", "\"by\":\"head\""),
-        ("\"stream\":\"windows\"", "\"stream\":\"windows\",\"cuts\":[\"h\"]"),
+        (
+            "\"stream\":\"windows\"",
+            "\"stream\":\"windows\",\"cuts\":[\"h\"]",
+        ),
         (
             reading,
             "{\"stream\":\"raw\",\"by\":\"key\"},{\"stream\":\"raw\",\"by\":\"key\"}",
@@ -366,7 +368,13 @@ fn each_status_has_its_text_and_number(rt: HostRuntime) -> Result<(), Fail> {
     says(&rt, alloc, &Status::TopologyRefused { why }, 4, refused)?;
     let (file, line, why) = (0, 2, LineWhy::NotJson);
     let refused = "events refused: file 0 line 2: NotJson";
-    says(&rt, alloc, &Status::EventsRefused { file, line, why }, 5, refused)?;
+    says(
+        &rt,
+        alloc,
+        &Status::EventsRefused { file, line, why },
+        5,
+        refused,
+    )?;
     says(&rt, alloc, &Status::SinkFault, 8, "the output failed")?;
     says(&rt, alloc, &Status::NoMemory, 9, "out of memory")?;
     let name = Name::of(alloc, "e")?;
@@ -375,7 +383,13 @@ fn each_status_has_its_text_and_number(rt: HostRuntime) -> Result<(), Fail> {
     says(&rt, alloc, &Status::TooLong { name }, 14, "too long: e")?;
     let (files, injectors) = (1, 2);
     let unlike = "1 event files for 2 injectors";
-    says(&rt, alloc, &Status::FileCount { files, injectors }, 15, unlike)?;
+    says(
+        &rt,
+        alloc,
+        &Status::FileCount { files, injectors },
+        15,
+        unlike,
+    )?;
     says(&rt, alloc, &Status::NotBuilt, 16, "not built yet")
 }
 

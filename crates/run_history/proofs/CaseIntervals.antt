@@ -1,5 +1,5 @@
 -- The intervals of a topology's cuts can be made: parts are numbered, cuts are above the empty key, and there are few.
-use Rattle.std.proofs.Common.{◌≡◌, ◌∙◌, ℕ, zero, suc, ◌+◌, ◌-◌, ◌<◌, ◌≤◌, nat_lt, Bool, true, false, cond, Option, Some, None, IfSome, unwrap_or, slice_get, List, [], ◌∷◌, ◌++◌, length, map, sum_by, All, refl, sym, ap, arith, length-append}
+use Rattle.std.proofs.Common.{◌≡◌, ◌∙◌, ℕ, zero, suc, ◌+◌, ◌-◌, ◌<◌, ◌≤◌, nat_lt, Bool, true, false, cond, Option, Some, None, IfSome, unwrap_or, slice_get, List, [], ◌∷◌, length, map, sum_by, All, refl, sym, ap, arith, length-append}
 use Rattle.std.specs.Option.{option_map}
 use Rattle.std.specs.List.{range_with_len, AllByRecursion}
 use Rattle.std.specs.List.Sorted.{IsStrictlySortedBy}

@@ -1,7 +1,7 @@
 -- Which entry may come next, and which histories are legal: each entry does what one thread would do.
 -- Akidau et al., VLDB 2013, section 6.1, for what a worker does on receipt of a record, and section 4.6 for the order
 -- in which the timers of a key fire. Own: the conditions.
-use Rattle.std.specs.Prelude.{◌≡◌, ℕ, ◌+◌, ◌<◌, ◌≤◌, min, ⊤, List, [], ◌∷◌, length, map, fold, sum_by, slice_get, IsTrue, IsSome, IsNone, Option, Some}
+use Rattle.std.specs.Prelude.{◌≡◌, ℕ, ◌<◌, ◌≤◌, min, ⊤, List, [], ◌∷◌, length, map, fold, slice_get, IsTrue, IsSome, IsNone, Option, Some}
 use Rattle.std.specs.Option.{option_map}
 use Rattle.std.specs.List.{flat_map, AllByRecursion}
 use Rattle.mw_types.specs.declared.identity.RecordId.{RecordId}
@@ -14,7 +14,7 @@ use Rattle.mw_types.specs.declared.entry.Entry.TheVariants.{Claim, Inject, Handl
 use Rattle.mw_types.specs.Outcomes.{Outcome}
 use Rattle.injector.specs.Sources.{item_at}
 use Rattle.topology.specs.Rules.{interval_count}
-use Rattle.topology.specs.Shapes.{Shape, ComputationShape, injectors_of, kind_of}
+use Rattle.topology.specs.Shapes.{injectors_of, kind_of}
 use Rattle.computations.specs.Handlers.{effects_of_record, effects_of_timer}
 use Rattle.row_parts.specs.Contents.{Contents}
 use Rattle.run_history.specs.Cases.{CaseShape, is_injector, source_of, record_of}

@@ -11,5 +11,5 @@ returns-clause-answer g c held told well sink_well =
       lacks = (g.S.Shelf.lacks c.args.shelf.now, g.S.Shelf.lacks c.solo-ending.new.shelf);
     } in
     told_answer seen c.args.words.now c.solo-ending.new.history (g.O.Sink.text c.args.out.now) (g.O.Sink.text c.solo-ending.new.out)
-        (g.O.Sink.faults c.args.out.now) (g.O.Sink.faults c.solo-ending.new.out) held c.ending_of-status.result
-        (search rules) (search rules) (search rules) told well sink_well
+    (g.O.Sink.faults c.args.out.now) (g.O.Sink.faults c.solo-ending.new.out) held c.ending_of-status.result
+    (search rules) (search rules) (search rules) told well sink_well

@@ -1,4 +1,4 @@
-use Rattle.std.proofs.Common.{rules, ◌≡◌, ◌∙◌, sym}
+use Rattle.std.proofs.Common.{rules, ◌∙◌, sym}
 use Rattle.millwheel_cli.proofs.Lines.{unstated_not, unstated_next}
 use Rattle.millwheel_cli.proofs.events.is_unstated.Goals as goal
 

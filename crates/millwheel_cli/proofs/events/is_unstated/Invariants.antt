@@ -1,5 +1,4 @@
-use Rattle.std.proofs.Common.{◌≡◌, ◌==◌, drop}
-use Rattle.std.specs.List.{list_all}
+use Rattle.std.proofs.Common.{◌≡◌, drop}
 use Rattle.millwheel_cli.specs.Built.{is_unstated}
 use Rattle.millwheel_cli.proofs.events.is_unstated.Given as goal
 

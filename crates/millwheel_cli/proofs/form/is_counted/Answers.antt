@@ -1,7 +1,4 @@
-use Rattle.std.proofs.Common.{rules, ◌≡◌, ◌∙◌, sym, ap, ◌&&◌, ◌==◌, length}
-use Rattle.topology.specs.Shapes.{injectors_of, parts_of, kind_of, consumers_of, cuts_of}
-use Rattle.millwheel_cli.specs.Built.{is_count, is_built}
-use Rattle.millwheel_cli.specs.Inside.{subscribes_once}
+use Rattle.std.proofs.Common.{rules}
 use Rattle.millwheel_cli.proofs.Plainness.{counted_by_accessors}
 use Rattle.millwheel_cli.proofs.form.is_counted.Goals as goal
 

@@ -1,4 +1,4 @@
-use Rattle.std.proofs.Common.{◌≡◌, ◌∙◌, List, All, sym, subst}
+use Rattle.std.proofs.Common.{◌∙◌, All, sym, subst}
 use Rattle.mw_types.specs.declared.key.PartCuts.{PartCuts}
 use Rattle.key_intervals.specs.Intervals.{AreNumbered, AreCuts}
 use Rattle.run_history.proofs.CaseIntervals.{part_cuts_of-numbered, part_cuts_of-cuts, intervals-few}

@@ -1,5 +1,5 @@
-use Rattle.std.proofs.Common.{◌∙◌, length, ap, sym}
-use Rattle.run_history.specs.Cases.{CaseShape, intervals_of}
+use Rattle.std.proofs.Common.{◌∙◌, length, ap}
+use Rattle.run_history.specs.Cases.{CaseShape}
 use Rattle.run_history.proofs.CaseIntervals.{length-intervals}
 use Rattle.run_history.proofs.case.Case.intervals.Goals as goal
 
