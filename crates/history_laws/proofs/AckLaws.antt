@@ -1,8 +1,7 @@
 -- What was made is pending exactly where it is not acknowledged, and the floor is the least number of what is not.
-use Rattle.std.proofs.Common.{◌≡◌, ℕ, zero, suc, ◌+◌, ◌<◌, ◌≤◌, Bool, true, false, cond, List, [], ◌∷◌, ◌++◌, length, get_or, map, fold, refl, sym, ◌∙◌, ap, subst, arith, inl, inr}
-use Rattle.std.specs.Prelude.{⊤, ◌⊎◌, ◌||◌, Option, Some, None, IsSome, Any, Contains, filter, find, not, unwrap_or}
+use Rattle.std.proofs.Common.{◌≡◌, ℕ, zero, suc, ◌<◌, ◌≤◌, Bool, true, false, cond, List, [], ◌∷◌, ◌++◌, length, get_or, map, refl, sym, ◌∙◌, ap, subst, arith, inl, inr}
+use Rattle.std.specs.Prelude.{⊤, ◌⊎◌, ◌||◌, Option, Some, None, IsSome, Any, Contains, filter, not, unwrap_or}
 use Rattle.std.specs.List.{AllByRecursion, list_any, flat_map}
-use Rattle.std.proofs.lemmas.Bool.{both_ways}
 use Rattle.std.proofs.lemmas.List.Folds.{list_any-append}
 use Rattle.std.proofs.lemmas.List.Elements.{All-from_recursion}
 use Rattle.mw_types.specs.declared.identity.RecordId.{RecordId}
@@ -19,7 +18,7 @@ use Rattle.row_parts.specs.Contents.{Contents, fresh, same_id}
 use Rattle.run_history.proofs.Lookups.{each_found}
 use Rattle.run_history.specs.Cases.{CaseShape, fresh_of}
 use Rattle.run_history.specs.Made.{found_delivery, row_written, deliveries_of}
-use Rattle.run_history.specs.Runs.{Run, run_of, row_of, followed, changed, empty_run}
+use Rattle.run_history.specs.Runs.{Run, run_of, row_of, followed, changed}
 use Rattle.run_history.specs.Legal.{MayFollow, IsLegal, floor_of}
 use Rattle.history_laws.specs.Finished.{acknowledges, is_acknowledged, all_pending}
 use Rattle.history_laws.specs.Ids.{IsSentBy, IsFloor}
@@ -27,7 +26,7 @@ use Rattle.history_laws.proofs.Lists.{none_some, some_same, each-append, each-al
 use Rattle.history_laws.proofs.Along.{along_history}
 use Rattle.history_laws.proofs.Made.{each_of_commit}
 use Rattle.history_laws.proofs.FloorLaws.{row_of-above, floor_of-reached}
-use Rattle.history_laws.proofs.IdLaws.{same_id-true, same_id-itself, IsMadeInOrder, IsMadeInOrder-empty}
+use Rattle.history_laws.proofs.IdLaws.{same_id-true, IsMadeInOrder-empty}
 use Rattle.history_laws.proofs.LowLaws.{AreRowsInOrder, rows-in_order}
 use Rattle.history_laws.proofs.PendingLaws.{SparesFrom, IsSentBy-followed, sent_pending}
 use Rattle.history_laws.proofs.RowSteps.{row_of-here, row_of-elsewhere, on_row_or_not, ArePendingInOrder, ArePendingInOrder-followed}
@@ -117,10 +116,12 @@ acknowledged-made case run (Ack seq row id) made may = there (found_delivery id 
     there : (o : Option Delivery) → found_delivery id (row_of case.topology run row).pending ≡ o → IsSome o → (d : Delivery) × (found_delivery id run.made ≡ Some d)
     there None at is = absurd (cc)
     there (Some d) at is =
-        let own : d.id ≡ id = same_id-true d.id id (find-passes (λ (e : Delivery). same_id e.id id) (row_of case.topology run row).pending d at) in
-        (d, ap (λ (i : RecordId). found_delivery i run.made) (sym own)
-        ∙ find-each (λ (e : Delivery). found_delivery e.id run.made ≡ Some e) (λ (e : Delivery). same_id e.id id) (row_of case.topology run row).pending d
-        (row_of-made case.topology run row made) at)
+        let own : d.id ≡ id = same_id-true d.id id (find-passes (λ (e : Delivery). same_id e.id id) (row_of case.topology run row).pending d at) in (
+          d,
+          ap (λ (i : RecordId). found_delivery i run.made) (sym own)
+              ∙ find-each (λ (e : Delivery). found_delivery e.id run.made ≡ Some e) (λ (e : Delivery). same_id e.id id) (row_of case.topology run row).pending d
+              (row_of-made case.topology run row made) at,
+        )
 acknowledged-made case run (Purge seq row floor) made may = tt
 
 -- each element that passes a test is found by it

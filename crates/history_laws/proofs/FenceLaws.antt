@@ -1,5 +1,5 @@
 -- A row that was read under the last claim of its interval is the row of the whole history.
-use Rattle.std.proofs.Common.{◌≡◌, ◌≢◌, ℕ, zero, suc, ◌+◌, ◌<◌, ◌≤◌, Bool, true, false, cond, List, [], ◌∷◌, ◌++◌, length, take, drop, fold, refl, sym, ◌∙◌, ap, subst, arith, append_assoc, length-append, inl, inr}
+use Rattle.std.proofs.Common.{◌≡◌, ◌≢◌, ℕ, ◌+◌, ◌<◌, ◌≤◌, Bool, true, false, cond, List, [], ◌∷◌, ◌++◌, length, take, drop, fold, refl, sym, ◌∙◌, ap, subst, arith, append_assoc, length-append, inl, inr}
 use Rattle.std.specs.Prelude.{Option, Some, None, All, ◌⊎◌, not, unwrap_or, slice_get}
 use Rattle.std.proofs.lemmas.Bool.{cases_lt, eq-eqb}
 use Rattle.std.proofs.lemmas.Option.{slice_get_within, get_or_from_slice_get}
@@ -10,12 +10,12 @@ use Rattle.std.proofs.lemmas.List.Sums.{fold-append, take_while-cons}
 use Rattle.std.proofs.lemmas.List.Elements.{recursion_from_All}
 use Rattle.mw_types.specs.declared.identity.RowName.{RowName}
 use Rattle.mw_types.specs.declared.entry.Entry.{Entry}
-use Rattle.mw_types.specs.declared.entry.Entry.TheVariants.{Claim, Inject, Handle, Fire, Ack, Purge}
+use Rattle.mw_types.specs.declared.entry.Entry.TheVariants.{Claim}
 use Rattle.topology.specs.Shapes.{Shape}
 use Rattle.run_history.specs.Made.{row_written}
 use Rattle.run_history.specs.Cases.{fresh_of}
-use Rattle.row_parts.specs.Contents.{Contents, fresh}
-use Rattle.run_history.specs.Runs.{Run, run_of, row_in, row_of, followed}
+use Rattle.row_parts.specs.Contents.{fresh}
+use Rattle.run_history.specs.Runs.{Run, run_of, row_in, row_of}
 use Rattle.run_history.proofs.Making.{enumerate_from-append}
 use Rattle.run_history.proofs.RunLaws.{run_of-push}
 use Rattle.history_laws.specs.Fences.{Begins, interval_of, sequencer_of, is_claim, later_claim, last_claim, IsUnderLastClaim, IsFenced, HasSeen, known}

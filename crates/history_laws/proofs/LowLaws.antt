@@ -1,6 +1,6 @@
 -- The low watermark never falls.
-use Rattle.std.proofs.Common.{◌≡◌, ℕ, zero, suc, ◌+◌, ◌<◌, ◌≤◌, ◌==◌, ◌&&◌, Bool, true, false, cond, List, [], ◌∷◌, ◌++◌, map, fold, refl, sym, ◌∙◌, ap, subst, arith}
-use Rattle.std.specs.Prelude.{Option, Some, None, MatchBool, filter, min, not, unwrap_or}
+use Rattle.std.proofs.Common.{◌≡◌, ℕ, zero, suc, ◌<◌, ◌≤◌, ◌==◌, ◌&&◌, Bool, true, false, cond, List, [], ◌∷◌, ◌++◌, map, fold, refl, sym, ◌∙◌, ap, subst, arith}
+use Rattle.std.specs.Prelude.{Option, Some, None, MatchBool, filter, not, unwrap_or}
 use Rattle.std.specs.List.{AllByRecursion, flat_map}
 use Rattle.std.specs.List.Sorted.{IsStrictlySortedBy}
 use Rattle.std.specs.BTreeMap.{is_at, insert_entry}
@@ -19,18 +19,18 @@ use Rattle.topology.specs.Rules.{IsTopology}
 use Rattle.row_parts.specs.Contents.{Contents, fresh}
 use Rattle.run_history.specs.Cases.{CaseShape, is_injector, fresh_of}
 use Rattle.run_history.specs.Made.{row_written}
-use Rattle.run_history.specs.Runs.{Run, run_of, row_in, row_of, followed, empty_run}
+use Rattle.run_history.specs.Runs.{Run, run_of, row_of, followed, empty_run}
 use Rattle.run_history.specs.Watermarks.{least, waiting_stamps, timer_times, times_set, oldest_work, source_mark, low_under, low_watermark}
-use Rattle.run_history.specs.Legal.{MayFollow, AreLegal, IsLegal}
+use Rattle.run_history.specs.Legal.{MayFollow, IsLegal}
 use Rattle.run_history.proofs.Lookups.{each_found, sorted-insert_entry}
 use Rattle.history_laws.specs.Inputs.{IsRunnable}
-use Rattle.history_laws.proofs.Lists.{each-append, each-all, each-weaker, each-both}
+use Rattle.history_laws.proofs.Lists.{each-append, each-weaker, each-both}
 use Rattle.history_laws.proofs.Along.{run_of-append, AreLegal-apart, along_entries, along_any}
 use Rattle.history_laws.proofs.FeedLaws.{feeds-before}
 use Rattle.history_laws.proofs.IdLaws.{AreIds, AreIds-followed, legal-ids}
 use Rattle.history_laws.proofs.RowSteps.{made_row, same_row}
 use Rattle.history_laws.proofs.StampLaws.{AreInTime, AreInTime-followed, legal-in_time}
-use Rattle.history_laws.proofs.WorkLaws.{WaitsFrom, DueFrom, IsWorkFrom, FeedsFrom, IsWorkFrom-followed, source_mark-followed}
+use Rattle.history_laws.proofs.WorkLaws.{DueFrom, IsWorkFrom, FeedsFrom, IsWorkFrom-followed, source_mark-followed}
 
 -- ---- rows stand in the order of their names
 
@@ -112,9 +112,11 @@ from_times : (x part : ℕ) (rows : List (RowName × Contents))
     → AllByRecursion (λ m. x ≤ m) (flat_map (λ (r : RowName × Contents). cond (r.0.part == part) (times_set r.1) []) rows) → RowsFrom x part rows
 from_times x part [] each = tt
 from_times x part (r ∷ rs) each =
-    let parts = each-apart (λ m. x ≤ m) (cond (r.0.part == part) (times_set r.1) []) _ each in
-    ((λ (of : (r.0.part == part) ≡ true). from_passing x (λ (t : Timer). t.time) (λ (t : Timer). not t.late) r.1.timers
-    (subst (λ b. AllByRecursion (λ m. x ≤ m) (cond b (times_set r.1) [])) of parts.0)), from_times x part rs parts.1)
+    let parts = each-apart (λ m. x ≤ m) (cond (r.0.part == part) (times_set r.1) []) _ each in (
+      (λ (of : (r.0.part == part) ≡ true). from_passing x (λ (t : Timer). t.time) (λ (t : Timer). not t.late) r.1.timers
+          (subst (λ b. AllByRecursion (λ m. x ≤ m) (cond b (times_set r.1) [])) of parts.0)),
+      from_times x part rs parts.1,
+    )
 
 -- and back
 to_times : (x part : ℕ) (rows : List (RowName × Contents)) → RowsFrom x part rows
@@ -226,14 +228,16 @@ LowFrom-any_depth case run x rules zero part le from zero = from
 LowFrom-any_depth case run x rules zero part le from (suc other) =
     (from, each-weaker (λ f. f < part) (FeedsFrom case run x (LowFrom case run x other)) (λ f less. absurd (omega (arith, less, le))) (feeds_of case.topology part) (feeds-before case.topology part rules))
 LowFrom-any_depth case run x rules (suc depth) part le from zero = from.0
-LowFrom-any_depth case run x rules (suc depth) part le from (suc other) =
-    (from.0, each-weaker (λ f. (f < part) × FeedsFrom case run x (LowFrom case run x depth) f) (FeedsFrom case run x (LowFrom case run x other))
-    (λ f (both : (f < part) × FeedsFrom case run x (LowFrom case run x depth) f).
-    let less = both.0 in
-    let near : f ≤ depth = omega (arith, less, le) in
-    feed-weaker case run x (LowFrom case run x depth) (LowFrom case run x other) f (λ deeper. LowFrom-any_depth case run x rules depth f near deeper other) both.1)
-    (feeds_of case.topology part)
-    (each-both (λ f. f < part) (FeedsFrom case run x (LowFrom case run x depth)) (feeds_of case.topology part) (feeds-before case.topology part rules) from.1))
+LowFrom-any_depth case run x rules (suc depth) part le from (suc other) = (
+  from.0,
+  each-weaker (λ f. (f < part) × FeedsFrom case run x (LowFrom case run x depth) f) (FeedsFrom case run x (LowFrom case run x other))
+      (λ f (both : (f < part) × FeedsFrom case run x (LowFrom case run x depth) f).
+      let less = both.0 in
+      let near : f ≤ depth = omega (arith, less, le) in
+      feed-weaker case run x (LowFrom case run x depth) (LowFrom case run x other) f (λ deeper. LowFrom-any_depth case run x rules depth f near deeper other) both.1)
+      (feeds_of case.topology part)
+      (each-both (λ f. f < part) (FeedsFrom case run x (LowFrom case run x depth)) (feeds_of case.topology part) (feeds-before case.topology part rules) from.1),
+)
 
 -- what holds of each element for each number holds for each number of each element
 each-every : {X : Type 0} (P : ℕ → X → Type 0) (xs : List X) → ((n : ℕ) → AllByRecursion (P n) xs) → AllByRecursion (λ x. (n : ℕ) → P n x) xs
@@ -245,12 +249,13 @@ pub LowFrom-followed : (case : CaseShape) (history : List Entry) (run : Run) (en
     → (depth part : ℕ) → ((any : ℕ) → LowFrom case run x any part) → LowFrom case (followed case.topology run entry) x depth part
 LowFrom-followed case history run entry x runs ids in_time may zero part from =
     IsWorkFrom-followed case history run entry x part runs ids in_time may (from 0) (from 1).1
-LowFrom-followed case history run entry x runs ids in_time may (suc depth) part from =
-    (IsWorkFrom-followed case history run entry x part runs ids in_time may (from 0) (from 1).1,
-    each-weaker (λ f. (any : ℕ) → FeedsFrom case run x (LowFrom case run x any) f) (FeedsFrom case (followed case.topology run entry) x (LowFrom case (followed case.topology run entry) x depth))
-    (λ f all. feed f (λ deeper. LowFrom-followed case history run entry x runs ids in_time may depth f deeper) (is_injector case.topology f) refl all)
-    (feeds_of case.topology part)
-    (each-every (λ any f. FeedsFrom case run x (LowFrom case run x any) f) (feeds_of case.topology part) (λ any. (from (suc any)).1)))
+LowFrom-followed case history run entry x runs ids in_time may (suc depth) part from = (
+  IsWorkFrom-followed case history run entry x part runs ids in_time may (from 0) (from 1).1,
+  each-weaker (λ f. (any : ℕ) → FeedsFrom case run x (LowFrom case run x any) f) (FeedsFrom case (followed case.topology run entry) x (LowFrom case (followed case.topology run entry) x depth))
+      (λ f all. feed f (λ deeper. LowFrom-followed case history run entry x runs ids in_time may depth f deeper) (is_injector case.topology f) refl all)
+      (feeds_of case.topology part)
+      (each-every (λ any f. FeedsFrom case run x (LowFrom case run x any) f) (feeds_of case.topology part) (λ any. (from (suc any)).1)),
+)
   where
     after : Run
     after = followed case.topology run entry

@@ -1,11 +1,10 @@
 -- How much work is left: what one more entry makes of it, and that a finished run is done.
 use Rattle.std.proofs.Common.{◌≡◌, ◌≢◌, ℕ, zero, suc, ◌+◌, ◌<◌, ◌≤◌, Bool, true, false, cond, ◌&&◌, List, [], ◌∷◌, ◌++◌, length, refl, sym, ◌∙◌, ap, subst, arith, inl, inr}
-use Rattle.std.specs.Prelude.{◌⊎◌, Option, Some, None, IsTrue, filter, nat_lt, slice_get, unwrap_or}
+use Rattle.std.specs.Prelude.{Option, Some, None, filter, nat_lt}
 use Rattle.std.specs.Option.{option_map, option_map_or}
 use Rattle.std.specs.List.{AllByRecursion, flat_map, range_with_len}
-use Rattle.std.proofs.lemmas.Bool.{ltb-true, ltb-false, lt-ltb, both_ways, cases_lt}
+use Rattle.std.proofs.lemmas.Bool.{ltb-true, ltb-false, lt-ltb, cases_lt}
 use Rattle.std.proofs.lemmas.Option.{slice_get_within}
-use Rattle.mw_types.specs.declared.identity.RecordId.{RecordId}
 use Rattle.mw_types.specs.declared.identity.RowName.{RowName}
 use Rattle.mw_types.specs.declared.record.Record.{Record}
 use Rattle.mw_types.specs.declared.kind.Kind.{Kind}
@@ -14,18 +13,17 @@ use Rattle.mw_types.specs.declared.state.State.TheVariants as states
 use Rattle.mw_types.specs.declared.delivery.Delivery.{Delivery}
 use Rattle.mw_types.specs.declared.entry.Entry.{Entry}
 use Rattle.mw_types.specs.declared.entry.Entry.TheVariants.{Claim, Inject, Handle, Fire, Ack, Purge}
-use Rattle.injector.specs.Sources.{SourceLine}
-use Rattle.topology.specs.Shapes.{Shape, kind_of, injectors_of}
+use Rattle.topology.specs.Shapes.{kind_of, injectors_of}
 use Rattle.computations.specs.Handlers.{effects_of_record, effects_of_timer}
-use Rattle.row_parts.specs.Contents.{Contents, fresh, same_id}
-use Rattle.run_history.specs.Cases.{CaseShape, is_injector, source_of, fresh_of}
+use Rattle.row_parts.specs.Contents.{Contents}
+use Rattle.run_history.specs.Cases.{CaseShape, is_injector, source_of}
 use Rattle.run_history.specs.Made.{found_delivery, row_written, deliveries_of}
 use Rattle.run_history.specs.Runs.{Run, run_of, row_of, followed, changed, advanced, empty_run}
 use Rattle.run_history.specs.Watermarks.{cursor_in, cursor_of}
 use Rattle.run_history.specs.Legal.{MayFollow, IsLegal, IsDone}
 use Rattle.history_laws.specs.Finished.{all_pending, all_timers, has_line, injectors_left, unfinished, IsFinished, row_has_line, work_in}
 use Rattle.history_laws.specs.Ids.{IsSentBy}
-use Rattle.history_laws.proofs.Lists.{none_some, some_same, found_of_each}
+use Rattle.history_laws.proofs.Lists.{none_some, some_same}
 use Rattle.history_laws.proofs.Along.{along_history}
 use Rattle.history_laws.proofs.FeedLaws.{injector-no_kind}
 use Rattle.history_laws.proofs.PendingLaws.{was_some, legal-sent}
@@ -172,8 +170,13 @@ range-but_one p q a (suc n) k same from to = elim (cases_lt a k) [
   | inl less ↦
       let agree : p a ≡ q a = same a (λ e. omega (arith, e, less)) in
       let ones : one_if (p a) ≡ one_if (q a) = ap one_if agree in
-      omega (arith, ones, range-but_one p q (a + 1) n k same (omega (arith, less)) (omega (arith, to)),
-      length-filter-cons p a (range_with_len (a + 1) n), length-filter-cons q a (range_with_len (a + 1) n))
+      omega (
+        arith,
+        ones,
+        range-but_one p q (a + 1) n k same (omega (arith, less)) (omega (arith, to)),
+        length-filter-cons p a (range_with_len (a + 1) n),
+        length-filter-cons q a (range_with_len (a + 1) n),
+      )
   | inr le ↦
       let here : a ≡ k = omega (arith, from, le) in
       let rest : length (filter p (range_with_len (a + 1) n)) ≡ length (filter q (range_with_len (a + 1) n)) =

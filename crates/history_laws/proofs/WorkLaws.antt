@@ -1,7 +1,7 @@
 -- Work that is not late never gets older: what one more entry makes of a bound of it.
 use Rattle.std.proofs.Common.{◌≡◌, ℕ, zero, suc, ◌+◌, ◌<◌, ◌≤◌, ◌==◌, ◌&&◌, Bool, true, false, cond, List, [], ◌∷◌, ◌++◌, map, refl, sym, ◌∙◌, ap, subst, arith, inl, inr}
-use Rattle.std.specs.Prelude.{⊤, ◌⊎◌, Option, Some, None, IsTrue, Contains, All, MatchBool, filter, not, nat_lt, slice_get, unwrap_or}
-use Rattle.std.specs.Option.{option_map, option_map_or}
+use Rattle.std.specs.Prelude.{◌⊎◌, Option, Some, None, Contains, MatchBool, not, nat_lt, slice_get}
+use Rattle.std.specs.Option.{option_map_or}
 use Rattle.std.specs.List.{AllByRecursion}
 use Rattle.std.specs.Cmp.{first_so, second_so}
 use Rattle.std.proofs.lemmas.Bool.{eqb-true, eq-eqb, ltb-false, both_ways}
@@ -21,20 +21,20 @@ use Rattle.mw_types.specs.declared.entry.Entry.TheVariants.{Claim, Inject, Handl
 use Rattle.mw_types.specs.Outcomes.{Outcome}
 use Rattle.injector.specs.Sources.{Source, SourceLine, IsSource, stated_at}
 use Rattle.topology.specs.declared.subscription.Subscription.{Subscription}
-use Rattle.topology.specs.Shapes.{Shape, parts_of, injectors_of, consumers_of, feeds_of, kind_of}
+use Rattle.topology.specs.Shapes.{Shape, parts_of, injectors_of, feeds_of, kind_of}
 use Rattle.computations.specs.Handlers.{effects_of_record, effects_of_timer}
 use Rattle.row_parts.specs.Contents.{Contents, set_again, is_timer, same_id}
-use Rattle.run_history.specs.Cases.{CaseShape, is_injector, source_of, record_of}
-use Rattle.run_history.specs.Made.{found_delivery, row_written, late_cause, deliveries_of, deliveries_made}
+use Rattle.run_history.specs.Cases.{CaseShape, is_injector, source_of}
+use Rattle.run_history.specs.Made.{row_written, late_cause, deliveries_of, deliveries_made}
 use Rattle.run_history.specs.Runs.{Run, row_of, followed, changed, advanced, still_unhandled}
 use Rattle.run_history.specs.Watermarks.{cursor_in, cursor_of, source_mark}
 use Rattle.run_history.specs.Legal.{MayFollow}
 use Rattle.history_laws.specs.Finished.{handles}
 use Rattle.history_laws.specs.Inputs.{IsRunnable}
-use Rattle.history_laws.proofs.Lists.{none_some, some_same, each-append, each-all, each-weaker, each-filter, find-each}
+use Rattle.history_laws.proofs.Lists.{none_some, some_same, each-append, each-weaker, each-filter, find-each}
 use Rattle.history_laws.proofs.Made.{deliveries_made-each}
 use Rattle.history_laws.proofs.FeedLaws.{consumers-fed, injector-no_kind}
-use Rattle.history_laws.proofs.HandlerBounds.{IsAfter, IsTimerAfter, IsProductionAfter}
+use Rattle.history_laws.proofs.HandlerBounds.{IsTimerAfter, IsProductionAfter}
 use Rattle.history_laws.proofs.IdLaws.{AreIds, waits_as_made, still_unhandled-filter}
 use Rattle.history_laws.proofs.PendingLaws.{was_some, kind-there}
 use Rattle.history_laws.proofs.RowSteps.{row_of-step}

@@ -7,7 +7,7 @@ use Rattle.mw_types.specs.declared.identity.RowName.{RowName}
 use Rattle.mw_types.specs.declared.timer.Timer.{Timer}
 use Rattle.mw_types.specs.declared.delivery.Delivery.{Delivery}
 use Rattle.mw_types.specs.declared.entry.Entry.{Entry}
-use Rattle.mw_types.specs.declared.entry.Entry.TheVariants.{Claim, Inject, Handle, Fire, Ack, Purge}
+use Rattle.mw_types.specs.declared.entry.Entry.TheVariants.{Handle, Ack}
 use Rattle.topology.specs.Shapes.{injectors_of}
 use Rattle.row_parts.specs.Contents.{Contents, same_id}
 use Rattle.run_history.specs.Cases.{CaseShape, is_injector, source_of}

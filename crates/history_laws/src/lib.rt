@@ -16,6 +16,7 @@ mod rows;
 mod senders;
 mod stamps;
 mod stored;
+mod unfinished;
 mod watermarks;
 mod writes;
 
@@ -26,5 +27,6 @@ pub use rows::{rows_are_as_known, rows_are_as_seen, rows_change_by_their_entries
 pub use senders::{pending_is_unacknowledged, senders_keep_what_they_made};
 pub use stamps::stamps_are_in_time;
 pub use stored::one_row_is_stored_anew;
+pub use unfinished::{finished_runs_are_done, work_is_counted_row_by_row};
 pub use watermarks::low_watermark_never_falls;
 pub use writes::{claims_are_lawful, seen_writes_are_lawful};
