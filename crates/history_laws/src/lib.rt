@@ -1,12 +1,13 @@
-//! The laws of histories: what holds of every legal history, whoever wrote it.
+//! The laws of histories: what holds of every history that is legal, or fenced, whoever wrote it.
 //!
-//! Each law is the contract of a function with an empty body, which says what the definitions of
+//! Each law is the contract of a function with an empty body, and says what the definitions of
 //! `run_history` say of each history and of each beginning of it. Stands on `run_history`,
 //! `key_intervals`, `row_parts` and `row_keeper`. Public contract: the floor and the low watermarks
-//! never fall, ids tell what waits, no timestamp is above the greatest, and a row that was read under
-//! the last claim of its interval is the row of the whole history. Definitions: `specs/Fences.antt`,
-//! which histories are fenced; `specs/Finished.antt`, what is handled and how much work is left;
-//! `specs/Stored.antt`, what a keeper has to hold.
+//! never fall; ids tell what waits, what is finished and who sent it; a row that was read under the
+//! last claim of its interval is the row of the whole history, and a write that was worked out on it
+//! keeps the history lawful. Definitions: `specs/Fences.antt`, which histories are fenced;
+//! `specs/Writes.antt`, which writes were worked out on a beginning; `specs/Finished.antt`, what is
+//! handled and how much work is left; `specs/Stored.antt`, what a keeper has to hold.
 #![tactic(auto)]
 
 mod floors;
