@@ -18,4 +18,5 @@ pub mod AckLaws
 pub mod StoredLaws
 pub mod IntervalLaws
 pub mod UnfinishedLaws
+pub mod OwnLaws
 pub mod SeenLaws

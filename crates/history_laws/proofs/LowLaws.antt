@@ -77,12 +77,12 @@ pub bound-each : (x : ℕ) (marks : List ℕ) → x ≤ least marks → AllByRec
 bound-each x marks below = each-weaker (λ m. least marks ≤ m) (λ m. x ≤ m) (λ m le. omega (arith, below, le)) marks (least-each marks)
 
 -- what holds of two lists together holds of each of them
-each-apart : {X : Type 0} (P : X → Type 0) (xs ys : List X) → AllByRecursion P (xs ++ ys) → AllByRecursion P xs × AllByRecursion P ys
+pub each-apart : {X : Type 0} (P : X → Type 0) (xs ys : List X) → AllByRecursion P (xs ++ ys) → AllByRecursion P xs × AllByRecursion P ys
 each-apart P [] ys each = (tt, each)
 each-apart P (x ∷ xs) ys each = let rest = each-apart P xs ys each.1 in ((each.0, rest.0), rest.1)
 
 -- a bound of the numbers of those that pass, as a bound of each that passes
-from_passing : {X : Type 0} (x : ℕ) (f : X → ℕ) (test : X → Bool) (xs : List X) → AllByRecursion (λ m. x ≤ m) (map f (filter test xs))
+pub from_passing : {X : Type 0} (x : ℕ) (f : X → ℕ) (test : X → Bool) (xs : List X) → AllByRecursion (λ m. x ≤ m) (map f (filter test xs))
     → AllByRecursion (λ e. test e ≡ true → x ≤ f e) xs
 from_passing x f test [] each = tt
 from_passing x f test (e ∷ es) each =
@@ -92,7 +92,7 @@ from_passing x f test (e ∷ es) each =
     ] each
 
 -- and back
-to_passing : {X : Type 0} (x : ℕ) (f : X → ℕ) (test : X → Bool) (xs : List X) → AllByRecursion (λ e. test e ≡ true → x ≤ f e) xs
+pub to_passing : {X : Type 0} (x : ℕ) (f : X → ℕ) (test : X → Bool) (xs : List X) → AllByRecursion (λ e. test e ≡ true → x ≤ f e) xs
     → AllByRecursion (λ m. x ≤ m) (map f (filter test xs))
 to_passing x f test [] each = tt
 to_passing x f test (e ∷ es) each =
@@ -240,7 +240,7 @@ LowFrom-any_depth case run x rules (suc depth) part le from (suc other) = (
 )
 
 -- what holds of each element for each number holds for each number of each element
-each-every : {X : Type 0} (P : ℕ → X → Type 0) (xs : List X) → ((n : ℕ) → AllByRecursion (P n) xs) → AllByRecursion (λ x. (n : ℕ) → P n x) xs
+pub each-every : {X : Type 0} (P : ℕ → X → Type 0) (xs : List X) → ((n : ℕ) → AllByRecursion (P n) xs) → AllByRecursion (λ x. (n : ℕ) → P n x) xs
 each-every P [] each = tt
 each-every P (x ∷ xs) each = ((λ n. (each n).0), each-every P xs (λ n. (each n).1))
 

@@ -90,7 +90,7 @@ made-from shape part productions late commit x reader there from =
     each (p ∷ ps) from = ((λ fed on_time. (from fed on_time).0), each ps (λ fed on_time. (from fed on_time).1))
 
 -- productions that are after a cause are after what the cause is after
-productions-from : (x stamp : ℕ) (productions : List Production) → x ≤ stamp → AllByRecursion (IsProductionAfter stamp) productions
+pub productions-from : (x stamp : ℕ) (productions : List Production) → x ≤ stamp → AllByRecursion (IsProductionAfter stamp) productions
     → AllByRecursion (λ (p : Production). x ≤ p.stamp) productions
 productions-from x stamp productions from each = each-weaker (IsProductionAfter stamp) (λ (p : Production). x ≤ p.stamp)
     (λ p (after : IsProductionAfter stamp p). let later = after.after in omega (arith, from, later)) productions each
@@ -104,13 +104,13 @@ handled-from case run x seq row id effects may work on_time =
     (ap (λ b. b && not d.item.late) (eq-eqb d.to.part row.part (ap (λ (r : RowName). r.part) may.to_row)) ∙ on_time)
 
 -- whether the cause of a handled record is late
-handled-late : (case : CaseShape) (history : List Entry) (run : Run) (seq : ℕ) (row : RowName) (id : RecordId) (effects : Outcome) → AreIds history run
+pub handled-late : (case : CaseShape) (history : List Entry) (run : Run) (seq : ℕ) (row : RowName) (id : RecordId) (effects : Outcome) → AreIds history run
     → (may : MayFollow case run (Handle seq row id effects)) → late_cause run.made (Handle seq row id effects) ≡ may.delivery.item.late
 handled-late case history run seq row id effects ids may =
     ap (λ o. option_map_or (λ (d : Delivery). d.item.late) o false) (waits_as_made history run id may.delivery ids may.waits)
 
 -- a record that an injector injects, where it is not late, is no older than the watermark that its file states
-injected-from : (case : CaseShape) (run : Run) (seq part line : ℕ) (item : Record) → IsRunnable case → (may : MayFollow case run (Inject seq part line item))
+pub injected-from : (case : CaseShape) (run : Run) (seq part line : ℕ) (item : Record) → IsRunnable case → (may : MayFollow case run (Inject seq part line item))
     → not item.late ≡ true → source_mark case run part ≤ item.stamp
 injected-from case run seq part line item runs may on_time =
     let source = source_of case part in
@@ -165,7 +165,7 @@ sent-from case history run (Ack seq row id) x reader runs ids in_time may feeds 
 sent-from case history run (Purge seq row floor) x reader runs ids in_time may feeds = tt
 
 -- a timer that is set again is due from a bound of both settings
-set_again-from : (x : ℕ) (t u : Timer) → t.time ≡ u.time → DueFrom x t → DueFrom x u → DueFrom x (set_again t u)
+pub set_again-from : (x : ℕ) (t u : Timer) → t.time ≡ u.time → DueFrom x t → DueFrom x u → DueFrom x (set_again t u)
 set_again-from x t u same one other = by_late t.late u.late one other
   where
     by_late : (a b : Bool) → (not a ≡ true → x ≤ t.time) → (not b ≡ true → x ≤ u.time) → not (a && b) ≡ true → x ≤ u.time

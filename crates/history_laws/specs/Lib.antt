@@ -5,3 +5,4 @@ pub mod Inputs
 pub mod Ids
 pub mod Stamps
 pub mod Stored
+pub mod Marks
