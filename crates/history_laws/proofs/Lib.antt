@@ -19,4 +19,5 @@ pub mod StoredLaws
 pub mod IntervalLaws
 pub mod UnfinishedLaws
 pub mod OwnLaws
+pub mod MarkLaws
 pub mod SeenLaws

@@ -177,7 +177,7 @@ pub record AreSent (shape : Shape) (run : Run) : Type 0 where
   pub each : AllByRecursion (IsSentBy shape run) run.unhandled
 
 -- one more entry keeps what waits pending
-AreSent-followed : (case : CaseShape) (run : Run) (entry : Entry) → AreSent case.topology run → MayFollow case run entry
+pub AreSent-followed : (case : CaseShape) (run : Run) (entry : Entry) → AreSent case.topology run → MayFollow case run entry
     → AreSent case.topology (followed case.topology run entry)
 AreSent-followed case run entry sent may = record {
   order = ArePendingInOrder-followed case.topology run entry sent.order;
