@@ -20,4 +20,5 @@ pub mod IntervalLaws
 pub mod UnfinishedLaws
 pub mod OwnLaws
 pub mod MarkLaws
+pub mod ReportLaws
 pub mod SeenLaws

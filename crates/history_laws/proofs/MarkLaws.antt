@@ -181,6 +181,10 @@ from-own case run x b order end own =
       | false ↦ λ mark. tt
     ] own.mark))
 
+-- the own work of an interval is at most the end
+pub own-end : (case : CaseShape) (run : Run) (b : Bounds) → own_work case run b ≤ END
+own-end case run b = least-end (flat_map (λ (r : RowName × Contents). cond (covers b r.0) (row_marks r.1) []) run.rows ++ stated_marks case run b.part)
+
 -- a bound of the own work of each interval of a part is one of the part's work
 pub intervals-part_from : (case : CaseShape) (run : Run) (x part : ℕ) → part < parts_of case.topology
     → AllByRecursion (λ (b : Bounds). (b.part == part) ≡ true → x ≤ own_work case run b) (intervals_of case.topology) → IsPartFrom case run x part
@@ -230,7 +234,7 @@ abbrev pub IsAboveFrom : CaseShape → Run → ℕ → ℕ → Type 0
 IsAboveFrom case run x part = (depth : ℕ) → WorkFrom case run x depth part
 
 -- each feeding part is there
-feeds-there : (case : CaseShape) (part : ℕ) → IsTopology case.topology → part < parts_of case.topology → AllByRecursion (λ f. f < parts_of case.topology) (feeds_of case.topology part)
+pub feeds-there : (case : CaseShape) (part : ℕ) → IsTopology case.topology → part < parts_of case.topology → AllByRecursion (λ f. f < parts_of case.topology) (feeds_of case.topology part)
 feeds-there case part rules there = each-weaker (λ f. f < part) (λ f. f < parts_of case.topology) (λ f less. omega (arith, less, there)) (feeds_of case.topology part) (feeds-before case.topology part rules)
 
 -- a bound of the work above a part
@@ -272,7 +276,7 @@ above-from case run x part rules there below =
     WorkFrom-any_depth case run x rules (parts_of case.topology) part (omega (arith, there)) (work-from case run x rules (parts_of case.topology) part there below)
 
 -- what no part above has, none of the feeding parts has
-feeds-above : (case : CaseShape) (run : Run) (x part : ℕ) → IsAboveFrom case run x part → AllByRecursion (IsAboveFrom case run x) (feeds_of case.topology part)
+pub feeds-above : (case : CaseShape) (run : Run) (x part : ℕ) → IsAboveFrom case run x part → AllByRecursion (IsAboveFrom case run x) (feeds_of case.topology part)
 feeds-above case run x part above = each-every (λ depth f. WorkFrom case run x depth f) (feeds_of case.topology part) (λ depth. (above (suc depth)).1)
 
 -- ---- one more entry
@@ -352,7 +356,7 @@ IsSafe-stays case front rest i b x runs legal at safe =
     before = run_of case.topology front
 
     end : x ≤ END
-    end = let below = safe.own in let top = least-end (flat_map (λ (r : RowName × Contents). cond (covers b r.0) (row_marks r.1) []) before.rows ++ stated_marks case before b.part) in omega (arith, below, top)
+    end = let below = safe.own in let top = own-end case before b in omega (arith, below, top)
 
     parts : AreLegal case empty_run front × AreLegal case before rest
     parts = AreLegal-apart case front rest empty_run legal

@@ -2,7 +2,7 @@
 -- and which marks are safe. After Akidau et al., VLDB 2013, section 4.5, where a low watermark is the least of the
 -- oldest work of a computation and of its inputs' low watermarks.
 -- Own: a delivery is work of the row that sent it until it is acknowledged, and the intervals stand for the parts.
-use Rattle.std.specs.Prelude.{ℕ, zero, suc, ◌≤◌, ◌==◌, not, if◌then◌else◌, List, [], ◌∷◌, ◌++◌, map, filter, All}
+use Rattle.std.specs.Prelude.{◌≡◌, ℕ, zero, suc, ◌≤◌, ◌==◌, not, if◌then◌else◌, List, [], ◌∷◌, ◌++◌, map, filter, slice_get, Some, All}
 use Rattle.std.specs.List.{flat_map}
 use Rattle.mw_types.specs.declared.identity.RowName.{RowName}
 use Rattle.mw_types.specs.declared.delivery.Delivery.{Delivery}
@@ -52,3 +52,8 @@ work_above case run part = work_under case run (parts_of case.topology) part
 pub record IsSafe (case : CaseShape) (run : Run) (bounds : Bounds) (mark : ℕ) : Type 0 where
   pub own : mark ≤ own_work case run bounds
   pub inputs : All (λ (feeding : ℕ). mark ≤ work_above case run feeding) (feeds_of case.topology bounds.part)
+
+-- a mark is at most a safe mark of each interval of a part
+abbrev pub IsUnderMarks : CaseShape → Run → ℕ → ℕ → Type 0
+IsUnderMarks case run part mark = (interval : ℕ) (b : Bounds) → slice_get (intervals_of case.topology) interval ≡ Some b →
+    b.part ≡ part → (safe : ℕ) × (mark ≤ safe) × IsSafe case run b safe

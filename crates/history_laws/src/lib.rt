@@ -13,6 +13,7 @@
 mod floors;
 mod ids;
 mod intervals;
+mod marks;
 mod rows;
 mod senders;
 mod stamps;
@@ -24,6 +25,7 @@ mod writes;
 pub use floors::{floor_is_least_unacknowledged, floor_never_falls};
 pub use ids::{ids_ascend, ids_tell_what_is_finished, ids_tell_what_waits};
 pub use intervals::rows_lie_in_the_interval_that_has_them;
+pub use marks::{reported_marks_are_safe, safe_marks_are_under_low_watermarks, safe_marks_stay_safe};
 pub use rows::{rows_are_as_known, rows_are_as_seen, rows_change_by_their_entries};
 pub use senders::{pending_is_unacknowledged, senders_keep_what_they_made};
 pub use stamps::stamps_are_in_time;
