@@ -6,3 +6,5 @@ pub mod Ids
 pub mod Stamps
 pub mod Stored
 pub mod Marks
+pub mod Overtaken
+pub mod OwnWorks

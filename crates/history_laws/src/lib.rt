@@ -10,6 +10,7 @@
 //! handled and how much work is left; `specs/Stored.antt`, what a keeper has to hold.
 #![tactic(auto)]
 
+mod examples;
 mod floors;
 mod ids;
 mod intervals;
@@ -22,6 +23,7 @@ mod unfinished;
 mod watermarks;
 mod writes;
 
+pub use examples::{an_overtaken_claim_is_stale, drained_example_has_its_own_work, drained_example_is_fenced};
 pub use floors::{floor_is_least_unacknowledged, floor_never_falls};
 pub use ids::{ids_ascend, ids_tell_what_is_finished, ids_tell_what_waits};
 pub use intervals::rows_lie_in_the_interval_that_has_them;
