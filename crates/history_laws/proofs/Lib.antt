@@ -21,4 +21,5 @@ pub mod UnfinishedLaws
 pub mod OwnLaws
 pub mod MarkLaws
 pub mod ReportLaws
+pub mod FitLaws
 pub mod SeenLaws

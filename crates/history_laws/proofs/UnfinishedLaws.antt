@@ -34,9 +34,9 @@ use Rattle.history_laws.proofs.StampLaws.{line_of}
 
 -- ---- injectors
 
--- no injector has injected more lines than its file has
+-- no row of an injector has injected more lines than the injector's file has
 pub record AreCursorsWithin (case : CaseShape) (run : Run) : Type 0 where
-  pub each : (part : ℕ) → is_injector case.topology part ≡ true → cursor_of case run part ≤ length (source_of case part)
+  pub each : (name : RowName) → is_injector case.topology name.part ≡ true → cursor_in (row_of case.topology run name).state ≤ length (source_of case name.part)
 
 -- a state that is one line further is at most one line further
 advanced-within : (s : State) → cursor_in (advanced s) ≤ cursor_in s + 1
@@ -51,40 +51,40 @@ line-within case run seq part line item may =
     let l = line_of (source_of case part) line item may.of_line in slice_get_within (source_of case part) line l.0 l.1
 
 -- the cursor that an entry leaves in its row is within the file
-changed-within : (case : CaseShape) (run : Run) (entry : Entry) (sent : List Delivery) (part : ℕ) → MayFollow case run entry → is_injector case.topology part ≡ true
-    → row_written entry ≡ Some (record { part = part; key = [] }) → cursor_of case run part ≤ length (source_of case part)
-    → cursor_in (changed entry sent (row_of case.topology run (record { part = part; key = [] }))).state ≤ length (source_of case part)
-changed-within case run (Claim worker interval) sent part may is written old = old
-changed-within case run (Inject seq other line item) sent part may is written old =
-    let same : other ≡ part = ap (λ (n : RowName). n.part) (some_same (record { part = other; key = [] }) (record { part = part; key = [] }) written) in
-    let within : line < length (source_of case part) = subst (λ n. line < length (source_of case n)) same (line-within case run seq other line item may) in
-    let next : line ≡ cursor_of case run part = may.next_line ∙ ap (cursor_of case run) same in
-    let step = advanced-within (row_of case.topology run (record { part = part; key = [] })).state in
-    omega (arith, within, next, step)
-changed-within case run (Handle seq row id effects) sent part may is written old =
+changed-within : (case : CaseShape) (run : Run) (entry : Entry) (sent : List Delivery) (name : RowName) → MayFollow case run entry → is_injector case.topology name.part ≡ true
+    → row_written entry ≡ Some name → cursor_in (row_of case.topology run name).state ≤ length (source_of case name.part)
+    → cursor_in (changed entry sent (row_of case.topology run name)).state ≤ length (source_of case name.part)
+changed-within case run (Claim worker interval) sent name may is written old = old
+changed-within case run (Inject seq other line item) sent name may is written old =
+    subst (λ (n : RowName). cursor_in (advanced (row_of case.topology run n).state) ≤ length (source_of case n.part)) (some_same (record { part = other; key = [] }) name written)
+    (let within = line-within case run seq other line item may in
+    let next = may.next_line in
+    let step = advanced-within (row_of case.topology run (record { part = other; key = [] })).state in
+    omega (arith, within, next, step))
+changed-within case run (Handle seq row id effects) sent name may is written old =
     let kind = was_some (λ (kind : Kind). effects_of_record kind row.key (row_of case.topology run row).state may.delivery.item) (kind_of case.topology row.part) effects may.does in
-    absurd (injector-no_kind case.topology row.part kind.0 (subst (λ (n : RowName). is_injector case.topology n.part ≡ true) (sym (some_same row (record { part = part; key = [] }) written)) is) kind.1)
-changed-within case run (Fire seq row timer mark effects) sent part may is written old =
+    absurd (injector-no_kind case.topology row.part kind.0 (subst (λ (n : RowName). is_injector case.topology n.part ≡ true) (sym (some_same row name written)) is) kind.1)
+changed-within case run (Fire seq row timer mark effects) sent name may is written old =
     let kind = was_some (λ (kind : Kind). effects_of_timer kind row.key (row_of case.topology run row).state timer) (kind_of case.topology row.part) effects may.does in
-    absurd (injector-no_kind case.topology row.part kind.0 (subst (λ (n : RowName). is_injector case.topology n.part ≡ true) (sym (some_same row (record { part = part; key = [] }) written)) is) kind.1)
-changed-within case run (Ack seq row id) sent part may is written old = old
-changed-within case run (Purge seq row floor) sent part may is written old = old
+    absurd (injector-no_kind case.topology row.part kind.0 (subst (λ (n : RowName). is_injector case.topology n.part ≡ true) (sym (some_same row name written)) is) kind.1)
+changed-within case run (Ack seq row id) sent name may is written old = old
+changed-within case run (Purge seq row floor) sent name may is written old = old
 
--- after each legal history no injector has injected more lines than its file has
+-- after each legal history no row of an injector has injected more lines than the injector's file has
 pub legal-within : (case : CaseShape) (history : List Entry) → IsLegal case history → AreCursorsWithin case (run_of case.topology history)
 legal-within case = along_history case (λ done run. AreCursorsWithin case run)
     (λ done run entry within may. record {
-      each = λ part is. row_of-step case.topology run entry (record { part = part; key = [] }) (λ (c : Contents). cursor_in c.state ≤ length (source_of case part)) (within.each part is)
-          (λ written. changed-within case run entry (deliveries_of case.topology run.made run.next entry) part may is written (within.each part is));
+      each = λ name is. row_of-step case.topology run entry name (λ (c : Contents). cursor_in c.state ≤ length (source_of case name.part)) (within.each name is)
+          (λ written. changed-within case run entry (deliveries_of case.topology run.made run.next entry) name may is written (within.each name is));
     })
-    (record { each = λ part is. start part is })
+    (record { each = λ name is. start name is })
   where
-    start : (part : ℕ) → is_injector case.topology part ≡ true → cursor_of case empty_run part ≤ length (source_of case part)
-    start part is = let none : cursor_of case empty_run part ≡ 0 = at_first (kind_of case.topology part) refl in omega (arith, none)
+    start : (name : RowName) → is_injector case.topology name.part ≡ true → cursor_in (row_of case.topology empty_run name).state ≤ length (source_of case name.part)
+    start name is = let none : cursor_in (row_of case.topology empty_run name).state ≡ 0 = at_first (kind_of case.topology name.part) refl in omega (arith, none)
       where
-        at_first : (o : Option Kind) → kind_of case.topology part ≡ o → cursor_in (option_map_or Rattle.computations.specs.Handlers.fresh_state o (states.Injector 0)) ≡ 0
+        at_first : (o : Option Kind) → kind_of case.topology name.part ≡ o → cursor_in (option_map_or Rattle.computations.specs.Handlers.fresh_state o (states.Injector 0)) ≡ 0
         at_first None of = refl
-        at_first (Some kind) of = absurd (injector-no_kind case.topology part kind is of)
+        at_first (Some kind) of = absurd (injector-no_kind case.topology name.part kind is of)
 
 -- ---- a finished run
 
@@ -123,7 +123,7 @@ range-each P a (suc n) k each from to = elim (cases_lt a k) [
 pub finished-done : (case : CaseShape) (history : List Entry) → IsLegal case history → IsFinished case (run_of case.topology history) → IsDone case (run_of case.topology history)
 finished-done case history legal finished = record {
   injected = λ part less.
-      let within = (legal-within case history legal).each part (lt-ltb part (injectors_of case.topology) less) in
+      let within = (legal-within case history legal).each (record { part = part; key = [] }) (lt-ltb part (injectors_of case.topology) less) in
       let past = ltb-false (cursor_of case run part) (length (source_of case part))
       (range-each (λ part. has_line case run part ≡ false) 0 (injectors_of case.topology) part
       (filter-nil (has_line case run) (range_with_len 0 (injectors_of case.topology)) (no_length (injectors_left case run) (omega (arith, finished)))) (omega arith) (omega (arith, less))) in

@@ -6,5 +6,6 @@ pub mod Ids
 pub mod Stamps
 pub mod Stored
 pub mod Marks
+pub mod Fitting
 pub mod Overtaken
 pub mod OwnWorks
