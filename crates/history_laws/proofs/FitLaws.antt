@@ -98,7 +98,7 @@ fresh_of-kind shape part = by_kind (kind_of shape part)
     by_kind (Some kind) = fresh-kind kind
 
 -- a state of a computation is of its kind
-of_kind : (shape : Shape) (part : ℕ) (kind : Kind) (state : State) → kind_of shape part ≡ Some kind → IsStateOf shape part state → IsOfKind kind state
+pub of_kind : (shape : Shape) (part : ℕ) (kind : Kind) (state : State) → kind_of shape part ≡ Some kind → IsStateOf shape part state → IsOfKind kind state
 of_kind shape part kind state is of = subst (λ o. MatchOption o (IsCursor state) (λ kind. IsOfKind kind state)) is of
 
 -- and back
@@ -193,7 +193,7 @@ pub record AreOfKind (case : CaseShape) (run : Run) : Type 0 where
   pub reads : (name : RowName) → AllByRecursion (GoesToReader case.topology) (row_of case.topology run name).pending
 
 -- one more entry keeps it so
-AreOfKind-followed : (case : CaseShape) (run : Run) (entry : Entry) → AreOfKind case run → MayFollow case run entry → AreOfKind case (followed case.topology run entry)
+pub AreOfKind-followed : (case : CaseShape) (run : Run) (entry : Entry) → AreOfKind case run → MayFollow case run entry → AreOfKind case (followed case.topology run entry)
 AreOfKind-followed case run entry are may =
     let sent = deliveries_of case.topology run.made run.next entry in record {
       states = λ name. row_of-step case.topology run entry name (λ (c : Contents). IsStateOf case.topology name.part c.state) (are.states name)
@@ -204,10 +204,14 @@ AreOfKind-followed case run entry are may =
           (λ written. changed-read case.topology entry sent (row_of case.topology run name) (are.reads name) (sent-read case.topology run.made run.next entry));
     }
 
+-- before any entry it is so
+pub AreOfKind-empty : (case : CaseShape) → AreOfKind case empty_run
+AreOfKind-empty case = record { states = λ name. fresh_of-kind case.topology name.part; no_timers = λ name is. refl; reads = λ name. tt }
+
 -- after each legal history it is so
 pub legal-of_kind : (case : CaseShape) (history : List Entry) → IsLegal case history → AreOfKind case (run_of case.topology history)
 legal-of_kind case = along_history case (λ done run. AreOfKind case run) (λ done run entry are may. AreOfKind-followed case run entry are may)
-    (record { states = λ name. fresh_of-kind case.topology name.part; no_timers = λ name is. refl; reads = λ name. tt })
+    (AreOfKind-empty case)
 
 -- each row of a legal history fits its name
 pub legal-fits : (case : CaseShape) (history : List Entry) (name : RowName) → IsLegal case history

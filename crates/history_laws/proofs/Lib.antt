@@ -22,4 +22,5 @@ pub mod OwnLaws
 pub mod MarkLaws
 pub mod ReportLaws
 pub mod FitLaws
+pub mod StateLaws
 pub mod SeenLaws

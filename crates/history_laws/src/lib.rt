@@ -11,6 +11,7 @@
 #![tactic(auto)]
 
 mod examples;
+mod fitting;
 mod floors;
 mod ids;
 mod intervals;
@@ -24,6 +25,7 @@ mod watermarks;
 mod writes;
 
 pub use examples::{an_overtaken_claim_is_stale, drained_example_has_its_own_work, drained_example_is_fenced};
+pub use fitting::rows_fit_their_names;
 pub use floors::{floor_is_least_unacknowledged, floor_never_falls};
 pub use ids::{ids_ascend, ids_tell_what_is_finished, ids_tell_what_waits};
 pub use intervals::rows_lie_in_the_interval_that_has_them;
