@@ -84,11 +84,11 @@ push_same (a ∷ xs) (b ∷ bs) x y e =
 -- ---- claims
 
 -- the last claim among entries that are numbered from n on, after an earlier one
-abbrev claim_from : ℕ → ℕ → Option ℕ → List Entry → Option ℕ
+abbrev pub claim_from : ℕ → ℕ → Option ℕ → List Entry → Option ℕ
 claim_from interval n last entries = fold (later_claim interval) last (enumerate_from n entries)
 
 -- the last claim of a history that goes on
-last_claim-append : (interval : ℕ) (front rest : List Entry)
+pub last_claim-append : (interval : ℕ) (front rest : List Entry)
     → last_claim interval (front ++ rest) ≡ claim_from interval (length front) (last_claim interval front) rest
 last_claim-append interval front rest =
     let zero_more : 0 + length front ≡ length front = omega arith in

@@ -23,4 +23,5 @@ pub mod MarkLaws
 pub mod ReportLaws
 pub mod FitLaws
 pub mod StateLaws
+pub mod ClaimLaws
 pub mod SeenLaws
