@@ -210,13 +210,13 @@ pub is_handled-push : (id : RecordId) (history : List Entry) (entry : Entry)
 is_handled-push id history entry = list_any-append (handles id) history (entry ∷ [])
 
 -- two tests that both fail
-left_push : (a b : Bool) → not (a || (b || false)) ≡ (not a && not b)
+pub left_push : (a b : Bool) → not (a || (b || false)) ≡ (not a && not b)
 left_push true b = refl
 left_push false true = refl
 left_push false false = refl
 
 -- an entry that handles nothing takes nothing
-none_taken : (waiting : List Delivery) → waiting ≡ filter (λ (d : Delivery). not false) waiting
+pub none_taken : (waiting : List Delivery) → waiting ≡ filter (λ (d : Delivery). not false) waiting
 none_taken waiting = sym (filter-all (λ (d : Delivery). not false) waiting (each-all (λ (d : Delivery). not false ≡ true) (λ d. refl) waiting))
 
 -- what still waits is what the entry does not handle

@@ -24,4 +24,5 @@ pub mod ReportLaws
 pub mod FitLaws
 pub mod StateLaws
 pub mod ClaimLaws
+pub mod CountLaws
 pub mod SeenLaws

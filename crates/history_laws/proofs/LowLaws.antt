@@ -39,7 +39,7 @@ pub record AreRowsInOrder (run : Run) : Type 0 where
   pub sorted : IsStrictlySortedBy row_cmp (keys_of run.rows)
 
 -- one more entry keeps rows in order
-AreRowsInOrder-followed : (shape : Shape) (run : Run) (entry : Entry) → AreRowsInOrder run → AreRowsInOrder (followed shape run entry)
+pub AreRowsInOrder-followed : (shape : Shape) (run : Run) (entry : Entry) → AreRowsInOrder run → AreRowsInOrder (followed shape run entry)
 AreRowsInOrder-followed shape run entry order = record { sorted = by_row (row_written entry) }
   where
     by_row : (w : Option RowName) → IsStrictlySortedBy row_cmp (keys_of (option_map_or (λ (n : RowName). insert_entry row_cmp run.rows n (made_row shape run entry n)) w run.rows))
@@ -47,7 +47,7 @@ AreRowsInOrder-followed shape run entry order = record { sorted = by_row (row_wr
     by_row (Some name) = sorted-insert_entry row_cmp-total run.rows name (made_row shape run entry name) order.sorted
 
 -- before any entry there are no rows
-AreRowsInOrder-empty : AreRowsInOrder empty_run
+pub AreRowsInOrder-empty : AreRowsInOrder empty_run
 unfolding IsStrictlySortedBy
 AreRowsInOrder-empty = record { sorted = tt }
 

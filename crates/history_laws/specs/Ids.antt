@@ -13,6 +13,10 @@ use Rattle.history_laws.specs.Finished.{is_handled, is_acknowledged}
 abbrev pub is_left : List Entry → Delivery → Bool
 is_left history d = not (is_handled d.id history)
 
+-- whether a delivery is not acknowledged in a history
+abbrev pub is_unacknowledged : List Entry → Delivery → Bool
+is_unacknowledged history d = not (is_acknowledged d.id history)
+
 -- each record that is handled was made, and what waits is what was made and is not handled
 pub record TellsWhatWaits (history : List Entry) (run : Run) : Type 0 where
   pub handled : (id : RecordId) → IsTrue (is_handled id history) → IsSome (found_delivery id run.made)
