@@ -1,13 +1,12 @@
 -- The last claim of an interval is a claim of it, and no earlier than any other.
-use Rattle.std.proofs.Common.{◌≡◌, ℕ, zero, suc, ◌+◌, ◌<◌, ◌≤◌, ◌==◌, Bool, true, false, cond, List, [], ◌∷◌, ◌++◌, length, take, drop, fold, refl, sym, ◌∙◌, ap, subst, arith, inl, inr}
+use Rattle.std.proofs.Common.{◌≡◌, ℕ, suc, ◌+◌, ◌<◌, ◌≤◌, Bool, true, false, cond, List, [], ◌∷◌, ◌++◌, length, take, drop, refl, sym, ◌∙◌, ap, subst, arith, inl, inr}
 use Rattle.std.specs.Prelude.{◌⊎◌, Option, Some, None, slice_get}
-use Rattle.std.specs.List.{AllByRecursion, enumerate_from}
 use Rattle.std.proofs.lemmas.Bool.{eqb-true, eq-eqb}
 use Rattle.std.proofs.lemmas.Option.{slice_get_within, get_or_from_slice_get}
 use Rattle.std.proofs.lemmas.List.{take_more, take-append-drop, length-take}
 use Rattle.mw_types.specs.declared.entry.Entry.{Entry}
 use Rattle.mw_types.specs.declared.entry.Entry.TheVariants.{Claim, Inject, Handle, Fire, Ack, Purge}
-use Rattle.history_laws.specs.Fences.{is_claim, later_claim, last_claim}
+use Rattle.history_laws.specs.Fences.{is_claim, last_claim}
 use Rattle.history_laws.proofs.Lists.{none_some, some_same}
 use Rattle.history_laws.proofs.FenceLaws.{claim_from, last_claim-append, last_claim-push}
 
@@ -67,7 +66,10 @@ last_claim-latest interval seq worker history at =
     ap (last_claim interval) up_to ∙ last_claim-push interval (take seq history) (Claim worker interval)
     ∙ ap (λ b. cond b (Some (length (take seq history))) (last_claim interval (take seq history))) (eq-eqb interval interval refl) ∙ ap Some number in
     let len : length (take (seq + 1) history) ≡ seq + 1 = (let l = length-take (seq + 1) history in omega (arith, l, within)) in
-    let later = claim_from-rises interval (length (take (seq + 1) history)) seq (drop (seq + 1) history) (omega (arith, len)) in
-    (later.0, later.1, sym (ap (last_claim interval) (take-append-drop (seq + 1) history))
-    ∙ last_claim-append interval (take (seq + 1) history) (drop (seq + 1) history)
-    ∙ ap (λ o. claim_from interval (length (take (seq + 1) history)) o (drop (seq + 1) history)) claimed ∙ later.2)
+    let later = claim_from-rises interval (length (take (seq + 1) history)) seq (drop (seq + 1) history) (omega (arith, len)) in (
+      later.0,
+      later.1,
+      sym (ap (last_claim interval) (take-append-drop (seq + 1) history))
+          ∙ last_claim-append interval (take (seq + 1) history) (drop (seq + 1) history)
+          ∙ ap (λ o. claim_from interval (length (take (seq + 1) history)) o (drop (seq + 1) history)) claimed ∙ later.2,
+    )

@@ -1,7 +1,6 @@
 -- As many deliveries are pending as were made and are not acknowledged.
-use Rattle.std.proofs.Common.{◌≡◌, ℕ, ◌+◌, ◌&&◌, Bool, true, false, cond, List, [], ◌∷◌, ◌++◌, length, refl, sym, ◌∙◌, ap, subst, arith, length-append}
-use Rattle.std.specs.Prelude.{⊤, ◌||◌, Option, Some, None, IsSome, filter, find, not}
-use Rattle.std.specs.List.{AllByRecursion, flat_map}
+use Rattle.std.proofs.Common.{◌≡◌, ◌+◌, ◌&&◌, true, false, cond, List, [], ◌∷◌, ◌++◌, length, refl, sym, ◌∙◌, ap, arith, length-append}
+use Rattle.std.specs.Prelude.{Option, Some, None, IsSome, filter, not}
 use Rattle.std.specs.List.Sorted.{IsStrictlySortedBy}
 use Rattle.std.specs.declared.cmp.Ordering.TheVariants.{Less}
 use Rattle.std.proofs.lemmas.List.Elements.{filter-append, filter_agree}
@@ -15,7 +14,7 @@ use Rattle.topology.specs.Shapes.{Shape}
 use Rattle.row_parts.specs.Contents.{Contents, same_id, delivery_cmp}
 use Rattle.run_history.specs.Cases.{CaseShape}
 use Rattle.run_history.specs.Made.{found_delivery, row_written, deliveries_of}
-use Rattle.run_history.specs.Runs.{Run, run_of, row_of, followed, empty_run}
+use Rattle.run_history.specs.Runs.{Run, run_of, row_of, followed}
 use Rattle.run_history.specs.Legal.{MayFollow, IsLegal}
 use Rattle.history_laws.specs.Finished.{acknowledges, is_acknowledged, all_pending}
 use Rattle.history_laws.specs.Ids.{is_unacknowledged}

@@ -1,14 +1,11 @@
 -- Each row of a legal history fits its name.
-use Rattle.std.proofs.Common.{◌≡◌, ◌==◌, ℕ, ℤ, ◌+◌, ◌<◌, ◌≤◌, ◌-◌, Bool, true, false, cond, Option, Some, None, List, [], ◌∷◌, ◌++◌, length, find, refl, sym, ◌∙◌, ap, subst, arith}
-use Rattle.std.specs.Prelude.{⊤, MatchOption, IsTrue, IsSome, All, filter, not, slice_get, unwrap_or, nat_lt}
-use Rattle.std.specs.Option.{option_map, option_map_or}
+use Rattle.std.proofs.Common.{◌≡◌, ◌==◌, ℕ, ℤ, ◌+◌, ◌<◌, ◌≤◌, true, false, cond, Option, Some, None, List, [], length, refl, sym, subst, arith}
+use Rattle.std.specs.Prelude.{⊤, MatchOption, filter, not}
+use Rattle.std.specs.Option.{option_map_or}
 use Rattle.std.specs.List.{AllByRecursion}
-use Rattle.std.proofs.lemmas.Bool.{ltb-true}
 use Rattle.std.proofs.lemmas.List.Elements.{All-from_recursion}
-use Rattle.mw_types.specs.declared.identity.RecordId.{RecordId}
 use Rattle.mw_types.specs.declared.identity.RowName.{RowName}
 use Rattle.mw_types.specs.declared.record.Record.{Record}
-use Rattle.mw_types.specs.declared.record.Production.{Production}
 use Rattle.mw_types.specs.declared.timer.Timer.{Timer}
 use Rattle.mw_types.specs.declared.kind.Kind.{Kind}
 use Rattle.mw_types.specs.declared.kind.Kind.TheVariants as kinds
@@ -21,17 +18,16 @@ use Rattle.mw_types.specs.declared.entry.Entry.{Entry}
 use Rattle.mw_types.specs.declared.entry.Entry.TheVariants.{Claim, Inject, Handle, Fire, Ack, Purge}
 use Rattle.mw_types.specs.Outcomes.{Outcome}
 use Rattle.topology.specs.declared.subscription.Subscription.{Subscription}
-use Rattle.topology.specs.Shapes.{Shape, injectors_of, parts_of, kind_of, consumers_of}
-use Rattle.computations.specs.Handlers.{IsOfKind, fresh_state, unchanged, with_timer, with_record, one_more, window_end, counted, count_record, window_due, count_timer, due_time, held_with, spike_record, total_due, is_spike, known_with, spike_timer, pass_record, effects_of_record, effects_of_timer}
-use Rattle.row_parts.specs.Contents.{Contents, fresh, is_timer, same_id}
-use Rattle.run_history.specs.Cases.{CaseShape, is_injector, source_of, fresh_of}
+use Rattle.topology.specs.Shapes.{Shape, injectors_of, parts_of, kind_of}
+use Rattle.computations.specs.Handlers.{IsOfKind, fresh_state, unchanged, with_timer, with_record, one_more, window_end, counted, window_due, count_timer, due_time, held_with, total_due, is_spike, known_with, spike_timer, effects_of_record, effects_of_timer}
+use Rattle.row_parts.specs.Contents.{Contents, same_id}
+use Rattle.run_history.specs.Cases.{CaseShape, is_injector, fresh_of}
 use Rattle.run_history.specs.Made.{row_written, late_cause, productions_of, deliveries_of, deliveries_made}
 use Rattle.run_history.specs.Runs.{Run, run_of, row_of, followed, changed, advanced, empty_run}
-use Rattle.run_history.specs.Watermarks.{cursor_in}
 use Rattle.run_history.specs.Legal.{MayFollow, IsLegal}
 use Rattle.history_laws.specs.Fitting.{IsCursor, IsStateOf, IsSendable, FitsName}
 use Rattle.history_laws.proofs.Lists.{some_same, each-append, each-all, each-weaker, each-filter, each-both}
-use Rattle.history_laws.proofs.Along.{along_history, along_any}
+use Rattle.history_laws.proofs.Along.{along_history}
 use Rattle.history_laws.proofs.Made.{deliveries_made-each}
 use Rattle.history_laws.proofs.FeedLaws.{consumers-there, injector-no_kind}
 use Rattle.history_laws.proofs.IdLaws.{next-length}

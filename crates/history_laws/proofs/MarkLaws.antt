@@ -1,15 +1,14 @@
 -- Marks that are safe stay safe, a reported mark is safe, and safe marks are at most the low watermark.
-use Rattle.std.proofs.Common.{◌≡◌, ℕ, zero, suc, ◌+◌, ◌<◌, ◌≤◌, ◌==◌, ◌&&◌, Bool, true, false, cond, List, [], ◌∷◌, ◌++◌, map, fold, refl, sym, ◌∙◌, ap, subst, arith, inl, inr}
-use Rattle.std.specs.Prelude.{◌⊎◌, Option, Some, None, All, Contains, MatchBool, filter, not, slice_get, unwrap_or}
+use Rattle.std.proofs.Common.{◌≡◌, ℕ, zero, suc, ◌+◌, ◌<◌, ◌≤◌, ◌==◌, Bool, true, false, cond, List, [], ◌∷◌, ◌++◌, map, fold, refl, sym, ◌∙◌, ap, subst, arith, inl, inr}
+use Rattle.std.specs.Prelude.{Some, None, filter, not, slice_get, unwrap_or}
 use Rattle.std.specs.List.{AllByRecursion, flat_map, range_with_len}
 use Rattle.std.specs.Ordering.{is_le, is_lt, ordering_reverse}
 use Rattle.std.specs.declared.cmp.Ordering.{Ordering}
 use Rattle.std.specs.declared.cmp.Ordering.TheVariants.{Less, Equal, Greater}
 use Rattle.std.specs.BTreeMap.{is_at}
 use Rattle.std.specs.Map.{lookup}
-use Rattle.std.specs.Cmp.{first_so, second_so}
-use Rattle.std.proofs.lemmas.Bool.{eqb-true, eq-eqb, both_ways, cases_lt}
-use Rattle.std.proofs.lemmas.List.Elements.{All-contains, All-from_recursion, recursion_from_All}
+use Rattle.std.proofs.lemmas.Bool.{eqb-true, eq-eqb, cases_lt}
+use Rattle.std.proofs.lemmas.List.Elements.{All-from_recursion, recursion_from_All}
 use Rattle.mw_types.specs.declared.TheConstants.{END}
 use Rattle.mw_types.specs.declared.identity.RowName.{RowName}
 use Rattle.mw_types.specs.declared.timer.Timer.{Timer}
@@ -24,26 +23,24 @@ use Rattle.key_intervals.proofs.Beginnings.{empty_first}
 use Rattle.key_intervals.proofs.Lookup.{has_row, of_part}
 use Rattle.topology.specs.Shapes.{Shape, parts_of, feeds_of, cuts_of}
 use Rattle.topology.specs.Rules.{IsTopology}
-use Rattle.row_parts.specs.Contents.{Contents, fresh, same_id}
+use Rattle.row_parts.specs.Contents.{Contents, fresh}
 use Rattle.run_history.specs.Cases.{CaseShape, is_injector, fresh_of}
 use Rattle.run_history.specs.Runs.{Run, run_of, row_of, followed, empty_run}
-use Rattle.run_history.specs.Watermarks.{least, times_set, source_mark, low_under, low_watermark}
+use Rattle.run_history.specs.Watermarks.{times_set, source_mark}
 use Rattle.run_history.specs.Legal.{MayFollow, AreLegal, IsLegal}
 use Rattle.run_history.proofs.Lookups.{each_found}
 use Rattle.history_laws.specs.Fences.{intervals_of}
-use Rattle.history_laws.specs.Ids.{IsSentBy}
 use Rattle.history_laws.specs.Inputs.{IsRunnable}
 use Rattle.history_laws.specs.Marks.{stamps_pending, row_marks, stated_marks, own_work, part_work, work_under, work_above, IsSafe}
-use Rattle.history_laws.proofs.Lists.{each-append, each-weaker, each-both, each-map, find-each}
+use Rattle.history_laws.proofs.Lists.{each-append, each-weaker, each-both, each-map}
 use Rattle.history_laws.proofs.Along.{run_of-append, AreLegal-apart, along_entries}
 use Rattle.history_laws.proofs.FeedLaws.{feeds-before}
 use Rattle.history_laws.proofs.IdLaws.{AreIds, AreIds-followed, legal-ids}
 use Rattle.history_laws.proofs.PendingLaws.{AreSent, AreSent-followed, legal-sent}
 use Rattle.history_laws.proofs.RowSteps.{same_row}
 use Rattle.history_laws.proofs.StampLaws.{AreInTime, AreInTime-followed, legal-in_time, at-each}
-use Rattle.history_laws.proofs.WorkLaws.{WaitsFrom, DueFrom, IsWorkFrom, FeedsFrom}
-use Rattle.history_laws.proofs.LowLaws.{AreRowsInOrder, rows-in_order, least-end, least-bound, bound-each, each-apart, from_passing, to_passing, each-every, LowFrom, from-low}
-use Rattle.history_laws.proofs.OwnLaws.{PendsFrom, IsRowFrom, IsOwnFrom, OfPart, IsPartFrom, IsOwnFrom-followed}
+use Rattle.history_laws.proofs.LowLaws.{AreRowsInOrder, rows-in_order, least-end, least-bound, bound-each, each-apart, from_passing, to_passing, each-every}
+use Rattle.history_laws.proofs.OwnLaws.{IsRowFrom, IsOwnFrom, OfPart, IsPartFrom, IsOwnFrom-followed}
 
 -- ---- intervals
 
@@ -253,10 +250,11 @@ work-from case run x rules (suc depth) part there below =
 from-work : (case : CaseShape) (run : Run) (x : ℕ) → AreRowsInOrder run → x ≤ END → (depth part : ℕ) → WorkFrom case run x depth part → x ≤ work_under case run depth part
 from-work case run x order end zero part from = from-part case run x part order end from
 from-work case run x order end (suc depth) part from =
-    least-bound x (part_work case run part ∷ map (work_under case run depth) (feeds_of case.topology part)) end
-    (from-part case run x part order end from.0,
-    each-map (λ m. x ≤ m) (work_under case run depth) (feeds_of case.topology part)
-    (each-weaker (WorkFrom case run x depth) (λ f. x ≤ work_under case run depth f) (λ f w. from-work case run x order end depth f w) (feeds_of case.topology part) from.1))
+    least-bound x (part_work case run part ∷ map (work_under case run depth) (feeds_of case.topology part)) end (
+      from-part case run x part order end from.0,
+      each-map (λ m. x ≤ m) (work_under case run depth) (feeds_of case.topology part)
+          (each-weaker (WorkFrom case run x depth) (λ f. x ≤ work_under case run depth f) (λ f w. from-work case run x order end depth f w) (feeds_of case.topology part) from.1),
+    )
 
 -- no path through streams is longer than the number of its part, so looking back further changes nothing
 WorkFrom-any_depth : (case : CaseShape) (run : Run) (x : ℕ) → IsTopology case.topology → (depth part : ℕ) → part ≤ depth → WorkFrom case run x depth part → IsAboveFrom case run x part
@@ -264,11 +262,13 @@ WorkFrom-any_depth case run x rules zero part le from zero = from
 WorkFrom-any_depth case run x rules zero part le from (suc other) =
     (from, each-weaker (λ f. f < part) (WorkFrom case run x other) (λ f less. absurd (omega (arith, less, le))) (feeds_of case.topology part) (feeds-before case.topology part rules))
 WorkFrom-any_depth case run x rules (suc depth) part le from zero = from.0
-WorkFrom-any_depth case run x rules (suc depth) part le from (suc other) =
-    (from.0, each-weaker (λ f. (f < part) × WorkFrom case run x depth f) (WorkFrom case run x other)
-    (λ f (both : (f < part) × WorkFrom case run x depth f).
-    let less = both.0 in WorkFrom-any_depth case run x rules depth f (omega (arith, less, le)) both.1 other)
-    (feeds_of case.topology part) (each-both (λ f. f < part) (WorkFrom case run x depth) (feeds_of case.topology part) (feeds-before case.topology part rules) from.1))
+WorkFrom-any_depth case run x rules (suc depth) part le from (suc other) = (
+  from.0,
+  each-weaker (λ f. (f < part) × WorkFrom case run x depth f) (WorkFrom case run x other)
+      (λ f (both : (f < part) × WorkFrom case run x depth f).
+      let less = both.0 in WorkFrom-any_depth case run x rules depth f (omega (arith, less, le)) both.1 other)
+      (feeds_of case.topology part) (each-both (λ f. f < part) (WorkFrom case run x depth) (feeds_of case.topology part) (feeds-before case.topology part rules) from.1),
+)
 
 -- a bound of the work above a part, by its number
 pub above-from : (case : CaseShape) (run : Run) (x part : ℕ) → IsTopology case.topology → part < parts_of case.topology → x ≤ work_above case run part → IsAboveFrom case run x part
@@ -292,10 +292,11 @@ WorkFrom-followed : (case : CaseShape) (history : List Entry) (run : Run) (entry
     → (depth part : ℕ) → IsAboveFrom case run x part → WorkFrom case (followed case.topology run entry) x depth part
 WorkFrom-followed case history run entry x runs kept may zero part above =
     IsOwnFrom-followed case history run x part runs kept.ids kept.sent kept.in_time (above 1).1 entry (OfPart part) may (λ name of. of) (above 0)
-WorkFrom-followed case history run entry x runs kept may (suc depth) part above =
-    (IsOwnFrom-followed case history run x part runs kept.ids kept.sent kept.in_time (above 1).1 entry (OfPart part) may (λ name of. of) (above 0),
-    each-weaker (IsAboveFrom case run x) (WorkFrom case (followed case.topology run entry) x depth) (λ f all. WorkFrom-followed case history run entry x runs kept may depth f all)
-    (feeds_of case.topology part) (feeds-above case run x part above))
+WorkFrom-followed case history run entry x runs kept may (suc depth) part above = (
+  IsOwnFrom-followed case history run x part runs kept.ids kept.sent kept.in_time (above 1).1 entry (OfPart part) may (λ name of. of) (above 0),
+  each-weaker (IsAboveFrom case run x) (WorkFrom case (followed case.topology run entry) x depth) (λ f all. WorkFrom-followed case history run entry x runs kept may depth f all)
+      (feeds_of case.topology part) (feeds-above case run x part above),
+)
 
 -- a mark of an interval that is safe, as a bound
 pub record IsSafeFrom (case : CaseShape) (run : Run) (b : Bounds) (x : ℕ) : Type 0 where

@@ -1,20 +1,16 @@
 -- Own work never gets older, where nothing above it is older: what one more entry makes of a bound of it.
-use Rattle.std.proofs.Common.{◌≡◌, ℕ, ◌+◌, ◌≤◌, ◌==◌, ◌&&◌, Bool, true, false, cond, List, [], ◌∷◌, ◌++◌, map, refl, sym, ◌∙◌, ap, subst, arith}
-use Rattle.std.specs.Prelude.{⊤, Option, Some, None, Contains, filter, not, nat_lt, slice_get}
-use Rattle.std.specs.Option.{option_map, option_map_or}
+use Rattle.std.proofs.Common.{◌≡◌, ℕ, ◌≤◌, Bool, true, List, [], ◌∷◌, refl, sym, ◌∙◌, ap, subst, arith}
+use Rattle.std.specs.Prelude.{⊤, Some, not}
 use Rattle.std.specs.List.{AllByRecursion}
 use Rattle.std.proofs.lemmas.List.Elements.{All-contains, All-from_recursion}
 use Rattle.mw_types.specs.declared.identity.RecordId.{RecordId}
 use Rattle.mw_types.specs.declared.identity.RowName.{RowName}
 use Rattle.mw_types.specs.declared.record.Record.{Record}
 use Rattle.mw_types.specs.declared.record.Production.{Production}
-use Rattle.mw_types.specs.declared.timer.Timer.{Timer}
-use Rattle.mw_types.specs.declared.kind.Kind.{Kind}
 use Rattle.mw_types.specs.declared.delivery.Delivery.{Delivery}
 use Rattle.mw_types.specs.declared.entry.Entry.{Entry}
 use Rattle.mw_types.specs.declared.entry.Entry.TheVariants.{Claim, Inject, Handle, Fire, Ack, Purge}
 use Rattle.mw_types.specs.Outcomes.{Outcome}
-use Rattle.topology.specs.declared.subscription.Subscription.{Subscription}
 use Rattle.topology.specs.Shapes.{Shape, consumers_of, feeds_of}
 use Rattle.row_parts.specs.Contents.{Contents, is_timer, same_id}
 use Rattle.run_history.specs.Cases.{CaseShape, is_injector}
@@ -24,10 +20,10 @@ use Rattle.run_history.specs.Watermarks.{source_mark}
 use Rattle.run_history.specs.Legal.{MayFollow}
 use Rattle.history_laws.specs.Inputs.{IsRunnable}
 use Rattle.history_laws.specs.Ids.{IsSentBy}
-use Rattle.history_laws.proofs.Lists.{some_same, each-append, each-all, each-weaker, each-filter, find-each, find-passes}
+use Rattle.history_laws.proofs.Lists.{some_same, each-append, each-all, each-weaker, each-filter, find-each}
 use Rattle.history_laws.proofs.Made.{deliveries_made-each}
-use Rattle.history_laws.proofs.HandlerBounds.{IsAfter, IsTimerAfter, IsProductionAfter}
-use Rattle.history_laws.proofs.IdLaws.{AreIds, same_id-true}
+use Rattle.history_laws.proofs.HandlerBounds.{IsTimerAfter}
+use Rattle.history_laws.proofs.IdLaws.{AreIds}
 use Rattle.history_laws.proofs.PendingLaws.{AreSent}
 use Rattle.history_laws.proofs.RowSteps.{row_of-step}
 use Rattle.history_laws.proofs.StampLaws.{AreInTime, with_timers-each, at-each, handle-after, fire-after}

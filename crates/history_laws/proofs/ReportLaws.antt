@@ -1,23 +1,22 @@
 -- A mark that is at most an interval's own work and at most a safe mark of each interval that feeds it is safe, and marks that
 -- are safe for each interval of a part are at most its low watermark.
-use Rattle.std.proofs.Common.{◌≡◌, ℕ, zero, suc, ◌<◌, ◌≤◌, ◌==◌, ◌&&◌, Bool, true, false, List, [], ◌∷◌, refl, sym, ◌∙◌, ap, subst, arith}
-use Rattle.std.specs.Prelude.{max, Option, Some, All, Contains, MatchBool, not, slice_get}
+use Rattle.std.proofs.Common.{◌≡◌, ℕ, zero, suc, ◌<◌, ◌≤◌, ◌==◌, true, false, List, [], ◌∷◌, refl, subst, arith}
+use Rattle.std.specs.Prelude.{max, Some, All, Contains, MatchBool, not, slice_get}
 use Rattle.std.specs.List.{AllByRecursion}
 use Rattle.std.specs.Cmp.{first_so, second_so}
 use Rattle.std.proofs.lemmas.Bool.{eqb-true}
 use Rattle.std.proofs.lemmas.List.Elements.{All-contains, All-from_recursion, recursion_from_All}
 use Rattle.mw_types.specs.declared.TheConstants.{END}
-use Rattle.mw_types.specs.declared.identity.RowName.{RowName}
 use Rattle.mw_types.specs.declared.delivery.Delivery.{Delivery}
 use Rattle.mw_types.specs.declared.entry.Entry.{Entry}
 use Rattle.key_intervals.specs.declared.bounds.Bounds.{Bounds}
 use Rattle.key_intervals.specs.Intervals.{covers}
 use Rattle.key_intervals.proofs.Lookup.{of_part}
-use Rattle.topology.specs.Shapes.{Shape, parts_of, feeds_of}
+use Rattle.topology.specs.Shapes.{parts_of, feeds_of}
 use Rattle.row_parts.specs.Contents.{same_id}
 use Rattle.run_history.specs.Cases.{CaseShape, is_injector}
 use Rattle.run_history.specs.Runs.{Run, run_of, row_of}
-use Rattle.run_history.specs.Watermarks.{source_mark, low_under, low_watermark}
+use Rattle.run_history.specs.Watermarks.{source_mark, low_watermark}
 use Rattle.run_history.specs.Legal.{IsLegal}
 use Rattle.history_laws.specs.Fences.{intervals_of}
 use Rattle.history_laws.specs.Ids.{IsSentBy}
@@ -120,10 +119,11 @@ above-feed case run x Work f above work =
 -- a bound of the work above a part is one of its low watermark
 pub above-low : (case : CaseShape) (run : Run) (x : ℕ) → AreSent case.topology run → (depth part : ℕ) → IsAboveFrom case run x part → LowFrom case run x depth part
 above-low case run x sent zero part above = above-work case run x part sent above
-above-low case run x sent (suc depth) part above =
-    (above-work case run x part sent above,
-    each-weaker (IsAboveFrom case run x) (FeedsFrom case run x (LowFrom case run x depth))
-    (λ f from. above-feed case run x (LowFrom case run x depth) f from (λ again. above-low case run x sent depth f again)) (feeds_of case.topology part) (feeds-above case run x part above))
+above-low case run x sent (suc depth) part above = (
+  above-work case run x part sent above,
+  each-weaker (IsAboveFrom case run x) (FeedsFrom case run x (LowFrom case run x depth))
+      (λ f from. above-feed case run x (LowFrom case run x depth) f from (λ again. above-low case run x sent depth f again)) (feeds_of case.topology part) (feeds-above case run x part above),
+)
 
 -- a mark that is at most a safe mark of each interval of a part is at most the part's low watermark
 pub marks-low : (case : CaseShape) (history : List Entry) (part x : ℕ) → IsRunnable case → IsLegal case history → part < parts_of case.topology → x ≤ END

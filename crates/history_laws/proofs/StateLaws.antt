@@ -1,15 +1,13 @@
 -- The state of each row of a legal history is within bounds, where the history is not too long.
 use Rattle.std.proofs.Common.{◌≡◌, ◌==◌, ℕ, ℤ, ◌+◌, ◌<◌, ◌≤◌, ◌^◌, ◌-◌, Bool, true, false, cond, Option, Some, None, List, [], ◌∷◌, ◌++◌, length, map, find, refl, sym, ◌∙◌, ap, subst, arith}
-use Rattle.std.specs.Prelude.{⊤, MatchOption, IfSome, filter, not, nat_lt, slice_get, unwrap_or}
+use Rattle.std.specs.Prelude.{filter, not, nat_lt, slice_get}
 use Rattle.std.specs.Option.{option_map, option_map_or}
 use Rattle.std.specs.List.{AllByRecursion}
 use Rattle.std.specs.List.Sorted.{IsStrictlySortedBy}
 use Rattle.std.specs.Ordering.{match_ordering, nat_cmp}
-use Rattle.std.specs.declared.cmp.Ordering.{Ordering}
 use Rattle.std.specs.declared.cmp.Ordering.TheVariants.{Less, Equal, Greater}
 use Rattle.std.proofs.lemmas.List.Elements.{All-nil}
 use Rattle.mw_types.specs.declared.TheConstants.{MAX_STAMP}
-use Rattle.mw_types.specs.declared.identity.RecordId.{RecordId}
 use Rattle.mw_types.specs.declared.identity.RowName.{RowName}
 use Rattle.mw_types.specs.declared.record.Record.{Record}
 use Rattle.mw_types.specs.declared.timer.Timer.{Timer}
@@ -23,24 +21,22 @@ use Rattle.mw_types.specs.declared.delivery.Delivery.{Delivery}
 use Rattle.mw_types.specs.declared.entry.Entry.{Entry}
 use Rattle.mw_types.specs.declared.entry.Entry.TheVariants.{Claim, Inject, Handle, Fire, Ack, Purge}
 use Rattle.mw_types.specs.Bounds.{IsWithin}
-use Rattle.mw_types.specs.Kinds.{IsKind}
 use Rattle.mw_types.specs.Outcomes.{Outcome, IsOutcome}
-use Rattle.topology.specs.Shapes.{Shape, ComputationShape, injectors_of, computation_of, kind_of}
-use Rattle.computations.specs.Handlers.{IsOfKind, fresh_state, unchanged, with_timer, with_record, one_more, window_end, entered, counted, count_record, window_due, count_timer, due_time, held_with, spike_record, total_due, is_spike, known_with, spike_timer, pass_record, effects_of_record, effects_of_timer}
-use Rattle.computations.specs.Laws.{IsShort, IsLawful}
+use Rattle.topology.specs.Shapes.{Shape, ComputationShape, injectors_of, kind_of}
+use Rattle.computations.specs.Handlers.{fresh_state, unchanged, with_timer, with_record, one_more, window_end, entered, counted, window_due, count_timer, due_time, held_with, total_due, is_spike, known_with, spike_timer, effects_of_record, effects_of_timer}
+use Rattle.computations.specs.Laws.{IsShort}
 use Rattle.computations.specs.Parts.{Parts, kind_at, HasState, part_record, part_timer}
 use Rattle.computations.specs.HandlerLaws.{part_record-lawful, part_timer-lawful}
 use Rattle.row_parts.specs.Contents.{Contents, same_id}
-use Rattle.run_history.specs.Cases.{CaseShape, is_injector, fresh_of}
+use Rattle.run_history.specs.Cases.{CaseShape}
 use Rattle.run_history.specs.Made.{row_written, deliveries_of}
-use Rattle.run_history.specs.Runs.{Run, run_of, row_of, followed, changed, advanced, empty_run}
+use Rattle.run_history.specs.Runs.{Run, run_of, row_of, followed, changed, advanced}
 use Rattle.run_history.specs.Legal.{MayFollow, IsLegal}
 use Rattle.history_laws.specs.Inputs.{IsRunnable}
-use Rattle.history_laws.proofs.Lists.{none_some, some_same, find-each}
+use Rattle.history_laws.proofs.Lists.{some_same, find-each}
 use Rattle.history_laws.proofs.Along.{along_history}
 use Rattle.history_laws.proofs.FeedLaws.{kind-ranged}
 use Rattle.history_laws.proofs.FitLaws.{AreOfKind, AreOfKind-followed, of_kind, AreOfKind-empty}
-use Rattle.history_laws.proofs.IdLaws.{next-length}
 use Rattle.history_laws.proofs.PendingLaws.{was_some}
 use Rattle.history_laws.proofs.RowSteps.{row_of-step}
 use Rattle.history_laws.proofs.StampLaws.{AreInTime, AreInTime-followed, fire-in_time}

@@ -26,12 +26,16 @@ mod watermarks;
 mod writes;
 
 pub use claims::last_claims_are_latest;
-pub use examples::{an_overtaken_claim_is_stale, drained_example_has_its_own_work, drained_example_is_fenced};
+pub use examples::{
+    an_overtaken_claim_is_stale, drained_example_has_its_own_work, drained_example_is_fenced,
+};
 pub use fitting::rows_fit_their_names;
 pub use floors::{floor_is_least_unacknowledged, floor_never_falls};
 pub use ids::{ids_ascend, ids_tell_what_is_finished, ids_tell_what_waits};
 pub use intervals::rows_lie_in_the_interval_that_has_them;
-pub use marks::{reported_marks_are_safe, safe_marks_are_under_low_watermarks, safe_marks_stay_safe};
+pub use marks::{
+    reported_marks_are_safe, safe_marks_are_under_low_watermarks, safe_marks_stay_safe,
+};
 pub use rows::{rows_are_as_known, rows_are_as_seen, rows_change_by_their_entries};
 pub use senders::{pending_is_unacknowledged, senders_keep_what_they_made};
 pub use stamps::{stamps_are_in_time, states_are_within_bounds};
