@@ -50,7 +50,8 @@ last_claim interval history = fold (later_claim interval) None (enumerate_from 0
 -- an entry after these carries the number of the last claim of its row's interval; a claim may always come
 abbrev pub IsUnderLastClaim : Shape → List Entry → Entry → Type 0
 IsUnderLastClaim shape before entry = (name : RowName) → row_written entry ≡ Some name →
-    option_and_then (λ (interval : ℕ). last_claim interval before) (interval_of shape name) ≡ sequencer_of entry
+    option_and_then (λ (interval : ℕ). last_claim interval before) (interval_of shape name)
+    ≡ sequencer_of entry
 
 -- the history is fenced: each entry that is on a row carries the number of the last claim of the row's interval
 abbrev pub IsFenced : Shape → List Entry → Type 0
@@ -65,7 +66,8 @@ CarryNot seq entries = All (λ (entry : Entry). sequencer_of entry ≢ Some seq)
 -- interval, or all of it where no claim has overtaken this one
 abbrev pub known : ℕ → ℕ → List Entry → List Entry
 known interval seq history =
-    take (seq + 1) history ++ take_while (λ (entry : Entry). not (is_claim interval entry)) (drop (seq + 1) history)
+    take (seq + 1) history
+    ++ take_while (λ (entry : Entry). not (is_claim interval entry)) (drop (seq + 1) history)
 
 -- a beginning of a history has seen the last claim of an interval, and all that was written under it
 pub record HasSeen (interval seq : ℕ) (front rest : List Entry) : Type 0 where

@@ -17,7 +17,8 @@ IsCursor _ = ⊥
 
 -- a state is of the kind of a part: a computation's is of its kind, and another part's is an injector's
 abbrev pub IsStateOf : Shape → ℕ → State → Type 0
-IsStateOf shape part state = MatchOption (kind_of shape part) (IsCursor state) (λ kind. IsOfKind kind state)
+IsStateOf shape part state =
+    MatchOption (kind_of shape part) (IsCursor state) (λ kind. IsOfKind kind state)
 
 -- a delivery was made by one of so many entries, and goes to a computation
 pub record IsSendable (shape : Shape) (entries : ℕ) (d : Delivery) : Type 0 where
@@ -29,6 +30,7 @@ pub record IsSendable (shape : Shape) (entries : ℕ) (d : Delivery) : Type 0 wh
 -- lines than its file has and has set no timer, and each pending delivery goes to a computation
 pub record FitsName (case : CaseShape) (entries : ℕ) (name : RowName) (row : Contents) : Type 0 where
   pub state : IsStateOf case.topology name.part row.state
-  pub lines : IsTrue (is_injector case.topology name.part) → cursor_in row.state ≤ length (source_of case name.part)
+  pub lines : IsTrue (is_injector case.topology name.part) →
+      cursor_in row.state ≤ length (source_of case name.part)
   pub no_timer : IsTrue (is_injector case.topology name.part) → row.timers ≡ []
   pub pending : All (IsSendable case.topology entries) row.pending

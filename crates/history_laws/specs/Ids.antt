@@ -37,5 +37,8 @@ pub record IsMadeOn (history : List Entry) (name : RowName) (d : Delivery) : Typ
 -- the floor is at most the commit number of each delivery that was made and is not acknowledged, and is that of one of
 -- them, or the next number where there is none
 pub record IsFloor (history : List Entry) (run : Run) (floor : ℕ) : Type 0 where
-  pub at_most : All (λ (d : Delivery). is_acknowledged d.id history ≡ false → floor ≤ d.id.commit) run.made
-  pub reached : (floor ≡ run.next) ⊎ Any (λ (d : Delivery). (is_acknowledged d.id history ≡ false) × (d.id.commit ≡ floor)) run.made
+  pub at_most : All (λ (d : Delivery). is_acknowledged d.id history ≡ false → floor ≤ d.id.commit)
+      run.made
+  pub reached : (floor ≡ run.next)
+      ⊎ Any (λ (d : Delivery). (is_acknowledged d.id history ≡ false) × (d.id.commit ≡ floor))
+      run.made

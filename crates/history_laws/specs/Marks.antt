@@ -17,7 +17,8 @@ use Rattle.history_laws.specs.Fences.{intervals_of}
 
 -- the timestamps of what is pending in a row and is not late
 abbrev pub stamps_pending : Contents → List ℕ
-stamps_pending row = map (λ (d : Delivery). d.item.stamp) (filter (λ (d : Delivery). not d.item.late) row.pending)
+stamps_pending row =
+    map (λ (d : Delivery). d.item.stamp) (filter (λ (d : Delivery). not d.item.late) row.pending)
 
 -- the times of a row's timers and the timestamps of what it sent, those that are late left out
 abbrev pub row_marks : Contents → List ℕ
@@ -25,7 +26,8 @@ row_marks row = times_set row ++ stamps_pending row
 
 -- the watermark that an injector's file states; of another part none
 abbrev pub stated_marks : CaseShape → Run → ℕ → List ℕ
-stated_marks case run part = if is_injector case.topology part then source_mark case run part ∷ [] else []
+stated_marks case run part =
+    if is_injector case.topology part then source_mark case run part ∷ [] else []
 
 -- the own work of an interval: the least of the marks of its rows, and of an injector the watermark that its file states
 abbrev pub own_work : CaseShape → Run → Bounds → ℕ
@@ -51,9 +53,10 @@ work_above case run part = work_under case run (parts_of case.topology) part
 -- a mark of an interval is safe: no work of the interval, and none above it, is older
 pub record IsSafe (case : CaseShape) (run : Run) (bounds : Bounds) (mark : ℕ) : Type 0 where
   pub own : mark ≤ own_work case run bounds
-  pub inputs : All (λ (feeding : ℕ). mark ≤ work_above case run feeding) (feeds_of case.topology bounds.part)
+  pub inputs : All (λ (feeding : ℕ). mark ≤ work_above case run feeding)
+      (feeds_of case.topology bounds.part)
 
 -- a mark is at most a safe mark of each interval of a part
 abbrev pub IsUnderMarks : CaseShape → Run → ℕ → ℕ → Type 0
-IsUnderMarks case run part mark = (interval : ℕ) (b : Bounds) → slice_get (intervals_of case.topology) interval ≡ Some b →
-    b.part ≡ part → (safe : ℕ) × (mark ≤ safe) × IsSafe case run b safe
+IsUnderMarks case run part mark = (interval : ℕ) (b : Bounds) →
+    slice_get (intervals_of case.topology) interval ≡ Some b → b.part ≡ part → (safe : ℕ) × (mark ≤ safe) × IsSafe case run b safe

@@ -10,20 +10,20 @@ ghost use Rattle.history_laws.specs.Marks.{work_above};
 ghost use Rattle.history_laws.specs.OwnWorks.{own_works};
 ghost use Rattle.history_laws.specs.Overtaken.{overtaken, handled_under};
 
-/// The example with claims, acknowledgements and a purge is fenced and finished, and its intervals have the own work that
-/// was worked out.
+/// The example with claims, acknowledgements and a purge is fenced, and leaves no work at its end.
 pub fn drained_example_is_fenced()
     ensures injector_lies { interval_of first_case.topology injector_row ≡ Some 0 }
     ensures row_lies { interval_of first_case.topology row_a ≡ Some 1 }
     ensures fenced { IsFenced first_case.topology drained_history }
 
-    // After the first line was handled its delivery is not acknowledged, one timer is set, and lines are left.
+    // After the first line was handled its delivery is not acknowledged, one timer is set, and
+    // lines are left.
     ensures work_left { unfinished first_case (run_of first_case.topology (take 4 drained_history)) ≡ 3 }
     ensures no_work_left { unfinished first_case (run_of first_case.topology drained_history) ≡ 0 }
 {}
 
-/// Once another worker has claimed the interval, a write under the old claim is not fenced, and one under the new is; what
-/// is known under the old claim ends where it was overtaken.
+/// Once another worker has claimed the interval, a write under the old claim is not fenced, and one
+/// under the new is; what is known under the old claim ends where it was overtaken.
 pub fn an_overtaken_claim_is_stale()
     ensures newer { last_claim 1 overtaken ≡ Some 3 }
     ensures under_new { IsFenced first_case.topology (overtaken ++ handled_under 3 ∷ []) }
@@ -32,8 +32,8 @@ pub fn an_overtaken_claim_is_stale()
     ensures known_new { known 1 3 (overtaken ++ handled_under 3 ∷ []) ≡ overtaken ++ handled_under 3 ∷ [] }
 {}
 
-/// In the example's history the marks of the two intervals are those that were worked out: a line that was injected is work of
-/// the injector until it is acknowledged, and a timer is work of its row.
+/// In the example's history the two intervals have the own work that was worked out: a line that was
+/// injected is work of the injector until it is acknowledged, and a timer is work of its row.
 pub fn drained_example_has_its_own_work()
     ensures injected { own_works (run_of first_case.topology (take 9 drained_history)) ≡ (60, 60) }
     ensures handled { own_works (run_of first_case.topology (take 10 drained_history)) ≡ (60, 60) }

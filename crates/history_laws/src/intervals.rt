@@ -9,6 +9,7 @@ ghost use Rattle.history_laws.specs.Fences.{intervals_of, interval_of};
 pub fn rows_lie_in_the_interval_that_has_them()
     ensures has { (shape : Shape) (interval : ℕ) (name : RowName) →
         interval_of shape name ≡ Some interval → HasRow (intervals_of shape) interval name }
-    ensures lies { (shape : Shape) (interval : ℕ) (name : RowName) → AreIntervals (intervals_of shape) →
+    ensures lies { (shape : Shape) (interval : ℕ) (name : RowName) →
+        AreIntervals (intervals_of shape) →
         HasRow (intervals_of shape) interval name → interval_of shape name ≡ Some interval }
 {}

@@ -14,27 +14,33 @@ ghost use Rattle.history_laws.specs.Marks.{own_work, IsSafe, IsUnderMarks};
 
 /// A mark of an interval that is safe after a beginning of a legal history is safe after the whole.
 pub fn safe_marks_stay_safe()
-    ensures stays { (case : CaseShape) (front rest : List Entry) (interval : ℕ) (bounds : Bounds) (mark : ℕ) →
-        IsRunnable case → IsLegal case (front ++ rest) → slice_get (intervals_of case.topology) interval ≡ Some bounds →
-        let shape = case.topology in
-        IsSafe case (run_of shape front) bounds mark → IsSafe case (run_of shape (front ++ rest)) bounds mark }
+    ensures stays { (case : CaseShape) (front rest : List Entry) (interval : ℕ) (bounds : Bounds)
+        (mark : ℕ) → IsRunnable case → IsLegal case (front ++ rest) →
+        slice_get (intervals_of case.topology) interval ≡ Some bounds →
+        IsSafe case (run_of case.topology front) bounds mark →
+        IsSafe case (run_of case.topology (front ++ rest)) bounds mark }
 
     // The mark 0 is safe, and of two safe marks the greater.
     ensures zero { (case : CaseShape) (run : Run) (bounds : Bounds) → IsSafe case run bounds 0 }
     ensures greater { (case : CaseShape) (run : Run) (bounds : Bounds) (one other : ℕ) →
-        IsSafe case run bounds one → IsSafe case run bounds other → IsSafe case run bounds (max one other) }
+        IsSafe case run bounds one → IsSafe case run bounds other →
+        IsSafe case run bounds (max one other) }
 {}
 
-/// A mark that is at most an interval's own work, and at most a safe mark of each interval that feeds it, is safe.
+/// A mark that is at most an interval's own work, and at most a safe mark of each interval that feeds
+/// it, is safe.
 pub fn reported_marks_are_safe()
-    ensures safe { (case : CaseShape) (history : List Entry) (interval : ℕ) (bounds : Bounds) (mark : ℕ) →
-        IsRunnable case → slice_get (intervals_of case.topology) interval ≡ Some bounds →
+    ensures safe { (case : CaseShape) (history : List Entry) (interval : ℕ) (bounds : Bounds)
+        (mark : ℕ) → IsRunnable case →
+        slice_get (intervals_of case.topology) interval ≡ Some bounds →
         let run = run_of case.topology history in mark ≤ own_work case run bounds →
-        All (λ (feeding : ℕ). IsUnderMarks case run feeding mark) (feeds_of case.topology bounds.part) →
+        let feeding = feeds_of case.topology bounds.part in
+        All (λ (part : ℕ). IsUnderMarks case run part mark) feeding →
         IsSafe case run bounds mark }
 {}
 
-/// A mark that is at most a safe mark of each interval of a part is at most the part's low watermark.
+/// A mark that is at most a safe mark of each interval of a part is at most the part's low
+/// watermark.
 pub fn safe_marks_are_under_low_watermarks()
     ensures low { (case : CaseShape) (history : List Entry) (part mark : ℕ) →
         IsRunnable case → IsLegal case history → part < parts_of case.topology → mark ≤ END →

@@ -11,12 +11,14 @@ ghost use Rattle.history_laws.specs.Stamps.{IsInTime};
 
 /// After a legal history no delivery and no timer is above the greatest timestamp.
 pub fn stamps_are_in_time()
-    ensures in_time { (case : CaseShape) (history : List Entry) → IsRunnable case → IsLegal case history →
+    ensures in_time { (case : CaseShape) (history : List Entry) →
+        IsRunnable case → IsLegal case history →
         IsInTime case.topology (run_of case.topology history) }
 {}
 
 /// After a legal history of fewer than 2^32 entries each row's state is within bounds.
 pub fn states_are_within_bounds()
-    ensures within { (case : CaseShape) (history : List Entry) (name : RowName) → IsRunnable case → IsLegal case history →
-        length history < 2 ^ 32 → IsWithin (row_of case.topology (run_of case.topology history) name).state }
+    ensures within { (case : CaseShape) (history : List Entry) (name : RowName) →
+        IsRunnable case → IsLegal case history → length history < 2 ^ 32 →
+        IsWithin (row_of case.topology (run_of case.topology history) name).state }
 {}
