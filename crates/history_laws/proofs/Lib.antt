@@ -25,4 +25,5 @@ pub mod FitLaws
 pub mod StateLaws
 pub mod ClaimLaws
 pub mod CountLaws
+pub mod PrintLaws
 pub mod SeenLaws
