@@ -26,4 +26,5 @@ pub mod StateLaws
 pub mod ClaimLaws
 pub mod CountLaws
 pub mod PrintLaws
+pub mod OnceLaws
 pub mod SeenLaws
