@@ -1,5 +1,5 @@
 -- In a legal history no record is handled twice, and none is acknowledged twice.
-use Rattle.std.proofs.Common.{◌≡◌, ℕ, Bool, true, false, List, [], ◌∷◌, ◌++◌, refl, sym, ◌∙◌, ap, subst, append_assoc}
+use Rattle.std.proofs.Common.{◌≡◌, ℕ, Bool, true, false, List, [], ◌∷◌, ◌++◌, refl, sym, ◌∙◌, ap, subst, append_assoc, arith}
 use Rattle.std.specs.Prelude.{Option, Some, None, IsSome, filter, find, not, ◌||◌}
 use Rattle.std.specs.List.{AllByRecursion, list_any}
 use Rattle.std.proofs.lemmas.Bool.{both_ways}
@@ -10,18 +10,20 @@ use Rattle.mw_types.specs.declared.delivery.Delivery.{Delivery}
 use Rattle.mw_types.specs.declared.entry.Entry.{Entry}
 use Rattle.mw_types.specs.declared.entry.Entry.TheVariants.{Claim, Inject, Handle, Fire, Ack, Purge}
 use Rattle.mw_types.specs.Outcomes.{Outcome}
-use Rattle.row_parts.specs.Contents.{same_id}
+use Rattle.row_parts.specs.Contents.{Contents, same_id}
 use Rattle.run_history.specs.Cases.{CaseShape}
 use Rattle.run_history.specs.Made.{found_delivery}
 use Rattle.run_history.specs.Runs.{Run, run_of, row_of, empty_run}
 use Rattle.run_history.specs.Legal.{IsLegal}
-use Rattle.history_laws.specs.Finished.{handles, is_handled, acknowledges, is_acknowledged}
-use Rattle.history_laws.specs.Ids.{is_left}
-use Rattle.history_laws.proofs.Lists.{find-each, find-passes, filter-passes}
+use Rattle.history_laws.specs.Finished.{handles, is_handled, acknowledges, is_acknowledged, all_pending, IsFinished}
+use Rattle.history_laws.specs.Ids.{is_left, IsSentBy}
+use Rattle.history_laws.proofs.Lists.{none_some, each-weaker, find-each, find-passes, filter-passes}
 use Rattle.history_laws.proofs.Along.{AreLegal-apart}
 use Rattle.history_laws.proofs.IdLaws.{same_id-true, legal-ids}
 use Rattle.history_laws.proofs.AckLaws.{legal-acknowledged}
 use Rattle.history_laws.proofs.FinishedLaws.{is_handled-more}
+use Rattle.history_laws.proofs.RowSteps.{row_of-each}
+use Rattle.history_laws.proofs.UnfinishedLaws.{filter-nil, flat_map-nil, no_length}
 
 -- what fails when it is turned around does not hold
 off : (b : Bool) → not b ≡ true → b ≡ false
@@ -122,3 +124,34 @@ acknowledged-once case before after seq row id legal =
     last : (b : Bool) → (b || (true || false)) ≡ true
     last true = refl
     last false = refl
+
+-- where nothing waits, each record that was made is handled
+pub done-handled : (case : CaseShape) (history : List Entry) → IsLegal case history → (run_of case.topology history).unhandled ≡ []
+    → AllByRecursion (λ (d : Delivery). is_handled d.id history ≡ true) (run_of case.topology history).made
+done-handled case history legal none =
+    let run = run_of case.topology history in
+    each-weaker (λ (d : Delivery). is_left history d ≡ false) (λ (d : Delivery). is_handled d.id history ≡ true) (λ d left. on (is_handled d.id history) left) run.made
+    (filter-nil (is_left history) run.made (sym (legal-ids case history legal).waiting ∙ none))
+  where
+    on : (b : Bool) → not b ≡ false → b ≡ true
+    on true e = refl
+    on false e = cc
+
+-- where no work is left, each record that was made is acknowledged
+pub finished-acknowledged : (case : CaseShape) (history : List Entry) → IsLegal case history → IsFinished case (run_of case.topology history)
+    → AllByRecursion (λ (d : Delivery). is_acknowledged d.id history ≡ true) (run_of case.topology history).made
+finished-acknowledged case history legal finished =
+    each-weaker (λ (d : Delivery). is_acknowledged d.id history ≡ false → IsSentBy case.topology run d) (λ (d : Delivery). is_acknowledged d.id history ≡ true)
+    (λ d sent. elim (is_acknowledged d.id history) as (λ b. is_acknowledged d.id history ≡ b → b ≡ true) [
+      | true ↦ λ _. refl
+      | false ↦ λ left. absurd (none (sent left))
+    ] refl) run.made (legal-acknowledged case history legal).sent
+  where
+    run : Run
+    run = run_of case.topology history
+
+    rows : AllByRecursion (λ (r : RowName × Contents). r.1.pending ≡ []) run.rows
+    rows = flat_map-nil (λ (r : RowName × Contents). r.1.pending) run.rows (no_length (all_pending run) (omega (arith, finished)))
+
+    none : {d : Delivery} → IsSentBy case.topology run d → ⊥
+    none {d} by = none_some d (sym (ap (found_delivery d.id) (row_of-each case.topology run by.sender (λ (c : Contents). c.pending ≡ []) rows refl)) ∙ by.pending)

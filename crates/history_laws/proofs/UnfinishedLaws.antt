@@ -89,7 +89,7 @@ legal-within case = along_history case (λ done run. AreCursorsWithin case run)
 -- ---- a finished run
 
 -- lists of which nothing comes are empty each
-flat_map-nil : {A X : Type 0} (f : A → List X) (rows : List A) → flat_map f rows ≡ [] → AllByRecursion (λ a. f a ≡ []) rows
+pub flat_map-nil : {A X : Type 0} (f : A → List X) (rows : List A) → flat_map f rows ≡ [] → AllByRecursion (λ a. f a ≡ []) rows
 flat_map-nil f [] none = tt
 flat_map-nil {A} {X} f (a ∷ rows) none = let parts = both (f a) none in (parts.0, flat_map-nil f rows parts.1)
   where
@@ -98,12 +98,12 @@ flat_map-nil {A} {X} f (a ∷ rows) none = let parts = both (f a) none in (parts
     both (x ∷ xs) e = cc
 
 -- a list of no length is empty
-no_length : {X : Type 0} (xs : List X) → length xs ≡ 0 → xs ≡ []
+pub no_length : {X : Type 0} (xs : List X) → length xs ≡ 0 → xs ≡ []
 no_length [] none = refl
 no_length (x ∷ xs) none = absurd (omega (arith, none))
 
 -- where a filter leaves nothing, nothing passes
-filter-nil : {X : Type 0} (test : X → Bool) (xs : List X) → filter test xs ≡ [] → AllByRecursion (λ x. test x ≡ false) xs
+pub filter-nil : {X : Type 0} (test : X → Bool) (xs : List X) → filter test xs ≡ [] → AllByRecursion (λ x. test x ≡ false) xs
 filter-nil test [] none = tt
 filter-nil test (x ∷ xs) none =
     elim (test x) as (λ b. test x ≡ b → cond b (x ∷ filter test xs) (filter test xs) ≡ [] → AllByRecursion (λ y. test y ≡ false) (x ∷ xs)) [

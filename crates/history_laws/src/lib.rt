@@ -38,7 +38,7 @@ pub use intervals::rows_lie_in_the_interval_that_has_them;
 pub use marks::{
     reported_marks_are_safe, safe_marks_are_under_low_watermarks, safe_marks_stay_safe,
 };
-pub use once::records_are_handled_once;
+pub use once::{finished_runs_handled_each_record, records_are_handled_once};
 pub use printing::legal_histories_can_be_printed;
 pub use rows::{rows_are_as_known, rows_are_as_seen, rows_change_by_their_entries};
 pub use senders::{pending_is_unacknowledged, senders_keep_what_they_made};
