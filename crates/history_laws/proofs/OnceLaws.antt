@@ -1,6 +1,6 @@
 -- In a legal history no record is handled twice, and none is acknowledged twice.
 use Rattle.std.proofs.Common.{◌≡◌, ℕ, Bool, true, false, List, [], ◌∷◌, ◌++◌, refl, sym, ◌∙◌, ap, subst, append_assoc, arith}
-use Rattle.std.specs.Prelude.{Option, Some, None, IsSome, filter, find, not, ◌||◌}
+use Rattle.std.specs.Prelude.{Option, Some, None, IsSome, filter, not, ◌||◌}
 use Rattle.std.specs.List.{AllByRecursion, list_any}
 use Rattle.std.proofs.lemmas.Bool.{both_ways}
 use Rattle.std.proofs.lemmas.List.Folds.{list_any-append}

@@ -1,10 +1,9 @@
 -- Each row that an entry is on is of a part that is there, and a legal history that is not too long can be printed.
-use Rattle.std.proofs.Common.{◌≡◌, ◌==◌, ℕ, ℤ, ◌+◌, ◌<◌, ◌≤◌, ◌^◌, Bool, true, false, cond, Option, Some, None, List, [], ◌∷◌, ◌++◌, length, refl, sym, ◌∙◌, ap, subst, arith, inl, inr}
-use Rattle.std.specs.Prelude.{⊤, ◌⊎◌, IfSome, IsSome, All, filter, not, unwrap_or}
+use Rattle.std.proofs.Common.{◌==◌, ℕ, ℤ, ◌<◌, ◌≤◌, ◌^◌, true, false, cond, Option, Some, None, List, [], ◌∷◌, ◌++◌, length, refl, subst, arith, inl, inr}
+use Rattle.std.specs.Prelude.{IfSome, IsSome, filter, not, unwrap_or}
 use Rattle.std.specs.List.{AllByRecursion}
 use Rattle.std.proofs.lemmas.Bool.{ltb-true}
 use Rattle.std.proofs.lemmas.List.Elements.{All-from_recursion}
-use Rattle.mw_types.specs.declared.identity.RecordId.{RecordId}
 use Rattle.mw_types.specs.declared.identity.RowName.{RowName}
 use Rattle.mw_types.specs.declared.record.Record.{Record}
 use Rattle.mw_types.specs.declared.timer.Timer.{Timer}
@@ -14,19 +13,18 @@ use Rattle.mw_types.specs.declared.state.State.{State}
 use Rattle.mw_types.specs.declared.state.State.TheVariants as states
 use Rattle.mw_types.specs.declared.state.Window.{Window}
 use Rattle.mw_types.specs.declared.state.HeldTotal.{HeldTotal}
-use Rattle.mw_types.specs.declared.delivery.Delivery.{Delivery}
 use Rattle.mw_types.specs.declared.entry.Entry.{Entry}
 use Rattle.mw_types.specs.declared.entry.Entry.TheVariants.{Claim, Inject, Handle, Fire, Ack, Purge}
 use Rattle.mw_types.specs.Outcomes.{Outcome}
-use Rattle.topology.specs.Shapes.{Shape, parts_of, injectors_of, kind_of}
+use Rattle.topology.specs.Shapes.{parts_of, injectors_of, kind_of}
 use Rattle.computations.specs.Handlers.{unchanged, with_timer, with_record, one_more, window_end, counted, window_due, count_timer, due_time, held_with, total_due, is_spike, known_with, spike_timer, effects_of_record, effects_of_timer}
 use Rattle.row_parts.specs.Contents.{Contents, fresh}
 use Rattle.run_history.specs.Cases.{CaseShape, fresh_of}
-use Rattle.run_history.specs.Made.{found_delivery, row_written, productions_of, deliveries_of}
-use Rattle.run_history.specs.Runs.{Run, run_of, row_in, row_of, followed, empty_run}
+use Rattle.run_history.specs.Made.{found_delivery, productions_of}
+use Rattle.run_history.specs.Runs.{Run, run_of, row_in, row_of, followed}
 use Rattle.run_history.specs.Legal.{MayFollow, IsLegal}
 use Rattle.run_history.specs.Printing.{IsOnPart, IsPrintable}
-use Rattle.history_laws.proofs.Lists.{none_some, some_same, each-append}
+use Rattle.history_laws.proofs.Lists.{each-append}
 use Rattle.history_laws.proofs.Along.{along_history}
 use Rattle.history_laws.proofs.PendingLaws.{was_some, kind-there}
 use Rattle.history_laws.proofs.RowSteps.{RowStep, row_step}
