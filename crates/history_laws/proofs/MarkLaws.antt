@@ -366,3 +366,33 @@ IsSafe-stays case front rest i b x runs legal at safe =
     kept = along_entries case (λ done run. AreKept case done run × IsSafeFrom case run b x)
         (λ done run entry (both : AreKept case done run × IsSafeFrom case run b x) may. (AreKept-followed case done run entry runs both.0 may, IsSafeFrom-followed case done run entry b x runs both.0 may both.1))
         rest front before (legal-kept case front runs parts.0, safe-from case before b x runs (interval-there case.topology i b at) safe) parts.1
+
+-- the work above a part never gets older
+pub work_above-rises : (case : CaseShape) (front rest : List Entry) (part : ℕ) → IsRunnable case → IsLegal case (front ++ rest) → part < parts_of case.topology
+    → work_above case (run_of case.topology front) part ≤ work_above case (run_of case.topology (front ++ rest)) part
+work_above-rises case front rest part runs legal there =
+    subst (λ (r : Run). x ≤ work_above case r part) (sym (run_of-append case.topology front rest))
+    (from-work case after x (subst AreRowsInOrder (run_of-append case.topology front rest) (rows-in_order case.topology (front ++ rest))) (work-end (parts_of case.topology))
+    (parts_of case.topology) part (kept.1 (parts_of case.topology)))
+  where
+    before : Run
+    before = run_of case.topology front
+
+    after : Run
+    after = fold (followed case.topology) before rest
+
+    x : ℕ
+    x = work_above case before part
+
+    work-end : (depth : ℕ) → work_under case before depth part ≤ END
+    work-end zero = least-end (map (own_work case before) (filter (λ (b : Bounds). b.part == part) (intervals_of case.topology)))
+    work-end (suc depth) = least-end (part_work case before part ∷ map (work_under case before depth) (feeds_of case.topology part))
+
+    parts : AreLegal case empty_run front × AreLegal case before rest
+    parts = AreLegal-apart case front rest empty_run legal
+
+    kept : AreKept case (front ++ rest) after × IsAboveFrom case after x part
+    kept = along_entries case (λ done run. AreKept case done run × IsAboveFrom case run x part)
+        (λ done run entry (both : AreKept case done run × IsAboveFrom case run x part) may.
+        (AreKept-followed case done run entry runs both.0 may, (λ depth. WorkFrom-followed case done run entry x runs both.0 may depth part both.1)))
+        rest front before (legal-kept case front runs parts.0, above-from case before x part runs.topology there (let least_one : x ≤ x = omega arith in least_one)) parts.1

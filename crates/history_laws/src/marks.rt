@@ -10,7 +10,7 @@ ghost use Rattle.run_history.specs.Watermarks.{low_watermark};
 ghost use Rattle.run_history.specs.Legal.{IsLegal};
 ghost use Rattle.history_laws.specs.Fences.{intervals_of};
 ghost use Rattle.history_laws.specs.Inputs.{IsRunnable};
-ghost use Rattle.history_laws.specs.Marks.{own_work, IsSafe, IsUnderMarks};
+ghost use Rattle.history_laws.specs.Marks.{own_work, work_above, IsSafe, IsUnderMarks};
 
 /// A mark of an interval that is safe after a beginning of a legal history is safe after the whole.
 pub fn safe_marks_stay_safe()
@@ -46,4 +46,12 @@ pub fn safe_marks_are_under_low_watermarks()
         IsRunnable case → IsLegal case history → part < parts_of case.topology → mark ≤ END →
         let run = run_of case.topology history in
         IsUnderMarks case run part mark → mark ≤ low_watermark case run part }
+{}
+
+/// The work of a part, and of all that feeds it, never gets older.
+pub fn work_above_never_falls()
+    ensures work { (case : CaseShape) (front rest : List Entry) (part : ℕ) →
+        IsRunnable case → IsLegal case (front ++ rest) → part < parts_of case.topology →
+        work_above case (run_of case.topology front) part
+        ≤ work_above case (run_of case.topology (front ++ rest)) part }
 {}
