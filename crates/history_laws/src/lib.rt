@@ -1,7 +1,8 @@
 //! The laws of histories: what holds of every history that is legal, or fenced, whoever wrote it.
 //!
 //! Each law is the contract of a function with an empty body, and says what the definitions of
-//! `run_history` say of each history and of each beginning of it. Stands on `run_history`,
+//! `run_history` say of each history and of each beginning of it; `case_is_runnable` gives a caller
+//! the premise that many of them have. Stands on `run_history`,
 //! `key_intervals`, `row_parts`, `row_keeper` and `worked_examples`. Public contract: the floor and the
 //! low watermarks never fall; ids tell what waits, what is finished and who sent it, and each record
 //! is handled once; a row that was read under the last claim of its interval is the row of the whole
@@ -20,6 +21,7 @@ mod marks;
 mod once;
 mod printing;
 mod rows;
+mod runnable;
 mod senders;
 mod stamps;
 mod stored;
@@ -42,6 +44,7 @@ pub use marks::{
 pub use once::{finished_runs_handled_each_record, records_are_handled_once};
 pub use printing::legal_histories_can_be_printed;
 pub use rows::{rows_are_as_known, rows_are_as_seen, rows_change_by_their_entries};
+pub use runnable::case_is_runnable;
 pub use senders::{pending_is_unacknowledged, senders_keep_what_they_made};
 pub use stamps::{stamps_are_in_time, states_are_within_bounds};
 pub use stored::one_row_is_stored_anew;
