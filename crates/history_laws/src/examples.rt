@@ -7,7 +7,7 @@ ghost use Rattle.worked_examples.specs.Drained.{drained_history, injector_row};
 ghost use Rattle.history_laws.specs.Fences.{IsFenced, interval_of, known, last_claim};
 ghost use Rattle.history_laws.specs.Finished.{unfinished};
 ghost use Rattle.history_laws.specs.Marks.{work_above};
-ghost use Rattle.history_laws.specs.OwnWorks.{own_works};
+ghost use Rattle.history_laws.specs.OwnWorks.{drained_after, own_works};
 ghost use Rattle.history_laws.specs.Overtaken.{overtaken, handled_under};
 
 /// The example with claims, acknowledgements and a purge is fenced, and leaves no work at its end.
@@ -18,7 +18,7 @@ pub fn drained_example_is_fenced()
 
     // After the first line was handled its delivery is not acknowledged, one timer is set, and
     // lines are left.
-    ensures work_left { unfinished first_case (run_of first_case.topology (take 4 drained_history)) ≡ 3 }
+    ensures work_left { unfinished first_case (drained_after 4) ≡ 3 }
     ensures no_work_left { unfinished first_case (run_of first_case.topology drained_history) ≡ 0 }
 {}
 
@@ -32,15 +32,15 @@ pub fn an_overtaken_claim_is_stale()
     ensures known_new { known 1 3 (overtaken ++ handled_under 3 ∷ []) ≡ overtaken ++ handled_under 3 ∷ [] }
 {}
 
-/// In the example's history the two intervals have the own work that was worked out: a line that was
-/// injected is work of the injector until it is acknowledged, and a timer is work of its row.
+/// In the example's history the two intervals have the own work that was worked out: a line that
+/// was injected is work of the injector until it is acknowledged, and a timer is work of its row.
 pub fn drained_example_has_its_own_work()
-    ensures injected { own_works (run_of first_case.topology (take 9 drained_history)) ≡ (60, 60) }
-    ensures handled { own_works (run_of first_case.topology (take 10 drained_history)) ≡ (60, 60) }
-    ensures acknowledged { own_works (run_of first_case.topology (take 11 drained_history)) ≡ (END, 60) }
-    ensures fired { own_works (run_of first_case.topology (take 12 drained_history)) ≡ (END, 120) }
+    ensures injected { own_works (drained_after 9) ≡ (60, 60) }
+    ensures handled { own_works (drained_after 10) ≡ (60, 60) }
+    ensures acknowledged { own_works (drained_after 11) ≡ (END, 60) }
+    ensures fired { own_works (drained_after 12) ≡ (END, 120) }
 
     // Above the count stands the work of the injector too.
-    ensures above { work_above first_case (run_of first_case.topology (take 6 drained_history)) 1 ≡ 0 }
-    ensures above_at_end { work_above first_case (run_of first_case.topology (take 12 drained_history)) 1 ≡ 120 }
+    ensures above { work_above first_case (drained_after 6) 1 ≡ 0 }
+    ensures above_at_end { work_above first_case (drained_after 12) 1 ≡ 120 }
 {}

@@ -2,13 +2,13 @@
 //!
 //! Each law is the contract of a function with an empty body, and says what the definitions of
 //! `run_history` say of each history and of each beginning of it; `case_is_runnable` gives a caller
-//! the premise that many of them have. Stands on `run_history`,
-//! `key_intervals`, `row_parts`, `row_keeper` and `worked_examples`. Public contract: the floor and the
-//! low watermarks never fall; ids tell what waits, what is finished and who sent it, and each record
-//! is handled once; a row that was read under the last claim of its interval is the row of the whole
-//! history, and a write that was worked out on it keeps the history lawful; marks that are safe stay
-//! safe. Definitions: `specs/Lib.antt` names them in the order of reading; `specs/Fences.antt` says
-//! which histories are fenced, and `specs/Marks.antt` which marks are safe.
+//! the premise that many of them have. Stands on `run_history`, `key_intervals`, `row_parts`,
+//! `row_keeper` and `worked_examples`. Public contract: the floor and the low watermarks never fall;
+//! ids tell what waits, what is finished and who sent it, and each record is handled once; a row
+//! that was read under the last claim of its interval is the row of the whole history, and a write
+//! that was worked out on it keeps the history lawful; marks that are safe stay safe. Definitions:
+//! `specs/Lib.antt` names them in the order of reading; `specs/Fences.antt` says which histories
+//! are fenced, and `specs/Marks.antt` which marks are safe.
 #![tactic(auto)]
 
 mod claims;

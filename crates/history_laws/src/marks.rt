@@ -27,8 +27,8 @@ pub fn safe_marks_stay_safe()
         IsSafe case run bounds (max one other) }
 {}
 
-/// A mark that is at most an interval's own work, and at most a safe mark of each interval that feeds
-/// it, is safe.
+/// A mark that is at most an interval's own work, and at most a safe mark of each interval that
+/// feeds it, is safe.
 pub fn reported_marks_are_safe()
     ensures safe { (case : CaseShape) (history : List Entry) (interval : ℕ) (bounds : Bounds)
         (mark : ℕ) → IsRunnable case →

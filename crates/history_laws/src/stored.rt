@@ -13,8 +13,8 @@ ghost use Rattle.run_history.specs.Made.{row_written};
 ghost use Rattle.run_history.specs.Runs.{run_of, row_in, row_of};
 ghost use Rattle.history_laws.specs.Stored.{stored_rows};
 
-/// An entry asks a keeper to hold its row anew, and to leave every other row as it is; a claim asks for
-/// nothing.
+/// An entry asks a keeper to hold its row anew, and to leave every other row as it is; a claim asks
+/// for nothing.
 pub fn one_row_is_stored_anew()
     ensures written { (shape : Shape) (history : List Entry) (entry : Entry) (name : RowName) →
         row_written entry ≡ Some name → let run = run_of shape (history ++ entry ∷ []) in

@@ -8,8 +8,8 @@ ghost use Rattle.run_history.specs.Runs.{run_of, row_of};
 ghost use Rattle.run_history.specs.Legal.{IsDone, IsLegal};
 ghost use Rattle.history_laws.specs.Finished.{IsFinished, unfinished, work_in};
 
-/// An entry changes how much work is left by what it changes in its row, and a claim leaves it, whether
-/// or not the history is legal.
+/// An entry changes how much work is left by what it changes in its row, and a claim leaves it,
+/// whether or not the history is legal.
 pub fn work_is_counted_row_by_row()
     ensures written { (case : CaseShape) (history : List Entry) (entry : Entry) (name : RowName) →
         row_written entry ≡ Some name → let shape = case.topology in
