@@ -1,8 +1,7 @@
 -- What was made is pending exactly where it is not acknowledged, and the floor is the least number of what is not.
-use Rattle.std.proofs.Common.{◌≡◌, ℕ, zero, suc, ◌+◌, ◌<◌, ◌≤◌, Bool, true, false, cond, List, [], ◌∷◌, ◌++◌, length, get_or, map, fold, refl, sym, ◌∙◌, ap, subst, arith, inl, inr}
-use Rattle.std.specs.Prelude.{⊤, ◌⊎◌, ◌||◌, Option, Some, None, IsSome, Any, Contains, filter, find, not, unwrap_or}
+use Rattle.std.proofs.Common.{◌≡◌, ℕ, zero, suc, ◌<◌, ◌≤◌, Bool, true, false, cond, List, [], ◌∷◌, ◌++◌, length, get_or, map, refl, sym, ◌∙◌, ap, subst, arith, inl, inr}
+use Rattle.std.specs.Prelude.{⊤, ◌⊎◌, ◌||◌, Option, Some, None, IsSome, Any, Contains, filter, not, unwrap_or}
 use Rattle.std.specs.List.{AllByRecursion, list_any, flat_map}
-use Rattle.std.proofs.lemmas.Bool.{both_ways}
 use Rattle.std.proofs.lemmas.List.Folds.{list_any-append}
 use Rattle.std.proofs.lemmas.List.Elements.{All-from_recursion}
 use Rattle.mw_types.specs.declared.identity.RecordId.{RecordId}
@@ -27,7 +26,7 @@ use Rattle.history_laws.proofs.Lists.{none_some, some_same, each-append, each-al
 use Rattle.history_laws.proofs.Along.{along_history}
 use Rattle.history_laws.proofs.Made.{each_of_commit}
 use Rattle.history_laws.proofs.FloorLaws.{row_of-above, floor_of-reached}
-use Rattle.history_laws.proofs.IdLaws.{same_id-true, same_id-itself, IsMadeInOrder, IsMadeInOrder-empty}
+use Rattle.history_laws.proofs.IdLaws.{same_id-true, IsMadeInOrder-empty}
 use Rattle.history_laws.proofs.LowLaws.{AreRowsInOrder, rows-in_order}
 use Rattle.history_laws.proofs.PendingLaws.{SparesFrom, IsSentBy-followed, sent_pending}
 use Rattle.history_laws.proofs.RowSteps.{row_of-here, row_of-elsewhere, on_row_or_not, ArePendingInOrder, ArePendingInOrder-followed}
@@ -61,7 +60,7 @@ spared (Ack seq row id) d e = e
 spared (Purge seq row floor) d e = tt
 
 -- an acknowledged record was made
-abbrev WasPending : List Delivery → Entry → Type 0
+abbrev pub WasPending : List Delivery → Entry → Type 0
 WasPending made (Ack seq row id) = (d : Delivery) × (found_delivery id made ≡ Some d)
 WasPending made entry = ⊤
 
@@ -75,7 +74,7 @@ WasPending-more made more (Ack seq row id) was = (was.0, find-more (λ (e : Deli
 WasPending-more made more (Purge seq row floor) was = tt
 
 -- no entry of which each acknowledges only what was made has acknowledged what the next entry makes
-acknowledges_not-next : (made : List Delivery) (n : ℕ) (d : Delivery) (entries : List Entry) → AllByRecursion (λ (e : Delivery). e.id.commit < n) made
+pub acknowledges_not-next : (made : List Delivery) (n : ℕ) (d : Delivery) (entries : List Entry) → AllByRecursion (λ (e : Delivery). e.id.commit < n) made
     → d.id.commit ≡ n → AllByRecursion (WasPending made) entries → is_acknowledged d.id entries ≡ false
 acknowledges_not-next made n d [] below is was = refl
 acknowledges_not-next made n d (e ∷ es) below is was =
@@ -107,7 +106,7 @@ pub record AreAcknowledged (case : CaseShape) (history : List Entry) (run : Run)
   pub left : (name : RowName) → AllByRecursion (λ (d : Delivery). is_acknowledged d.id history ≡ false) (row_of case.topology run name).pending
 
 -- what may be acknowledged was made
-acknowledged-made : (case : CaseShape) (run : Run) (entry : Entry) → ArePendingMade run → MayFollow case run entry → WasPending run.made entry
+pub acknowledged-made : (case : CaseShape) (run : Run) (entry : Entry) → ArePendingMade run → MayFollow case run entry → WasPending run.made entry
 acknowledged-made case run (Claim worker interval) made may = tt
 acknowledged-made case run (Inject seq part line item) made may = tt
 acknowledged-made case run (Handle seq row id effects) made may = tt
@@ -117,10 +116,12 @@ acknowledged-made case run (Ack seq row id) made may = there (found_delivery id 
     there : (o : Option Delivery) → found_delivery id (row_of case.topology run row).pending ≡ o → IsSome o → (d : Delivery) × (found_delivery id run.made ≡ Some d)
     there None at is = absurd (cc)
     there (Some d) at is =
-        let own : d.id ≡ id = same_id-true d.id id (find-passes (λ (e : Delivery). same_id e.id id) (row_of case.topology run row).pending d at) in
-        (d, ap (λ (i : RecordId). found_delivery i run.made) (sym own)
-        ∙ find-each (λ (e : Delivery). found_delivery e.id run.made ≡ Some e) (λ (e : Delivery). same_id e.id id) (row_of case.topology run row).pending d
-        (row_of-made case.topology run row made) at)
+        let own : d.id ≡ id = same_id-true d.id id (find-passes (λ (e : Delivery). same_id e.id id) (row_of case.topology run row).pending d at) in (
+          d,
+          ap (λ (i : RecordId). found_delivery i run.made) (sym own)
+              ∙ find-each (λ (e : Delivery). found_delivery e.id run.made ≡ Some e) (λ (e : Delivery). same_id e.id id) (row_of case.topology run row).pending d
+              (row_of-made case.topology run row made) at,
+        )
 acknowledged-made case run (Purge seq row floor) made may = tt
 
 -- each element that passes a test is found by it
@@ -182,7 +183,7 @@ changed-old P (Ack seq name id) sent row old new = each-filter P (λ (d : Delive
 changed-old P (Purge seq name floor) sent row old new = old
 
 -- one more entry keeps what is acknowledged as it was, but for its own record
-AreAcknowledged-followed : (case : CaseShape) (history : List Entry) (run : Run) (entry : Entry) → AreAcknowledged case history run → MayFollow case run entry
+pub AreAcknowledged-followed : (case : CaseShape) (history : List Entry) (run : Run) (entry : Entry) → AreAcknowledged case history run → MayFollow case run entry
     → AreAcknowledged case (history ++ entry ∷ []) (followed case.topology run entry)
 AreAcknowledged-followed case history run entry acked may = record {
   on = ArePendingOn-followed shape history run entry acked.on;
@@ -245,10 +246,21 @@ AreAcknowledged-followed case history run entry acked may = record {
             subst (λ (c : Contents). AllByRecursion (λ (d : Delivery). is_acknowledged d.id (history ++ entry ∷ []) ≡ false) c.pending) (sym (row_of-elsewhere shape run entry name elsewhere))
             (both (row_of shape run name).pending (acked.left name) (pending-elsewhere case history run entry name acked.on may elsewhere))
 
+-- before any entry nothing is acknowledged
+pub AreAcknowledged-empty : (case : CaseShape) → AreAcknowledged case [] empty_run
+AreAcknowledged-empty case = record {
+  on = record { next = refl; each = λ name. tt };
+  made = record { order = IsMadeInOrder-empty; each = tt };
+  order = record { each = tt };
+  was = tt;
+  sent = tt;
+  left = λ name. tt;
+}
+
 -- after each legal history what was made and is not acknowledged is pending, and what is pending is not acknowledged
 pub legal-acknowledged : (case : CaseShape) (history : List Entry) → IsLegal case history → AreAcknowledged case history (run_of case.topology history)
 legal-acknowledged case = along_history case (AreAcknowledged case) (λ done run entry acked may. AreAcknowledged-followed case done run entry acked may)
-    (record { on = record { next = refl; each = λ name. tt }; made = record { order = IsMadeInOrder-empty; each = tt }; order = record { each = tt }; was = tt; sent = tt; left = λ name. tt })
+    (AreAcknowledged-empty case)
 
 -- a delivery that was made and is not acknowledged has a number at or above the floor
 left-above : (shape : Shape) (history : List Entry) (run : Run) (d : Delivery) → (is_acknowledged d.id history ≡ false → IsSentBy shape run d)

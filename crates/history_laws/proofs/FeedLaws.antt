@@ -1,16 +1,16 @@
 -- A consumer of a part's stream is fed by the part, and each part is fed by parts before it.
-use Rattle.std.proofs.Common.{◌≡◌, ℕ, zero, suc, ◌+◌, ◌-◌, ◌<◌, ◌≤◌, Bool, true, false, cond, ◌&&◌, ◌||◌, List, [], ◌∷◌, ◌++◌, length, get_or, take, map, refl, sym, ◌∙◌, ap, subst, arith, length-append}
-use Rattle.std.specs.Prelude.{Option, Some, None, Contains, All, IsTrue, IfSome, filter, not, nat_eq, nat_lt, slice_get, unwrap_or}
+use Rattle.std.proofs.Common.{◌≡◌, ℕ, zero, suc, ◌+◌, ◌-◌, ◌<◌, Bool, true, false, cond, ◌&&◌, ◌||◌, List, [], ◌∷◌, length, get_or, take, map, refl, sym, ◌∙◌, ap, subst, arith, length-append, ◌≤◌}
+use Rattle.std.specs.Prelude.{Option, Some, None, Contains, filter, not, nat_eq, nat_lt, slice_get, unwrap_or}
 use Rattle.std.specs.Option.{option_map}
-use Rattle.std.specs.List.{AllByRecursion, list_any, flat_map, enumerate_from, filter_map, cons_option}
+use Rattle.std.specs.List.{AllByRecursion, list_any, flat_map, enumerate_from, cons_option}
 use Rattle.std.specs.Cmp.Lexicographic.{pointwise}
 use Rattle.std.proofs.lemmas.List.{length-map, length-take, get_or-take, get_or_default}
-use Rattle.std.proofs.lemmas.Bool.{ltb-true, lt-ltb, ltb-false, both_ways}
+use Rattle.std.proofs.lemmas.Bool.{both_ways}
 use Rattle.std.proofs.lemmas.Bool.Decides.{nat_tests, Decides-eqb}
 use Rattle.std.proofs.lemmas.Slice.Eq.{slice_eq-Decides}
 use Rattle.std.proofs.lemmas.List.Elements.{All-get_or, recursion_from_All}
 use Rattle.std.proofs.lemmas.Option.{slice_get_within, get_or_from_slice_get, unwrap_or-slice_get}
-use Rattle.std.specs.Cmp.{first_so, second_so}
+use Rattle.std.specs.Cmp.{second_so}
 use Rattle.mw_types.specs.declared.kind.Kind.{Kind}
 use Rattle.mw_types.specs.Kinds.{IsKind}
 use Rattle.topology.specs.declared.subscription.Subscription.{Subscription}
@@ -215,3 +215,19 @@ kind-ranged shape part kind rules e = elim (nat_lt part (injectors_of shape)) as
 pub injector-no_kind : (shape : Shape) (part : ℕ) (kind : Kind) → nat_lt part (injectors_of shape) ≡ true → kind_of shape part ≡ Some kind → ⊥
 injector-no_kind shape part kind less e =
     none_some kind (sym (ap (λ b. option_map (λ (c : ComputationShape). c.kind) (cond b None (slice_get shape.computations (part - injectors_of shape)))) less) ∙ e)
+
+-- the consumers among computations from a number on are computations
+consumers-numbered : (shape : Shape) (stream : List ℕ) (n : ℕ) (cs : List ComputationShape)
+    → AllByRecursion (λ (s : Subscription). (n ≤ s.to) × (s.to < n + length cs)) (flat_map (subscriptions_to stream) (enumerate_from n cs))
+consumers-numbered shape stream n [] = tt
+consumers-numbered shape stream n (c ∷ cs) =
+    each-append (λ (s : Subscription). (n ≤ s.to) × (s.to < n + length (c ∷ cs))) (subscriptions_to stream (n, c)) _
+    (each-weaker _ (λ (s : Subscription). (n ≤ s.to) × (s.to < n + length (c ∷ cs)))
+    (λ (s : Subscription) reads. let is = reads.0 in (omega (arith, is), omega (arith, is))) (subscriptions_to stream (n, c)) (subscriptions-read stream n c))
+    (each-weaker (λ (s : Subscription). (n + 1 ≤ s.to) × (s.to < n + 1 + length cs)) (λ (s : Subscription). (n ≤ s.to) × (s.to < n + length (c ∷ cs)))
+    (λ (s : Subscription) (both : (n + 1 ≤ s.to) × (s.to < n + 1 + length cs)). let from = both.0 in let to = both.1 in (omega (arith, from), omega (arith, to)))
+    (flat_map (subscriptions_to stream) (enumerate_from (n + 1) cs)) (consumers-numbered shape stream (n + 1) cs))
+
+-- each consumer of a stream is a computation that is there
+pub consumers-there : (shape : Shape) (part : ℕ) → AllByRecursion (λ (s : Subscription). (injectors_of shape ≤ s.to) × (s.to < parts_of shape)) (consumers_of shape part)
+consumers-there shape part = consumers-numbered shape (stream_of shape part) (injectors_of shape) shape.computations

@@ -1,21 +1,22 @@
 -- A row that was read under the last claim of its interval is the row of the whole history.
-use Rattle.std.proofs.Common.{◌≡◌, ◌≢◌, ℕ, zero, suc, ◌+◌, ◌<◌, ◌≤◌, Bool, true, false, cond, List, [], ◌∷◌, ◌++◌, length, take, drop, fold, refl, sym, ◌∙◌, ap, subst, arith, append_assoc, length-append, inl, inr}
-use Rattle.std.specs.Prelude.{Option, Some, None, All, ◌⊎◌, not, unwrap_or, slice_get}
-use Rattle.std.proofs.lemmas.Bool.{cases_lt, eq-eqb}
+use Rattle.std.proofs.Common.{◌≡◌, ◌≢◌, ℕ, ◌+◌, ◌<◌, ◌≤◌, Bool, true, false, cond, List, [], ◌∷◌, ◌++◌, length, take, drop, fold, refl, sym, ◌∙◌, ap, subst, arith, append_assoc, length-append, inl, inr, ◌==◌, ◌&&◌}
+use Rattle.std.specs.Prelude.{⊤, Option, Some, None, All, ◌⊎◌, not, unwrap_or, slice_get}
+use Rattle.std.proofs.lemmas.Bool.{cases_lt, eq-eqb, eqb-true}
+use Rattle.std.specs.Cmp.{first_so, second_so}
 use Rattle.std.proofs.lemmas.Option.{slice_get_within, get_or_from_slice_get}
-use Rattle.std.specs.Option.{option_and_then}
+use Rattle.std.specs.Option.{option_and_then, option_map_or}
 use Rattle.std.specs.List.{AllByRecursion, enumerate_from, take_while}
 use Rattle.std.proofs.lemmas.List.{append-nil, take-append-drop, take-append-le, drop-append-le, length-take, take_more, drop_all}
 use Rattle.std.proofs.lemmas.List.Sums.{fold-append, take_while-cons}
 use Rattle.std.proofs.lemmas.List.Elements.{recursion_from_All}
 use Rattle.mw_types.specs.declared.identity.RowName.{RowName}
 use Rattle.mw_types.specs.declared.entry.Entry.{Entry}
-use Rattle.mw_types.specs.declared.entry.Entry.TheVariants.{Claim, Inject, Handle, Fire, Ack, Purge}
+use Rattle.mw_types.specs.declared.entry.Entry.TheVariants.{Claim}
 use Rattle.topology.specs.Shapes.{Shape}
 use Rattle.run_history.specs.Made.{row_written}
 use Rattle.run_history.specs.Cases.{fresh_of}
-use Rattle.row_parts.specs.Contents.{Contents, fresh}
-use Rattle.run_history.specs.Runs.{Run, run_of, row_in, row_of, followed}
+use Rattle.row_parts.specs.Contents.{fresh}
+use Rattle.run_history.specs.Runs.{Run, run_of, row_in, row_of}
 use Rattle.run_history.proofs.Making.{enumerate_from-append}
 use Rattle.run_history.proofs.RunLaws.{run_of-push}
 use Rattle.history_laws.specs.Fences.{Begins, interval_of, sequencer_of, is_claim, later_claim, last_claim, IsUnderLastClaim, IsFenced, HasSeen, known}
@@ -83,11 +84,11 @@ push_same (a ∷ xs) (b ∷ bs) x y e =
 -- ---- claims
 
 -- the last claim among entries that are numbered from n on, after an earlier one
-abbrev claim_from : ℕ → ℕ → Option ℕ → List Entry → Option ℕ
+abbrev pub claim_from : ℕ → ℕ → Option ℕ → List Entry → Option ℕ
 claim_from interval n last entries = fold (later_claim interval) last (enumerate_from n entries)
 
 -- the last claim of a history that goes on
-last_claim-append : (interval : ℕ) (front rest : List Entry)
+pub last_claim-append : (interval : ℕ) (front rest : List Entry)
     → last_claim interval (front ++ rest) ≡ claim_from interval (length front) (last_claim interval front) rest
 last_claim-append interval front rest =
     let zero_more : 0 + length front ≡ length front = omega arith in
@@ -352,3 +353,52 @@ known-last interval seq history last =
           (let len = length-take (seq + 1) history in omega (arith, len, less)))
       | inr past ↦ subst (AllByRecursion (λ (e : Entry). not (is_claim interval e) ≡ true)) (sym (drop_all (seq + 1) history (omega (arith, past)))) tt
     ]
+
+-- each of these entries is under the last claim of its row's interval, after those before it
+abbrev pub AreUnder : Shape → List Entry → List Entry → Type 0
+AreUnder shape before [] = ⊤
+AreUnder shape before (entry ∷ entries) = IsUnderLastClaim shape before entry × AreUnder shape (before ++ entry ∷ []) entries
+
+-- a fenced history stays fenced with several entries under the last claims of their rows' intervals
+pub IsFenced-all : (shape : Shape) (entries before : List Entry) → IsFenced shape before → AreUnder shape before entries → IsFenced shape (before ++ entries)
+IsFenced-all shape [] before fenced under = subst (IsFenced shape) (sym (append-nil before)) fenced
+IsFenced-all shape (e ∷ es) before fenced under =
+    subst (IsFenced shape) (append_assoc before (e ∷ []) es) (IsFenced-all shape es (before ++ e ∷ []) (IsFenced-push shape before e fenced under.0) under.1)
+
+-- whether two numbers that may be none are the same
+abbrev same_number : Option ℕ → Option ℕ → Bool
+same_number None None = true
+same_number None (Some b) = false
+same_number (Some a) None = false
+same_number (Some a) (Some b) = a == b
+
+-- numbers that a test finds the same are the same
+same_number-true : (o p : Option ℕ) → same_number o p ≡ true → o ≡ p
+same_number-true None None e = refl
+same_number-true None (Some b) e = cc
+same_number-true (Some a) None e = cc
+same_number-true (Some a) (Some b) e = ap Some (eqb-true a b e)
+
+-- whether each of these entries is under the last claim of its row's interval, after those before it
+abbrev pub are_under : Shape → List Entry → List Entry → Bool
+are_under shape before [] = true
+are_under shape before (entry ∷ entries) =
+    option_map_or (λ (name : RowName). same_number (option_and_then (λ (i : ℕ). last_claim i before) (interval_of shape name)) (sequencer_of entry)) (row_written entry) true
+    && are_under shape (before ++ entry ∷ []) entries
+
+-- entries that the test finds under their claims are
+AreUnder-tested : (shape : Shape) (before entries : List Entry) → are_under shape before entries ≡ true → AreUnder shape before entries
+AreUnder-tested shape before [] e = tt
+AreUnder-tested shape before (entry ∷ entries) e = (
+  (λ name written. same_number-true _ _ (here name (row_written entry) written (first_so _ _ e))),
+  AreUnder-tested shape (before ++ entry ∷ []) entries (second_so _ _ e),
+)
+  where
+    here : (name : RowName) (w : Option RowName) → w ≡ Some name
+        → option_map_or (λ (n : RowName). same_number (option_and_then (λ (i : ℕ). last_claim i before) (interval_of shape n)) (sequencer_of entry)) w true ≡ true
+        → same_number (option_and_then (λ (i : ℕ). last_claim i before) (interval_of shape name)) (sequencer_of entry) ≡ true
+    here name w is passes = sym (ap (λ o. option_map_or (λ (n : RowName). same_number (option_and_then (λ (i : ℕ). last_claim i before) (interval_of shape n)) (sequencer_of entry)) o true) is) ∙ passes
+
+-- a history of which the test finds each entry under its claim is fenced
+pub IsFenced-tested : (shape : Shape) (history : List Entry) → are_under shape [] history ≡ true → IsFenced shape history
+IsFenced-tested shape history e = IsFenced-all shape history [] (IsFenced-empty shape) (AreUnder-tested shape [] history e)

@@ -1,13 +1,11 @@
 -- A record that is handled is finished in the row that handled it, so a record that was made and is not finished waits.
-use Rattle.std.proofs.Common.{◌≡◌, ℕ, ◌+◌, ◌<◌, ◌≤◌, Bool, true, false, cond, List, [], ◌∷◌, ◌++◌, map, fold, refl, sym, ◌∙◌, ap, subst, arith}
-use Rattle.std.specs.Prelude.{⊤, Option, Some, None, IsSome, filter, find, not, nat_lt, nat_le, ◌||◌}
+use Rattle.std.proofs.Common.{◌≡◌, ℕ, ◌≤◌, Bool, true, false, cond, List, [], ◌∷◌, ◌++◌, refl, sym, ◌∙◌, ap, subst, arith}
+use Rattle.std.specs.Prelude.{⊤, Some, None, filter, not, nat_lt, nat_le, ◌||◌}
 use Rattle.std.specs.List.{AllByRecursion, list_any}
-use Rattle.std.specs.Ordering.{match_ordering, is_eq}
-use Rattle.std.specs.declared.cmp.Ordering.{Ordering}
+use Rattle.std.specs.Ordering.{match_ordering}
 use Rattle.std.specs.declared.cmp.Ordering.TheVariants.{Less, Equal, Greater}
-use Rattle.std.proofs.lemmas.Bool.{ltb-true, ltb-false, lt-ltb, le-leb, both_ways}
+use Rattle.std.proofs.lemmas.Bool.{ltb-true, ltb-false, le-leb, both_ways}
 use Rattle.std.proofs.lemmas.List.Folds.{list_any-append}
-use Rattle.std.proofs.lemmas.List.Elements.{filter_passes}
 use Rattle.std.proofs.lemmas.Map.Lookups.{exact_unsigned}
 use Rattle.mw_types.specs.declared.identity.RecordId.{RecordId}
 use Rattle.mw_types.specs.declared.identity.RowName.{RowName}
@@ -19,16 +17,16 @@ use Rattle.topology.specs.Shapes.{Shape}
 use Rattle.row_parts.specs.Contents.{Contents, same_id, with_id, ids_from, is_finished}
 use Rattle.run_history.specs.Cases.{CaseShape}
 use Rattle.run_history.specs.Made.{found_delivery, row_written, deliveries_of}
-use Rattle.run_history.specs.Runs.{Run, run_of, row_of, followed, changed, noted, empty_run}
+use Rattle.run_history.specs.Runs.{Run, run_of, row_of, followed, changed, noted}
 use Rattle.run_history.specs.Legal.{MayFollow, IsLegal, floor_of}
 use Rattle.history_laws.specs.Finished.{handles, is_handled}
 use Rattle.history_laws.specs.Ids.{is_left}
-use Rattle.history_laws.proofs.Lists.{none_some, some_same, each-append, each-all, each-weaker, each-both, find-none, find-kept, find-passes, filter-passes, each-filter, find-each}
+use Rattle.history_laws.proofs.Lists.{some_same, each-append, each-weaker, find-none, find-kept, filter-passes, each-filter}
 use Rattle.history_laws.proofs.Along.{along_history}
 use Rattle.history_laws.proofs.IdLaws.{same_id-true, same_id-itself, AreIds, WasMade, legal-ids, is_handled-push}
 use Rattle.history_laws.proofs.FloorLaws.{floor_of-followed}
 use Rattle.history_laws.proofs.PendingLaws.{waiting-above}
-use Rattle.history_laws.proofs.RowSteps.{row_of-step, row_of-here, made_row, both_Equal}
+use Rattle.history_laws.proofs.RowSteps.{row_of-step, row_of-here, both_Equal}
 
 -- one of two tests passes
 or_right : (a : Bool) → (a || true) ≡ true
@@ -56,9 +54,9 @@ with_id-has id new (x ∷ xs) has =
       | Less ↦ λ e. has
       | Equal ↦ λ e. by_test (same_id id x) (ap (same_id id) (same_from_tie new x e)) has
       | Greater ↦ λ e. elim (same_id id x) as (λ b. (same_id id new || (b || list_any (same_id id) xs)) ≡ true → (b || list_any (same_id id) (with_id new xs)) ≡ true) [
-          | true ↦ λ h. refl
-          | false ↦ λ h. with_id-has id new xs h
-        ] has
+        | true ↦ λ h. refl
+        | false ↦ λ h. with_id-has id new xs h
+      ] has
     ] refl
   where
     by_test : (b : Bool) → same_id id new ≡ b → (same_id id new || (b || list_any (same_id id) xs)) ≡ true → (b || list_any (same_id id) xs) ≡ true
@@ -76,9 +74,9 @@ ids_from-has floor id (x ∷ xs) above has =
           (subst (λ (i : RecordId). nat_le floor i.commit ≡ true) (same_id-true id x e) above)
           ∙ ap (λ b. b || list_any (same_id id) (ids_from floor xs)) e
       | false ↦ λ e h. elim (nat_le floor x.commit) as (λ b. list_any (same_id id) (cond b (x ∷ ids_from floor xs) (ids_from floor xs)) ≡ true) [
-          | true ↦ ap (λ b. b || list_any (same_id id) (ids_from floor xs)) e ∙ ids_from-has floor id xs above h
-          | false ↦ ids_from-has floor id xs above h
-        ]
+        | true ↦ ap (λ b. b || list_any (same_id id) (ids_from floor xs)) e ∙ ids_from-has floor id xs above h
+        | false ↦ ids_from-has floor id xs above h
+      ]
     ] refl has
 
 -- an id that is noted is finished
@@ -93,9 +91,9 @@ noted-keeps : (id new : RecordId) (row : Contents) → is_finished id row ≡ tr
 noted-keeps id new row done = elim (nat_lt id.commit row.floor) as (λ b. (b || list_any (same_id id) row.seen) ≡ true → (b || list_any (same_id id) (noted new row)) ≡ true) [
   | true ↦ λ d. refl
   | false ↦ λ d. elim (nat_lt new.commit row.floor) as (λ b. list_any (same_id id) (cond b row.seen (with_id new row.seen)) ≡ true) [
-      | true ↦ d
-      | false ↦ with_id-has id new row.seen (ap (λ b. same_id id new || b) d ∙ or_right (same_id id new))
-    ]
+    | true ↦ d
+    | false ↦ with_id-has id new row.seen (ap (λ b. same_id id new || b) d ∙ or_right (same_id id new))
+  ]
 ] done
 
 -- an id that is finished stays so where the floor rises

@@ -1,11 +1,8 @@
 -- What a handler sets and produces is no earlier than its cause, is as late, and is not above the greatest timestamp.
-use Rattle.std.proofs.Common.{◌≡◌, ◌==◌, ◌≤◌, ◌<◌, ℕ, ℤ, pos, Bool, true, false, cond, Option, Some, None, List, [], ◌∷◌, find, refl, sym, ◌∙◌, ap, subst, arith}
-use Rattle.std.specs.Prelude.{IfSome, nat_lt, slice_get, filter, not, All}
-use Rattle.std.specs.Option.{option_map}
+use Rattle.std.proofs.Common.{◌≡◌, ◌==◌, ◌≤◌, ℕ, ℤ, pos, Bool, true, false, cond, Option, Some, None, List, [], ◌∷◌, find, refl, arith}
+use Rattle.std.specs.Prelude.{IfSome, filter, not}
 use Rattle.std.specs.List.{AllByRecursion}
 use Rattle.std.proofs.lemmas.Bool.Decides.{nat_tests}
-use Rattle.std.proofs.lemmas.List.Elements.{All-contains}
-use Rattle.std.proofs.lemmas.Option.{slice_get_within, get_or_from_slice_get}
 use Rattle.mw_types.specs.declared.TheConstants.{MAX_STAMP}
 use Rattle.mw_types.specs.declared.kind.Kind.{Kind}
 use Rattle.mw_types.specs.declared.kind.Kind.TheVariants as kinds
@@ -18,7 +15,7 @@ use Rattle.mw_types.specs.declared.record.Production.{Production}
 use Rattle.mw_types.specs.declared.timer.Timer.{Timer}
 use Rattle.mw_types.specs.Kinds.{IsKind}
 use Rattle.mw_types.specs.Outcomes.{Outcome}
-use Rattle.computations.specs.Handlers.{unchanged, with_timer, with_record, one_more, window_end, counted, count_record, window_due, count_timer, due_time, held_with, spike_record, total_due, is_spike, known_with, spike_timer, pass_record, effects_of_record, effects_of_timer}
+use Rattle.computations.specs.Handlers.{unchanged, with_timer, with_record, one_more, window_end, counted, count_record, window_due, count_timer, due_time, held_with, spike_record, total_due, is_spike, known_with, spike_timer, effects_of_record, effects_of_timer}
 
 -- a timer that a cause of this timestamp may set
 pub record IsTimerAfter (stamp : ℕ) (late : Bool) (t : Timer) : Type 0 where

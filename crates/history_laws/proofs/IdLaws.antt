@@ -1,17 +1,16 @@
 -- What ids tell: what was made, what was handled, and what waits.
-use Rattle.std.proofs.Common.{◌≡◌, ℕ, ◌+◌, ◌<◌, ◌≤◌, ◌==◌, ◌&&◌, Bool, true, false, cond, List, [], ◌∷◌, ◌++◌, length, map, fold, refl, sym, ◌∙◌, ap, subst, arith}
+use Rattle.std.proofs.Common.{◌≡◌, ℕ, ◌+◌, ◌<◌, ◌==◌, ◌&&◌, Bool, true, false, List, [], ◌∷◌, ◌++◌, length, map, fold, refl, sym, ◌∙◌, ap, subst, arith}
 use Rattle.std.proofs.lemmas.List.{length_push}
-use Rattle.std.specs.Prelude.{⊤, Option, Some, None, IsSome, IsNone, find, filter, not, ◌||◌}
+use Rattle.std.specs.Prelude.{⊤, Option, Some, None, IsSome, filter, not, ◌||◌}
 use Rattle.std.specs.Option.{option_map_or}
-use Rattle.std.specs.List.{AllByRecursion, list_any, enumerate_from}
+use Rattle.std.specs.List.{AllByRecursion, enumerate_from}
 use Rattle.std.specs.List.Sorted.{IsStrictlySortedBy}
 use Rattle.std.specs.Ordering.{nat_cmp, ordering_then, is_eq}
-use Rattle.std.specs.declared.cmp.Ordering.{Ordering}
-use Rattle.std.specs.declared.cmp.Ordering.TheVariants.{Less, Equal, Greater}
+use Rattle.std.specs.declared.cmp.Ordering.TheVariants.{Less, Equal}
 use Rattle.std.specs.Cmp.{nat_cmp_is, tied_itself, first_so, second_so}
 use Rattle.std.proofs.lemmas.List.Folds.{list_any-append}
 use Rattle.std.proofs.lemmas.List.Elements.{filter-append, filter_agree}
-use Rattle.std.proofs.lemmas.Bool.{eqb-true, eq-eqb, both_ways}
+use Rattle.std.proofs.lemmas.Bool.{eqb-true, eq-eqb}
 use Rattle.mw_types.specs.declared.identity.RecordId.{RecordId}
 use Rattle.mw_types.specs.declared.identity.RowName.{RowName}
 use Rattle.mw_types.specs.declared.record.Record.{Record}
@@ -21,14 +20,14 @@ use Rattle.mw_types.specs.declared.entry.Entry.TheVariants.{Claim, Inject, Handl
 use Rattle.mw_types.specs.Orders.{id_cmp}
 use Rattle.mw_types.proofs.OrderLaws.{id_cmp-total}
 use Rattle.topology.specs.Shapes.{Shape}
-use Rattle.row_parts.specs.Contents.{same_id, without_delivery, delivery_cmp}
+use Rattle.row_parts.specs.Contents.{same_id, delivery_cmp}
 use Rattle.run_history.specs.Cases.{CaseShape}
 use Rattle.run_history.specs.Made.{found_delivery, deliveries_of, deliveries_made, delivery_at, row_written, productions_of, late_cause}
 use Rattle.run_history.specs.Runs.{Run, run_of, followed, empty_run, still_unhandled}
-use Rattle.run_history.specs.Legal.{MayFollow, MayHandle, IsLegal}
+use Rattle.run_history.specs.Legal.{MayFollow, IsLegal}
 use Rattle.history_laws.specs.Finished.{handles, is_handled}
 use Rattle.history_laws.specs.Ids.{is_left, TellsWhatWaits}
-use Rattle.history_laws.proofs.Lists.{none_some, some_same, each-append, each-all, each-weaker, each-filter, find-passes, find-each, find-none, find-kept, find-more, find-behind, filter-filter, filter-all, sorted-append, find-in_part, find-each_self}
+use Rattle.history_laws.proofs.Lists.{each-append, each-all, each-weaker, find-passes, find-each, find-more, filter-filter, filter-all, sorted-append, find-in_part, find-each_self}
 use Rattle.history_laws.proofs.Along.{along_history, along_any}
 use Rattle.history_laws.proofs.Made.{each_of_commit}
 
@@ -211,13 +210,13 @@ pub is_handled-push : (id : RecordId) (history : List Entry) (entry : Entry)
 is_handled-push id history entry = list_any-append (handles id) history (entry ∷ [])
 
 -- two tests that both fail
-left_push : (a b : Bool) → not (a || (b || false)) ≡ (not a && not b)
+pub left_push : (a b : Bool) → not (a || (b || false)) ≡ (not a && not b)
 left_push true b = refl
 left_push false true = refl
 left_push false false = refl
 
 -- an entry that handles nothing takes nothing
-none_taken : (waiting : List Delivery) → waiting ≡ filter (λ (d : Delivery). not false) waiting
+pub none_taken : (waiting : List Delivery) → waiting ≡ filter (λ (d : Delivery). not false) waiting
 none_taken waiting = sym (filter-all (λ (d : Delivery). not false) waiting (each-all (λ (d : Delivery). not false ≡ true) (λ d. refl) waiting))
 
 -- what still waits is what the entry does not handle

@@ -1,8 +1,8 @@
 -- The interval in which a row lies is the one that has it.
-use Rattle.std.proofs.Common.{◌≡◌, ℕ, zero, suc, ◌+◌, ◌<◌, ◌≤◌, ◌==◌, ◌&&◌, Bool, true, false, cond, Option, Some, None, List, [], ◌∷◌, length, get_or, refl, sym, ◌∙◌, ap, subst, arith, true≢false, inl, inr, ◌⊎◌}
+use Rattle.std.proofs.Common.{◌≡◌, ℕ, zero, suc, ◌+◌, ◌<◌, Bool, true, false, cond, Option, Some, None, List, [], ◌∷◌, length, get_or, refl, sym, ◌∙◌, ap, subst, arith, inl, inr}
 use Rattle.std.specs.Prelude.{MatchOption, slice_get}
 use Rattle.std.specs.List.{position_from}
-use Rattle.std.specs.Ordering.{is_le, is_lt}
+use Rattle.std.specs.Ordering.{is_le}
 use Rattle.std.specs.declared.cmp.Ordering.TheVariants.{Less}
 use Rattle.std.proofs.lemmas.Bool.{cases_lt, both_ways}
 use Rattle.std.proofs.lemmas.Option.{slice_get_within, get_or_from_slice_get}
@@ -14,7 +14,8 @@ use Rattle.key_intervals.specs.Intervals.{covers, ends_after, HasRow, Meets, Are
 use Rattle.key_intervals.proofs.Beginnings.{begins_by, begin_in_two, after_part, key_decides, turned_below}
 use Rattle.key_intervals.proofs.Lookup.{begins_by_row, of_part, goes_past}
 use Rattle.topology.specs.Shapes.{Shape}
-use Rattle.history_laws.specs.Fences.{intervals_of, interval_of}
+use Rattle.history_laws.specs.Fences.{interval_of}
+use Rattle.run_history.specs.Cases.{intervals_of}
 use Rattle.history_laws.proofs.Lists.{none_some, some_same}
 
 -- where an interval has a row, the next one begins after it
@@ -45,9 +46,9 @@ pub one_interval : (all : List Bounds) (i j : ℕ) (name : RowName) → AreInter
 one_interval all i j name are one other = elim (cases_lt i j) [
   | inl less ↦ absurd (not_before all i j name are one other less)
   | inr le ↦ elim (cases_lt j i) [
-      | inl less ↦ absurd (not_before all j i name are other one less)
-      | inr ge ↦ omega (arith, le, ge)
-    ]
+    | inl less ↦ absurd (not_before all j i name are other one less)
+    | inr ge ↦ omega (arith, le, ge)
+  ]
 ]
 
 -- what a search for a place finds passes at the place

@@ -18,4 +18,13 @@ pub mod AckLaws
 pub mod StoredLaws
 pub mod IntervalLaws
 pub mod UnfinishedLaws
+pub mod OwnLaws
+pub mod MarkLaws
+pub mod ReportLaws
+pub mod FitLaws
+pub mod StateLaws
+pub mod ClaimLaws
+pub mod CountLaws
+pub mod PrintLaws
+pub mod OnceLaws
 pub mod SeenLaws

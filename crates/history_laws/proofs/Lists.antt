@@ -1,6 +1,6 @@
 -- What holds of each element of a list, where the list is joined, filtered or searched.
 use Rattle.std.proofs.Common.{◌≡◌, ℕ, ◌+◌, Bool, true, false, cond, ◌&&◌, List, [], ◌∷◌, ◌++◌, map, refl, sym, ◌∙◌, ap, subst}
-use Rattle.std.specs.Prelude.{Option, Some, None, unwrap_or, find, filter}
+use Rattle.std.specs.Prelude.{Some, None, unwrap_or, find, filter}
 use Rattle.std.specs.Option.{option_or}
 use Rattle.std.specs.List.{AllByRecursion, enumerate_from, flat_map}
 use Rattle.std.specs.List.Sorted.{IsStrictlySortedBy}
@@ -88,9 +88,9 @@ find-kept test keep (x ∷ xs) d found kept =
       | true ↦ λ e f. ap (λ b. find test (cond b (x ∷ filter keep xs) (filter keep xs))) (subst (λ y. keep y ≡ true) (sym (some_same x d f)) kept)
           ∙ ap (λ b. cond b (Some x) (find test (filter keep xs))) e ∙ f
       | false ↦ λ e f. elim (keep x) as (λ k. find test (cond k (x ∷ filter keep xs) (filter keep xs)) ≡ Some d) [
-          | true ↦ ap (λ b. cond b (Some x) (find test (filter keep xs))) e ∙ find-kept test keep xs d f kept
-          | false ↦ find-kept test keep xs d f kept
-        ]
+        | true ↦ ap (λ b. cond b (Some x) (find test (filter keep xs))) e ∙ find-kept test keep xs d f kept
+        | false ↦ find-kept test keep xs d f kept
+      ]
     ] refl found
 
 -- a search that finds something in one list finds it in the list with more behind

@@ -1,6 +1,6 @@
 -- The low watermark never falls.
-use Rattle.std.proofs.Common.{◌≡◌, ℕ, zero, suc, ◌+◌, ◌<◌, ◌≤◌, ◌==◌, ◌&&◌, Bool, true, false, cond, List, [], ◌∷◌, ◌++◌, map, fold, refl, sym, ◌∙◌, ap, subst, arith}
-use Rattle.std.specs.Prelude.{Option, Some, None, MatchBool, filter, min, not, unwrap_or}
+use Rattle.std.proofs.Common.{◌≡◌, ℕ, zero, suc, ◌<◌, ◌≤◌, ◌==◌, ◌&&◌, Bool, true, false, cond, List, [], ◌∷◌, ◌++◌, map, fold, refl, sym, ◌∙◌, ap, subst, arith}
+use Rattle.std.specs.Prelude.{Option, Some, None, MatchBool, filter, not, unwrap_or}
 use Rattle.std.specs.List.{AllByRecursion, flat_map}
 use Rattle.std.specs.List.Sorted.{IsStrictlySortedBy}
 use Rattle.std.specs.BTreeMap.{is_at, insert_entry}
@@ -19,18 +19,18 @@ use Rattle.topology.specs.Rules.{IsTopology}
 use Rattle.row_parts.specs.Contents.{Contents, fresh}
 use Rattle.run_history.specs.Cases.{CaseShape, is_injector, fresh_of}
 use Rattle.run_history.specs.Made.{row_written}
-use Rattle.run_history.specs.Runs.{Run, run_of, row_in, row_of, followed, empty_run}
+use Rattle.run_history.specs.Runs.{Run, run_of, row_of, followed, empty_run}
 use Rattle.run_history.specs.Watermarks.{least, waiting_stamps, timer_times, times_set, oldest_work, source_mark, low_under, low_watermark}
-use Rattle.run_history.specs.Legal.{MayFollow, AreLegal, IsLegal}
+use Rattle.run_history.specs.Legal.{MayFollow, IsLegal}
 use Rattle.run_history.proofs.Lookups.{each_found, sorted-insert_entry}
 use Rattle.history_laws.specs.Inputs.{IsRunnable}
-use Rattle.history_laws.proofs.Lists.{each-append, each-all, each-weaker, each-both}
+use Rattle.history_laws.proofs.Lists.{each-append, each-weaker, each-both}
 use Rattle.history_laws.proofs.Along.{run_of-append, AreLegal-apart, along_entries, along_any}
 use Rattle.history_laws.proofs.FeedLaws.{feeds-before}
 use Rattle.history_laws.proofs.IdLaws.{AreIds, AreIds-followed, legal-ids}
 use Rattle.history_laws.proofs.RowSteps.{made_row, same_row}
 use Rattle.history_laws.proofs.StampLaws.{AreInTime, AreInTime-followed, legal-in_time}
-use Rattle.history_laws.proofs.WorkLaws.{WaitsFrom, DueFrom, IsWorkFrom, FeedsFrom, IsWorkFrom-followed, source_mark-followed}
+use Rattle.history_laws.proofs.WorkLaws.{DueFrom, IsWorkFrom, FeedsFrom, IsWorkFrom-followed, source_mark-followed}
 
 -- ---- rows stand in the order of their names
 
@@ -39,7 +39,7 @@ pub record AreRowsInOrder (run : Run) : Type 0 where
   pub sorted : IsStrictlySortedBy row_cmp (keys_of run.rows)
 
 -- one more entry keeps rows in order
-AreRowsInOrder-followed : (shape : Shape) (run : Run) (entry : Entry) → AreRowsInOrder run → AreRowsInOrder (followed shape run entry)
+pub AreRowsInOrder-followed : (shape : Shape) (run : Run) (entry : Entry) → AreRowsInOrder run → AreRowsInOrder (followed shape run entry)
 AreRowsInOrder-followed shape run entry order = record { sorted = by_row (row_written entry) }
   where
     by_row : (w : Option RowName) → IsStrictlySortedBy row_cmp (keys_of (option_map_or (λ (n : RowName). insert_entry row_cmp run.rows n (made_row shape run entry n)) w run.rows))
@@ -47,7 +47,7 @@ AreRowsInOrder-followed shape run entry order = record { sorted = by_row (row_wr
     by_row (Some name) = sorted-insert_entry row_cmp-total run.rows name (made_row shape run entry name) order.sorted
 
 -- before any entry there are no rows
-AreRowsInOrder-empty : AreRowsInOrder empty_run
+pub AreRowsInOrder-empty : AreRowsInOrder empty_run
 unfolding IsStrictlySortedBy
 AreRowsInOrder-empty = record { sorted = tt }
 
@@ -77,12 +77,12 @@ pub bound-each : (x : ℕ) (marks : List ℕ) → x ≤ least marks → AllByRec
 bound-each x marks below = each-weaker (λ m. least marks ≤ m) (λ m. x ≤ m) (λ m le. omega (arith, below, le)) marks (least-each marks)
 
 -- what holds of two lists together holds of each of them
-each-apart : {X : Type 0} (P : X → Type 0) (xs ys : List X) → AllByRecursion P (xs ++ ys) → AllByRecursion P xs × AllByRecursion P ys
+pub each-apart : {X : Type 0} (P : X → Type 0) (xs ys : List X) → AllByRecursion P (xs ++ ys) → AllByRecursion P xs × AllByRecursion P ys
 each-apart P [] ys each = (tt, each)
 each-apart P (x ∷ xs) ys each = let rest = each-apart P xs ys each.1 in ((each.0, rest.0), rest.1)
 
 -- a bound of the numbers of those that pass, as a bound of each that passes
-from_passing : {X : Type 0} (x : ℕ) (f : X → ℕ) (test : X → Bool) (xs : List X) → AllByRecursion (λ m. x ≤ m) (map f (filter test xs))
+pub from_passing : {X : Type 0} (x : ℕ) (f : X → ℕ) (test : X → Bool) (xs : List X) → AllByRecursion (λ m. x ≤ m) (map f (filter test xs))
     → AllByRecursion (λ e. test e ≡ true → x ≤ f e) xs
 from_passing x f test [] each = tt
 from_passing x f test (e ∷ es) each =
@@ -92,7 +92,7 @@ from_passing x f test (e ∷ es) each =
     ] each
 
 -- and back
-to_passing : {X : Type 0} (x : ℕ) (f : X → ℕ) (test : X → Bool) (xs : List X) → AllByRecursion (λ e. test e ≡ true → x ≤ f e) xs
+pub to_passing : {X : Type 0} (x : ℕ) (f : X → ℕ) (test : X → Bool) (xs : List X) → AllByRecursion (λ e. test e ≡ true → x ≤ f e) xs
     → AllByRecursion (λ m. x ≤ m) (map f (filter test xs))
 to_passing x f test [] each = tt
 to_passing x f test (e ∷ es) each =
@@ -112,9 +112,11 @@ from_times : (x part : ℕ) (rows : List (RowName × Contents))
     → AllByRecursion (λ m. x ≤ m) (flat_map (λ (r : RowName × Contents). cond (r.0.part == part) (times_set r.1) []) rows) → RowsFrom x part rows
 from_times x part [] each = tt
 from_times x part (r ∷ rs) each =
-    let parts = each-apart (λ m. x ≤ m) (cond (r.0.part == part) (times_set r.1) []) _ each in
-    ((λ (of : (r.0.part == part) ≡ true). from_passing x (λ (t : Timer). t.time) (λ (t : Timer). not t.late) r.1.timers
-    (subst (λ b. AllByRecursion (λ m. x ≤ m) (cond b (times_set r.1) [])) of parts.0)), from_times x part rs parts.1)
+    let parts = each-apart (λ m. x ≤ m) (cond (r.0.part == part) (times_set r.1) []) _ each in (
+      (λ (of : (r.0.part == part) ≡ true). from_passing x (λ (t : Timer). t.time) (λ (t : Timer). not t.late) r.1.timers
+          (subst (λ b. AllByRecursion (λ m. x ≤ m) (cond b (times_set r.1) [])) of parts.0)),
+      from_times x part rs parts.1,
+    )
 
 -- and back
 to_times : (x part : ℕ) (rows : List (RowName × Contents)) → RowsFrom x part rows
@@ -226,17 +228,19 @@ LowFrom-any_depth case run x rules zero part le from zero = from
 LowFrom-any_depth case run x rules zero part le from (suc other) =
     (from, each-weaker (λ f. f < part) (FeedsFrom case run x (LowFrom case run x other)) (λ f less. absurd (omega (arith, less, le))) (feeds_of case.topology part) (feeds-before case.topology part rules))
 LowFrom-any_depth case run x rules (suc depth) part le from zero = from.0
-LowFrom-any_depth case run x rules (suc depth) part le from (suc other) =
-    (from.0, each-weaker (λ f. (f < part) × FeedsFrom case run x (LowFrom case run x depth) f) (FeedsFrom case run x (LowFrom case run x other))
-    (λ f (both : (f < part) × FeedsFrom case run x (LowFrom case run x depth) f).
-    let less = both.0 in
-    let near : f ≤ depth = omega (arith, less, le) in
-    feed-weaker case run x (LowFrom case run x depth) (LowFrom case run x other) f (λ deeper. LowFrom-any_depth case run x rules depth f near deeper other) both.1)
-    (feeds_of case.topology part)
-    (each-both (λ f. f < part) (FeedsFrom case run x (LowFrom case run x depth)) (feeds_of case.topology part) (feeds-before case.topology part rules) from.1))
+LowFrom-any_depth case run x rules (suc depth) part le from (suc other) = (
+  from.0,
+  each-weaker (λ f. (f < part) × FeedsFrom case run x (LowFrom case run x depth) f) (FeedsFrom case run x (LowFrom case run x other))
+      (λ f (both : (f < part) × FeedsFrom case run x (LowFrom case run x depth) f).
+      let less = both.0 in
+      let near : f ≤ depth = omega (arith, less, le) in
+      feed-weaker case run x (LowFrom case run x depth) (LowFrom case run x other) f (λ deeper. LowFrom-any_depth case run x rules depth f near deeper other) both.1)
+      (feeds_of case.topology part)
+      (each-both (λ f. f < part) (FeedsFrom case run x (LowFrom case run x depth)) (feeds_of case.topology part) (feeds-before case.topology part rules) from.1),
+)
 
 -- what holds of each element for each number holds for each number of each element
-each-every : {X : Type 0} (P : ℕ → X → Type 0) (xs : List X) → ((n : ℕ) → AllByRecursion (P n) xs) → AllByRecursion (λ x. (n : ℕ) → P n x) xs
+pub each-every : {X : Type 0} (P : ℕ → X → Type 0) (xs : List X) → ((n : ℕ) → AllByRecursion (P n) xs) → AllByRecursion (λ x. (n : ℕ) → P n x) xs
 each-every P [] each = tt
 each-every P (x ∷ xs) each = ((λ n. (each n).0), each-every P xs (λ n. (each n).1))
 
@@ -245,12 +249,13 @@ pub LowFrom-followed : (case : CaseShape) (history : List Entry) (run : Run) (en
     → (depth part : ℕ) → ((any : ℕ) → LowFrom case run x any part) → LowFrom case (followed case.topology run entry) x depth part
 LowFrom-followed case history run entry x runs ids in_time may zero part from =
     IsWorkFrom-followed case history run entry x part runs ids in_time may (from 0) (from 1).1
-LowFrom-followed case history run entry x runs ids in_time may (suc depth) part from =
-    (IsWorkFrom-followed case history run entry x part runs ids in_time may (from 0) (from 1).1,
-    each-weaker (λ f. (any : ℕ) → FeedsFrom case run x (LowFrom case run x any) f) (FeedsFrom case (followed case.topology run entry) x (LowFrom case (followed case.topology run entry) x depth))
-    (λ f all. feed f (λ deeper. LowFrom-followed case history run entry x runs ids in_time may depth f deeper) (is_injector case.topology f) refl all)
-    (feeds_of case.topology part)
-    (each-every (λ any f. FeedsFrom case run x (LowFrom case run x any) f) (feeds_of case.topology part) (λ any. (from (suc any)).1)))
+LowFrom-followed case history run entry x runs ids in_time may (suc depth) part from = (
+  IsWorkFrom-followed case history run entry x part runs ids in_time may (from 0) (from 1).1,
+  each-weaker (λ f. (any : ℕ) → FeedsFrom case run x (LowFrom case run x any) f) (FeedsFrom case (followed case.topology run entry) x (LowFrom case (followed case.topology run entry) x depth))
+      (λ f all. feed f (λ deeper. LowFrom-followed case history run entry x runs ids in_time may depth f deeper) (is_injector case.topology f) refl all)
+      (feeds_of case.topology part)
+      (each-every (λ any f. FeedsFrom case run x (LowFrom case run x any) f) (feeds_of case.topology part) (λ any. (from (suc any)).1)),
+)
   where
     after : Run
     after = followed case.topology run entry

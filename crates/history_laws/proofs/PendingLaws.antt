@@ -1,24 +1,23 @@
 -- A delivery that waits is pending in the row that made it.
-use Rattle.std.proofs.Common.{◌≡◌, ℕ, ◌+◌, ◌-◌, ◌<◌, ◌≤◌, Bool, true, false, cond, List, [], ◌∷◌, ◌++◌, map, refl, sym, ◌∙◌, ap, subst, arith}
-use Rattle.std.specs.Prelude.{⊤, Option, Some, None, IsSome, IsNone, IsTrue, Contains, filter, find, not, nat_lt, nat_le, slice_get, unwrap_or}
-use Rattle.std.specs.Option.{option_map, option_map_or, is_none}
-use Rattle.std.specs.List.{AllByRecursion, flat_map, enumerate_from}
-use Rattle.std.proofs.lemmas.Bool.{ltb-true, ltb-false, both_ways}
+use Rattle.std.proofs.Common.{◌≡◌, ℕ, ◌-◌, ◌<◌, ◌≤◌, true, false, cond, List, [], ◌++◌, refl, sym, ◌∙◌, ap, subst, arith}
+use Rattle.std.specs.Prelude.{⊤, Option, Some, None, IsNone, Contains, not, nat_lt, slice_get}
+use Rattle.std.specs.Option.{option_map}
+use Rattle.std.specs.List.{AllByRecursion}
+use Rattle.std.proofs.lemmas.Bool.{ltb-true, ltb-false}
 use Rattle.std.proofs.lemmas.Option.{slice_get_within}
 use Rattle.mw_types.specs.declared.identity.RecordId.{RecordId}
 use Rattle.mw_types.specs.declared.identity.RowName.{RowName}
-use Rattle.mw_types.specs.declared.record.Record.{Record}
 use Rattle.mw_types.specs.declared.kind.Kind.{Kind}
 use Rattle.mw_types.specs.declared.delivery.Delivery.{Delivery}
 use Rattle.mw_types.specs.declared.entry.Entry.{Entry}
 use Rattle.mw_types.specs.declared.entry.Entry.TheVariants.{Claim, Inject, Handle, Fire, Ack, Purge}
 use Rattle.topology.specs.declared.subscription.Subscription.{Subscription}
-use Rattle.topology.specs.Shapes.{Shape, ComputationShape, parts_of, injectors_of, consumers_of, feeds_of, computation_of, kind_of}
-use Rattle.row_parts.specs.Contents.{Contents, same_id, without_delivery}
-use Rattle.run_history.specs.Cases.{CaseShape, is_injector}
-use Rattle.run_history.specs.Made.{found_delivery, row_written, productions_of, late_cause, deliveries_of, deliveries_made, deliveries_to, sends_of, row_to, delivery_at, produced}
-use Rattle.run_history.specs.Runs.{Run, run_of, row_of, followed, changed, still_unhandled, empty_run}
-use Rattle.run_history.specs.Legal.{MayFollow, IsLegal, record_outcome, timer_outcome, floor_of}
+use Rattle.topology.specs.Shapes.{Shape, ComputationShape, parts_of, injectors_of, feeds_of, kind_of}
+use Rattle.row_parts.specs.Contents.{Contents, same_id}
+use Rattle.run_history.specs.Cases.{CaseShape}
+use Rattle.run_history.specs.Made.{found_delivery, row_written, productions_of, late_cause, deliveries_of, deliveries_made}
+use Rattle.run_history.specs.Runs.{Run, run_of, row_of, followed, changed, still_unhandled}
+use Rattle.run_history.specs.Legal.{MayFollow, IsLegal, floor_of}
 use Rattle.history_laws.specs.Finished.{handles}
 use Rattle.history_laws.specs.Ids.{IsSentBy}
 use Rattle.history_laws.proofs.Lists.{none_some, some_same, each-append, each-all, each-weaker, each-filter, each-both, find-none, find-none_each, find-kept, find-more, find-behind, find-each}
@@ -27,7 +26,7 @@ use Rattle.history_laws.proofs.Made.{each_of_commit, deliveries_made-each}
 use Rattle.history_laws.proofs.FeedLaws.{consumers-fed}
 use Rattle.history_laws.proofs.FloorLaws.{row_of-above}
 use Rattle.history_laws.proofs.IdLaws.{same_id-true, each_found_delivery, made-ascend, still_unhandled-filter}
-use Rattle.history_laws.proofs.RowSteps.{row_of-step, row_of-here, made_row, ArePendingInOrder, ArePendingInOrder-followed, row_of-in_order}
+use Rattle.history_laws.proofs.RowSteps.{row_of-step, row_of-here, ArePendingInOrder, ArePendingInOrder-followed, row_of-in_order}
 
 -- ---- each entry that may come is on a row of a part that is there, where it makes anything
 
@@ -178,7 +177,7 @@ pub record AreSent (shape : Shape) (run : Run) : Type 0 where
   pub each : AllByRecursion (IsSentBy shape run) run.unhandled
 
 -- one more entry keeps what waits pending
-AreSent-followed : (case : CaseShape) (run : Run) (entry : Entry) → AreSent case.topology run → MayFollow case run entry
+pub AreSent-followed : (case : CaseShape) (run : Run) (entry : Entry) → AreSent case.topology run → MayFollow case run entry
     → AreSent case.topology (followed case.topology run entry)
 AreSent-followed case run entry sent may = record {
   order = ArePendingInOrder-followed case.topology run entry sent.order;

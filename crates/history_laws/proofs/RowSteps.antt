@@ -1,5 +1,5 @@
 -- What one more entry does to the rows of a run: the row that it is on is changed, and no other.
-use Rattle.std.proofs.Common.{◌≡◌, ℕ, ◌+◌, ◌<◌, Bool, true, false, cond, List, [], ◌∷◌, ◌++◌, refl, sym, ◌∙◌, ap, subst, arith, inl, inr}
+use Rattle.std.proofs.Common.{◌≡◌, ℕ, ◌+◌, ◌<◌, true, false, cond, List, ◌++◌, refl, sym, ◌∙◌, ap, subst, arith, inl, inr}
 use Rattle.std.specs.Prelude.{Option, Some, None, unwrap_or, ◌⊎◌}
 use Rattle.std.specs.Option.{option_map_or}
 use Rattle.std.specs.List.{AllByRecursion}
@@ -13,7 +13,6 @@ use Rattle.std.specs.BTreeMap.{is_at, insert_entry}
 use Rattle.std.specs.Map.{lookup}
 use Rattle.std.proofs.lemmas.Map.Lookups.{exact_unsigned, exact_bytes}
 use Rattle.std.proofs.lemmas.List.Kept.{IsStrictlySortedBy-filter}
-use Rattle.mw_types.specs.declared.identity.RecordId.{RecordId}
 use Rattle.mw_types.specs.declared.identity.RowName.{RowName}
 use Rattle.mw_types.specs.declared.delivery.Delivery.{Delivery}
 use Rattle.mw_types.specs.declared.entry.Entry.{Entry}
@@ -21,12 +20,12 @@ use Rattle.mw_types.specs.declared.entry.Entry.TheVariants.{Claim, Inject, Handl
 use Rattle.mw_types.specs.Orders.{row_cmp}
 use Rattle.mw_types.proofs.OrderLaws.{row_cmp-total}
 use Rattle.topology.specs.Shapes.{Shape}
-use Rattle.row_parts.specs.Contents.{Contents, fresh, same_id, delivery_cmp}
+use Rattle.row_parts.specs.Contents.{Contents, fresh, delivery_cmp}
 use Rattle.run_history.specs.Cases.{fresh_of}
 use Rattle.run_history.specs.Made.{row_written, deliveries_of}
 use Rattle.run_history.specs.Runs.{Run, run_of, row_in, row_of, row_after, followed, changed, empty_run}
 use Rattle.run_history.proofs.Lookups.{lookup-insert_entry, each-insert_entry}
-use Rattle.history_laws.proofs.Lists.{none_some, some_same, each-append, each-weaker, each-filter, found_of_each, sorted-append}
+use Rattle.history_laws.proofs.Lists.{none_some, some_same, each-weaker, each-filter, found_of_each, sorted-append}
 use Rattle.history_laws.proofs.Along.{along_any}
 use Rattle.history_laws.proofs.Made.{each_of_commit}
 use Rattle.history_laws.proofs.IdLaws.{across, below_next, made-ascend}
@@ -66,11 +65,14 @@ pub row_step : (shape : Shape) (run : Run) (entry : Entry) (row : RowName) → R
 row_step shape run entry row = elim (row_written entry) as (λ w. row_written entry ≡ w → RowStep shape run entry row) [
   | None ↦ λ e. inr (found e)
   | Some name ↦ λ e. elim (is_at (row_cmp row) name) as (λ b. is_at (row_cmp row) name ≡ b → RowStep shape run entry row) [
-      | true ↦ λ tie. let same : row ≡ name = same_row row name tie in
-          inl (e ∙ ap Some (sym same), found e ∙ put name ∙ ap (λ b. cond b (Some (made_row shape run entry name)) (row_in run row)) tie
-          ∙ ap (λ (n : RowName). Some (made_row shape run entry n)) (sym same))
-      | false ↦ λ tie. inr (found e ∙ put name ∙ ap (λ b. cond b (Some (made_row shape run entry name)) (row_in run row)) tie)
-    ] refl
+    | true ↦ λ tie. let same : row ≡ name = same_row row name tie in
+        inl (
+          e ∙ ap Some (sym same),
+          found e ∙ put name ∙ ap (λ b. cond b (Some (made_row shape run entry name)) (row_in run row)) tie
+              ∙ ap (λ (n : RowName). Some (made_row shape run entry n)) (sym same),
+        )
+    | false ↦ λ tie. inr (found e ∙ put name ∙ ap (λ b. cond b (Some (made_row shape run entry name)) (row_in run row)) tie)
+  ] refl
 ] refl
   where
     found : {w : Option RowName} → row_written entry ≡ w → row_in (followed shape run entry) row ≡ lookup (is_at (row_cmp row))
@@ -86,10 +88,10 @@ pub on_row_or_not : (entry : Entry) (name : RowName) → (row_written entry ≡ 
 on_row_or_not entry name = elim (row_written entry) as (λ w. (w ≡ Some name) ⊎ (w ≡ Some name → ⊥)) [
   | None ↦ inr (λ e. none_some name e)
   | Some row ↦ elim (is_at (row_cmp name) row) as (λ b. is_at (row_cmp name) row ≡ b → (Some row ≡ Some name) ⊎ (Some row ≡ Some name → ⊥)) [
-      | true ↦ λ tie. inl (ap Some (sym (same_row name row tie)))
-      | false ↦ λ apart. inr (λ e. both_ways (is_at (row_cmp name) row) apart
-          (subst (λ (r : RowName). is_at (row_cmp name) r ≡ true) (sym (some_same row name e)) (ap is_eq (tied_itself row_cmp-total name))))
-    ] refl
+    | true ↦ λ tie. inl (ap Some (sym (same_row name row tie)))
+    | false ↦ λ apart. inr (λ e. both_ways (is_at (row_cmp name) row) apart
+        (subst (λ (r : RowName). is_at (row_cmp name) r ≡ true) (sym (some_same row name e)) (ap is_eq (tied_itself row_cmp-total name))))
+  ] refl
 ]
 
 -- a row that an entry is not on is found as it was

@@ -1,9 +1,8 @@
 -- What may follow a beginning that has seen the last claim of an interval may follow the whole history.
-use Rattle.std.proofs.Common.{◌≡◌, ◌≢◌, ℕ, ◌+◌, ◌<◌, ◌≤◌, Bool, true, false, cond, List, [], ◌∷◌, ◌++◌, length, take, drop, fold, refl, sym, ◌∙◌, ap, subst, arith, append_assoc, length-append}
-use Rattle.std.specs.Prelude.{⊤, Option, Some, None, All, IsSome, IsNone, filter, find, not, ◌||◌, slice_get, unwrap_or}
+use Rattle.std.proofs.Common.{◌≡◌, ◌≢◌, ℕ, ◌<◌, ◌≤◌, Bool, true, false, List, [], ◌∷◌, ◌++◌, length, take, drop, fold, refl, sym, ◌∙◌, ap, subst, arith, append_assoc, length-append}
+use Rattle.std.specs.Prelude.{Option, Some, None, IsSome, IsNone, filter, not, ◌||◌, slice_get}
 use Rattle.std.specs.Option.{option_map}
 use Rattle.std.specs.List.{AllByRecursion, list_any}
-use Rattle.std.proofs.lemmas.Bool.{both_ways}
 use Rattle.std.proofs.lemmas.List.{append-nil, take-append-drop, length-take}
 use Rattle.std.proofs.lemmas.List.Folds.{list_any-append}
 use Rattle.std.proofs.lemmas.List.Elements.{recursion_from_All}
@@ -13,24 +12,24 @@ use Rattle.mw_types.specs.declared.kind.Kind.{Kind}
 use Rattle.mw_types.specs.declared.delivery.Delivery.{Delivery}
 use Rattle.mw_types.specs.declared.entry.Entry.{Entry}
 use Rattle.mw_types.specs.declared.entry.Entry.TheVariants.{Claim, Inject, Handle, Fire, Ack, Purge}
-use Rattle.topology.specs.Shapes.{Shape, kind_of, parts_of}
+use Rattle.topology.specs.Shapes.{Shape, kind_of}
 use Rattle.computations.specs.Handlers.{effects_of_record, effects_of_timer}
 use Rattle.row_parts.specs.Contents.{Contents, same_id}
 use Rattle.run_history.specs.Cases.{CaseShape}
 use Rattle.run_history.specs.Made.{found_delivery, row_written, deliveries_of}
 use Rattle.run_history.specs.Runs.{Run, run_of, row_in, row_of, followed}
-use Rattle.run_history.specs.Watermarks.{cursor_in, cursor_of, low_watermark}
-use Rattle.run_history.specs.Legal.{MayFollow, MayClaim, IsLegal, floor_of}
+use Rattle.run_history.specs.Watermarks.{cursor_in}
+use Rattle.run_history.specs.Legal.{MayFollow, MayClaim, IsLegal}
 use Rattle.run_history.proofs.RunLaws.{IsLegal-push}
 use Rattle.history_laws.specs.Fences.{interval_of, sequencer_of, last_claim, IsFenced, HasSeen, IsWriteUnder, CarryNot}
 use Rattle.history_laws.specs.Finished.{handles, is_handled}
 use Rattle.history_laws.specs.Ids.{is_left}
 use Rattle.history_laws.specs.Inputs.{IsRunnable}
 use Rattle.history_laws.specs.Writes.{IsLawful, IsSeenWrite}
-use Rattle.history_laws.proofs.Lists.{none_some, some_same, each-weaker, each-both, find-each, find-kept, find-more, find-passes, filter-passes, find-none}
+use Rattle.history_laws.proofs.Lists.{some_same, find-each, find-kept, find-more, find-passes, filter-passes}
 use Rattle.history_laws.proofs.Along.{run_of-append, AreLegal-apart}
 use Rattle.history_laws.proofs.FloorLaws.{floor_of-rises}
-use Rattle.history_laws.proofs.IdLaws.{same_id-true, AreIds, WasMade, legal-ids, waits_as_made}
+use Rattle.history_laws.proofs.IdLaws.{same_id-true, WasMade, legal-ids, waits_as_made}
 use Rattle.history_laws.proofs.FinishedLaws.{is_handled-more, handled-waits_not}
 use Rattle.history_laws.proofs.PendingLaws.{was_some, kind-there}
 use Rattle.history_laws.proofs.FenceLaws.{last_claim-front, carried, row_in-seen, row_of-seen, IsFenced-push, IsFenced-begins, IsFenced-empty, claim-under, entry-under}
@@ -64,10 +63,11 @@ spares-rest : (shape : Shape) (interval s : ℕ) (rest front : List Entry) → I
     → s < length front → AllByRecursion (λ e. sequencer_of e ≢ Some s) rest → AllByRecursion (Spares shape interval) rest
 spares-rest shape interval s [] front fenced last within none = tt
 spares-rest shape interval s (e ∷ es) front fenced last within none =
-    let again : (front ++ e ∷ []) ++ es ≡ front ++ e ∷ es = append_assoc front (e ∷ []) es in
-    ((λ name written lies. none.0 (carried shape front e name interval s (fenced front e (es, again)) written lies (last_claim-front interval s front (e ∷ es) last within))),
-    spares-rest shape interval s es (front ++ e ∷ []) (subst (IsFenced shape) (sym again) fenced) (ap (last_claim interval) again ∙ last)
-    (omega (arith, within, length-append front (e ∷ []))) none.1)
+    let again : (front ++ e ∷ []) ++ es ≡ front ++ e ∷ es = append_assoc front (e ∷ []) es in (
+      (λ name written lies. none.0 (carried shape front e name interval s (fenced front e (es, again)) written lies (last_claim-front interval s front (e ∷ es) last within))),
+      spares-rest shape interval s es (front ++ e ∷ []) (subst (IsFenced shape) (sym again) fenced) (ap (last_claim interval) again ∙ last)
+          (omega (arith, within, length-append front (e ∷ []))) none.1,
+    )
 
 -- and so by the beginning as it has seen the claim
 pub spares-seen : (shape : Shape) (interval seq : ℕ) (front rest : List Entry) → IsFenced shape (front ++ rest) → HasSeen interval seq front rest

@@ -1,6 +1,6 @@
 -- What is pending in a row was made by an entry on the row, so no id is pending in two rows.
-use Rattle.std.proofs.Common.{◌≡◌, ℕ, zero, suc, ◌+◌, ◌<◌, Bool, true, false, List, [], ◌∷◌, ◌++◌, length, refl, sym, ◌∙◌, ap, subst, arith}
-use Rattle.std.specs.Prelude.{Option, Some, None, find, filter, not, slice_get}
+use Rattle.std.proofs.Common.{◌≡◌, ℕ, zero, suc, ◌+◌, List, [], ◌∷◌, ◌++◌, length, refl, sym, ◌∙◌, ap}
+use Rattle.std.specs.Prelude.{Some, not, slice_get}
 use Rattle.std.specs.List.{AllByRecursion}
 use Rattle.mw_types.specs.declared.identity.RecordId.{RecordId}
 use Rattle.mw_types.specs.declared.identity.RowName.{RowName}
@@ -15,7 +15,7 @@ use Rattle.history_laws.specs.Ids.{IsMadeOn}
 use Rattle.history_laws.proofs.Lists.{none_some, some_same, each-append, each-weaker, each-filter, find-each, find-passes}
 use Rattle.history_laws.proofs.Along.{along_all}
 use Rattle.history_laws.proofs.Made.{each_of_commit}
-use Rattle.history_laws.proofs.IdLaws.{same_id-true, next-length}
+use Rattle.history_laws.proofs.IdLaws.{same_id-true}
 use Rattle.history_laws.proofs.RowSteps.{row_of-step}
 
 -- an entry stays at its place where more follow

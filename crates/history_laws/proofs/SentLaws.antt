@@ -1,27 +1,26 @@
 -- What is pending was made, so what is pending and does not wait is handled.
-use Rattle.std.proofs.Common.{◌≡◌, ℕ, ◌+◌, Bool, true, false, List, [], ◌∷◌, ◌++◌, refl, sym, ◌∙◌, ap, subst}
-use Rattle.std.specs.Prelude.{Option, Some, None, IsSome, filter, find, not}
+use Rattle.std.proofs.Common.{◌≡◌, true, false, List, ◌++◌, refl, sym, ◌∙◌, ap}
+use Rattle.std.specs.Prelude.{Some, None, not}
 use Rattle.std.specs.List.{AllByRecursion}
-use Rattle.std.proofs.lemmas.Bool.{both_ways}
 use Rattle.mw_types.specs.declared.identity.RecordId.{RecordId}
 use Rattle.mw_types.specs.declared.identity.RowName.{RowName}
 use Rattle.mw_types.specs.declared.delivery.Delivery.{Delivery}
 use Rattle.mw_types.specs.declared.entry.Entry.{Entry}
 use Rattle.mw_types.specs.declared.entry.Entry.TheVariants.{Claim, Inject, Handle, Fire, Ack, Purge}
 use Rattle.topology.specs.Shapes.{Shape}
-use Rattle.row_parts.specs.Contents.{Contents, fresh, same_id}
-use Rattle.run_history.specs.Cases.{CaseShape, fresh_of}
-use Rattle.run_history.specs.Made.{found_delivery, row_written, deliveries_of}
+use Rattle.row_parts.specs.Contents.{Contents, same_id}
+use Rattle.run_history.specs.Cases.{CaseShape}
+use Rattle.run_history.specs.Made.{found_delivery, deliveries_of}
 use Rattle.run_history.specs.Runs.{Run, run_of, row_of, followed, changed, empty_run}
 use Rattle.run_history.specs.Legal.{IsLegal}
 use Rattle.history_laws.specs.Finished.{is_handled}
 use Rattle.history_laws.specs.Ids.{is_left}
-use Rattle.history_laws.proofs.Lists.{none_some, some_same, each-append, each-weaker, each-both, each-filter, find-each, find-kept, find-more, find-passes}
+use Rattle.history_laws.proofs.Lists.{none_some, each-append, each-weaker, each-both, each-filter, find-each, find-kept, find-more, find-passes}
 use Rattle.history_laws.proofs.Along.{along_any}
 use Rattle.history_laws.proofs.Made.{each_of_commit}
 use Rattle.history_laws.proofs.IdLaws.{same_id-true, each_found_delivery, made-ascend, IsMadeInOrder, IsMadeInOrder-followed, IsMadeInOrder-empty, legal-ids}
 use Rattle.history_laws.proofs.PendingLaws.{found_behind}
-use Rattle.history_laws.proofs.RowSteps.{each_row-followed, row_of-each, made_row}
+use Rattle.history_laws.proofs.RowSteps.{each_row-followed, row_of-each}
 
 -- each of these deliveries is the one that was made under its id
 abbrev pub AreMade : List Delivery → List Delivery → Type 0

@@ -1,12 +1,11 @@
 -- No timestamp of a legal history is above the greatest.
 use Rattle.std.proofs.Common.{◌≡◌, ℕ, ◌+◌, ◌<◌, ◌≤◌, Bool, true, false, cond, List, [], ◌∷◌, ◌++◌, refl, sym, ◌∙◌, ap, subst, arith}
-use Rattle.std.specs.Prelude.{⊤, Option, Some, None, IsTrue, All, filter, not, nat_lt, slice_get, unwrap_or, fold}
-use Rattle.std.specs.Option.{option_map, option_map_or}
+use Rattle.std.specs.Prelude.{⊤, Option, Some, None, All, not, slice_get, unwrap_or}
+use Rattle.std.specs.Option.{option_map}
 use Rattle.std.specs.List.{AllByRecursion}
 use Rattle.std.specs.Ordering.{match_ordering}
-use Rattle.std.specs.declared.cmp.Ordering.{Ordering}
 use Rattle.std.specs.declared.cmp.Ordering.TheVariants.{Less, Equal, Greater}
-use Rattle.std.proofs.lemmas.List.Elements.{All-get_or, All-nil}
+use Rattle.std.proofs.lemmas.List.Elements.{All-get_or}
 use Rattle.std.proofs.lemmas.Map.Lookups.{exact_unsigned}
 use Rattle.std.proofs.lemmas.Option.{slice_get_within, get_or_from_slice_get}
 use Rattle.mw_types.specs.declared.TheConstants.{MAX_STAMP, INPUT_MAX}
@@ -21,19 +20,16 @@ use Rattle.mw_types.specs.declared.entry.Entry.{Entry}
 use Rattle.mw_types.specs.declared.entry.Entry.TheVariants.{Claim, Inject, Handle, Fire, Ack, Purge}
 use Rattle.mw_types.specs.Orders.{timer_cmp}
 use Rattle.mw_types.specs.Outcomes.{Outcome}
-use Rattle.injector.specs.Sources.{Source, SourceLine, IsSource, item_at, stated_at}
-use Rattle.injector.specs.declared.item.Item.{Item}
-use Rattle.topology.specs.declared.subscription.Subscription.{Subscription}
-use Rattle.topology.specs.Shapes.{Shape, consumers_of, kind_of, injectors_of}
+use Rattle.injector.specs.Sources.{Source, SourceLine, IsSource, item_at}
+use Rattle.topology.specs.Shapes.{Shape, consumers_of, kind_of}
 use Rattle.computations.specs.Handlers.{effects_of_record, effects_of_timer}
-use Rattle.row_parts.specs.Contents.{Contents, fresh, with_timer, set_again, without_timer, is_timer, same_id}
-use Rattle.run_history.specs.Cases.{CaseShape, source_of, record_of, fresh_of}
-use Rattle.run_history.specs.Made.{found_delivery, row_written, productions_of, late_cause, deliveries_of, deliveries_made}
-use Rattle.run_history.specs.Runs.{Run, run_of, row_of, followed, changed, with_timers, still_unhandled, empty_run}
+use Rattle.row_parts.specs.Contents.{Contents, with_timer, set_again, is_timer, same_id}
+use Rattle.run_history.specs.Cases.{CaseShape, source_of, record_of}
+use Rattle.run_history.specs.Made.{deliveries_of, deliveries_made}
+use Rattle.run_history.specs.Runs.{Run, run_of, row_of, followed, changed, with_timers, still_unhandled}
 use Rattle.run_history.specs.Legal.{MayFollow, IsLegal}
 use Rattle.history_laws.specs.Inputs.{IsRunnable}
 use Rattle.history_laws.specs.Finished.{handles}
-use Rattle.history_laws.specs.Ids.{is_left}
 use Rattle.history_laws.proofs.Lists.{none_some, some_same, each-append, each-all, each-weaker, each-filter, find-each}
 use Rattle.history_laws.proofs.Along.{along_history}
 use Rattle.history_laws.proofs.Made.{deliveries_made-each}
@@ -41,7 +37,7 @@ use Rattle.history_laws.proofs.FeedLaws.{kind-ranged}
 use Rattle.history_laws.proofs.HandlerBounds.{IsAfter, IsTimerAfter, IsProductionAfter, record-after, timer-after}
 use Rattle.history_laws.proofs.PendingLaws.{was_some}
 use Rattle.history_laws.proofs.IdLaws.{still_unhandled-filter}
-use Rattle.history_laws.proofs.RowSteps.{each_row-followed, row_of-each, made_row, both_Equal}
+use Rattle.history_laws.proofs.RowSteps.{each_row-followed, row_of-each, both_Equal}
 
 -- ---- sources
 

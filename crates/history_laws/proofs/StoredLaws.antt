@@ -1,13 +1,13 @@
 -- What a keeper has to hold after one more entry, and what a count over all rows becomes.
-use Rattle.std.proofs.Common.{◌≡◌, ℕ, ◌+◌, ◌≤◌, Bool, true, false, cond, List, [], ◌∷◌, ◌++◌, length, map, refl, sym, ◌∙◌, ap, subst, arith, length-append, inl, inr}
+use Rattle.std.proofs.Common.{◌≡◌, ◌+◌, Bool, true, false, cond, List, [], ◌∷◌, ◌++◌, length, map, refl, sym, ◌∙◌, ap, subst, arith, length-append}
 use Rattle.std.specs.Prelude.{Option, Some, None, filter, unwrap_or}
 use Rattle.std.specs.Option.{option_map, option_map_or}
 use Rattle.std.specs.List.{AllByRecursion, flat_map}
 use Rattle.std.specs.List.Sorted.{IsStrictlySortedBy}
 use Rattle.std.specs.declared.cmp.Ordering.{Ordering}
 use Rattle.std.specs.declared.cmp.Ordering.TheVariants.{Less, Equal, Greater}
-use Rattle.std.specs.Ordering.{match_ordering, is_eq, ordering_reverse}
-use Rattle.std.specs.Cmp.{IsTotalOrder, alike_right}
+use Rattle.std.specs.Ordering.{match_ordering, is_eq}
+use Rattle.std.specs.Cmp.{IsTotalOrder}
 use Rattle.std.specs.BTreeMap.{insert_entry, is_at}
 use Rattle.std.specs.Map.{lookup, keys_of}
 use Rattle.mw_types.specs.declared.identity.RowName.{RowName}
@@ -19,14 +19,12 @@ use Rattle.key_intervals.specs.Intervals.{covers}
 use Rattle.topology.specs.Shapes.{Shape}
 use Rattle.row_parts.specs.Contents.{Contents, fresh}
 use Rattle.row_parts.specs.Spelling.{spelling_of}
-use Rattle.row_keeper.specs.Rows.{Rows, AreInOrder, with_row, rows_within}
+use Rattle.row_keeper.specs.Rows.{AreInOrder, with_row, rows_within}
 use Rattle.run_history.specs.Cases.{fresh_of}
 use Rattle.run_history.specs.Made.{row_written}
-use Rattle.run_history.specs.Runs.{Run, run_of, row_in, row_of, followed}
-use Rattle.run_history.proofs.RunLaws.{run_of-push}
+use Rattle.run_history.specs.Runs.{Run, row_in, row_of, followed}
 use Rattle.history_laws.specs.Stored.{stored_rows}
-use Rattle.history_laws.proofs.Lists.{none_some, some_same}
-use Rattle.history_laws.proofs.LowLaws.{AreRowsInOrder, rows-in_order}
+use Rattle.history_laws.proofs.LowLaws.{AreRowsInOrder}
 use Rattle.history_laws.proofs.RowSteps.{made_row, row_of-here}
 
 -- ---- what is stored

@@ -1,11 +1,10 @@
 -- How much work is left: what one more entry makes of it, and that a finished run is done.
 use Rattle.std.proofs.Common.{◌≡◌, ◌≢◌, ℕ, zero, suc, ◌+◌, ◌<◌, ◌≤◌, Bool, true, false, cond, ◌&&◌, List, [], ◌∷◌, ◌++◌, length, refl, sym, ◌∙◌, ap, subst, arith, inl, inr}
-use Rattle.std.specs.Prelude.{◌⊎◌, Option, Some, None, IsTrue, filter, nat_lt, slice_get, unwrap_or}
+use Rattle.std.specs.Prelude.{Option, Some, None, filter, nat_lt}
 use Rattle.std.specs.Option.{option_map, option_map_or}
 use Rattle.std.specs.List.{AllByRecursion, flat_map, range_with_len}
-use Rattle.std.proofs.lemmas.Bool.{ltb-true, ltb-false, lt-ltb, both_ways, cases_lt}
+use Rattle.std.proofs.lemmas.Bool.{ltb-true, ltb-false, lt-ltb, cases_lt}
 use Rattle.std.proofs.lemmas.Option.{slice_get_within}
-use Rattle.mw_types.specs.declared.identity.RecordId.{RecordId}
 use Rattle.mw_types.specs.declared.identity.RowName.{RowName}
 use Rattle.mw_types.specs.declared.record.Record.{Record}
 use Rattle.mw_types.specs.declared.kind.Kind.{Kind}
@@ -14,18 +13,17 @@ use Rattle.mw_types.specs.declared.state.State.TheVariants as states
 use Rattle.mw_types.specs.declared.delivery.Delivery.{Delivery}
 use Rattle.mw_types.specs.declared.entry.Entry.{Entry}
 use Rattle.mw_types.specs.declared.entry.Entry.TheVariants.{Claim, Inject, Handle, Fire, Ack, Purge}
-use Rattle.injector.specs.Sources.{SourceLine}
-use Rattle.topology.specs.Shapes.{Shape, kind_of, injectors_of}
+use Rattle.topology.specs.Shapes.{kind_of, injectors_of}
 use Rattle.computations.specs.Handlers.{effects_of_record, effects_of_timer}
-use Rattle.row_parts.specs.Contents.{Contents, fresh, same_id}
-use Rattle.run_history.specs.Cases.{CaseShape, is_injector, source_of, fresh_of}
+use Rattle.row_parts.specs.Contents.{Contents}
+use Rattle.run_history.specs.Cases.{CaseShape, is_injector, source_of}
 use Rattle.run_history.specs.Made.{found_delivery, row_written, deliveries_of}
 use Rattle.run_history.specs.Runs.{Run, run_of, row_of, followed, changed, advanced, empty_run}
 use Rattle.run_history.specs.Watermarks.{cursor_in, cursor_of}
 use Rattle.run_history.specs.Legal.{MayFollow, IsLegal, IsDone}
 use Rattle.history_laws.specs.Finished.{all_pending, all_timers, has_line, injectors_left, unfinished, IsFinished, row_has_line, work_in}
 use Rattle.history_laws.specs.Ids.{IsSentBy}
-use Rattle.history_laws.proofs.Lists.{none_some, some_same, found_of_each}
+use Rattle.history_laws.proofs.Lists.{none_some, some_same}
 use Rattle.history_laws.proofs.Along.{along_history}
 use Rattle.history_laws.proofs.FeedLaws.{injector-no_kind}
 use Rattle.history_laws.proofs.PendingLaws.{was_some, legal-sent}
@@ -36,9 +34,9 @@ use Rattle.history_laws.proofs.StampLaws.{line_of}
 
 -- ---- injectors
 
--- no injector has injected more lines than its file has
+-- no row of an injector has injected more lines than the injector's file has
 pub record AreCursorsWithin (case : CaseShape) (run : Run) : Type 0 where
-  pub each : (part : ℕ) → is_injector case.topology part ≡ true → cursor_of case run part ≤ length (source_of case part)
+  pub each : (name : RowName) → is_injector case.topology name.part ≡ true → cursor_in (row_of case.topology run name).state ≤ length (source_of case name.part)
 
 -- a state that is one line further is at most one line further
 advanced-within : (s : State) → cursor_in (advanced s) ≤ cursor_in s + 1
@@ -53,45 +51,45 @@ line-within case run seq part line item may =
     let l = line_of (source_of case part) line item may.of_line in slice_get_within (source_of case part) line l.0 l.1
 
 -- the cursor that an entry leaves in its row is within the file
-changed-within : (case : CaseShape) (run : Run) (entry : Entry) (sent : List Delivery) (part : ℕ) → MayFollow case run entry → is_injector case.topology part ≡ true
-    → row_written entry ≡ Some (record { part = part; key = [] }) → cursor_of case run part ≤ length (source_of case part)
-    → cursor_in (changed entry sent (row_of case.topology run (record { part = part; key = [] }))).state ≤ length (source_of case part)
-changed-within case run (Claim worker interval) sent part may is written old = old
-changed-within case run (Inject seq other line item) sent part may is written old =
-    let same : other ≡ part = ap (λ (n : RowName). n.part) (some_same (record { part = other; key = [] }) (record { part = part; key = [] }) written) in
-    let within : line < length (source_of case part) = subst (λ n. line < length (source_of case n)) same (line-within case run seq other line item may) in
-    let next : line ≡ cursor_of case run part = may.next_line ∙ ap (cursor_of case run) same in
-    let step = advanced-within (row_of case.topology run (record { part = part; key = [] })).state in
-    omega (arith, within, next, step)
-changed-within case run (Handle seq row id effects) sent part may is written old =
+changed-within : (case : CaseShape) (run : Run) (entry : Entry) (sent : List Delivery) (name : RowName) → MayFollow case run entry → is_injector case.topology name.part ≡ true
+    → row_written entry ≡ Some name → cursor_in (row_of case.topology run name).state ≤ length (source_of case name.part)
+    → cursor_in (changed entry sent (row_of case.topology run name)).state ≤ length (source_of case name.part)
+changed-within case run (Claim worker interval) sent name may is written old = old
+changed-within case run (Inject seq other line item) sent name may is written old =
+    subst (λ (n : RowName). cursor_in (advanced (row_of case.topology run n).state) ≤ length (source_of case n.part)) (some_same (record { part = other; key = [] }) name written)
+    (let within = line-within case run seq other line item may in
+    let next = may.next_line in
+    let step = advanced-within (row_of case.topology run (record { part = other; key = [] })).state in
+    omega (arith, within, next, step))
+changed-within case run (Handle seq row id effects) sent name may is written old =
     let kind = was_some (λ (kind : Kind). effects_of_record kind row.key (row_of case.topology run row).state may.delivery.item) (kind_of case.topology row.part) effects may.does in
-    absurd (injector-no_kind case.topology row.part kind.0 (subst (λ (n : RowName). is_injector case.topology n.part ≡ true) (sym (some_same row (record { part = part; key = [] }) written)) is) kind.1)
-changed-within case run (Fire seq row timer mark effects) sent part may is written old =
+    absurd (injector-no_kind case.topology row.part kind.0 (subst (λ (n : RowName). is_injector case.topology n.part ≡ true) (sym (some_same row name written)) is) kind.1)
+changed-within case run (Fire seq row timer mark effects) sent name may is written old =
     let kind = was_some (λ (kind : Kind). effects_of_timer kind row.key (row_of case.topology run row).state timer) (kind_of case.topology row.part) effects may.does in
-    absurd (injector-no_kind case.topology row.part kind.0 (subst (λ (n : RowName). is_injector case.topology n.part ≡ true) (sym (some_same row (record { part = part; key = [] }) written)) is) kind.1)
-changed-within case run (Ack seq row id) sent part may is written old = old
-changed-within case run (Purge seq row floor) sent part may is written old = old
+    absurd (injector-no_kind case.topology row.part kind.0 (subst (λ (n : RowName). is_injector case.topology n.part ≡ true) (sym (some_same row name written)) is) kind.1)
+changed-within case run (Ack seq row id) sent name may is written old = old
+changed-within case run (Purge seq row floor) sent name may is written old = old
 
--- after each legal history no injector has injected more lines than its file has
+-- after each legal history no row of an injector has injected more lines than the injector's file has
 pub legal-within : (case : CaseShape) (history : List Entry) → IsLegal case history → AreCursorsWithin case (run_of case.topology history)
 legal-within case = along_history case (λ done run. AreCursorsWithin case run)
     (λ done run entry within may. record {
-      each = λ part is. row_of-step case.topology run entry (record { part = part; key = [] }) (λ (c : Contents). cursor_in c.state ≤ length (source_of case part)) (within.each part is)
-          (λ written. changed-within case run entry (deliveries_of case.topology run.made run.next entry) part may is written (within.each part is));
+      each = λ name is. row_of-step case.topology run entry name (λ (c : Contents). cursor_in c.state ≤ length (source_of case name.part)) (within.each name is)
+          (λ written. changed-within case run entry (deliveries_of case.topology run.made run.next entry) name may is written (within.each name is));
     })
-    (record { each = λ part is. start part is })
+    (record { each = λ name is. start name is })
   where
-    start : (part : ℕ) → is_injector case.topology part ≡ true → cursor_of case empty_run part ≤ length (source_of case part)
-    start part is = let none : cursor_of case empty_run part ≡ 0 = at_first (kind_of case.topology part) refl in omega (arith, none)
+    start : (name : RowName) → is_injector case.topology name.part ≡ true → cursor_in (row_of case.topology empty_run name).state ≤ length (source_of case name.part)
+    start name is = let none : cursor_in (row_of case.topology empty_run name).state ≡ 0 = at_first (kind_of case.topology name.part) refl in omega (arith, none)
       where
-        at_first : (o : Option Kind) → kind_of case.topology part ≡ o → cursor_in (option_map_or Rattle.computations.specs.Handlers.fresh_state o (states.Injector 0)) ≡ 0
+        at_first : (o : Option Kind) → kind_of case.topology name.part ≡ o → cursor_in (option_map_or Rattle.computations.specs.Handlers.fresh_state o (states.Injector 0)) ≡ 0
         at_first None of = refl
-        at_first (Some kind) of = absurd (injector-no_kind case.topology part kind is of)
+        at_first (Some kind) of = absurd (injector-no_kind case.topology name.part kind is of)
 
 -- ---- a finished run
 
 -- lists of which nothing comes are empty each
-flat_map-nil : {A X : Type 0} (f : A → List X) (rows : List A) → flat_map f rows ≡ [] → AllByRecursion (λ a. f a ≡ []) rows
+pub flat_map-nil : {A X : Type 0} (f : A → List X) (rows : List A) → flat_map f rows ≡ [] → AllByRecursion (λ a. f a ≡ []) rows
 flat_map-nil f [] none = tt
 flat_map-nil {A} {X} f (a ∷ rows) none = let parts = both (f a) none in (parts.0, flat_map-nil f rows parts.1)
   where
@@ -100,12 +98,12 @@ flat_map-nil {A} {X} f (a ∷ rows) none = let parts = both (f a) none in (parts
     both (x ∷ xs) e = cc
 
 -- a list of no length is empty
-no_length : {X : Type 0} (xs : List X) → length xs ≡ 0 → xs ≡ []
+pub no_length : {X : Type 0} (xs : List X) → length xs ≡ 0 → xs ≡ []
 no_length [] none = refl
 no_length (x ∷ xs) none = absurd (omega (arith, none))
 
 -- where a filter leaves nothing, nothing passes
-filter-nil : {X : Type 0} (test : X → Bool) (xs : List X) → filter test xs ≡ [] → AllByRecursion (λ x. test x ≡ false) xs
+pub filter-nil : {X : Type 0} (test : X → Bool) (xs : List X) → filter test xs ≡ [] → AllByRecursion (λ x. test x ≡ false) xs
 filter-nil test [] none = tt
 filter-nil test (x ∷ xs) none =
     elim (test x) as (λ b. test x ≡ b → cond b (x ∷ filter test xs) (filter test xs) ≡ [] → AllByRecursion (λ y. test y ≡ false) (x ∷ xs)) [
@@ -125,7 +123,7 @@ range-each P a (suc n) k each from to = elim (cases_lt a k) [
 pub finished-done : (case : CaseShape) (history : List Entry) → IsLegal case history → IsFinished case (run_of case.topology history) → IsDone case (run_of case.topology history)
 finished-done case history legal finished = record {
   injected = λ part less.
-      let within = (legal-within case history legal).each part (lt-ltb part (injectors_of case.topology) less) in
+      let within = (legal-within case history legal).each (record { part = part; key = [] }) (lt-ltb part (injectors_of case.topology) less) in
       let past = ltb-false (cursor_of case run part) (length (source_of case part))
       (range-each (λ part. has_line case run part ≡ false) 0 (injectors_of case.topology) part
       (filter-nil (has_line case run) (range_with_len 0 (injectors_of case.topology)) (no_length (injectors_left case run) (omega (arith, finished)))) (omega arith) (omega (arith, less))) in
@@ -172,8 +170,13 @@ range-but_one p q a (suc n) k same from to = elim (cases_lt a k) [
   | inl less ↦
       let agree : p a ≡ q a = same a (λ e. omega (arith, e, less)) in
       let ones : one_if (p a) ≡ one_if (q a) = ap one_if agree in
-      omega (arith, ones, range-but_one p q (a + 1) n k same (omega (arith, less)) (omega (arith, to)),
-      length-filter-cons p a (range_with_len (a + 1) n), length-filter-cons q a (range_with_len (a + 1) n))
+      omega (
+        arith,
+        ones,
+        range-but_one p q (a + 1) n k same (omega (arith, less)) (omega (arith, to)),
+        length-filter-cons p a (range_with_len (a + 1) n),
+        length-filter-cons q a (range_with_len (a + 1) n),
+      )
   | inr le ↦
       let here : a ≡ k = omega (arith, from, le) in
       let rest : length (filter p (range_with_len (a + 1) n)) ≡ length (filter q (range_with_len (a + 1) n)) =

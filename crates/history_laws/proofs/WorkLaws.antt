@@ -1,7 +1,7 @@
 -- Work that is not late never gets older: what one more entry makes of a bound of it.
 use Rattle.std.proofs.Common.{◌≡◌, ℕ, zero, suc, ◌+◌, ◌<◌, ◌≤◌, ◌==◌, ◌&&◌, Bool, true, false, cond, List, [], ◌∷◌, ◌++◌, map, refl, sym, ◌∙◌, ap, subst, arith, inl, inr}
-use Rattle.std.specs.Prelude.{⊤, ◌⊎◌, Option, Some, None, IsTrue, Contains, All, MatchBool, filter, not, nat_lt, slice_get, unwrap_or}
-use Rattle.std.specs.Option.{option_map, option_map_or}
+use Rattle.std.specs.Prelude.{◌⊎◌, Option, Some, None, Contains, MatchBool, not, nat_lt, slice_get}
+use Rattle.std.specs.Option.{option_map_or}
 use Rattle.std.specs.List.{AllByRecursion}
 use Rattle.std.specs.Cmp.{first_so, second_so}
 use Rattle.std.proofs.lemmas.Bool.{eqb-true, eq-eqb, ltb-false, both_ways}
@@ -21,20 +21,20 @@ use Rattle.mw_types.specs.declared.entry.Entry.TheVariants.{Claim, Inject, Handl
 use Rattle.mw_types.specs.Outcomes.{Outcome}
 use Rattle.injector.specs.Sources.{Source, SourceLine, IsSource, stated_at}
 use Rattle.topology.specs.declared.subscription.Subscription.{Subscription}
-use Rattle.topology.specs.Shapes.{Shape, parts_of, injectors_of, consumers_of, feeds_of, kind_of}
+use Rattle.topology.specs.Shapes.{Shape, parts_of, injectors_of, feeds_of, kind_of}
 use Rattle.computations.specs.Handlers.{effects_of_record, effects_of_timer}
 use Rattle.row_parts.specs.Contents.{Contents, set_again, is_timer, same_id}
-use Rattle.run_history.specs.Cases.{CaseShape, is_injector, source_of, record_of}
-use Rattle.run_history.specs.Made.{found_delivery, row_written, late_cause, deliveries_of, deliveries_made}
+use Rattle.run_history.specs.Cases.{CaseShape, is_injector, source_of}
+use Rattle.run_history.specs.Made.{row_written, late_cause, deliveries_of, deliveries_made}
 use Rattle.run_history.specs.Runs.{Run, row_of, followed, changed, advanced, still_unhandled}
 use Rattle.run_history.specs.Watermarks.{cursor_in, cursor_of, source_mark}
 use Rattle.run_history.specs.Legal.{MayFollow}
 use Rattle.history_laws.specs.Finished.{handles}
 use Rattle.history_laws.specs.Inputs.{IsRunnable}
-use Rattle.history_laws.proofs.Lists.{none_some, some_same, each-append, each-all, each-weaker, each-filter, find-each}
+use Rattle.history_laws.proofs.Lists.{none_some, some_same, each-append, each-weaker, each-filter, find-each}
 use Rattle.history_laws.proofs.Made.{deliveries_made-each}
 use Rattle.history_laws.proofs.FeedLaws.{consumers-fed, injector-no_kind}
-use Rattle.history_laws.proofs.HandlerBounds.{IsAfter, IsTimerAfter, IsProductionAfter}
+use Rattle.history_laws.proofs.HandlerBounds.{IsTimerAfter, IsProductionAfter}
 use Rattle.history_laws.proofs.IdLaws.{AreIds, waits_as_made, still_unhandled-filter}
 use Rattle.history_laws.proofs.PendingLaws.{was_some, kind-there}
 use Rattle.history_laws.proofs.RowSteps.{row_of-step}
@@ -90,7 +90,7 @@ made-from shape part productions late commit x reader there from =
     each (p ∷ ps) from = ((λ fed on_time. (from fed on_time).0), each ps (λ fed on_time. (from fed on_time).1))
 
 -- productions that are after a cause are after what the cause is after
-productions-from : (x stamp : ℕ) (productions : List Production) → x ≤ stamp → AllByRecursion (IsProductionAfter stamp) productions
+pub productions-from : (x stamp : ℕ) (productions : List Production) → x ≤ stamp → AllByRecursion (IsProductionAfter stamp) productions
     → AllByRecursion (λ (p : Production). x ≤ p.stamp) productions
 productions-from x stamp productions from each = each-weaker (IsProductionAfter stamp) (λ (p : Production). x ≤ p.stamp)
     (λ p (after : IsProductionAfter stamp p). let later = after.after in omega (arith, from, later)) productions each
@@ -104,13 +104,13 @@ handled-from case run x seq row id effects may work on_time =
     (ap (λ b. b && not d.item.late) (eq-eqb d.to.part row.part (ap (λ (r : RowName). r.part) may.to_row)) ∙ on_time)
 
 -- whether the cause of a handled record is late
-handled-late : (case : CaseShape) (history : List Entry) (run : Run) (seq : ℕ) (row : RowName) (id : RecordId) (effects : Outcome) → AreIds history run
+pub handled-late : (case : CaseShape) (history : List Entry) (run : Run) (seq : ℕ) (row : RowName) (id : RecordId) (effects : Outcome) → AreIds history run
     → (may : MayFollow case run (Handle seq row id effects)) → late_cause run.made (Handle seq row id effects) ≡ may.delivery.item.late
 handled-late case history run seq row id effects ids may =
     ap (λ o. option_map_or (λ (d : Delivery). d.item.late) o false) (waits_as_made history run id may.delivery ids may.waits)
 
 -- a record that an injector injects, where it is not late, is no older than the watermark that its file states
-injected-from : (case : CaseShape) (run : Run) (seq part line : ℕ) (item : Record) → IsRunnable case → (may : MayFollow case run (Inject seq part line item))
+pub injected-from : (case : CaseShape) (run : Run) (seq part line : ℕ) (item : Record) → IsRunnable case → (may : MayFollow case run (Inject seq part line item))
     → not item.late ≡ true → source_mark case run part ≤ item.stamp
 injected-from case run seq part line item runs may on_time =
     let source = source_of case part in
@@ -165,7 +165,7 @@ sent-from case history run (Ack seq row id) x reader runs ids in_time may feeds 
 sent-from case history run (Purge seq row floor) x reader runs ids in_time may feeds = tt
 
 -- a timer that is set again is due from a bound of both settings
-set_again-from : (x : ℕ) (t u : Timer) → t.time ≡ u.time → DueFrom x t → DueFrom x u → DueFrom x (set_again t u)
+pub set_again-from : (x : ℕ) (t u : Timer) → t.time ≡ u.time → DueFrom x t → DueFrom x u → DueFrom x (set_again t u)
 set_again-from x t u same one other = by_late t.late u.late one other
   where
     by_late : (a b : Bool) → (not a ≡ true → x ≤ t.time) → (not b ≡ true → x ≤ u.time) → not (a && b) ≡ true → x ≤ u.time

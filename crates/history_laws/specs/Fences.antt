@@ -8,18 +8,14 @@ use Rattle.mw_types.specs.declared.identity.RowName.{RowName}
 use Rattle.mw_types.specs.declared.entry.Entry.{Entry}
 use Rattle.mw_types.specs.declared.entry.Entry.TheVariants.{Claim, Inject, Handle, Fire, Ack, Purge}
 use Rattle.key_intervals.specs.declared.bounds.Bounds.{Bounds}
-use Rattle.key_intervals.specs.Intervals.{covers, bounds_of}
+use Rattle.key_intervals.specs.Intervals.{covers}
 use Rattle.topology.specs.Shapes.{Shape}
-use Rattle.topology.specs.Rules.{part_cuts_of}
+use Rattle.run_history.specs.Cases.{intervals_of}
 use Rattle.run_history.specs.Made.{row_written}
 
 -- a history is the beginning of another: some entries may follow it there
 abbrev pub Begins : List Entry → List Entry → Type 0
 Begins front history = (rest : List Entry) × (front ++ rest ≡ history)
-
--- the intervals of keys of a topology, by number
-abbrev pub intervals_of : Shape → List Bounds
-intervals_of shape = bounds_of (part_cuts_of shape)
 
 -- the number of the interval that a row lies in, or none where its part is not there
 abbrev pub interval_of : Shape → RowName → Option ℕ
@@ -50,7 +46,8 @@ last_claim interval history = fold (later_claim interval) None (enumerate_from 0
 -- an entry after these carries the number of the last claim of its row's interval; a claim may always come
 abbrev pub IsUnderLastClaim : Shape → List Entry → Entry → Type 0
 IsUnderLastClaim shape before entry = (name : RowName) → row_written entry ≡ Some name →
-    option_and_then (λ (interval : ℕ). last_claim interval before) (interval_of shape name) ≡ sequencer_of entry
+    option_and_then (λ (interval : ℕ). last_claim interval before) (interval_of shape name)
+    ≡ sequencer_of entry
 
 -- the history is fenced: each entry that is on a row carries the number of the last claim of the row's interval
 abbrev pub IsFenced : Shape → List Entry → Type 0
@@ -65,7 +62,8 @@ CarryNot seq entries = All (λ (entry : Entry). sequencer_of entry ≢ Some seq)
 -- interval, or all of it where no claim has overtaken this one
 abbrev pub known : ℕ → ℕ → List Entry → List Entry
 known interval seq history =
-    take (seq + 1) history ++ take_while (λ (entry : Entry). not (is_claim interval entry)) (drop (seq + 1) history)
+    take (seq + 1) history
+    ++ take_while (λ (entry : Entry). not (is_claim interval entry)) (drop (seq + 1) history)
 
 -- a beginning of a history has seen the last claim of an interval, and all that was written under it
 pub record HasSeen (interval seq : ℕ) (front rest : List Entry) : Type 0 where

@@ -7,7 +7,7 @@ use Rattle.mw_types.specs.declared.identity.RowName.{RowName}
 use Rattle.mw_types.specs.declared.timer.Timer.{Timer}
 use Rattle.mw_types.specs.declared.delivery.Delivery.{Delivery}
 use Rattle.mw_types.specs.declared.entry.Entry.{Entry}
-use Rattle.mw_types.specs.declared.entry.Entry.TheVariants.{Claim, Inject, Handle, Fire, Ack, Purge}
+use Rattle.mw_types.specs.declared.entry.Entry.TheVariants.{Handle, Ack}
 use Rattle.topology.specs.Shapes.{injectors_of}
 use Rattle.row_parts.specs.Contents.{Contents, same_id}
 use Rattle.run_history.specs.Cases.{CaseShape, is_injector, source_of}
@@ -51,7 +51,8 @@ injectors_left case run = filter (has_line case run) (range_with_len 0 (injector
 -- how much work is left: the deliveries that are not acknowledged, the timers that are set, and the injectors
 -- that have a line left
 abbrev pub unfinished : CaseShape → Run → ℕ
-unfinished case run = length (all_pending run) + length (all_timers run) + length (injectors_left case run)
+unfinished case run =
+    length (all_pending run) + length (all_timers run) + length (injectors_left case run)
 
 -- no work is left, and each record that was handled is acknowledged
 abbrev pub IsFinished : CaseShape → Run → Type 0

@@ -13,6 +13,10 @@ use Rattle.history_laws.specs.Finished.{is_handled, is_acknowledged}
 abbrev pub is_left : List Entry → Delivery → Bool
 is_left history d = not (is_handled d.id history)
 
+-- whether a delivery is not acknowledged in a history
+abbrev pub is_unacknowledged : List Entry → Delivery → Bool
+is_unacknowledged history d = not (is_acknowledged d.id history)
+
 -- each record that is handled was made, and what waits is what was made and is not handled
 pub record TellsWhatWaits (history : List Entry) (run : Run) : Type 0 where
   pub handled : (id : RecordId) → IsTrue (is_handled id history) → IsSome (found_delivery id run.made)
@@ -33,5 +37,8 @@ pub record IsMadeOn (history : List Entry) (name : RowName) (d : Delivery) : Typ
 -- the floor is at most the commit number of each delivery that was made and is not acknowledged, and is that of one of
 -- them, or the next number where there is none
 pub record IsFloor (history : List Entry) (run : Run) (floor : ℕ) : Type 0 where
-  pub at_most : All (λ (d : Delivery). is_acknowledged d.id history ≡ false → floor ≤ d.id.commit) run.made
-  pub reached : (floor ≡ run.next) ⊎ Any (λ (d : Delivery). (is_acknowledged d.id history ≡ false) × (d.id.commit ≡ floor)) run.made
+  pub at_most : All (λ (d : Delivery). is_acknowledged d.id history ≡ false → floor ≤ d.id.commit)
+      run.made
+  pub reached : (floor ≡ run.next)
+      ⊎ Any (λ (d : Delivery). (is_acknowledged d.id history ≡ false) × (d.id.commit ≡ floor))
+      run.made

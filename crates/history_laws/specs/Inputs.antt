@@ -1,6 +1,6 @@
 -- What a run may be of. Own.
 use Rattle.std.specs.Prelude.{All}
-use Rattle.injector.specs.Sources.{Source, IsSource}
+use Rattle.injector.specs.Sources.{IsSource}
 use Rattle.topology.specs.Rules.{IsTopology}
 use Rattle.run_history.specs.Cases.{CaseShape}
 

@@ -5,3 +5,7 @@ pub mod Inputs
 pub mod Ids
 pub mod Stamps
 pub mod Stored
+pub mod Marks
+pub mod Fitting
+pub mod Overtaken
+pub mod OwnWorks

@@ -1,5 +1,5 @@
 -- What a keeper of rows has to hold after a history. Own.
-use Rattle.std.specs.Prelude.{ℕ, List, map}
+use Rattle.std.specs.Prelude.{map}
 use Rattle.mw_types.specs.declared.identity.RowName.{RowName}
 use Rattle.row_parts.specs.Contents.{Contents}
 use Rattle.row_parts.specs.Spelling.{spelling_of}

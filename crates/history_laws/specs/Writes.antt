@@ -13,7 +13,8 @@ pub record IsLawful (case : CaseShape) (history : List Entry) : Type 0 where
 
 -- an entry was worked out on a beginning of a lawful history that has seen the last claim of an interval: it is a
 -- write under that claim, and may follow the beginning
-pub record IsSeenWrite (case : CaseShape) (front rest : List Entry) (interval seq : ℕ) (entry : Entry) : Type 0 where
+pub record IsSeenWrite (case : CaseShape) (front rest : List Entry) (interval seq : ℕ)
+    (entry : Entry) : Type 0 where
   pub history : IsLawful case (front ++ rest)
   pub seen : HasSeen interval seq front rest
   pub under : IsWriteUnder case.topology interval seq entry

@@ -15,7 +15,8 @@ ghost use Rattle.history_laws.specs.Ids.{TellsWhatWaits, IsSentBy};
 
 /// Ids ascend in the order in which records were made, whether or not the history is legal.
 pub fn ids_ascend()
-    ensures next { (shape : Shape) (history : List Entry) → (run_of shape history).next ≡ length history }
+    ensures next { (shape : Shape) (history : List Entry) →
+        (run_of shape history).next ≡ length history }
 
     // What an entry makes has the entry's number, so what was made has a number below the next.
     ensures of_entry { (shape : Shape) (made : List Delivery) (commit : ℕ) (entry : Entry) →
@@ -40,13 +41,16 @@ pub fn ids_tell_what_waits()
         let run = run_of case.topology history in All (IsSentBy case.topology run) run.unhandled }
 {}
 
-/// After a legal history a record that was made is finished, in the row to which it goes, exactly where it is
-/// handled, and waits there where it is not.
+/// After a legal history a record that was made is finished, in the row to which it goes, exactly
+/// where it is handled, and waits there where it is not.
 pub fn ids_tell_what_is_finished()
-    ensures finished { (case : CaseShape) (history : List Entry) (d : Delivery) → IsLegal case history →
-        let run = run_of case.topology history in found_delivery d.id run.made ≡ Some d →
+    ensures finished { (case : CaseShape) (history : List Entry) (d : Delivery) →
+        IsLegal case history → let run = run_of case.topology history in
+        found_delivery d.id run.made ≡ Some d →
         is_finished d.id (row_of case.topology run d.to) ≡ is_handled d.id history }
-    ensures waits { (case : CaseShape) (history : List Entry) (d : Delivery) → IsLegal case history →
-        let run = run_of case.topology history in found_delivery d.id run.made ≡ Some d →
-        is_finished d.id (row_of case.topology run d.to) ≡ false → found_delivery d.id run.unhandled ≡ Some d }
+    ensures waits { (case : CaseShape) (history : List Entry) (d : Delivery) →
+        IsLegal case history → let run = run_of case.topology history in
+        found_delivery d.id run.made ≡ Some d →
+        is_finished d.id (row_of case.topology run d.to) ≡ false →
+        found_delivery d.id run.unhandled ≡ Some d }
 {}

@@ -15,8 +15,8 @@ pub fn rows_change_by_their_entries()
         row_in (run_of shape (history ++ entry ∷ [])) name ≡ row_in (run_of shape history) name }
 {}
 
-/// A row that was read from a beginning of a fenced history, under the last claim of its interval, is the row of
-/// the whole history, where the beginning has all that was written under the claim.
+/// A row that was read from a beginning of a fenced history, under the last claim of its interval,
+/// is the row of the whole history, where the beginning has all that was written under the claim.
 pub fn rows_are_as_seen()
     ensures as_seen { (shape : Shape) (front rest : List Entry) (interval seq : ℕ) →
         IsFenced shape (front ++ rest) → HasSeen interval seq front rest →
@@ -24,11 +24,13 @@ pub fn rows_are_as_seen()
         row_in (run_of shape (front ++ rest)) name ≡ row_in (run_of shape front) name }
 {}
 
-/// A row, as it is known under a claim of its interval, is the same by a beginning of a fenced history as by the whole,
-/// where the beginning has the claim and all that was written under it; later claims may have overtaken this one.
+/// A row, as it is known under a claim of its interval, is the same by a beginning of a fenced
+/// history as by the whole, where the beginning has the claim and all that was written under it;
+/// later claims may have overtaken this one.
 pub fn rows_are_as_known()
     ensures as_known { (shape : Shape) (front rest : List Entry) (interval seq worker : ℕ) →
-        IsFenced shape (front ++ rest) → slice_get front seq ≡ Some (Claim worker interval) → CarryNot seq rest →
+        IsFenced shape (front ++ rest) → slice_get front seq ≡ Some (Claim worker interval) →
+        CarryNot seq rest →
         (name : RowName) → interval_of shape name ≡ Some interval →
         row_in (run_of shape (known interval seq (front ++ rest))) name
         ≡ row_in (run_of shape (known interval seq front)) name }

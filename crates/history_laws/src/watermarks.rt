@@ -12,6 +12,6 @@ ghost use Rattle.history_laws.specs.Inputs.{IsRunnable};
 pub fn low_watermark_never_falls()
     ensures low { (case : CaseShape) (front rest : List Entry) (part : ℕ) →
         IsRunnable case → IsLegal case (front ++ rest) → part ≤ parts_of case.topology →
-        let shape = case.topology in
-        low_watermark case (run_of shape front) part ≤ low_watermark case (run_of shape (front ++ rest)) part }
+        low_watermark case (run_of case.topology front) part
+        ≤ low_watermark case (run_of case.topology (front ++ rest)) part }
 {}

@@ -8,14 +8,14 @@ ghost use Rattle.run_history.specs.Legal.{MayClaim, MayFollow};
 ghost use Rattle.history_laws.specs.Inputs.{IsRunnable};
 ghost use Rattle.history_laws.specs.Writes.{IsLawful, IsSeenWrite};
 
-/// A write that was worked out on a beginning of the history may follow the whole of it, where the beginning has
-/// seen the last claim of the write's interval, and all that was written under that claim.
+/// A write that was worked out on a beginning of the history may follow the whole of it, where the
+/// beginning has seen the last claim of the write's interval, and all that was written under it.
 pub fn seen_writes_are_lawful()
-    ensures may { (case : CaseShape) (front rest : List Entry) (interval seq : ℕ) (entry : Entry) →
-        IsRunnable case → IsSeenWrite case front rest interval seq entry →
+    ensures may { (case : CaseShape) (front rest : List Entry) (interval seq : ℕ)
+        (entry : Entry) → IsRunnable case → IsSeenWrite case front rest interval seq entry →
         MayFollow case (run_of case.topology (front ++ rest)) entry }
-    ensures lawful { (case : CaseShape) (front rest : List Entry) (interval seq : ℕ) (entry : Entry) →
-        IsRunnable case → IsSeenWrite case front rest interval seq entry →
+    ensures lawful { (case : CaseShape) (front rest : List Entry) (interval seq : ℕ)
+        (entry : Entry) → IsRunnable case → IsSeenWrite case front rest interval seq entry →
         IsLawful case ((front ++ rest) ++ entry ∷ []) }
 {}
 

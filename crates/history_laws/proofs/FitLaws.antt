@@ -1,0 +1,228 @@
+-- Each row of a legal history fits its name.
+use Rattle.std.proofs.Common.{◌≡◌, ◌==◌, ℕ, ℤ, ◌+◌, ◌<◌, ◌≤◌, true, false, cond, Option, Some, None, List, [], length, refl, sym, subst, arith}
+use Rattle.std.specs.Prelude.{⊤, MatchOption, filter, not}
+use Rattle.std.specs.Option.{option_map_or}
+use Rattle.std.specs.List.{AllByRecursion}
+use Rattle.std.proofs.lemmas.List.Elements.{All-from_recursion}
+use Rattle.mw_types.specs.declared.identity.RowName.{RowName}
+use Rattle.mw_types.specs.declared.record.Record.{Record}
+use Rattle.mw_types.specs.declared.timer.Timer.{Timer}
+use Rattle.mw_types.specs.declared.kind.Kind.{Kind}
+use Rattle.mw_types.specs.declared.kind.Kind.TheVariants as kinds
+use Rattle.mw_types.specs.declared.state.State.{State}
+use Rattle.mw_types.specs.declared.state.State.TheVariants as states
+use Rattle.mw_types.specs.declared.state.Window.{Window}
+use Rattle.mw_types.specs.declared.state.HeldTotal.{HeldTotal}
+use Rattle.mw_types.specs.declared.delivery.Delivery.{Delivery}
+use Rattle.mw_types.specs.declared.entry.Entry.{Entry}
+use Rattle.mw_types.specs.declared.entry.Entry.TheVariants.{Claim, Inject, Handle, Fire, Ack, Purge}
+use Rattle.mw_types.specs.Outcomes.{Outcome}
+use Rattle.topology.specs.declared.subscription.Subscription.{Subscription}
+use Rattle.topology.specs.Shapes.{Shape, injectors_of, parts_of, kind_of}
+use Rattle.computations.specs.Handlers.{IsOfKind, fresh_state, unchanged, with_timer, with_record, one_more, window_end, counted, window_due, count_timer, due_time, held_with, total_due, is_spike, known_with, spike_timer, effects_of_record, effects_of_timer}
+use Rattle.row_parts.specs.Contents.{Contents, same_id}
+use Rattle.run_history.specs.Cases.{CaseShape, is_injector, fresh_of}
+use Rattle.run_history.specs.Made.{row_written, late_cause, productions_of, deliveries_of, deliveries_made}
+use Rattle.run_history.specs.Runs.{Run, run_of, row_of, followed, changed, advanced, empty_run}
+use Rattle.run_history.specs.Legal.{MayFollow, IsLegal}
+use Rattle.history_laws.specs.Fitting.{IsCursor, IsStateOf, IsSendable, FitsName}
+use Rattle.history_laws.proofs.Lists.{some_same, each-append, each-all, each-weaker, each-filter, each-both}
+use Rattle.history_laws.proofs.Along.{along_history}
+use Rattle.history_laws.proofs.Made.{deliveries_made-each}
+use Rattle.history_laws.proofs.FeedLaws.{consumers-there, injector-no_kind}
+use Rattle.history_laws.proofs.IdLaws.{next-length}
+use Rattle.history_laws.proofs.PendingLaws.{was_some}
+use Rattle.history_laws.proofs.RowSteps.{row_of-step, pending-in_order, row_of-in_order}
+use Rattle.history_laws.proofs.UnfinishedLaws.{legal-within}
+
+-- ---- handlers keep the kind of a state
+
+-- a window that closes keeps the kind
+count_timer-kind : (size : ℕ) (key : List ℕ) (late : ℕ) (windows : List Window) (due : Option Window) → IsOfKind (kinds.Count size) (count_timer key late windows due).state
+count_timer-kind size key late windows None = tt
+count_timer-kind size key late windows (Some due) = tt
+
+-- a total that is due keeps the kind
+spike_timer-kind : (last times : ℕ) (key : List ℕ) (late : ℕ) (held : List HeldTotal) (known : List ℤ) (due : Option HeldTotal)
+    → IsOfKind (kinds.Spike last times) (spike_timer last times key late held known due).state
+spike_timer-kind last times key late held known None = tt
+spike_timer-kind last times key late held known (Some due) =
+    let state = states.Spike late (filter (λ h. not (h.stamp == due.stamp)) held) (known_with last known due.value) in
+    elim (is_spike last times known due.value) as (λ b. IsOfKind (kinds.Spike last times) (cond b (with_record state key (due_time due.stamp) due.value) (unchanged state)).state) [ true ↦ tt | false ↦ tt ]
+
+-- a record keeps the kind
+record-kind : (kind : Kind) (key : List ℕ) (state : State) (item : Record) → IsOfKind kind state → IsOfKind kind (effects_of_record kind key state item).state
+record-kind (kinds.Count size) key (states.Count late windows) item of =
+    elim item.late as (λ b. IsOfKind (kinds.Count size) (cond b (unchanged (states.Count (one_more late) windows)) (with_timer (states.Count late (counted windows (window_end size item.stamp))) (window_end size item.stamp) item)).state) [ true ↦ tt | false ↦ tt ]
+record-kind (kinds.Spike last times) key (states.Spike late held known) item of =
+    elim item.late as (λ b. IsOfKind (kinds.Spike last times) (cond b (unchanged (states.Spike (one_more late) held known)) (with_timer (states.Spike late (held_with held item.stamp item.value) known) (due_time item.stamp) item)).state) [ true ↦ tt | false ↦ tt ]
+record-kind kinds.Pass key (states.Pass late) item of = tt
+record-kind (kinds.Count size) key (states.Injector cursor) item of = absurd of
+record-kind (kinds.Count size) key (states.Spike late held known) item of = absurd of
+record-kind (kinds.Count size) key (states.Pass late) item of = absurd of
+record-kind (kinds.Spike last times) key (states.Injector cursor) item of = absurd of
+record-kind (kinds.Spike last times) key (states.Count late windows) item of = absurd of
+record-kind (kinds.Spike last times) key (states.Pass late) item of = absurd of
+record-kind kinds.Pass key (states.Injector cursor) item of = absurd of
+record-kind kinds.Pass key (states.Count late windows) item of = absurd of
+record-kind kinds.Pass key (states.Spike late held known) item of = absurd of
+
+-- and so does a timer
+timer-kind : (kind : Kind) (key : List ℕ) (state : State) (timer : Timer) → IsOfKind kind state → IsOfKind kind (effects_of_timer kind key state timer).state
+timer-kind (kinds.Count size) key (states.Count late windows) timer of = count_timer-kind size key late windows (window_due windows timer)
+timer-kind (kinds.Spike last times) key (states.Spike late held known) timer of = spike_timer-kind last times key late held known (total_due held timer)
+timer-kind kinds.Pass key state timer of = of
+timer-kind (kinds.Count size) key (states.Injector cursor) timer of = absurd of
+timer-kind (kinds.Count size) key (states.Spike late held known) timer of = absurd of
+timer-kind (kinds.Count size) key (states.Pass late) timer of = absurd of
+timer-kind (kinds.Spike last times) key (states.Injector cursor) timer of = absurd of
+timer-kind (kinds.Spike last times) key (states.Count late windows) timer of = absurd of
+timer-kind (kinds.Spike last times) key (states.Pass late) timer of = absurd of
+
+-- a fresh state is of its kind
+fresh-kind : (kind : Kind) → IsOfKind kind (fresh_state kind)
+fresh-kind (kinds.Count size) = tt
+fresh-kind (kinds.Spike last times) = tt
+fresh-kind kinds.Pass = tt
+
+-- a fresh row's state is of the kind of its part
+fresh_of-kind : (shape : Shape) (part : ℕ) → IsStateOf shape part (fresh_of shape part)
+fresh_of-kind shape part = by_kind (kind_of shape part)
+  where
+    by_kind : (o : Option Kind) → MatchOption o (IsCursor (option_map_or fresh_state o (states.Injector 0))) (λ kind. IsOfKind kind (option_map_or fresh_state o (states.Injector 0)))
+    by_kind None = tt
+    by_kind (Some kind) = fresh-kind kind
+
+-- a state of a computation is of its kind
+pub of_kind : (shape : Shape) (part : ℕ) (kind : Kind) (state : State) → kind_of shape part ≡ Some kind → IsStateOf shape part state → IsOfKind kind state
+of_kind shape part kind state is of = subst (λ o. MatchOption o (IsCursor state) (λ kind. IsOfKind kind state)) is of
+
+-- and back
+kind_of-state : (shape : Shape) (part : ℕ) (kind : Kind) (state : State) → kind_of shape part ≡ Some kind → IsOfKind kind state → IsStateOf shape part state
+kind_of-state shape part kind state is of = subst (λ o. MatchOption o (IsCursor state) (λ kind. IsOfKind kind state)) (sym is) of
+
+-- an injector's next state is of the same kind of part
+advanced-kind : (shape : Shape) (part : ℕ) (state : State) → IsStateOf shape part state → IsStateOf shape part (advanced state)
+advanced-kind shape part (states.Injector cursor) of = by_kind (kind_of shape part) of
+  where
+    by_kind : (o : Option Kind) → MatchOption o (IsCursor (states.Injector cursor)) (λ kind. IsOfKind kind (states.Injector cursor))
+        → MatchOption o (IsCursor (states.Injector (cursor + 1))) (λ kind. IsOfKind kind (states.Injector (cursor + 1)))
+    by_kind None of = tt
+    by_kind (Some (kinds.Count size)) of = absurd of
+    by_kind (Some (kinds.Spike last times)) of = absurd of
+    by_kind (Some kinds.Pass) of = absurd of
+advanced-kind shape part (states.Count late windows) of = of
+advanced-kind shape part (states.Spike late held known) of = of
+advanced-kind shape part (states.Pass late) of = of
+
+-- the state that an entry leaves in its row is of the kind of the row's part
+changed-kind : (case : CaseShape) (run : Run) (entry : Entry) (sent : List Delivery) (name : RowName) → MayFollow case run entry → row_written entry ≡ Some name
+    → IsStateOf case.topology name.part (row_of case.topology run name).state → IsStateOf case.topology name.part (changed entry sent (row_of case.topology run name)).state
+changed-kind case run (Claim worker interval) sent name may written of = of
+changed-kind case run (Inject seq part line item) sent name may written of = advanced-kind case.topology name.part (row_of case.topology run name).state of
+changed-kind case run (Handle seq row id effects) sent name may written of =
+    let kind = was_some (λ (kind : Kind). effects_of_record kind row.key (row_of case.topology run row).state may.delivery.item) (kind_of case.topology row.part) effects may.does in
+    let here : IsStateOf case.topology row.part (row_of case.topology run row).state = subst (λ (n : RowName). IsStateOf case.topology n.part (row_of case.topology run n).state) (sym (some_same row name written)) of in
+    subst (λ (n : RowName). IsStateOf case.topology n.part effects.state) (some_same row name written)
+    (kind_of-state case.topology row.part kind.0 effects.state kind.1
+    (subst (λ (o : Outcome). IsOfKind kind.0 o.state) kind.2
+    (record-kind kind.0 row.key (row_of case.topology run row).state may.delivery.item (of_kind case.topology row.part kind.0 (row_of case.topology run row).state kind.1 here))))
+changed-kind case run (Fire seq row timer mark effects) sent name may written of =
+    let kind = was_some (λ (kind : Kind). effects_of_timer kind row.key (row_of case.topology run row).state timer) (kind_of case.topology row.part) effects may.does in
+    let here : IsStateOf case.topology row.part (row_of case.topology run row).state = subst (λ (n : RowName). IsStateOf case.topology n.part (row_of case.topology run n).state) (sym (some_same row name written)) of in
+    subst (λ (n : RowName). IsStateOf case.topology n.part effects.state) (some_same row name written)
+    (kind_of-state case.topology row.part kind.0 effects.state kind.1
+    (subst (λ (o : Outcome). IsOfKind kind.0 o.state) kind.2
+    (timer-kind kind.0 row.key (row_of case.topology run row).state timer (of_kind case.topology row.part kind.0 (row_of case.topology run row).state kind.1 here))))
+changed-kind case run (Ack seq row id) sent name may written of = of
+changed-kind case run (Purge seq row floor) sent name may written of = of
+
+-- ---- injectors set no timer
+
+-- an entry sets no timer in an injector's row
+changed-no_timer : (case : CaseShape) (run : Run) (entry : Entry) (sent : List Delivery) (name : RowName) → MayFollow case run entry → row_written entry ≡ Some name
+    → is_injector case.topology name.part ≡ true → (row_of case.topology run name).timers ≡ [] → (changed entry sent (row_of case.topology run name)).timers ≡ []
+changed-no_timer case run (Claim worker interval) sent name may written is none = none
+changed-no_timer case run (Inject seq part line item) sent name may written is none = none
+changed-no_timer case run (Handle seq row id effects) sent name may written is none =
+    let kind = was_some (λ (kind : Kind). effects_of_record kind row.key (row_of case.topology run row).state may.delivery.item) (kind_of case.topology row.part) effects may.does in
+    absurd (injector-no_kind case.topology row.part kind.0 (subst (λ (n : RowName). is_injector case.topology n.part ≡ true) (sym (some_same row name written)) is) kind.1)
+changed-no_timer case run (Fire seq row timer mark effects) sent name may written is none =
+    let kind = was_some (λ (kind : Kind). effects_of_timer kind row.key (row_of case.topology run row).state timer) (kind_of case.topology row.part) effects may.does in
+    absurd (injector-no_kind case.topology row.part kind.0 (subst (λ (n : RowName). is_injector case.topology n.part ≡ true) (sym (some_same row name written)) is) kind.1)
+changed-no_timer case run (Ack seq row id) sent name may written is none = none
+changed-no_timer case run (Purge seq row floor) sent name may written is none = none
+
+-- ---- what is pending goes to computations
+
+-- a delivery goes to a computation that is there
+abbrev GoesToReader : Shape → Delivery → Type 0
+GoesToReader shape d = (injectors_of shape ≤ d.to.part) × (d.to.part < parts_of shape)
+
+-- what an entry makes goes to computations
+sent-read : (shape : Shape) (made : List Delivery) (commit : ℕ) (entry : Entry) → AllByRecursion (GoesToReader shape) (deliveries_of shape made commit entry)
+sent-read shape made commit entry = by_row (row_written entry)
+  where
+    by_row : (w : Option RowName) → AllByRecursion (GoesToReader shape)
+        (option_map_or (λ (row : RowName). deliveries_made shape row.part (productions_of entry) (late_cause made entry) commit) w [])
+    by_row None = tt
+    by_row (Some row) = deliveries_made-each shape row.part (productions_of entry) (late_cause made entry) commit
+        (λ (s : Subscription). (injectors_of shape ≤ s.to) × (s.to < parts_of shape)) (λ p. ⊤) (λ to item. (injectors_of shape ≤ to.part) × (to.part < parts_of shape))
+        (λ s p there _. there) (consumers-there shape row.part) (each-all (λ p. ⊤) (λ p. tt) (productions_of entry))
+
+-- what an entry leaves pending goes to computations
+changed-read : (shape : Shape) (entry : Entry) (sent : List Delivery) (row : Contents) → AllByRecursion (GoesToReader shape) row.pending → AllByRecursion (GoesToReader shape) sent
+    → AllByRecursion (GoesToReader shape) (changed entry sent row).pending
+changed-read shape (Claim worker interval) sent row old new = old
+changed-read shape (Inject seq part line item) sent row old new = each-append (GoesToReader shape) row.pending sent old new
+changed-read shape (Handle seq name id effects) sent row old new = each-append (GoesToReader shape) row.pending sent old new
+changed-read shape (Fire seq name timer mark effects) sent row old new = each-append (GoesToReader shape) row.pending sent old new
+changed-read shape (Ack seq name id) sent row old new = each-filter (GoesToReader shape) (λ (d : Delivery). not (same_id d.id id)) row.pending old
+changed-read shape (Purge seq name floor) sent row old new = old
+
+-- ---- all together
+
+-- each row's state is of the kind of its part, injectors have no timer, and what is pending goes to computations
+pub record AreOfKind (case : CaseShape) (run : Run) : Type 0 where
+  pub states : (name : RowName) → IsStateOf case.topology name.part (row_of case.topology run name).state
+  pub no_timers : (name : RowName) → is_injector case.topology name.part ≡ true → (row_of case.topology run name).timers ≡ []
+  pub reads : (name : RowName) → AllByRecursion (GoesToReader case.topology) (row_of case.topology run name).pending
+
+-- one more entry keeps it so
+pub AreOfKind-followed : (case : CaseShape) (run : Run) (entry : Entry) → AreOfKind case run → MayFollow case run entry → AreOfKind case (followed case.topology run entry)
+AreOfKind-followed case run entry are may =
+    let sent = deliveries_of case.topology run.made run.next entry in record {
+      states = λ name. row_of-step case.topology run entry name (λ (c : Contents). IsStateOf case.topology name.part c.state) (are.states name)
+          (λ written. changed-kind case run entry sent name may written (are.states name));
+      no_timers = λ name is. row_of-step case.topology run entry name (λ (c : Contents). c.timers ≡ []) (are.no_timers name is)
+          (λ written. changed-no_timer case run entry sent name may written is (are.no_timers name is));
+      reads = λ name. row_of-step case.topology run entry name (λ (c : Contents). AllByRecursion (GoesToReader case.topology) c.pending) (are.reads name)
+          (λ written. changed-read case.topology entry sent (row_of case.topology run name) (are.reads name) (sent-read case.topology run.made run.next entry));
+    }
+
+-- before any entry it is so
+pub AreOfKind-empty : (case : CaseShape) → AreOfKind case empty_run
+AreOfKind-empty case = record { states = λ name. fresh_of-kind case.topology name.part; no_timers = λ name is. refl; reads = λ name. tt }
+
+-- after each legal history it is so
+pub legal-of_kind : (case : CaseShape) (history : List Entry) → IsLegal case history → AreOfKind case (run_of case.topology history)
+legal-of_kind case = along_history case (λ done run. AreOfKind case run) (λ done run entry are may. AreOfKind-followed case run entry are may)
+    (AreOfKind-empty case)
+
+-- each row of a legal history fits its name
+pub legal-fits : (case : CaseShape) (history : List Entry) (name : RowName) → IsLegal case history
+    → FitsName case (length history) name (row_of case.topology (run_of case.topology history) name)
+legal-fits case history name legal =
+    let run = run_of case.topology history in
+    let are = legal-of_kind case history legal in
+    let pending = (row_of case.topology run name).pending in record {
+      state = are.states name;
+      lines = (legal-within case history legal).each name;
+      no_timer = are.no_timers name;
+      pending = All-from_recursion (IsSendable case.topology (length history)) pending
+          (each-weaker (λ (d : Delivery). (d.id.commit < run.next) × GoesToReader case.topology d) (IsSendable case.topology (length history))
+          (λ d (both : (d.id.commit < run.next) × GoesToReader case.topology d).
+          let less = both.0 in record { made = omega (arith, less, next-length case.topology history); reads = both.1.0; there = both.1.1 }) pending
+          (each-both (λ (d : Delivery). d.id.commit < run.next) (GoesToReader case.topology) pending
+          (row_of-in_order case.topology run name (pending-in_order case.topology history)).below (are.reads name)));
+    }

@@ -1,0 +1,155 @@
+-- Own work never gets older, where nothing above it is older: what one more entry makes of a bound of it.
+use Rattle.std.proofs.Common.{◌≡◌, ℕ, ◌≤◌, Bool, true, List, [], ◌∷◌, refl, sym, ◌∙◌, ap, subst, arith}
+use Rattle.std.specs.Prelude.{⊤, Some, not}
+use Rattle.std.specs.List.{AllByRecursion}
+use Rattle.std.proofs.lemmas.List.Elements.{All-contains, All-from_recursion}
+use Rattle.mw_types.specs.declared.identity.RecordId.{RecordId}
+use Rattle.mw_types.specs.declared.identity.RowName.{RowName}
+use Rattle.mw_types.specs.declared.record.Record.{Record}
+use Rattle.mw_types.specs.declared.record.Production.{Production}
+use Rattle.mw_types.specs.declared.delivery.Delivery.{Delivery}
+use Rattle.mw_types.specs.declared.entry.Entry.{Entry}
+use Rattle.mw_types.specs.declared.entry.Entry.TheVariants.{Claim, Inject, Handle, Fire, Ack, Purge}
+use Rattle.mw_types.specs.Outcomes.{Outcome}
+use Rattle.topology.specs.Shapes.{Shape, consumers_of, feeds_of}
+use Rattle.row_parts.specs.Contents.{Contents, is_timer, same_id}
+use Rattle.run_history.specs.Cases.{CaseShape, is_injector}
+use Rattle.run_history.specs.Made.{found_delivery, row_written, late_cause, deliveries_of, deliveries_made}
+use Rattle.run_history.specs.Runs.{Run, row_of, followed, changed}
+use Rattle.run_history.specs.Watermarks.{source_mark}
+use Rattle.run_history.specs.Legal.{MayFollow}
+use Rattle.history_laws.specs.Inputs.{IsRunnable}
+use Rattle.history_laws.specs.Ids.{IsSentBy}
+use Rattle.history_laws.proofs.Lists.{some_same, each-append, each-all, each-weaker, each-filter, find-each}
+use Rattle.history_laws.proofs.Made.{deliveries_made-each}
+use Rattle.history_laws.proofs.HandlerBounds.{IsTimerAfter}
+use Rattle.history_laws.proofs.IdLaws.{AreIds}
+use Rattle.history_laws.proofs.PendingLaws.{AreSent}
+use Rattle.history_laws.proofs.RowSteps.{row_of-step}
+use Rattle.history_laws.proofs.StampLaws.{AreInTime, with_timers-each, at-each, handle-after, fire-after}
+use Rattle.history_laws.proofs.WorkLaws.{DueFrom, set_again-from, productions-from, handled-late, injected-from, source_mark-followed}
+
+-- a delivery, where it is not late, has at least this timestamp
+abbrev pub PendsFrom : ℕ → Delivery → Type 0
+PendsFrom x d = not d.item.late ≡ true → x ≤ d.item.stamp
+
+-- a row has no older work that is not late
+pub record IsRowFrom (x : ℕ) (row : Contents) : Type 0 where
+  pub timers : AllByRecursion (DueFrom x) row.timers
+  pub pending : AllByRecursion (PendsFrom x) row.pending
+
+-- some rows of a part have no older work, and where the part is an injector its file states no earlier watermark
+pub record IsOwnFrom (case : CaseShape) (run : Run) (x part : ℕ) (Has : RowName → Type 0) : Type 0 where
+  pub rows : (name : RowName) → Has name → IsRowFrom x (row_of case.topology run name)
+  pub mark : is_injector case.topology part ≡ true → x ≤ source_mark case run part
+
+-- the rows of a part
+abbrev pub OfPart : ℕ → RowName → Type 0
+OfPart part name = name.part ≡ part
+
+-- a part has no older work
+abbrev pub IsPartFrom : CaseShape → Run → ℕ → ℕ → Type 0
+IsPartFrom case run x part = IsOwnFrom case run x part (OfPart part)
+
+-- a delivery that waits for a part is no older than a bound of the work of what feeds the part
+pub waits-from : (case : CaseShape) (run : Run) (x : ℕ) (id : RecordId) (d : Delivery) → AreSent case.topology run
+    → AllByRecursion (IsPartFrom case run x) (feeds_of case.topology d.to.part) → found_delivery id run.unhandled ≡ Some d → PendsFrom x d
+waits-from case run x id d sent feeds waits =
+    let by = find-each (IsSentBy case.topology run) (λ (e : Delivery). same_id e.id id) run.unhandled d sent.each waits in
+    let work : IsPartFrom case run x by.sender.part =
+    All-contains (IsPartFrom case run x) (feeds_of case.topology d.to.part) by.sender.part
+    (All-from_recursion (IsPartFrom case run x) (feeds_of case.topology d.to.part) feeds) by.feeds in
+    find-each (PendsFrom x) (λ (e : Delivery). same_id e.id d.id) (row_of case.topology run by.sender).pending d (work.rows by.sender refl).pending by.pending
+
+-- deliveries of productions that go on from a bound, where they are not late
+made-own : (shape : Shape) (part : ℕ) (productions : List Production) (late : Bool) (commit x : ℕ)
+    → (not late ≡ true → AllByRecursion (λ (p : Production). x ≤ p.stamp) productions)
+    → AllByRecursion (PendsFrom x) (deliveries_made shape part productions late commit)
+made-own shape part productions late commit x from =
+    deliveries_made-each shape part productions late commit (λ s. ⊤) (λ (p : Production). not late ≡ true → x ≤ p.stamp)
+    (λ (to : RowName) (item : Record). not item.late ≡ true → x ≤ item.stamp)
+    (λ s p _ q e. q e) (each-all (λ s. ⊤) (λ s. tt) (consumers_of shape part)) (each productions from)
+  where
+    each : (ps : List Production) → (not late ≡ true → AllByRecursion (λ (p : Production). x ≤ p.stamp) ps)
+        → AllByRecursion (λ (p : Production). not late ≡ true → x ≤ p.stamp) ps
+    each [] from = tt
+    each (p ∷ ps) from = ((λ on_time. (from on_time).0), each ps (λ on_time. (from on_time).1))
+
+module _ (case : CaseShape) (history : List Entry) (run : Run) (x part : ℕ) (runs : IsRunnable case) (ids : AreIds history run) (sent : AreSent case.topology run) (in_time : AreInTime run)
+    (feeds : AllByRecursion (IsPartFrom case run x) (feeds_of case.topology part)) where
+  -- a delivery that a row of the part may handle, where it is not late, is no older than the bound
+  may_handle-from : (seq : ℕ) (row : RowName) (id : RecordId) (effects : Outcome) (may : MayFollow case run (Handle seq row id effects)) → row.part ≡ part → PendsFrom x may.delivery
+  may_handle-from seq row id effects may of =
+      waits-from case run x id may.delivery sent
+      (subst (λ n. AllByRecursion (IsPartFrom case run x) (feeds_of case.topology n)) (sym (ap (λ (r : RowName). r.part) may.to_row ∙ of)) feeds) may.waits
+
+  -- what an entry makes is no older than the bound, where it is on a row of the part that has no older work
+  sent-own : (entry : Entry) (name : RowName) → MayFollow case run entry → row_written entry ≡ Some name → name.part ≡ part → IsRowFrom x (row_of case.topology run name)
+      → (is_injector case.topology part ≡ true → x ≤ source_mark case run part) → AllByRecursion (PendsFrom x) (deliveries_of case.topology run.made run.next entry)
+  sent-own (Claim worker interval) name may written of row mark = tt
+  sent-own (Inject seq other line item) name may written of row mark =
+      let same : other ≡ part = ap (λ (n : RowName). n.part) (some_same (record { part = other; key = [] }) name written) ∙ of in
+      made-own case.topology other (record { key = item.key; stamp = item.stamp; value = item.value } ∷ []) item.late run.next x
+      (λ on_time.
+      let stated : x ≤ source_mark case run other = subst (λ n. x ≤ source_mark case run n) (sym same) (mark (subst (λ n. is_injector case.topology n ≡ true) same may.injector)) in
+      let later = injected-from case run seq other line item runs may on_time in
+      (omega (arith, stated, later), tt))
+  sent-own (Handle seq row_name id effects) name may written of row mark =
+      made-own case.topology row_name.part effects.productions (late_cause run.made (Handle seq row_name id effects)) run.next x
+      (λ on_time.
+      productions-from x may.delivery.item.stamp effects.productions
+      (may_handle-from seq row_name id effects may (ap (λ (n : RowName). n.part) (some_same row_name name written) ∙ of)
+      (sym (ap not (handled-late case history run seq row_name id effects ids may)) ∙ on_time))
+      (handle-after case run seq row_name id effects runs in_time may).productions)
+  sent-own (Fire seq row_name timer fire_mark effects) name may written of row mark =
+      made-own case.topology row_name.part effects.productions timer.late run.next x
+      (λ on_time.
+      productions-from x timer.time effects.productions
+      (at-each (DueFrom x) (row_of case.topology run row_name).timers 0 timer
+      (subst (λ (n : RowName). AllByRecursion (DueFrom x) (row_of case.topology run n).timers) (sym (some_same row_name name written)) row.timers) may.least_timer on_time)
+      (fire-after case run seq row_name timer fire_mark effects in_time may).productions)
+  sent-own (Ack seq row_name id) name may written of row mark = tt
+  sent-own (Purge seq row_name floor) name may written of row mark = tt
+
+  -- what an entry leaves of its row has no older work
+  changed-own : (entry : Entry) (name : RowName) → MayFollow case run entry → row_written entry ≡ Some name → name.part ≡ part → IsRowFrom x (row_of case.topology run name)
+      → AllByRecursion (PendsFrom x) (deliveries_of case.topology run.made run.next entry)
+      → IsRowFrom x (changed entry (deliveries_of case.topology run.made run.next entry) (row_of case.topology run name))
+  changed-own (Claim worker interval) name may written of row new = row
+  changed-own (Inject seq other line item) name may written of row new = record {
+    timers = row.timers;
+    pending = each-append (PendsFrom x) (row_of case.topology run name).pending _ row.pending new;
+  }
+  changed-own (Handle seq row_name id effects) name may written of row new = record {
+    timers = with_timers-each (DueFrom x) (set_again-from x) effects.timers (row_of case.topology run name).timers
+        (each-weaker (IsTimerAfter may.delivery.item.stamp may.delivery.item.late) (DueFrom x)
+        (λ t (after : IsTimerAfter may.delivery.item.stamp may.delivery.item.late t) on_time.
+        let later = after.after in
+        let from = may_handle-from seq row_name id effects may (ap (λ (n : RowName). n.part) (some_same row_name name written) ∙ of) (sym (ap not after.as_late) ∙ on_time) in omega (arith, later, from))
+        effects.timers (handle-after case run seq row_name id effects runs in_time may).timers)
+        row.timers;
+    pending = each-append (PendsFrom x) (row_of case.topology run name).pending _ row.pending new;
+  }
+  changed-own (Fire seq row_name timer fire_mark effects) name may written of row new = record {
+    timers = each-filter (DueFrom x) (λ t. not (is_timer timer.tag timer.time t)) (row_of case.topology run name).timers row.timers;
+    pending = each-append (PendsFrom x) (row_of case.topology run name).pending _ row.pending new;
+  }
+  changed-own (Ack seq row_name id) name may written of row new = record {
+    timers = row.timers;
+    pending = each-filter (PendsFrom x) (λ (d : Delivery). not (same_id d.id id)) (row_of case.topology run name).pending row.pending;
+  }
+  changed-own (Purge seq row_name floor) name may written of row new = record { timers = row.timers; pending = row.pending }
+
+  -- a row of the part that has no older work has none after one more entry
+  row-own : (entry : Entry) (name : RowName) → MayFollow case run entry → name.part ≡ part → IsRowFrom x (row_of case.topology run name)
+      → (is_injector case.topology part ≡ true → x ≤ source_mark case run part) → IsRowFrom x (row_of case.topology (followed case.topology run entry) name)
+  row-own entry name may of row mark = row_of-step case.topology run entry name (IsRowFrom x) row
+      (λ written. let after = changed-own entry name may written of row (sent-own entry name may written of row mark) in record { timers = after.timers; pending = after.pending })
+
+  -- rows of the part that have no older work have none after one more entry, where what feeds the part has none
+  pub IsOwnFrom-followed : (entry : Entry) (Has : RowName → Type 0) → MayFollow case run entry → ((name : RowName) → Has name → name.part ≡ part)
+      → IsOwnFrom case run x part Has → IsOwnFrom case (followed case.topology run entry) x part Has
+  IsOwnFrom-followed entry Has may of_part own = record {
+    rows = λ name has. row-own entry name may (of_part name has) (own.rows name has) own.mark;
+    mark = λ is. let before = own.mark is in let rises = source_mark-followed case run entry part runs may is in omega (arith, before, rises);
+  }
