@@ -1,0 +1,2 @@
+-- Stamps that are counted.
+use Rattle.std.proofs.Common.{ℕ}
