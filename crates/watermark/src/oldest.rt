@@ -122,7 +122,15 @@ fn least_in(counts: &Counts) -> u64
     ensures { result ≡ least (stamps_in counts.now.entries) }
 {
     match counts.first_key_value() {
-        Some((stamp, _)) => *stamp,
+        Some((stamp, _)) => stamp_at(stamp),
         None => END,
     }
+}
+
+// A stamp of an entry, which is at most the end.
+fn stamp_at(stamp: &u64) -> u64
+    ensures same { result ≡ stamp.now }
+    ensures end { result ≤ END }
+{
+    *stamp
 }
