@@ -1,5 +1,5 @@
 //! Whose intervals feed an interval, and the least mark of a part.
-ghost use Rattle.std.specs.Prelude.{◌≡◌, ◌<◌, ◌≤◌, ◌==◌, length, IfOk};
+ghost use Rattle.std.specs.Prelude.{◌≡◌, ◌<◌, ◌≤◌, ◌==◌, length, slice_get, IfOk, Some};
 ghost use Rattle.std.specs.List.{list_any};
 ghost use Rattle.topology.specs.Shapes.{parts_of};
 ghost use Rattle.run_history.specs.Cases.{intervals_of};
@@ -61,9 +61,18 @@ fn low_in(intervals: &Intervals, part: u32, marks: &[u64]) -> u64
 {
     let mut low = END;
     for interval in 0..intervals.count() {
+        let mark = mark_at(marks, interval);
         if intervals.bounds(interval).part == part {
-            low = low.min(marks[interval as usize]);
+            low = low.min(mark);
         }
     }
     low
+}
+
+// The mark of an interval.
+fn mark_at(marks: &[u64], interval: u32) -> u64
+    requires { interval < length marks.now }
+    ensures { slice_get marks.now interval ≡ Some result }
+{
+    marks[interval as usize]
 }
