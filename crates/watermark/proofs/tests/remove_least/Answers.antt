@@ -1,0 +1,7 @@
+use Rattle.std.proofs.Common.{Contains, ◌<◌, subst, sym}
+use Rattle.mw_types.specs.declared.TheConstants.{END}
+use Rattle.watermark.proofs.Held.{held-least}
+use Rattle.watermark.proofs.tests.remove_least.Goals as goal
+
+pub remove-requires : goal.remove-requires
+remove-requires c = ?
