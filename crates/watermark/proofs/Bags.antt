@@ -43,7 +43,7 @@ lowered_step : (b : Bool) (x s c n : ℕ) (es : List (ℕ × ℕ)) → (b ≡ tr
     → unwrap_or (cond b (Some c) (lookup (is_at (nat_cmp x)) es)) 0 ≡ suc n
     → (count_in x es ≡ suc n → IsPermutation (stamps_in es) (x ∷ stamps_in (set_value (is_at (nat_cmp x)) es n)))
     → IsPermutation (replicate c s ++ stamps_in es)
-      (x ∷ stamps_in (cond b ((s, n) ∷ es) ((s, c) ∷ set_value (is_at (nat_cmp x)) es n)))
+    (x ∷ stamps_in (cond b ((s, n) ∷ es) ((s, c) ∷ set_value (is_at (nat_cmp x)) es n)))
 lowered_step true x s c n es same count later =
     by_equal _ _ (ap (λ k. replicate k s ++ stamps_in es) count ∙ ap (λ y. y ∷ (replicate n s ++ stamps_in es)) (sym (same refl)))
 lowered_step false x s c n es same count later = to_front x (replicate c s) (stamps_in es) _ (later count)
@@ -59,7 +59,7 @@ removed_step : (b : Bool) (x s c : ℕ) (es : List (ℕ × ℕ)) → (b ≡ true
     → unwrap_or (cond b (Some c) (lookup (is_at (nat_cmp x)) es)) 0 ≡ 1
     → (count_in x es ≡ 1 → IsPermutation (stamps_in es) (x ∷ stamps_in (remove_entry (is_at (nat_cmp x)) es)))
     → IsPermutation (replicate c s ++ stamps_in es)
-      (x ∷ stamps_in (cond b es ((s, c) ∷ remove_entry (is_at (nat_cmp x)) es)))
+    (x ∷ stamps_in (cond b es ((s, c) ∷ remove_entry (is_at (nat_cmp x)) es)))
 removed_step true x s c es same count later =
     by_equal _ _ (ap (λ k. replicate k s ++ stamps_in es) count ∙ ap (λ y. y ∷ stamps_in es) (sym (same refl)))
 removed_step false x s c es same count later = to_front x (replicate c s) (stamps_in es) _ (later count)
@@ -100,7 +100,7 @@ added_step : (o : Ordering) (x s c n : ℕ) (es : List (ℕ × ℕ)) → (o ≡ 
     → n ≡ suc (unwrap_or (cond (is_eq o) (Some c) (lookup (is_at (nat_cmp x)) es)) 0)
     → (n ≡ suc (count_in x es) → IsPermutation (x ∷ stamps_in es) (stamps_in (insert_entry nat_cmp es x n)))
     → IsPermutation (x ∷ (replicate c s ++ stamps_in es))
-      (stamps_in (match_ordering o ((x, n) ∷ (s, c) ∷ es) ((s, n) ∷ es) ((s, c) ∷ insert_entry nat_cmp es x n)))
+    (stamps_in (match_ordering o ((x, n) ∷ (s, c) ∷ es) ((s, n) ∷ es) ((s, c) ∷ insert_entry nat_cmp es x n)))
 added_step Less x s c n es same none count later =
     let one : n ≡ 1 = count ∙ ap (λ found. suc (unwrap_or found 0)) (none refl) in
     by_equal _ _ (ap (λ k. replicate k x ++ (replicate c s ++ stamps_in es)) (sym one))
@@ -195,4 +195,4 @@ least-first (f ∷ es) e counts first end =
     let ends : f.0 ≤ END = subst (λ (g : ℕ × ℕ). g.0 ≤ END) (sym same) end in
     sym (ap (λ (g : ℕ × ℕ). g.0) same)
     ∙ first_of f.1 f.0 (stamps_in es) counts.some.0
-      (keys-bound f.0 es ends (sorted_head nat_cmp f.0 (keys_of es) counts.ordered))
+    (keys-bound f.0 es ends (sorted_head nat_cmp f.0 (keys_of es) counts.ordered))

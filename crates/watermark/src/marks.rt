@@ -11,8 +11,8 @@ use mw_types::{END, NoMemory, NumberList};
 use run_history::Case;
 use std::alloc::Global;
 
-/// The intervals of the parts that feed an interval's part, by number and ascending. Their marks are
-/// what the interval waits for.
+/// The intervals of the parts that feed an interval's part, ascending by number. A worker that wants
+/// the low watermark of the interval looks at the marks of these.
 pub fn feeding(alloc: Global, case: &Case, interval: u32) -> Result<NumberList, NoMemory>
     requires exists { interval < length (intervals_of case.now.topology) }
     ensures feeding { IfOk result (λ numbers. numbers ≡ feeding_of case.now.topology interval) }

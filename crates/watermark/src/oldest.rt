@@ -1,11 +1,10 @@
 //! The least of stamps that come and go.
-ghost use Rattle.std.specs.Prelude.{◌≡◌, ◌-◌, ◌≤◌, [], ◌∷◌, Contains, OnErr, OnOk};
-ghost use Rattle.std.specs.Map.{keys_of, set_value};
-ghost use Rattle.std.specs.BTreeMap.{is_at};
+ghost use Rattle.std.specs.Prelude.{◌≡◌, ◌≤◌, [], ◌∷◌, Contains, OnErr, OnOk};
+ghost use Rattle.std.specs.Map.{keys_of};
 ghost use Rattle.std.specs.Ordering.{nat_cmp};
 ghost use Rattle.std.specs.List.Sorted.{IsPermutation, IsStrictlySortedBy};
 ghost use Rattle.run_history.specs.Watermarks.{least};
-ghost use Rattle.watermark.specs.Counted.{AreCounts, count_in, stamps_in};
+ghost use Rattle.watermark.specs.Counted.{AreCounts, HasOneLess, HasOneMore, count_in, stamps_in, with_lower};
 
 use mw_types::{END, NoMemory};
 use std::alloc::Global;
@@ -80,7 +79,7 @@ fn count_of(counts: &Counts, stamp: u64) -> u64
 // Counts a stamp once more. For a count past the greatest number there is no memory.
 fn count_up(counts: &mut Counts, stamp: u64) -> Result<(), NoMemory>
     requires { AreCounts counts.old.entries }
-    ensures added { OnOk result (IsPermutation (stamp ∷ stamps_in counts.old.entries) (stamps_in counts.new.entries)) }
+    ensures added { OnOk result (HasOneMore stamp counts.old.entries counts.new.entries) }
     ensures unchanged { OnErr result (counts.new.entries ≡ counts.old.entries) }
     ensures counts { AreCounts counts.new.entries }
 {
@@ -95,7 +94,7 @@ fn count_up(counts: &mut Counts, stamp: u64) -> Result<(), NoMemory>
 fn count_down(counts: &mut Counts, stamp: u64)
     requires counts { AreCounts counts.old.entries }
     requires held { Contains (stamps_in counts.old.entries) stamp }
-    ensures removed { IsPermutation (stamps_in counts.old.entries) (stamp ∷ stamps_in counts.new.entries) }
+    ensures removed { HasOneLess stamp counts.old.entries counts.new.entries }
     ensures counts { AreCounts counts.new.entries }
 {
     if count_of(counts, stamp) > 1 {
@@ -108,7 +107,7 @@ fn count_down(counts: &mut Counts, stamp: u64)
 // Lowers the count of a stamp.
 fn lower(counts: &mut Counts, stamp: u64)
     requires { 1 ≤ count_in stamp counts.old.entries }
-    ensures lowered { counts.new.entries ≡ set_value (is_at (nat_cmp stamp)) counts.old.entries (count_in stamp counts.old.entries - 1) }
+    ensures lowered { counts.new.entries ≡ with_lower stamp counts.old.entries }
     ensures ordered { IsStrictlySortedBy nat_cmp (keys_of counts.new.entries) }
 {
     if let Some(count) = counts.get_mut(&stamp) {

@@ -14,9 +14,9 @@ loop-interval-preserved c =
       | then-is_among+in_ok-push w ↦
           ap (λ l. l ++ left) (w.numbers-is ∙ w.in_ok-push.ensures.appended)
           ∙ numbers_step_yes parts all at _ c.loop-interval.numbers _ c.bounds.ensures.at
-            (sym w.if-is_among.true ∙ c.is_among.ensures) c.loop-interval.invariant
+          (sym w.if-is_among.true ∙ c.is_among.ensures) c.loop-interval.invariant
       | else-is_among w ↦
           ap (λ l. l ++ left) w.numbers-is
           ∙ numbers_step_no parts all at _ c.loop-interval.numbers _ c.bounds.ensures.at
-            (sym w.if-is_among.false ∙ c.is_among.ensures) c.loop-interval.invariant
+          (sym w.if-is_among.false ∙ c.is_among.ensures) c.loop-interval.invariant
     ]

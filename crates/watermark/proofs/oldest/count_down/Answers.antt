@@ -21,7 +21,7 @@ returns-then-count_of-gt1-clause-counts c =
     let some : 1 ≤ count_in c.args.stamp old - 1 = search (rules, arith) in record {
       ordered = c.lower.ensures.ordered;
       some = subst (AllByRecursion (λ (e : ℕ × ℕ). 1 ≤ e.1)) (sym c.lower.ensures.lowered)
-      (some-set_value c.args.stamp (count_in c.args.stamp old - 1) old some c.requires.counts.some);
+          (some-set_value c.args.stamp (count_in c.args.stamp old - 1) old some c.requires.counts.some);
     }
 
 pub returns-else-count_of-gt1-clause-removed : goal.returns-else-count_of-gt1-clause-removed
@@ -36,5 +36,5 @@ pub returns-else-count_of-gt1-clause-counts : goal.returns-else-count_of-gt1-cla
 returns-else-count_of-gt1-clause-counts c = record {
   ordered = c.remove.ensures.ordered;
   some = subst (AllByRecursion (λ (e : ℕ × ℕ). 1 ≤ e.1)) (sym c.remove.ensures.entries)
-  (some-remove_entry c.args.stamp c.args.counts.now.entries c.requires.counts.some);
+      (some-remove_entry c.args.stamp c.args.counts.now.entries c.requires.counts.some);
 }

@@ -16,5 +16,5 @@ returns-clause-counts c =
     let some : 1 ≤ c.in-Some.count = search (rules, arith) in record {
       ordered = c.insert.ensures.ordered;
       some = subst (AllByRecursion (λ (e : ℕ × ℕ). 1 ≤ e.1)) (sym c.in_ok-insert.ensures.entries)
-      (some-insert_entry c.args.stamp c.in-Some.count c.args.counts.now.entries some c.requires.some);
+          (some-insert_entry c.args.stamp c.in-Some.count c.args.counts.now.entries some c.requires.some);
     }
