@@ -1,6 +1,6 @@
 -- One step of a loop over the intervals, where the invariant speaks of those that are left.
-use Rattle.std.proofs.Common.{◌≡◌, ◌∙◌, ℕ, zero, suc, ◌+◌, ◌<◌, ◌≤◌, ◌==◌, min, Bool, true, false, cond, Option, Some, None, slice_get, List, [], ◌∷◌, ◌++◌, drop, length, refl, sym, ap, arith, append_assoc, true≢false, is_none, unwrap_or, append-nil}
-use Rattle.std.specs.List.{list_any, cons_option, zip}
+use Rattle.std.proofs.Common.{◌≡◌, ◌∙◌, ℕ, zero, suc, ◌+◌, ◌≤◌, ◌==◌, min, Bool, true, false, cond, Some, None, slice_get, List, [], ◌∷◌, ◌++◌, drop, sym, ap, arith, append_assoc, true≢false, is_none, unwrap_or}
+use Rattle.std.specs.List.{list_any, cons_option}
 use Rattle.mw_types.specs.declared.TheConstants.{END}
 use Rattle.key_intervals.specs.declared.bounds.Bounds.{Bounds}
 use Rattle.run_history.specs.Watermarks.{least}

@@ -1,7 +1,7 @@
 -- Which intervals feed an interval, and which marks are a part's: Akidau et al., VLDB 2013, section 4.5, where the
 -- low watermark of a computation looks at those of the computations that output to it.
 -- Own: a part is cut into intervals, and each interval has a mark.
-use Rattle.std.specs.Prelude.{ℕ, ◌==◌, if◌then◌else◌, List, [], slice_get, Option, Some, None}
+use Rattle.std.specs.Prelude.{ℕ, ◌==◌, if◌then◌else◌, List, [], slice_get, Some, None}
 use Rattle.std.specs.Option.{option_map_or}
 use Rattle.std.specs.List.{list_any, filter_map, enumerate_from, zip}
 use Rattle.key_intervals.specs.declared.bounds.Bounds.{Bounds}

@@ -1,5 +1,4 @@
-use Rattle.std.proofs.Common.{◌≡◌, ◌∙◌, ◌<◌, Some, slice_get, subst, sym, ap}
-use Rattle.key_intervals.specs.declared.bounds.Bounds.{Bounds}
+use Rattle.std.proofs.Common.{◌∙◌, ◌<◌, slice_get, subst, sym, ap}
 use Rattle.topology.specs.Shapes.{Shape, parts_of}
 use Rattle.run_history.specs.Cases.{CaseShape}
 use Rattle.watermark.proofs.Parts.{part_within}

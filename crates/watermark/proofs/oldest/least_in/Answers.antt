@@ -1,4 +1,4 @@
-use Rattle.std.proofs.Common.{◌≡◌, ◌∙◌, ◌≤◌, subst}
+use Rattle.std.proofs.Common.{◌∙◌, ◌≤◌, subst}
 use Rattle.mw_types.specs.declared.TheConstants.{END}
 use Rattle.watermark.proofs.Bags.{least-first}
 use Rattle.watermark.proofs.oldest.least_in.Goals as goal
