@@ -1,0 +1,4 @@
+pub mod Bags
+pub mod Held
+pub mod Steps
+pub mod Parts
