@@ -1,0 +1,3 @@
+pub mod FitLaws
+pub mod Keeping
+pub mod ClaimLaws

@@ -1,0 +1,7 @@
+pub mod Books
+pub mod Fits
+pub mod Lawful
+pub mod Conditions
+pub mod Answers
+pub mod Appending
+pub mod Refusing
