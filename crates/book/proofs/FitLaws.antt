@@ -32,9 +32,12 @@ passes-each test (x ∷ xs) each = and_from (test x) (list_all test xs) each.0 (
 -- a delivery that was made before a number was made before the next
 sent-later : (shape : Shape) (n : ℕ) (d : Delivery) → is_sent_before shape n d ≡ true → is_sent_before shape (n + 1) d ≡ true
 sent-later shape n d is =
-    let parts = both (nat_lt d.id.commit n) (nat_le (injectors_of shape) d.to.part && nat_lt d.to.part (parts_of shape)) is in
-    let less = ltb-true d.id.commit n parts.0 in
-    and_from (nat_lt d.id.commit (n + 1)) _ (lt-ltb d.id.commit (n + 1) (omega (arith, less))) parts.1
+    let early = nat_lt d.id.commit n && nat_le (injectors_of shape) d.to.part in
+    let parts = both early (nat_lt d.to.part (parts_of shape)) is in
+    let first = both (nat_lt d.id.commit n) (nat_le (injectors_of shape) d.to.part) parts.0 in
+    let less = ltb-true d.id.commit n first.0 in
+    and_from (nat_lt d.id.commit (n + 1) && nat_le (injectors_of shape) d.to.part) (nat_lt d.to.part (parts_of shape))
+    (and_from (nat_lt d.id.commit (n + 1)) (nat_le (injectors_of shape) d.to.part) (lt-ltb d.id.commit (n + 1) (omega (arith, less))) first.1) parts.1
 
 -- and so each of these
 sent_each-later : (shape : Shape) (n : ℕ) (ds : List Delivery) → list_all (is_sent_before shape n) ds ≡ true → list_all (is_sent_before shape (n + 1)) ds ≡ true
@@ -62,15 +65,19 @@ fits-parts case n name row is = both (suits_part case name.part row) (list_all (
 pub fits-later : (case : CaseShape) (n : ℕ) (name : RowName) (row : Contents) → fits case n name row ≡ true → fits case (n + 1) name row ≡ true
 fits-later case n name row is =
     let parts = fits-parts case n name row is in
-    and_from (suits_part case name.part row) _ parts.0 (sent_each-later case.topology n row.pending parts.1)
+    and_from (suits_part case name.part row) (list_all (is_sent_before case.topology (n + 1)) row.pending) parts.0 (sent_each-later case.topology n row.pending parts.1)
+
+-- the state and the timers alone decide whether a row suits a part
+pub suits-same : (case : CaseShape) (part : ℕ) (row after : Contents) → after.state ≡ row.state → after.timers ≡ row.timers
+    → suits_part case part row ≡ true → suits_part case part after ≡ true
+suits-same case part row after state timers is = (λ i. suits_part case part (record row { state = state i; timers = timers i })) ∙ is
 
 -- a row with the same state and timers, and less pending, fits after one more entry
 pub fits-less : (case : CaseShape) (n : ℕ) (name : RowName) (row after : Contents) (keep : Delivery → Bool) → fits case n name row ≡ true
     → after.state ≡ row.state → after.timers ≡ row.timers → after.pending ≡ filter keep row.pending → fits case (n + 1) name after ≡ true
 fits-less case n name row after keep is state timers pending =
     let parts = fits-parts case n name row is in
-    and_from (suits_part case name.part after) _
-    (subst (λ (c : Contents). suits_part case name.part (record row { state = c.state; timers = c.timers }) ≡ true) refl
-    ((λ i. suits_part case name.part (record row { state = state i; timers = timers i })) ∙ parts.0))
+    and_from (suits_part case name.part after) (list_all (is_sent_before case.topology (n + 1)) after.pending)
+    (suits-same case name.part row after state timers parts.0)
     (subst (λ (l : List Delivery). list_all (is_sent_before case.topology (n + 1)) l ≡ true) (sym pending)
     (passes-filter (is_sent_before case.topology (n + 1)) keep row.pending (sent_each-later case.topology n row.pending parts.1)))

@@ -1,6 +1,6 @@
 -- One more entry keeps a book lawful.
 use Rattle.std.proofs.Common.{◌≡◌, ◌<◌, ◌≤◌, ◌+◌, ◌^◌, ℕ, Bool, true, false, cond, List, [], ◌∷◌, ◌++◌, length, refl, sym, ◌∙◌, ap, subst, arith, length-append}
-use Rattle.std.specs.Prelude.{Option, Some, None, All, IfSome, option_map, unwrap_or}
+use Rattle.std.specs.Prelude.{Option, Some, None, Result, Ok, Err, OnOk, OnErr, All, IfSome, option_map, unwrap_or}
 use Rattle.std.specs.Option.{option_map_or}
 use Rattle.std.specs.List.{AllByRecursion}
 use Rattle.std.specs.BTreeMap.{insert_entry, is_at}
@@ -158,3 +158,13 @@ IsLawful-stays case old new lawful history rows limit = record {
   printable = subst (IsPrintable case.topology) (sym history) lawful.printable;
   held = subst (λ (h : List Entry). IfSome new.rows (IsHeld case h)) (sym history) (subst (λ o. IfSome o (IsHeld case old.history)) (sym rows) lawful.held);
 }
+
+-- a book stays lawful, whether a claim was appended or not
+pub IsLawful-claiming : {T E : Type 0} (case : CaseShape) (old new : CoreView) (worker interval : ℕ) (result : Result T E) → IsLawful case old
+    → length old.history < old.limit → MayClaim case worker interval
+    → OnOk result (new.history ≡ old.history ++ Claim worker interval ∷ []) → OnErr result (new.history ≡ old.history)
+    → new.rows ≡ old.rows → new.limit ≡ old.limit → IsLawful case new
+IsLawful-claiming case old new worker interval (Ok x) lawful room may appended history rows limit =
+    IsLawful-claimed case old new worker interval lawful room may appended rows limit
+IsLawful-claiming case old new worker interval (Err why) lawful room may appended history rows limit =
+    IsLawful-stays case old new lawful history rows limit

@@ -1,5 +1,5 @@
 -- What makes an entry one that may be appended. No public clause cites this module.
-use Rattle.std.specs.Prelude.{◌≡◌, ◌<◌, ◌≤◌, ◌+◌, ◌++◌, ◌∷◌, [], ℕ, List, length, Option, Some, true, IfSome}
+use Rattle.std.specs.Prelude.{◌≡◌, ◌<◌, ◌≤◌, ◌+◌, ◌++◌, ◌∷◌, [], ℕ, List, length, Option, Some, None, if◌then◌else◌, nat_lt, true, IfSome}
 use Rattle.mw_types.specs.declared.identity.RowName.{RowName}
 use Rattle.mw_types.specs.declared.entry.Entry.{Entry}
 use Rattle.topology.specs.Shapes.{parts_of}
@@ -27,3 +27,8 @@ pub record IsNext (case : CaseShape) (core : CoreView) (name : RowName) (entry :
   pub may : IfSome core.rows (λ _. MayFollow case (run_of case.topology core.history) entry)
   pub of_history : IfSome core.rows (λ _.
       row ≡ row_of case.topology (run_of case.topology (core.history ++ entry ∷ [])) name)
+
+-- the last claim, where it is later than this one
+abbrev pub later_than : ℕ → Option ℕ → Option ℕ
+later_than seq None = None
+later_than seq (Some newest) = if nat_lt seq newest then Some newest else None

@@ -1,11 +1,12 @@
 //! All of a book but its case.
-ghost use Rattle.std.specs.Prelude.{◌≡◌, ◌++◌, ◌∷◌, ◌≤◌, [], length, IfSome, OnOk, OnErr, Some, option_map};
+ghost use Rattle.std.specs.Prelude.{◌≡◌, ◌++◌, ◌∷◌, ◌<◌, ◌^◌, [], length, IfSome, OnOk, OnErr, Some, option_map};
 ghost use Rattle.mw_types.specs.Causes.{HasCause};
+ghost use Rattle.mw_types.specs.declared.entry.Entry.TheVariants.{Claim};
 ghost use Rattle.row_keeper.specs.Rows.{AreInOrder, with_row};
 ghost use Rattle.run_history.specs.Made.{row_written};
 ghost use Rattle.history_laws.specs.Fences.{last_claim};
 
-use mw_types::{Entry, RowName};
+use mw_types::{Entry, NoMemory, RowName};
 use row_keeper::{Keeper, KeeperFault};
 use run_history::History;
 use std::alloc::Global;
@@ -68,6 +69,23 @@ impl<K: Keeper> Core<K> {
         if let Err(fault) = self.keeper.put(alloc, name, bytes) {
             self.history.pop();
             return Err(fault);
+        }
+        Ok(())
+    }
+    // Appends a claim.
+    pub(crate) fn claim(&mut self, worker: u32, interval: u32) -> Result<(), NoMemory>
+        requires few { length self.old.history < 2 ^ 32 }
+        ensures appended { OnOk result (self.new.history ≡ self.old.history ++ Claim worker interval ∷ []) }
+        ensures history { OnErr result (self.new.history ≡ self.old.history) }
+        ensures rows { self.new.rows ≡ self.old.rows }
+        ensures faults { self.new.faults ≡ self.old.faults }
+        ensures limit { self.new.limit ≡ self.old.limit }
+    {
+        let number = self.history.len() as u64;
+        self.history.push(Entry::Claim { worker, interval })?;
+        if let Err(_) = self.sequencers.insert(interval, number) {
+            self.history.pop();
+            return Err(NoMemory);
         }
         Ok(())
     }

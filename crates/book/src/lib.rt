@@ -9,14 +9,14 @@
 
 mod answers;
 mod books;
-// mod claims;
-// mod fitting;
+mod claims;
+mod fitting;
 mod inner;
 mod lease;
 mod proposal;
 mod refusals;
-// mod rows;
-// mod writes;
+mod rows;
+mod writes;
 
 pub use answers::{Claimed, NamedRow, NamedRowList, Written};
 pub use books::Book;

@@ -1,12 +1,13 @@
 //! Writes: each appends one entry and stores its row, or is refused.
-ghost use Rattle.std.specs.Prelude.{◌≡◌, ◌<◌, ◌^◌, ⊥, ◌++◌, ◌∷◌, ◌⊎◌, [], length, IfErr, IfOk, IsErrOf, OnErr, OnOk, Some};
+ghost use Rattle.std.specs.Prelude.{◌≡◌, ◌<◌, ◌^◌, ◌↔◌, ℕ, None, ◌++◌, ◌∷◌, ◌⊎◌, [], length, IfErr, IfOk, IsErrOf, OnErr, OnOk, Some};
 ghost use Rattle.mw_types.specs.Causes.{HasCause};
 ghost use Rattle.mw_types.specs.declared.entry.Entry.TheVariants.{Ack, Purge};
 ghost use Rattle.history_laws.specs.Fences.{last_claim};
 ghost use Rattle.book.specs.Books.{core_of};
 ghost use Rattle.book.specs.Conditions.{IsClaimed, IsRowSeen, MayRaise, MaySettle, MayUse};
 ghost use Rattle.book.specs.Answers.{HasStayed, IsFullWhere, IsSameBook, IsStaleWhere, IsWritten, written_row};
-ghost use Rattle.book.specs.Appending.{IsNext};
+ghost use Rattle.book.specs.Lawful.{IsLawful};
+ghost use Rattle.book.specs.Appending.{IsNext, later_than};
 
 use crate::answers::Written;
 use crate::books::Book;
@@ -43,7 +44,10 @@ impl<'a, K: Keeper> Book<'a, K> {
         ensures unchanged { OnErr result (HasStayed self.old self.new) }
         ensures same { IsSameBook self.old self.new }
     {
-        let commit = self.admit(lease)?;
+        let commit = match self.admit(lease) {
+            Ok(commit) => commit,
+            Err(why) => return Err(why),
+        };
         let left = settled(alloc, row, id, commit)?;
         let entry = Entry::Ack {
             seq: lease.seq,
@@ -76,7 +80,10 @@ impl<'a, K: Keeper> Book<'a, K> {
         ensures unchanged { OnErr result (HasStayed self.old self.new) }
         ensures same { IsSameBook self.old self.new }
     {
-        let commit = self.admit(lease)?;
+        let commit = match self.admit(lease) {
+            Ok(commit) => commit,
+            Err(why) => return Err(why),
+        };
         let left = purged(alloc, row, floor, commit)?;
         let entry = Entry::Purge {
             seq: lease.seq,
@@ -89,6 +96,7 @@ impl<'a, K: Keeper> Book<'a, K> {
     // Tests the sequencer of a write, and then whether there is room for its entry, which will have this number.
     fn admit(&self, lease: &Lease) -> Result<u64, WriteRefusal>
         requires claimed { IsClaimed self.now.history lease.now }
+        ensures lawful { IsLawful self.now.case (core_of self.now) }
         ensures number { IfOk result (λ number. number ≡ length self.now.history) }
         ensures below { IfOk result (λ number. number < 2 ^ 32) }
         ensures last { OnOk result (last_claim lease.now.interval self.now.history ≡ Some lease.now.seq) }
@@ -97,16 +105,26 @@ impl<'a, K: Keeper> Book<'a, K> {
         ensures full { IsFullWhere self.now lease.now result }
         ensures no_fault { IsErrOf result WriteRefusal.KeeperFault → ⊥ }
     {
-        if let Some(newer) = self.core.newest(lease.interval) {
-            if lease.seq < newer {
-                return Err(WriteRefusal::Stale { newer });
-            }
+        if let Some(newer) = self.newer(lease) {
+            return Err(WriteRefusal::Stale { newer });
         }
         let number = self.core.history.len() as u64;
         if number >= self.core.limit {
             return Err(WriteRefusal::HistoryFull);
         }
         Ok(number)
+    }
+
+    // The last claim of a lease's interval, where it is later than the lease's.
+    fn newer(&self, lease: &Lease) -> Option<u64>
+        requires claimed { IsClaimed self.now.history lease.now }
+        ensures lawful { IsLawful self.now.case (core_of self.now) }
+        ensures later { (newer : ℕ) → (result ≡ Some newer)
+            ↔ (last_claim lease.now.interval self.now.history ≡ Some newer) × (lease.now.seq < newer) }
+        ensures own { result ≡ None → last_claim lease.now.interval self.now.history ≡ Some lease.now.seq }
+    {
+        let newest = self.core.newest(lease.interval());
+        later(lease.seq(), newest)
     }
 
     // Appends an entry that may come next, and stores its row.
@@ -131,5 +149,15 @@ impl<'a, K: Keeper> Book<'a, K> {
         let bytes = encode_row(alloc, &row)?;
         self.core.append(alloc, entry, name, bytes.as_slice())?;
         Ok(Written { commit, row })
+    }
+}
+
+// The last claim, where it is later than this one.
+fn later(seq: u64, newest: Option<u64>) -> Option<u64>
+    ensures { result ≡ later_than seq newest }
+{
+    match newest {
+        Some(newer) if seq < newer => Some(newer),
+        _ => None,
     }
 }
