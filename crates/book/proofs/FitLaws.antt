@@ -40,7 +40,7 @@ sent-later shape n d is =
     (and_from (nat_lt d.id.commit (n + 1)) (nat_le (injectors_of shape) d.to.part) (lt-ltb d.id.commit (n + 1) (omega (arith, less))) first.1) parts.1
 
 -- and so each of these
-sent_each-later : (shape : Shape) (n : ℕ) (ds : List Delivery) → list_all (is_sent_before shape n) ds ≡ true → list_all (is_sent_before shape (n + 1)) ds ≡ true
+pub sent_each-later : (shape : Shape) (n : ℕ) (ds : List Delivery) → list_all (is_sent_before shape n) ds ≡ true → list_all (is_sent_before shape (n + 1)) ds ≡ true
 sent_each-later shape n [] all = refl
 sent_each-later shape n (d ∷ ds) all =
     let parts = both (is_sent_before shape n d) (list_all (is_sent_before shape n) ds) all in

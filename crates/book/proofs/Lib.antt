@@ -5,3 +5,5 @@ pub mod ClaimLaws
 pub mod SeenRows
 pub mod FoundRows
 pub mod SentLaws
+pub mod Growing
+pub mod ProposalLaws

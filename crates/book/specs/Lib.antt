@@ -3,6 +3,7 @@ pub mod Fits
 pub mod Lawful
 pub mod Conditions
 pub mod Answers
+pub mod Proposals
 pub mod Claims
 pub mod Appending
 pub mod Refusing

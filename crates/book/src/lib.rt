@@ -16,6 +16,8 @@ mod lease;
 mod proposal;
 mod refusals;
 mod rows;
+mod sending;
+mod steps;
 mod writes;
 
 pub use answers::{Claimed, NamedRow, NamedRowList, Written};

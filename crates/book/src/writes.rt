@@ -1,19 +1,23 @@
 //! Writes: each appends one entry and stores its row, or is refused.
-ghost use Rattle.std.specs.Prelude.{◌≡◌, ◌<◌, ◌^◌, ◌↔◌, ℕ, None, ◌++◌, ◌∷◌, ◌⊎◌, [], length, IfErr, IfOk, IsErrOf, OnErr, OnOk, Some};
+ghost use Rattle.std.specs.Prelude.{◌≡◌, ◌<◌, ◌^◌, ◌↔◌, ℕ, None, ◌++◌, ◌∷◌, ◌⊎◌, [], length, take, IfErr, IfOk, IfSome, IsErrOf, OnErr, OnOk, Some};
 ghost use Rattle.mw_types.specs.Causes.{HasCause};
 ghost use Rattle.mw_types.specs.declared.entry.Entry.TheVariants.{Ack, Purge};
+ghost use Rattle.run_history.specs.Runs.{run_of};
 ghost use Rattle.history_laws.specs.Fences.{last_claim};
 ghost use Rattle.book.specs.Books.{core_of};
 ghost use Rattle.book.specs.Conditions.{IsClaimed, IsRowSeen, MayRaise, MaySettle, MayUse};
 ghost use Rattle.book.specs.Answers.{HasStayed, IsFullWhere, IsSameBook, IsStaleWhere, IsWritten, written_row};
 ghost use Rattle.book.specs.Lawful.{IsLawful};
+ghost use Rattle.book.specs.Proposals.{IsProposable, IsProposedOf, IsWrittenBy};
 ghost use Rattle.book.specs.Appending.{IsNext, later_than};
 
 use crate::answers::Written;
 use crate::books::Book;
 use crate::lease::Lease;
+use crate::proposal::Proposal;
 use crate::refusals::WriteRefusal;
 use crate::rows::{purged, settled};
+use crate::steps::{Step, step_of};
 use mw_types::{Duplicate, Entry, RecordId, RowName};
 use record_codec::encode_row;
 use row_keeper::Keeper;
@@ -21,6 +25,40 @@ use row_parts::Row;
 use std::alloc::Global;
 
 impl<'a, K: Keeper> Book<'a, K> {
+    /// A row is written anew: an injector's next line is injected, a record was handled, or a timer fired.
+    pub fn write(
+        &mut self,
+        alloc: Global,
+        lease: &Lease,
+        front: u64,
+        name: &RowName,
+        row: &Row,
+        proposal: &Proposal,
+    ) -> Result<Written, WriteRefusal>
+        requires lease { MayUse self.old lease.now front name.now }
+        requires row { IsRowSeen self.old lease.now front name.now row.now }
+        requires proposal { IsProposable self.old.case name.now row.now proposal.now }
+        requires seen { let run = run_of self.old.case.topology (take front self.old.history) in
+            IfSome self.old.rows (λ _. IsProposedOf self.old.case name.now proposal.now run) }
+
+        ensures written { IfOk result
+            (IsWrittenBy self.old self.new lease.now name.now proposal.now row.now) }
+        ensures stale { IsStaleWhere self.old.history lease.now result }
+        ensures full { IsFullWhere self.old lease.now result }
+        ensures keeper_fault { HasCause self.old.faults self.new.faults result WriteRefusal.KeeperFault }
+        ensures unchanged { OnErr result (HasStayed self.old self.new) }
+        ensures same { IsSameBook self.old self.new }
+    {
+        let commit = match self.admit(lease) {
+            Ok(commit) => commit,
+            Err(why) => return Err(why),
+        };
+        let case = self.case();
+        let made = step_of(alloc, case, lease.seq(), name, row, proposal, commit)?;
+        let Step { entry, left } = made;
+        self.append_row(alloc, name, entry, left)
+    }
+
     /// A sender learns that what it made was handled: the row no longer waits for the id.
     pub fn settle(
         &mut self,
@@ -44,11 +82,11 @@ impl<'a, K: Keeper> Book<'a, K> {
         ensures unchanged { OnErr result (HasStayed self.old self.new) }
         ensures same { IsSameBook self.old self.new }
     {
-        let commit = match self.admit(lease) {
-            Ok(commit) => commit,
+        let number = match self.admit(lease) {
+            Ok(number) => number,
             Err(why) => return Err(why),
         };
-        let left = settled(alloc, row, id, commit)?;
+        let left = settled(alloc, row, id, number)?;
         let entry = Entry::Ack {
             seq: lease.seq,
             row: name.copy(alloc)?,
