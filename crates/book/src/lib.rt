@@ -18,6 +18,8 @@ mod refusals;
 mod rows;
 mod sending;
 mod steps;
+#[cfg(test)]
+mod tests;
 mod writes;
 
 pub use answers::{Claimed, NamedRow, NamedRowList, Written};
