@@ -1,5 +1,5 @@
 -- One more entry keeps a book lawful.
-use Rattle.std.proofs.Common.{◌≡◌, ◌<◌, ◌≤◌, ◌+◌, ◌^◌, ℕ, Bool, true, false, cond, List, [], ◌∷◌, ◌++◌, length, refl, sym, ◌∙◌, ap, subst, arith, length-append}
+use Rattle.std.proofs.Common.{◌≡◌, ◌<◌, ◌≤◌, ◌+◌, ◌-◌, ◌^◌, ℕ, Bool, true, false, cond, List, [], ◌∷◌, ◌++◌, length, refl, sym, ◌∙◌, ap, subst, arith, length-append}
 use Rattle.std.specs.Prelude.{Option, Some, None, Result, Ok, Err, OnOk, OnErr, All, IfSome, option_map, unwrap_or}
 use Rattle.std.specs.Option.{option_map_or}
 use Rattle.std.specs.List.{AllByRecursion}
@@ -23,10 +23,13 @@ use Rattle.run_history.specs.Legal.{MayClaim, MayFollow, IsLegal}
 use Rattle.run_history.specs.Printing.{IsPrintable, IsOnPart}
 use Rattle.run_history.proofs.RunLaws.{run_of-push, IsLegal-push}
 use Rattle.history_laws.specs.Fences.{IsFenced}
+use Rattle.history_laws.specs.Finished.{unfinished, work_in}
 use Rattle.history_laws.specs.Stored.{stored_rows}
 use Rattle.history_laws.proofs.Lists.{each-weaker}
 use Rattle.history_laws.proofs.RowSteps.{same_row, made_row, row_of-here}
 use Rattle.history_laws.proofs.FenceLaws.{IsFenced-push, claim-under}
+use Rattle.history_laws.proofs.LowLaws.{rows-in_order}
+use Rattle.history_laws.proofs.UnfinishedLaws.{unfinished-followed, unfinished-kept}
 use Rattle.history_laws.proofs.StoredLaws.{stored_rows-followed, stored_rows-kept}
 use Rattle.book.specs.Books.{CoreView}
 use Rattle.book.specs.Fits.{fits}
@@ -90,12 +93,30 @@ IsHeld-next case history rows name entry row held written may is kept =
           (subst (λ (c : Contents). IsKept case (length history + 1) (name, c)) made kept))));
     }
 
+-- how much work is left after an entry on a row
+unfinished-next : (case : CaseShape) (history : List Entry) (name : RowName) (entry : Entry) (before row : Contents) (old new : ℕ) → row_written entry ≡ Some name
+    → old ≡ unfinished case (run_of case.topology history) → before ≡ row_of case.topology (run_of case.topology history) name
+    → row ≡ row_of case.topology (run_of case.topology (history ++ entry ∷ [])) name
+    → new ≡ (old + work_in case name row) - work_in case name before
+    → new ≡ unfinished case (run_of case.topology (history ++ entry ∷ []))
+unfinished-next case history name entry before row old new written left was is work =
+    let shape = case.topology in
+    let run = run_of shape history in
+    let push = run_of-push shape history entry in
+    let step = unfinished-followed case run entry name (rows-in_order shape history) written in
+    let first = ap (work_in case name) was in
+    let then = ap (work_in case name) (is ∙ ap (λ (r : Run). row_of shape r name) push) in
+    let whole = ap (unfinished case) push in
+    omega (arith, step, first, then, whole, left, work)
+
 -- a book stays lawful, once an entry that may come next is appended and its row is stored
-pub IsLawful-next : (case : CaseShape) (old new : CoreView) (name : RowName) (entry : Entry) (row : Contents) → IsLawful case old
+pub IsLawful-next : (case : CaseShape) (old new : CoreView) (name : RowName) (entry : Entry) (before row : Contents) → IsLawful case old
     → IsNext case old name entry row → IsSpelledRow row
+    → IfSome old.rows (λ _. before ≡ row_of case.topology (run_of case.topology old.history) name)
+    → new.work ≡ (old.work + work_in case name row) - work_in case name before
     → new.history ≡ old.history ++ entry ∷ [] → new.rows ≡ option_map (with_row name (spelling_of row)) old.rows → new.limit ≡ old.limit
     → IsLawful case new
-IsLawful-next case old new name entry row lawful next spelled appended stored limit = record {
+IsLawful-next case old new name entry before row lawful next spelled was work appended stored limit = record {
   runnable = lawful.runnable;
   limit = subst (λ n. n ≤ 2 ^ 32) (sym limit) lawful.limit;
   few = omega (arith, ap length appended, length-push old.history entry, next.room, limit);
@@ -104,8 +125,17 @@ IsLawful-next case old new name entry row lawful next spelled appended stored li
       (omega (arith, next.room, lawful.limit)) (subst (λ w. IfSome w (λ (r : RowName). r.part < parts_of case.topology)) (sym next.on_row) next.part) next.few);
   held = subst (λ (h : List Entry). IfSome new.rows (IsHeld case h)) (sym appended)
       (subst (λ o. IfSome o (IsHeld case (old.history ++ entry ∷ []))) (sym stored) (told old.rows lawful.held next.may next.of_history));
+  left = subst (λ (h : List Entry). IfSome new.rows (λ _. new.work ≡ unfinished case (run_of case.topology h))) (sym appended)
+      (subst (λ o. IfSome o (λ _. new.work ≡ unfinished case (run_of case.topology (old.history ++ entry ∷ [])))) (sym stored) (told-left old.rows lawful.left was next.of_history));
 }
   where
+    told-left : (o : Option Rows) → IfSome o (λ _. old.work ≡ unfinished case (run_of case.topology old.history))
+        → IfSome o (λ _. before ≡ row_of case.topology (run_of case.topology old.history) name)
+        → IfSome o (λ _. row ≡ row_of case.topology (run_of case.topology (old.history ++ entry ∷ [])) name)
+        → IfSome (option_map (with_row name (spelling_of row)) o) (λ _. new.work ≡ unfinished case (run_of case.topology (old.history ++ entry ∷ [])))
+    told-left None left was is = tt
+    told-left (Some rows) left was is = unfinished-next case old.history name entry before row old.work new.work next.on_row left was is work
+
     told : (o : Option Rows) → IfSome o (IsHeld case old.history) → IfSome o (λ _. MayFollow case (run_of case.topology old.history) entry)
         → IfSome o (λ _. row ≡ row_of case.topology (run_of case.topology (old.history ++ entry ∷ [])) name)
         → IfSome (option_map (with_row name (spelling_of row)) o) (IsHeld case (old.history ++ entry ∷ []))
@@ -130,8 +160,8 @@ IsHeld-claim case history rows worker interval held may =
 -- a book stays lawful, once a claim that may come next is appended
 pub IsLawful-claimed : (case : CaseShape) (old new : CoreView) (worker interval : ℕ) → IsLawful case old
     → length old.history < old.limit → MayClaim case worker interval
-    → new.history ≡ old.history ++ Claim worker interval ∷ [] → new.rows ≡ old.rows → new.limit ≡ old.limit → IsLawful case new
-IsLawful-claimed case old new worker interval lawful room may appended rows limit = record {
+    → new.history ≡ old.history ++ Claim worker interval ∷ [] → new.rows ≡ old.rows → new.limit ≡ old.limit → new.work ≡ old.work → IsLawful case new
+IsLawful-claimed case old new worker interval lawful room may appended rows limit work = record {
   runnable = lawful.runnable;
   limit = subst (λ n. n ≤ 2 ^ 32) (sym limit) lawful.limit;
   few = omega (arith, ap length appended, length-push old.history (Claim worker interval), room, limit);
@@ -141,30 +171,42 @@ IsLawful-claimed case old new worker interval lawful room may appended rows limi
       (omega (arith, room, lawful.limit)) tt (omega arith));
   held = subst (λ (h : List Entry). IfSome new.rows (IsHeld case h)) (sym appended)
       (subst (λ o. IfSome o (IsHeld case (old.history ++ Claim worker interval ∷ []))) (sym rows) (told old.rows lawful.held));
+  left = subst (λ (h : List Entry). IfSome new.rows (λ _. new.work ≡ unfinished case (run_of case.topology h))) (sym appended)
+      (subst (λ o. IfSome o (λ _. new.work ≡ unfinished case (run_of case.topology (old.history ++ Claim worker interval ∷ [])))) (sym rows) (told-left old.rows lawful.left));
 }
   where
+    told-left : (o : Option Rows) → IfSome o (λ _. old.work ≡ unfinished case (run_of case.topology old.history))
+        → IfSome o (λ _. new.work ≡ unfinished case (run_of case.topology (old.history ++ Claim worker interval ∷ [])))
+    told-left None left = tt
+    told-left (Some rows) left =
+        work ∙ left ∙ sym (unfinished-kept case (run_of case.topology old.history) (Claim worker interval) refl)
+        ∙ sym (ap (unfinished case) (run_of-push case.topology old.history (Claim worker interval)))
+
     told : (o : Option Rows) → IfSome o (IsHeld case old.history) → IfSome o (IsHeld case (old.history ++ Claim worker interval ∷ []))
     told None held = tt
     told (Some rows) held = IsHeld-claim case old.history rows worker interval held may
 
 -- a book stays lawful where its history and its rows stay
 pub IsLawful-stays : (case : CaseShape) (old new : CoreView) → IsLawful case old
-    → new.history ≡ old.history → new.rows ≡ old.rows → new.limit ≡ old.limit → IsLawful case new
-IsLawful-stays case old new lawful history rows limit = record {
+    → new.history ≡ old.history → new.rows ≡ old.rows → new.limit ≡ old.limit → new.work ≡ old.work → IsLawful case new
+IsLawful-stays case old new lawful history rows limit work = record {
   runnable = lawful.runnable;
   limit = subst (λ n. n ≤ 2 ^ 32) (sym limit) lawful.limit;
   few = omega (arith, ap length history, lawful.few, limit);
   fenced = subst (IsFenced case.topology) (sym history) lawful.fenced;
   printable = subst (IsPrintable case.topology) (sym history) lawful.printable;
   held = subst (λ (h : List Entry). IfSome new.rows (IsHeld case h)) (sym history) (subst (λ o. IfSome o (IsHeld case old.history)) (sym rows) lawful.held);
+  left = subst (λ (h : List Entry). IfSome new.rows (λ _. new.work ≡ unfinished case (run_of case.topology h))) (sym history)
+      (subst (λ o. IfSome o (λ _. new.work ≡ unfinished case (run_of case.topology old.history))) (sym rows)
+      (subst (λ n. IfSome old.rows (λ _. n ≡ unfinished case (run_of case.topology old.history))) (sym work) lawful.left));
 }
 
 -- a book stays lawful, whether a claim was appended or not
 pub IsLawful-claiming : {T E : Type 0} (case : CaseShape) (old new : CoreView) (worker interval : ℕ) (result : Result T E) → IsLawful case old
     → length old.history < old.limit → MayClaim case worker interval
     → OnOk result (new.history ≡ old.history ++ Claim worker interval ∷ []) → OnErr result (new.history ≡ old.history)
-    → new.rows ≡ old.rows → new.limit ≡ old.limit → IsLawful case new
-IsLawful-claiming case old new worker interval (Ok x) lawful room may appended history rows limit =
-    IsLawful-claimed case old new worker interval lawful room may appended rows limit
-IsLawful-claiming case old new worker interval (Err why) lawful room may appended history rows limit =
-    IsLawful-stays case old new lawful history rows limit
+    → new.rows ≡ old.rows → new.limit ≡ old.limit → new.work ≡ old.work → IsLawful case new
+IsLawful-claiming case old new worker interval (Ok x) lawful room may appended history rows limit work =
+    IsLawful-claimed case old new worker interval lawful room may appended rows limit work
+IsLawful-claiming case old new worker interval (Err why) lawful room may appended history rows limit work =
+    IsLawful-stays case old new lawful history rows limit work

@@ -7,3 +7,4 @@ pub mod FoundRows
 pub mod SentLaws
 pub mod Growing
 pub mod ProposalLaws
+pub mod FirstLaws

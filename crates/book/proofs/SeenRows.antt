@@ -239,3 +239,12 @@ IsWritten-result old new lease name entry given left (Ok answer) next last same 
 pub IfOk-row : {one other : Contents} → one ≡ other → (result : Result Written WriteRefusal) → IfOk result (λ w. w.row ≡ one) → IfOk result (λ w. w.row ≡ other)
 IfOk-row same (Err why) row = tt
 IfOk-row same (Ok answer) row = row ∙ same
+
+-- the row that is handed in is that of the history, where the keeper tells
+pub row-was : (book : BookView) (lease : LeaseView) (front : ℕ) (name : RowName) (row : Contents) → IsLawful book.case (core_of book)
+    → MayUse book lease front name → IsRowSeen book lease front name row → last_claim lease.interval book.history ≡ Some lease.seq
+    → IfSome book.rows (λ _. row ≡ row_of book.case.topology (run_of book.case.topology book.history) name)
+row-was book lease front name row lawful uses seen last =
+    let shape = book.case.topology in
+    told-then book.rows (λ _. row ≡ row_of shape (run_of shape (known lease.interval lease.seq (take front book.history))) name) _ seen.known
+    (λ r is. is ∙ row-front book lease front name uses last ∙ row-whole book lease front name lawful.fenced uses last)

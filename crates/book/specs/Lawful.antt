@@ -13,6 +13,7 @@ use Rattle.run_history.specs.Runs.{run_of}
 use Rattle.run_history.specs.Legal.{IsLegal}
 use Rattle.run_history.specs.Printing.{IsPrintable}
 use Rattle.history_laws.specs.Fences.{IsFenced}
+use Rattle.history_laws.specs.Finished.{unfinished}
 use Rattle.history_laws.specs.Inputs.{IsRunnable}
 use Rattle.history_laws.specs.Stored.{stored_rows}
 use Rattle.book.specs.Books.{CoreView}
@@ -38,3 +39,5 @@ pub record IsLawful (case : CaseShape) (core : CoreView) : Type 0 where
   pub fenced : IsFenced case.topology core.history
   pub printable : IsPrintable case.topology core.history
   pub held : IfSome core.rows (IsHeld case core.history)
+  -- and what the book counts as left is the work that is left
+  pub left : IfSome core.rows (λ _. core.work ≡ unfinished case (run_of case.topology core.history))

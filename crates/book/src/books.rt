@@ -1,13 +1,16 @@
 //! A book, from its start to its end.
-ghost use Rattle.std.specs.Prelude.{◌≡◌, ◌≤◌, ◌^◌, [], All, IfErr, IfOk, IfSome};
+ghost use Rattle.std.specs.Prelude.{◌≡◌, ◌≤◌, ◌^◌, ◌+◌, ◌<◌, [], All, IfErr, IfOk, IfSome, cond, nat_lt};
 ghost use Rattle.mw_types.specs.Causes.{Rose};
 ghost use Rattle.injector.specs.Sources.{IsSource};
+ghost use Rattle.run_history.specs.Runs.{empty_run, run_of};
+ghost use Rattle.history_laws.specs.Finished.{unfinished};
 ghost use Rattle.history_laws.specs.Inputs.{IsRunnable};
 ghost use Rattle.book.specs.Books.{core_of};
 ghost use Rattle.book.specs.Lawful.{IsLawful};
 ghost use Rattle.book.specs.Answers.{IsNotEmpty};
 ghost use Rattle.book.specs.Refusing.{start_why_of};
 
+use crate::fitting::lines;
 use crate::inner::Core;
 use crate::refusals::{StartRefusal, StartWhy};
 use injector::Items;
@@ -36,6 +39,7 @@ impl<'a, K: Keeper> Model for Book<'a, K> {
       limit = b.core.limit;
       rows = b.core.rows;
       faults = b.core.faults;
+      work = b.core.work;
     } };
 
     ghost invariant = { λ b. IsLawful b.case.now b.core };
@@ -64,8 +68,9 @@ impl<'a, K: Keeper> Book<'a, K> {
     {
         let mut keeper = keeper;
         runnable(case);
+        let work = first_work(case);
         match keeper.first(alloc) {
-            Ok(None) => Ok(begun(alloc, case, keeper, limit)),
+            Ok(None) => Ok(begun(alloc, case, keeper, limit, work)),
             Ok(Some(row)) => Err(StartRefusal {
                 why: not_empty(row),
                 keeper,
@@ -91,6 +96,14 @@ impl<'a, K: Keeper> Book<'a, K> {
         &self.core.history
     }
 
+    /// How much work is left: deliveries that are not acknowledged, timers that are set, and injectors with lines left.
+    pub fn unfinished(&self) -> u64
+        ensures left { IfSome self.now.rows
+            (λ _. result ≡ unfinished self.now.case (run_of self.now.case.topology self.now.history)) }
+    {
+        self.core.work
+    }
+
     /// The keeper and the history, at the end.
     pub fn into_parts(self) -> (K, History)
         ensures rows { K.rows result.0 ≡ self.entry.rows }
@@ -103,6 +116,7 @@ impl<'a, K: Keeper> Book<'a, K> {
             keeper,
             limit: _,
             sequencers: _,
+            work: _,
         } = core;
         (keeper, history)
     }
@@ -127,6 +141,25 @@ impl<'a, K: Keeper> Book<'a, K> {
     }
 }
 
+// How much work a case begins with: each injector that has a line.
+fn first_work(case: &Case) -> u64
+    ensures { result ≡ unfinished case.now empty_run }
+{
+    let mut work = 0;
+    for part in 0..case.topology.injectors() {
+        work = counted(work, lines(case, part));
+    }
+    work
+}
+
+// One more, where an injector has a line.
+fn counted(work: u64, lines: u32) -> u64
+    requires { work < 2 ^ 32 }
+    ensures { result ≡ work + cond (nat_lt 0 lines) 1 0 }
+{
+    if lines > 0 { work + 1 } else { work }
+}
+
 // What a case keeps: its topology keeps the rules, and each source those of a source.
 fn runnable(case: &Case)
     ensures { IsRunnable case.now }
@@ -145,13 +178,20 @@ fn are_sources(all: &[Items])
 }
 
 // A book in which nothing has happened.
-fn begun<'a, K: Keeper>(alloc: Global, case: &'a Case, keeper: K, limit: u64) -> Book<'a, K>
+fn begun<'a, K: Keeper>(
+    alloc: Global,
+    case: &'a Case,
+    keeper: K,
+    limit: u64,
+    work: u64,
+) -> Book<'a, K>
     requires runnable { IsRunnable case.now }
     requires limit { limit ≤ 2 ^ 32 }
     requires empty { IfSome (K.rows keeper) (λ rows. rows ≡ []) }
+    requires work { work ≡ unfinished case.now empty_run }
 
     ensures case { result.case ≡ case.now }
-    ensures core { core_of result ≡ record { history = []; limit = limit; rows = K.rows keeper; faults = K.faults keeper } }
+    ensures core { core_of result ≡ record { history = []; limit = limit; rows = K.rows keeper; faults = K.faults keeper; work = work } }
 {
     Book {
         case,
@@ -160,6 +200,7 @@ fn begun<'a, K: Keeper>(alloc: Global, case: &'a Case, keeper: K, limit: u64) ->
             keeper,
             limit,
             sequencers: BTreeMap::new(alloc),
+            work,
         },
     }
 }

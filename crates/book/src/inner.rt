@@ -13,7 +13,8 @@ use std::alloc::Global;
 use std::collections::BTreeMap;
 use std::marker::Model;
 
-/// The history, the keeper, how many entries there may be, and the last sequencer of each interval.
+/// The history, the keeper, how many entries there may be, the last sequencer of each interval, and how much work
+/// is left.
 #[derive(Drop)]
 pub struct Core<K: Keeper> {
     pub(crate) history: History,
@@ -21,6 +22,8 @@ pub struct Core<K: Keeper> {
     pub(crate) limit: u64,
     // The last claim of each interval that has one.
     pub(crate) sequencers: BTreeMap<u32, u64>,
+    // The deliveries that are not acknowledged, the timers that are set, and the injectors with lines left.
+    pub(crate) work: u64,
 }
 
 impl<K: Keeper> Model for Core<K> {
@@ -36,6 +39,7 @@ impl<K: Keeper> Model for Core<K> {
       limit = c.limit;
       rows = K.rows c.keeper;
       faults = K.faults c.keeper;
+      work = c.work;
     } };
 
     ghost invariant = { λ c. KnowsClaims (get nat_cmp c.sequencers) c.history };
@@ -49,18 +53,21 @@ impl<K: Keeper> Core<K> {
         self.sequencers.get(&interval).copied()
     }
 
-    // Appends an entry on a row, and stores the row's bytes.
+    // Appends an entry on a row, and stores the row's bytes; so much work is left then.
     pub(crate) fn append(
         &mut self,
         alloc: Global,
         entry: Entry,
         name: &RowName,
         bytes: &[u8],
+        work: u64,
     ) -> Result<(), KeeperFault>
         requires on_row { row_written entry ≡ Some name.now }
         ensures appended { OnOk result (self.new.history ≡ self.old.history ++ entry ∷ []) }
         ensures stored { OnOk result (self.new.rows ≡ option_map (with_row name.now bytes.now) self.old.rows) }
+        ensures left { OnOk result (self.new.work ≡ work) }
         ensures limit { self.new.limit ≡ self.old.limit }
+        ensures same_left { OnErr result (self.new.work ≡ self.old.work) }
         ensures history { OnErr result (self.new.history ≡ self.old.history) }
         ensures rows { OnErr result (self.new.rows ≡ self.old.rows) }
         ensures failed { HasCause self.old.faults self.new.faults result KeeperFault.Failed }
@@ -70,6 +77,7 @@ impl<K: Keeper> Core<K> {
             self.history.pop();
             return Err(fault);
         }
+        self.work = work;
         Ok(())
     }
     // Appends a claim.
@@ -79,6 +87,7 @@ impl<K: Keeper> Core<K> {
         ensures history { OnErr result (self.new.history ≡ self.old.history) }
         ensures rows { self.new.rows ≡ self.old.rows }
         ensures faults { self.new.faults ≡ self.old.faults }
+        ensures left { self.new.work ≡ self.old.work }
         ensures limit { self.new.limit ≡ self.old.limit }
     {
         let number = self.history.len() as u64;

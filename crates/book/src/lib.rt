@@ -20,6 +20,7 @@ mod sending;
 mod steps;
 #[cfg(test)]
 mod tests;
+mod works;
 mod writes;
 
 pub use answers::{Claimed, NamedRow, NamedRowList, Written};

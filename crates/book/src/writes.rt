@@ -2,7 +2,7 @@
 ghost use Rattle.std.specs.Prelude.{◌≡◌, ◌<◌, ◌^◌, ◌↔◌, ℕ, None, ◌++◌, ◌∷◌, ◌⊎◌, [], length, take, IfErr, IfOk, IfSome, IsErrOf, OnErr, OnOk, Some};
 ghost use Rattle.mw_types.specs.Causes.{HasCause};
 ghost use Rattle.mw_types.specs.declared.entry.Entry.TheVariants.{Ack, Purge};
-ghost use Rattle.run_history.specs.Runs.{run_of};
+ghost use Rattle.run_history.specs.Runs.{run_of, row_of};
 ghost use Rattle.history_laws.specs.Fences.{last_claim};
 ghost use Rattle.book.specs.Books.{core_of};
 ghost use Rattle.book.specs.Conditions.{IsClaimed, IsRowSeen, MayRaise, MaySettle, MayUse};
@@ -18,6 +18,7 @@ use crate::proposal::Proposal;
 use crate::refusals::WriteRefusal;
 use crate::rows::{purged, settled};
 use crate::steps::{Step, step_of};
+use crate::works::work_after;
 use mw_types::{Duplicate, Entry, RecordId, RowName};
 use record_codec::encode_row;
 use row_keeper::Keeper;
@@ -56,7 +57,7 @@ impl<'a, K: Keeper> Book<'a, K> {
         let case = self.case();
         let made = step_of(alloc, case, lease.seq(), name, row, proposal, commit)?;
         let Step { entry, left } = made;
-        self.append_row(alloc, name, entry, left)
+        self.append_row(alloc, name, row, entry, left)
     }
 
     /// A sender learns that what it made was handled: the row no longer waits for the id.
@@ -92,7 +93,7 @@ impl<'a, K: Keeper> Book<'a, K> {
             row: name.copy(alloc)?,
             id,
         };
-        self.append_row(alloc, name, entry, left)
+        self.append_row(alloc, name, row, entry, left)
     }
 
     /// A row forgets the ids of records that are finished: those below the floor.
@@ -128,7 +129,7 @@ impl<'a, K: Keeper> Book<'a, K> {
             row: name.copy(alloc)?,
             floor,
         };
-        self.append_row(alloc, name, entry, left)
+        self.append_row(alloc, name, row, entry, left)
     }
 
     // Tests the sequencer of a write, and then whether there is room for its entry, which will have this number.
@@ -170,10 +171,13 @@ impl<'a, K: Keeper> Book<'a, K> {
         &mut self,
         alloc: Global,
         name: &RowName,
+        before: &Row,
         entry: Entry,
         row: Row,
     ) -> Result<Written, WriteRefusal>
         requires next { IsNext self.old.case (core_of self.old) name.now entry row }
+        requires was { let shape = self.old.case.topology in
+            IfSome self.old.rows (λ _. before.now ≡ row_of shape (run_of shape self.old.history) name.now) }
         ensures appended { OnOk result (self.new.history ≡ self.old.history ++ entry ∷ []) }
         ensures commit { IfOk result (λ written. written.commit ≡ length self.old.history) }
         ensures row { IfOk result (λ written. written.row ≡ row) }
@@ -184,8 +188,9 @@ impl<'a, K: Keeper> Book<'a, K> {
         ensures same { IsSameBook self.old self.new }
     {
         let commit = self.core.history.len() as u64;
+        let work = work_after(self.case, name, before, &row, self.core.work)?;
         let bytes = encode_row(alloc, &row)?;
-        self.core.append(alloc, entry, name, bytes.as_slice())?;
+        self.core.append(alloc, entry, name, bytes.as_slice(), work)?;
         Ok(Written { commit, row })
     }
 }

@@ -5,7 +5,7 @@ use Rattle.book.specs.Books.{core_of}
 use Rattle.book.specs.Answers.{written_row}
 use Rattle.book.specs.Appending.{IsNext}
 use Rattle.book.proofs.ClaimLaws.{stale-again}
-use Rattle.book.proofs.SeenRows.{IsNext-purged, IsWritten-result, IfOk-row}
+use Rattle.book.proofs.SeenRows.{IsNext-purged, IsWritten-result, IfOk-row, row-was}
 use Rattle.book.proofs.books.Book.purge.Goals as goal
 
 -- the refusal is that of the test of the sequencer
@@ -22,6 +22,7 @@ append_row-requires g c =
           (IsNext-purged c.args.self.now c.args.lease.now c.args.front c.args.name.now c.args.row.now c.in_ok-left.left c.args.floor
           c.admit.ensures.lawful c.requires.lease c.requires.row c.requires.floor c.in-Ok.ensures.last c.in-Ok.ensures.room
           (c.in_ok-left.ensures ∙ ap (λ n. written_row n entry [] c.args.row.now) c.in-Ok.ensures.number));
+      was = row-was c.args.self.now c.args.lease.now c.args.front c.args.name.now c.args.row.now c.admit.ensures.lawful c.requires.lease c.requires.row c.in-Ok.ensures.last;
     }
 
 -- what was appended is the entry
