@@ -8,3 +8,4 @@ pub mod SentLaws
 pub mod Growing
 pub mod ProposalLaws
 pub mod FirstLaws
+pub mod TestLaws

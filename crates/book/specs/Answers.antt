@@ -1,5 +1,6 @@
 -- What the calls of a book answer.
--- Akidau et al., VLDB 2013, section 6.2: a write under an older sequencer is refused. Own: the other refusals.
+-- Akidau et al., VLDB 2013, section 6.2: a write under an older sequencer is refused. Own: the
+-- other refusals.
 use Rattle.std.specs.Prelude.{◌≡◌, ◌<◌, ◌↔◌, ◌++◌, ◌∷◌, [], ℕ, List, length, map, filter, Option, Some, Result, IsErrOf, IsSome, IfSome, slice_get, ⊤, true}
 use Rattle.mw_types.specs.declared.identity.RowName.{RowName}
 use Rattle.mw_types.specs.declared.delivery.Delivery.{Delivery}
@@ -20,7 +21,8 @@ use Rattle.book.specs.declared.refusals.StartWhy.TheVariants as starts
 use Rattle.book.specs.declared.refusals.WriteRefusal.{WriteRefusal}
 use Rattle.book.specs.declared.refusals.WriteRefusal.TheVariants as refusals
 
--- a start is refused for a row exactly of a keeper that has one, with its least row, where the keeper tells
+-- a start is refused for a row exactly of a keeper that has one, with its least row, where the
+-- keeper tells
 abbrev pub IsNotEmpty : Option Rows → StartWhy → Type 0
 IsNotEmpty rows (starts.NotEmpty name bytes) = IfSome rows (λ held. slice_get held 0 ≡ Some (name, bytes))
 IsNotEmpty rows _ = ⊤
@@ -29,7 +31,8 @@ IsNotEmpty rows _ = ⊤
 abbrev pub written_row : ℕ → Entry → List Delivery → Contents → Contents
 written_row commit entry sent row = record (changed entry sent row) { last = commit }
 
--- a write was accepted: its entry is the next of the history, and the answer has the entry's number and its row
+-- a write was accepted: its entry is the next of the history, and the answer has the entry's number
+-- and its row
 pub record IsWritten (old new : BookView) (lease : LeaseView) (name : RowName) (entry : Entry) (left : Contents) (answer : Written) : Type 0 where
   pub appended : new.history ≡ old.history ++ entry ∷ []
   pub commit : answer.commit ≡ length old.history
@@ -41,12 +44,14 @@ pub record IsWritten (old new : BookView) (lease : LeaseView) (name : RowName) (
   -- the lease was the last of its interval
   pub last : last_claim lease.interval old.history ≡ Some lease.seq
 
--- a write is stale exactly where a later claim of the lease's interval is there, whose number is then told
+-- a write is stale exactly where a later claim of the lease's interval is there, whose number is
+-- then told
 abbrev pub IsStaleWhere : {T : Type 0} → List Entry → LeaseView → Result T WriteRefusal → Type 0
 IsStaleWhere history lease result = (newer : ℕ) →
     IsErrOf result (refusals.Stale newer) ↔ (last_claim lease.interval history ≡ Some newer) × (lease.seq < newer)
 
--- the history is full exactly where it has as many entries as it may have, and the lease is not stale
+-- the history is full exactly where it has as many entries as it may have, and the lease is not
+-- stale
 abbrev pub IsFullWhere : {T : Type 0} → BookView → LeaseView → Result T WriteRefusal → Type 0
 IsFullWhere book lease result = IsErrOf result refusals.HistoryFull
     ↔ (length book.history ≡ book.limit) × (last_claim lease.interval book.history ≡ Some lease.seq)

@@ -4,7 +4,8 @@ use Rattle.mw_types.specs.declared.entry.Entry.{Entry}
 use Rattle.row_keeper.specs.Rows.{Rows}
 use Rattle.run_history.specs.Cases.{CaseShape}
 
--- all of a book but its case: the history, how many entries it may have, the rows that the keeper holds where it
+-- all of a book but its case: the history, how many entries it may have, the rows that the keeper
+-- holds where it
 -- tells them, how often the keeper failed, and how much work the book counts as left
 pub record CoreView : Type 0 where
   pub history : List Entry

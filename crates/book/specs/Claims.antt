@@ -29,14 +29,16 @@ spelled r = (r.0, spelling_of r.1)
 abbrev pub rows_in : Bounds → Run → List (RowName × Contents)
 rows_in bounds run = filter (λ (r : RowName × Contents). covers bounds r.0) run.rows
 
--- the rows that a claim answers fit their names; where the keeper tells they are those of the history that lie in the
+-- the rows that a claim answers fit their names; where the keeper tells they are those of the
+-- history that lie in the
 -- interval, in order
 pub record AreRowsOf (book : BookView) (interval : ℕ) (rows : List NamedRow) : Type 0 where
   pub fit : All (λ (r : NamedRow). fits book.case (length book.history) r.name r.row ≡ true) rows
   pub all : IfSome book.rows (λ _. (bounds : Bounds) → slice_get (intervals_of book.case.topology) interval ≡ Some bounds →
       map named rows ≡ rows_in bounds (run_of book.case.topology book.history))
 
--- bytes are damaged under a name: they are those of no row that fits the name. No row of a keeper that tells is damaged
+-- bytes are damaged under a name: they are those of no row that fits the name. No row of a keeper
+-- that tells is damaged
 pub record IsDamagedRow (book : BookView) (name : RowName) (bytes : List ℕ) : Type 0 where
   pub no_row : (row : Contents) → IsKept book.case (length book.history) (name, row) → bytes ≢ spelling_of row
   pub untold : IfSome book.rows (λ _. ⊥)
@@ -53,7 +55,8 @@ abbrev pub IsFoundWithin : CaseShape → ℕ → List KeptRow → Rows → Type 
 IsFoundWithin case interval found held = (bounds : Bounds) → slice_get (intervals_of case.topology) interval ≡ Some bounds →
     map entry_of found ≡ rows_within bounds held
 
--- the first of the rows that a keeper answered were read: each fits its name, and where the bytes are those of rows
+-- the first of the rows that a keeper answered were read: each fits its name, and where the bytes
+-- are those of rows
 -- that can be kept, they are these rows
 pub record IsRead (case : CaseShape) (number : ℕ) (found : List KeptRow) (done : List NamedRow) (at : ℕ) : Type 0 where
   pub fit : All (λ (r : NamedRow). fits case number r.name r.row ≡ true) done

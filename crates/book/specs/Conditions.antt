@@ -1,5 +1,6 @@
 -- What a caller of a book has to know before it writes.
--- Akidau et al., VLDB 2013, section 6.2 for the sequencer that each write carries. Own: what a holder of a lease has
+-- Akidau et al., VLDB 2013, section 6.2 for the sequencer that each write carries. Own: what a
+-- holder of a lease has
 -- seen of the history.
 use Rattle.std.specs.Prelude.{◌≡◌, ◌<◌, ◌≤◌, ◌+◌, ◌^◌, ℕ, List, [], take, drop, length, slice_get, Some, Option, IsSome, IfSome, false, true}
 use Rattle.std.specs.Option.{option_map}
@@ -29,7 +30,8 @@ use Rattle.book.specs.declared.proposal.Proposal.TheVariants as proposals
 abbrev pub IsClaimed : List Entry → LeaseView → Type 0
 IsClaimed history lease = (worker : ℕ) × (slice_get history lease.seq ≡ Some (Claim worker lease.interval))
 
--- a lease may be used on a row by one who has seen so much of the history: the lease's claim, and each entry that
+-- a lease may be used on a row by one who has seen so much of the history: the lease's claim, and
+-- each entry that
 -- carries the lease's number. The row lies in the lease's interval
 pub record MayUse (book : BookView) (lease : LeaseView) (front : ℕ) (name : RowName) : Type 0 where
   pub claimed : IsClaimed book.history lease
@@ -38,7 +40,8 @@ pub record MayUse (book : BookView) (lease : LeaseView) (front : ℕ) (name : Ro
   pub own : CarryNot lease.seq (drop front book.history)
   pub covers : interval_of book.case.topology name ≡ Some lease.interval
 
--- the row that is handed in fits its name, and is the row as it is known under the lease, where the keeper tells
+-- the row that is handed in fits its name, and is the row as it is known under the lease, where the
+-- keeper tells
 pub record IsRowSeen (book : BookView) (lease : LeaseView) (front : ℕ) (name : RowName) (row : Contents) : Type 0 where
   pub fit : fits book.case (length book.history) name row ≡ true
   pub known : let shape = book.case.topology in IfSome book.rows (λ _.
@@ -49,7 +52,8 @@ pub record MaySettle (book : BookView) (front : ℕ) (row : Contents) (id : Reco
   pub pending : IsSome (found_delivery id row.pending)
   pub handled : IfSome book.rows (λ _. is_handled id (take front book.history) ≡ true)
 
--- a floor is above the row's, and no number of an entry is at or above it that could not be one; where the keeper
+-- a floor is above the row's, and no number of an entry is at or above it that could not be one;
+-- where the keeper
 -- tells, the row is there, and the floor is at most that of what was seen
 pub record MayRaise (book : BookView) (front : ℕ) (name : RowName) (row : Contents) (floor : ℕ) : Type 0 where
   pub rises : row.floor < floor

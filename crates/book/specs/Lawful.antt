@@ -1,5 +1,6 @@
 -- What always holds of a book.
--- Akidau et al., VLDB 2013, section 6.1, where state is checkpointed with each record's handling, and section 6.2 for
+-- Akidau et al., VLDB 2013, section 6.1, where state is checkpointed with each record's handling,
+-- and section 6.2 for
 -- sequencers. Own: what is known over a keeper that does not tell its rows.
 use Rattle.std.specs.Prelude.{◌≡◌, ◌≤◌, ◌^◌, ℕ, List, length, true, IfSome}
 use Rattle.std.specs.List.{AllByRecursion}
@@ -30,7 +31,8 @@ pub record IsHeld (case : CaseShape) (history : List Entry) (rows : Rows) : Type
   pub stored : rows ≡ stored_rows (run_of case.topology history)
   pub kept : AllByRecursion (IsKept case (length history)) (run_of case.topology history).rows
 
--- a book is lawful: its history is fenced, no longer than its limit, and can be printed, and where the keeper tells
+-- a book is lawful: its history is fenced, no longer than its limit, and can be printed, and where
+-- the keeper tells
 -- its rows they are those of the history, which is legal
 pub record IsLawful (case : CaseShape) (core : CoreView) : Type 0 where
   pub runnable : IsRunnable case

@@ -1,5 +1,6 @@
 -- What may be proposed, and what is written of it.
--- Akidau et al., VLDB 2013, section 6.1, for what a worker does on receipt of a record, and section 4.6 for timers.
+-- Akidau et al., VLDB 2013, section 6.1, for what a worker does on receipt of a record, and section
+-- 4.6 for timers.
 -- Own: what is asked over a keeper that does not tell its rows.
 use Rattle.std.specs.Prelude.{◌≡◌, ◌<◌, ◌≤◌, ℕ, Bool, true, false, List, [], ◌++◌, length, take, slice_get, Option, Some, IfSome}
 use Rattle.std.specs.Option.{option_map}
@@ -34,7 +35,8 @@ pub record IsNextLine (case : CaseShape) (name : RowName) (row : Contents) (line
   pub next : line ≡ cursor_in row.state
   pub there : line < length (source_of case name.part)
 
--- a record that goes to the row and is not finished there, with what its computation's handler leaves of it
+-- a record that goes to the row and is not finished there, with what its computation's handler
+-- leaves of it
 pub record IsHandling (case : CaseShape) (name : RowName) (row : Contents) (delivery : Delivery) (effects : Outcome) : Type 0 where
   pub id : IsId delivery.id
   pub to_row : delivery.to ≡ name
@@ -53,7 +55,8 @@ IsProposable case name row (proposals.Inject line) = IsNextLine case name row li
 IsProposable case name row (proposals.Handle delivery effects) = IsHandling case name row delivery effects
 IsProposable case name row (proposals.Fire timer mark effects) = IsFiring case name row timer mark effects
 
--- what was seen has the record that is handled, and its low watermark is not below the mark of the timer that fires
+-- what was seen has the record that is handled, and its low watermark is not below the mark of the
+-- timer that fires
 abbrev pub IsProposedOf : CaseShape → RowName → Proposal → Run → Type 0
 IsProposedOf case name (proposals.Inject line) run = Unit {0}
 IsProposedOf case name (proposals.Handle delivery effects) run = found_delivery delivery.id run.made ≡ Some delivery
@@ -68,7 +71,8 @@ IsEntryOf case seq name (proposals.Inject line) entry = (item : Record)
 IsEntryOf case seq name (proposals.Handle delivery effects) entry = entry ≡ entries.Handle seq name delivery.id effects
 IsEntryOf case seq name (proposals.Fire timer mark effects) entry = entry ≡ entries.Fire seq name timer mark effects
 
--- whether the cause of what an entry sends is late: the record, the timer, or the delivery that is handled
+-- whether the cause of what an entry sends is late: the record, the timer, or the delivery that is
+-- handled
 abbrev pub is_cause_late : Proposal → Entry → Bool
 is_cause_late (proposals.Handle delivery effects) entry = delivery.item.late
 is_cause_late _ entry = late_cause [] entry

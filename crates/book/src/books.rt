@@ -96,10 +96,12 @@ impl<'a, K: Keeper> Book<'a, K> {
         &self.core.history
     }
 
-    /// How much work is left: deliveries that are not acknowledged, timers that are set, and injectors with lines left.
+    /// How much work is left: deliveries that are not acknowledged, timers that are set, and
+    /// injectors with lines left.
     pub fn unfinished(&self) -> u64
         ensures left { IfSome self.now.rows
-            (λ _. result ≡ unfinished self.now.case (run_of self.now.case.topology self.now.history)) }
+            (λ _. result ≡ unfinished self.now.case
+            (run_of self.now.case.topology self.now.history)) }
     {
         self.core.work
     }
@@ -191,7 +193,8 @@ fn begun<'a, K: Keeper>(
     requires work { work ≡ unfinished case.now empty_run }
 
     ensures case { result.case ≡ case.now }
-    ensures core { core_of result ≡ record { history = []; limit = limit; rows = K.rows keeper; faults = K.faults keeper; work = work } }
+    ensures core { core_of result
+        ≡ record { history = []; limit = limit; rows = K.rows keeper; faults = K.faults keeper; work = work } }
 {
     Book {
         case,

@@ -38,14 +38,17 @@ impl<'a, K: Keeper> Book<'a, K> {
     ) -> Result<Claimed, ClaimRefusal>
         requires may { MayClaim self.old.case worker interval }
 
-        ensures appended { OnOk result (self.new.history ≡ self.old.history ++ Claim worker interval ∷ []) }
+        ensures appended { OnOk result
+            (self.new.history ≡ self.old.history ++ Claim worker interval ∷ []) }
         ensures lease { IfOk result (λ claimed.
             claimed.lease ≡ record { interval = interval; seq = length self.old.history }) }
         ensures rows { IfOk result (λ claimed. AreRowsOf self.old interval claimed.rows) }
 
-        ensures full { IsErrOf result ClaimRefusal.HistoryFull ↔ (length self.old.history ≡ self.old.limit) }
+        ensures full { IsErrOf result ClaimRefusal.HistoryFull ↔
+            (length self.old.history ≡ self.old.limit) }
         ensures damaged { IfErr result (IsDamaged self.old) }
-        ensures keeper_fault { HasCause self.old.faults self.new.faults result ClaimRefusal.KeeperFault }
+        ensures keeper_fault { HasCause self.old.faults self.new.faults result
+            ClaimRefusal.KeeperFault }
         ensures unchanged { OnErr result (HasStayed self.old self.new) }
         ensures rows_stay { self.new.rows ≡ self.old.rows }
         ensures same { IsSameBook self.old self.new }
@@ -71,7 +74,8 @@ impl<'a, K: Keeper> Book<'a, K> {
         ensures rows { IfOk result (AreRowsOf self.old interval) }
         ensures damaged { IfErr result (IsDamaged self.old) }
         ensures not_full { IsErrOf result ClaimRefusal.HistoryFull → ⊥ }
-        ensures keeper_fault { HasCause self.old.faults self.new.faults result ClaimRefusal.KeeperFault }
+        ensures keeper_fault { HasCause self.old.faults self.new.faults result
+            ClaimRefusal.KeeperFault }
         ensures stayed { HasStayed self.old self.new }
         ensures same { IsSameBook self.old self.new }
     {
@@ -83,7 +87,8 @@ impl<'a, K: Keeper> Book<'a, K> {
     // What the keeper has of an interval.
     fn scan(&mut self, alloc: Global, interval: u32) -> Result<KeptRowList, KeeperFault>
         requires there { interval < interval_count self.old.case.topology }
-        ensures within { IfOk result (λ found. IfSome self.old.rows (IsFoundWithin self.old.case interval found)) }
+        ensures within { IfOk result
+            (λ found. IfSome self.old.rows (IsFoundWithin self.old.case interval found)) }
         ensures stayed { HasStayed self.old self.new }
         ensures same { IsSameBook self.old self.new }
         ensures keeper_fault { HasCause self.old.faults self.new.faults result KeeperFault.Failed }
@@ -96,7 +101,8 @@ impl<'a, K: Keeper> Book<'a, K> {
     fn append_claim(&mut self, worker: u32, interval: u32) -> Result<(), NoMemory>
         requires may { MayClaim self.old.case worker interval }
         requires room { length self.old.history < self.old.limit }
-        ensures appended { OnOk result (self.new.history ≡ self.old.history ++ Claim worker interval ∷ []) }
+        ensures appended { OnOk result
+            (self.new.history ≡ self.old.history ++ Claim worker interval ∷ []) }
         ensures history { OnErr result (self.new.history ≡ self.old.history) }
         ensures rows { self.new.rows ≡ self.old.rows }
         ensures faults { self.new.faults ≡ self.old.faults }
@@ -114,10 +120,13 @@ fn decoded(
     found: &[KeptRow],
 ) -> Result<NamedRowList, ClaimRefusal>
     ensures fit { IfOk result (All (λ (r : NamedRow). fits case.now number r.name r.row ≡ true)) }
-    ensures only { (rows : List (RowName × Contents)) → AllByRecursion (IsKept case.now number) rows →
+    ensures only { (rows : List (RowName × Contents)) → AllByRecursion
+        (IsKept case.now number) rows →
         map entry_of found.now ≡ map spelled rows →
-        MatchResult result (λ answered. map named answered ≡ rows) (λ why. why ≡ refusals.NoMemory) }
-    ensures damaged { (name : RowName) (bytes : List ℕ) → IsErrOf result (refusals.RowDamaged name bytes) →
+        MatchResult result (λ answered. map named answered ≡ rows)
+        (λ why. why ≡ refusals.NoMemory) }
+    ensures damaged { (name : RowName) (bytes : List ℕ) → IsErrOf result
+        (refusals.RowDamaged name bytes) →
         (row : Contents) → IsKept case.now number (name, row) → bytes ≢ spelling_of row }
     ensures not_full { IsErrOf result ClaimRefusal.HistoryFull → ⊥ }
     ensures no_fault { IsErrOf result ClaimRefusal.KeeperFault → ⊥ }
@@ -140,9 +149,11 @@ fn row_named(
     kept: &KeptRow,
 ) -> Result<NamedRow, ClaimRefusal>
     ensures fit { IfOk result (λ r. fits case.now number r.name r.row ≡ true) }
-    ensures only { (row : Contents) → IsKept case.now number (kept.now.name, row) → kept.now.bytes ≡ spelling_of row →
+    ensures only { (row : Contents) → IsKept case.now number (kept.now.name, row) → kept.now.bytes
+        ≡ spelling_of row →
         MatchResult result (λ r. named r ≡ (kept.now.name, row)) (λ why. why ≡ refusals.NoMemory) }
-    ensures damaged { (name : RowName) (bytes : List ℕ) → IsErrOf result (refusals.RowDamaged name bytes) →
+    ensures damaged { (name : RowName) (bytes : List ℕ) → IsErrOf result
+        (refusals.RowDamaged name bytes) →
         (row : Contents) → IsKept case.now number (name, row) → bytes ≢ spelling_of row }
     ensures not_full { IsErrOf result ClaimRefusal.HistoryFull → ⊥ }
     ensures no_fault { IsErrOf result ClaimRefusal.KeeperFault → ⊥ }
@@ -164,8 +175,10 @@ fn fitting(
 ) -> Result<NamedRow, ClaimRefusal>
     ensures ok { IfOk result (λ r. named r ≡ (kept.now.name, row)) }
     ensures fit { OnOk result (fits case.now number kept.now.name row ≡ true) }
-    ensures refused { IfErr result (λ why. fits case.now number kept.now.name row ≡ true → why ≡ refusals.NoMemory) }
-    ensures damaged { IfErr result (λ why. why ≢ refusals.NoMemory → why ≡ refusals.RowDamaged kept.now.name kept.now.bytes) }
+    ensures refused { IfErr result
+        (λ why. fits case.now number kept.now.name row ≡ true → why ≡ refusals.NoMemory) }
+    ensures damaged { IfErr result
+        (λ why. why ≢ refusals.NoMemory → why ≡ refusals.RowDamaged kept.now.name kept.now.bytes) }
 {
     if !fits(case, number, &kept.name, &row) {
         return Err(damaged(alloc, kept));
@@ -178,7 +191,8 @@ fn fitting(
 
 // Bytes that are no row that fits their name.
 fn damaged(alloc: Global, kept: &KeptRow) -> ClaimRefusal
-    ensures { (result ≡ refusals.NoMemory) ⊎ (result ≡ refusals.RowDamaged kept.now.name kept.now.bytes) }
+    ensures { (result ≡ refusals.NoMemory) ⊎
+        (result ≡ refusals.RowDamaged kept.now.name kept.now.bytes) }
 {
     match kept.copy(alloc) {
         Ok(KeptRow { name, bytes }) => ClaimRefusal::RowDamaged { name, bytes },

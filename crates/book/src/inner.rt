@@ -13,7 +13,8 @@ use std::alloc::Global;
 use std::collections::BTreeMap;
 use std::marker::Model;
 
-/// The history, the keeper, how many entries there may be, the last sequencer of each interval, and how much work
+/// The history, the keeper, how many entries there may be, the last sequencer of each interval, and
+/// how much work
 /// is left.
 #[derive(Drop)]
 pub struct Core<K: Keeper> {
@@ -22,7 +23,8 @@ pub struct Core<K: Keeper> {
     pub(crate) limit: u64,
     // The last claim of each interval that has one.
     pub(crate) sequencers: BTreeMap<u32, u64>,
-    // The deliveries that are not acknowledged, the timers that are set, and the injectors with lines left.
+    // The deliveries that are not acknowledged, the timers that are set, and the injectors with
+    // lines left.
     pub(crate) work: u64,
 }
 
@@ -64,7 +66,8 @@ impl<K: Keeper> Core<K> {
     ) -> Result<(), KeeperFault>
         requires on_row { row_written entry ≡ Some name.now }
         ensures appended { OnOk result (self.new.history ≡ self.old.history ++ entry ∷ []) }
-        ensures stored { OnOk result (self.new.rows ≡ option_map (with_row name.now bytes.now) self.old.rows) }
+        ensures stored { OnOk result
+            (self.new.rows ≡ option_map (with_row name.now bytes.now) self.old.rows) }
         ensures left { OnOk result (self.new.work ≡ work) }
         ensures limit { self.new.limit ≡ self.old.limit }
         ensures same_left { OnErr result (self.new.work ≡ self.old.work) }
@@ -83,7 +86,8 @@ impl<K: Keeper> Core<K> {
     // Appends a claim.
     pub(crate) fn claim(&mut self, worker: u32, interval: u32) -> Result<(), NoMemory>
         requires few { length self.old.history < 2 ^ 32 }
-        ensures appended { OnOk result (self.new.history ≡ self.old.history ++ Claim worker interval ∷ []) }
+        ensures appended { OnOk result
+            (self.new.history ≡ self.old.history ++ Claim worker interval ∷ []) }
         ensures history { OnErr result (self.new.history ≡ self.old.history) }
         ensures rows { self.new.rows ≡ self.old.rows }
         ensures faults { self.new.faults ≡ self.old.faults }

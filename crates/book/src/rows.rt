@@ -14,7 +14,8 @@ pub(crate) fn settled(
     commit: u64,
 ) -> Result<Row, NoMemory>
     requires { commit < 2 ^ 32 }
-    ensures { IfOk result (λ made. made ≡ record row.now { pending = without_delivery id row.now.pending; last = commit }) }
+    ensures { IfOk result
+        (λ made. made ≡ record row.now { pending = without_delivery id row.now.pending; last = commit }) }
 {
     let mut made = row.copy(alloc)?;
     made.settle(id);
@@ -27,7 +28,8 @@ pub(crate) fn purged(alloc: Global, row: &Row, floor: u64, commit: u64) -> Resul
     requires commit { commit < 2 ^ 32 }
     requires rises { row.now.floor ≤ floor }
     requires few { floor ≤ 2 ^ 32 }
-    ensures { IfOk result (λ made. made ≡ record row.now { floor = floor; seen = ids_from floor row.now.seen; last = commit }) }
+    ensures { IfOk result
+        (λ made. made ≡ record row.now { floor = floor; seen = ids_from floor row.now.seen; last = commit }) }
 {
     let mut made = row.copy(alloc)?;
     made.purge(floor);

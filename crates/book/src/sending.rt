@@ -52,7 +52,8 @@ fn sent(
     requires part { part < parts_of case.now.topology }
     requires few { length productions.now ≤ 8 }
     requires commit { commit < 2 ^ 32 }
-    ensures made { IfOk result (λ sent. sent ≡ deliveries_made case.now.topology part productions.now late commit) }
+    ensures made { IfOk result
+        (λ sent. sent ≡ deliveries_made case.now.topology part productions.now late commit) }
     ensures rules { IsTopology case.now.topology }
 {
     let _parts = case.topology.parts();

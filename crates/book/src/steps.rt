@@ -74,7 +74,8 @@ fn injected(
     ensures entry { IfOk result (λ step.
         IsEntryOf case.now seq name.now (Proposal.Inject line) step.entry) }
     ensures left { IfOk result (λ step.
-        step.left ≡ left_by case.now.topology name.now (Proposal.Inject line) commit step.entry row.now) }
+        step.left ≡ left_by case.now.topology name.now (Proposal.Inject line) commit
+        step.entry row.now) }
 {
     let item = line_record(alloc, case, name.part, line)?;
     let production = Production {
@@ -105,7 +106,8 @@ fn injected(
 fn line_record(alloc: Global, case: &Case, part: u32, line: u32) -> Result<Record, NoMemory>
     requires injector { part < injectors_of case.now.topology }
     requires there { line < length (source_of case.now part) }
-    ensures item { IfOk result (λ item. option_map record_of (item_at (source_of case.now part) line) ≡ Some item) }
+    ensures item { IfOk result
+        (λ item. option_map record_of (item_at (source_of case.now part) line) ≡ Some item) }
     ensures stamp { IfOk result (λ item. item.stamp ≤ MAX_STAMP) }
     ensures few { length (source_of case.now part) < 2 ^ 32 }
 {
@@ -147,7 +149,8 @@ fn handled(
     ensures entry { IfOk result (λ step.
         IsEntryOf case.now seq name.now (Proposal.Handle delivery.now effects.now) step.entry) }
     ensures left { IfOk result (λ step.
-        step.left ≡ left_by case.now.topology name.now (Proposal.Handle delivery.now effects.now) commit step.entry row.now) }
+        step.left ≡ left_by case.now.topology name.now (Proposal.Handle delivery.now effects.now)
+        commit step.entry row.now) }
 {
     let noted = noted(alloc, row, delivery.id, effects)?;
     let left = with_sent(
@@ -193,7 +196,8 @@ fn noted(
 // Sets timers of a row, one after another.
 fn set_timers(row: &mut Row, set: &[Timer]) -> Result<(), NoMemory>
     requires { All (λ t. t.time ≤ MAX_STAMP) set.now }
-    ensures { OnOk result (row.new ≡ record row.old { timers = with_timers set.now row.old.timers }) }
+    ensures { OnOk result
+        (row.new ≡ record row.old { timers = with_timers set.now row.old.timers }) }
 {
     for timer in set {
         row.set_timer(*timer)?;
@@ -219,7 +223,8 @@ fn fired(
     ensures entry { IfOk result (λ step.
         IsEntryOf case.now seq name.now (Proposal.Fire timer mark effects.now) step.entry) }
     ensures left { IfOk result (λ step.
-        step.left ≡ left_by case.now.topology name.now (Proposal.Fire timer mark effects.now) commit step.entry row.now) }
+        step.left ≡ left_by case.now.topology name.now (Proposal.Fire timer mark effects.now)
+        commit step.entry row.now) }
 {
     let taken = taken(alloc, row, timer, effects)?;
     let left = with_sent(

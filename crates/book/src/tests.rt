@@ -1,11 +1,19 @@
-//! Books over a keeper that tells its rows, and over one that does not: what is answered, and what is refused.
-ghost use Rattle.std.specs.Prelude.{◌≡◌, ◌<◌, IfOk};
+//! Books over a keeper that tells its rows, and over one that does not: what is answered, and what
+//! is refused.
+ghost use Rattle.std.specs.Prelude.{◌≡◌, ◌<◌, ◌∷◌, [], IfOk, OnOk, length};
+ghost use Rattle.mw_types.specs.declared.entry.Entry.TheVariants.{Claim};
+ghost use Rattle.mw_types.specs.declared.state.State.TheVariants.{Injector};
+ghost use Rattle.row_parts.specs.Contents.{fresh};
+ghost use Rattle.run_history.specs.Cases.{source_of};
 ghost use Rattle.topology.specs.Samples.{one_count};
 
-use crate::{Book, ClaimRefusal, Claimed, StartRefusal, StartWhy};
-use injector::{Items, ItemsList};
-use mw_types::{Bytes, CallList, Key, KeyRefusal, NoMemory, RowName};
+use crate::{
+    Book, ClaimRefusal, Claimed, Lease, Proposal, StartRefusal, StartWhy, WriteRefusal, Written,
+};
+use injector::{Item, Items, ItemsList};
+use mw_types::{Bytes, CallList, Key, KeyRefusal, NoMemory, RowName, State};
 use row_keeper::{BlindKeeper, Keeper, KeeperFault, KeptRow, MemKeeper};
+use row_parts::Row;
 use run_history::Case;
 use std::alloc::Global;
 use std::process::Abort;
@@ -139,6 +147,104 @@ fn a_keeper_with_a_row_is_not_empty(rt: HostRuntime) -> Result<(), Fail> {
     match Book::start(alloc, &case, keeper, 8) {
         Ok(_) => assert!(rt; false),
         Err(refusal) => assert!(rt; hands_back_one_row(alloc, refusal)?),
+    }
+    Ok(())
+}
+
+// The case of one count over windows of 60, whose injector has one line.
+fn one_line_case(alloc: Global) -> Result<Case, NoMemory>
+    ensures topology { IfOk result (λ case. case.topology ≡ one_count 60) }
+    ensures lines { IfOk result (λ case. length (source_of case 0) ≡ 1) }
+{
+    let topology = Topology::one_count(alloc, 60)?;
+    let mut lines = Items::new(alloc);
+    let item = Item {
+        record_key: Key::none(alloc),
+        stamp: 10,
+        value: 1,
+        late: false,
+    };
+    lines.push(item, 0)?;
+    let mut items = ItemsList::new(alloc);
+    items.push(lines)?;
+    Case::of(alloc, topology, items)
+}
+
+// Injects the line under the lease of the first claim, as the first entry after it.
+fn inject<K: Keeper>(
+    alloc: Global,
+    book: &mut Book<'_, K>,
+    lease: &Lease,
+    name: &RowName,
+    row: &Row,
+) -> Result<Written, WriteRefusal>
+    requires topology { book.old.case.topology ≡ one_count 60 }
+    requires lines { length (source_of book.old.case 0) ≡ 1 }
+    requires history { book.old.history ≡ Claim 0 0 ∷ [] }
+    requires lease { lease.now ≡ record { interval = 0; seq = 0 } }
+    requires name { name.now ≡ record { part = 0; key = [] } }
+    requires row { row.now ≡ fresh (Injector 0) }
+{
+    book.write(alloc, lease, 1, name, row, &Proposal::Inject { line: 0 })
+}
+
+// Whether a write was accepted as entry 1, and sent one delivery.
+fn is_sent(written: Result<Written, WriteRefusal>) -> bool {
+    match written {
+        Ok(Written { commit, row }) => commit == 1 && row.pending.len() == 1 && row.last == 1,
+        Err(_) => false,
+    }
+}
+
+// Whether the line is injected under what was claimed.
+fn injects<K: Keeper>(
+    alloc: Global,
+    book: &mut Book<'_, K>,
+    claimed: Result<Claimed, ClaimRefusal>,
+) -> bool
+    requires topology { book.old.case.topology ≡ one_count 60 }
+    requires lines { length (source_of book.old.case 0) ≡ 1 }
+    requires history { OnOk claimed (book.old.history ≡ Claim 0 0 ∷ []) }
+    requires lease { IfOk claimed (λ c. c.lease ≡ record { interval = 0; seq = 0 }) }
+{
+    let name = RowName {
+        part: 0,
+        key: Key::none(alloc),
+    };
+    let row = Row::new(alloc, State::Injector { cursor: 0 });
+    match claimed {
+        Ok(Claimed { lease, rows }) => {
+            rows.is_empty() && is_sent(inject(alloc, book, &lease, &name, &row))
+        }
+        Err(_) => false,
+    }
+}
+
+// Claims the injector's interval, and injects its line.
+fn try_inject<K: Keeper>(rt: &impl Abort, alloc: Global, book: Book<'_, K>)
+    requires topology { book.case.topology ≡ one_count 60 }
+    requires lines { length (source_of book.case 0) ≡ 1 }
+    requires history { book.history ≡ [] }
+{
+    let mut book = book;
+    let claimed = book.claim(alloc, 0, 0);
+    assert!(rt; injects(alloc, &mut book, claimed));
+    assert_eq!(rt; book.history().len(), 2);
+}
+
+#[test]
+fn a_line_is_injected_over_both_keepers(rt: HostRuntime) -> Result<(), Fail> {
+    let alloc = rt.alloc();
+    let case = one_line_case(alloc)?;
+    let keeper = MemKeeper::new(alloc, CallList::new(alloc));
+    match Book::start(alloc, &case, keeper, 8) {
+        Ok(book) => try_inject(&rt, alloc, book),
+        Err(_) => assert!(rt; false),
+    }
+    let keeper = BlindKeeper::new(damaged(alloc)?);
+    match Book::start(alloc, &case, keeper, 8) {
+        Ok(book) => try_inject(&rt, alloc, book),
+        Err(_) => assert!(rt; false),
     }
     Ok(())
 }

@@ -26,7 +26,8 @@ use row_parts::Row;
 use std::alloc::Global;
 
 impl<'a, K: Keeper> Book<'a, K> {
-    /// A row is written anew: an injector's next line is injected, a record was handled, or a timer fired.
+    /// A row is written anew: an injector's next line is injected, a record was handled, or a timer
+    /// fired.
     pub fn write(
         &mut self,
         alloc: Global,
@@ -46,7 +47,8 @@ impl<'a, K: Keeper> Book<'a, K> {
             (IsWrittenBy self.old self.new lease.now name.now proposal.now row.now) }
         ensures stale { IsStaleWhere self.old.history lease.now result }
         ensures full { IsFullWhere self.old lease.now result }
-        ensures keeper_fault { HasCause self.old.faults self.new.faults result WriteRefusal.KeeperFault }
+        ensures keeper_fault { HasCause self.old.faults self.new.faults result
+            WriteRefusal.KeeperFault }
         ensures unchanged { OnErr result (HasStayed self.old self.new) }
         ensures same { IsSameBook self.old self.new }
     {
@@ -79,7 +81,8 @@ impl<'a, K: Keeper> Book<'a, K> {
             IfOk result (IsWritten self.old self.new lease.now name.now entry left) }
         ensures stale { IsStaleWhere self.old.history lease.now result }
         ensures full { IsFullWhere self.old lease.now result }
-        ensures keeper_fault { HasCause self.old.faults self.new.faults result WriteRefusal.KeeperFault }
+        ensures keeper_fault { HasCause self.old.faults self.new.faults result
+            WriteRefusal.KeeperFault }
         ensures unchanged { OnErr result (HasStayed self.old self.new) }
         ensures same { IsSameBook self.old self.new }
     {
@@ -115,7 +118,8 @@ impl<'a, K: Keeper> Book<'a, K> {
             IfOk result (IsWritten self.old self.new lease.now name.now entry left) }
         ensures stale { IsStaleWhere self.old.history lease.now result }
         ensures full { IsFullWhere self.old lease.now result }
-        ensures keeper_fault { HasCause self.old.faults self.new.faults result WriteRefusal.KeeperFault }
+        ensures keeper_fault { HasCause self.old.faults self.new.faults result
+            WriteRefusal.KeeperFault }
         ensures unchanged { OnErr result (HasStayed self.old self.new) }
         ensures same { IsSameBook self.old self.new }
     {
@@ -132,13 +136,15 @@ impl<'a, K: Keeper> Book<'a, K> {
         self.append_row(alloc, name, row, entry, left)
     }
 
-    // Tests the sequencer of a write, and then whether there is room for its entry, which will have this number.
+    // Tests the sequencer of a write, and then whether there is room for its entry, which will have
+    // this number.
     fn admit(&self, lease: &Lease) -> Result<u64, WriteRefusal>
         requires claimed { IsClaimed self.now.history lease.now }
         ensures lawful { IsLawful self.now.case (core_of self.now) }
         ensures number { IfOk result (λ number. number ≡ length self.now.history) }
         ensures below { IfOk result (λ number. number < 2 ^ 32) }
-        ensures last { OnOk result (last_claim lease.now.interval self.now.history ≡ Some lease.now.seq) }
+        ensures last { OnOk result
+            (last_claim lease.now.interval self.now.history ≡ Some lease.now.seq) }
         ensures room { OnOk result (length self.now.history < self.now.limit) }
         ensures stale { IsStaleWhere self.now.history lease.now result }
         ensures full { IsFullWhere self.now lease.now result }
@@ -159,8 +165,10 @@ impl<'a, K: Keeper> Book<'a, K> {
         requires claimed { IsClaimed self.now.history lease.now }
         ensures lawful { IsLawful self.now.case (core_of self.now) }
         ensures later { (newer : ℕ) → (result ≡ Some newer)
-            ↔ (last_claim lease.now.interval self.now.history ≡ Some newer) × (lease.now.seq < newer) }
-        ensures own { result ≡ None → last_claim lease.now.interval self.now.history ≡ Some lease.now.seq }
+            ↔ (last_claim lease.now.interval self.now.history ≡ Some newer) ×
+            (lease.now.seq < newer) }
+        ensures own { result ≡ None → last_claim lease.now.interval self.now.history
+            ≡ Some lease.now.seq }
     {
         let newest = self.core.newest(lease.interval());
         later(lease.seq(), newest)
@@ -177,13 +185,15 @@ impl<'a, K: Keeper> Book<'a, K> {
     ) -> Result<Written, WriteRefusal>
         requires next { IsNext self.old.case (core_of self.old) name.now entry row }
         requires was { let shape = self.old.case.topology in
-            IfSome self.old.rows (λ _. before.now ≡ row_of shape (run_of shape self.old.history) name.now) }
+            IfSome self.old.rows
+            (λ _. before.now ≡ row_of shape (run_of shape self.old.history) name.now) }
         ensures appended { OnOk result (self.new.history ≡ self.old.history ++ entry ∷ []) }
         ensures commit { IfOk result (λ written. written.commit ≡ length self.old.history) }
         ensures row { IfOk result (λ written. written.row ≡ row) }
         ensures refused { IfErr result (λ why.
             (why ≡ WriteRefusal.NoMemory) ⊎ (why ≡ WriteRefusal.KeeperFault)) }
-        ensures keeper_fault { HasCause self.old.faults self.new.faults result WriteRefusal.KeeperFault }
+        ensures keeper_fault { HasCause self.old.faults self.new.faults result
+            WriteRefusal.KeeperFault }
         ensures unchanged { OnErr result (HasStayed self.old self.new) }
         ensures same { IsSameBook self.old self.new }
     {
