@@ -1,5 +1,5 @@
 -- The last claims of a history, and what is known under a lease.
-use Rattle.std.proofs.Common.{◌≡◌, ◌<◌, ◌≤◌, ◌+◌, ℕ, zero, suc, Bool, true, false, cond, List, [], ◌∷◌, ◌++◌, length, fold, refl, sym, ◌∙◌, ap, subst, arith, inl, inr}
+use Rattle.std.proofs.Common.{◌≡◌, ◌<◌, ◌≤◌, ◌+◌, ℕ, zero, suc, true, false, cond, List, [], ◌∷◌, ◌++◌, length, fold, refl, sym, ◌∙◌, ap, subst, arith, inl, inr}
 use Rattle.std.specs.Prelude.{Option, Some, None, Result, Ok, Err, IsErrOf, ◌↔◌, ◌==◌, slice_get, nat_lt}
 use Rattle.std.specs.List.{enumerate_from}
 use Rattle.std.specs.BTreeMap.{is_at}
@@ -156,9 +156,9 @@ is_at_nat : (a b : ℕ) → is_at (nat_cmp a) b ≡ (a == b)
 is_at_nat a b = elim (cases_lt a b) [
   | inl less ↦ ap is_eq (sym (nat_cmp_is a b Less less)) ∙ sym (ne_eqb a b (λ same. omega (arith, less, same)))
   | inr past ↦ elim (cases_lt b a) [
-      | inl more ↦ ap is_eq (sym (nat_cmp_is a b Greater more)) ∙ sym (ne_eqb a b (λ same. omega (arith, more, same)))
-      | inr over ↦ let same : a ≡ b = omega (arith, past, over) in ap is_eq (sym (nat_cmp_is a b Equal same)) ∙ sym (eq-eqb a b same)
-    ]
+    | inl more ↦ ap is_eq (sym (nat_cmp_is a b Greater more)) ∙ sym (ne_eqb a b (λ same. omega (arith, more, same)))
+    | inr over ↦ let same : a ≡ b = omega (arith, past, over) in ap is_eq (sym (nat_cmp_is a b Equal same)) ∙ sym (eq-eqb a b same)
+  ]
 ]
 
 -- what is known of the claims, with one more claim

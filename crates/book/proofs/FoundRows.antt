@@ -1,6 +1,6 @@
 -- What a keeper that tells has of an interval: the bytes of the rows of the history there.
-use Rattle.std.proofs.Common.{◌≡◌, ◌<◌, ◌≤◌, ◌+◌, ℕ, zero, suc, Bool, true, false, List, [], ◌∷◌, ◌++◌, length, map, take, drop, refl, sym, ◌∙◌, ap, subst, arith, get_or}
-use Rattle.std.specs.Prelude.{◌≢◌, Option, Some, None, Result, Ok, Err, IfOk, IfErr, IsErrOf, MatchResult, IfSome, All, slice_get, filter}
+use Rattle.std.proofs.Common.{◌≡◌, ◌<◌, ◌≤◌, ◌+◌, ℕ, zero, suc, true, List, [], ◌∷◌, ◌++◌, length, map, take, drop, refl, sym, ◌∙◌, ap, subst, arith, get_or}
+use Rattle.std.specs.Prelude.{◌≢◌, Some, Result, Ok, Err, IfOk, IfErr, IsErrOf, MatchResult, IfSome, All, slice_get}
 use Rattle.std.specs.List.{AllByRecursion}
 use Rattle.std.proofs.lemmas.List.{take_more, take_all, map-append, length-map}
 use Rattle.std.proofs.lemmas.List.Elements.{All-append, All-from_recursion}
@@ -14,10 +14,10 @@ use Rattle.row_parts.specs.Spelling.{spelling_of}
 use Rattle.row_keeper.specs.Rows.{Rows, entry_of, rows_within}
 use Rattle.row_keeper.specs.declared.keeper.KeptRow.{KeptRow}
 use Rattle.run_history.specs.Cases.{CaseShape, intervals_of}
-use Rattle.run_history.specs.Runs.{Run, run_of}
+use Rattle.run_history.specs.Runs.{run_of}
 use Rattle.run_history.proofs.CaseIntervals.{length-intervals}
 use Rattle.topology.specs.Rules.{interval_count}
-use Rattle.history_laws.proofs.Lists.{each-filter, none_some, some_same}
+use Rattle.history_laws.proofs.Lists.{each-filter}
 use Rattle.history_laws.proofs.StampLaws.{at-each}
 use Rattle.history_laws.proofs.StoredLaws.{rows_within-stored}
 use Rattle.book.specs.Books.{BookView, core_of}
@@ -64,9 +64,16 @@ kept-at : (case : CaseShape) (number : ℕ) (found : List KeptRow) (rows : List 
 kept-at case number found rows i kept each same within at =
     let there = spelled-at found rows i kept same (sym at) within in
     let r = there.0 in
-    let name : kept.name ≡ r.0 = ap (λ (p : RowName × List ℕ). p.0) there.1.1 in
-    (r.1, (there.1.0 ∙ ap (λ (n : RowName). Some (n, r.1)) (sym name), (ap (λ (p : RowName × List ℕ). p.1) there.1.1,
-    subst (λ (n : RowName). IsKept case number (n, r.1)) (sym name) (at-each (IsKept case number) rows i r each there.1.0))))
+    let name : kept.name ≡ r.0 = ap (λ (p : RowName × List ℕ). p.0) there.1.1 in (
+      r.1,
+      (
+        there.1.0 ∙ ap (λ (n : RowName). Some (n, r.1)) (sym name),
+        (
+          ap (λ (p : RowName × List ℕ). p.1) there.1.1,
+          subst (λ (n : RowName). IsKept case number (n, r.1)) (sym name) (at-each (IsKept case number) rows i r each there.1.0),
+        ),
+      ),
+    )
 
 -- nothing is read at first
 pub IsRead-none : (case : CaseShape) (number : ℕ) (found : List KeptRow) (done : List NamedRow) → done ≡ [] → IsRead case number found done 0
@@ -136,10 +143,10 @@ IsDamaged-read book interval found (refusals.RowDamaged name bytes) lawful there
   untold = told-then book.rows (λ held. IsHeld book.case book.history held × IsFoundWithin book.case interval found held) _
       (told-both book.rows (IsHeld book.case book.history) (IsFoundWithin book.case interval found) lawful.held within)
       (λ held p.
-        let bounds = some-at (intervals_of book.case.topology) interval (omega (arith, there, length-intervals book.case.topology)) in
-        let none : refusals.RowDamaged name bytes ≡ refusals.NoMemory = only (rows_in bounds.0 (run_of book.case.topology book.history))
-        (found-kept book.case book.history held bounds.0 p.0) (found-spelled book.case book.history interval found held p.0 p.1 bounds.0 bounds.1) in
-        absurd (cc));
+      let bounds = some-at (intervals_of book.case.topology) interval (omega (arith, there, length-intervals book.case.topology)) in
+      let none : refusals.RowDamaged name bytes ≡ refusals.NoMemory = only (rows_in bounds.0 (run_of book.case.topology book.history))
+      (found-kept book.case book.history held bounds.0 p.0) (found-spelled book.case book.history interval found held p.0 p.1 bounds.0 bounds.1) in
+      absurd (cc));
 }
 
 -- the rows that reading answers, in words of the book

@@ -1,10 +1,9 @@
 -- One more entry keeps a book lawful.
-use Rattle.std.proofs.Common.{◌≡◌, ◌<◌, ◌≤◌, ◌+◌, ◌-◌, ◌^◌, ℕ, Bool, true, false, cond, List, [], ◌∷◌, ◌++◌, length, refl, sym, ◌∙◌, ap, subst, arith, length-append}
-use Rattle.std.specs.Prelude.{Option, Some, None, Result, Ok, Err, OnOk, OnErr, All, IfSome, option_map, unwrap_or}
+use Rattle.std.proofs.Common.{◌≡◌, ◌<◌, ◌≤◌, ◌+◌, ◌-◌, ◌^◌, ℕ, List, [], ◌∷◌, ◌++◌, length, refl, sym, ◌∙◌, ap, subst, arith, length-append}
+use Rattle.std.specs.Prelude.{Option, Some, None, Result, Ok, Err, OnOk, OnErr, IfSome, option_map}
 use Rattle.std.specs.Option.{option_map_or}
 use Rattle.std.specs.List.{AllByRecursion}
-use Rattle.std.specs.BTreeMap.{insert_entry, is_at}
-use Rattle.std.specs.declared.cmp.Ordering.{Ordering}
+use Rattle.std.specs.BTreeMap.{insert_entry}
 use Rattle.std.specs.declared.cmp.Ordering.TheVariants.{Less, Equal, Greater}
 use Rattle.std.specs.Ordering.{match_ordering, is_eq}
 use Rattle.std.proofs.lemmas.List.Elements.{All-append, All-from_recursion}
@@ -18,8 +17,8 @@ use Rattle.row_parts.specs.Spelling.{spelling_of, IsSpelledRow}
 use Rattle.row_keeper.specs.Rows.{Rows, with_row}
 use Rattle.run_history.specs.Cases.{CaseShape}
 use Rattle.run_history.specs.Made.{row_written, productions_of}
-use Rattle.run_history.specs.Runs.{Run, run_of, row_of, followed}
-use Rattle.run_history.specs.Legal.{MayClaim, MayFollow, IsLegal}
+use Rattle.run_history.specs.Runs.{Run, run_of, row_of}
+use Rattle.run_history.specs.Legal.{MayClaim, MayFollow}
 use Rattle.run_history.specs.Printing.{IsPrintable, IsOnPart}
 use Rattle.run_history.proofs.RunLaws.{run_of-push, IsLegal-push}
 use Rattle.history_laws.specs.Fences.{IsFenced}
@@ -32,7 +31,6 @@ use Rattle.history_laws.proofs.LowLaws.{rows-in_order}
 use Rattle.history_laws.proofs.UnfinishedLaws.{unfinished-followed, unfinished-kept}
 use Rattle.history_laws.proofs.StoredLaws.{stored_rows-followed, stored_rows-kept}
 use Rattle.book.specs.Books.{CoreView}
-use Rattle.book.specs.Fits.{fits}
 use Rattle.book.specs.Lawful.{IsKept, IsHeld, IsLawful}
 use Rattle.book.specs.Appending.{IsNext}
 use Rattle.book.proofs.FitLaws.{fits-later}

@@ -1,9 +1,9 @@
 -- What a proposal leaves fits its row's name, and its entry may come next.
-use Rattle.std.proofs.Common.{◌≡◌, ◌<◌, ◌≤◌, ◌+◌, ◌^◌, ℕ, Bool, true, false, cond, ◌&&◌, List, [], ◌∷◌, ◌++◌, length, take, drop, refl, sym, ◌∙◌, ap, subst, arith}
-use Rattle.std.specs.Prelude.{Option, Some, None, Result, Ok, Err, IfOk, OnOk, IfSome, nat_lt, nat_le, ◌==◌, slice_get, option_map, filter, not}
+use Rattle.std.proofs.Common.{◌≡◌, ◌<◌, ◌≤◌, ◌+◌, ℕ, Bool, true, false, cond, ◌&&◌, List, [], ◌∷◌, ◌++◌, length, take, drop, refl, sym, ◌∙◌, ap, subst, arith}
+use Rattle.std.specs.Prelude.{Some, None, Result, Ok, Err, IfOk, OnOk, IfSome, ◌==◌, slice_get, option_map, filter, not}
 use Rattle.std.specs.Option.{option_map_or}
 use Rattle.std.specs.List.{list_all}
-use Rattle.std.proofs.lemmas.Bool.{and_from, lt-ltb, le-leb}
+use Rattle.std.proofs.lemmas.Bool.{and_from, le-leb}
 use Rattle.std.proofs.lemmas.List.{take-append-drop}
 use Rattle.std.proofs.lemmas.List.Folds.{list_all-append}
 use Rattle.mw_types.specs.declared.identity.RowName.{RowName}
@@ -14,13 +14,12 @@ use Rattle.mw_types.specs.declared.kind.Kind.{Kind}
 use Rattle.mw_types.specs.declared.kind.Kind.TheVariants as kinds
 use Rattle.mw_types.specs.declared.state.State.{State}
 use Rattle.mw_types.specs.declared.state.State.TheVariants as states
-use Rattle.mw_types.specs.declared.state.Window.{Window}
 use Rattle.mw_types.specs.declared.state.HeldTotal.{HeldTotal}
 use Rattle.mw_types.specs.declared.timer.Timer.{Timer}
 use Rattle.mw_types.specs.declared.entry.Entry.{Entry}
 use Rattle.mw_types.specs.declared.entry.Entry.TheVariants as entries
 use Rattle.mw_types.specs.Outcomes.{Outcome}
-use Rattle.topology.specs.Shapes.{Shape, kind_of, injectors_of}
+use Rattle.topology.specs.Shapes.{Shape, kind_of}
 use Rattle.computations.specs.Handlers.{effects_of_record, effects_of_timer, unchanged, with_timer, with_record, count_timer, window_due, spike_timer, total_due, is_spike, known_with, due_time, one_more, window_end, counted, held_with}
 use Rattle.row_parts.specs.Contents.{Contents, is_finished}
 use Rattle.injector.specs.Sources.{item_at}
@@ -252,20 +251,20 @@ next-handled book lease front name row left delivery effects lawful uses seen la
     (λ r. IsHeld book.case book.history r × ((row ≡ row_of shape (run_of shape (known lease.interval lease.seq first)) name) × (found_delivery delivery.id (run_of shape first).made ≡ Some delivery))) _
     (told-both book.rows _ _ lawful.held (told-both book.rows _ _ seen.known made))
     (λ r p.
-      let legal = IsLawful-front book.case first (drop front book.history)
-      (record { legal = subst (IsLegal book.case) (sym split) p.0.legal; fenced = subst (IsFenced shape) (sym split) lawful.fenced }) in
-      let row-is : row ≡ row_of shape (run_of shape first) name = p.1.0 ∙ row-front book lease front name uses last in record {
-        delivery = delivery;
-        waits = waits-unless_finished book.case first delivery legal.legal p.1.1
-            (sym (λ i. is_finished delivery.id (row_of shape (run_of shape first) (sym handling.to_row i))) ∙ sym (ap (is_finished delivery.id) row-is) ∙ handling.new);
-        to_row = handling.to_row;
-        does = sym (ap (λ (c : Contents). option_map (λ (kind : Kind). effects_of_record kind name.key c.state delivery.item) (kind_of shape name.part)) row-is) ∙ handling.does;
-      }))
+    let legal = IsLawful-front book.case first (drop front book.history)
+    (record { legal = subst (IsLegal book.case) (sym split) p.0.legal; fenced = subst (IsFenced shape) (sym split) lawful.fenced }) in
+    let row-is : row ≡ row_of shape (run_of shape first) name = p.1.0 ∙ row-front book lease front name uses last in record {
+      delivery = delivery;
+      waits = waits-unless_finished book.case first delivery legal.legal p.1.1
+          (sym (λ i. is_finished delivery.id (row_of shape (run_of shape first) (sym handling.to_row i))) ∙ sym (ap (is_finished delivery.id) row-is) ∙ handling.new);
+      to_row = handling.to_row;
+      does = sym (ap (λ (c : Contents). option_map (λ (kind : Kind). effects_of_record kind name.key c.state delivery.item) (kind_of shape name.part)) row-is) ∙ handling.does;
+    }))
     (told-then book.rows (λ _. found_delivery delivery.id (run_of shape first).made ≡ Some delivery) _ made
     (λ r found.
-      let there : found_delivery delivery.id (run_of shape book.history).made ≡ Some delivery =
-      subst (λ (h : List Entry). found_delivery delivery.id (run_of shape h).made ≡ Some delivery) split (found-more shape first (drop front book.history) delivery.id delivery found) in
-      λ i. deliveries_made shape name.part effects.productions (option_map_or (λ (d : Delivery). d.item.late) (sym there i) false) (sym (next-length shape book.history) i)))
+    let there : found_delivery delivery.id (run_of shape book.history).made ≡ Some delivery =
+    subst (λ (h : List Entry). found_delivery delivery.id (run_of shape h).made ≡ Some delivery) split (found-more shape first (drop front book.history) delivery.id delivery found) in
+    λ i. deliveries_made shape name.part effects.productions (option_map_or (λ (d : Delivery). d.item.late) (sym there i) false) (sym (next-length shape book.history) i)))
 
 -- a fired timer
 next-fired : (book : BookView) (lease : LeaseView) (front : ℕ) (name : RowName) (row left : Contents) (timer : Timer) (mark : ℕ) (effects : Outcome)
@@ -289,12 +288,12 @@ next-fired book lease front name row left timer mark effects lawful uses seen la
     (λ r. (row ≡ row_of shape (run_of shape (known lease.interval lease.seq first)) name) × (mark ≤ low_watermark book.case (run_of shape first) name.part)) _
     (told-both book.rows _ _ seen.known under)
     (λ r p.
-      let row-is : row ≡ row_of shape (run_of shape first) name = p.0 ∙ row-front book lease front name uses last in record {
-        least_timer = sym (ap (λ (c : Contents). slice_get c.timers 0) row-is) ∙ firing.least;
-        due = firing.due;
-        under_watermark = p.1;
-        does = sym (ap (λ (c : Contents). option_map (λ (kind : Kind). effects_of_timer kind name.key c.state timer) (kind_of shape name.part)) row-is) ∙ firing.does;
-      }))
+    let row-is : row ≡ row_of shape (run_of shape first) name = p.0 ∙ row-front book lease front name uses last in record {
+      least_timer = sym (ap (λ (c : Contents). slice_get c.timers 0) row-is) ∙ firing.least;
+      due = firing.due;
+      under_watermark = p.1;
+      does = sym (ap (λ (c : Contents). option_map (λ (kind : Kind). effects_of_timer kind name.key c.state timer) (kind_of shape name.part)) row-is) ∙ firing.does;
+    }))
     (told-then book.rows (IsHeld book.case book.history) _ lawful.held
     (λ r _. ap (λ n. deliveries_made shape name.part effects.productions timer.late n) (sym (next-length shape book.history))))
 

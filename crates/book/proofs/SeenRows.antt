@@ -1,8 +1,7 @@
 -- What a holder of a lease has seen is as it is in the whole history, where the lease is the last of its interval.
-use Rattle.std.proofs.Common.{◌≡◌, ◌<◌, ◌≤◌, ◌+◌, ◌^◌, ℕ, Bool, true, false, ◌&&◌, cond, List, [], ◌∷◌, ◌++◌, length, take, drop, refl, sym, ◌∙◌, ap, subst, arith, length-append}
-use Rattle.std.specs.Prelude.{Option, Some, None, Result, Ok, Err, IfOk, OnOk, IfSome, nat_lt, IsSome, not, ◌==◌}
+use Rattle.std.proofs.Common.{◌≡◌, ◌<◌, ◌≤◌, ◌+◌, ℕ, Bool, true, false, ◌&&◌, cond, List, [], ◌∷◌, ◌++◌, length, take, drop, refl, sym, ◌∙◌, ap, subst, arith, length-append}
+use Rattle.std.specs.Prelude.{Option, Some, None, Result, Ok, Err, IfOk, OnOk, IfSome, IsSome, not, ◌==◌}
 use Rattle.std.specs.Option.{is_some, option_map_or}
-use Rattle.std.proofs.lemmas.Option.{IfSome_then}
 use Rattle.std.proofs.lemmas.Bool.{ltb-true}
 use Rattle.std.proofs.lemmas.List.{take-append-drop}
 use Rattle.mw_types.specs.declared.identity.RecordId.{RecordId}
@@ -10,18 +9,17 @@ use Rattle.mw_types.specs.declared.identity.RowName.{RowName}
 use Rattle.mw_types.specs.declared.delivery.Delivery.{Delivery}
 use Rattle.mw_types.specs.declared.kind.Kind.{Kind}
 use Rattle.mw_types.specs.declared.entry.Entry.{Entry}
-use Rattle.mw_types.specs.declared.entry.Entry.TheVariants.{Claim, Inject, Handle, Fire, Ack, Purge}
+use Rattle.mw_types.specs.declared.entry.Entry.TheVariants.{Ack, Purge}
 use Rattle.topology.specs.Shapes.{Shape, injectors_of, parts_of, kind_of}
-use Rattle.row_parts.specs.Contents.{Contents, ids_from, same_id}
-use Rattle.row_keeper.specs.Rows.{Rows}
+use Rattle.row_parts.specs.Contents.{Contents, same_id}
 use Rattle.run_history.specs.Cases.{CaseShape, is_injector, source_of}
 use Rattle.run_history.specs.Made.{row_written, productions_of, deliveries_of, found_delivery}
-use Rattle.run_history.specs.Runs.{Run, run_of, row_of, changed, row_in}
-use Rattle.run_history.specs.Legal.{MayFollow, MayAcknowledge, MayPurge, IsLegal, floor_of}
+use Rattle.run_history.specs.Runs.{Run, run_of, row_of, row_in}
+use Rattle.run_history.specs.Legal.{MayFollow, IsLegal, floor_of}
 use Rattle.run_history.proofs.RunLaws.{run_of-push}
-use Rattle.history_laws.specs.Fences.{IsFenced, HasSeen, IsWriteUnder, interval_of, last_claim, sequencer_of, known}
+use Rattle.history_laws.specs.Fences.{IsFenced, HasSeen, last_claim, sequencer_of, known}
 use Rattle.history_laws.specs.Finished.{is_handled}
-use Rattle.history_laws.proofs.FenceLaws.{known-last, last_claim-front, row_of-seen, entry-under, IsFenced-begins}
+use Rattle.history_laws.proofs.FenceLaws.{known-last, last_claim-front, row_of-seen, entry-under}
 use Rattle.history_laws.proofs.FinishedLaws.{handled-waits_not}
 use Rattle.history_laws.proofs.IdLaws.{next-length}
 use Rattle.history_laws.proofs.PendingLaws.{kind-there}
@@ -35,7 +33,7 @@ use Rattle.book.specs.Answers.{written_row, IsWritten}
 use Rattle.book.specs.declared.answers.Written.{Written}
 use Rattle.book.specs.declared.refusals.WriteRefusal.{WriteRefusal}
 use Rattle.book.specs.Appending.{IsNext}
-use Rattle.book.proofs.FitLaws.{both, fits-parts, fits-less, fits-later}
+use Rattle.book.proofs.FitLaws.{fits-parts, fits-less, fits-later}
 
 -- two facts of what is told
 pub told-both : {X : Type 0} (o : Option X) (P Q : X → Type 0) → IfSome o P → IfSome o Q → IfSome o (λ x. P x × Q x)
@@ -156,11 +154,11 @@ may-settle book lease front name row id lawful uses seen settles last =
     (λ r. IsHeld book.case book.history r × ((row ≡ row_of shape (run_of shape (known lease.interval lease.seq (take front book.history))) name) × (is_handled id (take front book.history) ≡ true))) _
     (told-both book.rows _ _ lawful.held (told-both book.rows _ _ seen.known settles.handled))
     (λ r p.
-      let legal = IsLawful-front book.case (take front book.history) (drop front book.history)
-      (record { legal = subst (IsLegal book.case) (sym split) p.0.legal; fenced = subst (IsFenced shape) (sym split) lawful.fenced }) in record {
-        pending = subst (λ (c : Contents). IsSome (found_delivery id c.pending)) (p.1.0 ∙ row-front book lease front name uses last) settles.pending;
-        handled = ap is_some (handled-waits_not book.case (take front book.history) id legal.legal p.1.1);
-      })
+    let legal = IsLawful-front book.case (take front book.history) (drop front book.history)
+    (record { legal = subst (IsLegal book.case) (sym split) p.0.legal; fenced = subst (IsFenced shape) (sym split) lawful.fenced }) in record {
+      pending = subst (λ (c : Contents). IsSome (found_delivery id c.pending)) (p.1.0 ∙ row-front book lease front name uses last) settles.pending;
+      handled = ap is_some (handled-waits_not book.case (take front book.history) id legal.legal p.1.1);
+    })
 
 -- a settled row comes next
 pub IsNext-settled : (book : BookView) (lease : LeaseView) (front : ℕ) (name : RowName) (row left : Contents) (id : RecordId) → IsLawful book.case (core_of book)

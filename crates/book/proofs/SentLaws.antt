@@ -1,11 +1,10 @@
 -- What an entry sends: ids, timestamps and rows of the deliveries that are made.
-use Rattle.std.proofs.Common.{◌≡◌, ◌<◌, ◌≤◌, ◌+◌, ◌*◌, ◌^◌, ℕ, zero, suc, Bool, true, false, ◌&&◌, List, [], ◌∷◌, ◌++◌, length, map, refl, sym, ◌∙◌, ap, subst, arith, length-append}
+use Rattle.std.proofs.Common.{◌≡◌, ◌<◌, ◌≤◌, ◌+◌, ◌*◌, ◌^◌, ℕ, Bool, true, ◌&&◌, List, [], ◌∷◌, ◌++◌, length, map, arith, length-append}
 use Rattle.std.specs.Prelude.{All, nat_lt, nat_le}
 use Rattle.std.specs.List.{AllByRecursion, enumerate_from, flat_map, list_all}
 use Rattle.std.specs.List.Sorted.{IsStrictlySortedBy}
 use Rattle.std.proofs.lemmas.List.Elements.{All-from_recursion, recursion_from_All}
 use Rattle.std.proofs.lemmas.List.{length-map}
-use Rattle.std.proofs.lemmas.List.Folds.{list_all-append}
 use Rattle.std.proofs.lemmas.Bool.{and_from, lt-ltb, le-leb, ltb-true}
 use Rattle.mw_types.specs.declared.TheConstants.{MAX_STAMP}
 use Rattle.mw_types.specs.declared.identity.RowName.{RowName}
@@ -16,7 +15,7 @@ use Rattle.mw_types.specs.declared.state.State.TheVariants.{Injector}
 use Rattle.mw_types.specs.declared.entry.Entry.TheVariants.{Fire}
 use Rattle.topology.specs.declared.subscription.Subscription.{Subscription}
 use Rattle.topology.specs.Shapes.{Shape, ComputationShape, Reading, consumers_of, subscriptions_to, stream_of, injectors_of, parts_of}
-use Rattle.row_parts.specs.Contents.{Contents, IsId, delivery_cmp}
+use Rattle.row_parts.specs.Contents.{IsId, delivery_cmp}
 use Rattle.run_history.specs.Made.{deliveries_made, delivery_at, sends_of, produced, row_to}
 use Rattle.history_laws.proofs.Lists.{each-all, each-map, each-weaker, each-both, each-flat_map, each-enumerate, sorted-append}
 use Rattle.history_laws.proofs.Made.{each_of_commit, deliveries_made-each}
@@ -29,9 +28,11 @@ use Rattle.book.proofs.FitLaws.{both, each-passes, passes-each}
 -- each number is below the end of the count
 each-index : (commit n : ℕ) (xs : List (RowName × Record)) → AllByRecursion (λ (d : Delivery). d.id.index < n + length xs) (map (delivery_at commit) (enumerate_from n xs))
 each-index commit n [] = tt
-each-index commit n (x ∷ xs) =
-    (omega arith, each-weaker (λ (d : Delivery). d.id.index < (n + 1) + length xs) (λ (d : Delivery). d.id.index < n + length (x ∷ xs))
-    (λ d less. omega (arith, less)) _ (each-index commit (n + 1) xs))
+each-index commit n (x ∷ xs) = (
+  omega arith,
+  each-weaker (λ (d : Delivery). d.id.index < (n + 1) + length xs) (λ (d : Delivery). d.id.index < n + length (x ∷ xs))
+      (λ d less. omega (arith, less)) _ (each-index commit (n + 1) xs),
+)
 
 -- few records to few consumers are few sends
 sends-few : (subscriptions : List Subscription) (items : List Record) → length subscriptions ≤ 64
@@ -39,8 +40,13 @@ sends-few : (subscriptions : List Subscription) (items : List Record) → length
 sends-few subscriptions [] few = omega arith
 sends-few subscriptions (item ∷ items) few =
     let rest = sends-few subscriptions items few in
-    omega (arith, rest, few, length-append (sends_of subscriptions item) (flat_map (sends_of subscriptions) items),
-    length-map {B = RowName × Record} subscriptions (λ (s : Subscription). (row_to item s, item)))
+    omega (
+      arith,
+      rest,
+      few,
+      length-append (sends_of subscriptions item) (flat_map (sends_of subscriptions) items),
+      length-map {B = RowName × Record} subscriptions (λ (s : Subscription). (row_to item s, item)),
+    )
 
 -- what an entry sends has ids that can be kept
 pub sent-ids : (shape : Shape) (part : ℕ) (productions : List Production) (late : Bool) (commit : ℕ) → length (consumers_of shape part) ≤ 64
@@ -111,9 +117,9 @@ sent-before shape part productions late commit =
     passes-each (is_sent_before shape (commit + 1)) sent
     (each-weaker (λ (d : Delivery). (d.id.commit ≡ commit) × Goes d.to) (λ d. is_sent_before shape (commit + 1) d ≡ true)
     (λ d is. let number = is.0 in
-      and_from (nat_lt d.id.commit (commit + 1) && nat_le (injectors_of shape) d.to.part) (nat_lt d.to.part (parts_of shape))
-      (and_from (nat_lt d.id.commit (commit + 1)) (nat_le (injectors_of shape) d.to.part) (lt-ltb d.id.commit (commit + 1) (omega (arith, number))) (le-leb (injectors_of shape) d.to.part is.1.0))
-      (lt-ltb d.to.part (parts_of shape) is.1.1)) sent
+    and_from (nat_lt d.id.commit (commit + 1) && nat_le (injectors_of shape) d.to.part) (nat_lt d.to.part (parts_of shape))
+    (and_from (nat_lt d.id.commit (commit + 1)) (nat_le (injectors_of shape) d.to.part) (lt-ltb d.id.commit (commit + 1) (omega (arith, number))) (le-leb (injectors_of shape) d.to.part is.1.0))
+    (lt-ltb d.to.part (parts_of shape) is.1.1)) sent
     (each-both (λ (d : Delivery). d.id.commit ≡ commit) (λ (d : Delivery). Goes d.to) sent
     (each_of_commit shape [] commit (Fire 0 (record { part = part; key = [] }) (record { tag = 0; time = 0; late = late }) 0 (record { state = Injector 0; timers = []; productions = productions })))
     (deliveries_made-each shape part productions late commit (IsConsumer (injectors_of shape) (injectors_of shape + length shape.computations)) (λ p. Unit {0}) (λ to item. Goes to)

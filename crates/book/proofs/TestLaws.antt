@@ -1,12 +1,11 @@
 -- What the tests' calls are sure of.
-use Rattle.std.proofs.Common.{◌≡◌, ◌<◌, ◌≤◌, ℕ, List, [], ◌∷◌, length, drop, take, ◌&&◌, refl, sym, ◌∙◌, ap, subst, arith, true}
+use Rattle.std.proofs.Common.{◌≡◌, ◌<◌, List, [], ◌∷◌, length, drop, take, ◌&&◌, sym, ◌∙◌, ap, subst, arith, true}
 use Rattle.std.specs.Prelude.{Option, Some, None, IfSome, All, slice_get}
 use Rattle.std.proofs.lemmas.List.Elements.{All-from_recursion}
 use Rattle.mw_types.specs.declared.identity.RowName.{RowName}
 use Rattle.mw_types.specs.declared.entry.Entry.{Entry}
 use Rattle.mw_types.specs.declared.entry.Entry.TheVariants.{Claim}
 use Rattle.mw_types.specs.declared.state.State.TheVariants.{Injector}
-use Rattle.topology.specs.Shapes.{Shape}
 use Rattle.topology.specs.Samples.{one_count}
 use Rattle.row_parts.specs.Contents.{Contents, fresh}
 use Rattle.row_keeper.specs.Rows.{Rows}
@@ -18,7 +17,6 @@ use Rattle.book.specs.Books.{BookView, LeaseView}
 use Rattle.book.specs.Fits.{fits, is_cursor_within}
 use Rattle.book.specs.Conditions.{MayUse, IsRowSeen}
 use Rattle.book.specs.Proposals.{IsNextLine}
-use Rattle.book.proofs.SeenRows.{told-then}
 
 -- the injector's lease may be used after its claim
 pub first-use : (book : BookView) (lease : LeaseView) (name : RowName) → book.case.topology ≡ one_count 60 → book.history ≡ Claim 0 0 ∷ []

@@ -1,18 +1,14 @@
 -- What the calls of a book answer.
 -- Akidau et al., VLDB 2013, section 6.2: a write under an older sequencer is refused. Own: the
 -- other refusals.
-use Rattle.std.specs.Prelude.{◌≡◌, ◌<◌, ◌↔◌, ◌++◌, ◌∷◌, [], ℕ, List, length, map, filter, Option, Some, Result, IsErrOf, IsSome, IfSome, slice_get, ⊤, true}
+use Rattle.std.specs.Prelude.{◌≡◌, ◌<◌, ◌↔◌, ◌++◌, ◌∷◌, [], ℕ, List, length, Option, Some, Result, IsErrOf, IsSome, IfSome, slice_get, ⊤, true}
 use Rattle.mw_types.specs.declared.identity.RowName.{RowName}
 use Rattle.mw_types.specs.declared.delivery.Delivery.{Delivery}
 use Rattle.mw_types.specs.declared.entry.Entry.{Entry}
-use Rattle.mw_types.specs.declared.entry.Entry.TheVariants.{Claim}
-use Rattle.key_intervals.specs.declared.bounds.Bounds.{Bounds}
-use Rattle.key_intervals.specs.Intervals.{covers}
 use Rattle.row_parts.specs.Contents.{Contents}
 use Rattle.row_keeper.specs.Rows.{Rows}
-use Rattle.run_history.specs.Cases.{CaseShape}
 use Rattle.run_history.specs.Runs.{changed, run_of, row_of}
-use Rattle.history_laws.specs.Fences.{interval_of, last_claim}
+use Rattle.history_laws.specs.Fences.{last_claim}
 use Rattle.book.specs.Books.{BookView, LeaseView}
 use Rattle.book.specs.Fits.{fits}
 use Rattle.book.specs.declared.answers.Written.{Written}

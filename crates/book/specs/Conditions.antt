@@ -2,29 +2,19 @@
 -- Akidau et al., VLDB 2013, section 6.2 for the sequencer that each write carries. Own: what a
 -- holder of a lease has
 -- seen of the history.
-use Rattle.std.specs.Prelude.{◌≡◌, ◌<◌, ◌≤◌, ◌+◌, ◌^◌, ℕ, List, [], take, drop, length, slice_get, Some, Option, IsSome, IfSome, false, true}
-use Rattle.std.specs.Option.{option_map}
+use Rattle.std.specs.Prelude.{◌≡◌, ◌<◌, ◌≤◌, ◌^◌, ℕ, List, take, drop, length, slice_get, Some, IsSome, IfSome, true}
 use Rattle.mw_types.specs.declared.identity.RecordId.{RecordId}
 use Rattle.mw_types.specs.declared.identity.RowName.{RowName}
-use Rattle.mw_types.specs.declared.delivery.Delivery.{Delivery}
-use Rattle.mw_types.specs.declared.timer.Timer.{Timer}
 use Rattle.mw_types.specs.declared.entry.Entry.{Entry}
 use Rattle.mw_types.specs.declared.entry.Entry.TheVariants.{Claim}
-use Rattle.mw_types.specs.Outcomes.{Outcome}
-use Rattle.topology.specs.Shapes.{Shape, kind_of}
-use Rattle.computations.specs.Handlers.{effects_of_record, effects_of_timer}
-use Rattle.row_parts.specs.Contents.{Contents, IsId, is_finished}
-use Rattle.run_history.specs.Cases.{CaseShape, is_injector, source_of}
+use Rattle.row_parts.specs.Contents.{Contents}
 use Rattle.run_history.specs.Made.{found_delivery}
 use Rattle.run_history.specs.Runs.{run_of, row_in, row_of}
-use Rattle.run_history.specs.Watermarks.{cursor_in, low_watermark}
 use Rattle.run_history.specs.Legal.{floor_of}
 use Rattle.history_laws.specs.Fences.{CarryNot, interval_of, known}
 use Rattle.history_laws.specs.Finished.{is_handled}
 use Rattle.book.specs.Books.{BookView, LeaseView}
 use Rattle.book.specs.Fits.{fits}
-use Rattle.book.specs.declared.proposal.Proposal.{Proposal}
-use Rattle.book.specs.declared.proposal.Proposal.TheVariants as proposals
 
 -- a lease was got by a claim in the history
 abbrev pub IsClaimed : List Entry → LeaseView → Type 0

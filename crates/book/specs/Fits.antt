@@ -8,7 +8,6 @@ use Rattle.mw_types.specs.declared.kind.Kind.{Kind}
 use Rattle.mw_types.specs.declared.kind.Kind.TheVariants as kinds
 use Rattle.mw_types.specs.declared.state.State.{State}
 use Rattle.mw_types.specs.declared.state.State.TheVariants as states
-use Rattle.injector.specs.Sources.{Source}
 use Rattle.topology.specs.Shapes.{Shape, injectors_of, parts_of, kind_of}
 use Rattle.row_parts.specs.Contents.{Contents}
 use Rattle.run_history.specs.Cases.{CaseShape, is_injector, source_of}

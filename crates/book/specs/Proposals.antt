@@ -2,7 +2,7 @@
 -- Akidau et al., VLDB 2013, section 6.1, for what a worker does on receipt of a record, and section
 -- 4.6 for timers.
 -- Own: what is asked over a keeper that does not tell its rows.
-use Rattle.std.specs.Prelude.{◌≡◌, ◌<◌, ◌≤◌, ℕ, Bool, true, false, List, [], ◌++◌, length, take, slice_get, Option, Some, IfSome}
+use Rattle.std.specs.Prelude.{◌≡◌, ◌<◌, ◌≤◌, ℕ, Bool, true, false, [], length, slice_get, Some}
 use Rattle.std.specs.Option.{option_map}
 use Rattle.mw_types.specs.declared.identity.RowName.{RowName}
 use Rattle.mw_types.specs.declared.record.Record.{Record}
@@ -18,7 +18,7 @@ use Rattle.computations.specs.Handlers.{effects_of_record, effects_of_timer}
 use Rattle.row_parts.specs.Contents.{Contents, IsId, is_finished}
 use Rattle.run_history.specs.Cases.{CaseShape, is_injector, source_of, record_of}
 use Rattle.run_history.specs.Made.{found_delivery, productions_of, late_cause, deliveries_made}
-use Rattle.run_history.specs.Runs.{Run, run_of}
+use Rattle.run_history.specs.Runs.{Run}
 use Rattle.run_history.specs.Watermarks.{cursor_in, low_watermark}
 use Rattle.book.specs.Books.{BookView, LeaseView}
 use Rattle.book.specs.Answers.{written_row, IsWritten}

@@ -14,7 +14,8 @@ use topology::Topology;
 pub(crate) fn fits(case: &Case, number: u64, name: &RowName, row: &Row) -> bool
     ensures { result ≡ fits case.now number name.now row.now }
 {
-    suits_part(case, name.part, row) && are_sent_before(&case.topology, number, row.pending.as_slice())
+    suits_part(case, name.part, row)
+        && are_sent_before(&case.topology, number, row.pending.as_slice())
 }
 
 // Whether a row's state and timers are those of a part.
@@ -65,7 +66,5 @@ fn are_sent_before(topology: &Topology, number: u64, pending: &[Delivery]) -> bo
 {
     let injectors = topology.injectors();
     let parts = topology.parts();
-    pending
-        .iter()
-        .all(|d| d.id.commit < number && injectors <= d.to.part && d.to.part < parts)
+    pending.iter().all(|d| d.id.commit < number && injectors <= d.to.part && d.to.part < parts)
 }

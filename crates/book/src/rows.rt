@@ -7,12 +7,7 @@ use row_parts::Row;
 use std::alloc::Global;
 
 // A row once an id of it is settled by the entry of this number.
-pub(crate) fn settled(
-    alloc: Global,
-    row: &Row,
-    id: RecordId,
-    commit: u64,
-) -> Result<Row, NoMemory>
+pub(crate) fn settled(alloc: Global, row: &Row, id: RecordId, commit: u64) -> Result<Row, NoMemory>
     requires { commit < 2 ^ 32 }
     ensures { IfOk result
         (λ made. made ≡ record row.now { pending = without_delivery id row.now.pending; last = commit }) }

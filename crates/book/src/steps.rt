@@ -172,12 +172,7 @@ fn handled(
 }
 
 // A row once it has handled the record of this id, but for what it sends.
-fn noted(
-    alloc: Global,
-    row: &Row,
-    id: RecordId,
-    effects: &Effects,
-) -> Result<Row, NoMemory>
+fn noted(alloc: Global, row: &Row, id: RecordId, effects: &Effects) -> Result<Row, NoMemory>
     requires id { IsId id }
     requires new { is_finished id row.now ≡ false }
     ensures { IfOk result (λ noted. noted ≡ record row.now {

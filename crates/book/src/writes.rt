@@ -200,7 +200,8 @@ impl<'a, K: Keeper> Book<'a, K> {
         let commit = self.core.history.len() as u64;
         let work = work_after(self.case, name, before, &row, self.core.work)?;
         let bytes = encode_row(alloc, &row)?;
-        self.core.append(alloc, entry, name, bytes.as_slice(), work)?;
+        self.core
+            .append(alloc, entry, name, bytes.as_slice(), work)?;
         Ok(Written { commit, row })
     }
 }

@@ -1,4 +1,4 @@
-use Rattle.std.proofs.Common.{◌≡◌, ◌≤◌, ◌+◌, cond, nat_lt, length, refl, sym, ◌∙◌, arith}
+use Rattle.std.proofs.Common.{◌≡◌, ◌+◌, cond, nat_lt, length, refl, sym, ◌∙◌, arith}
 use Rattle.run_history.specs.Cases.{source_of}
 use Rattle.book.proofs.FirstLaws.{before-more, one-small}
 use Rattle.book.proofs.books.first_work.Goals as goal

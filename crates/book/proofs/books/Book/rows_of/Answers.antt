@@ -1,5 +1,4 @@
 use Rattle.std.proofs.Common.{◌≡◌, length, ap, subst, ◌∙◌}
-use Rattle.run_history.specs.Cases.{CaseShape}
 use Rattle.book.specs.Books.{BookView, core_of}
 use Rattle.book.specs.Lawful.{IsLawful}
 use Rattle.book.proofs.FoundRows.{AreRowsOf-result, IsDamaged-result}

@@ -17,7 +17,7 @@ append_row-requires g c = record {
       c.admit.ensures.lawful c.requires.lease c.requires.row c.in-Ok.ensures.last c.in-Ok.ensures.room c.requires.proposal c.requires.seen
       (subst (λ (p : CaseShape × ℕ). IsEntryOf p.0 p.1 c.args.name.now c.args.proposal.now c.in_ok-made.made.entry) (λ i. (c.case-case.ensures.case i, c.seq.ensures i)) c.in_ok-made.ensures.entry)
       (c.in_ok-made.ensures.left ∙ (λ i. left_by (c.case-case.ensures.case i).topology c.args.name.now c.args.proposal.now (c.in-Ok.ensures.number i) c.in_ok-made.made.entry c.args.row.now));
-      was = row-was c.args.self.now c.args.lease.now c.args.front c.args.name.now c.args.row.now c.admit.ensures.lawful c.requires.lease c.requires.row c.in-Ok.ensures.last;
+  was = row-was c.args.self.now c.args.lease.now c.args.front c.args.name.now c.args.row.now c.admit.ensures.lawful c.requires.lease c.requires.row c.in-Ok.ensures.last;
 }
 
 -- what was appended is the proposal's
