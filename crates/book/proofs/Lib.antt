@@ -1,0 +1,11 @@
+pub mod FitLaws
+pub mod StartLaws
+pub mod Keeping
+pub mod ClaimLaws
+pub mod SeenRows
+pub mod FoundRows
+pub mod SentLaws
+pub mod Growing
+pub mod ProposalLaws
+pub mod FirstLaws
+pub mod TestLaws

@@ -1,0 +1,30 @@
+use Rattle.std.proofs.Common.{◌≡◌, ◌+◌, ◌-◌, List, ℕ, ap, subst, sym, ◌∙◌}
+use Rattle.std.specs.Prelude.{IfSome, option_map}
+use Rattle.run_history.specs.Runs.{run_of, row_of}
+use Rattle.history_laws.specs.Finished.{work_in}
+use Rattle.row_keeper.specs.Rows.{with_row}
+use Rattle.book.specs.Books.{BookView, core_of}
+use Rattle.book.specs.Appending.{IsNext}
+use Rattle.book.proofs.Keeping.{IsLawful-next, IsLawful-stays}
+use Rattle.book.proofs.books.Book.append_row.Goals as goal
+
+-- the entry may come next, and its row was stored
+pub invariant_of-self-2 : goal.invariant_of-self-2
+invariant_of-self-2 g c =
+    IsLawful-next c.self.inside.case.now c.self.inside.core c.append.new.self c.args.name.now c.args.entry c.args.before.now c.args.row c.self.invariant
+    (subst (λ (b : BookView). IsNext b.case (core_of b) c.args.name.now c.args.entry c.args.row) (sym c.self.view_is) c.requires.next)
+    c.in_ok-bytes.ensures.own
+    (subst (λ (b : BookView). IfSome b.rows (λ _. c.args.before.now ≡ row_of b.case.topology (run_of b.case.topology b.history) c.args.name.now)) (sym c.self.view_is) c.requires.was)
+    (c.in_ok-append.ensures.left ∙ c.in_ok-work.ensures
+    ∙ (λ i. ((c.self-inside.view_is i).core.work + work_in (c.self-inside.view_is i).case.now c.args.name.now c.args.row)
+    - work_in (c.self-inside.view_is i).case.now c.args.name.now c.args.before.now))
+    c.in_ok-append.ensures.appended
+    (c.in_ok-append.ensures.stored
+    ∙ ap (λ (b : List ℕ). option_map (with_row c.args.name.now b) c.self.inside.core.rows) (c.as_slice.ensures.elements ∙ c.in_ok-bytes.ensures.spelled))
+    c.append.ensures.limit
+
+-- nothing was appended
+pub invariant_of-self : goal.invariant_of-self
+invariant_of-self g c =
+    IsLawful-stays c.self.inside.case.now c.self.inside.core c.append.new.self c.self.invariant
+    c.in_err-append.ensures.history c.in_err-append.ensures.rows c.append.ensures.limit c.in_err-append.ensures.same_left

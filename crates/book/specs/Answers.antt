@@ -1,0 +1,64 @@
+-- What the calls of a book answer.
+-- Akidau et al., VLDB 2013, section 6.2: a write under an older sequencer is refused. Own: the
+-- other refusals.
+use Rattle.std.specs.Prelude.{◌≡◌, ◌<◌, ◌↔◌, ◌++◌, ◌∷◌, [], ℕ, List, length, Option, Some, Result, IsErrOf, IsSome, IfSome, slice_get, ⊤, true}
+use Rattle.mw_types.specs.declared.identity.RowName.{RowName}
+use Rattle.mw_types.specs.declared.delivery.Delivery.{Delivery}
+use Rattle.mw_types.specs.declared.entry.Entry.{Entry}
+use Rattle.row_parts.specs.Contents.{Contents}
+use Rattle.row_keeper.specs.Rows.{Rows}
+use Rattle.run_history.specs.Runs.{changed, run_of, row_of}
+use Rattle.history_laws.specs.Fences.{last_claim}
+use Rattle.book.specs.Books.{BookView, LeaseView}
+use Rattle.book.specs.Fits.{fits}
+use Rattle.book.specs.declared.answers.Written.{Written}
+use Rattle.book.specs.declared.refusals.StartWhy.{StartWhy}
+use Rattle.book.specs.declared.refusals.StartWhy.TheVariants as starts
+use Rattle.book.specs.declared.refusals.WriteRefusal.{WriteRefusal}
+use Rattle.book.specs.declared.refusals.WriteRefusal.TheVariants as refusals
+
+-- a start is refused for a row exactly of a keeper that has one, with its least row, where the
+-- keeper tells
+abbrev pub IsNotEmpty : Option Rows → StartWhy → Type 0
+IsNotEmpty rows (starts.NotEmpty name bytes) = IfSome rows (λ held. slice_get held 0 ≡ Some (name, bytes))
+IsNotEmpty rows _ = ⊤
+
+-- the row that an entry of this number leaves, where it made these deliveries
+abbrev pub written_row : ℕ → Entry → List Delivery → Contents → Contents
+written_row commit entry sent row = record (changed entry sent row) { last = commit }
+
+-- a write was accepted: its entry is the next of the history, and the answer has the entry's number
+-- and its row
+pub record IsWritten (old new : BookView) (lease : LeaseView) (name : RowName) (entry : Entry) (left : Contents) (answer : Written) : Type 0 where
+  pub appended : new.history ≡ old.history ++ entry ∷ []
+  pub commit : answer.commit ≡ length old.history
+  -- the row is what the entry leaves; where the keeper tells it is that of the history
+  pub changed_alone : answer.row ≡ left
+  pub of_history : let shape = old.case.topology in
+      IfSome old.rows (λ _. answer.row ≡ row_of shape (run_of shape new.history) name)
+  pub fit : fits old.case (length new.history) name answer.row ≡ true
+  -- the lease was the last of its interval
+  pub last : last_claim lease.interval old.history ≡ Some lease.seq
+
+-- a write is stale exactly where a later claim of the lease's interval is there, whose number is
+-- then told
+abbrev pub IsStaleWhere : {T : Type 0} → List Entry → LeaseView → Result T WriteRefusal → Type 0
+IsStaleWhere history lease result = (newer : ℕ) →
+    IsErrOf result (refusals.Stale newer) ↔ (last_claim lease.interval history ≡ Some newer) × (lease.seq < newer)
+
+-- the history is full exactly where it has as many entries as it may have, and the lease is not
+-- stale
+abbrev pub IsFullWhere : {T : Type 0} → BookView → LeaseView → Result T WriteRefusal → Type 0
+IsFullWhere book lease result = IsErrOf result refusals.HistoryFull
+    ↔ (length book.history ≡ book.limit) × (last_claim lease.interval book.history ≡ Some lease.seq)
+
+-- no call changes the case, the limit, or whether the keeper tells its rows
+pub record IsSameBook (old new : BookView) : Type 0 where
+  pub case : new.case ≡ old.case
+  pub limit : new.limit ≡ old.limit
+  pub tells : IsSome new.rows ↔ IsSome old.rows
+
+-- the history and the rows have stayed as they were
+pub record HasStayed (old new : BookView) : Type 0 where
+  pub history : new.history ≡ old.history
+  pub rows : new.rows ≡ old.rows

@@ -1,0 +1,34 @@
+-- What makes an entry one that may be appended. No public clause cites this module.
+use Rattle.std.specs.Prelude.{◌≡◌, ◌<◌, ◌≤◌, ◌+◌, ◌++◌, ◌∷◌, [], ℕ, List, length, Option, Some, None, if◌then◌else◌, nat_lt, true, IfSome}
+use Rattle.mw_types.specs.declared.identity.RowName.{RowName}
+use Rattle.mw_types.specs.declared.entry.Entry.{Entry}
+use Rattle.topology.specs.Shapes.{parts_of}
+use Rattle.row_parts.specs.Contents.{Contents}
+use Rattle.run_history.specs.Cases.{CaseShape}
+use Rattle.run_history.specs.Made.{row_written, productions_of}
+use Rattle.run_history.specs.Runs.{run_of, row_of}
+use Rattle.run_history.specs.Legal.{MayFollow}
+use Rattle.history_laws.specs.Fences.{IsUnderLastClaim, last_claim}
+use Rattle.book.specs.Books.{CoreView}
+use Rattle.book.specs.Fits.{fits}
+
+-- for each interval it is known which claim is its last
+abbrev pub KnowsClaims : (ℕ → Option ℕ) → List Entry → Type 0
+KnowsClaims newest history = (interval : ℕ) → newest interval ≡ last_claim interval history
+
+-- an entry that writes this row under this name may be appended
+pub record IsNext (case : CaseShape) (core : CoreView) (name : RowName) (entry : Entry) (row : Contents) : Type 0 where
+  pub room : length core.history < core.limit
+  pub on_row : row_written entry ≡ Some name
+  pub under : IsUnderLastClaim case.topology core.history entry
+  pub part : name.part < parts_of case.topology
+  pub few : length (productions_of entry) ≤ 8
+  pub fit : fits case (length core.history + 1) name row ≡ true
+  pub may : IfSome core.rows (λ _. MayFollow case (run_of case.topology core.history) entry)
+  pub of_history : IfSome core.rows (λ _.
+      row ≡ row_of case.topology (run_of case.topology (core.history ++ entry ∷ [])) name)
+
+-- the last claim, where it is later than this one
+abbrev pub later_than : ℕ → Option ℕ → Option ℕ
+later_than seq None = None
+later_than seq (Some newest) = if nat_lt seq newest then Some newest else None

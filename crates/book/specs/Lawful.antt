@@ -1,0 +1,45 @@
+-- What always holds of a book.
+-- Akidau et al., VLDB 2013, section 6.1, where state is checkpointed with each record's handling,
+-- and section 6.2 for
+-- sequencers. Own: what is known over a keeper that does not tell its rows.
+use Rattle.std.specs.Prelude.{◌≡◌, ◌≤◌, ◌^◌, ℕ, List, length, true, IfSome}
+use Rattle.std.specs.List.{AllByRecursion}
+use Rattle.mw_types.specs.declared.identity.RowName.{RowName}
+use Rattle.mw_types.specs.declared.entry.Entry.{Entry}
+use Rattle.row_parts.specs.Contents.{Contents}
+use Rattle.row_parts.specs.Spelling.{IsSpelledRow}
+use Rattle.row_keeper.specs.Rows.{Rows}
+use Rattle.run_history.specs.Cases.{CaseShape}
+use Rattle.run_history.specs.Runs.{run_of}
+use Rattle.run_history.specs.Legal.{IsLegal}
+use Rattle.run_history.specs.Printing.{IsPrintable}
+use Rattle.history_laws.specs.Fences.{IsFenced}
+use Rattle.history_laws.specs.Finished.{unfinished}
+use Rattle.history_laws.specs.Inputs.{IsRunnable}
+use Rattle.history_laws.specs.Stored.{stored_rows}
+use Rattle.book.specs.Books.{CoreView}
+use Rattle.book.specs.Fits.{fits}
+
+-- a row of a history of this length can be kept: it has bytes of its own, and fits its name
+pub record IsKept (case : CaseShape) (number : ℕ) (r : RowName × Contents) : Type 0 where
+  pub spelled : IsSpelledRow r.1
+  pub fit : fits case number r.0 r.1 ≡ true
+
+-- a keeper holds the rows of a legal history, and no others
+pub record IsHeld (case : CaseShape) (history : List Entry) (rows : Rows) : Type 0 where
+  pub legal : IsLegal case history
+  pub stored : rows ≡ stored_rows (run_of case.topology history)
+  pub kept : AllByRecursion (IsKept case (length history)) (run_of case.topology history).rows
+
+-- a book is lawful: its history is fenced, no longer than its limit, and can be printed, and where
+-- the keeper tells
+-- its rows they are those of the history, which is legal
+pub record IsLawful (case : CaseShape) (core : CoreView) : Type 0 where
+  pub runnable : IsRunnable case
+  pub limit : core.limit ≤ 2 ^ 32
+  pub few : length core.history ≤ core.limit
+  pub fenced : IsFenced case.topology core.history
+  pub printable : IsPrintable case.topology core.history
+  pub held : IfSome core.rows (IsHeld case core.history)
+  -- and what the book counts as left is the work that is left
+  pub left : IfSome core.rows (λ _. core.work ≡ unfinished case (run_of case.topology core.history))

@@ -1,0 +1,89 @@
+-- What may be proposed, and what is written of it.
+-- Akidau et al., VLDB 2013, section 6.1, for what a worker does on receipt of a record, and section
+-- 4.6 for timers.
+-- Own: what is asked over a keeper that does not tell its rows.
+use Rattle.std.specs.Prelude.{◌≡◌, ◌<◌, ◌≤◌, ℕ, Bool, true, false, [], length, slice_get, Some}
+use Rattle.std.specs.Option.{option_map}
+use Rattle.mw_types.specs.declared.identity.RowName.{RowName}
+use Rattle.mw_types.specs.declared.record.Record.{Record}
+use Rattle.mw_types.specs.declared.delivery.Delivery.{Delivery}
+use Rattle.mw_types.specs.declared.kind.Kind.{Kind}
+use Rattle.mw_types.specs.declared.timer.Timer.{Timer}
+use Rattle.mw_types.specs.declared.entry.Entry.{Entry}
+use Rattle.mw_types.specs.declared.entry.Entry.TheVariants as entries
+use Rattle.mw_types.specs.Outcomes.{Outcome}
+use Rattle.injector.specs.Sources.{item_at}
+use Rattle.topology.specs.Shapes.{Shape, kind_of}
+use Rattle.computations.specs.Handlers.{effects_of_record, effects_of_timer}
+use Rattle.row_parts.specs.Contents.{Contents, IsId, is_finished}
+use Rattle.run_history.specs.Cases.{CaseShape, is_injector, source_of, record_of}
+use Rattle.run_history.specs.Made.{found_delivery, productions_of, late_cause, deliveries_made}
+use Rattle.run_history.specs.Runs.{Run}
+use Rattle.run_history.specs.Watermarks.{cursor_in, low_watermark}
+use Rattle.book.specs.Books.{BookView, LeaseView}
+use Rattle.book.specs.Answers.{written_row, IsWritten}
+use Rattle.book.specs.declared.answers.Written.{Written}
+use Rattle.book.specs.declared.proposal.Proposal.{Proposal}
+use Rattle.book.specs.declared.proposal.Proposal.TheVariants as proposals
+
+-- ---- what may be proposed, by the row that is handed in
+
+-- an injector's next line
+pub record IsNextLine (case : CaseShape) (name : RowName) (row : Contents) (line : ℕ) : Type 0 where
+  pub injector : is_injector case.topology name.part ≡ true
+  pub no_key : name.key ≡ []
+  pub next : line ≡ cursor_in row.state
+  pub there : line < length (source_of case name.part)
+
+-- a record that goes to the row and is not finished there, with what its computation's handler
+-- leaves of it
+pub record IsHandling (case : CaseShape) (name : RowName) (row : Contents) (delivery : Delivery) (effects : Outcome) : Type 0 where
+  pub id : IsId delivery.id
+  pub to_row : delivery.to ≡ name
+  pub new : is_finished delivery.id row ≡ false
+  pub does : option_map (λ (kind : Kind). effects_of_record kind name.key row.state delivery.item) (kind_of case.topology name.part) ≡ Some effects
+
+-- the row's least timer, which is due, with what its computation's handler leaves of it
+pub record IsFiring (case : CaseShape) (name : RowName) (row : Contents) (timer : Timer) (mark : ℕ) (effects : Outcome) : Type 0 where
+  pub least : slice_get row.timers 0 ≡ Some timer
+  pub due : timer.time ≤ mark
+  pub does : option_map (λ (kind : Kind). effects_of_timer kind name.key row.state timer) (kind_of case.topology name.part) ≡ Some effects
+
+-- the proposal is one of these
+abbrev pub IsProposable : CaseShape → RowName → Contents → Proposal → Type 0
+IsProposable case name row (proposals.Inject line) = IsNextLine case name row line
+IsProposable case name row (proposals.Handle delivery effects) = IsHandling case name row delivery effects
+IsProposable case name row (proposals.Fire timer mark effects) = IsFiring case name row timer mark effects
+
+-- what was seen has the record that is handled, and its low watermark is not below the mark of the
+-- timer that fires
+abbrev pub IsProposedOf : CaseShape → RowName → Proposal → Run → Type 0
+IsProposedOf case name (proposals.Inject line) run = Unit {0}
+IsProposedOf case name (proposals.Handle delivery effects) run = found_delivery delivery.id run.made ≡ Some delivery
+IsProposedOf case name (proposals.Fire timer mark effects) run = mark ≤ low_watermark case run name.part
+
+-- ---- what is written of it
+
+-- the entry of a proposal, under a sequencer: an injected line's record is that of the source
+abbrev pub IsEntryOf : CaseShape → ℕ → RowName → Proposal → Entry → Type 0
+IsEntryOf case seq name (proposals.Inject line) entry = (item : Record)
+    × ((option_map record_of (item_at (source_of case name.part) line) ≡ Some item) × (entry ≡ entries.Inject seq name.part line item))
+IsEntryOf case seq name (proposals.Handle delivery effects) entry = entry ≡ entries.Handle seq name delivery.id effects
+IsEntryOf case seq name (proposals.Fire timer mark effects) entry = entry ≡ entries.Fire seq name timer mark effects
+
+-- whether the cause of what an entry sends is late: the record, the timer, or the delivery that is
+-- handled
+abbrev pub is_cause_late : Proposal → Entry → Bool
+is_cause_late (proposals.Handle delivery effects) entry = delivery.item.late
+is_cause_late _ entry = late_cause [] entry
+
+-- the row that the entry of a proposal leaves, under this number
+abbrev pub left_by : Shape → RowName → Proposal → ℕ → Entry → Contents → Contents
+left_by shape name proposal commit entry row =
+    written_row commit entry (deliveries_made shape name.part (productions_of entry) (is_cause_late proposal entry) commit) row
+
+-- a proposal was accepted: its entry is the next of the history, and its row is stored
+pub record IsWrittenBy (old new : BookView) (lease : LeaseView) (name : RowName) (proposal : Proposal) (row : Contents) (answer : Written) : Type 0 where
+  pub entry : Entry
+  pub of_proposal : IsEntryOf old.case lease.seq name proposal entry
+  pub written : IsWritten old new lease name entry (left_by old.case.topology name proposal (length old.history) entry row) answer

@@ -1,0 +1,227 @@
+//! A book, from its start to its end.
+ghost use Rattle.std.specs.Prelude.{◌≡◌, ◌≤◌, ◌^◌, ◌+◌, ◌<◌, [], All, IfErr, IfOk, IfSome, cond, nat_lt};
+ghost use Rattle.mw_types.specs.Causes.{Rose};
+ghost use Rattle.injector.specs.Sources.{IsSource};
+ghost use Rattle.run_history.specs.Runs.{empty_run, run_of};
+ghost use Rattle.history_laws.specs.Finished.{unfinished};
+ghost use Rattle.history_laws.specs.Inputs.{IsRunnable};
+ghost use Rattle.book.specs.Books.{core_of};
+ghost use Rattle.book.specs.Lawful.{IsLawful};
+ghost use Rattle.book.specs.Answers.{IsNotEmpty};
+ghost use Rattle.book.specs.Refusing.{start_why_of};
+
+use crate::fitting::lines;
+use crate::inner::Core;
+use crate::refusals::{StartRefusal, StartWhy};
+use injector::Items;
+use row_keeper::{Keeper, KeeperFault, KeptRow};
+use run_history::{Case, History};
+use std::alloc::Global;
+use std::collections::BTreeMap;
+use std::marker::Model;
+
+/// The history of one store, behind the sequencer check.
+#[derive(Drop)]
+pub struct Book<'a, K: Keeper> {
+    pub(crate) case: &'a Case,
+    pub(crate) core: Core<K>,
+}
+
+impl<'a, K: Keeper> Model for Book<'a, K> {
+    ghost use Rattle.book.specs.Books.{BookView};
+    ghost use Rattle.book.specs.Lawful.{IsLawful};
+
+    ghost Value = { BookView };
+
+    ghost view = { λ b. record {
+      case = b.case.now;
+      history = b.core.history;
+      limit = b.core.limit;
+      rows = b.core.rows;
+      faults = b.core.faults;
+      work = b.core.work;
+    } };
+
+    ghost invariant = { λ b. IsLawful b.case.now b.core };
+}
+
+impl<'a, K: Keeper> Book<'a, K> {
+    /// A book over a keeper without rows, in which nothing has happened yet.
+    pub fn start(
+        alloc: Global,
+        case: &'a Case,
+        keeper: K,
+        limit: u64,
+    ) -> Result<Book<'a, K>, StartRefusal<K>>
+        requires limit { limit ≤ 2 ^ 32 }
+
+        ensures case { IfOk result (λ book. book.case ≡ case.now) }
+        ensures empty { IfOk result (λ book. book.history ≡ []) }
+        ensures limit { IfOk result (λ book. book.limit ≡ limit) }
+        ensures rows { IfOk result (λ book. book.rows ≡ K.rows keeper) }
+        ensures faults { IfOk result (λ book. K.faults keeper ≤ book.faults) }
+
+        ensures not_empty { IfErr result (λ refusal. IsNotEmpty (K.rows keeper) refusal.why) }
+        ensures keeper_fault { IfErr result (λ refusal. refusal.why ≡ StartWhy.KeeperFault →
+            Rose (K.faults keeper) (K.faults refusal.keeper)) }
+        ensures unchanged { IfErr result (λ refusal. K.rows refusal.keeper ≡ K.rows keeper) }
+    {
+        let mut keeper = keeper;
+        runnable(case);
+        let work = first_work(case);
+        match keeper.first(alloc) {
+            Ok(None) => Ok(begun(alloc, case, keeper, limit, work)),
+            Ok(Some(row)) => Err(StartRefusal {
+                why: not_empty(row),
+                keeper,
+            }),
+            Err(fault) => Err(StartRefusal {
+                why: refused_first(fault),
+                keeper,
+            }),
+        }
+    }
+
+    /// The case whose runs the book keeps.
+    pub fn case(&self) -> &'a Case
+        ensures case { result.now ≡ self.now.case }
+    {
+        self.case
+    }
+
+    /// What has happened.
+    pub fn history(&self) -> &History
+        ensures history { result.now ≡ self.now.history }
+    {
+        &self.core.history
+    }
+
+    /// How much work is left: deliveries that are not acknowledged, timers that are set, and
+    /// injectors with lines left.
+    pub fn unfinished(&self) -> u64
+        ensures left { IfSome self.now.rows
+            (λ _. result ≡ unfinished self.now.case
+            (run_of self.now.case.topology self.now.history)) }
+    {
+        self.core.work
+    }
+
+    /// The keeper and the history, at the end.
+    pub fn into_parts(self) -> (K, History)
+        ensures rows { K.rows result.0 ≡ self.entry.rows }
+        ensures faults { K.faults result.0 ≡ self.entry.faults }
+        ensures history { result.1 ≡ self.entry.history }
+    {
+        let Book { case: _, core } = self;
+        let Core {
+            history,
+            keeper,
+            limit: _,
+            sequencers: _,
+            work: _,
+        } = core;
+        (keeper, history)
+    }
+
+    /// The case, and all else of the book, which names no lifetime.
+    pub fn into_core(self) -> (&'a Case, Core<K>)
+        ensures case { result.0.now ≡ self.entry.case }
+        ensures core { result.1 ≡ core_of self.entry }
+        ensures lawful { IsLawful result.0.now result.1 }
+    {
+        let Book { case, core } = self;
+        (case, core)
+    }
+
+    /// The book of a case and all else of it.
+    pub fn of(case: &'a Case, core: Core<K>) -> Book<'a, K>
+        requires lawful { IsLawful case.now core }
+        ensures case { result.case ≡ case.now }
+        ensures core { core_of result ≡ core }
+    {
+        Book { case, core }
+    }
+}
+
+// How much work a case begins with: each injector that has a line.
+fn first_work(case: &Case) -> u64
+    ensures { result ≡ unfinished case.now empty_run }
+{
+    let mut work = 0;
+    for part in 0..case.topology.injectors() {
+        work = counted(work, lines(case, part));
+    }
+    work
+}
+
+// One more, where an injector has a line.
+fn counted(work: u64, lines: u32) -> u64
+    requires { work < 2 ^ 32 }
+    ensures { result ≡ work + cond (nat_lt 0 lines) 1 0 }
+{
+    if lines > 0 { work + 1 } else { work }
+}
+
+// What a case keeps: its topology keeps the rules, and each source those of a source.
+fn runnable(case: &Case)
+    ensures { IsRunnable case.now }
+{
+    let _parts = case.topology.parts();
+    are_sources(case.items.as_slice());
+}
+
+// Each of these keeps what a source keeps.
+fn are_sources(all: &[Items])
+    ensures { All IsSource all.now }
+{
+    for items in all {
+        let _lines = items.count();
+    }
+}
+
+// A book in which nothing has happened.
+fn begun<'a, K: Keeper>(
+    alloc: Global,
+    case: &'a Case,
+    keeper: K,
+    limit: u64,
+    work: u64,
+) -> Book<'a, K>
+    requires runnable { IsRunnable case.now }
+    requires limit { limit ≤ 2 ^ 32 }
+    requires empty { IfSome (K.rows keeper) (λ rows. rows ≡ []) }
+    requires work { work ≡ unfinished case.now empty_run }
+
+    ensures case { result.case ≡ case.now }
+    ensures core { core_of result
+        ≡ record { history = []; limit = limit; rows = K.rows keeper; faults = K.faults keeper; work = work } }
+{
+    Book {
+        case,
+        core: Core {
+            history: History::new(alloc),
+            keeper,
+            limit,
+            sequencers: BTreeMap::new(alloc),
+            work,
+        },
+    }
+}
+
+// The row that a keeper has.
+fn not_empty(row: KeptRow) -> StartWhy
+    ensures { result ≡ StartWhy.NotEmpty row.name row.bytes }
+{
+    let KeptRow { name, bytes } = row;
+    StartWhy::NotEmpty { name, bytes }
+}
+
+// What a keeper's refusal is to a start.
+fn refused_first(fault: KeeperFault) -> StartWhy
+    ensures { result ≡ start_why_of fault }
+{
+    match fault {
+        KeeperFault::Failed => StartWhy::KeeperFault,
+        KeeperFault::NoMemory => StartWhy::NoMemory,
+    }
+}

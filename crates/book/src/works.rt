@@ -1,0 +1,63 @@
+//! How much work a row leaves.
+ghost use Rattle.std.specs.Prelude.{◌≡◌, ◌+◌, ◌-◌, IfOk};
+ghost use Rattle.run_history.specs.Watermarks.{cursor_in};
+ghost use Rattle.history_laws.specs.Finished.{row_has_line, work_in};
+
+use crate::fitting::lines;
+use mw_types::{NoMemory, RowName, State};
+use row_parts::Row;
+use run_history::Case;
+
+// How much work is left of so much, once one row stands in the place of another.
+pub(crate) fn work_after(
+    case: &Case,
+    name: &RowName,
+    before: &Row,
+    after: &Row,
+    work: u64,
+) -> Result<u64, NoMemory>
+    ensures { IfOk result (λ left.
+        left ≡ (work + work_in case.now name.now after.now) - work_in case.now name.now before.now) }
+{
+    let old = work_in(case, name, before)?;
+    let new = work_in(case, name, after)?;
+    let both = added(work, new)?;
+    Ok(both.saturating_sub(old))
+}
+
+// The work in a row.
+fn work_in(case: &Case, name: &RowName, row: &Row) -> Result<u64, NoMemory>
+    ensures { IfOk result (λ work. work ≡ work_in case.now name.now row.now) }
+{
+    let lists = added(row.pending.len() as u64, row.timers.len() as u64)?;
+    added(lists, u64::from(row_has_line(case, name, row)))
+}
+
+// Whether a row is an injector's, and has a line left.
+fn row_has_line(case: &Case, name: &RowName, row: &Row) -> bool
+    ensures { result ≡ row_has_line case.now name.now row.now }
+{
+    name.part < case.topology.injectors()
+        && name.key.text().is_empty()
+        && cursor_in(&row.state) < lines(case, name.part)
+}
+
+// How many lines a state says were injected.
+fn cursor_in(state: &State) -> u32
+    ensures { result ≡ cursor_in state.now }
+{
+    match state {
+        State::Injector { cursor } => *cursor,
+        _ => 0,
+    }
+}
+
+// The sum of two counts, where it can be counted.
+fn added(one: u64, other: u64) -> Result<u64, NoMemory>
+    ensures { IfOk result (λ sum. sum ≡ one + other) }
+{
+    match one.checked_add(other) {
+        Some(sum) => Ok(sum),
+        None => Err(NoMemory),
+    }
+}

@@ -1,0 +1,217 @@
+//! Writes: each appends one entry and stores its row, or is refused.
+ghost use Rattle.std.specs.Prelude.{◌≡◌, ◌<◌, ◌^◌, ◌↔◌, ℕ, None, ◌++◌, ◌∷◌, ◌⊎◌, [], length, take, IfErr, IfOk, IfSome, IsErrOf, OnErr, OnOk, Some};
+ghost use Rattle.mw_types.specs.Causes.{HasCause};
+ghost use Rattle.mw_types.specs.declared.entry.Entry.TheVariants.{Ack, Purge};
+ghost use Rattle.run_history.specs.Runs.{run_of, row_of};
+ghost use Rattle.history_laws.specs.Fences.{last_claim};
+ghost use Rattle.book.specs.Books.{core_of};
+ghost use Rattle.book.specs.Conditions.{IsClaimed, IsRowSeen, MayRaise, MaySettle, MayUse};
+ghost use Rattle.book.specs.Answers.{HasStayed, IsFullWhere, IsSameBook, IsStaleWhere, IsWritten, written_row};
+ghost use Rattle.book.specs.Lawful.{IsLawful};
+ghost use Rattle.book.specs.Proposals.{IsProposable, IsProposedOf, IsWrittenBy};
+ghost use Rattle.book.specs.Appending.{IsNext, later_than};
+
+use crate::answers::Written;
+use crate::books::Book;
+use crate::lease::Lease;
+use crate::proposal::Proposal;
+use crate::refusals::WriteRefusal;
+use crate::rows::{purged, settled};
+use crate::steps::{Step, step_of};
+use crate::works::work_after;
+use mw_types::{Duplicate, Entry, RecordId, RowName};
+use record_codec::encode_row;
+use row_keeper::Keeper;
+use row_parts::Row;
+use std::alloc::Global;
+
+impl<'a, K: Keeper> Book<'a, K> {
+    /// A row is written anew: an injector's next line is injected, a record was handled, or a timer
+    /// fired.
+    pub fn write(
+        &mut self,
+        alloc: Global,
+        lease: &Lease,
+        front: u64,
+        name: &RowName,
+        row: &Row,
+        proposal: &Proposal,
+    ) -> Result<Written, WriteRefusal>
+        requires lease { MayUse self.old lease.now front name.now }
+        requires row { IsRowSeen self.old lease.now front name.now row.now }
+        requires proposal { IsProposable self.old.case name.now row.now proposal.now }
+        requires seen { let run = run_of self.old.case.topology (take front self.old.history) in
+            IfSome self.old.rows (λ _. IsProposedOf self.old.case name.now proposal.now run) }
+
+        ensures written { IfOk result
+            (IsWrittenBy self.old self.new lease.now name.now proposal.now row.now) }
+        ensures stale { IsStaleWhere self.old.history lease.now result }
+        ensures full { IsFullWhere self.old lease.now result }
+        ensures keeper_fault { HasCause self.old.faults self.new.faults result
+            WriteRefusal.KeeperFault }
+        ensures unchanged { OnErr result (HasStayed self.old self.new) }
+        ensures same { IsSameBook self.old self.new }
+    {
+        let commit = match self.admit(lease) {
+            Ok(commit) => commit,
+            Err(why) => return Err(why),
+        };
+        let case = self.case();
+        let made = step_of(alloc, case, lease.seq(), name, row, proposal, commit)?;
+        let Step { entry, left } = made;
+        self.append_row(alloc, name, row, entry, left)
+    }
+
+    /// A sender learns that what it made was handled: the row no longer waits for the id.
+    pub fn settle(
+        &mut self,
+        alloc: Global,
+        lease: &Lease,
+        front: u64,
+        name: &RowName,
+        row: &Row,
+        id: RecordId,
+    ) -> Result<Written, WriteRefusal>
+        requires lease { MayUse self.old lease.now front name.now }
+        requires row { IsRowSeen self.old lease.now front name.now row.now }
+        requires id { MaySettle self.old front row.now id }
+
+        ensures written { let entry = Ack lease.now.seq name.now id in
+            let left = written_row (length self.old.history) entry [] row.now in
+            IfOk result (IsWritten self.old self.new lease.now name.now entry left) }
+        ensures stale { IsStaleWhere self.old.history lease.now result }
+        ensures full { IsFullWhere self.old lease.now result }
+        ensures keeper_fault { HasCause self.old.faults self.new.faults result
+            WriteRefusal.KeeperFault }
+        ensures unchanged { OnErr result (HasStayed self.old self.new) }
+        ensures same { IsSameBook self.old self.new }
+    {
+        let number = match self.admit(lease) {
+            Ok(number) => number,
+            Err(why) => return Err(why),
+        };
+        let left = settled(alloc, row, id, number)?;
+        let entry = Entry::Ack {
+            seq: lease.seq,
+            row: name.copy(alloc)?,
+            id,
+        };
+        self.append_row(alloc, name, row, entry, left)
+    }
+
+    /// A row forgets the ids of records that are finished: those below the floor.
+    pub fn purge(
+        &mut self,
+        alloc: Global,
+        lease: &Lease,
+        front: u64,
+        name: &RowName,
+        row: &Row,
+        floor: u64,
+    ) -> Result<Written, WriteRefusal>
+        requires lease { MayUse self.old lease.now front name.now }
+        requires row { IsRowSeen self.old lease.now front name.now row.now }
+        requires floor { MayRaise self.old front name.now row.now floor }
+
+        ensures written { let entry = Purge lease.now.seq name.now floor in
+            let left = written_row (length self.old.history) entry [] row.now in
+            IfOk result (IsWritten self.old self.new lease.now name.now entry left) }
+        ensures stale { IsStaleWhere self.old.history lease.now result }
+        ensures full { IsFullWhere self.old lease.now result }
+        ensures keeper_fault { HasCause self.old.faults self.new.faults result
+            WriteRefusal.KeeperFault }
+        ensures unchanged { OnErr result (HasStayed self.old self.new) }
+        ensures same { IsSameBook self.old self.new }
+    {
+        let commit = match self.admit(lease) {
+            Ok(commit) => commit,
+            Err(why) => return Err(why),
+        };
+        let left = purged(alloc, row, floor, commit)?;
+        let entry = Entry::Purge {
+            seq: lease.seq,
+            row: name.copy(alloc)?,
+            floor,
+        };
+        self.append_row(alloc, name, row, entry, left)
+    }
+
+    // Tests the sequencer of a write, and then whether there is room for its entry, which will have
+    // this number.
+    fn admit(&self, lease: &Lease) -> Result<u64, WriteRefusal>
+        requires claimed { IsClaimed self.now.history lease.now }
+        ensures lawful { IsLawful self.now.case (core_of self.now) }
+        ensures number { IfOk result (λ number. number ≡ length self.now.history) }
+        ensures below { IfOk result (λ number. number < 2 ^ 32) }
+        ensures last { OnOk result
+            (last_claim lease.now.interval self.now.history ≡ Some lease.now.seq) }
+        ensures room { OnOk result (length self.now.history < self.now.limit) }
+        ensures stale { IsStaleWhere self.now.history lease.now result }
+        ensures full { IsFullWhere self.now lease.now result }
+        ensures no_fault { IsErrOf result WriteRefusal.KeeperFault → ⊥ }
+    {
+        if let Some(newer) = self.newer(lease) {
+            return Err(WriteRefusal::Stale { newer });
+        }
+        let number = self.core.history.len() as u64;
+        if number >= self.core.limit {
+            return Err(WriteRefusal::HistoryFull);
+        }
+        Ok(number)
+    }
+
+    // The last claim of a lease's interval, where it is later than the lease's.
+    fn newer(&self, lease: &Lease) -> Option<u64>
+        requires claimed { IsClaimed self.now.history lease.now }
+        ensures lawful { IsLawful self.now.case (core_of self.now) }
+        ensures later { (newer : ℕ) → (result ≡ Some newer)
+            ↔ (last_claim lease.now.interval self.now.history ≡ Some newer) ×
+            (lease.now.seq < newer) }
+        ensures own { result ≡ None → last_claim lease.now.interval self.now.history
+            ≡ Some lease.now.seq }
+    {
+        let newest = self.core.newest(lease.interval());
+        later(lease.seq(), newest)
+    }
+
+    // Appends an entry that may come next, and stores its row.
+    fn append_row(
+        &mut self,
+        alloc: Global,
+        name: &RowName,
+        before: &Row,
+        entry: Entry,
+        row: Row,
+    ) -> Result<Written, WriteRefusal>
+        requires next { IsNext self.old.case (core_of self.old) name.now entry row }
+        requires was { let shape = self.old.case.topology in
+            IfSome self.old.rows
+            (λ _. before.now ≡ row_of shape (run_of shape self.old.history) name.now) }
+        ensures appended { OnOk result (self.new.history ≡ self.old.history ++ entry ∷ []) }
+        ensures commit { IfOk result (λ written. written.commit ≡ length self.old.history) }
+        ensures row { IfOk result (λ written. written.row ≡ row) }
+        ensures refused { IfErr result (λ why.
+            (why ≡ WriteRefusal.NoMemory) ⊎ (why ≡ WriteRefusal.KeeperFault)) }
+        ensures keeper_fault { HasCause self.old.faults self.new.faults result
+            WriteRefusal.KeeperFault }
+        ensures unchanged { OnErr result (HasStayed self.old self.new) }
+        ensures same { IsSameBook self.old self.new }
+    {
+        let commit = self.core.history.len() as u64;
+        let work = work_after(self.case, name, before, &row, self.core.work)?;
+        let bytes = encode_row(alloc, &row)?;
+        self.core
+            .append(alloc, entry, name, bytes.as_slice(), work)?;
+        Ok(Written { commit, row })
+    }
+}
+
+// The last claim, where it is later than this one.
+fn later(seq: u64, newest: Option<u64>) -> Option<u64>
+    ensures { result ≡ later_than seq newest }
+{
+    match newest {
+        Some(newer) if seq < newer => Some(newer),
+        _ => None,
+    }
+}
