@@ -1,0 +1,47 @@
+-- Whether a history is fenced, one entry after another.
+use Rattle.std.proofs.Common.{◌≡◌, ℕ, ◌+◌, ◌<◌, ◌≤◌, Bool, true, false, List, [], ◌∷◌, ◌++◌, take, drop, length, get_or, refl, sym, ◌∙◌, ap, subst, arith}
+use Rattle.std.proofs.lemmas.List.{take_more, take_all, take-append-drop}
+use Rattle.std.specs.Prelude.{◌↔◌, Option, Some, None, IsTrue}
+use Rattle.std.specs.Option.{option_and_then}
+use Rattle.mw_types.specs.declared.identity.RowName.{RowName}
+use Rattle.mw_types.specs.declared.entry.Entry.{Entry}
+use Rattle.topology.specs.Shapes.{Shape}
+use Rattle.run_history.specs.Made.{row_written}
+use Rattle.history_laws.specs.Fences.{interval_of, sequencer_of, last_claim, IsUnderLastClaim, IsFenced}
+use Rattle.history_laws.proofs.Lists.{some_same, none_some}
+use Rattle.history_laws.proofs.FenceLaws.{IsFenced-push}
+
+-- an entry on no row is under the last claim, whatever that is
+pub under_none : (shape : Shape) (before : List Entry) (entry : Entry) → row_written entry ≡ None → IsTrue true ↔ IsUnderLastClaim shape before entry
+under_none shape before entry none = (λ yes name is. absurd (none_some name (sym none ∙ is)), λ under. tt)
+
+-- an entry on a row is under the last claim where it carries the number of that of the row's interval
+pub under_row : (shape : Shape) (before : List Entry) (entry : Entry) (row : RowName) (seq : ℕ) (is : Bool)
+    → row_written entry ≡ Some row → sequencer_of entry ≡ Some seq
+    → (IsTrue is ↔ (option_and_then (λ (i : ℕ). last_claim i before) (interval_of shape row) ≡ Some seq))
+    → IsTrue is ↔ IsUnderLastClaim shape before entry
+under_row shape before entry row seq is written carries each = (
+  λ yes name at. subst (λ r. option_and_then (λ (i : ℕ). last_claim i before) (interval_of shape r) ≡ sequencer_of entry)
+      (some_same row name (sym written ∙ at)) (each.0 yes ∙ sym carries),
+  λ under. each.1 (under row written ∙ carries),
+)
+
+-- a beginning stays fenced with the next entry under the last claim
+pub fenced_more : (shape : Shape) (entries : List Entry) (n : ℕ) (entry : Entry) → n < length entries → get_or entries n entry ≡ entry
+    → IsUnderLastClaim shape (take n entries) entry → IsFenced shape (take n entries) → IsFenced shape (take (n + 1) entries)
+fenced_more shape entries n entry within at under fenced =
+    subst (IsFenced shape) (sym (take_more entries n entry within ∙ ap (λ e. take n entries ++ e ∷ []) at)) (IsFenced-push shape (take n entries) entry fenced under)
+
+-- a history is not fenced where one of its entries is not under the last claim
+pub not_fenced : (shape : Shape) (entries : List Entry) (n : ℕ) (entry : Entry) → n < length entries → get_or entries n entry ≡ entry
+    → (IsUnderLastClaim shape (take n entries) entry → ⊥) → IsFenced shape entries → ⊥
+not_fenced shape entries n entry within at stale fenced = stale (fenced (take n entries) entry (drop (n + 1) entries, whole))
+  where
+    whole : (take n entries ++ entry ∷ []) ++ drop (n + 1) entries ≡ entries
+    whole =
+        ap (λ l. l ++ drop (n + 1) entries) (sym (take_more entries n entry within ∙ ap (λ e. take n entries ++ e ∷ []) at))
+        ∙ take-append-drop (n + 1) entries
+
+-- where no entry is left, the beginning is the whole
+pub fenced_ended : (shape : Shape) (entries : List Entry) (n : ℕ) → length entries ≤ n → IsFenced shape (take n entries) → IsFenced shape entries
+fenced_ended shape entries n over fenced = subst (IsFenced shape) (take_all n entries over) fenced
