@@ -11,20 +11,9 @@ use Rattle.history_laws.specs.Fences.{interval_of, sequencer_of, last_claim, IsU
 use Rattle.history_laws.proofs.Lists.{some_same, none_some}
 use Rattle.history_laws.proofs.FenceLaws.{IsFenced-push}
 
--- an entry on no row is under the last claim, whatever that is
-pub under_none : (shape : Shape) (before : List Entry) (entry : Entry) → row_written entry ≡ None → IsTrue true ↔ IsUnderLastClaim shape before entry
-under_none shape before entry none = (λ yes name is. absurd (none_some name (sym none ∙ is)), λ under. tt)
-
--- an entry on a row is under the last claim where it carries the number of that of the row's interval
-pub under_row : (shape : Shape) (before : List Entry) (entry : Entry) (row : RowName) (seq : ℕ) (is : Bool)
-    → row_written entry ≡ Some row → sequencer_of entry ≡ Some seq
-    → (IsTrue is ↔ (option_and_then (λ (i : ℕ). last_claim i before) (interval_of shape row) ≡ Some seq))
-    → IsTrue is ↔ IsUnderLastClaim shape before entry
-under_row shape before entry row seq is written carries each = (
-  λ yes name at. subst (λ r. option_and_then (λ (i : ℕ). last_claim i before) (interval_of shape r) ≡ sequencer_of entry)
-      (some_same row name (sym written ∙ at)) (each.0 yes ∙ sym carries),
-  λ under. each.1 (under row written ∙ carries),
-)
+-- what is not so is not true
+pub false_is_not_true : IsTrue false → ⊥
+false_is_not_true e = cc
 
 -- a beginning stays fenced with the next entry under the last claim
 pub fenced_more : (shape : Shape) (entries : List Entry) (n : ℕ) (entry : Entry) → n < length entries → get_or entries n entry ≡ entry
@@ -41,7 +30,3 @@ not_fenced shape entries n entry within at stale fenced = stale (fenced (take n 
     whole =
         ap (λ l. l ++ drop (n + 1) entries) (sym (take_more entries n entry within ∙ ap (λ e. take n entries ++ e ∷ []) at))
         ∙ take-append-drop (n + 1) entries
-
--- where no entry is left, the beginning is the whole
-pub fenced_ended : (shape : Shape) (entries : List Entry) (n : ℕ) → length entries ≤ n → IsFenced shape (take n entries) → IsFenced shape entries
-fenced_ended shape entries n over fenced = subst (IsFenced shape) (take_all n entries over) fenced

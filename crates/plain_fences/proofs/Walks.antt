@@ -26,11 +26,6 @@ pub position_later : {X : Type 0} (test : X → Bool) (all : List X) (n : ℕ) (
 position_later test all n x found at fails walked =
     sym (ap (λ b. cond b (Some n) (position_from test (n + 1) (drop (n + 1) all))) fails) ∙ sym (position_at test all n x at) ∙ walked
 
--- where none is left, none is found
-pub position_ended : {X : Type 0} (test : X → Bool) (all : List X) (n : ℕ) (found : Option ℕ) → length all ≤ n
-    → position_from test n (drop n all) ≡ found → None ≡ found
-position_ended test all n found over walked = sym (at_drop_all (position_from test n) all n over) ∙ walked
-
 -- ---- the numbers that pass
 
 -- the numbers of a range that pass, the first one apart
@@ -53,9 +48,3 @@ pub range_without : (test : ℕ → Bool) (a n : ℕ) (left all : List ℕ) → 
 range_without test a n left all less fails walked =
     let rest = filter test (range_with_len (a + 1) (n - (a + 1))) in
     sym (ap (λ b. left ++ cond b (a ∷ rest) rest) fails) ∙ sym (ap (λ l. left ++ l) (range_at test a n less)) ∙ walked
-
--- where no number is left, those so far are all
-pub range_ended : (test : ℕ → Bool) (a n : ℕ) (left all : List ℕ) → n ≤ a → left ++ filter test (range_with_len a (n - a)) ≡ all → left ≡ all
-range_ended test a n left all over walked =
-    let none : n - a ≡ 0 = omega (arith, over) in
-    sym (append-nil left) ∙ sym (ap (λ k. left ++ filter test (range_with_len a k)) none) ∙ walked
