@@ -7,7 +7,7 @@ returns-then-not-is_under_last_claim c = record {
   fenced = (
     λ no. absurd (false_is_not_true no),
     λ fenced. absurd
-      (not_fenced c.args.case.now.topology c.args.entries.now c.loop-number.number c.index-entries-number.result (omega arith)
+        (not_fenced c.args.case.now.topology c.args.entries.now c.loop-number.number c.index-entries-number.result (omega arith)
         (sym c.index-entries-number.is)
         (λ under. false_is_not_true (sym c.if-not-is_under_last_claim.true ∙ c.is_under_last_claim.ensures.1 under)) fenced),
   );
