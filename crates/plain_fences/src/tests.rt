@@ -4,8 +4,8 @@ ghost use Rattle.std.specs.Prelude.{IfOk};
 ghost use Rattle.mw_types.specs.Bounds.{IsWithin};
 
 use crate::{
-    plain_is_acknowledged, plain_is_fenced, plain_is_finished, plain_is_handled, plain_known,
-    plain_last_claim, plain_unfinished,
+    plain_interval_of, plain_is_acknowledged, plain_is_fenced, plain_is_finished, plain_is_handled,
+    plain_known, plain_last_claim, plain_stored_rows, plain_unfinished,
 };
 use injector::read_lines;
 use mw_types::{
@@ -313,8 +313,33 @@ fn all_is_known_up_to_the_next_claim(rt: HostRuntime) -> Result<(), Fail> {
     Ok(())
 }
 
+// The bytes of the injector's row and of the row of the key a at the end of the drained example.
+const INJECTOR_ROW: [u8; 34] = [
+    1, 0, 0, 0, 0, 0, 0, 0, 10, 0, 0, 0, 0, 0, 0, 0, 0, 0, 0, 0, 0, 3, 0, 0, 0, 0, 0, 0, 0, 0, 0,
+    0, 0, 0,
+];
+
+const COUNT_ROW: [u8; 42] = [
+    1, 0, 0, 0, 0, 0, 0, 0, 13, 0, 0, 0, 0, 0, 0, 0, 13, 1, 0, 0, 0, 0, 0, 0, 0, 0, 0, 0, 0, 0, 0,
+    0, 0, 0, 0, 0, 0, 0, 0, 0, 0, 0,
+];
+
+// Whether the rows after the drained example have these bytes.
+fn rows_are_stored(alloc: Global) -> Result<bool, Fail> {
+    let case = case_of(alloc, THREE_LINES)?;
+    let run = run_after(alloc, &case, &drained_history(alloc, 1)?, 14)?;
+    let rows = plain_stored_rows(alloc, &run)?;
+    match rows.as_slice() {
+        [injector, count] => Ok(
+            injector.bytes.as_slice() == INJECTOR_ROW.as_slice()
+                && count.bytes.as_slice() == COUNT_ROW.as_slice(),
+        ),
+        _ => Ok(false),
+    }
+}
+
 #[test]
-fn work_is_left_until_the_end(rt: HostRuntime) -> Result<(), Fail> {
+fn no_work_and_two_rows_are_left_at_the_end(rt: HostRuntime) -> Result<(), Fail> {
     let alloc = rt.alloc();
     let case = case_of(alloc, THREE_LINES)?;
     let history = drained_history(alloc, 1)?;
@@ -324,6 +349,8 @@ fn work_is_left_until_the_end(rt: HostRuntime) -> Result<(), Fail> {
         let left = left_after(alloc, &case, &history, count)?;
         assert_eq!(rt; left, want, "after {count} entries");
     }
+    let stored = rows_are_stored(alloc)?;
+    assert!(rt; stored);
     Ok(())
 }
 
@@ -335,5 +362,6 @@ fn two_lines_are_fenced_and_finished(rt: HostRuntime) -> Result<(), Fail> {
     let run = run_after(alloc, &case, &history, 11)?;
     let finished = plain_is_finished(alloc, &case, &run)?;
     assert!(rt; finished && plain_is_fenced(alloc, &case, history.as_slice()));
+    assert!(rt; plain_interval_of(&case, &row_a(alloc)?) == Some(1));
     Ok(())
 }
