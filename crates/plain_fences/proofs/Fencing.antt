@@ -1,14 +1,10 @@
 -- Whether a history is fenced, one entry after another.
-use Rattle.std.proofs.Common.{◌≡◌, ℕ, ◌+◌, ◌<◌, ◌≤◌, Bool, true, false, List, [], ◌∷◌, ◌++◌, take, drop, length, get_or, refl, sym, ◌∙◌, ap, subst, arith}
-use Rattle.std.proofs.lemmas.List.{take_more, take_all, take-append-drop}
-use Rattle.std.specs.Prelude.{◌↔◌, Option, Some, None, IsTrue}
-use Rattle.std.specs.Option.{option_and_then}
-use Rattle.mw_types.specs.declared.identity.RowName.{RowName}
+use Rattle.std.proofs.Common.{◌≡◌, ℕ, ◌+◌, ◌<◌, false, List, [], ◌∷◌, ◌++◌, take, drop, length, get_or, sym, ◌∙◌, ap, subst}
+use Rattle.std.proofs.lemmas.List.{take_more, take-append-drop}
+use Rattle.std.specs.Prelude.{IsTrue}
 use Rattle.mw_types.specs.declared.entry.Entry.{Entry}
 use Rattle.topology.specs.Shapes.{Shape}
-use Rattle.run_history.specs.Made.{row_written}
-use Rattle.history_laws.specs.Fences.{interval_of, sequencer_of, last_claim, IsUnderLastClaim, IsFenced}
-use Rattle.history_laws.proofs.Lists.{some_same, none_some}
+use Rattle.history_laws.specs.Fences.{IsUnderLastClaim, IsFenced}
 use Rattle.history_laws.proofs.FenceLaws.{IsFenced-push}
 
 -- what is not so is not true

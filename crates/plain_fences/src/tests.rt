@@ -29,6 +29,9 @@ const TWO_LINES: &[u8] =
 
 // Windows of 60 over the records of these lines.
 fn case_of(alloc: Global, lines: &[u8]) -> Result<Case, Fail> {
+    if lines.len() > 1000 {
+        return Err("the lines are too long")?;
+    }
     let topology = Topology::one_count(alloc, 60)?;
     let mut items = Seq::new(alloc);
     items.push(read_lines(alloc, lines, 16)?)?;
