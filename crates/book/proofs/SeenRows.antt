@@ -62,7 +62,7 @@ part-there case part row suits = by_part (is_injector case.topology part) refl s
 -- what was seen under the last claim
 pub seen-front : (book : BookView) (lease : LeaseView) (front : ℕ) (name : RowName) → MayUse book lease front name
     → last_claim lease.interval book.history ≡ Some lease.seq → HasSeen lease.interval lease.seq (take front book.history) (drop front book.history)
-seen-front book lease front name uses last = HasSeen-take lease.interval lease.seq front book.history last uses.seen uses.there uses.own
+seen-front book lease front name uses last = HasSeen-take lease.interval lease.seq front book.history last uses.seen_all.seen uses.seen_all.there uses.seen_all.own
 
 -- the row as it is known under the lease is the row of what was seen
 pub row-front : (book : BookView) (lease : LeaseView) (front : ℕ) (name : RowName) → MayUse book lease front name

@@ -14,6 +14,7 @@ use Rattle.book.specs.Fits.{fits}
 use Rattle.book.specs.declared.answers.Written.{Written}
 use Rattle.book.specs.declared.refusals.StartWhy.{StartWhy}
 use Rattle.book.specs.declared.refusals.StartWhy.TheVariants as starts
+use Rattle.book.specs.declared.refusals.Stale.{Stale}
 use Rattle.book.specs.declared.refusals.WriteRefusal.{WriteRefusal}
 use Rattle.book.specs.declared.refusals.WriteRefusal.TheVariants as refusals
 
@@ -46,16 +47,23 @@ abbrev pub IsStaleWhere : {T : Type 0} → List Entry → LeaseView → Result T
 IsStaleWhere history lease result = (newer : ℕ) →
     IsErrOf result (refusals.Stale newer) ↔ (last_claim lease.interval history ≡ Some newer) × (lease.seq < newer)
 
+-- a report is stale exactly where a write would be
+abbrev pub IsStaleReport : List Entry → LeaseView → Result ℕ Stale → Type 0
+IsStaleReport history lease result = (newer : ℕ) → IsErrOf result (record { newer = newer })
+    ↔ (last_claim lease.interval history ≡ Some newer) × (lease.seq < newer)
+
 -- the history is full exactly where it has as many entries as it may have, and the lease is not
 -- stale
 abbrev pub IsFullWhere : {T : Type 0} → BookView → LeaseView → Result T WriteRefusal → Type 0
 IsFullWhere book lease result = IsErrOf result refusals.HistoryFull
     ↔ (length book.history ≡ book.limit) × (last_claim lease.interval book.history ≡ Some lease.seq)
 
--- no call changes the case, the limit, or whether the keeper tells its rows
+-- no call that uses the keeper changes the case, the limit, the marks, or whether the keeper tells
+-- its rows
 pub record IsSameBook (old new : BookView) : Type 0 where
   pub case : new.case ≡ old.case
   pub limit : new.limit ≡ old.limit
+  pub marks : new.marks ≡ old.marks
   pub tells : IsSome new.rows ↔ IsSome old.rows
 
 -- the history and the rows have stayed as they were

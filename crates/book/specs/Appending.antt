@@ -2,10 +2,10 @@
 use Rattle.std.specs.Prelude.{◌≡◌, ◌<◌, ◌≤◌, ◌+◌, ◌++◌, ◌∷◌, [], ℕ, List, length, Option, Some, None, if◌then◌else◌, nat_lt, true, IfSome}
 use Rattle.mw_types.specs.declared.identity.RowName.{RowName}
 use Rattle.mw_types.specs.declared.entry.Entry.{Entry}
-use Rattle.topology.specs.Shapes.{parts_of}
+use Rattle.topology.specs.Shapes.{Shape, parts_of}
 use Rattle.row_parts.specs.Contents.{Contents}
 use Rattle.run_history.specs.Cases.{CaseShape}
-use Rattle.run_history.specs.Made.{row_written, productions_of}
+use Rattle.run_history.specs.Made.{row_written, productions_of, deliveries_of}
 use Rattle.run_history.specs.Runs.{run_of, row_of}
 use Rattle.run_history.specs.Legal.{MayFollow}
 use Rattle.history_laws.specs.Fences.{IsUnderLastClaim, last_claim}
@@ -15,6 +15,11 @@ use Rattle.book.specs.Fits.{fits}
 -- for each interval it is known which claim is its last
 abbrev pub KnowsClaims : (ℕ → Option ℕ) → List Entry → Type 0
 KnowsClaims newest history = (interval : ℕ) → newest interval ≡ last_claim interval history
+
+-- how many deliveries the next entry of a history makes
+abbrev pub sent_by : Shape → List Entry → Entry → ℕ
+sent_by shape history entry = length
+    (deliveries_of shape (run_of shape history).made (length history) entry)
 
 -- an entry that writes this row under this name may be appended
 pub record IsNext (case : CaseShape) (core : CoreView) (name : RowName) (entry : Entry) (row : Contents) : Type 0 where

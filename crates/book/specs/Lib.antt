@@ -1,9 +1,12 @@
 pub mod Books
 pub mod Fits
+pub mod Senders
+pub mod Marks
 pub mod Lawful
 pub mod Conditions
 pub mod Answers
 pub mod Proposals
 pub mod Claims
 pub mod Appending
+pub mod Sending
 pub mod Refusing

@@ -1,19 +1,24 @@
 //! A book, from its start to its end.
-ghost use Rattle.std.specs.Prelude.{◌≡◌, ◌≤◌, ◌^◌, ◌+◌, ◌<◌, [], All, IfErr, IfOk, IfSome, cond, nat_lt};
+ghost use Rattle.std.specs.Prelude.{◌≡◌, ◌↔◌, ◌≤◌, ◌^◌, ◌+◌, ◌<◌, ℕ, [], length, replicate, IfErr, IfOk, IfSome, None, cond, nat_lt};
 ghost use Rattle.mw_types.specs.Causes.{Rose};
-ghost use Rattle.injector.specs.Sources.{IsSource};
+ghost use Rattle.run_history.specs.Cases.{intervals_of};
+ghost use Rattle.run_history.specs.Legal.{floor_of};
 ghost use Rattle.run_history.specs.Runs.{empty_run, run_of};
-ghost use Rattle.history_laws.specs.Finished.{unfinished};
+ghost use Rattle.history_laws.specs.Finished.{all_pending, unfinished};
 ghost use Rattle.history_laws.specs.Inputs.{IsRunnable};
 ghost use Rattle.book.specs.Books.{core_of};
 ghost use Rattle.book.specs.Lawful.{IsLawful};
+ghost use Rattle.book.specs.Marks.{AreSafe, AreUnderLow};
+ghost use Rattle.book.specs.Senders.{IsLeastSent};
 ghost use Rattle.book.specs.Answers.{IsNotEmpty};
+ghost use Rattle.watermark.specs.Marks.{mark_of};
 ghost use Rattle.book.specs.Refusing.{start_why_of};
 
 use crate::fitting::lines;
 use crate::inner::Core;
 use crate::refusals::{StartRefusal, StartWhy};
-use injector::Items;
+use history_laws::case_is_runnable;
+use mw_types::{NoMemory, RecordId, RowName};
 use row_keeper::{Keeper, KeeperFault, KeptRow};
 use run_history::{Case, History};
 use std::alloc::Global;
@@ -40,6 +45,8 @@ impl<'a, K: Keeper> Model for Book<'a, K> {
       rows = b.core.rows;
       faults = b.core.faults;
       work = b.core.work;
+      unacknowledged = b.core.unacknowledged;
+      marks = b.core.marks;
     } };
 
     ghost invariant = { λ b. IsLawful b.case.now b.core };
@@ -60,6 +67,8 @@ impl<'a, K: Keeper> Book<'a, K> {
         ensures limit { IfOk result (λ book. book.limit ≡ limit) }
         ensures rows { IfOk result (λ book. book.rows ≡ K.rows keeper) }
         ensures faults { IfOk result (λ book. K.faults keeper ≤ book.faults) }
+        ensures marks { IfOk result (λ book.
+            book.marks ≡ replicate (length (intervals_of case.now.topology)) 0) }
 
         ensures not_empty { IfErr result (λ refusal. IsNotEmpty (K.rows keeper) refusal.why) }
         ensures keeper_fault { IfErr result (λ refusal. refusal.why ≡ StartWhy.KeeperFault →
@@ -67,10 +76,15 @@ impl<'a, K: Keeper> Book<'a, K> {
         ensures unchanged { IfErr result (λ refusal. K.rows refusal.keeper ≡ K.rows keeper) }
     {
         let mut keeper = keeper;
-        runnable(case);
-        let work = first_work(case);
+        case_is_runnable(case);
+        let Ok(marks) = first_marks(alloc, case) else {
+            return Err(StartRefusal {
+                why: StartWhy::NoMemory,
+                keeper,
+            });
+        };
         match keeper.first(alloc) {
-            Ok(None) => Ok(begun(alloc, case, keeper, limit, work)),
+            Ok(None) => Ok(begun(alloc, case, keeper, limit, marks)),
             Ok(Some(row)) => Err(StartRefusal {
                 why: not_empty(row),
                 keeper,
@@ -96,6 +110,55 @@ impl<'a, K: Keeper> Book<'a, K> {
         &self.core.history
     }
 
+    /// The least commit number of an entry that made a delivery which is not acknowledged; the number
+    /// of the next entry where there is none. Ids below it need not be kept.
+    pub fn floor(&self) -> u64
+        ensures floor { result ≡ floor_of (run_of self.now.case.topology self.now.history) }
+    {
+        match self.least_sent() {
+            Some((id, _)) => id.commit,
+            None => self.core.history.len() as u64,
+        }
+    }
+
+    /// The least id that is not acknowledged, and the row that sent it: the first that a sender has to
+    /// send again. It is pending in that row.
+    pub fn least_sent(&self) -> Option<(RecordId, &RowName)>
+        ensures least { IfSome result
+            (λ sent. let shape = self.now.case.topology in
+            IsLeastSent shape (run_of shape self.now.history) sent.0 sent.1.now) }
+        ensures none { (result ≡ None) ↔
+            (all_pending (run_of self.now.case.topology self.now.history) ≡ []) }
+    {
+        match self.core.unacknowledged.first_key_value() {
+            Some((id, name)) => Some((*id, name)),
+            None => None,
+        }
+    }
+
+    /// The mark of an interval, in whole microseconds: no work that is left in it, and none above it,
+    /// is older.
+    pub fn mark(&self, interval: u32) -> u64
+        requires there { interval < length (intervals_of self.now.case.topology) }
+        ensures mark { result ≡ mark_of self.now.marks interval }
+    {
+        self.core.mark(interval)
+    }
+
+    /// The mark of each interval, by its number.
+    pub fn marks(&self) -> &[u64]
+        ensures marks { result.now ≡ self.now.marks }
+        ensures one_each { length self.now.marks ≡ length (intervals_of self.now.case.topology) }
+
+        // Where the keeper tells, each mark is safe, and timers may fire under those of a part.
+        ensures safe { IfSome self.now.rows (λ _. AreSafe self.now.case
+            (run_of self.now.case.topology self.now.history) self.now.marks) }
+        ensures under_low { IfSome self.now.rows (λ _. AreUnderLow self.now.case
+            (run_of self.now.case.topology self.now.history) self.now.marks) }
+    {
+        self.core.marks.as_slice()
+    }
+
     /// How much work is left: deliveries that are not acknowledged, timers that are set, and
     /// injectors with lines left.
     pub fn unfinished(&self) -> u64
@@ -119,6 +182,8 @@ impl<'a, K: Keeper> Book<'a, K> {
             limit: _,
             sequencers: _,
             work: _,
+            unacknowledged: _,
+            marks: _,
         } = core;
         (keeper, history)
     }
@@ -162,21 +227,16 @@ fn counted(work: u64, lines: u32) -> u64
     if lines > 0 { work + 1 } else { work }
 }
 
-// What a case keeps: its topology keeps the rules, and each source those of a source.
-fn runnable(case: &Case)
-    ensures { IsRunnable case.now }
+// A mark of 0 for each interval.
+fn first_marks(alloc: Global, case: &Case) -> Result<Vec<u64>, NoMemory>
+    ensures { IfOk result
+        (λ marks. marks.items ≡ replicate (length (intervals_of case.now.topology)) 0) }
 {
-    let _parts = case.topology.parts();
-    are_sources(case.items.as_slice());
-}
-
-// Each of these keeps what a source keeps.
-fn are_sources(all: &[Items])
-    ensures { All IsSource all.now }
-{
-    for items in all {
-        let _lines = items.count();
+    let mut marks = Vec::new(alloc);
+    for _ in 0..case.intervals().count() {
+        marks.push(0)?;
     }
+    Ok(marks)
 }
 
 // A book in which nothing has happened.
@@ -185,17 +245,25 @@ fn begun<'a, K: Keeper>(
     case: &'a Case,
     keeper: K,
     limit: u64,
-    work: u64,
+    marks: Vec<u64>,
 ) -> Book<'a, K>
     requires runnable { IsRunnable case.now }
     requires limit { limit ≤ 2 ^ 32 }
     requires empty { IfSome (K.rows keeper) (λ rows. rows ≡ []) }
-    requires work { work ≡ unfinished case.now empty_run }
+    requires marks { marks.items ≡ replicate (length (intervals_of case.now.topology)) 0 }
 
     ensures case { result.case ≡ case.now }
-    ensures core { core_of result
-        ≡ record { history = []; limit = limit; rows = K.rows keeper; faults = K.faults keeper; work = work } }
+    ensures core { core_of result ≡ record {
+      history = [];
+      limit = limit;
+      rows = K.rows keeper;
+      faults = K.faults keeper;
+      work = unfinished case.now empty_run;
+      unacknowledged = [];
+      marks = marks.items;
+    } }
 {
+    let work = first_work(case);
     Book {
         case,
         core: Core {
@@ -204,6 +272,8 @@ fn begun<'a, K: Keeper>(
             limit,
             sequencers: BTreeMap::new(alloc),
             work,
+            unacknowledged: BTreeMap::new(alloc),
+            marks,
         },
     }
 }

@@ -1,13 +1,12 @@
 //! The history of one store, behind the sequencer check: a write appends one entry and stores its
 //! row, or is refused.
 //!
-//! A new owner of an interval gets a new sequencer, and a write under an older one is refused.
-//! Stands on
-//! `history_laws` and the crates below it. Public contract: a claim and each write append one entry
-//! that may follow the history, and the keeper holds the rows of the history and no others; a
-//! refusal
-//! changes neither. Definitions: `specs/Lawful.antt`, what always holds of a book;
-//! `specs/Conditions.antt`, what a caller has to know; `specs/Answers.antt`, what the calls answer.
+//! A new owner of an interval gets a new sequencer, and a write under an older one is refused. Stands
+//! on `history_laws`, `watermark` and the crates below them. Public contract: a claim and each write
+//! append one entry that may follow the history, and the keeper holds the rows of the history and no
+//! others; a refusal changes neither; no mark passes work that is left in its interval or above it.
+//! Definitions: `specs/Lawful.antt`, what always holds of a book; `specs/Conditions.antt`, what a
+//! caller has to know; `specs/Answers.antt`, what the calls answer; `specs/Marks.antt`, the marks.
 #![tactic(auto)]
 
 mod answers;
@@ -18,7 +17,9 @@ mod inner;
 mod lease;
 mod proposal;
 mod refusals;
+mod reports;
 mod rows;
+mod senders;
 mod sending;
 mod steps;
 #[cfg(test)]
@@ -31,4 +32,4 @@ pub use books::Book;
 pub use inner::Core;
 pub use lease::Lease;
 pub use proposal::Proposal;
-pub use refusals::{ClaimRefusal, StartRefusal, StartWhy, WriteRefusal};
+pub use refusals::{ClaimRefusal, Stale, StartRefusal, StartWhy, WriteRefusal};

@@ -72,6 +72,13 @@ pub enum WriteRefusal {
     KeeperFault,
 }
 
+/// A report was refused, since the interval has a later claim.
+#[derive(Clone, Copy, Debug, PartialEq, Eq)]
+pub struct Stale {
+    /// The commit number of the interval's last claim.
+    pub newer: u64,
+}
+
 impl From<NoMemory> for WriteRefusal {
     ghost use Rattle.std.specs.Prelude.{◌≡◌};
     ghost use Rattle.book.specs.declared.refusals.WriteRefusal.TheVariants as refusals;

@@ -9,7 +9,7 @@ ghost use Rattle.book.specs.Conditions.{IsClaimed, IsRowSeen, MayRaise, MaySettl
 ghost use Rattle.book.specs.Answers.{HasStayed, IsFullWhere, IsSameBook, IsStaleWhere, IsWritten, written_row};
 ghost use Rattle.book.specs.Lawful.{IsLawful};
 ghost use Rattle.book.specs.Proposals.{IsProposable, IsProposedOf, IsWrittenBy};
-ghost use Rattle.book.specs.Appending.{IsNext, later_than};
+ghost use Rattle.book.specs.Appending.{IsNext, later_than, sent_by};
 
 use crate::answers::Written;
 use crate::books::Book;
@@ -59,7 +59,8 @@ impl<'a, K: Keeper> Book<'a, K> {
         let case = self.case();
         let made = step_of(alloc, case, lease.seq(), name, row, proposal, commit)?;
         let Step { entry, left } = made;
-        self.append_row(alloc, name, row, entry, left)
+        let sent = (left.pending.len() - row.pending.len()) as u32;
+        self.append_row(alloc, name, row, entry, left, sent)
     }
 
     /// A sender learns that what it made was handled: the row no longer waits for the id.
@@ -96,7 +97,7 @@ impl<'a, K: Keeper> Book<'a, K> {
             row: name.copy(alloc)?,
             id,
         };
-        self.append_row(alloc, name, row, entry, left)
+        self.append_row(alloc, name, row, entry, left, 0)
     }
 
     /// A row forgets the ids of records that are finished: those below the floor.
@@ -133,7 +134,7 @@ impl<'a, K: Keeper> Book<'a, K> {
             row: name.copy(alloc)?,
             floor,
         };
-        self.append_row(alloc, name, row, entry, left)
+        self.append_row(alloc, name, row, entry, left, 0)
     }
 
     // Tests the sequencer of a write, and then whether there is room for its entry, which will have
@@ -161,7 +162,7 @@ impl<'a, K: Keeper> Book<'a, K> {
     }
 
     // The last claim of a lease's interval, where it is later than the lease's.
-    fn newer(&self, lease: &Lease) -> Option<u64>
+    pub(crate) fn newer(&self, lease: &Lease) -> Option<u64>
         requires claimed { IsClaimed self.now.history lease.now }
         ensures lawful { IsLawful self.now.case (core_of self.now) }
         ensures later { (newer : ℕ) → (result ≡ Some newer)
@@ -174,7 +175,7 @@ impl<'a, K: Keeper> Book<'a, K> {
         later(lease.seq(), newest)
     }
 
-    // Appends an entry that may come next, and stores its row.
+    // Appends an entry that may come next and makes so many deliveries, and stores its row.
     fn append_row(
         &mut self,
         alloc: Global,
@@ -182,8 +183,10 @@ impl<'a, K: Keeper> Book<'a, K> {
         before: &Row,
         entry: Entry,
         row: Row,
+        sent: u32,
     ) -> Result<Written, WriteRefusal>
         requires next { IsNext self.old.case (core_of self.old) name.now entry row }
+        requires sent { sent ≡ sent_by self.old.case.topology self.old.history entry }
         requires was { let shape = self.old.case.topology in
             IfSome self.old.rows
             (λ _. before.now ≡ row_of shape (run_of shape self.old.history) name.now) }
@@ -201,7 +204,7 @@ impl<'a, K: Keeper> Book<'a, K> {
         let work = work_after(self.case, name, before, &row, self.core.work)?;
         let bytes = encode_row(alloc, &row)?;
         self.core
-            .append(alloc, entry, name, bytes.as_slice(), work)?;
+            .append(alloc, entry, name, bytes.as_slice(), work, sent)?;
         Ok(Written { commit, row })
     }
 }

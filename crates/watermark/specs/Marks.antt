@@ -1,7 +1,7 @@
 -- Which intervals feed an interval, and which marks are a part's: Akidau et al., VLDB 2013, section 4.5, where the
 -- low watermark of a computation looks at those of the computations that output to it.
 -- Own: a part is cut into intervals, and each interval has a mark.
-use Rattle.std.specs.Prelude.{ℕ, ◌==◌, if◌then◌else◌, List, [], slice_get, Some, None}
+use Rattle.std.specs.Prelude.{ℕ, ◌==◌, if◌then◌else◌, List, [], map, slice_get, Some, None, unwrap_or}
 use Rattle.std.specs.Option.{option_map_or}
 use Rattle.std.specs.List.{list_any, filter_map, enumerate_from, zip}
 use Rattle.key_intervals.specs.declared.bounds.Bounds.{Bounds}
@@ -24,6 +24,14 @@ feeding_of shape interval = option_map_or
 abbrev pub marks_in : List Bounds → ℕ → List ℕ → List ℕ
 marks_in intervals part marks = filter_map
     (λ (p : Bounds × ℕ). if p.0.part == part then Some p.1 else None) (zip intervals marks)
+
+-- the mark of an interval, of a mark for each; 0 of one that is not there
+abbrev pub mark_of : List ℕ → ℕ → ℕ
+mark_of marks interval = unwrap_or (slice_get marks interval) 0
+
+-- the marks of the intervals that feed an interval
+abbrev pub feeding_marks : Shape → ℕ → List ℕ → List ℕ
+feeding_marks shape interval marks = map (mark_of marks) (feeding_of shape interval)
 
 -- the marks of a part's intervals, of a mark for each interval of a topology
 abbrev pub marks_of : Shape → ℕ → List ℕ → List ℕ

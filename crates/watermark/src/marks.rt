@@ -1,10 +1,10 @@
 //! Whose intervals feed an interval, and the least mark of a part.
-ghost use Rattle.std.specs.Prelude.{◌≡◌, ◌<◌, ◌≤◌, ◌==◌, length, slice_get, IfOk, Some};
+ghost use Rattle.std.specs.Prelude.{◌≡◌, ◌<◌, ◌≤◌, ◌==◌, length, map, slice_get, IfOk, Some};
 ghost use Rattle.std.specs.List.{list_any};
 ghost use Rattle.topology.specs.Shapes.{parts_of};
 ghost use Rattle.run_history.specs.Cases.{intervals_of};
 ghost use Rattle.run_history.specs.Watermarks.{least};
-ghost use Rattle.watermark.specs.Marks.{feeding_of, numbers_in, marks_in, marks_of};
+ghost use Rattle.watermark.specs.Marks.{feeding_marks, feeding_of, mark_of, numbers_in, marks_in, marks_of};
 
 use key_intervals::Intervals;
 use mw_types::{END, NoMemory, NumberList};
@@ -32,6 +32,33 @@ pub fn low(case: &Case, part: u32, marks: &[u64]) -> u64
     ensures some { 1 ≤ length (marks_of case.now.topology part marks.now) }
 {
     low_in(case.intervals(), part, marks)
+}
+
+/// The least mark of the intervals that feed an interval, of a mark for each interval; the end where
+/// none feeds it. The mark of the interval may not pass it.
+pub fn inputs(case: &Case, interval: u32, marks: &[u64]) -> u64
+    requires exists { interval < length (intervals_of case.now.topology) }
+    requires marks { length marks.now ≡ length (intervals_of case.now.topology) }
+    ensures least { result ≡ least (feeding_marks case.now.topology interval marks.now) }
+{
+    let intervals = case.intervals();
+    let feeds = case.topology.feeds(intervals.bounds(interval).part);
+    least_among(intervals, feeds, marks)
+}
+
+// The least mark of the intervals of some parts.
+fn least_among(intervals: &Intervals, parts: &[u32], marks: &[u64]) -> u64
+    requires { length marks.now ≡ length intervals.now }
+    ensures { result ≡ least (map (mark_of marks.now) (numbers_in parts.now 0 intervals.now)) }
+{
+    let mut least = END;
+    for interval in 0..intervals.count() {
+        let mark = mark_at(marks, interval);
+        if is_among(parts, intervals.bounds(interval).part) {
+            least = least.min(mark);
+        }
+    }
+    least
 }
 
 // The numbers of the intervals of some parts.

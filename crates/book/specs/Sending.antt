@@ -1,0 +1,59 @@
+-- How what is known of senders changes as entries come. No public clause cites this module.
+use Rattle.std.specs.Prelude.{◌≡◌, ◌≤◌, ℕ, List, Option, Some, None, if◌then◌else◌, ◌&&◌, ◌==◌, nat_lt}
+use Rattle.std.specs.Option.{option_and_then}
+use Rattle.std.specs.Map.{lookup}
+use Rattle.std.specs.BTreeMap.{is_at}
+use Rattle.std.specs.Ordering.{is_eq}
+use Rattle.mw_types.specs.Orders.{id_cmp, row_cmp}
+use Rattle.mw_types.specs.declared.identity.RecordId.{RecordId}
+use Rattle.mw_types.specs.declared.identity.RowName.{RowName}
+use Rattle.mw_types.specs.declared.entry.Entry.{Entry}
+use Rattle.mw_types.specs.declared.entry.Entry.TheVariants.{Ack}
+
+-- who sent an id
+abbrev pub sender_of : List (RecordId × RowName) → RecordId → Option RowName
+sender_of sent id = lookup (is_at (id_cmp id)) sent
+
+-- nothing is known of an entry of this number, nor of a later one
+abbrev pub IsUnsent : ℕ → List (RecordId × RowName) → Type 0
+IsUnsent commit sent = (id : RecordId) → commit ≤ id.commit → sender_of sent id ≡ None
+
+-- the same is known of each id
+abbrev pub KnowsSame : List (RecordId × RowName) → List (RecordId × RowName) → Type 0
+KnowsSame old new = (id : RecordId) → sender_of new id ≡ sender_of old id
+
+-- the id that an entry acknowledges
+abbrev pub settled_by : Entry → Option RecordId
+settled_by (Ack seq row id) = Some id
+settled_by _ = None
+
+-- who sent an id, once the entry of this number has made so many deliveries in a row
+abbrev pub sender_more : ℕ → RowName → ℕ → RecordId → Option RowName → Option RowName
+sender_more commit name count id sender =
+    if (id.commit == commit) && nat_lt id.index count then Some name else sender
+
+-- a row has sent so many, under the number of its entry
+abbrev pub HasSent : ℕ → RowName → ℕ → List (RecordId × RowName) → List (RecordId × RowName) → Type 0
+HasSent commit name count old new = (id : RecordId) →
+    sender_of new id ≡ sender_more commit name count id (sender_of old id)
+
+-- a sender, unless it is this row
+abbrev pub unless_row : RowName → RowName → Option RowName
+unless_row name sender = if is_eq (row_cmp sender name) then None else Some sender
+
+-- who sent an id, once a row has acknowledged one
+abbrev pub sender_less : Option RecordId → RowName → RecordId → Option RowName → Option RowName
+sender_less None name id sender = sender
+sender_less (Some settled) name id sender =
+    if is_eq (id_cmp id settled) then option_and_then (unless_row name) sender else sender
+
+-- an id is acknowledged by a row, where the row sent it
+abbrev pub HasSettled : Option RecordId → RowName → List (RecordId × RowName) → List (RecordId × RowName) → Type 0
+HasSettled settled name old new = (id : RecordId) →
+    sender_of new id ≡ sender_less settled name id (sender_of old id)
+
+-- what is known of senders after the entry of this number, which made so many deliveries in its row
+abbrev pub IsAfterEntry : ℕ → Entry → RowName → ℕ → List (RecordId × RowName) → List (RecordId × RowName) → Type 0
+IsAfterEntry commit entry name count old new = (id : RecordId) →
+    sender_of new id
+    ≡ sender_less (settled_by entry) name id (sender_more commit name count id (sender_of old id))
