@@ -28,7 +28,8 @@ pub trait Ranked: Spelled {
 /// Appends the bytes of a list.
 pub fn put_list<X: Spelled>(out: &mut Vec<u8>, xs: &[X]) -> Result<(), NoMemory>
     requires { length xs.now < 2 ^ 32 }
-    ensures written { OnOk result (out.new.items ≡ out.old.items ++ list_spelling X.spelling xs.now) }
+    ensures written { let spelt = list_spelling X.spelling xs.now in
+        OnOk result (out.new.items ≡ out.old.items ++ spelt) }
     ensures typed { OnOk result (All X.typed xs.now) }
 {
     (xs.len() as u32).put(out)?;

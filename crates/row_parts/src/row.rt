@@ -61,7 +61,8 @@ impl Row {
     /// Sets a timer. A pair that is set already stays one timer, which is late only where both are.
     pub fn set_timer(&mut self, timer: Timer) -> Result<(), NoMemory>
         requires { timer.time ≤ MAX_STAMP }
-        ensures ok { OnOk result (self.new ≡ record self.old { timers = with_timer timer self.old.timers }) }
+        ensures ok { let timers = with_timer timer self.old.timers in
+            OnOk result (self.new ≡ record self.old { timers = timers }) }
         ensures err { OnErr result (self.new ≡ self.old) }
     {
         set_timer(&mut self.timers, timer)
@@ -77,7 +78,8 @@ impl Row {
     /// Takes the timer with this tag and time away, and tells whether it was set.
     pub fn take_timer(&mut self, tag: u64, time: u64) -> bool
         ensures found { result ≡ list_any (is_timer tag time) self.old.timers }
-        ensures rest { self.new ≡ record self.old { timers = without_timer tag time self.old.timers } }
+        ensures rest { let timers = without_timer tag time self.old.timers in
+            self.new ≡ record self.old { timers = timers } }
     {
         take_timer(&mut self.timers, tag, time)
     }
@@ -104,7 +106,8 @@ impl Row {
         requires id { IsId delivery.id }
         requires stamp { delivery.item.stamp ≤ MAX_STAMP }
         requires above { All (λ d. delivery_cmp d delivery ≡ Less) self.old.pending }
-        ensures ok { OnOk result (self.new ≡ record self.old { pending = self.old.pending ++ delivery ∷ [] }) }
+        ensures ok { let pending = self.old.pending ++ delivery ∷ [] in
+            OnOk result (self.new ≡ record self.old { pending = pending }) }
         ensures err { OnErr result (self.new ≡ self.old) }
     {
         add_delivery(&mut self.pending, delivery)
@@ -114,7 +117,8 @@ impl Row {
     /// pending.
     pub fn settle(&mut self, id: RecordId) -> bool
         ensures found { result ≡ list_any (λ d. same_id d.id id) self.old.pending }
-        ensures rest { self.new ≡ record self.old { pending = without_delivery id self.old.pending } }
+        ensures rest { let pending = without_delivery id self.old.pending in
+            self.new ≡ record self.old { pending = pending } }
     {
         take_delivery(&mut self.pending, id)
     }
@@ -123,7 +127,8 @@ impl Row {
     pub fn purge(&mut self, floor: u64)
         requires rises { self.old.floor ≤ floor }
         requires floor { floor ≤ 2 ^ 32 }
-        ensures { self.new ≡ record self.old { seen = ids_from floor self.old.seen; floor = floor } }
+        ensures { let seen = ids_from floor self.old.seen in
+            self.new ≡ record self.old { seen = seen; floor = floor } }
     {
         forget_below(&mut self.seen, self.floor, floor);
         self.floor = floor;

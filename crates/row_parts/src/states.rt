@@ -18,7 +18,8 @@ const KNOWN_MAX: usize = 64;
 // Appends the bytes of a count's state.
 fn put_count(out: &mut Vec<u8>, late: u64, windows: &[Window]) -> Result<(), NoMemory>
     requires { length windows.now < 2 ^ 32 }
-    ensures { OnOk result (out.new.items ≡ out.old.items ++ state_spelling (Count late windows.now)) }
+    ensures { let spelt = state_spelling (Count late windows.now) in
+        OnOk result (out.new.items ≡ out.old.items ++ spelt) }
 {
     out.push(1)?;
     late.put(out)?;
@@ -34,7 +35,8 @@ fn put_spike(
 ) -> Result<(), NoMemory>
     requires held { length held.now < 2 ^ 32 }
     requires known { length known.now ≤ 64 }
-    ensures written { OnOk result (out.new.items ≡ out.old.items ++ state_spelling (Spike late held.now known.now)) }
+    ensures written { let spelt = state_spelling (Spike late held.now known.now) in
+        OnOk result (out.new.items ≡ out.old.items ++ spelt) }
     ensures fits { OnOk result (FitsBytes (Spike late held.now known.now)) }
 {
     out.push(2)?;
@@ -171,7 +173,7 @@ fn take_whole(alloc: Global, bytes: &[u8]) -> Result<State, StateRefusal>
 /// The state whose bytes these are, all of them.
 pub fn read_state(alloc: Global, bytes: &[u8]) -> Result<State, StateRefusal>
     // What is answered has these bytes.
-    ensures found { IfOk result (λ state. IsSpelledState state × (bytes.now ≡ state_spelling state)) }
+    ensures found { IfOk result (λ s. IsSpelledState s × (bytes.now ≡ state_spelling s)) }
     // The state that has these bytes is answered, unless memory runs out.
     ensures only { (state : State) → IsSpelledState state → bytes.now ≡ state_spelling state
         → MatchResult result (λ answered. answered ≡ state) (λ refusal. refusal ≡ StateRefusal.NoMemory) }
