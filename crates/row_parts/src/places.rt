@@ -10,8 +10,8 @@ use mw_types::{Delivery, NoMemory, RecordId, Timer};
 // A list is shorter than 2^32, which is as far as its length is written.
 const LIST_MAX: usize = u32::MAX as usize;
 
-/// Whether a list of this length may have one more element. Refuses, as for want of memory, where 2^32 - 1
-/// are there already.
+/// Whether a list of this length may have one more element. Refuses, as for want of memory, where
+/// 2^32 - 1 are there already.
 pub fn room(len: usize) -> Result<(), NoMemory>
     ensures { OnOk result (len + 1 < 2 ^ 32) }
 {
@@ -22,8 +22,8 @@ pub fn room(len: usize) -> Result<(), NoMemory>
     }
 }
 
-/// The place of the timer with this tag and time, in whole microseconds; `Err` has the place where it
-/// would stand.
+/// The place of the timer with this tag and time, in whole microseconds; `Err` has the place where
+/// it would stand.
 pub fn timer_place(timers: &[Timer], tag: u64, time: u64) -> Result<usize, usize>
     requires { IsStrictlySortedBy timer_cmp timers.now }
     ensures { IsPlace (timer_rank tag time) timers.now result }

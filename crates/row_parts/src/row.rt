@@ -58,7 +58,8 @@ impl Row {
         }
     }
 
-    /// Sets a timer. A pair that is set already stays one timer, which is late only where both are.
+    /// Sets a timer, whose time is in whole microseconds. A pair that is set already stays one timer,
+    /// which is late only where both are. Refuses where memory is wanting, or 2^32 - 1 are set.
     pub fn set_timer(&mut self, timer: Timer) -> Result<(), NoMemory>
         requires { timer.time ≤ MAX_STAMP }
         ensures ok { let timers = with_timer timer self.old.timers in
@@ -75,7 +76,8 @@ impl Row {
         self.timers.get(0).copied()
     }
 
-    /// Takes the timer with this tag and time away, and tells whether it was set.
+    /// Takes the timer with this tag and time, in whole microseconds, away, and tells whether it was
+    /// set.
     pub fn take_timer(&mut self, tag: u64, time: u64) -> bool
         ensures found { result ≡ list_any (is_timer tag time) self.old.timers }
         ensures rest { let timers = without_timer tag time self.old.timers in
@@ -91,7 +93,8 @@ impl Row {
         id.commit < self.floor || has_id(self.seen.as_slice(), id)
     }
 
-    /// Notes that the row handled an id.
+    /// Notes that the row handled an id, which is not finished yet. Refuses where memory is wanting, or
+    /// 2^32 - 1 are noted.
     pub fn note_handled(&mut self, id: RecordId) -> Result<(), NoMemory>
         requires id { IsId id }
         requires new { is_finished id self.old ≡ false }
@@ -101,7 +104,8 @@ impl Row {
         add_id(&mut self.seen, self.floor, id)
     }
 
-    /// Adds a delivery that the row produced; its id is above those of all that are pending.
+    /// Adds a delivery that the row produced; its id is above those of all that are pending. Refuses
+    /// where memory is wanting, or 2^32 - 1 are pending.
     pub fn add_pending(&mut self, delivery: Delivery) -> Result<(), NoMemory>
         requires id { IsId delivery.id }
         requires stamp { delivery.item.stamp ≤ MAX_STAMP }

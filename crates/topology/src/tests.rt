@@ -92,8 +92,14 @@ fn part_count<T: KindTable>(table: &T) -> u32 {
 fn one_count_has_an_injector_and_a_count(rt: HostRuntime) -> Result<(), Fail> {
     let topology = one_count(rt.alloc())?;
     counts_clicks(&rt, &topology);
-    assert_eq!(rt; part_count(&topology), 2);
-    assert_eq!(rt; part_cut_count(rt.alloc(), &topology)?, 2);
+    lists_two_parts(&rt, rt.alloc(), &topology)
+}
+
+// Looks at how many parts are listed.
+fn lists_two_parts(rt: &impl Abort, alloc: Global, topology: &Topology) -> Result<(), Fail> {
+    let cuts = part_cut_count(alloc, topology)?;
+    assert_eq!(rt; cuts, 2);
+    assert_eq!(rt; part_count(topology), 2);
     Ok(())
 }
 
@@ -397,19 +403,29 @@ fn length_gives(
 ) -> Result<(), Fail> {
     let new = quoted(alloc, len)?;
     let found = refused(alloc, old, new.as_str())?;
-    assert_eq!(rt; found, why, "{old} {len}");
+    assert_eq!(rt; found, why, "{old}");
     Ok(())
+}
+
+// Tries the greatest length of a text in place of another, and a length above it.
+fn greatest_length(
+    rt: &impl Abort,
+    alloc: Global,
+    old: &str,
+    lengths: [u32; 2],
+    why: TopologyRefusal,
+) -> Result<(), Fail> {
+    let [greatest, above] = lengths;
+    length_gives(rt, alloc, old, greatest, None)?;
+    length_gives(rt, alloc, old, above, Some(why))
 }
 
 #[test]
 fn names_and_cuts_have_a_greatest_length(rt: HostRuntime) -> Result<(), Fail> {
     let alloc = rt.alloc();
-    length_gives(&rt, alloc, "\"copy\"", 64, None)?;
-    length_gives(&rt, alloc, "\"copy\"", 65, Some(TopologyRefusal::BadName))?;
-    length_gives(&rt, alloc, "\"copies\"", 64, None)?;
-    length_gives(&rt, alloc, "\"copies\"", 65, Some(TopologyRefusal::BadName))?;
-    length_gives(&rt, alloc, "\"q\"", 256, None)?;
-    length_gives(&rt, alloc, "\"q\"", 257, Some(TopologyRefusal::BadCuts))
+    greatest_length(&rt, alloc, "\"copy\"", [64, 65], TopologyRefusal::BadName)?;
+    greatest_length(&rt, alloc, "\"copies\"", [64, 65], TopologyRefusal::BadName)?;
+    greatest_length(&rt, alloc, "\"q\"", [256, 257], TopologyRefusal::BadCuts)
 }
 
 // A file with so many injectors and computations, of which the first has so many readings and cuts.
@@ -488,26 +504,25 @@ fn counts_give(
 ) -> Result<(), Fail> {
     let [injectors, computations, reads, cuts] = counts;
     let text = sized(alloc, injectors, computations, reads, cuts)?;
-    let found = refusal(alloc, text.as_bytes());
-    assert_eq!(rt; found, why, "{injectors} {computations} {reads} {cuts}");
+    bytes_give(rt, alloc, text.as_bytes(), why);
     Ok(())
+}
+
+// Tries so many parts, readings and cuts as may be, and one more of them.
+fn most(rt: &impl Abort, alloc: Global, counts: [u32; 4], above: [u32; 4]) -> Result<(), Fail> {
+    counts_give(rt, alloc, counts, None)?;
+    counts_give(rt, alloc, above, Some(TopologyRefusal::TooMany))
 }
 
 #[test]
 fn every_count_has_a_limit(rt: HostRuntime) -> Result<(), Fail> {
-    let (alloc, many) = (rt.alloc(), Some(TopologyRefusal::TooMany));
-    counts_give(&rt, alloc, [16, 1, 1, 0], None)?;
-    counts_give(&rt, alloc, [17, 1, 1, 0], many)?;
-    counts_give(&rt, alloc, [1, 32, 1, 0], None)?;
-    counts_give(&rt, alloc, [1, 33, 1, 0], many)?;
-    counts_give(&rt, alloc, [1, 1, 64, 0], None)?;
-    counts_give(&rt, alloc, [1, 1, 65, 0], many)?;
-    counts_give(&rt, alloc, [1, 32, 33, 0], None)?;
-    counts_give(&rt, alloc, [1, 32, 34, 0], many)?;
-    counts_give(&rt, alloc, [1, 1, 1, 59], None)?;
-    counts_give(&rt, alloc, [1, 1, 1, 60], many)?;
-    counts_give(&rt, alloc, [16, 32, 1, 13], None)?;
-    counts_give(&rt, alloc, [16, 32, 1, 14], many)
+    let alloc = rt.alloc();
+    most(&rt, alloc, [16, 1, 1, 0], [17, 1, 1, 0])?;
+    most(&rt, alloc, [1, 32, 1, 0], [1, 33, 1, 0])?;
+    most(&rt, alloc, [1, 1, 64, 0], [1, 1, 65, 0])?;
+    most(&rt, alloc, [1, 32, 33, 0], [1, 32, 34, 0])?;
+    most(&rt, alloc, [1, 1, 1, 59], [1, 1, 1, 60])?;
+    most(&rt, alloc, [16, 32, 1, 13], [16, 32, 1, 14])
 }
 
 // No JSON text, and a stream that is no text.
