@@ -29,7 +29,7 @@ pub fn an_overtaken_claim_is_stale()
     ensures under_new { IsFenced first_case.topology (overtaken ++ handled_under 3 ∷ []) }
     ensures under_old { ¬ IsFenced first_case.topology (overtaken ++ handled_under 1 ∷ []) }
     ensures known_old { known 1 1 (overtaken ++ handled_under 3 ∷ []) ≡ take 3 overtaken }
-    ensures known_new { known 1 3 (overtaken ++ handled_under 3 ∷ []) ≡ overtaken ++ handled_under 3 ∷ [] }
+    ensures known_new { let all = overtaken ++ handled_under 3 ∷ [] in known 1 3 all ≡ all }
 {}
 
 /// In the example's history the two intervals have the own work that was worked out: a line that

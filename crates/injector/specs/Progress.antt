@@ -1,9 +1,10 @@
 -- What a reader of an event file holds between two lines. No public clause cites this module.
-use Rattle.std.specs.Prelude.{◌≡◌, ◌≤◌, ◌<◌, ◌+◌, ◌^◌, ◌++◌, ℕ, ⊤, All, length, Result, Ok, Err}
+use Rattle.std.specs.Prelude.{◌≡◌, ◌≤◌, ◌<◌, ◌+◌, ◌^◌, ◌++◌, ℕ, ℤ, ⊤, List, All, length, Result, Ok, Err}
 use Rattle.mw_types.specs.declared.TheConstants.{INPUT_MAX}
 use Rattle.injector.specs.Sources.{SourceLine, Source}
 use Rattle.injector.specs.EventFiles.{with_line}
 use Rattle.injector.specs.declared.reading.LineKind.{LineKind}
+use Rattle.injector.specs.declared.reading.LineKind.TheVariants.{Record}
 use Rattle.injector.specs.declared.refusal.LineWhy.{LineWhy}
 use Rattle.injector.specs.declared.refusal.LineRefusal.{LineRefusal}
 use Rattle.injector.specs.declared.refusal.LineRefusal.TheVariants.{Breaks, NoMemory}
@@ -31,6 +32,10 @@ followed_by lines (Err refusal) = Err refusal
 abbrev pub RefusedAt : ℕ → LineRefusal → Result Source LinesRefusal → Type 0
 RefusedAt n (Breaks why) whole = whole ≡ Err (Line n why)
 RefusedAt n NoMemory whole = ⊤
+
+-- what a record line says
+abbrev pub record_line : List ℕ → ℕ → ℤ → Result LineKind LineWhy
+record_line key stamp value = Ok (Record key stamp value)
 
 -- whatever follows, the lines so far with this reading hold what the new ones hold
 abbrev pub TakesIn : Standing → Result LineKind LineWhy → Standing → Type 0

@@ -3,7 +3,7 @@ ghost use Rattle.std.specs.Prelude.{◌≡◌, ◌^◌, ◌<◌, ◌≤◌, [], 
 ghost use Rattle.mw_types.specs.declared.TheConstants.{INPUT_MAX};
 ghost use Rattle.injector.specs.EventLines.{line_reading};
 ghost use Rattle.injector.specs.Answers.{IsInput};
-ghost use Rattle.injector.specs.Progress.{TakesIn, Refuses};
+ghost use Rattle.injector.specs.Progress.{TakesIn, Refuses, record_line};
 
 use crate::item::Item;
 use crate::items::Items;
@@ -47,8 +47,8 @@ impl Progress {
     fn push(&mut self, record_key: Key, stamp: u64, value: i64) -> Result<(), LineRefusal>
         requires { stamp ≤ INPUT_MAX }
 
-        ensures ok { OnOk result (TakesIn self.old (Ok (LineKind.Record record_key stamp value)) self.new) }
-        ensures err { IfErr result (Refuses self.old (Ok (LineKind.Record record_key stamp value))) }
+        ensures ok { OnOk result (TakesIn self.old (record_line record_key stamp value) self.new) }
+        ensures err { IfErr result (Refuses self.old (record_line record_key stamp value)) }
     {
         if self.room == 0 {
             return Err(LineRefusal::Breaks(LineWhy::TooManyLines));

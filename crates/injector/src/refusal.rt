@@ -43,7 +43,7 @@ impl From<NoMemory> for LinesRefusal {
     }
 }
 
-// Why one line was refused, whose number is not known yet.
+/// Why one line was refused, whose number is not known yet.
 #[derive(Clone, Copy, Debug)]
 pub enum LineRefusal {
     /// The first rule that the line breaks.

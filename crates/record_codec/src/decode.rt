@@ -77,7 +77,7 @@ pub fn decode_row(alloc: Global, bytes: &[u8]) -> Result<Row, RowRefusal>
     ensures found { IfOk result (λ row. IsSpelledRow row × (bytes.now ≡ spelling_of row)) }
     // The row that has these bytes is answered, unless memory runs out.
     ensures only { (row : Contents) → IsSpelledRow row → bytes.now ≡ spelling_of row
-        → MatchResult result (λ answered. answered ≡ row) (λ refusal. refusal ≡ RowRefusal.NoMemory) }
+        → MatchResult result (λ r. r ≡ row) (λ refusal. refusal ≡ RowRefusal.NoMemory) }
     // Damaged is answered only where no row has these bytes.
     ensures damaged { IsErrOf result RowRefusal.Damaged
         → (row : Contents) → IsSpelledRow row → bytes.now ≢ spelling_of row }

@@ -20,14 +20,16 @@ use Rattle.row_parts.specs.declared.refusal.StateRefusal.{StateRefusal}
 use Rattle.row_parts.specs.declared.refusal.StateRefusal.TheVariants as refusals
 
 infixl 10 ◌>>=◌
+-- what the second gives of what the first found, or nothing where it found nothing
 abbrev pub ◌>>=◌ : {A B : Type 0} → Option A → (A → Option B) → Option B
 o >>= f = option_and_then f o
 
--- what a function returned, seen by view, is what reading gives, unless memory ran out
+-- a refusal says that nothing stands there, unless memory ran out
 abbrev pub Fails : {Y : Type 0} → StateRefusal → Option Y → Type 0
 Fails refusals.NoMemory read = ⊤
 Fails refusals.Damaged read = read ≡ None
 
+-- what a function returned, seen by view, is what reading gives, unless memory ran out
 abbrev pub Gives : {X Y : Type 0} → (X → Y) → Result X StateRefusal → Option Y → Type 0
 Gives view (Ok x) read = read ≡ Some (view x)
 Gives view (Err e) read = Fails e read

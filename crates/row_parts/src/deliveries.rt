@@ -23,7 +23,8 @@ fn has_keys(delivery: &Delivery)
     is_key(&delivery.item.key);
 }
 
-// Appends a delivery whose id is above all of these.
+/// Appends a delivery whose id is above all of these. Refuses where memory is wanting, or
+/// 2^32 - 1 are there, and leaves the deliveries as they were.
 pub fn add_delivery(deliveries: &mut DeliveryList, delivery: Delivery) -> Result<(), NoMemory>
     requires deliveries { ArePending deliveries.old }
     requires id { IsId delivery.id }
@@ -39,7 +40,7 @@ pub fn add_delivery(deliveries: &mut DeliveryList, delivery: Delivery) -> Result
     Ok(())
 }
 
-// Takes the delivery with this id away, and tells whether it was there.
+/// Takes the delivery with this id away, and tells whether it was there.
 pub fn take_delivery(deliveries: &mut DeliveryList, id: RecordId) -> bool
     requires { ArePending deliveries.old }
     ensures found { result ≡ list_any (λ d. same_id d.id id) deliveries.old }

@@ -8,7 +8,7 @@ ghost use Rattle.row_parts.specs.Contents.{AreSeen, IsId, same_id, with_id, ids_
 use crate::places::{id_place, room};
 use mw_types::{IdList, NoMemory, RecordId};
 
-// Whether an id is among these.
+/// Whether an id is among these, which stand in order.
 pub fn has_id(ids: &[RecordId], id: RecordId) -> bool
     requires { IsStrictlySortedBy id_cmp ids.now }
     ensures { result ≡ list_any (same_id id) ids.now }
@@ -16,7 +16,8 @@ pub fn has_id(ids: &[RecordId], id: RecordId) -> bool
     id_place(ids, id).is_ok()
 }
 
-// Adds an id to these, in order.
+/// Adds an id to these, in order; one that is there already stays. Refuses where memory is wanting,
+/// or 2^32 - 1 are there, and leaves the ids as they were.
 pub fn add_id(ids: &mut IdList, floor: u64, id: RecordId) -> Result<(), NoMemory>
     requires ids { AreSeen floor ids.old }
     requires id { IsId id }
@@ -32,7 +33,8 @@ pub fn add_id(ids: &mut IdList, floor: u64, id: RecordId) -> Result<(), NoMemory
     Ok(())
 }
 
-// Forgets the ids below a floor.
+/// Forgets the ids below a floor, a commit number. Those that are left stand in order, and none is
+/// below.
 pub fn forget_below(ids: &mut IdList, old: u64, floor: u64)
     requires ids { AreSeen old ids.old }
     ensures rest { ids.new ≡ ids_from floor ids.old }

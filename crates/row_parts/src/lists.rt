@@ -25,10 +25,11 @@ pub trait Ranked: Spelled {
     ghost total: { IsTotalOrder rank };
 }
 
-/// Appends the bytes of a list.
+/// Appends the bytes of a list. Refuses for want of memory alone, and may then have appended some.
 pub fn put_list<X: Spelled>(out: &mut Vec<u8>, xs: &[X]) -> Result<(), NoMemory>
     requires { length xs.now < 2 ^ 32 }
-    ensures written { OnOk result (out.new.items ≡ out.old.items ++ list_spelling X.spelling xs.now) }
+    ensures written { let spelt = list_spelling X.spelling xs.now in
+        OnOk result (out.new.items ≡ out.old.items ++ spelt) }
     ensures typed { OnOk result (All X.typed xs.now) }
 {
     (xs.len() as u32).put(out)?;
@@ -56,7 +57,8 @@ fn take_times<X: Spelled>(
     Ok((xs, rest))
 }
 
-/// Reads a list from the front, and answers the bytes after it too.
+/// Reads a list from the front, and answers the bytes after it too. Refuses bytes at whose front no
+/// list stands.
 #[tactic(auto, unfolding(crate::specs::Reading::list_at))]
 pub fn take_list<X: Spelled>(alloc: Global, bytes: &[u8]) -> Result<(Seq<X>, &[u8]), StateRefusal>
     ensures { Gives (λ x. (x.0, x.1.now)) result (list_at X.reading bytes.now) }
@@ -72,7 +74,8 @@ fn ascend<X: Ranked>(xs: &[X]) -> bool
     xs.is_sorted_by(|a, b| a.is_below(b))
 }
 
-/// Reads a list that stands in order from the front, and answers the bytes after it too.
+/// Reads a list that stands in order from the front, and answers the bytes after it too. Refuses
+/// bytes at whose front no list stands in order.
 #[tactic(auto, unfolding(crate::specs::Reading::ascending_at))]
 pub fn take_ascending<X: Ranked>(
     alloc: Global,

@@ -10,7 +10,8 @@ use mw_types::{Delivery, NoMemory, RecordId, Timer};
 // A list is shorter than 2^32, which is as far as its length is written.
 const LIST_MAX: usize = u32::MAX as usize;
 
-// Whether a list of this length may have one more element.
+/// Whether a list of this length may have one more element. Refuses, as for want of memory, where
+/// 2^32 - 1 are there already.
 pub fn room(len: usize) -> Result<(), NoMemory>
     ensures { OnOk result (len + 1 < 2 ^ 32) }
 {
@@ -21,7 +22,8 @@ pub fn room(len: usize) -> Result<(), NoMemory>
     }
 }
 
-// The place of the timer with this tag and time.
+/// The place of the timer with this tag and time, in whole microseconds; `Err` has the place where
+/// it would stand.
 pub fn timer_place(timers: &[Timer], tag: u64, time: u64) -> Result<usize, usize>
     requires { IsStrictlySortedBy timer_cmp timers.now }
     ensures { IsPlace (timer_rank tag time) timers.now result }
@@ -29,7 +31,7 @@ pub fn timer_place(timers: &[Timer], tag: u64, time: u64) -> Result<usize, usize
     timers.binary_search_by(|timer| timer.time.cmp(&time).then(timer.tag.cmp(&tag)))
 }
 
-// The place of an id, which is mostly at the end.
+/// The place of an id, which is mostly at the end; `Err` has the place where it would stand.
 pub fn id_place(ids: &[RecordId], id: RecordId) -> Result<usize, usize>
     requires { IsStrictlySortedBy id_cmp ids.now }
     ensures { IsPlace (id_rank id) ids.now result }
@@ -40,7 +42,7 @@ pub fn id_place(ids: &[RecordId], id: RecordId) -> Result<usize, usize>
     }
 }
 
-// The place of the delivery with this id.
+/// The place of the delivery with this id; `Err` has the place where it would stand.
 pub fn delivery_place(deliveries: &[Delivery], id: RecordId) -> Result<usize, usize>
     requires { IsStrictlySortedBy delivery_cmp deliveries.now }
     ensures { IsPlace (delivery_rank id) deliveries.now result }

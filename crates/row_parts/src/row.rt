@@ -58,10 +58,12 @@ impl Row {
         }
     }
 
-    /// Sets a timer. A pair that is set already stays one timer, which is late only where both are.
+    /// Sets a timer, whose time is in whole microseconds. A pair that is set already stays one timer,
+    /// which is late only where both are. Refuses where memory is wanting, or 2^32 - 1 are set.
     pub fn set_timer(&mut self, timer: Timer) -> Result<(), NoMemory>
         requires { timer.time ≤ MAX_STAMP }
-        ensures ok { OnOk result (self.new ≡ record self.old { timers = with_timer timer self.old.timers }) }
+        ensures ok { let timers = with_timer timer self.old.timers in
+            OnOk result (self.new ≡ record self.old { timers = timers }) }
         ensures err { OnErr result (self.new ≡ self.old) }
     {
         set_timer(&mut self.timers, timer)
@@ -74,10 +76,12 @@ impl Row {
         self.timers.get(0).copied()
     }
 
-    /// Takes the timer with this tag and time away, and tells whether it was set.
+    /// Takes the timer with this tag and time, in whole microseconds, away, and tells whether it was
+    /// set.
     pub fn take_timer(&mut self, tag: u64, time: u64) -> bool
         ensures found { result ≡ list_any (is_timer tag time) self.old.timers }
-        ensures rest { self.new ≡ record self.old { timers = without_timer tag time self.old.timers } }
+        ensures rest { let timers = without_timer tag time self.old.timers in
+            self.new ≡ record self.old { timers = timers } }
     {
         take_timer(&mut self.timers, tag, time)
     }
@@ -89,7 +93,8 @@ impl Row {
         id.commit < self.floor || has_id(self.seen.as_slice(), id)
     }
 
-    /// Notes that the row handled an id.
+    /// Notes that the row handled an id, which is not finished yet. Refuses where memory is wanting, or
+    /// 2^32 - 1 are noted.
     pub fn note_handled(&mut self, id: RecordId) -> Result<(), NoMemory>
         requires id { IsId id }
         requires new { is_finished id self.old ≡ false }
@@ -99,12 +104,14 @@ impl Row {
         add_id(&mut self.seen, self.floor, id)
     }
 
-    /// Adds a delivery that the row produced; its id is above those of all that are pending.
+    /// Adds a delivery that the row produced; its id is above those of all that are pending. Refuses
+    /// where memory is wanting, or 2^32 - 1 are pending.
     pub fn add_pending(&mut self, delivery: Delivery) -> Result<(), NoMemory>
         requires id { IsId delivery.id }
         requires stamp { delivery.item.stamp ≤ MAX_STAMP }
         requires above { All (λ d. delivery_cmp d delivery ≡ Less) self.old.pending }
-        ensures ok { OnOk result (self.new ≡ record self.old { pending = self.old.pending ++ delivery ∷ [] }) }
+        ensures ok { let pending = self.old.pending ++ delivery ∷ [] in
+            OnOk result (self.new ≡ record self.old { pending = pending }) }
         ensures err { OnErr result (self.new ≡ self.old) }
     {
         add_delivery(&mut self.pending, delivery)
@@ -114,7 +121,8 @@ impl Row {
     /// pending.
     pub fn settle(&mut self, id: RecordId) -> bool
         ensures found { result ≡ list_any (λ d. same_id d.id id) self.old.pending }
-        ensures rest { self.new ≡ record self.old { pending = without_delivery id self.old.pending } }
+        ensures rest { let pending = without_delivery id self.old.pending in
+            self.new ≡ record self.old { pending = pending } }
     {
         take_delivery(&mut self.pending, id)
     }
@@ -123,7 +131,8 @@ impl Row {
     pub fn purge(&mut self, floor: u64)
         requires rises { self.old.floor ≤ floor }
         requires floor { floor ≤ 2 ^ 32 }
-        ensures { self.new ≡ record self.old { seen = ids_from floor self.old.seen; floor = floor } }
+        ensures { let seen = ids_from floor self.old.seen in
+            self.new ≡ record self.old { seen = seen; floor = floor } }
     {
         forget_below(&mut self.seen, self.floor, floor);
         self.floor = floor;

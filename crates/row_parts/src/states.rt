@@ -18,7 +18,8 @@ const KNOWN_MAX: usize = 64;
 // Appends the bytes of a count's state.
 fn put_count(out: &mut Vec<u8>, late: u64, windows: &[Window]) -> Result<(), NoMemory>
     requires { length windows.now < 2 ^ 32 }
-    ensures { OnOk result (out.new.items ≡ out.old.items ++ state_spelling (Count late windows.now)) }
+    ensures { let spelt = state_spelling (Count late windows.now) in
+        OnOk result (out.new.items ≡ out.old.items ++ spelt) }
 {
     out.push(1)?;
     late.put(out)?;
@@ -34,7 +35,8 @@ fn put_spike(
 ) -> Result<(), NoMemory>
     requires held { length held.now < 2 ^ 32 }
     requires known { length known.now ≤ 64 }
-    ensures written { OnOk result (out.new.items ≡ out.old.items ++ state_spelling (Spike late held.now known.now)) }
+    ensures written { let spelt = state_spelling (Spike late held.now known.now) in
+        OnOk result (out.new.items ≡ out.old.items ++ spelt) }
     ensures fits { OnOk result (FitsBytes (Spike late held.now known.now)) }
 {
     out.push(2)?;
@@ -44,7 +46,7 @@ fn put_spike(
     Ok(())
 }
 
-/// Appends the bytes of a state.
+/// Appends the bytes of a state. Refuses for want of memory alone, and may then have appended some.
 pub fn put_state(out: &mut Vec<u8>, state: &State) -> Result<(), NoMemory>
     requires { IsWithin state.now }
     ensures written { OnOk result (out.new.items ≡ out.old.items ++ state_spelling state.now) }
@@ -144,7 +146,8 @@ fn take_kind(alloc: Global, kind: u8, bytes: &[u8]) -> Result<(State, &[u8]), St
     }
 }
 
-/// Reads a state from the front, and answers the bytes after it too.
+/// Reads a state from the front, and answers the bytes after it too. Refuses bytes at whose front no
+/// state stands.
 #[tactic(auto, unfolding(crate::specs::Reading::state_at))]
 pub fn take_state(alloc: Global, bytes: &[u8]) -> Result<(State, &[u8]), StateRefusal>
     ensures { Gives (λ x. (x.0, x.1.now)) result (state_at bytes.now) }
@@ -168,13 +171,13 @@ fn take_whole(alloc: Global, bytes: &[u8]) -> Result<State, StateRefusal>
     }
 }
 
-/// The state whose bytes these are, all of them.
+/// The state whose bytes these are, all of them. Refuses bytes that are no state's spelling.
 pub fn read_state(alloc: Global, bytes: &[u8]) -> Result<State, StateRefusal>
     // What is answered has these bytes.
-    ensures found { IfOk result (λ state. IsSpelledState state × (bytes.now ≡ state_spelling state)) }
+    ensures found { IfOk result (λ s. IsSpelledState s × (bytes.now ≡ state_spelling s)) }
     // The state that has these bytes is answered, unless memory runs out.
     ensures only { (state : State) → IsSpelledState state → bytes.now ≡ state_spelling state
-        → MatchResult result (λ answered. answered ≡ state) (λ refusal. refusal ≡ StateRefusal.NoMemory) }
+        → MatchResult result (λ s. s ≡ state) (λ refusal. refusal ≡ StateRefusal.NoMemory) }
     // Damaged is answered only where no state has these bytes.
     ensures damaged { IsErrOf result StateRefusal.Damaged
         → (state : State) → IsSpelledState state → bytes.now ≢ state_spelling state }

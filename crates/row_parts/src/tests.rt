@@ -1,116 +1,176 @@
 use super::*;
-use mw_types::{Delivery, Duplicate, Key, Record, RecordId, RowName, State, Timer};
+use mw_types::{Delivery, Duplicate, Key, NoMemory, Record, RecordId, RowName, State, Timer};
+use std::alloc::Global;
+use std::process::Abort;
 use std::test::*;
+
+// The helpers have no clauses, so that no test carries what the calls before have told.
+
+// A row to which nothing has happened yet.
+fn fresh(alloc: Global) -> Row {
+    Row::new(alloc, State::Pass { late: 0 })
+}
+
+// Sets a timer of the tag 7.
+fn set(row: &mut Row, time: u64, late: bool) -> Result<(), NoMemory> {
+    let tag = 7;
+    if time > 1000 {
+        return Err(NoMemory);
+    }
+    row.set_timer(Timer { tag, time, late })
+}
+
+// Takes a timer of the tag 7 away, and tells whether it was set.
+fn take(row: &mut Row, time: u64) -> bool {
+    row.take_timer(7, time)
+}
+
+// When the first timer is due, and whether it is late.
+fn least(row: &Row) -> Option<(u64, bool)> {
+    match row.least_timer() {
+        Some(timer) => Some((timer.time, timer.late)),
+        None => None,
+    }
+}
+
+// Compares how many timers, pending deliveries and handled ids there are.
+fn counts_are(rt: &impl Abort, row: &Row, timers: usize, pending: usize, seen: usize) {
+    assert_eq!(rt; row.timers.len(), timers);
+    assert_eq!(rt; row.pending.len(), pending);
+    assert_eq!(rt; row.seen.len(), seen);
+}
 
 #[test]
 fn a_timer_that_is_set_again_is_late_only_where_both_are(rt: HostRuntime) -> Result<(), Fail> {
-    let mut row = Row::new(rt.alloc(), State::Pass { late: 0 });
-    row.set_timer(Timer {
-        tag: 7,
-        time: 30,
-        late: false,
-    })?;
+    let mut row = fresh(rt.alloc());
+    set(&mut row, 30, false)?;
     for late in [true, true, false, true] {
-        row.set_timer(Timer {
-            tag: 7,
-            time: 20,
-            late,
-        })?;
+        set(&mut row, 20, late)?;
     }
-    assert_eq!(rt; row.timers.len(), 2);
-    let least = row.least_timer().ok_or("no timer is set")?;
-    assert_eq!(rt; (least.time, least.late), (20, false));
-    assert!(rt; row.take_timer(7, 20));
-    assert!(rt; !row.take_timer(7, 20));
-    assert!(rt; row.take_timer(7, 30));
-    assert!(rt; row.least_timer().is_none());
+    counts_are(&rt, &row, 2, 0, 0);
+    assert!(rt; least(&row) == Some((20, false)));
+    assert!(rt; take(&mut row, 20));
+    assert!(rt; !take(&mut row, 20));
+    assert!(rt; take(&mut row, 30));
+    assert!(rt; least(&row).is_none());
     Ok(())
+}
+
+// Notes that an entry's record was handled, where it was not.
+fn handle(row: &mut Row, commit: u64) -> Result<(), NoMemory> {
+    let id = RecordId { commit, index: 1 };
+    if commit < 100 && !row.is_finished(id) {
+        row.note_handled(id)?;
+    }
+    Ok(())
+}
+
+// Raises the floor, where it is not above.
+fn purge(row: &mut Row, floor: u64) {
+    if row.floor <= floor && floor < 100 {
+        row.purge(floor);
+    }
+}
+
+// Whether an id is finished.
+fn is_finished(row: &Row, commit: u64, index: u32) -> bool {
+    row.is_finished(RecordId { commit, index })
+}
+
+// How many ids a copy of the row has handled.
+fn copied_ids(alloc: Global, row: &Row) -> Result<usize, NoMemory> {
+    Ok(row.copy(alloc)?.seen.len())
 }
 
 #[test]
 fn what_is_below_the_floor_stays_finished(rt: HostRuntime) -> Result<(), Fail> {
-    let mut row = Row::new(rt.alloc(), State::Pass { late: 0 });
+    let mut row = fresh(rt.alloc());
     for commit in [4, 9, 6] {
-        let id = RecordId { commit, index: 1 };
-        if commit < 100 && !row.is_finished(id) {
-            row.note_handled(id)?;
-        }
+        handle(&mut row, commit)?;
     }
-    let copy = row.copy(rt.alloc())?;
-    assert_eq!(rt; copy.seen.len(), 3);
-    if row.floor <= 6 {
-        row.purge(6);
-    }
-    assert_eq!(rt; (row.seen.len(), row.floor), (2, 6));
-    assert!(rt;
-        row.is_finished(RecordId {
-            commit: 4,
-            index: 1
-        })
-    );
-    assert!(rt;
-        row.is_finished(RecordId {
-            commit: 6,
-            index: 1
-        })
-    );
-    assert!(rt;
-        !row.is_finished(RecordId {
-            commit: 6,
-            index: 2
-        })
-    );
+    assert_eq!(rt; copied_ids(rt.alloc(), &row)?, 3);
+    purge(&mut row, 6);
+    counts_are(&rt, &row, 0, 0, 2);
+    assert_eq!(rt; row.floor, 6);
+    assert!(rt; is_finished(&row, 4, 1));
+    assert!(rt; is_finished(&row, 6, 1));
+    assert!(rt; !is_finished(&row, 6, 2));
     Ok(())
 }
 
-#[test]
-fn a_delivery_is_pending_until_it_is_settled(rt: HostRuntime) -> Result<(), Fail> {
-    let mut row = Row::new(rt.alloc(), State::Pass { late: 0 });
-    let id = RecordId {
-        commit: 2,
-        index: 0,
-    };
-    let key = Key::of(rt.alloc(), "a")?;
+// The id of the first record of entry 2.
+const ID: RecordId = RecordId {
+    commit: 2,
+    index: 0,
+};
+
+// Adds a delivery with that id, where none is pending.
+fn add(alloc: Global, row: &mut Row) -> Result<(), Fail> {
+    let key = Key::of(alloc, "a")?;
     let item = Record {
-        key: Key::none(rt.alloc()),
+        key: Key::none(alloc),
         stamp: 5,
         value: -1,
         late: false,
     };
-    row.add_pending(Delivery {
-        id,
-        to: RowName { part: 1, key },
-        item,
-    })?;
-    assert_eq!(rt; row.pending.len(), 1);
-    assert!(rt; row.settle(id));
-    assert!(rt; !row.settle(id));
+    let to = RowName { part: 1, key };
+    if row.pending.is_empty() {
+        row.add_pending(Delivery { id: ID, to, item })?;
+    }
+    Ok(())
+}
+
+// Settles that id, and tells whether it was pending.
+fn settle(row: &mut Row) -> bool {
+    row.settle(ID)
+}
+
+#[test]
+fn a_delivery_is_pending_until_it_is_settled(rt: HostRuntime) -> Result<(), Fail> {
+    let mut row = fresh(rt.alloc());
+    add(rt.alloc(), &mut row)?;
+    counts_are(&rt, &row, 0, 1, 0);
+    assert!(rt; settle(&mut row));
+    assert!(rt; !settle(&mut row));
+    Ok(())
+}
+
+// Looks at the state that has these bytes, which are its spelling again.
+fn is_spelt(rt: &impl Abort, alloc: Global, bytes: &[u8]) -> Result<(), Fail> {
+    let state = read_state(alloc, bytes)?;
+    let again = state_bytes(alloc, &state)?;
+    assert_eq!(rt; again.as_slice(), bytes);
+    Ok(())
+}
+
+// Looks at bytes that no state has.
+fn is_damaged(rt: &impl Abort, alloc: Global, bytes: &[u8]) {
+    let damaged = read_state(alloc, bytes);
+    assert!(rt; matches!(damaged, Err(StateRefusal::Damaged)));
+}
+
+// Looks at the spelling of a state, and at each beginning of it, which is none.
+fn reads(rt: &impl Abort, alloc: Global, bytes: &[u8]) -> Result<(), Fail> {
+    is_spelt(rt, alloc, bytes)?;
+    for end in 0..bytes.len() {
+        is_damaged(rt, alloc, &bytes[..end]);
+    }
     Ok(())
 }
 
 #[test]
 fn states_are_written_and_read(rt: HostRuntime) -> Result<(), Fail> {
-    let injector: [u8; 5] = [0, 0, 0, 0, 3];
-    let count: [u8; 13] = [1, 0, 0, 0, 0, 0, 0, 0, 0, 0, 0, 0, 0];
-    let spike: [u8; 25] = [
-        2, 0, 0, 0, 0, 0, 0, 0, 1, 0, 0, 0, 0, 0, 0, 0, 1, 255, 255, 255, 255, 255, 255, 255, 254,
-    ];
-    let pass: [u8; 9] = [3, 0, 0, 0, 0, 0, 0, 0, 2];
-    for bytes in [&injector[..], &count[..], &spike[..], &pass[..]] {
-        let state = read_state(rt.alloc(), bytes)?;
-        let again = state_bytes(rt.alloc(), &state)?;
-        assert_eq!(rt; again.as_slice(), bytes);
-        for end in 0..bytes.len() {
-            let part = read_state(rt.alloc(), &bytes[..end]);
-            assert!(rt; matches!(part, Err(StateRefusal::Damaged)));
-        }
-    }
-    let trusted: [u8; 13] = [1, 0, 0, 0, 0, 0, 0, 0, 0, 255, 255, 255, 255];
-    let four: [u8; 9] = [4, 0, 0, 0, 0, 0, 0, 0, 2];
-    let longer: [u8; 10] = [3, 0, 0, 0, 0, 0, 0, 0, 2, 0];
-    for bytes in [&trusted[..], &four[..], &longer[..]] {
-        let damaged = read_state(rt.alloc(), bytes);
-        assert!(rt; matches!(damaged, Err(StateRefusal::Damaged)));
-    }
-    Ok(())
+    let alloc = rt.alloc();
+    let spike = b"\x02\0\0\0\0\0\0\0\x01\0\0\0\0\0\0\0\x01\xff\xff\xff\xff\xff\xff\xff\xfe";
+    reads(&rt, alloc, b"\0\0\0\0\x03")?;
+    reads(&rt, alloc, b"\x01\0\0\0\0\0\0\0\0\0\0\0\0")?;
+    reads(&rt, alloc, spike)?;
+    reads(&rt, alloc, b"\x03\0\0\0\0\0\0\0\x02")
+}
+
+#[test]
+fn bytes_of_no_state_are_damaged(rt: HostRuntime) {
+    is_damaged(&rt, rt.alloc(), b"\x01\0\0\0\0\0\0\0\0\xff\xff\xff\xff");
+    is_damaged(&rt, rt.alloc(), b"\x04\0\0\0\0\0\0\0\x02");
+    is_damaged(&rt, rt.alloc(), b"\x03\0\0\0\0\0\0\0\x02\0");
 }

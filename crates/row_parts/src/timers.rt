@@ -16,7 +16,9 @@ fn again(new: Timer, old: Timer) -> Timer
     }
 }
 
-// Sets a timer among these, in order.
+/// Sets a timer among these, in order; its time is in whole microseconds. A pair that is set already
+/// stays one timer. Refuses where memory is wanting, or 2^32 - 1 are there, and leaves the timers as
+/// they were.
 pub fn set_timer(timers: &mut TimerList, timer: Timer) -> Result<(), NoMemory>
     requires timers { AreTimers timers.old }
     requires time { timer.time ≤ MAX_STAMP }
@@ -37,7 +39,8 @@ pub fn set_timer(timers: &mut TimerList, timer: Timer) -> Result<(), NoMemory>
     Ok(())
 }
 
-// Takes the timer with this tag and time away, and tells whether it was there.
+/// Takes the timer with this tag and time, in whole microseconds, away, and tells whether it was
+/// there.
 pub fn take_timer(timers: &mut TimerList, tag: u64, time: u64) -> bool
     requires { AreTimers timers.old }
     ensures found { result ≡ list_any (is_timer tag time) timers.old }

@@ -1,5 +1,5 @@
--- How the functions that read a file's shape answer. No public clause cites this module.
-use Rattle.std.specs.Prelude.{◌≡◌, ◌≤◌, ◌++◌, List, All, length, ⊤, Option, Some, None, Result, Ok, Err}
+-- How the functions that read a file's shape answer, and what they count. No public clause cites this module.
+use Rattle.std.specs.Prelude.{◌≡◌, ◌≤◌, ◌++◌, ℕ, List, All, length, sum_by, ⊤, Option, Some, None, Result, Ok, Err}
 use Rattle.topology.specs.Shapes.{Shape, ComputationShape}
 use Rattle.topology.specs.declared.refusal.ShapeRefusal.{ShapeRefusal}
 use Rattle.topology.specs.declared.refusal.ShapeRefusal.TheVariants.{BadShape, NoMemory}
@@ -14,6 +14,14 @@ Gives (Err NoMemory) found = ⊤
 abbrev pub followed_by : {X : Type 0} → List X → Option (List X) → Option (List X)
 followed_by xs None = None
 followed_by xs (Some ys) = Some (xs ++ ys)
+
+-- how many readings these computations have
+abbrev pub reading_count : List ComputationShape → ℕ
+reading_count computations = sum_by (λ (c : ComputationShape). length c.reads) computations
+
+-- how many cuts these computations have
+abbrev pub cut_count : List ComputationShape → ℕ
+cut_count computations = sum_by (λ (c : ComputationShape). length c.cuts) computations
 
 -- there is an injector, and each computation reads something, as the form of a file asks
 pub record IsFull (shape : Shape) : Type 0 where

@@ -3,7 +3,7 @@ use Rattle.std.specs.Prelude.{◌≡◌, ℕ, Bool, List, map, filter, nat_eq, i
 use Rattle.std.specs.List.{list_any, filter_map, flat_map, enumerate_from, range_with_len}
 use Rattle.std.specs.Cmp.Lexicographic.{pointwise}
 use Rattle.topology.specs.declared.subscription.Subscription.{Subscription}
-use Rattle.topology.specs.Shapes.{Shape, ComputationShape, Reading, subscriptions_to, parts_of, streams_of, consumers_of, feeds_of}
+use Rattle.topology.specs.Shapes.{Shape, ComputationShape, Reading, subscriptions_to, injectors_of, parts_of, streams_of, consumers_of, feeds_of}
 use Rattle.topology.specs.Rules.{IsTopology}
 
 -- whether a stream is among what is read
@@ -23,6 +23,10 @@ subscriptions_by stream to reads =
 -- the subscriptions of computations to a stream, where the first has number n
 abbrev pub subscriptions_from : List ℕ → ℕ → List ComputationShape → List Subscription
 subscriptions_from stream n computations = flat_map (subscriptions_to stream) (enumerate_from n computations)
+
+-- the subscriptions to a stream, in the order of the file
+abbrev pub subscriptions_in : List ℕ → Shape → List Subscription
+subscriptions_in stream shape = subscriptions_from stream (injectors_of shape) shape.computations
 
 -- a value for each part of a shape, by number
 abbrev pub by_part : {X : Type 0} → (Shape → ℕ → X) → Shape → List X

@@ -6,6 +6,7 @@ ghost use Rattle.std.specs.Cmp.Lexicographic.{pointwise};
 ghost use Rattle.mw_types.specs.Orders.{key_cmp};
 ghost use Rattle.topology.specs.Shapes.{ComputationShape, streams_of};
 ghost use Rattle.topology.specs.Rules.{is_name_byte, is_name, all_differ, names_of};
+ghost use Rattle.topology.specs.Answers.{reading_count, cut_count};
 ghost use Rattle.topology.specs.FileRules.{is_few, reads_among, reads_above, in_range, is_in_range, is_ascending, is_cut, are_cuts, has_cuts, checked, IsRefusalOf};
 
 use crate::file_parts::{FileComputation, FileParts};
@@ -16,7 +17,7 @@ use std::alloc::Global;
 
 // Whether there are at most so many readings.
 fn has_room_for_reads(computations: &[FileComputation], room: usize) -> bool
-    ensures { result ≡ nat_le (sum_by (λ (c : ComputationShape). length c.reads) computations.now) room }
+    ensures { result ≡ nat_le (reading_count computations.now) room }
 {
     let mut left = room;
     for computation in computations {
@@ -31,7 +32,7 @@ fn has_room_for_reads(computations: &[FileComputation], room: usize) -> bool
 
 // Whether there are at most so many cuts.
 fn has_room_for_cuts(computations: &[FileComputation], room: usize) -> bool
-    ensures { result ≡ nat_le (sum_by (λ (c : ComputationShape). length c.cuts) computations.now) room }
+    ensures { result ≡ nat_le (cut_count computations.now) room }
 {
     let mut left = room;
     for computation in computations {

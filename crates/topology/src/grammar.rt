@@ -26,7 +26,7 @@ fn has_members(value: &Value, count: usize) -> bool
 
 // The items of the array that a member is.
 fn array_in<'v>(value: &'v Value, name: &str) -> Option<&'v [Value]>
-    ensures { option_map (λ items. items_view items.now) result ≡ array_in name.now (view value.now) }
+    ensures { option_map (λ xs. items_view xs.now) result ≡ array_in name.now (view value.now) }
 {
     match value.get(name)?.as_array() {
         Some(items) => Some(items.as_slice()),

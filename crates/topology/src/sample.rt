@@ -9,7 +9,9 @@ use mw_types::{Kind, Name, NoMemory, Seq};
 use std::alloc::Global;
 
 impl Topology {
-    /// One injector, and one count over windows of this size that reads its stream by key.
+    /// One injector, and one count over windows of this size, in whole microseconds, that reads its
+    /// stream by key. Serves tests and examples alone, to which it spares a file; a run gets its
+    /// topology from `read`.
     pub fn one_count(alloc: Global, size: u64) -> Result<Topology, NoMemory>
         requires some { 1 ≤ size }
         requires most { size ≤ 2 ^ 40 }

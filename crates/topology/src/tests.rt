@@ -4,46 +4,83 @@ use std::alloc::Global;
 use std::process::Abort;
 use std::test::Fail;
 
-#[test]
-fn extractors(rt: HostRuntime) -> Result<(), Fail> {
-    let alloc = rt.alloc();
-    for (by, text, want) in [
-        (By::Key, "a/b/c", "a/b/c"),
-        (By::Head, "a/b/c", "a"),
-        (By::Tail, "a/b/c", "b/c"),
-        (By::Head, "/x", "/x"),
-        (By::Tail, "/x", "x"),
-        (By::Head, "x/", "x"),
-        (By::Tail, "x/", "x/"),
-        (By::Head, "x", "x"),
-        (By::Tail, "x", "x"),
-    ] {
-        assert_eq!(rt; extract(alloc, by, &Key::of(alloc, text)?)?.text(), want);
+// The two sides of a line `left=>right`, or nothing where it is none.
+fn sides(line: &str) -> (&str, &str) {
+    match line.split_once("=>") {
+        Some(sides) => sides,
+        None => ("", ""),
+    }
+}
+
+// What an extractor makes of a key.
+fn extracted(alloc: Global, by: By, text: &str) -> Result<Key, Fail> {
+    Ok(extract(alloc, by, &Key::of(alloc, text)?)?)
+}
+
+// Tries an extractor at each line of a table, `key=>extracted`.
+fn extracts(rt: &impl Abort, alloc: Global, by: By, table: &str) -> Result<(), Fail> {
+    for line in table.split('\n') {
+        let (text, want) = sides(line);
+        let found = extracted(alloc, by, text)?;
+        assert_eq!(rt; found.text(), want);
     }
     Ok(())
 }
 
 #[test]
-fn one_count_has_an_injector_and_a_count(rt: HostRuntime) -> Result<(), Fail> {
-    let topology = Topology::one_count(rt.alloc(), 60)?;
-    counts_clicks(&rt, &topology);
-    assert_eq!(rt; part_count(&topology), 2);
-    assert_eq!(rt; topology.part_cuts(rt.alloc())?.len(), 2);
-    Ok(())
+fn extractors(rt: HostRuntime) -> Result<(), Fail> {
+    let alloc = rt.alloc();
+    extracts(&rt, alloc, By::Key, "a/b/c=>a/b/c")?;
+    extracts(&rt, alloc, By::Head, "a/b/c=>a\n/x=>/x\nx/=>x\nx=>x")?;
+    extracts(&rt, alloc, By::Tail, "a/b/c=>b/c\n/x=>x\nx/=>x/\nx=>x")
 }
 
-// Looks at each part of the topology of one count.
-fn counts_clicks(rt: &impl Abort, topology: &Topology) {
-    assert_eq!(rt; topology.parts(), 2);
-    assert_eq!(rt; topology.injectors(), 1);
-    assert_eq!(rt; topology.kind(1), Kind::Count { size: 60 });
-    assert_eq!(rt; topology.stream(1), "windows");
-    assert_eq!(rt;
-        topology.consumers(0),
-        [Subscription { to: 1, by: By::Key }].as_slice()
-    );
-    assert_eq!(rt; topology.feeds(1), [0].as_slice());
-    assert_eq!(rt; topology.cuts(1).len(), 0);
+// The helpers below have no clauses, so that no test carries what the calls before have told.
+
+// The topology of one count over windows of 60.
+fn one_count(alloc: Global) -> Result<Topology, Fail> {
+    Ok(Topology::one_count(alloc, 60)?)
+}
+
+// Compares how many parts and injectors there are.
+fn counts_are(rt: &impl Abort, topology: &Topology, parts: u32, injectors: u32) {
+    assert_eq!(rt; topology.parts(), parts);
+    assert_eq!(rt; topology.injectors(), injectors);
+}
+
+// Compares the kind of a computation.
+fn kind_is(rt: &impl Abort, topology: &Topology, part: u32, kind: Kind) {
+    assert!(rt; topology.injectors() <= part && part < topology.parts());
+    assert_eq!(rt; topology.kind(part), kind);
+}
+
+// Compares the stream that a part publishes.
+fn stream_is(rt: &impl Abort, topology: &Topology, part: u32, stream: &str) {
+    assert!(rt; part < topology.parts());
+    assert_eq!(rt; topology.stream(part), stream);
+}
+
+// Compares the subscriptions to the stream of a part.
+fn consumers_are(rt: &impl Abort, topology: &Topology, part: u32, consumers: &[Subscription]) {
+    assert!(rt; part < topology.parts());
+    assert_eq!(rt; topology.consumers(part), consumers);
+}
+
+// Compares the parts that a part reads.
+fn feeds_are(rt: &impl Abort, topology: &Topology, part: u32, feeds: &[u32]) {
+    assert!(rt; part < topology.parts());
+    assert_eq!(rt; topology.feeds(part), feeds);
+}
+
+// Compares how many cuts a part has.
+fn cut_count_is(rt: &impl Abort, topology: &Topology, part: u32, count: usize) {
+    assert!(rt; part < topology.parts());
+    assert_eq!(rt; topology.cuts(part).len(), count);
+}
+
+// How many parts have cuts listed.
+fn part_cut_count(alloc: Global, topology: &Topology) -> Result<usize, Fail> {
+    Ok(topology.part_cuts(alloc)?.len())
 }
 
 // How many parts a table of kinds has.
@@ -51,9 +88,34 @@ fn part_count<T: KindTable>(table: &T) -> u32 {
     table.parts()
 }
 
+#[test]
+fn one_count_has_an_injector_and_a_count(rt: HostRuntime) -> Result<(), Fail> {
+    let topology = one_count(rt.alloc())?;
+    counts_clicks(&rt, &topology);
+    lists_two_parts(&rt, rt.alloc(), &topology)
+}
+
+// Looks at how many parts are listed.
+fn lists_two_parts(rt: &impl Abort, alloc: Global, topology: &Topology) -> Result<(), Fail> {
+    let cuts = part_cut_count(alloc, topology)?;
+    assert_eq!(rt; cuts, 2);
+    assert_eq!(rt; part_count(topology), 2);
+    Ok(())
+}
+
+// Looks at each part of the topology of one count.
+fn counts_clicks(rt: &impl Abort, topology: &Topology) {
+    counts_are(rt, topology, 2, 1);
+    kind_is(rt, topology, 1, Kind::Count { size: 60 });
+    stream_is(rt, topology, 1, "windows");
+    consumers_are(rt, topology, 0, &[Subscription { to: 1, by: By::Key }]);
+    feeds_are(rt, topology, 1, &[0]);
+    cut_count_is(rt, topology, 1, 0);
+}
+
 // One injector, and a computation of each kind.
 const FILE: &str =
-    "{\"injectors\":[{\"name\":\"clicks\",\"stream\":\"raw\"}],\"computations\":[{\"name\":\"per_minute\",\"kind\":\"count\",\"size\":60,\"reads\":[{\"stream\":\"raw\",\"by\":\"key\"}],\"stream\":\"windows\",\"cuts\":[\"h\",\"q\"]},{\"name\":\"spikes\",\"kind\":\"spike\",\"last\":2,\"times\":3,\"reads\":[{\"stream\":\"windows\",\"by\":\"head\"},{\"stream\":\"raw\",\"by\":\"key\"}],\"stream\":\"alerts\"},{\"name\":\"copy\",\"kind\":\"pass\",\"reads\":[{\"stream\":\"raw\",\"by\":\"tail\"}],\"stream\":\"copies\"}]}";
+    r#"{"injectors":[{"name":"clicks","stream":"raw"}],"computations":[{"name":"per_minute","kind":"count","size":60,"reads":[{"stream":"raw","by":"key"}],"stream":"windows","cuts":["h","q"]},{"name":"spikes","kind":"spike","last":2,"times":3,"reads":[{"stream":"windows","by":"head"},{"stream":"raw","by":"key"}],"stream":"alerts"},{"name":"copy","kind":"pass","reads":[{"stream":"raw","by":"tail"}],"stream":"copies"}]}"#;
 
 // That file with one place changed.
 fn changed(alloc: Global, old: &str, new: &str) -> Result<String, Fail> {
@@ -76,53 +138,94 @@ fn refused(alloc: Global, old: &str, new: &str) -> Result<Option<TopologyRefusal
     Ok(refusal(alloc, changed(alloc, old, new)?.as_bytes()))
 }
 
-#[test]
-fn a_file_of_each_kind_is_read(rt: HostRuntime) -> Result<(), Fail> {
-    let topology = read(rt.alloc(), FILE.as_bytes())?;
-    reads_each_kind(&rt, &topology);
+// Compares why bytes are refused, if they are.
+fn bytes_give(rt: &impl Abort, alloc: Global, bytes: &[u8], why: Option<TopologyRefusal>) {
+    assert_eq!(rt; refusal(alloc, bytes), why);
+}
+
+// Tries each line of a table, `old=>new`, as a change of the file, and compares why it is refused, if it is.
+fn changes_give(
+    rt: &impl Abort,
+    alloc: Global,
+    table: &str,
+    why: Option<TopologyRefusal>,
+) -> Result<(), Fail> {
+    for line in table.split('\n') {
+        let (old, new) = sides(line);
+        let found = refused(alloc, old, new)?;
+        assert_eq!(rt; found, why, "{line}");
+    }
     Ok(())
 }
 
-// Looks at each part of the topology of each kind.
-fn reads_each_kind(rt: &impl Abort, topology: &Topology) {
-    assert!(rt; topology.injectors() == 1 && topology.parts() == 4);
-    assert_eq!(rt; topology.kind(1), Kind::Count { size: 60 });
-    assert_eq!(rt; topology.kind(2), Kind::Spike { last: 2, times: 3 });
-    assert_eq!(rt; topology.kind(3), Kind::Pass);
-    for (part, stream) in [(0, "raw"), (1, "windows"), (2, "alerts"), (3, "copies")] {
-        assert_eq!(rt; topology.stream(part), stream);
-    }
+// The topology of that file.
+fn of_each_kind(alloc: Global) -> Result<Topology, Fail> {
+    Ok(read(alloc, FILE.as_bytes())?)
+}
+
+#[test]
+fn a_file_of_each_kind_is_read(rt: HostRuntime) -> Result<(), Fail> {
+    let topology = of_each_kind(rt.alloc())?;
+    has_each_kind(&rt, &topology);
+    publishes_each_stream(&rt, &topology);
+    reads_each_stream(&rt, &topology);
+    Ok(())
+}
+
+// Looks at the kind of each part, and at its cuts.
+fn has_each_kind(rt: &impl Abort, topology: &Topology) {
+    counts_are(rt, topology, 4, 1);
+    kind_is(rt, topology, 1, Kind::Count { size: 60 });
+    kind_is(rt, topology, 2, Kind::Spike { last: 2, times: 3 });
+    kind_is(rt, topology, 3, Kind::Pass);
+    cut_count_is(rt, topology, 1, 2);
+    cut_count_is(rt, topology, 2, 0);
+}
+
+// Looks at the stream of each part.
+fn publishes_each_stream(rt: &impl Abort, topology: &Topology) {
+    stream_is(rt, topology, 0, "raw");
+    stream_is(rt, topology, 1, "windows");
+    stream_is(rt, topology, 2, "alerts");
+    stream_is(rt, topology, 3, "copies");
+}
+
+// Looks at who reads which stream, and how.
+fn reads_each_stream(rt: &impl Abort, topology: &Topology) {
     let [key, head, tail] = [By::Key, By::Head, By::Tail];
-    assert_eq!(rt;
-        topology.consumers(0),
-        [
+    consumers_are(
+        rt,
+        topology,
+        0,
+        &[
             Subscription { to: 1, by: key },
             Subscription { to: 2, by: key },
             Subscription { to: 3, by: tail },
-        ]
-        .as_slice()
+        ],
     );
-    assert_eq!(rt;
-        topology.consumers(1),
-        [Subscription { to: 2, by: head }].as_slice()
-    );
-    assert_eq!(rt; topology.feeds(2), [0, 1].as_slice());
-    assert_eq!(rt; topology.cuts(1).len(), 2);
-    assert_eq!(rt; topology.cuts(2).len(), 0);
+    consumers_are(rt, topology, 1, &[Subscription { to: 2, by: head }]);
+    feeds_are(rt, topology, 2, &[0, 1]);
 }
 
 #[test]
 fn bytes_that_are_no_json_are_refused(rt: HostRuntime) {
-    for bytes in [
-        b"".as_slice(),
-        b"{\"injectors\":[{\"name\":\"clicks\",\"str".as_slice(),
-        b"{\"injectors\":[\"\xff\"],\"computations\":[]}".as_slice(),
-        b"\xef\xbb\xbf{}".as_slice(),
-        b"{} {}".as_slice(),
-        b"{\"injectors\":[],\"computations\":[],}".as_slice(),
-    ] {
-        assert_eq!(rt; refusal(rt.alloc(), bytes), Some(TopologyRefusal::NotJson));
-    }
+    let (alloc, why) = (rt.alloc(), Some(TopologyRefusal::NotJson));
+    bytes_give(&rt, alloc, b"", why);
+    bytes_give(
+        &rt,
+        alloc,
+        b"{\"injectors\":[{\"name\":\"clicks\",\"str",
+        why,
+    );
+    bytes_give(
+        &rt,
+        alloc,
+        b"{\"injectors\":[\"\xff\"],\"computations\":[]}",
+        why,
+    );
+    bytes_give(&rt, alloc, b"\xef\xbb\xbf{}", why);
+    bytes_give(&rt, alloc, b"{} {}", why);
+    bytes_give(&rt, alloc, b"{\"injectors\":[],\"computations\":[],}", why);
 }
 
 // So many arrays, one in another.
@@ -139,133 +242,145 @@ fn nested(alloc: Global, depth: u32) -> Result<String, Fail> {
 
 #[test]
 fn at_most_127_levels_are_read(rt: HostRuntime) -> Result<(), Fail> {
-    for (depth, why) in [
-        (127, TopologyRefusal::BadShape),
-        (128, TopologyRefusal::NotJson),
-    ] {
-        let text = nested(rt.alloc(), depth)?;
-        assert_eq!(rt; refusal(rt.alloc(), text.as_bytes()), Some(why));
-    }
+    nested_gives(&rt, rt.alloc(), 127, TopologyRefusal::BadShape)?;
+    nested_gives(&rt, rt.alloc(), 128, TopologyRefusal::NotJson)
+}
+
+// Compares why so many arrays, one in another, are refused.
+fn nested_gives(
+    rt: &impl Abort,
+    alloc: Global,
+    depth: u32,
+    why: TopologyRefusal,
+) -> Result<(), Fail> {
+    let text = nested(alloc, depth)?;
+    bytes_give(rt, alloc, text.as_bytes(), Some(why));
     Ok(())
 }
+
+// Changes after which the file has another shape.
+const OTHER_SHAPES: &str = r#"{"injectors"=>{"more":1,"injectors"
+"injectors"=>"injector"
+[{"name":"clicks","stream":"raw"}]=>[]
+[{"name":"clicks","stream":"raw"}]=>{}
+{"name":"clicks","stream":"raw"}=>"clicks"
+"clicks",=>"clicks","kind":"pass",
+"clicks"=>7
+"name":"clicks",=>
+"per_minute"=>null
+"count"=>"counts"
+"size":60,=>
+60=>"60"
+60=>60,"times":3
+"last":2,=>
+"last":2=>"last":null
+"times":3=>"times":true
+"pass"=>"pass","size":60
+"pass"=>"pass","weak":true
+[{"stream":"raw","by":"tail"}]=>[]
+[{"stream":"raw","by":"tail"}]=>"raw"
+"tail"=>"tails"
+"tail"=>"tail","cuts":[]
+,"by":"tail"=>
+["h","q"]=>"h"
+["h","q"]=>null
+"q"=>7"#;
 
 #[test]
 fn a_file_of_another_shape_is_refused(rt: HostRuntime) -> Result<(), Fail> {
-    for (old, new) in [
-        ("{\"injectors\"", "{\"more\":1,\"injectors\""),
-        ("\"injectors\"", "\"injector\""),
-        ("[{\"name\":\"clicks\",\"stream\":\"raw\"}]", "[]"),
-        ("[{\"name\":\"clicks\",\"stream\":\"raw\"}]", "{}"),
-        ("{\"name\":\"clicks\",\"stream\":\"raw\"}", "\"clicks\""),
-        ("\"clicks\",", "\"clicks\",\"kind\":\"pass\","),
-        ("\"clicks\"", "7"),
-        ("\"name\":\"clicks\",", ""),
-        ("\"per_minute\"", "null"),
-        ("\"count\"", "\"counts\""),
-        ("\"size\":60,", ""),
-        ("60", "\"60\""),
-        ("60", "60,\"times\":3"),
-        ("\"last\":2,", ""),
-        ("\"last\":2", "\"last\":null"),
-        ("\"times\":3", "\"times\":true"),
-        ("\"pass\"", "\"pass\",\"size\":60"),
-        ("\"pass\"", "\"pass\",\"weak\":true"),
-        ("[{\"stream\":\"raw\",\"by\":\"tail\"}]", "[]"),
-        ("[{\"stream\":\"raw\",\"by\":\"tail\"}]", "\"raw\""),
-        ("\"tail\"", "\"tails\""),
-        ("\"tail\"", "\"tail\",\"cuts\":[]"),
-        (",\"by\":\"tail\"", ""),
-        ("[\"h\",\"q\"]", "\"h\""),
-        ("[\"h\",\"q\"]", "null"),
-        ("\"q\"", "7"),
-    ] {
-        assert_eq!(rt;
-            refused(rt.alloc(), old, new)?,
-            Some(TopologyRefusal::BadShape),
-            "{old} {new}"
-        );
-    }
-    Ok(())
+    let why = Some(TopologyRefusal::BadShape);
+    changes_give(&rt, rt.alloc(), OTHER_SHAPES, why)
 }
+
+// Changes after which a name or a stream is no name.
+const BAD_NAMES: &str = r#""clicks"=>"Clicks"
+"clicks"=>""
+"clicks"=>"_c"
+"clicks"=>"9c"
+"copy"=>"co-py"
+"copies"=>"\u00e9""#;
+
+// Changes after which two parts have one name.
+const DOUBLE_NAMES: &str = r#""copy"=>"clicks"
+"copy"=>"spikes""#;
+
+// Changes after which two parts publish one stream.
+const DOUBLE_STREAMS: &str = r#""copies"=>"alerts"
+"alerts"=>"raw""#;
+
+// Changes after which a computation reads what no part before it publishes.
+const UNKNOWN_STREAMS: &str = r#""windows","by"=>"others","by"
+"windows","by"=>"alerts","by"
+"raw","by"=>"alerts","by""#;
 
 #[test]
 fn the_rules_of_names_and_streams(rt: HostRuntime) -> Result<(), Fail> {
-    for (old, new, why) in [
-        ("\"clicks\"", "\"Clicks\"", TopologyRefusal::BadName),
-        ("\"clicks\"", "\"\"", TopologyRefusal::BadName),
-        ("\"clicks\"", "\"_c\"", TopologyRefusal::BadName),
-        ("\"clicks\"", "\"9c\"", TopologyRefusal::BadName),
-        ("\"copy\"", "\"co-py\"", TopologyRefusal::BadName),
-        ("\"copies\"", "\"\\u00e9\"", TopologyRefusal::BadName),
-        ("\"copy\"", "\"clicks\"", TopologyRefusal::DoubleName),
-        ("\"copy\"", "\"spikes\"", TopologyRefusal::DoubleName),
-        ("\"copies\"", "\"alerts\"", TopologyRefusal::DoubleStream),
-        ("\"alerts\"", "\"raw\"", TopologyRefusal::DoubleStream),
-        (
-            "\"windows\",\"by\"",
-            "\"others\",\"by\"",
-            TopologyRefusal::UnknownStream,
-        ),
-        (
-            "\"windows\",\"by\"",
-            "\"alerts\",\"by\"",
-            TopologyRefusal::UnknownStream,
-        ),
-        (
-            "\"raw\",\"by\"",
-            "\"alerts\",\"by\"",
-            TopologyRefusal::UnknownStream,
-        ),
-    ] {
-        assert_eq!(rt; refused(rt.alloc(), old, new)?, Some(why), "{old} {new}");
-    }
-    Ok(())
+    let alloc = rt.alloc();
+    changes_give(&rt, alloc, BAD_NAMES, Some(TopologyRefusal::BadName))?;
+    changes_give(&rt, alloc, DOUBLE_NAMES, Some(TopologyRefusal::DoubleName))?;
+    changes_give(
+        &rt,
+        alloc,
+        DOUBLE_STREAMS,
+        Some(TopologyRefusal::DoubleStream),
+    )?;
+    changes_give(
+        &rt,
+        alloc,
+        UNKNOWN_STREAMS,
+        Some(TopologyRefusal::UnknownStream),
+    )
 }
+
+// Changes to numbers at the ends of their ranges.
+const GOOD_NUMBERS: &str = r#"60=>1
+60=>1099511627776
+"last":2=>"last":1
+"last":2=>"last":64
+"times":3=>"times":1
+"times":3=>"times":1000"#;
+
+// Changes after which a number is not whole, or not in its range.
+const BAD_NUMBERS: &str = r#"60=>1099511627777
+60=>0
+60=>-1
+60=>-0
+60=>60.0
+60=>6e1
+60=>18446744073709551616
+"last":2=>"last":65
+"last":2=>"last":0
+"last":2=>"last":4294967298
+"times":3=>"times":1001
+"times":3=>"times":0"#;
 
 #[test]
 fn numbers_are_whole_and_in_their_ranges(rt: HostRuntime) -> Result<(), Fail> {
-    let bad = Some(TopologyRefusal::BadNumber);
-    for (old, new, why) in [
-        ("60", "1", None),
-        ("60", "1099511627776", None),
-        ("60", "1099511627777", bad),
-        ("60", "0", bad),
-        ("60", "-1", bad),
-        ("60", "-0", bad),
-        ("60", "60.0", bad),
-        ("60", "6e1", bad),
-        ("60", "18446744073709551616", bad),
-        ("\"last\":2", "\"last\":1", None),
-        ("\"last\":2", "\"last\":64", None),
-        ("\"last\":2", "\"last\":65", bad),
-        ("\"last\":2", "\"last\":0", bad),
-        ("\"last\":2", "\"last\":4294967298", bad),
-        ("\"times\":3", "\"times\":1", None),
-        ("\"times\":3", "\"times\":1000", None),
-        ("\"times\":3", "\"times\":1001", bad),
-        ("\"times\":3", "\"times\":0", bad),
-    ] {
-        assert_eq!(rt; refused(rt.alloc(), old, new)?, why, "{new}");
-    }
-    Ok(())
+    changes_give(&rt, rt.alloc(), GOOD_NUMBERS, None)?;
+    changes_give(
+        &rt,
+        rt.alloc(),
+        BAD_NUMBERS,
+        Some(TopologyRefusal::BadNumber),
+    )
 }
+
+// Cuts that ascend in place of those of the file.
+const GOOD_CUTS: &str = r#"["h","q"]=>[]
+["h","q"]=>["h"]
+["h","q"]=>["h","hh"]
+["h","q"]=>["Z","a"]"#;
+
+// Cuts that do not ascend, or of which one is empty.
+const BAD_CUTS: &str = r#"["h","q"]=>["q","h"]
+["h","q"]=>["h","h"]
+["h","q"]=>["","h"]
+["h","q"]=>["hh","h"]"#;
 
 #[test]
 fn cuts_ascend(rt: HostRuntime) -> Result<(), Fail> {
-    let bad = Some(TopologyRefusal::BadCuts);
-    for (new, why) in [
-        ("[]", None),
-        ("[\"h\"]", None),
-        ("[\"h\",\"hh\"]", None),
-        ("[\"Z\",\"a\"]", None),
-        ("[\"q\",\"h\"]", bad),
-        ("[\"h\",\"h\"]", bad),
-        ("[\"\",\"h\"]", bad),
-        ("[\"hh\",\"h\"]", bad),
-    ] {
-        assert_eq!(rt; refused(rt.alloc(), "[\"h\",\"q\"]", new)?, why, "{new}");
-    }
-    Ok(())
+    changes_give(&rt, rt.alloc(), GOOD_CUTS, None)?;
+    changes_give(&rt, rt.alloc(), BAD_CUTS, Some(TopologyRefusal::BadCuts))
 }
 
 // A text of so many times the letter k, between quotes.
@@ -278,20 +393,39 @@ fn quoted(alloc: Global, len: u32) -> Result<String, Fail> {
     Ok(text)
 }
 
+// Compares why the file with a text of this length in place of another is refused, if it is.
+fn length_gives(
+    rt: &impl Abort,
+    alloc: Global,
+    old: &str,
+    len: u32,
+    why: Option<TopologyRefusal>,
+) -> Result<(), Fail> {
+    let new = quoted(alloc, len)?;
+    let found = refused(alloc, old, new.as_str())?;
+    assert_eq!(rt; found, why, "{old}");
+    Ok(())
+}
+
+// Tries the greatest length of a text in place of another, and a length above it.
+fn greatest_length(
+    rt: &impl Abort,
+    alloc: Global,
+    old: &str,
+    lengths: [u32; 2],
+    why: TopologyRefusal,
+) -> Result<(), Fail> {
+    let [greatest, above] = lengths;
+    length_gives(rt, alloc, old, greatest, None)?;
+    length_gives(rt, alloc, old, above, Some(why))
+}
+
 #[test]
 fn names_and_cuts_have_a_greatest_length(rt: HostRuntime) -> Result<(), Fail> {
-    for (old, len, why) in [
-        ("\"copy\"", 64, None),
-        ("\"copy\"", 65, Some(TopologyRefusal::BadName)),
-        ("\"copies\"", 64, None),
-        ("\"copies\"", 65, Some(TopologyRefusal::BadName)),
-        ("\"q\"", 256, None),
-        ("\"q\"", 257, Some(TopologyRefusal::BadCuts)),
-    ] {
-        let new = quoted(rt.alloc(), len)?;
-        assert_eq!(rt; refused(rt.alloc(), old, new.as_str())?, why, "{old} {len}");
-    }
-    Ok(())
+    let alloc = rt.alloc();
+    greatest_length(&rt, alloc, "\"copy\"", [64, 65], TopologyRefusal::BadName)?;
+    greatest_length(&rt, alloc, "\"copies\"", [64, 65], TopologyRefusal::BadName)?;
+    greatest_length(&rt, alloc, "\"q\"", [256, 257], TopologyRefusal::BadCuts)
 }
 
 // A file with so many injectors and computations, of which the first has so many readings and cuts.
@@ -361,80 +495,97 @@ fn computation(
     Ok(())
 }
 
-#[test]
-fn every_count_has_a_limit(rt: HostRuntime) -> Result<(), Fail> {
-    let many = Some(TopologyRefusal::TooMany);
-    for (injectors, computations, reads, cuts, why) in [
-        (16, 1, 1, 0, None),
-        (17, 1, 1, 0, many),
-        (1, 32, 1, 0, None),
-        (1, 33, 1, 0, many),
-        (1, 1, 64, 0, None),
-        (1, 1, 65, 0, many),
-        (1, 32, 33, 0, None),
-        (1, 32, 34, 0, many),
-        (1, 1, 1, 59, None),
-        (1, 1, 1, 60, many),
-        (16, 32, 1, 13, None),
-        (16, 32, 1, 14, many),
-    ] {
-        let text = sized(rt.alloc(), injectors, computations, reads, cuts)?;
-        assert_eq!(rt;
-            refusal(rt.alloc(), text.as_bytes()),
-            why,
-            "{injectors} {computations} {reads} {cuts}"
-        );
-    }
+// Compares why a file with so many parts, readings and cuts is refused, if it is.
+fn counts_give(
+    rt: &impl Abort,
+    alloc: Global,
+    counts: [u32; 4],
+    why: Option<TopologyRefusal>,
+) -> Result<(), Fail> {
+    let [injectors, computations, reads, cuts] = counts;
+    let text = sized(alloc, injectors, computations, reads, cuts)?;
+    bytes_give(rt, alloc, text.as_bytes(), why);
     Ok(())
 }
+
+// Tries so many parts, readings and cuts as may be, and one more of them.
+fn most(rt: &impl Abort, alloc: Global, counts: [u32; 4], above: [u32; 4]) -> Result<(), Fail> {
+    counts_give(rt, alloc, counts, None)?;
+    counts_give(rt, alloc, above, Some(TopologyRefusal::TooMany))
+}
+
+#[test]
+fn every_count_has_a_limit(rt: HostRuntime) -> Result<(), Fail> {
+    let alloc = rt.alloc();
+    most(&rt, alloc, [16, 1, 1, 0], [17, 1, 1, 0])?;
+    most(&rt, alloc, [1, 32, 1, 0], [1, 33, 1, 0])?;
+    most(&rt, alloc, [1, 1, 64, 0], [1, 1, 65, 0])?;
+    most(&rt, alloc, [1, 32, 33, 0], [1, 32, 34, 0])?;
+    most(&rt, alloc, [1, 1, 1, 59], [1, 1, 1, 60])?;
+    most(&rt, alloc, [16, 32, 1, 13], [16, 32, 1, 14])
+}
+
+// No JSON text, and a stream that is no text.
+const FIRST_IS_NO_JSON: &str = r#"clicks","stream":"raw"=>clicks","stream":7,""#;
+
+// Another shape, and a number out of its range.
+const FIRST_IS_SHAPE: &str = r#"60=>0,"more":[]"#;
+
+// Two parts of one name, and a stream that is no name.
+const FIRST_IS_NAME: &str =
+    r#""name":"copy","kind":"pass","reads":[{"stream":"raw"=>"name":"clicks","kind":"pass","reads":[{"stream":"Copies""#;
+
+// Two parts of one stream, and a stream that is unknown.
+const FIRST_IS_STREAM: &str =
+    r#""raw","by":"tail"}],"stream":"copies"=>"none","by":"tail"}],"stream":"alerts""#;
+
+// An unknown stream, and a number out of its range.
+const FIRST_IS_READING: &str = r#"60,"reads":[{"stream":"raw"=>0,"reads":[{"stream":"none""#;
+
+// A number out of its range, and cuts that do not ascend.
+const FIRST_IS_NUMBER: &str =
+    r#"60,"reads":[{"stream":"raw","by":"key"}],"stream":"windows","cuts":["h"=>0,"reads":[{"stream":"raw","by":"key"}],"stream":"windows","cuts":["z""#;
 
 #[test]
 fn the_first_broken_rule_is_named(rt: HostRuntime) -> Result<(), Fail> {
-    for (old, new, why) in [
-        (
-            "clicks\",\"stream\":\"raw\"",
-            "clicks\",\"stream\":7,\"",
-            TopologyRefusal::NotJson,
-        ),
-        ("60", "0,\"more\":[]", TopologyRefusal::BadShape),
-        (
-            "\"name\":\"copy\",\"kind\":\"pass\",\"reads\":[{\"stream\":\"raw\"",
-            "\"name\":\"clicks\",\"kind\":\"pass\",\"reads\":[{\"stream\":\"Copies\"",
-            TopologyRefusal::DoubleName,
-        ),
-        (
-            "\"raw\",\"by\":\"tail\"}],\"stream\":\"copies\"",
-            "\"none\",\"by\":\"tail\"}],\"stream\":\"alerts\"",
-            TopologyRefusal::DoubleStream,
-        ),
-        (
-            "60,\"reads\":[{\"stream\":\"raw\"",
-            "0,\"reads\":[{\"stream\":\"none\"",
-            TopologyRefusal::UnknownStream,
-        ),
-        (
-            "60,\"reads\":[{\"stream\":\"raw\",\"by\":\"key\"}],\"stream\":\"windows\",\"cuts\":[\"h\"",
-            "0,\"reads\":[{\"stream\":\"raw\",\"by\":\"key\"}],\"stream\":\"windows\",\"cuts\":[\"z\"",
-            TopologyRefusal::BadNumber,
-        ),
-    ] {
-        assert_eq!(rt; refused(rt.alloc(), old, new)?, Some(why), "{old} {new}");
-    }
-    Ok(())
+    let alloc = rt.alloc();
+    changes_give(&rt, alloc, FIRST_IS_NO_JSON, Some(TopologyRefusal::NotJson))?;
+    changes_give(&rt, alloc, FIRST_IS_SHAPE, Some(TopologyRefusal::BadShape))?;
+    changes_give(&rt, alloc, FIRST_IS_NAME, Some(TopologyRefusal::DoubleName))?;
+    changes_give(
+        &rt,
+        alloc,
+        FIRST_IS_STREAM,
+        Some(TopologyRefusal::DoubleStream),
+    )?;
+    changes_give(
+        &rt,
+        alloc,
+        FIRST_IS_READING,
+        Some(TopologyRefusal::UnknownStream),
+    )?;
+    changes_give(
+        &rt,
+        alloc,
+        FIRST_IS_NUMBER,
+        Some(TopologyRefusal::BadNumber),
+    )
 }
+
+// Members of one name, of which the last is as in the file.
+const LAST_IS_GOOD: &str = r#""size":60=>"size":0,"size":60
+{"injectors"=>{"injectors":[],"injectors""#;
+
+// Members of one name, of which the last is out of its range.
+const LAST_IS_BAD: &str = r#""size":60=>"size":60,"size":0"#;
 
 #[test]
 fn the_last_member_of_a_name_counts(rt: HostRuntime) -> Result<(), Fail> {
-    for (old, new, why) in [
-        ("\"size\":60", "\"size\":0,\"size\":60", None),
-        (
-            "\"size\":60",
-            "\"size\":60,\"size\":0",
-            Some(TopologyRefusal::BadNumber),
-        ),
-        ("{\"injectors\"", "{\"injectors\":[],\"injectors\"", None),
-    ] {
-        assert_eq!(rt; refused(rt.alloc(), old, new)?, why, "{new}");
-    }
-    Ok(())
+    changes_give(&rt, rt.alloc(), LAST_IS_GOOD, None)?;
+    changes_give(
+        &rt,
+        rt.alloc(),
+        LAST_IS_BAD,
+        Some(TopologyRefusal::BadNumber),
+    )
 }

@@ -3,7 +3,7 @@ ghost use Rattle.std.specs.Prelude.{◌≡◌, ◌++◌, ◌+◌, ◌<◌, ◌^�
 ghost use Rattle.std.specs.List.{list_any, filter_map, flat_map, enumerate_from};
 ghost use Rattle.std.specs.Cmp.Lexicographic.{pointwise};
 ghost use Rattle.topology.specs.Shapes.{Reading, parts_of, streams_of, injectors_of, subscriptions_to, consumers_of, reads_stream, feeds_of};
-ghost use Rattle.topology.specs.Kept.{is_among, numbers_from, subscriptions_by, subscriptions_from, by_part};
+ghost use Rattle.topology.specs.Kept.{is_among, numbers_from, subscriptions_by, subscriptions_in, by_part};
 
 use crate::parts::{ComputationPart, Parts, ReadingPart};
 use crate::subscription::{By, Subscription};
@@ -47,7 +47,7 @@ pub fn consumers_in(
 // The subscriptions to a stream, in the order of the file.
 fn subscriptions(alloc: Global, parts: &Parts, stream: &str) -> Result<SubscriptionList, NoMemory>
     requires { parts_of parts.now < 2 ^ 32 }
-    ensures { IfOk result (λ found. found ≡ subscriptions_from stream.now (injectors_of parts.now) parts.now.computations) }
+    ensures { IfOk result (λ found. found ≡ subscriptions_in stream.now parts.now) }
 {
     let injectors = parts.injector_count();
     let mut found = Seq::new(alloc);

@@ -1,5 +1,5 @@
 -- The first example as several workers would write it: with claims, acknowledgements and a purge, worked by hand.
-use Rattle.std.specs.Prelude.{ℕ, List, [], ◌∷◌}
+use Rattle.std.specs.Prelude.{ℕ, List, [], ◌∷◌, take}
 use Rattle.mw_types.specs.declared.identity.RecordId.{RecordId}
 use Rattle.mw_types.specs.declared.identity.RowName.{RowName}
 use Rattle.mw_types.specs.declared.state.Window.{Window}
@@ -7,7 +7,9 @@ use Rattle.mw_types.specs.declared.state.State.TheVariants.{Injector, Count}
 use Rattle.mw_types.specs.declared.entry.Entry.{Entry}
 use Rattle.mw_types.specs.declared.entry.Entry.TheVariants.{Claim, Inject, Handle, Fire, Ack, Purge}
 use Rattle.row_parts.specs.Contents.{Contents}
-use Rattle.worked_examples.specs.First.{row_a, record_at, window, end_of, counts, closes}
+use Rattle.run_history.specs.Runs.{run_of}
+use Rattle.run_history.specs.Legal.{floor_of}
+use Rattle.worked_examples.specs.First.{first_case, row_a, record_at, window, end_of, counts, closes}
 
 -- the row of the injector
 abbrev pub injector_row : RowName
@@ -37,6 +39,10 @@ drained_history =
     ∷ Fire 1 row_a (end_of 120) 120 (closes [] 120 1)
     ∷ Purge 1 row_a 13
     ∷ [])))
+
+-- the floor after so many entries
+abbrev pub drained_floor : ℕ → ℕ
+drained_floor entries = floor_of (run_of first_case.topology (take entries drained_history))
 
 -- the rows at the end: three lines injected, and nothing of the key a but its floor
 abbrev pub drained_rows : List (RowName × Contents)

@@ -1,21 +1,18 @@
 -- The first example, worked by hand: three records of the key a in windows of 60, on one thread.
-use Rattle.std.specs.Prelude.{◌≡◌, ℕ, ℤ, pos, Bool, false, List, [], ◌∷◌}
+use Rattle.std.specs.Prelude.{ℕ, pos, false, List, [], ◌∷◌, take}
 use Rattle.mw_types.specs.declared.identity.RowName.{RowName}
-use Rattle.mw_types.specs.declared.state.State.{State}
 use Rattle.mw_types.specs.declared.state.State.TheVariants.{Count}
 use Rattle.mw_types.specs.declared.state.Window.{Window}
 use Rattle.mw_types.specs.declared.record.Record.{Record}
-use Rattle.mw_types.specs.declared.record.Production.{Production}
 use Rattle.mw_types.specs.declared.timer.Timer.{Timer}
 use Rattle.mw_types.specs.declared.delivery.Emission.{Emission}
 use Rattle.mw_types.specs.declared.entry.Entry.{Entry}
 use Rattle.mw_types.specs.declared.entry.Entry.TheVariants.{Inject, Handle, Fire}
 use Rattle.mw_types.specs.Outcomes.{Outcome}
-use Rattle.injector.specs.Sources.{Source, SourceLine}
+use Rattle.injector.specs.Sources.{SourceLine}
 use Rattle.topology.specs.Samples.{one_count}
 use Rattle.run_history.specs.Cases.{CaseShape}
 use Rattle.run_history.specs.Runs.{run_of}
-use Rattle.run_history.specs.Legal.{IsLegal, IsDone}
 use Rattle.run_history.specs.Watermarks.{low_watermark}
 
 -- the key a
@@ -70,6 +67,10 @@ first_history =
     ∷ Fire 0 row_a (end_of 60) 60 (closes (window 120 1 ∷ []) 60 2)
     ∷ Fire 0 row_a (end_of 120) 120 (closes [] 120 1)
     ∷ []
+
+-- the low watermark of the count after so many entries
+abbrev pub first_low : ℕ → ℕ
+first_low entries = low_watermark first_case (run_of first_case.topology (take entries first_history)) 1
 
 -- the two windows that are emitted
 abbrev pub first_emissions : List Emission

@@ -1,9 +1,9 @@
 //! The same three records with claims, acknowledgements and a purge.
-ghost use Rattle.std.specs.Prelude.{◌≡◌, take};
+ghost use Rattle.std.specs.Prelude.{◌≡◌};
 ghost use Rattle.run_history.specs.Runs.{run_of};
 ghost use Rattle.run_history.specs.Legal.{IsLegal, IsDone, floor_of};
 ghost use Rattle.worked_examples.specs.First.{first_case};
-ghost use Rattle.worked_examples.specs.Drained.{drained_history, drained_rows};
+ghost use Rattle.worked_examples.specs.Drained.{drained_history, drained_floor, drained_rows};
 
 /// The history of the first example with all six kinds of entry is legal and done, and leaves its rows.
 pub fn drained_example()
@@ -12,6 +12,6 @@ pub fn drained_example()
     ensures rows { (run_of first_case.topology drained_history).rows ≡ drained_rows }
 
     // While a delivery is not acknowledged the floor is its commit number, and else the next one.
-    ensures floor_while_pending { floor_of (run_of first_case.topology (take 4 drained_history)) ≡ 2 }
+    ensures floor_while_pending { drained_floor 4 ≡ 2 }
     ensures floor_at_end { floor_of (run_of first_case.topology drained_history) ≡ 14 }
 {}

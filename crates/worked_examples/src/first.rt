@@ -1,9 +1,8 @@
 //! Three records in two windows, on one thread.
-ghost use Rattle.std.specs.Prelude.{◌≡◌, take};
+ghost use Rattle.std.specs.Prelude.{◌≡◌};
 ghost use Rattle.run_history.specs.Runs.{run_of};
-ghost use Rattle.run_history.specs.Watermarks.{low_watermark};
 ghost use Rattle.run_history.specs.Legal.{IsLegal, IsDone};
-ghost use Rattle.worked_examples.specs.First.{first_case, first_history, first_emissions};
+ghost use Rattle.worked_examples.specs.First.{first_case, first_history, first_low, first_emissions};
 
 /// The history of the first example is legal and done, emits its two windows, and has the low watermarks
 /// that its timers need.
@@ -13,7 +12,7 @@ pub fn first_example()
     ensures emitted { (run_of first_case.topology first_history).emissions ≡ first_emissions }
 
     // Before the last line no timer is due; then the first window is, and then the second.
-    ensures low_before_lines { low_watermark first_case (run_of first_case.topology (take 4 first_history)) 1 ≡ 0 }
-    ensures low_at_first { low_watermark first_case (run_of first_case.topology (take 6 first_history)) 1 ≡ 60 }
-    ensures low_at_second { low_watermark first_case (run_of first_case.topology (take 7 first_history)) 1 ≡ 120 }
+    ensures low_before_lines { first_low 4 ≡ 0 }
+    ensures low_at_first { first_low 6 ≡ 60 }
+    ensures low_at_second { first_low 7 ≡ 120 }
 {}
