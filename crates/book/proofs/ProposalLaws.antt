@@ -20,7 +20,7 @@ use Rattle.mw_types.specs.declared.entry.Entry.{Entry}
 use Rattle.mw_types.specs.declared.entry.Entry.TheVariants as entries
 use Rattle.mw_types.specs.Outcomes.{Outcome}
 use Rattle.topology.specs.Shapes.{Shape, kind_of}
-use Rattle.computations.specs.Handlers.{effects_of_record, effects_of_timer, unchanged, with_timer, with_record, count_timer, window_due, spike_timer, total_due, is_spike, known_with, due_time, one_more, window_end, counted, held_with}
+use Rattle.computations.specs.Handlers.{effects_of_record, effects_of_timer, unchanged, outcome_with_timer, outcome_with_record, count_timer, window_due, spike_timer, total_due, is_spike, known_with, due_time, one_more, window_end, counted, held_with}
 use Rattle.row_parts.specs.Contents.{Contents, is_finished}
 use Rattle.injector.specs.Sources.{item_at}
 use Rattle.run_history.specs.Cases.{CaseShape, is_injector, source_of, record_of}
@@ -57,7 +57,7 @@ Suits kind o = (has_kind kind o.state ≡ true) × (length o.productions ≤ 8)
 pub record-suits : (kind : Kind) (key : List ℕ) (state : State) (item : Record) → has_kind kind state ≡ true → Suits kind (effects_of_record kind key state item)
 record-suits (kinds.Count size) key (states.Count late windows) item is =
     elim item.late as (λ b. Suits (kinds.Count size) (cond b (unchanged (states.Count (one_more late) windows))
-    (let end = window_end size item.stamp in with_timer (states.Count late (counted windows end)) end item))) [
+    (let end = window_end size item.stamp in outcome_with_timer (states.Count late (counted windows end)) end item))) [
       | true ↦ (refl, omega arith)
       | false ↦ (refl, omega arith)
     ]
@@ -66,7 +66,7 @@ record-suits (kinds.Count size) key (states.Spike late held known) item is = abs
 record-suits (kinds.Count size) key (states.Pass late) item is = absurd cc
 record-suits (kinds.Spike last times) key (states.Spike late held known) item is =
     elim item.late as (λ b. Suits (kinds.Spike last times) (cond b (unchanged (states.Spike (one_more late) held known))
-    (with_timer (states.Spike late (held_with held item.stamp item.value) known) (due_time item.stamp) item))) [
+    (outcome_with_timer (states.Spike late (held_with held item.stamp item.value) known) (due_time item.stamp) item))) [
       | true ↦ (refl, omega arith)
       | false ↦ (refl, omega arith)
     ]
@@ -95,11 +95,11 @@ timer-suits (kinds.Spike last times) key (states.Spike late held known) timer is
     ]
   where
     by_spike : (due : HeldTotal) (b : Bool) → is_spike last times known due.value ≡ b → Suits (kinds.Spike last times) (spike_timer last times key late held known (Some due))
-    by_spike due true is = subst (λ b. Suits (kinds.Spike last times) (cond b (with_record (left due) key (due_time due.stamp) due.value) (unchanged (left due)))) (sym is) (refl, omega arith)
+    by_spike due true is = subst (λ b. Suits (kinds.Spike last times) (cond b (outcome_with_record (left due) key (due_time due.stamp) due.value) (unchanged (left due)))) (sym is) (refl, omega arith)
       where
         left : HeldTotal → State
         left due = states.Spike late (filter (λ (h : HeldTotal). not (h.stamp == due.stamp)) held) (known_with last known due.value)
-    by_spike due false is = subst (λ b. Suits (kinds.Spike last times) (cond b (with_record (left due) key (due_time due.stamp) due.value) (unchanged (left due)))) (sym is) (refl, omega arith)
+    by_spike due false is = subst (λ b. Suits (kinds.Spike last times) (cond b (outcome_with_record (left due) key (due_time due.stamp) due.value) (unchanged (left due)))) (sym is) (refl, omega arith)
       where
         left : HeldTotal → State
         left due = states.Spike late (filter (λ (h : HeldTotal). not (h.stamp == due.stamp)) held) (known_with last known due.value)

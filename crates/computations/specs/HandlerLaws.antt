@@ -15,7 +15,7 @@ use Rattle.mw_types.specs.declared.record.Production.{Production}
 use Rattle.mw_types.specs.declared.timer.Timer.{Timer}
 use Rattle.mw_types.specs.Kinds.{IsKind}
 use Rattle.mw_types.specs.Bounds.{IsWithin}
-use Rattle.computations.specs.Handlers.{IsOfKind, unchanged, with_timer, with_record, one_more, window_end, counted, count_record, window_due, count_timer, due_time, held_with, spike_record, total_due, is_spike, known_with, spike_timer, pass_record, effects_of_record, effects_of_timer}
+use Rattle.computations.specs.Handlers.{IsOfKind, unchanged, outcome_with_timer, outcome_with_record, one_more, window_end, counted, count_record, window_due, count_timer, due_time, held_with, spike_record, total_due, is_spike, known_with, spike_timer, pass_record, effects_of_record, effects_of_timer}
 use Rattle.computations.specs.Laws.{IsShort, IsLawful, LawfulAtRecords, LawfulAtTimers, SetsNoneAtTimers}
 use Rattle.computations.specs.Parts.{kind_at, HasState, part_record, part_timer}
 use Rattle.computations.specs.Bounded.{AreWindows-counted, AreWindows-others, AreHeld-held_with, AreHeld-others, length-known_with}
@@ -47,8 +47,8 @@ module _ (MayHave : State → Type 0) (stamp : ℕ) (late : Bool) where
   }
 
   -- a cause that produces one record, which is not before it
-  with_record-lawful : (state : State) (key : List ℕ) (at : ℕ) (value : ℤ) → MayHave state → (IsShort state → IsWithin state) → stamp ≤ at → at ≤ MAX_STAMP → IsLawful stamp late MayHave (with_record state key at value)
-  with_record-lawful state key at value may within after in_time = record {
+  outcome_with_record-lawful : (state : State) (key : List ℕ) (at : ℕ) (value : ℤ) → MayHave state → (IsShort state → IsWithin state) → stamp ≤ at → at ≤ MAX_STAMP → IsLawful stamp late MayHave (outcome_with_record state key at value)
+  outcome_with_record-lawful state key at value may within after in_time = record {
     kept = may;
     within = λ short. record { state_within = within short; times = All-nil _; stamps = All-one (λ (p : Production). p.stamp ≤ MAX_STAMP) _ in_time };
     timers_after = All-nil _;
@@ -59,8 +59,8 @@ module _ (MayHave : State → Type 0) (stamp : ℕ) (late : Bool) where
   }
 
 -- a record that sets one timer, which is not before it
-with_timer-lawful : (MayHave : State → Type 0) (state : State) (time : ℕ) (item : Record) → MayHave state → (IsShort state → IsWithin state) → item.stamp ≤ time → time ≤ MAX_STAMP → IsLawful item.stamp item.late MayHave (with_timer state time item)
-with_timer-lawful MayHave state time item may within after in_time = record {
+outcome_with_timer-lawful : (MayHave : State → Type 0) (state : State) (time : ℕ) (item : Record) → MayHave state → (IsShort state → IsWithin state) → item.stamp ≤ time → time ≤ MAX_STAMP → IsLawful item.stamp item.late MayHave (outcome_with_timer state time item)
+outcome_with_timer-lawful MayHave state time item may within after in_time = record {
   kept = may;
   within = λ short. record { state_within = within short; times = All-one (λ (t : Timer). t.time ≤ MAX_STAMP) _ in_time; stamps = All-nil _ };
   timers_after = All-one (λ (t : Timer). item.stamp ≤ t.time) _ after;
@@ -78,16 +78,16 @@ window_end-after size stamp one in_time = omega arith
 count_record-lawful : (MayHave : State → Type 0) (size late : ℕ) (windows : List Window) (item : Record) → 1 ≤ size → ((l : ℕ) (ws : List Window) → MayHave (states.Count l ws)) → IsWithin (states.Count late windows) → item.stamp ≤ MAX_STAMP → IsLawful item.stamp item.late MayHave (count_record size late windows item)
 count_record-lawful MayHave size late windows item one may within in_time =
     let end = window_end size item.stamp in
-    elim item.late as (λ b. IsLawful item.stamp item.late MayHave (cond b (unchanged (states.Count (one_more late) windows)) (with_timer (states.Count late (counted windows end)) end item))) [
+    elim item.late as (λ b. IsLawful item.stamp item.late MayHave (cond b (unchanged (states.Count (one_more late) windows)) (outcome_with_timer (states.Count late (counted windows end)) end item))) [
       | true ↦ unchanged-lawful MayHave item.stamp item.late _ (may _ _) (λ short. (omega arith, within.1))
-      | false ↦ with_timer-lawful MayHave _ _ item (may _ _) (λ short. (within.0, AreWindows-counted windows end within.1 (omega arith) short)) (window_end-after size item.stamp one in_time) (omega arith)
+      | false ↦ outcome_with_timer-lawful MayHave _ _ item (may _ _) (λ short. (within.0, AreWindows-counted windows end within.1 (omega arith) short)) (window_end-after size item.stamp one in_time) (omega arith)
     ]
 
 -- a window that closes, at the timer's time
 count_timer-lawful : (MayHave : State → Type 0) (key : List ℕ) (late : ℕ) (windows : List Window) (timer : Timer) (due : Option Window) → IfSome due (λ w. w.end ≡ timer.time) → ((l : ℕ) (ws : List Window) → MayHave (states.Count l ws)) → IsWithin (states.Count late windows) → timer.time ≤ MAX_STAMP → IsLawful timer.time timer.late MayHave (count_timer key late windows due)
 count_timer-lawful MayHave key late windows timer None at may within in_time = unchanged-lawful MayHave timer.time timer.late _ (may _ _) (λ short. within)
 count_timer-lawful MayHave key late windows timer (Some due) at may within in_time =
-    with_record-lawful MayHave timer.time timer.late _ key due.end (pos due.count) (may _ _) (λ short. (within.0, AreWindows-others windows due.end within.1)) (omega (arith, at)) (omega (arith, at))
+    outcome_with_record-lawful MayHave timer.time timer.late _ key due.end (pos due.count) (may _ _) (λ short. (within.0, AreWindows-others windows due.end within.1)) (omega (arith, at)) (omega (arith, at))
 
 -- the window that is due ends at the timer's time
 window_due-end : (windows : List Window) (timer : Timer) → IfSome (window_due windows timer) (λ w. w.end ≡ timer.time)
@@ -101,9 +101,9 @@ window_due-end windows timer =
 spike_record-lawful : (MayHave : State → Type 0) (late : ℕ) (held : List HeldTotal) (known : List ℤ) (item : Record) → ((l : ℕ) (hs : List HeldTotal) (ks : List ℤ) → MayHave (states.Spike l hs ks)) → IsWithin (states.Spike late held known) → item.stamp ≤ MAX_STAMP → IsLawful item.stamp item.late MayHave (spike_record late held known item)
 spike_record-lawful MayHave late held known item may within in_time =
     let all = held_with held item.stamp item.value in
-    elim item.late as (λ b. IsLawful item.stamp item.late MayHave (cond b (unchanged (states.Spike (one_more late) held known)) (with_timer (states.Spike late all known) (due_time item.stamp) item))) [
+    elim item.late as (λ b. IsLawful item.stamp item.late MayHave (cond b (unchanged (states.Spike (one_more late) held known)) (outcome_with_timer (states.Spike late all known) (due_time item.stamp) item))) [
       | true ↦ unchanged-lawful MayHave item.stamp item.late _ (may _ _ _) (λ short. (omega arith, within.1, within.2))
-      | false ↦ with_timer-lawful MayHave _ _ item (may _ _ _) (λ short. (within.0, AreHeld-held_with held item.stamp item.value within.1 in_time short, within.2)) (omega arith) (omega arith)
+      | false ↦ outcome_with_timer-lawful MayHave _ _ item (may _ _ _) (λ short. (within.0, AreHeld-held_with held item.stamp item.value within.1 in_time short, within.2)) (omega arith) (omega arith)
     ]
 
 -- a total that is due, at the timer's time
@@ -113,8 +113,8 @@ spike_timer-lawful MayHave last times key late held known timer (Some due) few a
     let rest = filter (λ h. not (h.stamp == due.stamp)) held in
     let state = states.Spike late rest (known_with last known due.value) in
     let kept : IsWithin state = (within.0, AreHeld-others held due.stamp within.1, omega (arith, length-known_with last known due.value)) in
-    elim (is_spike last times known due.value) as (λ b. IsLawful timer.time timer.late MayHave (cond b (with_record state key (due_time due.stamp) due.value) (unchanged state))) [
-      | true ↦ with_record-lawful MayHave timer.time timer.late _ key (due_time due.stamp) due.value (may _ _ _) (λ short. kept) (omega (arith, at)) (omega (arith, at))
+    elim (is_spike last times known due.value) as (λ b. IsLawful timer.time timer.late MayHave (cond b (outcome_with_record state key (due_time due.stamp) due.value) (unchanged state))) [
+      | true ↦ outcome_with_record-lawful MayHave timer.time timer.late _ key (due_time due.stamp) due.value (may _ _ _) (λ short. kept) (omega (arith, at)) (omega (arith, at))
       | false ↦ unchanged-lawful MayHave timer.time timer.late _ (may _ _ _) (λ short. kept)
     ]
 
@@ -129,7 +129,7 @@ total_due-time held timer =
 -- a record that is passed on
 pass_record-lawful : (MayHave : State → Type 0) (late : ℕ) (item : Record) → ((l : ℕ) → MayHave (states.Pass l)) → IsWithin (states.Pass late) → item.stamp ≤ MAX_STAMP → IsLawful item.stamp item.late MayHave (pass_record late item)
 pass_record-lawful MayHave late item may within in_time =
-    with_record-lawful MayHave item.stamp item.late _ item.key item.stamp item.value (may _) (λ short. still_late) (omega arith) in_time
+    outcome_with_record-lawful MayHave item.stamp item.late _ item.key item.stamp item.value (may _) (λ short. still_late) (omega arith) in_time
   where
     still_late : cond item.late (one_more late) late ≤ MAX_STAMP
     still_late = elim item.late as (λ b. cond b (one_more late) late ≤ MAX_STAMP) [ true ↦ omega arith | false ↦ within ]
@@ -183,7 +183,7 @@ spike_timer-timers : (last times : ℕ) (key : List ℕ) (late : ℕ) (held : Li
 spike_timer-timers last times key late held known None = refl
 spike_timer-timers last times key late held known (Some due) =
     let state = states.Spike late (filter (λ h. not (h.stamp == due.stamp)) held) (known_with last known due.value) in
-    elim (is_spike last times known due.value) as (λ b. (cond b (with_record state key (due_time due.stamp) due.value) (unchanged state)).timers ≡ []) [ true ↦ refl | false ↦ refl ]
+    elim (is_spike last times known due.value) as (λ b. (cond b (outcome_with_record state key (due_time due.stamp) due.value) (unchanged state)).timers ≡ []) [ true ↦ refl | false ↦ refl ]
 
 -- no kind sets a timer at a timer
 kind_timer-timers : (kind : Kind) (key : List ℕ) (state : State) (timer : Timer) → (effects_of_timer kind key state timer).timers ≡ []

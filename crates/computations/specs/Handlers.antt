@@ -1,6 +1,9 @@
 -- What the handlers of each kind leave of a record or a timer, by the row's key and its state.
 -- Akidau et al., VLDB 2013, section 4.1, has such handlers of a computation; what each kind does is our own.
--- A handler's timers are as late as its cause, and have the tag 0.
+-- A count counts each key's records in windows, and produces a window's count when the window's timer fires.
+-- A spike holds each total until its timer fires, and produces it where it is far above those before it.
+-- A pass produces each record again. A late record brings no window and no total; it is only counted as late.
+-- A timer that a record sets has the tag 0, and is late where the record is.
 use Rattle.std.specs.Prelude.{ℕ, ◌+◌, ◌-◌, ◌%◌, min, Bool, not, ◌==◌, ◌&&◌, if◌then◌else◌, List, [], ◌∷◌, ◌++◌, length, drop, filter, find, fold, Option, None, Some, ℤ, pos, ◌+ℤ◌, ◌*ℤ◌, int_lt, ⊤}
 use Rattle.std.specs.Int.{int_max}
 use Rattle.std.specs.Ordering.{nat_cmp, match_ordering}
@@ -15,7 +18,7 @@ use Rattle.mw_types.specs.declared.record.Record.{Record}
 use Rattle.mw_types.specs.declared.timer.Timer.{Timer}
 use Rattle.mw_types.specs.Outcomes.{Outcome}
 
--- a row's first state: no late record, and nothing open, held or known
+-- the state with which a row begins: no late record, no open window, no held total and no known one
 abbrev pub fresh_state : Kind → State
 fresh_state (kinds.Count size) = states.Count 0 []
 fresh_state (kinds.Spike last times) = states.Spike 0 [] []
@@ -28,29 +31,30 @@ IsOfKind (kinds.Spike last times) (states.Spike late held known) = ⊤
 IsOfKind kinds.Pass (states.Pass late) = ⊤
 IsOfKind _ _ = ⊥
 
--- a count with one more, which stands still at the greatest timestamp
+-- a number of records after one more; it goes no further than the greatest timestamp, which is 2^63 - 1
 abbrev pub one_more : ℕ → ℕ
 one_more count = min (count + 1) MAX_STAMP
 
--- the state stays, and no timer and no record comes of it
+-- the outcome with this state, and with no timer and no production
 abbrev pub unchanged : State → Outcome
 unchanged state = record { state = state; timers = []; productions = [] }
 
--- the state and one timer, set by a record
-abbrev pub with_timer : State → ℕ → Record → Outcome
-with_timer state time item =
+-- the outcome with this state and with one timer, which is due at this time and late where the record is
+abbrev pub outcome_with_timer : State → ℕ → Record → Outcome
+outcome_with_timer state time item =
     record { state = state; timers = record { tag = 0; time = time; late = item.late } ∷ []; productions = [] }
 
--- the state and one record
-abbrev pub with_record : State → List ℕ → ℕ → ℤ → Outcome
-with_record state key stamp value =
+-- the outcome with this state and with one production
+abbrev pub outcome_with_record : State → List ℕ → ℕ → ℤ → Outcome
+outcome_with_record state key stamp value =
     record { state = state; timers = []; productions = record { key = key; stamp = stamp; value = value } ∷ [] }
 
--- where the window of a timestamp ends: the next multiple of its size, or the greatest timestamp
+-- where the window of a timestamp ends: at the next multiple of its size, or at the greatest timestamp if that is less
 abbrev pub window_end : ℕ → ℕ → ℕ
 window_end size stamp = min (stamp - stamp % size + size) MAX_STAMP
 
--- a list that ascends by a number, with this element at its place; one that has the place already is changed instead
+-- a list that ascends by a number, with this element put in where its number belongs;
+-- where an element with this number is there already, that one is changed instead
 abbrev pub entered : {X : Type 0} → (X → ℕ) → X → (X → X) → List X → List X
 entered number x change [] = x ∷ []
 entered number x change (y ∷ ys) = match_ordering (nat_cmp (number x) (number y))
@@ -58,28 +62,28 @@ entered number x change (y ∷ ys) = match_ordering (nat_cmp (number x) (number 
     (change y ∷ ys)
     (y ∷ entered number x change ys)
 
--- the windows with one more record in the one that ends there; a new window begins with 1
+-- the windows with one more record in the one that ends there; where none ends there, one with 1 record is new
 abbrev pub counted : List Window → ℕ → List Window
 counted windows end =
     entered (λ w. w.end) (record { end = end; count = 1 }) (λ w. record w { count = one_more w.count }) windows
 
--- a count takes a record that is not late into its window, and sets the window's timer
+-- a count takes a record into its window, and sets a timer for the window's end; a late record only counts as late
 abbrev pub count_record : ℕ → ℕ → List Window → Record → Outcome
 count_record size late windows item = if item.late
     then unchanged (states.Count (one_more late) windows)
-    else let end = window_end size item.stamp in with_timer (states.Count late (counted windows end)) end item
+    else let end = window_end size item.stamp in outcome_with_timer (states.Count late (counted windows end)) end item
 
 -- the open window that ends at the timer's time, where the timer has the tag 0
 abbrev pub window_due : List Window → Timer → Option Window
 window_due windows timer = if timer.tag == 0 then find (λ w. w.end == timer.time) windows else None
 
--- a window that is due goes, and its count is produced under the row's key; else nothing changes
+-- a window that is due is closed, and its count is produced under the row's key; where none is due, nothing changes
 abbrev pub count_timer : List ℕ → ℕ → List Window → Option Window → Outcome
 count_timer key late windows None = unchanged (states.Count late windows)
 count_timer key late windows (Some due) =
-    with_record (states.Count late (filter (λ w. not (w.end == due.end)) windows)) key due.end (pos due.count)
+    outcome_with_record (states.Count late (filter (λ w. not (w.end == due.end)) windows)) key due.end (pos due.count)
 
--- when the total of a timestamp is due: just after it, or at the greatest timestamp
+-- when the total of a timestamp is due: one microsecond after it, or at the greatest timestamp if that is less
 abbrev pub due_time : ℕ → ℕ
 due_time stamp = min (stamp + 1) MAX_STAMP
 
@@ -88,37 +92,39 @@ abbrev pub held_with : List HeldTotal → ℕ → ℤ → List HeldTotal
 held_with held stamp value =
     entered (λ h. h.stamp) (record { stamp = stamp; value = value }) (λ h. record h { value = int_max h.value value }) held
 
--- a spike holds a record that is not late, and sets the timer of its total
+-- a spike holds a record's value as a total, and sets a timer for when it is due; a late record only counts as late
 abbrev pub spike_record : ℕ → List HeldTotal → List ℤ → Record → Outcome
 spike_record late held known item = if item.late
     then unchanged (states.Spike (one_more late) held known)
-    else with_timer (states.Spike late (held_with held item.stamp item.value) known) (due_time item.stamp) item
+    else outcome_with_timer (states.Spike late (held_with held item.stamp item.value) known) (due_time item.stamp) item
 
 -- the first held total that is due at the timer's time, where the timer has the tag 0
 abbrev pub total_due : List HeldTotal → Timer → Option HeldTotal
 total_due held timer = if timer.tag == 0 then find (λ h. due_time h.stamp == timer.time) held else None
 
--- as many totals are known as are compared, and the value is above so many times their mean
+-- a value is a spike where the last so many totals are known and it is above so many times their mean:
+-- the factor times their sum is below the value times their number
 abbrev pub is_spike : ℕ → ℕ → List ℤ → ℤ → Bool
 is_spike last times known value = (length known == last)
     && int_lt (pos times *ℤ fold (λ sum x. sum +ℤ x) (pos 0) known) (value *ℤ pos last)
 
--- the last so many of the known totals and this one after them
+-- the known totals with this one after them, and of these only the last so many
 abbrev pub known_with : ℕ → List ℤ → ℤ → List ℤ
 known_with last known value = let all = known ++ value ∷ [] in drop (length all - last) all
 
--- a total that is due goes to the known ones, and a spike is produced under the row's key; else nothing changes
+-- a total that is due is no longer held but known, and is produced under the row's key where it is a spike;
+-- where none is due, nothing changes
 abbrev pub spike_timer : ℕ → ℕ → List ℕ → ℕ → List HeldTotal → List ℤ → Option HeldTotal → Outcome
 spike_timer last times key late held known None = unchanged (states.Spike late held known)
 spike_timer last times key late held known (Some due) =
     let rest = filter (λ h. not (h.stamp == due.stamp)) held in
     let state = states.Spike late rest (known_with last known due.value) in
-    if is_spike last times known due.value then with_record state key (due_time due.stamp) due.value else unchanged state
+    if is_spike last times known due.value then outcome_with_record state key (due_time due.stamp) due.value else unchanged state
 
 -- a pass produces each record again, under the record's own key, and counts the late ones
 abbrev pub pass_record : ℕ → Record → Outcome
 pass_record late item =
-    with_record (states.Pass (if item.late then one_more late else late)) item.key item.stamp item.value
+    outcome_with_record (states.Pass (if item.late then one_more late else late)) item.key item.stamp item.value
 
 -- what a part of this kind leaves of a record, by its row's key and state
 abbrev pub effects_of_record : Kind → List ℕ → State → Record → Outcome

@@ -37,8 +37,8 @@ pub trait Computation {
         requires computation { has self.now part context.old.state }
         requires within { IsWithin context.old.state }
         requires in_time { item.now.stamp ≤ MAX_STAMP }
-        ensures effects { let o = gives_record self.now part context.old.key context.old.state item.now in
-            OnOk result (context.new ≡ ended_with context.old o) }
+        ensures effects { OnOk result (context.new ≡ ended_with context.old
+            (gives_record self.now part context.old.key context.old.state item.now)) }
         ensures within { OnOk result (IsWithin context.new.state) };
 
     /// Handles a timer in a context that was made for it; after an `Err` the context is given up.
@@ -53,8 +53,8 @@ pub trait Computation {
         requires computation { has self.now part context.old.state }
         requires within { IsWithin context.old.state }
         requires in_time { timer.now.time ≤ MAX_STAMP }
-        ensures effects { let o = gives_timer self.now part context.old.key context.old.state timer.now in
-            OnOk result (context.new ≡ ended_with context.old o) }
+        ensures effects { OnOk result (context.new ≡ ended_with context.old
+            (gives_timer self.now part context.old.key context.old.state timer.now)) }
         ensures within { OnOk result (IsWithin context.new.state) };
 
     /// Of a record comes nothing earlier, and at most eight timers and eight productions.

@@ -133,7 +133,8 @@ impl Context {
         requires in_time { stamp ≤ MAX_STAMP }
         requires room { length self.old.productions < 8 }
         ensures produced { OnOk result (self.new ≡ record self.old {
-          productions = self.old.productions ++ record { key = key.now; stamp = stamp; value = value } ∷ [];
+          productions = self.old.productions
+              ++ record { key = key.now; stamp = stamp; value = value } ∷ [];
         }) }
         ensures unchanged { OnErr result (self.new ≡ self.old) }
     {

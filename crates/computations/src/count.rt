@@ -22,7 +22,8 @@ pub(crate) fn on_record(context: &mut Context, size: u64, item: &Record) -> Resu
     requires size { (1 ≤ size) × (size ≤ 2 ^ 40) }
     requires within { IsWithin context.old.state }
     requires in_time { item.now.stamp ≤ MAX_STAMP }
-    ensures effects { let o = effects_of_record (kinds.Count size) context.old.key context.old.state item.now in
+    ensures effects { let kind = kinds.Count size in
+        let o = effects_of_record kind context.old.key context.old.state item.now in
         OnOk result (context.new ≡ ended_with context.old o) }
     ensures within { OnOk result (IsWithin context.new.state) }
 {

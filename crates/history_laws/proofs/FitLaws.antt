@@ -19,7 +19,7 @@ use Rattle.mw_types.specs.declared.entry.Entry.TheVariants.{Claim, Inject, Handl
 use Rattle.mw_types.specs.Outcomes.{Outcome}
 use Rattle.topology.specs.declared.subscription.Subscription.{Subscription}
 use Rattle.topology.specs.Shapes.{Shape, injectors_of, parts_of, kind_of}
-use Rattle.computations.specs.Handlers.{IsOfKind, fresh_state, unchanged, with_timer, with_record, one_more, window_end, counted, window_due, count_timer, due_time, held_with, total_due, is_spike, known_with, spike_timer, effects_of_record, effects_of_timer}
+use Rattle.computations.specs.Handlers.{IsOfKind, fresh_state, unchanged, outcome_with_timer, outcome_with_record, one_more, window_end, counted, window_due, count_timer, due_time, held_with, total_due, is_spike, known_with, spike_timer, effects_of_record, effects_of_timer}
 use Rattle.row_parts.specs.Contents.{Contents, same_id}
 use Rattle.run_history.specs.Cases.{CaseShape, is_injector, fresh_of}
 use Rattle.run_history.specs.Made.{row_written, late_cause, productions_of, deliveries_of, deliveries_made}
@@ -48,14 +48,14 @@ spike_timer-kind : (last times : ℕ) (key : List ℕ) (late : ℕ) (held : List
 spike_timer-kind last times key late held known None = tt
 spike_timer-kind last times key late held known (Some due) =
     let state = states.Spike late (filter (λ h. not (h.stamp == due.stamp)) held) (known_with last known due.value) in
-    elim (is_spike last times known due.value) as (λ b. IsOfKind (kinds.Spike last times) (cond b (with_record state key (due_time due.stamp) due.value) (unchanged state)).state) [ true ↦ tt | false ↦ tt ]
+    elim (is_spike last times known due.value) as (λ b. IsOfKind (kinds.Spike last times) (cond b (outcome_with_record state key (due_time due.stamp) due.value) (unchanged state)).state) [ true ↦ tt | false ↦ tt ]
 
 -- a record keeps the kind
 record-kind : (kind : Kind) (key : List ℕ) (state : State) (item : Record) → IsOfKind kind state → IsOfKind kind (effects_of_record kind key state item).state
 record-kind (kinds.Count size) key (states.Count late windows) item of =
-    elim item.late as (λ b. IsOfKind (kinds.Count size) (cond b (unchanged (states.Count (one_more late) windows)) (with_timer (states.Count late (counted windows (window_end size item.stamp))) (window_end size item.stamp) item)).state) [ true ↦ tt | false ↦ tt ]
+    elim item.late as (λ b. IsOfKind (kinds.Count size) (cond b (unchanged (states.Count (one_more late) windows)) (outcome_with_timer (states.Count late (counted windows (window_end size item.stamp))) (window_end size item.stamp) item)).state) [ true ↦ tt | false ↦ tt ]
 record-kind (kinds.Spike last times) key (states.Spike late held known) item of =
-    elim item.late as (λ b. IsOfKind (kinds.Spike last times) (cond b (unchanged (states.Spike (one_more late) held known)) (with_timer (states.Spike late (held_with held item.stamp item.value) known) (due_time item.stamp) item)).state) [ true ↦ tt | false ↦ tt ]
+    elim item.late as (λ b. IsOfKind (kinds.Spike last times) (cond b (unchanged (states.Spike (one_more late) held known)) (outcome_with_timer (states.Spike late (held_with held item.stamp item.value) known) (due_time item.stamp) item)).state) [ true ↦ tt | false ↦ tt ]
 record-kind kinds.Pass key (states.Pass late) item of = tt
 record-kind (kinds.Count size) key (states.Injector cursor) item of = absurd of
 record-kind (kinds.Count size) key (states.Spike late held known) item of = absurd of

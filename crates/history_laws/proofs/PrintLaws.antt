@@ -17,7 +17,7 @@ use Rattle.mw_types.specs.declared.entry.Entry.{Entry}
 use Rattle.mw_types.specs.declared.entry.Entry.TheVariants.{Claim, Inject, Handle, Fire, Ack, Purge}
 use Rattle.mw_types.specs.Outcomes.{Outcome}
 use Rattle.topology.specs.Shapes.{parts_of, injectors_of, kind_of}
-use Rattle.computations.specs.Handlers.{unchanged, with_timer, with_record, one_more, window_end, counted, window_due, count_timer, due_time, held_with, total_due, is_spike, known_with, spike_timer, effects_of_record, effects_of_timer}
+use Rattle.computations.specs.Handlers.{unchanged, outcome_with_timer, outcome_with_record, one_more, window_end, counted, window_due, count_timer, due_time, held_with, total_due, is_spike, known_with, spike_timer, effects_of_record, effects_of_timer}
 use Rattle.row_parts.specs.Contents.{Contents, fresh}
 use Rattle.run_history.specs.Cases.{CaseShape, fresh_of}
 use Rattle.run_history.specs.Made.{found_delivery, productions_of}
@@ -41,7 +41,7 @@ spike_timer-few : (last times : ℕ) (key : List ℕ) (late : ℕ) (held : List 
 spike_timer-few last times key late held known None = omega arith
 spike_timer-few last times key late held known (Some due) =
     let state = states.Spike late (filter (λ h. not (h.stamp == due.stamp)) held) (known_with last known due.value) in
-    elim (is_spike last times known due.value) as (λ b. length (cond b (with_record state key (due_time due.stamp) due.value) (unchanged state)).productions ≤ 8) [ true ↦ omega arith | false ↦ omega arith ]
+    elim (is_spike last times known due.value) as (λ b. length (cond b (outcome_with_record state key (due_time due.stamp) due.value) (unchanged state)).productions ≤ 8) [ true ↦ omega arith | false ↦ omega arith ]
 
 -- a timer produces one record at most
 timer-few : (kind : Kind) (key : List ℕ) (state : State) (timer : Timer) → length (effects_of_timer kind key state timer).productions ≤ 8
@@ -58,9 +58,9 @@ timer-few (kinds.Spike last times) key (states.Pass late) timer = omega arith
 -- a record produces one record at most
 record-few : (kind : Kind) (key : List ℕ) (state : State) (item : Record) → length (effects_of_record kind key state item).productions ≤ 8
 record-few (kinds.Count size) key (states.Count late windows) item =
-    elim item.late as (λ b. length (cond b (unchanged (states.Count (one_more late) windows)) (with_timer (states.Count late (counted windows (window_end size item.stamp))) (window_end size item.stamp) item)).productions ≤ 8) [ true ↦ omega arith | false ↦ omega arith ]
+    elim item.late as (λ b. length (cond b (unchanged (states.Count (one_more late) windows)) (outcome_with_timer (states.Count late (counted windows (window_end size item.stamp))) (window_end size item.stamp) item)).productions ≤ 8) [ true ↦ omega arith | false ↦ omega arith ]
 record-few (kinds.Spike last times) key (states.Spike late held known) item =
-    elim item.late as (λ b. length (cond b (unchanged (states.Spike (one_more late) held known)) (with_timer (states.Spike late (held_with held item.stamp item.value) known) (due_time item.stamp) item)).productions ≤ 8) [ true ↦ omega arith | false ↦ omega arith ]
+    elim item.late as (λ b. length (cond b (unchanged (states.Spike (one_more late) held known)) (outcome_with_timer (states.Spike late (held_with held item.stamp item.value) known) (due_time item.stamp) item)).productions ≤ 8) [ true ↦ omega arith | false ↦ omega arith ]
 record-few kinds.Pass key (states.Pass late) item = omega arith
 record-few (kinds.Count size) key (states.Injector cursor) item = omega arith
 record-few (kinds.Count size) key (states.Spike late held known) item = omega arith

@@ -23,7 +23,7 @@ use Rattle.mw_types.specs.declared.entry.Entry.TheVariants.{Claim, Inject, Handl
 use Rattle.mw_types.specs.Bounds.{IsWithin}
 use Rattle.mw_types.specs.Outcomes.{Outcome, IsOutcome}
 use Rattle.topology.specs.Shapes.{Shape, ComputationShape, injectors_of, kind_of}
-use Rattle.computations.specs.Handlers.{fresh_state, unchanged, with_timer, with_record, one_more, window_end, entered, counted, window_due, count_timer, due_time, held_with, total_due, is_spike, known_with, spike_timer, effects_of_record, effects_of_timer}
+use Rattle.computations.specs.Handlers.{fresh_state, unchanged, outcome_with_timer, outcome_with_record, one_more, window_end, entered, counted, window_due, count_timer, due_time, held_with, total_due, is_spike, known_with, spike_timer, effects_of_record, effects_of_timer}
 use Rattle.computations.specs.Laws.{IsShort}
 use Rattle.computations.specs.Parts.{Parts, kind_at, HasState, part_record, part_timer}
 use Rattle.computations.specs.HandlerLaws.{part_record-lawful, part_timer-lawful}
@@ -69,12 +69,12 @@ length-left test (x ∷ xs) = elim (test x) as (λ b. length (cond b (x ∷ filt
 -- a record adds at most one element to a state
 record-size : (kind : Kind) (key : List ℕ) (state : State) (item : Record) → size_of (effects_of_record kind key state item).state ≤ size_of state + 1
 record-size (kinds.Count size) key (states.Count late windows) item =
-    elim item.late as (λ b. size_of (cond b (unchanged (states.Count (one_more late) windows)) (with_timer (states.Count late (counted windows (window_end size item.stamp))) (window_end size item.stamp) item)).state ≤ length windows + 1) [
+    elim item.late as (λ b. size_of (cond b (unchanged (states.Count (one_more late) windows)) (outcome_with_timer (states.Count late (counted windows (window_end size item.stamp))) (window_end size item.stamp) item)).state ≤ length windows + 1) [
       | true ↦ omega arith
       | false ↦ length-entered (λ (w : Window). w.end) (record { end = window_end size item.stamp; count = 1 }) (λ (w : Window). record w { count = one_more w.count }) windows
     ]
 record-size (kinds.Spike last times) key (states.Spike late held known) item =
-    elim item.late as (λ b. size_of (cond b (unchanged (states.Spike (one_more late) held known)) (with_timer (states.Spike late (held_with held item.stamp item.value) known) (due_time item.stamp) item)).state ≤ length held + 1) [
+    elim item.late as (λ b. size_of (cond b (unchanged (states.Spike (one_more late) held known)) (outcome_with_timer (states.Spike late (held_with held item.stamp item.value) known) (due_time item.stamp) item)).state ≤ length held + 1) [
       | true ↦ omega arith
       | false ↦ length-entered (λ (h : HeldTotal). h.stamp) (record { stamp = item.stamp; value = item.value }) (λ (h : HeldTotal). record h { value = Rattle.std.specs.Int.int_max h.value item.value }) held
     ]
@@ -99,7 +99,7 @@ spike_timer-size : (last times : ℕ) (key : List ℕ) (late : ℕ) (held : List
 spike_timer-size last times key late held known None = omega arith
 spike_timer-size last times key late held known (Some due) =
     let state = states.Spike late (filter (λ h. not (h.stamp == due.stamp)) held) (known_with last known due.value) in
-    elim (is_spike last times known due.value) as (λ b. size_of (cond b (with_record state key (due_time due.stamp) due.value) (unchanged state)).state ≤ length held + 1) [
+    elim (is_spike last times known due.value) as (λ b. size_of (cond b (outcome_with_record state key (due_time due.stamp) due.value) (unchanged state)).state ≤ length held + 1) [
       | true ↦ omega (arith, length-left (λ (h : HeldTotal). not (h.stamp == due.stamp)) held)
       | false ↦ omega (arith, length-left (λ (h : HeldTotal). not (h.stamp == due.stamp)) held)
     ]

@@ -36,7 +36,8 @@ impl Key {
     pub fn of(alloc: Global, text: &str) -> Result<Key, KeyRefusal>
         ensures held { IfOk result (λ key. key ≡ text.now) }
         ensures within { IfOk result (λ key. (0 < length key) × (length key ≤ 256)) }
-        ensures bad_length { IsErrOf result KeyRefusal.BadLength ↔ ((length text.now ≡ 0) ⊎ (256 < length text.now)) }
+        ensures bad_length { IsErrOf result KeyRefusal.BadLength ↔
+            ((length text.now ≡ 0) ⊎ (256 < length text.now)) }
     {
         if text.is_empty() || text.len() > KEY_MAX {
             return Err(KeyRefusal::BadLength);

@@ -1,7 +1,7 @@
 //! What the handlers of each kind leave, by their definitions.
 ghost use Rattle.std.specs.Prelude.{if◌then◌else◌, ◌≡◌, ◌==◌, ◌≤◌, ◌+ℤ◌, ◌*ℤ◌, int_lt, pos, not, filter, find, fold, IfOk};
 ghost use Rattle.mw_types.specs.Kinds.{IsKind};
-ghost use Rattle.computations.specs.Handlers.{fresh_state, one_more, unchanged, with_timer, with_record, window_end, counted, count_record, window_due, count_timer, due_time, held_with, spike_record, total_due, is_spike, known_with, spike_timer, pass_record, effects_of_record, effects_of_timer};
+ghost use Rattle.computations.specs.Handlers.{fresh_state, one_more, unchanged, outcome_with_timer, outcome_with_record, window_end, counted, count_record, window_due, count_timer, due_time, held_with, spike_record, total_due, is_spike, known_with, spike_timer, pass_record, effects_of_record, effects_of_timer};
 
 use crate::lists::{before, list_of};
 use crate::outcome::Outcome;
@@ -50,7 +50,7 @@ fn unchanged(alloc: Global, state: State) -> Outcome
 
 // The state and one timer, set by a record.
 fn with_timer(alloc: Global, state: State, time: u64, item: &Record) -> Result<Outcome, NoMemory>
-    ensures { IfOk result (λ left. left ≡ with_timer state time item.now) }
+    ensures { IfOk result (λ left. left ≡ outcome_with_timer state time item.now) }
 {
     let mut timers = Seq::new(alloc);
     timers.push(Timer {
@@ -73,7 +73,7 @@ fn with_record(
     stamp: u64,
     value: i64,
 ) -> Result<Outcome, NoMemory>
-    ensures { IfOk result (λ left. left ≡ with_record state key.now stamp value) }
+    ensures { IfOk result (λ left. left ≡ outcome_with_record state key.now stamp value) }
 {
     let mut productions = Seq::new(alloc);
     productions.push(Production {
@@ -347,7 +347,8 @@ fn spiked(
     due: HeldTotal,
 ) -> Result<Outcome, NoMemory>
     ensures { IfOk result (λ left. left ≡
-        (if is_spike then with_record state key.now (due_time due.stamp) due.value else unchanged state)) }
+        (if is_spike then outcome_with_record state key.now (due_time due.stamp) due.value
+            else unchanged state)) }
 {
     if is_spike {
         with_record(alloc, state, key, due_time(due.stamp), due.value)
