@@ -5,13 +5,15 @@ use Rattle.mw_types.specs.declared.TheConstants.{MAX_STAMP}
 use Rattle.mw_types.specs.declared.state.State.{State}
 use Rattle.mw_types.specs.declared.state.State.TheVariants.{Count}
 use Rattle.mw_types.specs.declared.delivery.Delivery.{Delivery}
+use Rattle.mw_types.specs.declared.record.Record.{Record}
 use Rattle.mw_types.specs.declared.entry.Entry.{Entry}
 use Rattle.mw_types.specs.Bounds.{IsWithin}
 use Rattle.mw_types.specs.Kinds.{IsKind}
 use Rattle.mw_types.specs.Orders.{row_cmp}
-use Rattle.topology.specs.Shapes.{Shape, kind_of}
+use Rattle.topology.specs.Shapes.{Shape, kind_of, consumers_of}
 use Rattle.computations.specs.Parts.{Parts, HasState, kind_at}
 use Rattle.run_history.specs.Cases.{CaseShape}
+use Rattle.run_history.specs.Made.{deliveries_to}
 use Rattle.run_history.specs.Legal.{IsLegal}
 use Rattle.run_history.specs.Printing.{IsPrintable}
 use Rattle.plain_run.specs.declared.ledger.Ledger.{Ledger}
@@ -34,6 +36,10 @@ pub record IsKept (case : CaseShape) (history : List Entry) : Type 0 where
   pub legal : IsLegal case history
   pub plain : All IsPlainEntry history
   pub printable : IsPrintable case.topology history
+
+-- what an injected record becomes at an entry of this number: a delivery to each that reads its stream
+abbrev pub injected : Shape → ℕ → Record → List Delivery
+injected shape commit item = deliveries_to (consumers_of shape 0) commit (item ∷ [])
 
 -- at most one delivery waits, and it waits for the count
 abbrev pub AwaitsCount : Shape → List Delivery → Type 0

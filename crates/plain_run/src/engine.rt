@@ -3,15 +3,14 @@ ghost use Rattle.std.specs.Prelude.{◌≡◌, ◌+◌, ◌≤◌, ◌<◌, ◌^
 ghost use Rattle.std.specs.BTreeMap.{get, btree_map_len};
 ghost use Rattle.mw_types.specs.declared.TheConstants.{MAX_STAMP};
 ghost use Rattle.mw_types.specs.Orders.{row_cmp};
-ghost use Rattle.topology.specs.Shapes.{injectors_of, consumers_of};
+ghost use Rattle.topology.specs.Shapes.{injectors_of};
 ghost use Rattle.computations.specs.Parts.{part_record, part_timer};
 ghost use Rattle.run_history.specs.Cases.{source_of, record_of};
-ghost use Rattle.run_history.specs.Made.{deliveries_to};
 ghost use Rattle.run_history.specs.Runs.{run_of};
 ghost use Rattle.run_history.specs.Legal.{IsLegal, IsDone};
 ghost use Rattle.run_history.specs.Printing.{IsPrintable};
 ghost use Rattle.plain_run.specs.Plain.{IsPlain, IsCounted, IsPlainEntry};
-ghost use Rattle.plain_run.specs.Steps.{IsJob, IsBetween, IsKept, AwaitsCount, CanKeep, counted_state};
+ghost use Rattle.plain_run.specs.Steps.{IsJob, IsBetween, IsKept, AwaitsCount, CanKeep, counted_state, injected};
 
 use crate::ledger::{Ledger, keep_state, set_timers};
 use crate::slot::Slot;
@@ -150,7 +149,7 @@ fn record_of(alloc: Global, item: &Item) -> Result<Record, NoMemory>
 // The deliveries that an injected record becomes.
 fn sent(alloc: Global, case: &Case, item: &Record, commit: u64) -> Result<DeliveryList, NoMemory>
     requires { injectors_of case.now.topology ≡ 1 }
-    ensures { IfOk result (λ made. made ≡ deliveries_to (consumers_of case.now.topology 0) commit (item.now ∷ [])) }
+    ensures { IfOk result (λ made. made ≡ injected case.now.topology commit item.now) }
 {
     // A history that is so long that its entries have no number is not to be had.
     if commit >= 1 << 32 {
@@ -206,7 +205,8 @@ fn handle(
     requires counted { IsCounted job.now.case.now.topology }
     requires part { delivery.to.part ≡ 1 }
     requires in_time { delivery.item.stamp ≤ MAX_STAMP }
-    requires begun { IsBetween job.now.case.now job.now.work line (delivery ∷ []) history.old ledger.old }
+    requires begun { let waiting = delivery ∷ [] in
+        IsBetween job.now.case.now job.now.work line waiting history.old ledger.old }
 
     ensures kept { IsKept job.now.case.now history.new }
     ensures ended { OnOk result

@@ -26,7 +26,8 @@ pub(crate) fn keep_state(
     state: &State,
 ) -> Result<(), NoMemory>
     ensures { OnOk result ((q : RowName) →
-        get row_cmp states.new q ≡ cond (is_at (row_cmp q) row.now) (Some state.now) (get row_cmp states.old q)) }
+        get row_cmp states.new q
+        ≡ cond (is_at (row_cmp q) row.now) (Some state.now) (get row_cmp states.old q)) }
 {
     let name = row.copy(alloc)?;
     let state = state.copy(alloc)?;

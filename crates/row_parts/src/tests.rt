@@ -35,25 +35,34 @@ fn least(row: &Row) -> Option<(u64, bool)> {
 
 // Compares how many timers, pending deliveries and handled ids there are.
 fn counts_are(rt: &impl Abort, row: &Row, timers: usize, pending: usize, seen: usize) {
-    assert_eq!(rt; row.timers.len(), timers);
-    assert_eq!(rt; row.pending.len(), pending);
-    assert_eq!(rt; row.seen.len(), seen);
+    assert!(rt; row.timers.len() == timers);
+    assert!(rt; row.pending.len() == pending);
+    assert!(rt; row.seen.len() == seen);
+}
+
+// Sets a timer once, and an earlier one four times.
+fn sets_two(rt: &impl Abort, row: &mut Row) {
+    assert!(rt; set(row, 30, false).is_ok());
+    for late in [true, true, false, true] {
+        assert!(rt; set(row, 20, late).is_ok());
+    }
+}
+
+// Takes both away, each once.
+fn takes_two(rt: &impl Abort, row: &mut Row) {
+    assert!(rt; take(row, 20));
+    assert!(rt; !take(row, 20));
+    assert!(rt; take(row, 30));
 }
 
 #[test]
-fn a_timer_that_is_set_again_is_late_only_where_both_are(rt: HostRuntime) -> Result<(), Fail> {
+fn a_timer_that_is_set_again_is_late_only_where_both_are(rt: HostRuntime) {
     let mut row = fresh(rt.alloc());
-    set(&mut row, 30, false)?;
-    for late in [true, true, false, true] {
-        set(&mut row, 20, late)?;
-    }
+    sets_two(&rt, &mut row);
     counts_are(&rt, &row, 2, 0, 0);
     assert!(rt; least(&row) == Some((20, false)));
-    assert!(rt; take(&mut row, 20));
-    assert!(rt; !take(&mut row, 20));
-    assert!(rt; take(&mut row, 30));
+    takes_two(&rt, &mut row);
     assert!(rt; least(&row).is_none());
-    Ok(())
 }
 
 // Notes that an entry's record was handled, where it was not.
@@ -77,25 +86,37 @@ fn is_finished(row: &Row, commit: u64, index: u32) -> bool {
     row.is_finished(RecordId { commit, index })
 }
 
-// How many ids a copy of the row has handled.
-fn copied_ids(alloc: Global, row: &Row) -> Result<usize, NoMemory> {
-    Ok(row.copy(alloc)?.seen.len())
+// Compares how many ids a copy of the row has handled.
+fn copy_has(rt: &impl Abort, alloc: Global, row: &Row, seen: usize) {
+    match row.copy(alloc) {
+        Ok(copy) => assert!(rt; copy.seen.len() == seen),
+        Err(_) => assert!(rt; false),
+    }
+}
+
+// Notes three ids, of which one is below the next floor.
+fn handles_three(rt: &impl Abort, row: &mut Row) {
+    for commit in [4, 9, 6] {
+        assert!(rt; handle(row, commit).is_ok());
+    }
+}
+
+// Looks at what is finished once the floor is 6.
+fn stays_finished(rt: &impl Abort, row: &Row) {
+    assert!(rt; row.floor == 6);
+    assert!(rt; is_finished(row, 4, 1));
+    assert!(rt; is_finished(row, 6, 1));
+    assert!(rt; !is_finished(row, 6, 2));
 }
 
 #[test]
-fn what_is_below_the_floor_stays_finished(rt: HostRuntime) -> Result<(), Fail> {
+fn what_is_below_the_floor_stays_finished(rt: HostRuntime) {
     let mut row = fresh(rt.alloc());
-    for commit in [4, 9, 6] {
-        handle(&mut row, commit)?;
-    }
-    assert_eq!(rt; copied_ids(rt.alloc(), &row)?, 3);
+    handles_three(&rt, &mut row);
+    copy_has(&rt, rt.alloc(), &row, 3);
     purge(&mut row, 6);
     counts_are(&rt, &row, 0, 0, 2);
-    assert_eq!(rt; row.floor, 6);
-    assert!(rt; is_finished(&row, 4, 1));
-    assert!(rt; is_finished(&row, 6, 1));
-    assert!(rt; !is_finished(&row, 6, 2));
-    Ok(())
+    stays_finished(&rt, &row);
 }
 
 // The id of the first record of entry 2.
@@ -125,13 +146,18 @@ fn settle(row: &mut Row) -> bool {
     row.settle(ID)
 }
 
+// Settles it once, and finds it gone.
+fn settles_once(rt: &impl Abort, row: &mut Row) {
+    assert!(rt; settle(row));
+    assert!(rt; !settle(row));
+}
+
 #[test]
 fn a_delivery_is_pending_until_it_is_settled(rt: HostRuntime) -> Result<(), Fail> {
     let mut row = fresh(rt.alloc());
     add(rt.alloc(), &mut row)?;
     counts_are(&rt, &row, 0, 1, 0);
-    assert!(rt; settle(&mut row));
-    assert!(rt; !settle(&mut row));
+    settles_once(&rt, &mut row);
     Ok(())
 }
 
@@ -139,7 +165,7 @@ fn a_delivery_is_pending_until_it_is_settled(rt: HostRuntime) -> Result<(), Fail
 fn is_spelt(rt: &impl Abort, alloc: Global, bytes: &[u8]) -> Result<(), Fail> {
     let state = read_state(alloc, bytes)?;
     let again = state_bytes(alloc, &state)?;
-    assert_eq!(rt; again.as_slice(), bytes);
+    assert!(rt; again.as_slice() == bytes);
     Ok(())
 }
 
