@@ -1,10 +1,10 @@
 -- One step of a loop over the intervals, where the invariant speaks of those that are left.
-use Rattle.std.proofs.Common.{◌≡◌, ◌∙◌, ℕ, zero, suc, ◌+◌, ◌≤◌, ◌==◌, min, Bool, true, false, cond, Some, None, slice_get, List, [], ◌∷◌, ◌++◌, drop, sym, ap, arith, append_assoc, true≢false, is_none, unwrap_or}
+use Rattle.std.proofs.Common.{◌≡◌, ◌∙◌, ℕ, zero, suc, ◌+◌, ◌≤◌, ◌==◌, min, Bool, true, false, cond, Some, None, slice_get, List, [], ◌∷◌, ◌++◌, drop, sym, ap, arith, append_assoc, true≢false, is_none, unwrap_or, map}
 use Rattle.std.specs.List.{list_any, cons_option}
 use Rattle.mw_types.specs.declared.TheConstants.{END}
 use Rattle.key_intervals.specs.declared.bounds.Bounds.{Bounds}
 use Rattle.run_history.specs.Watermarks.{least}
-use Rattle.watermark.specs.Marks.{numbers_in, marks_in}
+use Rattle.watermark.specs.Marks.{mark_of, numbers_in, marks_in}
 
 -- what is left begins with the element that comes next
 left_from : {X : Type 0} (xs : List X) (i : ℕ) (x : X) → slice_get xs i ≡ Some x → drop i xs ≡ x ∷ drop (i + 1) xs
@@ -81,5 +81,40 @@ pub so_far_no : (xs : List Bounds) (part : ℕ) (marks : List ℕ) (i : ℕ) (b 
 so_far_no xs part marks i b mark low new at read is same before = record {
   with_left = ap (λ n. min n (least (marks_in (drop (i + 1) xs) part (drop (i + 1) marks)))) same
       ∙ sym (ap (λ l. min low (least l)) (marks_step part xs marks i b mark false at read is)) ∙ before.with_left;
+  end = omega (arith, same, before.end);
+}
+
+-- a mark is with the marks of those that are left the least of the marks of the parts' intervals, and at most the end
+pub record IsSoFarAmong (parts : List ℕ) (xs : List Bounds) (marks : List ℕ) (low i : ℕ) : Type 0 where
+  pub with_left : min low (least (map (mark_of marks) (numbers_in parts i (drop i xs)))) ≡ least (map (mark_of marks) (numbers_in parts 0 xs))
+  pub end : low ≤ END
+
+-- the end is before the first interval
+pub among_none : (parts : List ℕ) (xs : List Bounds) (marks : List ℕ) → IsSoFarAmong parts xs marks END 0
+among_none parts xs marks =
+    let most = least-end (map (mark_of marks) (numbers_in parts 0 xs)) in record {
+      with_left = omega (arith, most);
+      end = omega arith;
+    }
+
+-- the mark of an interval of one of the parts counts
+pub among_yes : (parts : List ℕ) (xs : List Bounds) (marks : List ℕ) (i : ℕ) (b : Bounds) (mark low new : ℕ) → slice_get xs i ≡ Some b
+    → slice_get marks i ≡ Some mark → true ≡ list_any (λ p. p == b.part) parts → new ≡ min low mark
+    → IsSoFarAmong parts xs marks low i → IsSoFarAmong parts xs marks new (i + 1)
+among_yes parts xs marks i b mark low new at read is less before =
+    let later = least (map (mark_of marks) (numbers_in parts (i + 1) (drop (i + 1) xs))) in
+    let same : mark_of marks i ≡ mark = ap (λ o. unwrap_or o 0) read in
+    let both : min new later ≡ min low (min (mark_of marks i) later) = omega (arith, less, same) in record {
+      with_left = both ∙ sym (ap (λ l. min low (least (map (mark_of marks) l))) (numbers_step parts xs i b true at is)) ∙ before.with_left;
+      end = omega (arith, less, before.end);
+    }
+
+-- another does not
+pub among_no : (parts : List ℕ) (xs : List Bounds) (marks : List ℕ) (i : ℕ) (b : Bounds) (low new : ℕ) → slice_get xs i ≡ Some b
+    → false ≡ list_any (λ p. p == b.part) parts → new ≡ low
+    → IsSoFarAmong parts xs marks low i → IsSoFarAmong parts xs marks new (i + 1)
+among_no parts xs marks i b low new at is same before = record {
+  with_left = ap (λ n. min n (least (map (mark_of marks) (numbers_in parts (i + 1) (drop (i + 1) xs))))) same
+      ∙ sym (ap (λ l. min low (least (map (mark_of marks) l))) (numbers_step parts xs i b false at is)) ∙ before.with_left;
   end = omega (arith, same, before.end);
 }

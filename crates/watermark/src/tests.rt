@@ -2,7 +2,7 @@
 ghost use Rattle.std.specs.Prelude.{Contains, IfOk, OnOk, length, ◌≡◌};
 ghost use Rattle.topology.specs.Shapes.{injectors_of};
 
-use crate::{Oldest, feeding, low};
+use crate::{Oldest, feeding, inputs, low};
 use injector::{Items, ItemsList};
 use mw_types::{END, NoMemory, NumberList};
 use run_history::Case;
@@ -99,6 +99,16 @@ fn least_mark(case: &Case, part: u32, marks: &[u64]) -> Option<u64> {
     }
 }
 
+// The least mark of what feeds an interval that is there, where there is a mark for each interval.
+fn least_input(case: &Case, interval: u32, marks: &[u64]) -> Option<u64> {
+    let count = case.intervals().count();
+    if marks.len() == count as usize && interval < count {
+        Some(inputs(case, interval, marks))
+    } else {
+        None
+    }
+}
+
 #[test]
 fn the_intervals_of_a_count_are_fed_by_its_injector(rt: HostRuntime) -> Result<(), Fail> {
     let alloc = rt.alloc();
@@ -125,5 +135,14 @@ fn the_slowest_interval_holds_its_part(rt: HostRuntime) -> Result<(), Fail> {
     assert_eq!(rt; least_mark(&case, 0, &[9, 4, 7, 6]), Some(9));
     assert_eq!(rt; least_mark(&case, 1, &[9, 4, 7, 6]), Some(4));
     assert_eq!(rt; least_mark(&case, 1, &[0, END, END, END]), Some(END));
+    Ok(())
+}
+
+#[test]
+fn the_injector_holds_each_interval_of_its_count(rt: HostRuntime) -> Result<(), Fail> {
+    let case = case_of(rt.alloc(), CUT)?;
+    for (interval, least) in [(0, END), (1, 9), (2, 9), (3, 9)] {
+        assert_eq!(rt; least_input(&case, interval, &[9, 4, 7, 6]), Some(least));
+    }
     Ok(())
 }
