@@ -1,8 +1,10 @@
 pub mod FitLaws
 pub mod StartLaws
+pub mod MarkSteps
 pub mod Keeping
 pub mod ClaimLaws
 pub mod SeenRows
+pub mod ReportSteps
 pub mod FoundRows
 pub mod SenderMaps
 pub mod SentLaws
