@@ -5,6 +5,7 @@ pub mod ClaimLaws
 pub mod SeenRows
 pub mod FoundRows
 pub mod SenderMaps
+pub mod SenderSteps
 pub mod SentLaws
 pub mod Growing
 pub mod ProposalLaws
