@@ -1,6 +1,6 @@
 -- Claims are of intervals that are there, and marks stay safe, as a book grows.
 use Rattle.std.proofs.Common.{◌≡◌, ◌≢◌, ℕ, zero, suc, ◌+◌, ◌<◌, ◌≤◌, ◌==◌, Bool, true, false, cond, List, [], ◌∷◌, ◌++◌, length, replicate, refl, sym, ◌∙◌, ap, subst, arith, true≢false}
-use Rattle.std.specs.Prelude.{max, Option, Some, None, IfSome, get_or, slice_get, unwrap_or}
+use Rattle.std.specs.Prelude.{max, Option, Some, None, IfSome, option_map, slice_get}
 use Rattle.std.proofs.lemmas.Bool.{eqb-true, eq-eqb}
 use Rattle.std.proofs.lemmas.List.{length-set, get_or-set_same, get_or-set_other}
 use Rattle.std.proofs.lemmas.Option.{unwrap_or-slice_get}
@@ -86,6 +86,28 @@ pub AreSafe-next : (case : CaseShape) (history : List Entry) (entry : Entry) (ma
 AreSafe-next case history entry marks None runs held safe = tt
 AreSafe-next case history entry marks (Some rows) runs held safe =
     λ interval bounds at. IsSafe-stays case history (entry ∷ []) interval bounds (mark_of marks interval) runs held.legal at (safe interval bounds at)
+
+-- and so over all of a book, where the marks stay
+pub AreSafe-appended : (case : CaseShape) (old new : CoreView) (entry : Entry) → IsRunnable case → new.history ≡ old.history ++ entry ∷ [] → new.marks ≡ old.marks
+    → IfSome new.rows (IsHeld case new.history) → IfSome new.rows (λ _. AreSafe case (run_of case.topology old.history) old.marks)
+    → IfSome new.rows (λ _. AreSafe case (run_of case.topology new.history) new.marks)
+AreSafe-appended case old new entry runs appended same held safe =
+    subst (λ (l : List ℕ). IfSome new.rows (λ _. AreSafe case (run_of case.topology new.history) l)) (sym same)
+    (subst (λ (h : List Entry). IfSome new.rows (λ _. AreSafe case (run_of case.topology h) old.marks)) (sym appended)
+    (AreSafe-next case old.history entry old.marks new.rows runs (subst (λ (h : List Entry). IfSome new.rows (IsHeld case h)) appended held) safe))
+
+-- marks are safe where nothing was appended
+pub AreSafe-same : (case : CaseShape) (old new : CoreView) → new.history ≡ old.history → new.rows ≡ old.rows → new.marks ≡ old.marks
+    → IfSome old.rows (λ _. AreSafe case (run_of case.topology old.history) old.marks) → IfSome new.rows (λ _. AreSafe case (run_of case.topology new.history) new.marks)
+AreSafe-same case old new history rows same safe =
+    subst (λ (l : List ℕ). IfSome new.rows (λ _. AreSafe case (run_of case.topology new.history) l)) (sym same)
+    (subst (λ (h : List Entry). IfSome new.rows (λ _. AreSafe case (run_of case.topology h) old.marks)) (sym history)
+    (subst (λ o. IfSome o (λ _. AreSafe case (run_of case.topology old.history) old.marks)) (sym rows) safe))
+
+-- what is told of the rows, and not of which they are, is told of them as they are stored
+pub told-stored : (P : Type 0) (store : Rows → Rows) (o : Option Rows) → IfSome o (λ _. P) → IfSome (option_map store o) (λ _. P)
+told-stored P store None is = tt
+told-stored P store (Some rows) is = is
 
 -- the mark of an interval is the one that was put there
 mark-here : (marks : List ℕ) (interval mark : ℕ) → interval < length marks → mark_of (with_mark interval mark marks) interval ≡ mark
