@@ -6,6 +6,7 @@ pub mod SeenRows
 pub mod FoundRows
 pub mod SenderMaps
 pub mod SenderSteps
+pub mod SenderFloors
 pub mod SentLaws
 pub mod Growing
 pub mod ProposalLaws
