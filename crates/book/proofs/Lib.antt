@@ -8,6 +8,7 @@ pub mod ReportSteps
 pub mod FoundRows
 pub mod SenderMaps
 pub mod SenderSteps
+pub mod SenderFloors
 pub mod SentLaws
 pub mod Growing
 pub mod ProposalLaws
