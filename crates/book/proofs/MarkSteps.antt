@@ -1,5 +1,5 @@
 -- Claims are of intervals that are there, and marks stay safe, as a book grows.
-use Rattle.std.proofs.Common.{◌≡◌, ◌≢◌, ℕ, zero, suc, ◌+◌, ◌<◌, ◌≤◌, ◌==◌, Bool, true, false, cond, List, [], ◌∷◌, ◌++◌, length, replicate, refl, sym, ◌∙◌, ap, subst, arith, true≢false}
+use Rattle.std.proofs.Common.{◌≡◌, ◌≢◌, ℕ, ◌<◌, ◌==◌, Bool, true, false, cond, List, [], ◌∷◌, ◌++◌, length, refl, sym, ◌∙◌, ap, subst, arith, true≢false}
 use Rattle.std.specs.Prelude.{max, Option, Some, None, IfSome, option_map, slice_get}
 use Rattle.std.proofs.lemmas.Bool.{eqb-true, eq-eqb}
 use Rattle.std.proofs.lemmas.List.{length-set, get_or-set_same, get_or-set_other}
@@ -7,7 +7,6 @@ use Rattle.std.proofs.lemmas.Option.{unwrap_or-slice_get}
 use Rattle.mw_types.specs.declared.identity.RowName.{RowName}
 use Rattle.mw_types.specs.declared.entry.Entry.{Entry}
 use Rattle.mw_types.specs.declared.entry.Entry.TheVariants.{Claim, Inject, Handle, Fire, Ack, Purge}
-use Rattle.key_intervals.specs.declared.bounds.Bounds.{Bounds}
 use Rattle.topology.specs.Shapes.{Shape}
 use Rattle.row_keeper.specs.Rows.{Rows}
 use Rattle.run_history.specs.Cases.{CaseShape, intervals_of}
@@ -21,17 +20,13 @@ use Rattle.history_laws.specs.Marks.{IsSafe}
 use Rattle.history_laws.proofs.Lists.{none_some}
 use Rattle.history_laws.proofs.FenceLaws.{last_claim-push}
 use Rattle.history_laws.proofs.MarkLaws.{IsSafe-stays}
-use Rattle.history_laws.proofs.ReportLaws.{IsSafe-zero, IsSafe-greater}
+use Rattle.history_laws.proofs.ReportLaws.{IsSafe-greater}
 use Rattle.watermark.specs.Marks.{mark_of}
 use Rattle.book.specs.Books.{CoreView}
 use Rattle.book.specs.Lawful.{AreClaimsThere, IsHeld, IsLawful}
 use Rattle.book.specs.Marks.{IsSafeAt, AreSafe, with_mark}
 
 -- ---- claims
-
--- nothing is claimed at first
-pub claims-none : (shape : Shape) → AreClaimsThere shape []
-claims-none shape interval seq last = absurd (none_some seq last)
 
 -- the last claim of an interval, after an entry that is no claim of it, or a claim of one that is there
 claims-by : (shape : Shape) (history : List Entry) (entry : Entry) (interval seq : ℕ) (test : Bool) → (test ≡ true → interval < length (intervals_of shape))
@@ -67,17 +62,6 @@ claims-claim case history worker interval may there other seq last =
     there (sym (last_claim-push other history (Claim worker interval)) ∙ last)
 
 -- ---- marks
-
--- the mark of an interval, among marks that are all 0
-zero-mark : (n interval : ℕ) → mark_of (replicate n 0) interval ≡ 0
-zero-mark zero interval = refl
-zero-mark (suc n) zero = refl
-zero-mark (suc n) (suc interval) = zero-mark n interval
-
--- marks that are all 0 are safe
-pub AreSafe-zero : (case : CaseShape) (run : Run) (n : ℕ) → AreSafe case run (replicate n 0)
-AreSafe-zero case run n interval bounds at = let zeros = zero-mark n interval in
-    subst (IsSafe case run bounds) (sym zeros) (IsSafe-zero case run bounds)
 
 -- marks that are safe after a legal history are so after one more entry, where the keeper tells
 pub AreSafe-next : (case : CaseShape) (history : List Entry) (entry : Entry) (marks : List ℕ) (told : Option Rows) → IsRunnable case
