@@ -5,6 +5,7 @@ pub mod ClaimLaws
 pub mod SeenRows
 pub mod FoundRows
 pub mod SenderMaps
+pub mod SentCounts
 pub mod SenderSteps
 pub mod SenderFloors
 pub mod SentLaws
