@@ -1,12 +1,11 @@
 -- The least id that is known of a sender is the least that is pending, and its number is the floor.
-use Rattle.std.proofs.Common.{◌≡◌, ℕ, ◌+◌, ◌<◌, ◌≤◌, true, false, cond, List, [], ◌∷◌, length, map, fold, refl, sym, ◌∙◌, ap, subst, arith, inl, inr}
+use Rattle.std.proofs.Common.{◌≡◌, ◌<◌, ◌≤◌, true, false, cond, List, [], ◌∷◌, length, map, fold, refl, sym, ◌∙◌, ap, subst, arith, inl, inr}
 use Rattle.std.specs.Prelude.{◌↔◌, ◌⊎◌, min, Option, Some, None, IfSome, unwrap_or}
 use Rattle.std.specs.Option.{is_some}
-use Rattle.std.specs.List.{AllByRecursion, flat_map}
+use Rattle.std.specs.List.{AllByRecursion}
 use Rattle.std.specs.BTreeMap.{is_at}
-use Rattle.std.specs.Map.{lookup}
 use Rattle.std.specs.Cmp.{nat_cmp_is, tied_itself}
-use Rattle.std.specs.Ordering.{nat_cmp, ordering_then, is_gt, is_eq}
+use Rattle.std.specs.Ordering.{is_gt, is_eq}
 use Rattle.std.specs.declared.cmp.Ordering.TheVariants.{Greater}
 use Rattle.std.proofs.lemmas.Bool.{cases_lt}
 use Rattle.mw_types.specs.declared.identity.RecordId.{RecordId}

@@ -1,13 +1,11 @@
 -- What is known of senders, as ids are noted, forgotten and settled one after another.
-use Rattle.std.proofs.Common.{◌≡◌, ℕ, ◌+◌, ◌<◌, ◌≤◌, ◌==◌, ◌&&◌, nat_lt, Bool, true, false, cond, List, Option, Some, None, refl, sym, ◌∙◌, ap, subst, arith, inl, inr}
+use Rattle.std.proofs.Common.{◌≡◌, ℕ, ◌+◌, ◌<◌, ◌≤◌, ◌==◌, ◌&&◌, nat_lt, Bool, true, false, cond, List, Some, None, refl, sym, ◌∙◌, ap, subst, arith, inl, inr}
 use Rattle.std.specs.Prelude.{◌||◌, ◌⊎◌}
-use Rattle.std.specs.Ordering.{nat_cmp, is_eq, ordering_then}
+use Rattle.std.specs.Ordering.{nat_cmp, is_eq}
 use Rattle.std.specs.BTreeMap.{insert_entry, is_at}
-use Rattle.std.specs.declared.cmp.Ordering.{Ordering}
-use Rattle.std.specs.declared.cmp.Ordering.TheVariants.{Less, Equal, Greater}
 use Rattle.std.proofs.lemmas.Map.Lookups.{exact_unsigned}
 use Rattle.std.proofs.lemmas.Bool.{eqb-true, eq-eqb, ltb-true, lt-ltb, cases_lt}
-use Rattle.std.specs.Cmp.{tied_itself, first_so, second_so}
+use Rattle.std.specs.Cmp.{tied_itself, first_so}
 use Rattle.mw_types.specs.declared.identity.RecordId.{RecordId}
 use Rattle.mw_types.specs.declared.identity.RowName.{RowName}
 use Rattle.mw_types.specs.Orders.{id_cmp}
@@ -16,7 +14,7 @@ use Rattle.row_parts.specs.Contents.{same_id}
 use Rattle.run_history.proofs.Lookups.{lookup-insert_entry}
 use Rattle.history_laws.proofs.IdLaws.{same_id-itself, same_id-true}
 use Rattle.history_laws.proofs.RowSteps.{both_Equal, from_tie}
-use Rattle.book.specs.Sending.{sender_of, sender_more, is_among_sent, IsUnsent, KnowsSame, HasSent, HasForgotten}
+use Rattle.book.specs.Sending.{sender_of, is_among_sent, HasSent, HasForgotten}
 
 -- tests of which each follows from the other are the same
 pub same_test : (a b : Bool) → (a ≡ true → b ≡ true) → (b ≡ true → a ≡ true) → a ≡ b

@@ -1,6 +1,6 @@
 -- What is known of senders is what is pending in the rows of a history, as entries come.
-use Rattle.std.proofs.Common.{◌≡◌, ℕ, zero, suc, ◌+◌, ◌<◌, ◌≤◌, ◌==◌, ◌&&◌, nat_lt, Bool, true, false, cond, List, [], ◌∷◌, ◌++◌, length, map, refl, sym, ◌∙◌, ap, subst, arith, inl, inr}
-use Rattle.std.specs.Prelude.{◌↔◌, ◌||◌, ◌⊎◌, not, filter, Option, Some, None, IsSome}
+use Rattle.std.proofs.Common.{◌≡◌, ℕ, ◌+◌, ◌<◌, ◌≤◌, ◌==◌, ◌&&◌, nat_lt, Bool, true, false, cond, List, [], ◌∷◌, ◌++◌, length, map, refl, sym, ◌∙◌, ap, subst, arith, inl, inr}
+use Rattle.std.specs.Prelude.{◌↔◌, ◌||◌, ◌⊎◌, not, Option, Some, None}
 use Rattle.std.specs.Option.{is_some, option_or, option_map_or}
 use Rattle.std.specs.List.{AllByRecursion, enumerate_from}
 use Rattle.std.specs.Ordering.{is_eq}
@@ -15,7 +15,6 @@ use Rattle.mw_types.specs.declared.record.Record.{Record}
 use Rattle.mw_types.specs.declared.delivery.Delivery.{Delivery}
 use Rattle.mw_types.specs.declared.entry.Entry.{Entry}
 use Rattle.mw_types.specs.declared.entry.Entry.TheVariants.{Claim, Inject, Handle, Fire, Ack, Purge}
-use Rattle.mw_types.specs.Orders.{row_cmp}
 use Rattle.topology.specs.Shapes.{Shape}
 use Rattle.row_parts.specs.Contents.{Contents, same_id, without_delivery}
 use Rattle.run_history.specs.Made.{found_delivery, row_written, deliveries_of, deliveries_made, delivery_at, productions_of, late_cause}
@@ -27,7 +26,7 @@ use Rattle.history_laws.proofs.RowSteps.{same_row, on_row_or_not, row_of-here, r
 use Rattle.book.specs.Senders.{IsPendingIn, AreSenders}
 use Rattle.book.specs.Sending.{sender_of, sender_more, sender_less, settled_by, is_among_sent, is_sender, IsUnsent, KnowsSame, IsAfterEntry}
 use Rattle.book.specs.Appending.{sent_by}
-use Rattle.book.proofs.SenderMaps.{same_test, same_id-turned}
+use Rattle.book.proofs.SenderMaps.{same_test}
 
 -- ---- what is found under an id
 
@@ -83,7 +82,7 @@ found-without settled id (d ∷ ds) = by_kept (found-without settled id ds) (sam
         → (b c : Bool) → same_id d.id id ≡ b → same_id settled id ≡ c → same_id d.id settled ≡ false
         → is_some (cond b (Some d) (found_delivery id (without_delivery settled ds))) ≡ (not c && is_some (cond b (Some d) (found_delivery id ds)))
     by_found rest true true here there apart =
-        absurd (cc (same_id-true d.id id here, same_id-true settled id there, same_id-itself id, apart))
+        absurd (cc (same_id-true settled id there, apart))
     by_found rest true false here there apart = refl
     by_found rest false c here there apart = rest ∙ ap (λ t. not t && is_found id ds) there
 
