@@ -22,8 +22,8 @@ same_test true b forth back = sym (forth refl)
 same_test false true forth back = back refl
 same_test false false forth back = refl
 
--- ids tie in their order exactly where they are the same, whichever comes first
-pub is_eq-id_cmp : (a b : RecordId) → is_eq (id_cmp a b) ≡ same_id a b
+-- ids tie in their order exactly where they are the same
+is_eq-id_cmp : (a b : RecordId) → is_eq (id_cmp a b) ≡ same_id a b
 is_eq-id_cmp a b = same_test (is_eq (id_cmp a b)) (same_id a b)
     (λ tie. subst (λ (i : RecordId). same_id a i ≡ true) (tied tie) (same_id-itself a))
     (λ same. subst (λ (i : RecordId). is_eq (id_cmp a i) ≡ true) (same_id-true a b same) (ap is_eq (tied_itself id_cmp-total a)))
@@ -36,7 +36,7 @@ is_eq-id_cmp a b = same_test (is_eq (id_cmp a b)) (same_id a b)
         λ i. record { commit = p i; index = q i }
 
 -- two ids are the same whichever comes first
-pub same_id-turned : (a b : RecordId) → same_id a b ≡ same_id b a
+same_id-turned : (a b : RecordId) → same_id a b ≡ same_id b a
 same_id-turned a b = same_test (same_id a b) (same_id b a)
     (λ same. subst (λ (i : RecordId). same_id i a ≡ true) (same_id-true a b same) (same_id-itself a))
     (λ same. subst (λ (i : RecordId). same_id i b ≡ true) (same_id-true b a same) (same_id-itself b))
@@ -65,14 +65,6 @@ among-next commit n id = by_commit (id.commit == commit)
   where
     by_commit : (b : Bool) → (b && nat_lt id.index (n + 1)) ≡ ((b && (id.index == n)) || (b && nat_lt id.index n))
     by_commit true = below-next id.index n
-    by_commit false = refl
-
--- among none is no id
-pub among-none : (commit : ℕ) (id : RecordId) → is_among_sent commit 0 id ≡ false
-among-none commit id = by_commit (id.commit == commit)
-  where
-    by_commit : (b : Bool) → (b && nat_lt id.index 0) ≡ false
-    by_commit true = same_test (nat_lt id.index 0) false (λ less. absurd (let no = ltb-true id.index 0 less in omega (arith, no))) (λ e. absurd (cc))
     by_commit false = refl
 
 -- an id among those of an entry has the entry's number

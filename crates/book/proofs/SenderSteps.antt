@@ -8,25 +8,26 @@ use Rattle.std.proofs.lemmas.Bool.{eqb-true, eq-eqb, ltb-true, lt-ltb, and_from}
 use Rattle.std.proofs.lemmas.List.{length-map}
 use Rattle.std.proofs.lemmas.List.FromFn.{length-enumerate_from}
 use Rattle.std.proofs.lemmas.List.Folds.{find-append}
-use Rattle.std.specs.Cmp.{first_so, second_so}
+use Rattle.std.specs.Cmp.{first_so, second_so, tied_itself}
 use Rattle.mw_types.specs.declared.identity.RecordId.{RecordId}
 use Rattle.mw_types.specs.declared.identity.RowName.{RowName}
 use Rattle.mw_types.specs.declared.record.Record.{Record}
 use Rattle.mw_types.specs.declared.delivery.Delivery.{Delivery}
 use Rattle.mw_types.specs.declared.entry.Entry.{Entry}
 use Rattle.mw_types.specs.declared.entry.Entry.TheVariants.{Claim, Inject, Handle, Fire, Ack, Purge}
+use Rattle.mw_types.proofs.OrderLaws.{row_cmp-total}
 use Rattle.topology.specs.Shapes.{Shape}
 use Rattle.row_parts.specs.Contents.{Contents, same_id, without_delivery}
 use Rattle.run_history.specs.Made.{found_delivery, row_written, deliveries_of, deliveries_made, delivery_at, productions_of, late_cause}
-use Rattle.run_history.specs.Runs.{Run, run_of, row_of, followed, changed, empty_run}
+use Rattle.run_history.specs.Runs.{Run, run_of, row_of, followed, changed}
 use Rattle.run_history.proofs.RunLaws.{run_of-push}
-use Rattle.history_laws.proofs.Lists.{none_some, some_same}
+use Rattle.history_laws.proofs.Lists.{none_some, some_same, each-weaker}
 use Rattle.history_laws.proofs.IdLaws.{same_id-itself, same_id-true, next-length}
 use Rattle.history_laws.proofs.RowSteps.{same_row, on_row_or_not, row_of-here, row_of-elsewhere, row_of-in_order, pending-in_order}
 use Rattle.book.specs.Senders.{IsPendingIn, AreSenders}
 use Rattle.book.specs.Sending.{sender_of, sender_more, sender_less, settled_by, is_among_sent, is_sender, IsUnsent, KnowsSame, IsAfterEntry}
 use Rattle.book.specs.Appending.{sent_by}
-use Rattle.book.proofs.SenderMaps.{same_test}
+use Rattle.book.proofs.SenderMaps.{same_test, among-commit}
 
 -- ---- what is found under an id
 
@@ -117,7 +118,7 @@ numbered-each : (commit n : ℕ) (sends : List (RowName × Record))
 numbered-each commit n [] = tt
 numbered-each commit n (s ∷ ss) = (
   (refl, omega arith),
-  Rattle.history_laws.proofs.Lists.each-weaker (λ (d : Delivery). (d.id.commit ≡ commit) × (d.id.index < (n + 1) + length ss))
+  each-weaker (λ (d : Delivery). (d.id.commit ≡ commit) × (d.id.index < (n + 1) + length ss))
       (λ (d : Delivery). (d.id.commit ≡ commit) × (d.id.index < n + length (s ∷ ss)))
       (λ d is. let less = is.1 in (is.0, omega (arith, less))) _ (numbered-each commit (n + 1) ss),
 )
@@ -175,7 +176,7 @@ module _ (n : ℕ) (name : RowName) (id : RecordId) (sender : Option RowName) wh
       (by_case (same_id settled id) sender was)
     where
       tie : is_sender name (Some name) ≡ true
-      tie = ap is_eq (Rattle.std.specs.Cmp.tied_itself Rattle.mw_types.proofs.OrderLaws.row_cmp-total name)
+      tie = ap is_eq (tied_itself row_cmp-total name)
 
       gone : (o : Option RowName) (b : Bool) → is_sender name o ≡ b → cond b None o ≡ Some name → ⊥
       gone o true is e = none_some name e
@@ -225,7 +226,7 @@ AreSenders-followed shape run entry name old new written are unsent after id row
     count = length sent
 
     new-one : is_among_sent run.next count id ≡ true → sender_of old id ≡ None
-    new-one among = let is = eqb-true id.commit run.next (first_so (id.commit == run.next) (nat_lt id.index count) among) in unsent id (omega (arith, is))
+    new-one among = let is = among-commit run.next count id among in unsent id (omega (arith, is))
 
     here : (e : Entry) → (c : Contents) → is_found id (deliveries_of shape run.made run.next e) ≡ is_among_sent run.next (length (deliveries_of shape run.made run.next e)) id
         → (is_among_sent run.next (length (deliveries_of shape run.made run.next e)) id ≡ true → sender_of old id ≡ None)
@@ -308,7 +309,3 @@ senders-claim shape history worker interval sent are =
 -- what is known of senders stays where the same is known
 pub senders-same : (shape : Shape) (run : Run) (old new : List (RecordId × RowName)) → AreSenders shape run old → KnowsSame old new → AreSenders shape run new
 senders-same shape run old new are same id row = subst (λ o. (o ≡ Some row) ↔ IsPendingIn shape run id row) (sym (same id)) (are id row)
-
--- nothing is pending before any entry
-pub senders-empty : (shape : Shape) → AreSenders shape empty_run []
-senders-empty shape id row = (λ e. absurd (none_some row e), λ e. absurd (cc))
