@@ -22,10 +22,12 @@ use Rattle.book.specs.Proposals.{IsNextLine}
 pub first-use : (book : BookView) (lease : LeaseView) (name : RowName) → book.case.topology ≡ one_count 60 → book.history ≡ Claim 0 0 ∷ []
     → lease ≡ record { interval = 0; seq = 0 } → name ≡ record { part = 0; key = [] } → MayUse book lease 1 name
 first-use book lease name shape history is named = record {
-  claimed = (0, (λ i. slice_get (history i) (is i).seq) ∙ (λ i. Some (Claim 0 (sym is i).interval)));
-  seen = subst (λ (l : LeaseView). l.seq < 1) (sym is) (omega arith);
-  there = omega (arith, ap length history);
-  own = subst (λ (h : List Entry). All (λ (e : Entry). sequencer_of e ≡ Some lease.seq → ⊥) (drop 1 h)) (sym history) (All-from_recursion (λ (e : Entry). sequencer_of e ≡ Some lease.seq → ⊥) [] tt);
+  seen_all = record {
+    claimed = (0, (λ i. slice_get (history i) (is i).seq) ∙ (λ i. Some (Claim 0 (sym is i).interval)));
+    seen = subst (λ (l : LeaseView). l.seq < 1) (sym is) (omega arith);
+    there = omega (arith, ap length history);
+    own = subst (λ (h : List Entry). All (λ (e : Entry). sequencer_of e ≡ Some lease.seq → ⊥) (drop 1 h)) (sym history) (All-from_recursion (λ (e : Entry). sequencer_of e ≡ Some lease.seq → ⊥) [] tt);
+  };
   covers = (λ i. interval_of (shape i) (named i)) ∙ (λ i. Some (sym is i).interval);
 }
 

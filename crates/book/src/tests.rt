@@ -11,7 +11,7 @@ use crate::{
     Book, ClaimRefusal, Claimed, Lease, Proposal, StartRefusal, StartWhy, WriteRefusal, Written,
 };
 use injector::{Item, Items, ItemsList};
-use mw_types::{Bytes, CallList, Key, KeyRefusal, NoMemory, RowName, State};
+use mw_types::{Bytes, CallList, Key, KeyRefusal, NoMemory, RecordId, RowName, State};
 use row_keeper::{BlindKeeper, Keeper, KeeperFault, KeptRow, MemKeeper};
 use row_parts::Row;
 use run_history::Case;
@@ -220,7 +220,19 @@ fn injects<K: Keeper>(
     }
 }
 
-// Claims the injector's interval, and injects its line.
+// Whether the injected line is the first to be sent again.
+fn waits_for_line<K: Keeper>(book: &Book<'_, K>) -> bool {
+    let line = RecordId {
+        commit: 1,
+        index: 0,
+    };
+    match book.least_sent() {
+        Some((id, name)) => id == line && name.part == 0,
+        None => false,
+    }
+}
+
+// Claims the injector's interval, and injects its line, which then waits to be acknowledged.
 fn try_inject<K: Keeper>(rt: &impl Abort, alloc: Global, book: Book<'_, K>)
     requires topology { book.case.topology ≡ one_count 60 }
     requires lines { length (source_of book.case 0) ≡ 1 }
@@ -228,8 +240,11 @@ fn try_inject<K: Keeper>(rt: &impl Abort, alloc: Global, book: Book<'_, K>)
 {
     let mut book = book;
     let claimed = book.claim(alloc, 0, 0);
+    assert!(rt; book.least_sent().is_none());
     assert!(rt; injects(alloc, &mut book, claimed));
     assert_eq!(rt; book.history().len(), 2);
+    assert!(rt; waits_for_line(&book));
+    assert_eq!(rt; book.floor(), 1);
 }
 
 #[test]
