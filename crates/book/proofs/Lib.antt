@@ -4,6 +4,7 @@ pub mod Keeping
 pub mod ClaimLaws
 pub mod SeenRows
 pub mod FoundRows
+pub mod SenderMaps
 pub mod SentLaws
 pub mod Growing
 pub mod ProposalLaws

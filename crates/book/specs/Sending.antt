@@ -1,6 +1,5 @@
 -- How what is known of senders changes as entries come. No public clause cites this module.
-use Rattle.std.specs.Prelude.{◌≡◌, ◌≤◌, ℕ, List, Option, Some, None, if◌then◌else◌, ◌&&◌, ◌==◌, nat_lt}
-use Rattle.std.specs.Option.{option_and_then}
+use Rattle.std.specs.Prelude.{◌≡◌, ◌≤◌, ℕ, Bool, false, List, Option, Some, None, if◌then◌else◌, ◌&&◌, ◌==◌, nat_lt}
 use Rattle.std.specs.Map.{lookup}
 use Rattle.std.specs.BTreeMap.{is_at}
 use Rattle.std.specs.Ordering.{is_eq}
@@ -9,6 +8,7 @@ use Rattle.mw_types.specs.declared.identity.RecordId.{RecordId}
 use Rattle.mw_types.specs.declared.identity.RowName.{RowName}
 use Rattle.mw_types.specs.declared.entry.Entry.{Entry}
 use Rattle.mw_types.specs.declared.entry.Entry.TheVariants.{Ack}
+use Rattle.row_parts.specs.Contents.{same_id}
 
 -- who sent an id
 abbrev pub sender_of : List (RecordId × RowName) → RecordId → Option RowName
@@ -22,30 +22,40 @@ IsUnsent commit sent = (id : RecordId) → commit ≤ id.commit → sender_of se
 abbrev pub KnowsSame : List (RecordId × RowName) → List (RecordId × RowName) → Type 0
 KnowsSame old new = (id : RecordId) → sender_of new id ≡ sender_of old id
 
--- the id that an entry acknowledges
-abbrev pub settled_by : Entry → Option RecordId
-settled_by (Ack seq row id) = Some id
-settled_by _ = None
+-- whether an id is one of the first so many of the entry of this number
+abbrev pub is_among_sent : ℕ → ℕ → RecordId → Bool
+is_among_sent commit count id = (id.commit == commit) && nat_lt id.index count
 
 -- who sent an id, once the entry of this number has made so many deliveries in a row
 abbrev pub sender_more : ℕ → RowName → ℕ → RecordId → Option RowName → Option RowName
 sender_more commit name count id sender =
-    if (id.commit == commit) && nat_lt id.index count then Some name else sender
+    if is_among_sent commit count id then Some name else sender
 
 -- a row has sent so many, under the number of its entry
 abbrev pub HasSent : ℕ → RowName → ℕ → List (RecordId × RowName) → List (RecordId × RowName) → Type 0
 HasSent commit name count old new = (id : RecordId) →
     sender_of new id ≡ sender_more commit name count id (sender_of old id)
 
--- a sender, unless it is this row
-abbrev pub unless_row : RowName → RowName → Option RowName
-unless_row name sender = if is_eq (row_cmp sender name) then None else Some sender
+-- nothing is known of the first so many of an entry, and the same of all others
+abbrev pub HasForgotten : ℕ → ℕ → List (RecordId × RowName) → List (RecordId × RowName) → Type 0
+HasForgotten commit count old new = (id : RecordId) →
+    sender_of new id ≡ (if is_among_sent commit count id then None else sender_of old id)
+
+-- the id that an entry acknowledges
+abbrev pub settled_by : Entry → Option RecordId
+settled_by (Ack seq row id) = Some id
+settled_by _ = None
+
+-- whether a sender is there, and is this row
+abbrev pub is_sender : RowName → Option RowName → Bool
+is_sender name None = false
+is_sender name (Some sender) = is_eq (row_cmp name sender)
 
 -- who sent an id, once a row has acknowledged one
 abbrev pub sender_less : Option RecordId → RowName → RecordId → Option RowName → Option RowName
 sender_less None name id sender = sender
 sender_less (Some settled) name id sender =
-    if is_eq (id_cmp id settled) then option_and_then (unless_row name) sender else sender
+    if same_id settled id && is_sender name sender then None else sender
 
 -- an id is acknowledged by a row, where the row sent it
 abbrev pub HasSettled : Option RecordId → RowName → List (RecordId × RowName) → List (RecordId × RowName) → Type 0

@@ -1,10 +1,12 @@
 //! Which row sent each id that is unacknowledged, kept as entries come.
-ghost use Rattle.std.specs.Prelude.{◌≡◌, ℕ, OnOk, OnErr, Some};
-ghost use Rattle.mw_types.specs.declared.identity.RecordId.{RecordId};
-ghost use Rattle.book.specs.Sending.{HasSent, HasSettled, IsUnsent, KnowsSame, settled_by};
+ghost use Rattle.std.specs.Prelude.{◌≡◌, OnOk, OnErr, Some};
+ghost use Rattle.std.specs.BTreeMap.{insert_entry};
+ghost use Rattle.mw_types.specs.Orders.{id_cmp};
+ghost use Rattle.book.specs.Sending.{HasForgotten, HasSent, HasSettled, IsUnsent, KnowsSame, is_sender, sender_of, settled_by};
 
 use mw_types::{Duplicate, Entry, NoMemory, RecordId, RowName};
 use std::alloc::Global;
+use std::cmp::Ordering;
 use std::collections::BTreeMap;
 
 // Each id that is pending, with its sender's row.
@@ -34,7 +36,7 @@ pub(crate) fn note_sent(
     ensures unchanged { OnErr result (KnowsSame senders.old.entries senders.new.entries) }
 {
     for index in 0..sent {
-        if let Err(_) = note_one(alloc, senders, RecordId { commit, index }, name) {
+        if let Err(NoMemory) = note_one(alloc, senders, RecordId { commit, index }, name) {
             forget_sent(senders, commit, index);
             return Err(NoMemory);
         }
@@ -49,13 +51,18 @@ fn note_one(
     id: RecordId,
     name: &RowName,
 ) -> Result<(), NoMemory>
+    ensures noted { OnOk result
+        (senders.new.entries ≡ insert_entry id_cmp senders.old.entries id name.now) }
+    ensures unchanged { OnErr result (senders.new.entries ≡ senders.old.entries) }
 {
     senders.insert(id, name.copy(alloc)?)?;
     Ok(())
 }
 
 // Takes back what was noted of the first so many of an entry.
-pub(crate) fn forget_sent(senders: &mut Senders, commit: u64, sent: u32) {
+pub(crate) fn forget_sent(senders: &mut Senders, commit: u64, sent: u32)
+    ensures { HasForgotten commit sent senders.old.entries senders.new.entries }
+{
     for index in 0..sent {
         senders.remove(&RecordId { commit, index });
     }
@@ -66,8 +73,25 @@ pub(crate) fn settle(senders: &mut Senders, id: Option<RecordId>, name: &RowName
     ensures { HasSettled id name.now senders.old.entries senders.new.entries }
 {
     if let Some(id) = id {
-        if senders.get(&id) == Some(name) {
-            senders.remove(&id);
-        }
+        settle_one(senders, id, name);
+    }
+}
+
+// This id is acknowledged, where this row sent it.
+fn settle_one(senders: &mut Senders, id: RecordId, name: &RowName)
+    ensures { HasSettled (Some id) name.now senders.old.entries senders.new.entries }
+{
+    if is_sender(senders, id, name) {
+        senders.remove(&id);
+    }
+}
+
+// Whether this row sent the id.
+fn is_sender(senders: &Senders, id: RecordId, name: &RowName) -> bool
+    ensures { result ≡ is_sender name.now (sender_of senders.now.entries id) }
+{
+    match senders.get(&id) {
+        Some(sender) => name.cmp(sender) == Ordering::Equal,
+        None => false,
     }
 }
