@@ -7,6 +7,7 @@ use Rattle.std.specs.BTreeMap.{insert_entry}
 use Rattle.std.specs.declared.cmp.Ordering.TheVariants.{Less, Equal, Greater}
 use Rattle.std.specs.Ordering.{match_ordering, is_eq}
 use Rattle.std.proofs.lemmas.List.Elements.{All-append, All-from_recursion}
+use Rattle.mw_types.specs.declared.identity.RecordId.{RecordId}
 use Rattle.mw_types.specs.declared.identity.RowName.{RowName}
 use Rattle.mw_types.specs.declared.entry.Entry.{Entry}
 use Rattle.mw_types.specs.declared.entry.Entry.TheVariants.{Claim}
@@ -33,6 +34,9 @@ use Rattle.history_laws.proofs.StoredLaws.{stored_rows-followed, stored_rows-kep
 use Rattle.book.specs.Books.{CoreView}
 use Rattle.book.specs.Lawful.{IsKept, IsHeld, IsLawful}
 use Rattle.book.specs.Appending.{IsNext}
+use Rattle.book.specs.Senders.{AreSenders}
+use Rattle.book.specs.Sending.{sender_of, KnowsSame}
+use Rattle.book.proofs.SenderSteps.{senders-claim, senders-same}
 use Rattle.book.proofs.FitLaws.{fits-later}
 
 -- what holds of each row, and of one that is put among them, holds of each then
@@ -113,8 +117,9 @@ pub IsLawful-next : (case : CaseShape) (old new : CoreView) (name : RowName) (en
     → IfSome old.rows (λ _. before ≡ row_of case.topology (run_of case.topology old.history) name)
     → new.work ≡ (old.work + work_in case name row) - work_in case name before
     → new.history ≡ old.history ++ entry ∷ [] → new.rows ≡ option_map (with_row name (spelling_of row)) old.rows → new.limit ≡ old.limit
+    → AreSenders case.topology (run_of case.topology new.history) new.unacknowledged
     → IsLawful case new
-IsLawful-next case old new name entry before row lawful next spelled was work appended stored limit = record {
+IsLawful-next case old new name entry before row lawful next spelled was work appended stored limit senders = record {
   runnable = lawful.runnable;
   limit = subst (λ n. n ≤ 2 ^ 32) (sym limit) lawful.limit;
   few = omega (arith, ap length appended, length-push old.history entry, next.room, limit);
@@ -125,6 +130,10 @@ IsLawful-next case old new name entry before row lawful next spelled was work ap
       (subst (λ o. IfSome o (IsHeld case (old.history ++ entry ∷ []))) (sym stored) (told old.rows lawful.held next.may next.of_history));
   left = subst (λ (h : List Entry). IfSome new.rows (λ _. new.work ≡ unfinished case (run_of case.topology h))) (sym appended)
       (subst (λ o. IfSome o (λ _. new.work ≡ unfinished case (run_of case.topology (old.history ++ entry ∷ [])))) (sym stored) (told-left old.rows lawful.left was next.of_history));
+  senders = senders;
+  claims = ?;
+  marks = ?;
+  safe = ?;
 }
   where
     told-left : (o : Option Rows) → IfSome o (λ _. old.work ≡ unfinished case (run_of case.topology old.history))
@@ -158,8 +167,9 @@ IsHeld-claim case history rows worker interval held may =
 -- a book stays lawful, once a claim that may come next is appended
 pub IsLawful-claimed : (case : CaseShape) (old new : CoreView) (worker interval : ℕ) → IsLawful case old
     → length old.history < old.limit → MayClaim case worker interval
-    → new.history ≡ old.history ++ Claim worker interval ∷ [] → new.rows ≡ old.rows → new.limit ≡ old.limit → new.work ≡ old.work → IsLawful case new
-IsLawful-claimed case old new worker interval lawful room may appended rows limit work = record {
+    → new.history ≡ old.history ++ Claim worker interval ∷ [] → new.rows ≡ old.rows → new.limit ≡ old.limit → new.work ≡ old.work
+    → new.unacknowledged ≡ old.unacknowledged → IsLawful case new
+IsLawful-claimed case old new worker interval lawful room may appended rows limit work same_senders = record {
   runnable = lawful.runnable;
   limit = subst (λ n. n ≤ 2 ^ 32) (sym limit) lawful.limit;
   few = omega (arith, ap length appended, length-push old.history (Claim worker interval), room, limit);
@@ -171,6 +181,12 @@ IsLawful-claimed case old new worker interval lawful room may appended rows limi
       (subst (λ o. IfSome o (IsHeld case (old.history ++ Claim worker interval ∷ []))) (sym rows) (told old.rows lawful.held));
   left = subst (λ (h : List Entry). IfSome new.rows (λ _. new.work ≡ unfinished case (run_of case.topology h))) (sym appended)
       (subst (λ o. IfSome o (λ _. new.work ≡ unfinished case (run_of case.topology (old.history ++ Claim worker interval ∷ [])))) (sym rows) (told-left old.rows lawful.left));
+  senders = subst (λ (h : List Entry). AreSenders case.topology (run_of case.topology h) new.unacknowledged) (sym appended)
+      (subst (AreSenders case.topology (run_of case.topology (old.history ++ Claim worker interval ∷ []))) (sym same_senders)
+      (senders-claim case.topology old.history worker interval old.unacknowledged lawful.senders));
+  claims = ?;
+  marks = ?;
+  safe = ?;
 }
   where
     told-left : (o : Option Rows) → IfSome o (λ _. old.work ≡ unfinished case (run_of case.topology old.history))
@@ -186,8 +202,9 @@ IsLawful-claimed case old new worker interval lawful room may appended rows limi
 
 -- a book stays lawful where its history and its rows stay
 pub IsLawful-stays : (case : CaseShape) (old new : CoreView) → IsLawful case old
-    → new.history ≡ old.history → new.rows ≡ old.rows → new.limit ≡ old.limit → new.work ≡ old.work → IsLawful case new
-IsLawful-stays case old new lawful history rows limit work = record {
+    → new.history ≡ old.history → new.rows ≡ old.rows → new.limit ≡ old.limit → new.work ≡ old.work
+    → KnowsSame old.unacknowledged new.unacknowledged → IsLawful case new
+IsLawful-stays case old new lawful history rows limit work same_senders = record {
   runnable = lawful.runnable;
   limit = subst (λ n. n ≤ 2 ^ 32) (sym limit) lawful.limit;
   few = omega (arith, ap length history, lawful.few, limit);
@@ -197,14 +214,19 @@ IsLawful-stays case old new lawful history rows limit work = record {
   left = subst (λ (h : List Entry). IfSome new.rows (λ _. new.work ≡ unfinished case (run_of case.topology h))) (sym history)
       (subst (λ o. IfSome o (λ _. new.work ≡ unfinished case (run_of case.topology old.history))) (sym rows)
       (subst (λ n. IfSome old.rows (λ _. n ≡ unfinished case (run_of case.topology old.history))) (sym work) lawful.left));
+  senders = subst (λ (h : List Entry). AreSenders case.topology (run_of case.topology h) new.unacknowledged) (sym history)
+      (senders-same case.topology (run_of case.topology old.history) old.unacknowledged new.unacknowledged lawful.senders same_senders);
+  claims = ?;
+  marks = ?;
+  safe = ?;
 }
 
 -- a book stays lawful, whether a claim was appended or not
 pub IsLawful-claiming : {T E : Type 0} (case : CaseShape) (old new : CoreView) (worker interval : ℕ) (result : Result T E) → IsLawful case old
     → length old.history < old.limit → MayClaim case worker interval
     → OnOk result (new.history ≡ old.history ++ Claim worker interval ∷ []) → OnErr result (new.history ≡ old.history)
-    → new.rows ≡ old.rows → new.limit ≡ old.limit → new.work ≡ old.work → IsLawful case new
-IsLawful-claiming case old new worker interval (Ok x) lawful room may appended history rows limit work =
-    IsLawful-claimed case old new worker interval lawful room may appended rows limit work
-IsLawful-claiming case old new worker interval (Err why) lawful room may appended history rows limit work =
-    IsLawful-stays case old new lawful history rows limit work
+    → new.rows ≡ old.rows → new.limit ≡ old.limit → new.work ≡ old.work → new.unacknowledged ≡ old.unacknowledged → IsLawful case new
+IsLawful-claiming case old new worker interval (Ok x) lawful room may appended history rows limit work same_senders =
+    IsLawful-claimed case old new worker interval lawful room may appended rows limit work same_senders
+IsLawful-claiming case old new worker interval (Err why) lawful room may appended history rows limit work same_senders =
+    IsLawful-stays case old new lawful history rows limit work (λ id. ap (λ (l : List (RecordId × RowName)). sender_of l id) same_senders)

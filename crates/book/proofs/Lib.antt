@@ -1,10 +1,13 @@
 pub mod FitLaws
 pub mod StartLaws
+pub mod MarkSteps
 pub mod Keeping
 pub mod ClaimLaws
 pub mod SeenRows
+pub mod ReportSteps
 pub mod FoundRows
 pub mod SenderMaps
+pub mod SenderSteps
 pub mod SentLaws
 pub mod Growing
 pub mod ProposalLaws

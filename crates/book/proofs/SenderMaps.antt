@@ -86,15 +86,6 @@ either : {A : Type 0} (a b : Bool) (x y : A) → cond (a || b) x y ≡ cond a x 
 either true b x y = refl
 either false b x y = refl
 
--- an outer test hides the answer of the same test within
-hidden : {A : Type 0} (a : Bool) (x y z : A) → cond a x (cond a y z) ≡ cond a x z
-hidden true x y z = refl
-hidden false x y z = refl
-
--- before any is noted
-pub sent-none : (commit : ℕ) (name : RowName) (old : List (RecordId × RowName)) → HasSent commit name 0 old old
-sent-none commit name old id = sym (ap (λ b. cond b (Some name) (sender_of old id)) (among-none commit id))
-
 -- once one more is noted
 pub sent-more : (commit n : ℕ) (name : RowName) (old now new : List (RecordId × RowName)) → HasSent commit name n old now
     → new ≡ insert_entry id_cmp now (record { commit = commit; index = n }) name → HasSent commit name (n + 1) old new
@@ -107,10 +98,6 @@ sent-more commit n name old now new sent noted id =
     ∙ sym (either (same_id id this) (is_among_sent commit n id) (Some name) (sender_of old id))
     ∙ sym (ap (λ b. cond b (Some name) (sender_of old id)) (among-next commit n id))
 
--- before any is forgotten
-pub forgotten-none : (commit : ℕ) (old : List (RecordId × RowName)) → HasForgotten commit 0 old old
-forgotten-none commit old id = sym (ap (λ b. cond b None (sender_of old id)) (among-none commit id))
-
 -- once one more is forgotten
 pub forgotten-more : (commit n : ℕ) (old now new : List (RecordId × RowName)) → HasForgotten commit n old now
     → ((id : RecordId) → sender_of new id ≡ cond (is_at (id_cmp (record { commit = commit; index = n })) id) None (sender_of now id))
@@ -122,19 +109,3 @@ forgotten-more commit n old now new forgotten removed id =
     ∙ ap (cond (same_id id this) None) (forgotten id)
     ∙ sym (either (same_id id this) (is_among_sent commit n id) None (sender_of old id))
     ∙ sym (ap (λ b. cond b None (sender_of old id)) (among-next commit n id))
-
--- what was noted and then forgotten leaves what was known
-pub noted-forgotten : (commit count : ℕ) (name : RowName) (old mid new : List (RecordId × RowName)) → IsUnsent commit old
-    → HasSent commit name count old mid → HasForgotten commit count mid new → KnowsSame old new
-noted-forgotten commit count name old mid new unsent sent forgotten id =
-    forgotten id ∙ ap (cond (is_among_sent commit count id) None) (sent id)
-    ∙ hidden (is_among_sent commit count id) None (Some name) (sender_of old id)
-    ∙ by_case (is_among_sent commit count id) refl
-  where
-    by_case : (b : Bool) → is_among_sent commit count id ≡ b → cond b None (sender_of old id) ≡ sender_of old id
-    by_case true among = let is = among-commit commit count id among in sym (unsent id (omega (arith, is)))
-    by_case false among = refl
-
--- the same is known still
-pub same-then : (old mid new : List (RecordId × RowName)) → mid ≡ new → KnowsSame old mid → KnowsSame old new
-same-then old mid new is same id = sym (ap (λ (l : List (RecordId × RowName)). sender_of l id) is) ∙ same id

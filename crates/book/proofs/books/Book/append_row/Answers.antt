@@ -1,11 +1,14 @@
 use Rattle.std.proofs.Common.{◌≡◌, ◌+◌, ◌-◌, List, ℕ, ap, subst, sym, ◌∙◌}
 use Rattle.std.specs.Prelude.{IfSome, option_map}
 use Rattle.run_history.specs.Runs.{run_of, row_of}
+use Rattle.mw_types.specs.declared.entry.Entry.{Entry}
 use Rattle.history_laws.specs.Finished.{work_in}
 use Rattle.row_keeper.specs.Rows.{with_row}
 use Rattle.book.specs.Books.{BookView, core_of}
-use Rattle.book.specs.Appending.{IsNext}
+use Rattle.book.specs.Appending.{IsNext, sent_by}
+use Rattle.book.specs.Senders.{AreSenders}
 use Rattle.book.proofs.Keeping.{IsLawful-next, IsLawful-stays}
+use Rattle.book.proofs.SenderSteps.{senders-next, senders-unsent}
 use Rattle.book.proofs.books.Book.append_row.Goals as goal
 
 -- the entry may come next, and its row was stored
@@ -22,9 +25,21 @@ invariant_of-self-2 g c =
     (c.in_ok-append.ensures.stored
     ∙ ap (λ (b : List ℕ). option_map (with_row c.args.name.now b) c.self.inside.core.rows) (c.as_slice.ensures.elements ∙ c.in_ok-bytes.ensures.spelled))
     c.append.ensures.limit
+    (subst (λ (h : List Entry). AreSenders c.self.inside.case.now.topology (run_of c.self.inside.case.now.topology h) c.append.new.self.unacknowledged)
+    (sym c.in_ok-append.ensures.appended)
+    (senders-next c.self.inside.case.now.topology c.self.inside.core.history c.args.entry c.args.name.now c.args.sent
+    c.self.inside.core.unacknowledged c.append.new.self.unacknowledged c.requires.next.on_row
+    (subst (λ (b : BookView). c.args.sent ≡ sent_by b.case.topology b.history c.args.entry) (sym c.self.view_is) c.requires.sent)
+    c.self.invariant.senders c.in_ok-append.ensures.senders))
 
 -- nothing was appended
 pub invariant_of-self : goal.invariant_of-self
 invariant_of-self g c =
     IsLawful-stays c.self.inside.case.now c.self.inside.core c.append.new.self c.self.invariant
     c.in_err-append.ensures.history c.in_err-append.ensures.rows c.append.ensures.limit c.in_err-append.ensures.same_left
+    c.in_err-append.ensures.same_senders
+
+-- nothing is known of the entry that comes
+pub append-requires-clause-unsent : goal.append-requires-clause-unsent
+append-requires-clause-unsent g c =
+    senders-unsent c.self.inside.case.now.topology c.self.inside.core.history c.self.inside.core.unacknowledged c.self.invariant.senders

@@ -1,0 +1,195 @@
+-- What is reported under the last claim of an interval is at most the interval's work by the whole history, and the marks are at
+-- most the low watermarks.
+use Rattle.std.proofs.Common.{◌≡◌, ℕ, zero, suc, ◌+◌, ◌<◌, ◌≤◌, ◌==◌, ◌||◌, Bool, true, false, cond, List, [], ◌∷◌, ◌++◌, length, map, take, drop, fold, refl, sym, ◌∙◌, ap, subst, arith}
+use Rattle.std.specs.Prelude.{All, min, Option, Some, None, IfSome, get_or, slice_get, unwrap_or}
+use Rattle.std.specs.List.{AllByRecursion, list_any, cons_option}
+use Rattle.std.specs.Option.{option_map_or}
+use Rattle.std.proofs.lemmas.Bool.{eq-eqb}
+use Rattle.std.proofs.lemmas.List.{take-append-drop}
+use Rattle.std.proofs.lemmas.List.Folds.{list_any_at}
+use Rattle.mw_types.specs.declared.TheConstants.{END}
+use Rattle.mw_types.specs.declared.identity.RowName.{RowName}
+use Rattle.mw_types.specs.declared.entry.Entry.{Entry}
+use Rattle.key_intervals.specs.declared.bounds.Bounds.{Bounds}
+use Rattle.key_intervals.specs.Intervals.{AreIntervals}
+use Rattle.key_intervals.proofs.Made as made
+use Rattle.topology.specs.Shapes.{Shape, parts_of, feeds_of}
+use Rattle.topology.specs.Rules.{IsTopology, part_cuts_of}
+use Rattle.row_keeper.specs.Rows.{Rows}
+use Rattle.row_parts.specs.Contents.{Contents}
+use Rattle.run_history.specs.Cases.{CaseShape, is_injector, intervals_of}
+use Rattle.run_history.specs.Runs.{Run, run_of, row_of, followed, empty_run}
+use Rattle.run_history.specs.Legal.{IsLegal}
+use Rattle.run_history.specs.Watermarks.{least, low_watermark, source_mark}
+use Rattle.run_history.proofs.CaseIntervals.{part_cuts_of-numbered, part_cuts_of-cuts, intervals-few}
+use Rattle.history_laws.specs.Fences.{IsFenced, HasSeen, last_claim, known}
+use Rattle.history_laws.specs.Inputs.{IsRunnable}
+use Rattle.history_laws.specs.Marks.{own_work, IsSafe, IsUnderMarks}
+use Rattle.history_laws.proofs.Lists.{none_some, some_same}
+use Rattle.history_laws.proofs.Along.{run_of-append, AreLegal-apart, along_entries}
+use Rattle.history_laws.proofs.FenceLaws.{known-last, last_claim-front, row_of-seen}
+use Rattle.history_laws.proofs.IntervalLaws.{has-interval_of}
+use Rattle.history_laws.proofs.LowLaws.{rows-in_order, least-end, bound-each}
+use Rattle.history_laws.proofs.MarkLaws.{own-from, from-own, own-end}
+use Rattle.history_laws.proofs.OwnLaws.{IsRowFrom}
+use Rattle.history_laws.proofs.ReportLaws.{IsSafe-reported, marks-low}
+use Rattle.history_laws.proofs.SeenLaws.{HasSeen-take}
+use Rattle.history_laws.proofs.WorkLaws.{source_mark-followed}
+use Rattle.watermark.specs.Marks.{mark_of, marks_in, marks_of, numbers_in, feeding_of, feeding_marks}
+use Rattle.book.specs.Books.{BookView, LeaseView, core_of}
+use Rattle.book.specs.Lawful.{IsHeld, IsLawful}
+use Rattle.book.specs.Conditions.{HasSeenAll, IsOwnWork}
+use Rattle.book.specs.Marks.{IsSafeAt, AreSafe, AreUnderLow}
+use Rattle.book.proofs.SeenRows.{told-both, told-then}
+
+-- ---- own work
+
+-- the intervals of a topology are intervals
+pub are-intervals : (shape : Shape) → IsTopology shape → AreIntervals (intervals_of shape)
+are-intervals shape rules =
+    made.intervals_of (part_cuts_of shape) (part_cuts_of-numbered shape) (part_cuts_of-cuts shape rules) (intervals-few shape (part_cuts_of shape) rules refl)
+
+-- the watermark that an injector states never falls
+pub source_mark-rises : (case : CaseShape) (front rest : List Entry) (part : ℕ) → IsRunnable case → IsLegal case (front ++ rest) → is_injector case.topology part ≡ true
+    → source_mark case (run_of case.topology front) part ≤ source_mark case (run_of case.topology (front ++ rest)) part
+source_mark-rises case front rest part runs legal is =
+    subst (λ (r : Run). stated ≤ source_mark case r part) (sym (run_of-append case.topology front rest))
+    (along_entries case (λ done run. stated ≤ source_mark case run part)
+    (λ done run entry from may. let rises = source_mark-followed case run entry part runs may is in omega (arith, from, rises))
+    rest front (run_of case.topology front) (omega arith) (AreLegal-apart case front rest empty_run legal).1)
+  where
+    stated : ℕ
+    stated = source_mark case (run_of case.topology front) part
+
+-- the own work of an interval, by what has seen its last claim, is at most that by the whole history
+pub own_work-seen : (case : CaseShape) (front rest : List Entry) (interval seq : ℕ) (b : Bounds) → IsRunnable case → IsLegal case (front ++ rest)
+    → IsFenced case.topology (front ++ rest) → HasSeen interval seq front rest → slice_get (intervals_of case.topology) interval ≡ Some b
+    → own_work case (run_of case.topology front) b ≤ own_work case (run_of case.topology (front ++ rest)) b
+own_work-seen case front rest interval seq b runs legal fenced seen at =
+    let shape = case.topology in
+    let own = own_work case (run_of shape front) b in
+    let from = own-from case (run_of shape front) own b (omega arith) in
+    from-own case (run_of shape (front ++ rest)) own b (rows-in_order shape (front ++ rest)) (own-end case (run_of shape front) b) (record {
+      rows = λ name has. subst (IsRowFrom own)
+          (sym (row_of-seen shape interval seq front rest fenced seen name (has-interval_of shape interval name (are-intervals shape runs.topology) (b, at, has))))
+          (from.rows name has);
+      mark = λ is.
+          let stated = from.mark is in
+          let rises = source_mark-rises case front rest b.part runs legal is in omega (arith, stated, rises);
+    })
+
+-- what is reported as own work is at most the work of the interval by the whole history
+own-whole : (book : BookView) (lease : LeaseView) (front own : ℕ) (b : Bounds) → IsLawful book.case (core_of book) → IsLegal book.case book.history
+    → HasSeenAll book lease front → last_claim lease.interval book.history ≡ Some lease.seq → slice_get (intervals_of book.case.topology) lease.interval ≡ Some b
+    → own ≡ own_work book.case (run_of book.case.topology (known lease.interval lease.seq (take front book.history))) b
+    → own ≤ own_work book.case (run_of book.case.topology book.history) b
+own-whole book lease front own b lawful legal saw last at is =
+    let case = book.case in
+    let shape = case.topology in
+    let split = take-append-drop front book.history in
+    let seen = HasSeen-take lease.interval lease.seq front book.history last saw.seen saw.there saw.own in
+    let whole = known-last lease.interval lease.seq (take front book.history)
+    (last_claim-front lease.interval lease.seq (take front book.history) (drop front book.history) seen.last seen.claim) in
+    let below = own_work-seen case (take front book.history) (drop front book.history) lease.interval lease.seq b lawful.runnable
+    (subst (IsLegal case) (sym split) legal) (subst (IsFenced shape) (sym split) lawful.fenced) seen at in
+    let as_seen = ap (λ (h : List Entry). own_work case (run_of shape h) b) whole in
+    let as_whole = ap (λ (h : List Entry). own_work case (run_of shape h) b) split in
+    omega (arith, is, as_seen, below, as_whole)
+
+-- ---- the marks of what feeds an interval
+
+-- each of some parts is among them
+any-here : (parts : List ℕ) (k d : ℕ) → k < length parts → list_any (λ part. part == get_or parts k d) parts ≡ true
+any-here parts k d within = list_any_at (λ part. part == get_or parts k d) parts k d within (eq-eqb (get_or parts k d) (get_or parts k d) refl)
+
+-- a bound of the marks of the intervals of some parts is one of the mark of each of these intervals
+among-bound : (x : ℕ) (f : ℕ → ℕ) (parts : List ℕ) (n : ℕ) (all : List Bounds) (k : ℕ) (b : Bounds) → AllByRecursion (λ m. x ≤ m) (map f (numbers_in parts n all))
+    → slice_get all k ≡ Some b → list_any (λ part. part == b.part) parts ≡ true → x ≤ f (n + k)
+among-bound x f parts n [] k b each at among = absurd (none_some b at)
+among-bound x f parts n (c ∷ cs) zero b each at among =
+    let same : c ≡ b = some_same c b at in
+    let passes : list_any (λ part. part == c.part) parts ≡ true = subst (λ (d : Bounds). list_any (λ part. part == d.part) parts ≡ true) (sym same) among in
+    let first = (subst (λ t. AllByRecursion (λ m. x ≤ m) (map f (cons_option (cond t (Some n) None) (numbers_in parts (n + 1) cs)))) passes each).0 in
+    let zero_more : n + 0 ≡ n = omega arith in
+    subst (λ i. x ≤ f i) (sym zero_more) first
+among-bound x f parts n (c ∷ cs) (suc k) b each at among =
+    let next : n + 1 + k ≡ n + suc k = omega arith in
+    subst (λ i. x ≤ f i) next (among-bound x f parts (n + 1) cs k b (later (list_any (λ part. part == c.part) parts) each) at among)
+  where
+    later : (t : Bool) → AllByRecursion (λ m. x ≤ m) (map f (cons_option (cond t (Some n) None) (numbers_in parts (n + 1) cs)))
+        → AllByRecursion (λ m. x ≤ m) (map f (numbers_in parts (n + 1) cs))
+    later true each = each.1
+    later false each = each
+
+-- a bound of the marks that feed an interval is at most a safe mark of each interval of each part that feeds it
+under-feeding : (case : CaseShape) (run : Run) (marks : List ℕ) (interval x : ℕ) (b : Bounds) → AreSafe case run marks
+    → slice_get (intervals_of case.topology) interval ≡ Some b → x ≤ least (feeding_marks case.topology interval marks)
+    → All (λ (feeding : ℕ). IsUnderMarks case run feeding x) (feeds_of case.topology b.part)
+under-feeding case run marks interval x b safe at below k d within other c there of =
+    let shape = case.topology in
+    let all = intervals_of shape in
+    let feeds = feeds_of shape b.part in
+    let among : list_any (λ part. part == c.part) feeds ≡ true
+    = subst (λ n. list_any (λ part. part == n) feeds ≡ true) (sym of) (any-here feeds k d within) in
+    let least_of : x ≤ least (map (mark_of marks) (numbers_in feeds 0 all))
+    = subst (λ (o : Option Bounds). x ≤ least (map (mark_of marks) (option_map_or (λ (e : Bounds). numbers_in (feeds_of shape e.part) 0 all) o []))) at below in
+    let bound = among-bound x (mark_of marks) feeds 0 all other c (bound-each x (map (mark_of marks) (numbers_in feeds 0 all)) least_of) there among in
+    let none_before : 0 + other ≡ other = omega arith in
+    (mark_of marks other, subst (λ n. x ≤ mark_of marks n) none_before bound, safe other c there)
+
+-- ---- a report
+
+-- what is reported is a safe mark, as far as the marks that feed the interval allow
+pub IsSafeAt-reported : (book : BookView) (lease : LeaseView) (front own : ℕ) → IsLawful book.case (core_of book) → HasSeenAll book lease front
+    → IsOwnWork book lease front own → last_claim lease.interval book.history ≡ Some lease.seq
+    → IfSome book.rows (λ _. IsSafeAt book.case (run_of book.case.topology book.history) lease.interval (min own (least (feeding_marks book.case.topology lease.interval book.marks))))
+IsSafeAt-reported book lease front own lawful saw is last = by_told book.rows lawful.held lawful.safe is
+  where
+    run : Run
+    run = run_of book.case.topology book.history
+
+    inputs : ℕ
+    inputs = least (feeding_marks book.case.topology lease.interval book.marks)
+
+    by_told : (told : Option Rows) → IfSome told (IsHeld book.case book.history) → IfSome told (λ _. AreSafe book.case run book.marks)
+        → ((b : Bounds) → slice_get (intervals_of book.case.topology) lease.interval ≡ Some b
+        → IfSome told (λ _. own ≡ own_work book.case (run_of book.case.topology (known lease.interval lease.seq (take front book.history))) b))
+        → IfSome told (λ _. IsSafeAt book.case run lease.interval (min own inputs))
+    by_told None held safe is = tt
+    by_told (Some rows) held safe is = λ b at.
+        let below = own-whole book lease front own b lawful held.legal saw last at (is b at) in
+        IsSafe-reported book.case book.history lease.interval b (min own inputs) lawful.runnable at (omega (arith, below))
+        (under-feeding book.case run book.marks lease.interval (min own inputs) b safe at (omega arith))
+
+-- ---- under the low watermark
+
+-- a bound of the marks of a part is one of the mark of each of its intervals
+part-bound : (x part : ℕ) (all : List Bounds) (marks : List ℕ) (k : ℕ) (b : Bounds) → length marks ≡ length all → AllByRecursion (λ m. x ≤ m) (marks_in all part marks)
+    → slice_get all k ≡ Some b → b.part ≡ part → x ≤ mark_of marks k
+part-bound x part [] marks k b long each at of = absurd (none_some b at)
+part-bound x part (c ∷ cs) [] k b long each at of = absurd (omega (arith, long))
+part-bound x part (c ∷ cs) (m ∷ ms) zero b long each at of =
+    let same : c.part ≡ part = ap (λ (d : Bounds). d.part) (some_same c b at) ∙ of in
+    (subst (λ t. AllByRecursion (λ n. x ≤ n) (cons_option (cond t (Some m) None) (marks_in cs part ms))) (eq-eqb c.part part same) each).0
+part-bound x part (c ∷ cs) (m ∷ ms) (suc k) b long each at of =
+    part-bound x part cs ms k b (omega (arith, long)) (later (c.part == part) each) at of
+  where
+    later : (t : Bool) → AllByRecursion (λ n. x ≤ n) (cons_option (cond t (Some m) None) (marks_in cs part ms)) → AllByRecursion (λ n. x ≤ n) (marks_in cs part ms)
+    later true each = each.1
+    later false each = each
+
+-- the least mark of a part's intervals is at most the part's low watermark, where the keeper tells
+pub are-under_low : (book : BookView) → IsLawful book.case (core_of book)
+    → IfSome book.rows (λ _. AreUnderLow book.case (run_of book.case.topology book.history) book.marks)
+are-under_low book lawful =
+    told-then book.rows (λ r. IsHeld book.case book.history r × AreSafe book.case (run_of book.case.topology book.history) book.marks) _
+    (told-both book.rows (IsHeld book.case book.history) _ lawful.held lawful.safe)
+    (λ r p part there.
+    let marks = marks_of book.case.topology part book.marks in
+    let x = least marks in
+    marks-low book.case book.history part x lawful.runnable p.0.legal there (least-end marks)
+    (λ interval b at of. (
+      mark_of book.marks interval,
+      part-bound x part (intervals_of book.case.topology) book.marks interval b lawful.marks (bound-each x marks (omega arith)) at of,
+      p.1 interval b at,
+    )))
