@@ -36,13 +36,14 @@ pub(crate) fn claim_both<K: Keeper>(
     requires risen { HasRisen 0 book.old }
     ensures claimed { OnOk result (HasRisen 2 book.new) }
 {
-    let Ok(Claimed { lease: source, rows: _ }) = claim(alloc, book, 0) else {
-        return Err(NoMemory);
+    let source = match claim(alloc, book, 0) {
+        Ok(claimed) => claimed.lease,
+        Err(_why) => return Err(NoMemory),
     };
-    let Ok(Claimed { lease: count, rows: _ }) = claim(alloc, book, 1) else {
-        return Err(NoMemory);
-    };
-    hands(alloc, source, count)
+    match claim(alloc, book, 1) {
+        Ok(claimed) => hands(alloc, source, claimed.lease),
+        Err(_why) => Err(NoMemory),
+    }
 }
 
 // The first line is injected.

@@ -65,7 +65,7 @@ pub(crate) fn claim<K: Keeper>(
     look(rt, trial, call, claim_failed(&first), before == sight(book));
     match first {
         Ok(claimed) => Ok(claimed),
-        Err(_) => calls::claim(trial.alloc, book, interval),
+        Err(_why) => calls::claim(trial.alloc, book, interval),
     }
 }
 
