@@ -32,11 +32,13 @@ use Rattle.history_laws.proofs.LowLaws.{rows-in_order}
 use Rattle.history_laws.proofs.UnfinishedLaws.{unfinished-followed, unfinished-kept}
 use Rattle.history_laws.proofs.StoredLaws.{stored_rows-followed, stored_rows-kept}
 use Rattle.book.specs.Books.{CoreView}
-use Rattle.book.specs.Lawful.{IsKept, IsHeld, IsLawful}
+use Rattle.book.specs.Lawful.{IsKept, IsHeld, AreClaimsThere, IsLawful}
 use Rattle.book.specs.Appending.{IsNext}
+use Rattle.book.specs.Marks.{AreSafe}
 use Rattle.book.specs.Senders.{AreSenders}
 use Rattle.book.specs.Sending.{sender_of, KnowsSame}
 use Rattle.book.proofs.SenderSteps.{senders-claim, senders-same}
+use Rattle.book.proofs.MarkSteps.{claims-next, claims-claim, AreSafe-appended, AreSafe-same, told-stored}
 use Rattle.book.proofs.FitLaws.{fits-later}
 
 -- what holds of each row, and of one that is put among them, holds of each then
@@ -117,23 +119,23 @@ pub IsLawful-next : (case : CaseShape) (old new : CoreView) (name : RowName) (en
     → IfSome old.rows (λ _. before ≡ row_of case.topology (run_of case.topology old.history) name)
     → new.work ≡ (old.work + work_in case name row) - work_in case name before
     → new.history ≡ old.history ++ entry ∷ [] → new.rows ≡ option_map (with_row name (spelling_of row)) old.rows → new.limit ≡ old.limit
-    → AreSenders case.topology (run_of case.topology new.history) new.unacknowledged
+    → AreSenders case.topology (run_of case.topology new.history) new.unacknowledged → new.marks ≡ old.marks
     → IsLawful case new
-IsLawful-next case old new name entry before row lawful next spelled was work appended stored limit senders = record {
+IsLawful-next case old new name entry before row lawful next spelled was work appended stored limit senders same_marks = record {
   runnable = lawful.runnable;
   limit = subst (λ n. n ≤ 2 ^ 32) (sym limit) lawful.limit;
   few = omega (arith, ap length appended, length-push old.history entry, next.room, limit);
   fenced = subst (IsFenced case.topology) (sym appended) (IsFenced-push case.topology old.history entry lawful.fenced next.under);
   printable = subst (IsPrintable case.topology) (sym appended) (IsPrintable-push case.topology old.history entry lawful.printable
       (omega (arith, next.room, lawful.limit)) (subst (λ w. IfSome w (λ (r : RowName). r.part < parts_of case.topology)) (sym next.on_row) next.part) next.few);
-  held = subst (λ (h : List Entry). IfSome new.rows (IsHeld case h)) (sym appended)
-      (subst (λ o. IfSome o (IsHeld case (old.history ++ entry ∷ []))) (sym stored) (told old.rows lawful.held next.may next.of_history));
+  held = held;
   left = subst (λ (h : List Entry). IfSome new.rows (λ _. new.work ≡ unfinished case (run_of case.topology h))) (sym appended)
       (subst (λ o. IfSome o (λ _. new.work ≡ unfinished case (run_of case.topology (old.history ++ entry ∷ [])))) (sym stored) (told-left old.rows lawful.left was next.of_history));
   senders = senders;
-  claims = ?;
-  marks = ?;
-  safe = ?;
+  claims = subst (AreClaimsThere case.topology) (sym appended) (claims-next case.topology old.history entry name next.on_row lawful.claims);
+  marks = ap length same_marks ∙ lawful.marks;
+  safe = AreSafe-appended case old new entry lawful.runnable appended same_marks held
+      (subst (λ o. IfSome o (λ _. AreSafe case (run_of case.topology old.history) old.marks)) (sym stored) (told-stored (AreSafe case (run_of case.topology old.history) old.marks) (with_row name (spelling_of row)) old.rows lawful.safe));
 }
   where
     told-left : (o : Option Rows) → IfSome o (λ _. old.work ≡ unfinished case (run_of case.topology old.history))
@@ -148,6 +150,10 @@ IsLawful-next case old new name entry before row lawful next spelled was work ap
         → IfSome (option_map (with_row name (spelling_of row)) o) (IsHeld case (old.history ++ entry ∷ []))
     told None held may is = tt
     told (Some rows) held may is = IsHeld-next case old.history rows name entry row held next.on_row may is (record { spelled = spelled; fit = next.fit })
+
+    held : IfSome new.rows (IsHeld case new.history)
+    held = subst (λ (h : List Entry). IfSome new.rows (IsHeld case h)) (sym appended)
+        (subst (λ o. IfSome o (IsHeld case (old.history ++ entry ∷ []))) (sym stored) (told old.rows lawful.held next.may next.of_history))
 
 -- what is held after a legal history is held after a claim
 IsHeld-claim : (case : CaseShape) (history : List Entry) (rows : Rows) (worker interval : ℕ) → IsHeld case history rows
@@ -168,8 +174,8 @@ IsHeld-claim case history rows worker interval held may =
 pub IsLawful-claimed : (case : CaseShape) (old new : CoreView) (worker interval : ℕ) → IsLawful case old
     → length old.history < old.limit → MayClaim case worker interval
     → new.history ≡ old.history ++ Claim worker interval ∷ [] → new.rows ≡ old.rows → new.limit ≡ old.limit → new.work ≡ old.work
-    → new.unacknowledged ≡ old.unacknowledged → IsLawful case new
-IsLawful-claimed case old new worker interval lawful room may appended rows limit work same_senders = record {
+    → new.unacknowledged ≡ old.unacknowledged → new.marks ≡ old.marks → IsLawful case new
+IsLawful-claimed case old new worker interval lawful room may appended rows limit work same_senders same_marks = record {
   runnable = lawful.runnable;
   limit = subst (λ n. n ≤ 2 ^ 32) (sym limit) lawful.limit;
   few = omega (arith, ap length appended, length-push old.history (Claim worker interval), room, limit);
@@ -177,16 +183,16 @@ IsLawful-claimed case old new worker interval lawful room may appended rows limi
       (IsFenced-push case.topology old.history (Claim worker interval) lawful.fenced (claim-under case.topology old.history worker interval));
   printable = subst (IsPrintable case.topology) (sym appended) (IsPrintable-push case.topology old.history (Claim worker interval) lawful.printable
       (omega (arith, room, lawful.limit)) tt (omega arith));
-  held = subst (λ (h : List Entry). IfSome new.rows (IsHeld case h)) (sym appended)
-      (subst (λ o. IfSome o (IsHeld case (old.history ++ Claim worker interval ∷ []))) (sym rows) (told old.rows lawful.held));
+  held = held;
   left = subst (λ (h : List Entry). IfSome new.rows (λ _. new.work ≡ unfinished case (run_of case.topology h))) (sym appended)
       (subst (λ o. IfSome o (λ _. new.work ≡ unfinished case (run_of case.topology (old.history ++ Claim worker interval ∷ [])))) (sym rows) (told-left old.rows lawful.left));
   senders = subst (λ (h : List Entry). AreSenders case.topology (run_of case.topology h) new.unacknowledged) (sym appended)
       (subst (AreSenders case.topology (run_of case.topology (old.history ++ Claim worker interval ∷ []))) (sym same_senders)
       (senders-claim case.topology old.history worker interval old.unacknowledged lawful.senders));
-  claims = ?;
-  marks = ?;
-  safe = ?;
+  claims = subst (AreClaimsThere case.topology) (sym appended) (claims-claim case old.history worker interval may lawful.claims);
+  marks = ap length same_marks ∙ lawful.marks;
+  safe = AreSafe-appended case old new (Claim worker interval) lawful.runnable appended same_marks held
+      (subst (λ o. IfSome o (λ _. AreSafe case (run_of case.topology old.history) old.marks)) (sym rows) lawful.safe);
 }
   where
     told-left : (o : Option Rows) → IfSome o (λ _. old.work ≡ unfinished case (run_of case.topology old.history))
@@ -200,11 +206,15 @@ IsLawful-claimed case old new worker interval lawful room may appended rows limi
     told None held = tt
     told (Some rows) held = IsHeld-claim case old.history rows worker interval held may
 
+    held : IfSome new.rows (IsHeld case new.history)
+    held = subst (λ (h : List Entry). IfSome new.rows (IsHeld case h)) (sym appended)
+        (subst (λ o. IfSome o (IsHeld case (old.history ++ Claim worker interval ∷ []))) (sym rows) (told old.rows lawful.held))
+
 -- a book stays lawful where its history and its rows stay
 pub IsLawful-stays : (case : CaseShape) (old new : CoreView) → IsLawful case old
     → new.history ≡ old.history → new.rows ≡ old.rows → new.limit ≡ old.limit → new.work ≡ old.work
-    → KnowsSame old.unacknowledged new.unacknowledged → IsLawful case new
-IsLawful-stays case old new lawful history rows limit work same_senders = record {
+    → KnowsSame old.unacknowledged new.unacknowledged → new.marks ≡ old.marks → IsLawful case new
+IsLawful-stays case old new lawful history rows limit work same_senders same_marks = record {
   runnable = lawful.runnable;
   limit = subst (λ n. n ≤ 2 ^ 32) (sym limit) lawful.limit;
   few = omega (arith, ap length history, lawful.few, limit);
@@ -216,17 +226,17 @@ IsLawful-stays case old new lawful history rows limit work same_senders = record
       (subst (λ n. IfSome old.rows (λ _. n ≡ unfinished case (run_of case.topology old.history))) (sym work) lawful.left));
   senders = subst (λ (h : List Entry). AreSenders case.topology (run_of case.topology h) new.unacknowledged) (sym history)
       (senders-same case.topology (run_of case.topology old.history) old.unacknowledged new.unacknowledged lawful.senders same_senders);
-  claims = ?;
-  marks = ?;
-  safe = ?;
+  claims = subst (AreClaimsThere case.topology) (sym history) lawful.claims;
+  marks = ap length same_marks ∙ lawful.marks;
+  safe = AreSafe-same case old new history rows same_marks lawful.safe;
 }
 
 -- a book stays lawful, whether a claim was appended or not
 pub IsLawful-claiming : {T E : Type 0} (case : CaseShape) (old new : CoreView) (worker interval : ℕ) (result : Result T E) → IsLawful case old
     → length old.history < old.limit → MayClaim case worker interval
     → OnOk result (new.history ≡ old.history ++ Claim worker interval ∷ []) → OnErr result (new.history ≡ old.history)
-    → new.rows ≡ old.rows → new.limit ≡ old.limit → new.work ≡ old.work → new.unacknowledged ≡ old.unacknowledged → IsLawful case new
-IsLawful-claiming case old new worker interval (Ok x) lawful room may appended history rows limit work same_senders =
-    IsLawful-claimed case old new worker interval lawful room may appended rows limit work same_senders
-IsLawful-claiming case old new worker interval (Err why) lawful room may appended history rows limit work same_senders =
-    IsLawful-stays case old new lawful history rows limit work (λ id. ap (λ (l : List (RecordId × RowName)). sender_of l id) same_senders)
+    → new.rows ≡ old.rows → new.limit ≡ old.limit → new.work ≡ old.work → new.unacknowledged ≡ old.unacknowledged → new.marks ≡ old.marks → IsLawful case new
+IsLawful-claiming case old new worker interval (Ok x) lawful room may appended history rows limit work same_senders same_marks =
+    IsLawful-claimed case old new worker interval lawful room may appended rows limit work same_senders same_marks
+IsLawful-claiming case old new worker interval (Err why) lawful room may appended history rows limit work same_senders same_marks =
+    IsLawful-stays case old new lawful history rows limit work (λ id. ap (λ (l : List (RecordId × RowName)). sender_of l id) same_senders) same_marks

@@ -7,7 +7,9 @@ pub mod SeenRows
 pub mod ReportSteps
 pub mod FoundRows
 pub mod SenderMaps
+pub mod SentCounts
 pub mod SenderSteps
+pub mod SenderFloors
 pub mod SentLaws
 pub mod Growing
 pub mod ProposalLaws

@@ -1,13 +1,12 @@
 -- Claims are of intervals that are there, and marks stay safe, as a book grows.
-use Rattle.std.proofs.Common.{◌≡◌, ◌≢◌, ℕ, zero, suc, ◌+◌, ◌<◌, ◌≤◌, ◌==◌, Bool, true, false, cond, List, [], ◌∷◌, ◌++◌, length, replicate, refl, sym, ◌∙◌, ap, subst, arith, true≢false}
-use Rattle.std.specs.Prelude.{max, Option, Some, None, IfSome, get_or, slice_get, unwrap_or}
+use Rattle.std.proofs.Common.{◌≡◌, ◌≢◌, ℕ, ◌<◌, ◌==◌, Bool, true, false, cond, List, [], ◌∷◌, ◌++◌, length, refl, sym, ◌∙◌, ap, subst, arith, true≢false}
+use Rattle.std.specs.Prelude.{max, Option, Some, None, IfSome, option_map, slice_get}
 use Rattle.std.proofs.lemmas.Bool.{eqb-true, eq-eqb}
 use Rattle.std.proofs.lemmas.List.{length-set, get_or-set_same, get_or-set_other}
 use Rattle.std.proofs.lemmas.Option.{unwrap_or-slice_get}
 use Rattle.mw_types.specs.declared.identity.RowName.{RowName}
 use Rattle.mw_types.specs.declared.entry.Entry.{Entry}
 use Rattle.mw_types.specs.declared.entry.Entry.TheVariants.{Claim, Inject, Handle, Fire, Ack, Purge}
-use Rattle.key_intervals.specs.declared.bounds.Bounds.{Bounds}
 use Rattle.topology.specs.Shapes.{Shape}
 use Rattle.row_keeper.specs.Rows.{Rows}
 use Rattle.run_history.specs.Cases.{CaseShape, intervals_of}
@@ -21,17 +20,13 @@ use Rattle.history_laws.specs.Marks.{IsSafe}
 use Rattle.history_laws.proofs.Lists.{none_some}
 use Rattle.history_laws.proofs.FenceLaws.{last_claim-push}
 use Rattle.history_laws.proofs.MarkLaws.{IsSafe-stays}
-use Rattle.history_laws.proofs.ReportLaws.{IsSafe-zero, IsSafe-greater}
+use Rattle.history_laws.proofs.ReportLaws.{IsSafe-greater}
 use Rattle.watermark.specs.Marks.{mark_of}
 use Rattle.book.specs.Books.{CoreView}
 use Rattle.book.specs.Lawful.{AreClaimsThere, IsHeld, IsLawful}
 use Rattle.book.specs.Marks.{IsSafeAt, AreSafe, with_mark}
 
 -- ---- claims
-
--- nothing is claimed at first
-pub claims-none : (shape : Shape) → AreClaimsThere shape []
-claims-none shape interval seq last = absurd (none_some seq last)
 
 -- the last claim of an interval, after an entry that is no claim of it, or a claim of one that is there
 claims-by : (shape : Shape) (history : List Entry) (entry : Entry) (interval seq : ℕ) (test : Bool) → (test ≡ true → interval < length (intervals_of shape))
@@ -68,17 +63,6 @@ claims-claim case history worker interval may there other seq last =
 
 -- ---- marks
 
--- the mark of an interval, among marks that are all 0
-zero-mark : (n interval : ℕ) → mark_of (replicate n 0) interval ≡ 0
-zero-mark zero interval = refl
-zero-mark (suc n) zero = refl
-zero-mark (suc n) (suc interval) = zero-mark n interval
-
--- marks that are all 0 are safe
-pub AreSafe-zero : (case : CaseShape) (run : Run) (n : ℕ) → AreSafe case run (replicate n 0)
-AreSafe-zero case run n interval bounds at = let zeros = zero-mark n interval in
-    subst (IsSafe case run bounds) (sym zeros) (IsSafe-zero case run bounds)
-
 -- marks that are safe after a legal history are so after one more entry, where the keeper tells
 pub AreSafe-next : (case : CaseShape) (history : List Entry) (entry : Entry) (marks : List ℕ) (told : Option Rows) → IsRunnable case
     → IfSome told (IsHeld case (history ++ entry ∷ [])) → IfSome told (λ _. AreSafe case (run_of case.topology history) marks)
@@ -86,6 +70,28 @@ pub AreSafe-next : (case : CaseShape) (history : List Entry) (entry : Entry) (ma
 AreSafe-next case history entry marks None runs held safe = tt
 AreSafe-next case history entry marks (Some rows) runs held safe =
     λ interval bounds at. IsSafe-stays case history (entry ∷ []) interval bounds (mark_of marks interval) runs held.legal at (safe interval bounds at)
+
+-- and so over all of a book, where the marks stay
+pub AreSafe-appended : (case : CaseShape) (old new : CoreView) (entry : Entry) → IsRunnable case → new.history ≡ old.history ++ entry ∷ [] → new.marks ≡ old.marks
+    → IfSome new.rows (IsHeld case new.history) → IfSome new.rows (λ _. AreSafe case (run_of case.topology old.history) old.marks)
+    → IfSome new.rows (λ _. AreSafe case (run_of case.topology new.history) new.marks)
+AreSafe-appended case old new entry runs appended same held safe =
+    subst (λ (l : List ℕ). IfSome new.rows (λ _. AreSafe case (run_of case.topology new.history) l)) (sym same)
+    (subst (λ (h : List Entry). IfSome new.rows (λ _. AreSafe case (run_of case.topology h) old.marks)) (sym appended)
+    (AreSafe-next case old.history entry old.marks new.rows runs (subst (λ (h : List Entry). IfSome new.rows (IsHeld case h)) appended held) safe))
+
+-- marks are safe where nothing was appended
+pub AreSafe-same : (case : CaseShape) (old new : CoreView) → new.history ≡ old.history → new.rows ≡ old.rows → new.marks ≡ old.marks
+    → IfSome old.rows (λ _. AreSafe case (run_of case.topology old.history) old.marks) → IfSome new.rows (λ _. AreSafe case (run_of case.topology new.history) new.marks)
+AreSafe-same case old new history rows same safe =
+    subst (λ (l : List ℕ). IfSome new.rows (λ _. AreSafe case (run_of case.topology new.history) l)) (sym same)
+    (subst (λ (h : List Entry). IfSome new.rows (λ _. AreSafe case (run_of case.topology h) old.marks)) (sym history)
+    (subst (λ o. IfSome o (λ _. AreSafe case (run_of case.topology old.history) old.marks)) (sym rows) safe))
+
+-- what is told of the rows, and not of which they are, is told of them as they are stored
+pub told-stored : (P : Type 0) (store : Rows → Rows) (o : Option Rows) → IfSome o (λ _. P) → IfSome (option_map store o) (λ _. P)
+told-stored P store None is = tt
+told-stored P store (Some rows) is = is
 
 -- the mark of an interval is the one that was put there
 mark-here : (marks : List ℕ) (interval mark : ℕ) → interval < length marks → mark_of (with_mark interval mark marks) interval ≡ mark

@@ -1,30 +1,27 @@
 -- What is reported under the last claim of an interval is at most the interval's work by the whole history, and the marks are at
 -- most the low watermarks.
-use Rattle.std.proofs.Common.{◌≡◌, ℕ, zero, suc, ◌+◌, ◌<◌, ◌≤◌, ◌==◌, ◌||◌, Bool, true, false, cond, List, [], ◌∷◌, ◌++◌, length, map, take, drop, fold, refl, sym, ◌∙◌, ap, subst, arith}
-use Rattle.std.specs.Prelude.{All, min, Option, Some, None, IfSome, get_or, slice_get, unwrap_or}
+use Rattle.std.proofs.Common.{◌≡◌, ℕ, zero, suc, ◌+◌, ◌<◌, ◌≤◌, ◌==◌, Bool, true, false, cond, List, [], ◌∷◌, ◌++◌, length, map, take, drop, refl, sym, ◌∙◌, ap, subst, arith}
+use Rattle.std.specs.Prelude.{◌↔◌, All, min, Option, Some, None, IfSome, Err, get_or, slice_get}
 use Rattle.std.specs.List.{AllByRecursion, list_any, cons_option}
 use Rattle.std.specs.Option.{option_map_or}
 use Rattle.std.proofs.lemmas.Bool.{eq-eqb}
 use Rattle.std.proofs.lemmas.List.{take-append-drop}
 use Rattle.std.proofs.lemmas.List.Folds.{list_any_at}
-use Rattle.mw_types.specs.declared.TheConstants.{END}
-use Rattle.mw_types.specs.declared.identity.RowName.{RowName}
 use Rattle.mw_types.specs.declared.entry.Entry.{Entry}
 use Rattle.key_intervals.specs.declared.bounds.Bounds.{Bounds}
 use Rattle.key_intervals.specs.Intervals.{AreIntervals}
 use Rattle.key_intervals.proofs.Made as made
-use Rattle.topology.specs.Shapes.{Shape, parts_of, feeds_of}
+use Rattle.topology.specs.Shapes.{Shape, feeds_of}
 use Rattle.topology.specs.Rules.{IsTopology, part_cuts_of}
 use Rattle.row_keeper.specs.Rows.{Rows}
-use Rattle.row_parts.specs.Contents.{Contents}
 use Rattle.run_history.specs.Cases.{CaseShape, is_injector, intervals_of}
-use Rattle.run_history.specs.Runs.{Run, run_of, row_of, followed, empty_run}
+use Rattle.run_history.specs.Runs.{Run, run_of, empty_run}
 use Rattle.run_history.specs.Legal.{IsLegal}
-use Rattle.run_history.specs.Watermarks.{least, low_watermark, source_mark}
+use Rattle.run_history.specs.Watermarks.{least, source_mark}
 use Rattle.run_history.proofs.CaseIntervals.{part_cuts_of-numbered, part_cuts_of-cuts, intervals-few}
 use Rattle.history_laws.specs.Fences.{IsFenced, HasSeen, last_claim, known}
 use Rattle.history_laws.specs.Inputs.{IsRunnable}
-use Rattle.history_laws.specs.Marks.{own_work, IsSafe, IsUnderMarks}
+use Rattle.history_laws.specs.Marks.{own_work, IsUnderMarks}
 use Rattle.history_laws.proofs.Lists.{none_some, some_same}
 use Rattle.history_laws.proofs.Along.{run_of-append, AreLegal-apart, along_entries}
 use Rattle.history_laws.proofs.FenceLaws.{known-last, last_claim-front, row_of-seen}
@@ -35,11 +32,14 @@ use Rattle.history_laws.proofs.OwnLaws.{IsRowFrom}
 use Rattle.history_laws.proofs.ReportLaws.{IsSafe-reported, marks-low}
 use Rattle.history_laws.proofs.SeenLaws.{HasSeen-take}
 use Rattle.history_laws.proofs.WorkLaws.{source_mark-followed}
-use Rattle.watermark.specs.Marks.{mark_of, marks_in, marks_of, numbers_in, feeding_of, feeding_marks}
+use Rattle.watermark.specs.Marks.{mark_of, marks_in, marks_of, numbers_in, feeding_marks}
 use Rattle.book.specs.Books.{BookView, LeaseView, core_of}
 use Rattle.book.specs.Lawful.{IsHeld, IsLawful}
 use Rattle.book.specs.Conditions.{HasSeenAll, IsOwnWork}
+use Rattle.book.specs.Answers.{IsStaleReport}
+use Rattle.book.specs.declared.refusals.Stale.{Stale}
 use Rattle.book.specs.Marks.{IsSafeAt, AreSafe, AreUnderLow}
+use Rattle.book.proofs.ClaimLaws.{err-is, is-err}
 use Rattle.book.proofs.SeenRows.{told-both, told-then}
 
 -- ---- own work
@@ -160,6 +160,18 @@ IsSafeAt-reported book lease front own lawful saw is last = by_told book.rows la
         let below = own-whole book lease front own b lawful held.legal saw last at (is b at) in
         IsSafe-reported book.case book.history lease.interval b (min own inputs) lawful.runnable at (omega (arith, below))
         (under-feeding book.case run book.marks lease.interval (min own inputs) b safe at (omega arith))
+
+-- a report is stale by the later claim that was found, and names it
+pub stale-report : (history : List Entry) (lease : LeaseView) (n : ℕ)
+    → ((newer : ℕ) → (Some n ≡ Some newer) ↔ ((last_claim lease.interval history ≡ Some newer) × (lease.seq < newer)))
+    → IsStaleReport history lease (Err (record { newer = n }))
+stale-report history lease n later newer = (
+  λ same. (later newer).0 (ap (λ (s : Stale). Some s.newer) (err-is (stale n) (stale newer) same)),
+  λ is. is-err (stale n) (stale newer) (ap stale (some_same n newer ((later newer).1 is))),
+)
+  where
+    stale : ℕ → Stale
+    stale number = record { newer = number }
 
 -- ---- under the low watermark
 

@@ -1,8 +1,8 @@
 -- How what is known of senders changes as entries come. No public clause cites this module.
-use Rattle.std.specs.Prelude.{◌≡◌, ◌≤◌, ℕ, Bool, false, List, Option, Some, None, if◌then◌else◌, ◌&&◌, ◌==◌, nat_lt}
+use Rattle.std.specs.Prelude.{◌≡◌, ◌≤◌, ℕ, Bool, false, List, Option, Some, None, IsSome, if◌then◌else◌, ◌&&◌, ◌==◌, nat_lt}
 use Rattle.std.specs.Map.{lookup}
 use Rattle.std.specs.BTreeMap.{is_at}
-use Rattle.std.specs.Ordering.{is_eq}
+use Rattle.std.specs.Ordering.{is_eq, is_gt}
 use Rattle.mw_types.specs.Orders.{id_cmp, row_cmp}
 use Rattle.mw_types.specs.declared.identity.RecordId.{RecordId}
 use Rattle.mw_types.specs.declared.identity.RowName.{RowName}
@@ -17,6 +17,10 @@ sender_of sent id = lookup (is_at (id_cmp id)) sent
 -- nothing is known of an entry of this number, nor of a later one
 abbrev pub IsUnsent : ℕ → List (RecordId × RowName) → Type 0
 IsUnsent commit sent = (id : RecordId) → commit ≤ id.commit → sender_of sent id ≡ None
+
+-- no id of which a sender is known is less than this one
+abbrev pub IsLeastKnown : List (RecordId × RowName) → RecordId → Type 0
+IsLeastKnown sent id = (other : RecordId) → IsSome (sender_of sent other) → is_gt (id_cmp id other) ≡ false
 
 -- the same is known of each id
 abbrev pub KnowsSame : List (RecordId × RowName) → List (RecordId × RowName) → Type 0

@@ -130,10 +130,7 @@ impl<'a, K: Keeper> Book<'a, K> {
         ensures none { (result ≡ None) ↔
             (all_pending (run_of self.now.case.topology self.now.history) ≡ []) }
     {
-        match self.core.unacknowledged.first_key_value() {
-            Some((id, name)) => Some((*id, name)),
-            None => None,
-        }
+        self.core.first_sent()
     }
 
     /// The mark of an interval, in whole microseconds: no work that is left in it, and none above it,

@@ -1,5 +1,5 @@
 //! All of a book but its case.
-ghost use Rattle.std.specs.Prelude.{◌≡◌, ◌++◌, ◌∷◌, ◌<◌, ◌^◌, [], length, max, OnOk, OnErr, Some, option_map};
+ghost use Rattle.std.specs.Prelude.{◌≡◌, ◌++◌, ◌∷◌, ◌<◌, ◌^◌, [], length, max, IfSome, None, OnOk, OnErr, Some, option_map, ◌↔◌};
 ghost use Rattle.mw_types.specs.Causes.{HasCause};
 ghost use Rattle.mw_types.specs.declared.entry.Entry.TheVariants.{Claim};
 ghost use Rattle.row_keeper.specs.Rows.{AreInOrder, with_row};
@@ -7,10 +7,10 @@ ghost use Rattle.run_history.specs.Made.{row_written};
 ghost use Rattle.history_laws.specs.Fences.{last_claim};
 ghost use Rattle.watermark.specs.Marks.{mark_of};
 ghost use Rattle.book.specs.Marks.{with_mark};
-ghost use Rattle.book.specs.Sending.{IsAfterEntry, IsUnsent, KnowsSame};
+ghost use Rattle.book.specs.Sending.{IsAfterEntry, IsLeastKnown, IsUnsent, KnowsSame, sender_of};
 
 use crate::senders::{Senders, forget_sent, note_sent, settle, settled_by};
-use mw_types::{Entry, NoMemory, RowName};
+use mw_types::{Entry, NoMemory, RecordId, RowName};
 use row_keeper::{Keeper, KeeperFault};
 use run_history::History;
 use std::alloc::Global;
@@ -129,6 +129,20 @@ impl<K: Keeper> Core<K> {
             return Err(NoMemory);
         }
         Ok(())
+    }
+
+    // The least id that is unacknowledged, and its sender's row.
+    pub(crate) fn first_sent(&self) -> Option<(RecordId, &RowName)>
+        ensures sender { IfSome result
+            (λ sent. sender_of self.now.unacknowledged sent.0 ≡ Some sent.1.now) }
+        ensures least { IfSome result
+            (λ sent. IsLeastKnown self.now.unacknowledged sent.0) }
+        ensures none { (result ≡ None) ↔ (self.now.unacknowledged ≡ []) }
+    {
+        match self.unacknowledged.first_key_value() {
+            Some((id, name)) => Some((*id, name)),
+            None => None,
+        }
     }
 
     // The mark of an interval.

@@ -31,13 +31,14 @@ invariant_of-self-2 g c =
     c.self.inside.core.unacknowledged c.append.new.self.unacknowledged c.requires.next.on_row
     (subst (λ (b : BookView). c.args.sent ≡ sent_by b.case.topology b.history c.args.entry) (sym c.self.view_is) c.requires.sent)
     c.self.invariant.senders c.in_ok-append.ensures.senders))
+    c.append.ensures.marks
 
 -- nothing was appended
 pub invariant_of-self : goal.invariant_of-self
 invariant_of-self g c =
     IsLawful-stays c.self.inside.case.now c.self.inside.core c.append.new.self c.self.invariant
     c.in_err-append.ensures.history c.in_err-append.ensures.rows c.append.ensures.limit c.in_err-append.ensures.same_left
-    c.in_err-append.ensures.same_senders
+    c.in_err-append.ensures.same_senders c.append.ensures.marks
 
 -- nothing is known of the entry that comes
 pub append-requires-clause-unsent : goal.append-requires-clause-unsent

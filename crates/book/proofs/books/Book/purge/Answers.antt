@@ -22,6 +22,7 @@ append_row-requires g c =
           (IsNext-purged c.args.self.now c.args.lease.now c.args.front c.args.name.now c.args.row.now c.in_ok-left.left c.args.floor
           c.admit.ensures.lawful c.requires.lease c.requires.row c.requires.floor c.in-Ok.ensures.last c.in-Ok.ensures.room
           (c.in_ok-left.ensures ∙ ap (λ n. written_row n entry [] c.args.row.now) c.in-Ok.ensures.number));
+      sent = refl;
       was = row-was c.args.self.now c.args.lease.now c.args.front c.args.name.now c.args.row.now c.admit.ensures.lawful c.requires.lease c.requires.row c.in-Ok.ensures.last;
     }
 

@@ -1,7 +1,11 @@
-use Rattle.std.proofs.Common.{◌≡◌, ℕ, length, subst, ◌∙◌}
+use Rattle.std.proofs.Common.{◌≡◌, ℕ, length, ap, subst, arith, ◌∙◌}
+use Rattle.row_parts.specs.Contents.{Contents}
 use Rattle.run_history.specs.Cases.{CaseShape}
+use Rattle.book.specs.Books.{core_of}
+use Rattle.book.specs.Appending.{IsNext}
 use Rattle.book.specs.Proposals.{IsEntryOf, left_by}
 use Rattle.book.proofs.ClaimLaws.{stale-again}
+use Rattle.book.proofs.SentCounts.{left-more}
 use Rattle.book.proofs.SeenRows.{row-was}
 use Rattle.book.proofs.ProposalLaws.{IsNext-proposed, IsWrittenBy-result}
 use Rattle.book.proofs.books.Book.write.Goals as goal
@@ -10,15 +14,24 @@ use Rattle.book.proofs.books.Book.write.Goals as goal
 pub returns-in-Err-clause-stale : goal.returns-in-Err-clause-stale
 returns-in-Err-clause-stale g c = stale-again c.args.self.now.history c.args.lease.now c.in-Err.why c.in-Err.ensures.stale
 
--- the entry of the proposal may come next
+-- the entry of the proposal may come next, and sends what its row has pending more than before
 pub append_row-requires : goal.append_row-requires
-append_row-requires g c = record {
-  next = IsNext-proposed c.args.self.now c.args.lease.now c.args.front c.args.name.now c.args.row.now c.in_ok-made.made.left c.args.proposal.now c.in_ok-made.made.entry
-      c.admit.ensures.lawful c.requires.lease c.requires.row c.in-Ok.ensures.last c.in-Ok.ensures.room c.requires.proposal c.requires.seen
-      (subst (λ (p : CaseShape × ℕ). IsEntryOf p.0 p.1 c.args.name.now c.args.proposal.now c.in_ok-made.made.entry) (λ i. (c.case-case.ensures.case i, c.seq.ensures i)) c.in_ok-made.ensures.entry)
-      (c.in_ok-made.ensures.left ∙ (λ i. left_by (c.case-case.ensures.case i).topology c.args.name.now c.args.proposal.now (c.in-Ok.ensures.number i) c.in_ok-made.made.entry c.args.row.now));
-  was = row-was c.args.self.now c.args.lease.now c.args.front c.args.name.now c.args.row.now c.admit.ensures.lawful c.requires.lease c.requires.row c.in-Ok.ensures.last;
-}
+append_row-requires g c =
+    let of : IsEntryOf c.args.self.now.case c.args.lease.now.seq c.args.name.now c.args.proposal.now c.in_ok-made.made.entry
+    = subst (λ (p : CaseShape × ℕ). IsEntryOf p.0 p.1 c.args.name.now c.args.proposal.now c.in_ok-made.made.entry) (λ i. (c.case-case.ensures.case i, c.seq.ensures i)) c.in_ok-made.ensures.entry in
+    let leaves : c.in_ok-made.made.left ≡ left_by c.args.self.now.case.topology c.args.name.now c.args.proposal.now (length c.args.self.now.history) c.in_ok-made.made.entry c.args.row.now
+    = c.in_ok-made.ensures.left ∙ (λ i. left_by (c.case-case.ensures.case i).topology c.args.name.now c.args.proposal.now (c.in-Ok.ensures.number i) c.in_ok-made.made.entry c.args.row.now) in
+    let next : IsNext c.args.self.now.case (core_of c.args.self.now) c.args.name.now c.in_ok-made.made.entry c.in_ok-made.made.left
+    = IsNext-proposed c.args.self.now c.args.lease.now c.args.front c.args.name.now c.args.row.now c.in_ok-made.made.left c.args.proposal.now c.in_ok-made.made.entry
+    c.admit.ensures.lawful c.requires.lease c.requires.row c.in-Ok.ensures.last c.in-Ok.ensures.room c.requires.proposal c.requires.seen of leaves in
+    let more = left-more c.args.self.now.case c.args.self.now.history c.args.lease.now.seq c.args.name.now c.args.proposal.now c.in_ok-made.made.entry
+    c.args.row.now c.in_ok-made.made.left of next.on_row leaves in
+    let after : c.len.result ≡ length c.in_ok-made.made.left.pending = c.len.ensures.count ∙ ap (λ (r : Contents). length r.pending) c.left.view_is in
+    let before : c.len-2.result ≡ length c.args.row.now.pending = c.len-2.ensures.count ∙ ap (λ (r : Contents). length r.pending) c.row.view_is in record {
+      next = next;
+      sent = omega (arith, more, after, before);
+      was = row-was c.args.self.now c.args.lease.now c.args.front c.args.name.now c.args.row.now c.admit.ensures.lawful c.requires.lease c.requires.row c.in-Ok.ensures.last;
+    }
 
 -- what was appended is the proposal's
 pub returns-clause-written : goal.returns-clause-written
