@@ -37,11 +37,11 @@ pub(crate) fn claim_both<K: Keeper>(
     ensures claimed { OnOk result (HasRisen 2 book.new) }
 {
     let source = match claim(alloc, book, 0) {
-        Ok(claimed) => claimed.lease,
+        Ok(Claimed { lease, rows: _rows }) => lease,
         Err(_why) => return Err(NoMemory),
     };
     match claim(alloc, book, 1) {
-        Ok(claimed) => hands(alloc, source, claimed.lease),
+        Ok(Claimed { lease, rows: _rows }) => hands(alloc, source, lease),
         Err(_why) => Err(NoMemory),
     }
 }
