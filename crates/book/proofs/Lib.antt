@@ -14,4 +14,3 @@ pub mod SentLaws
 pub mod Growing
 pub mod ProposalLaws
 pub mod FirstLaws
-pub mod TestLaws

@@ -10,3 +10,4 @@ pub mod Claims
 pub mod Appending
 pub mod Sending
 pub mod Refusing
+pub mod Rising
