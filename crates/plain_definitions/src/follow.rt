@@ -42,7 +42,8 @@ fn fresh(alloc: Global, state: State) -> Contents
     }
 }
 
-/// A row, which is fresh where no entry is on it.
+/// A row of a run, which is fresh where no entry is on it: `row_of` of `run_history`,
+/// `specs/Runs.antt`.
 pub fn plain_row_of(
     alloc: Global,
     topology: &Topology,
@@ -179,7 +180,8 @@ fn row_after(
     sent: &DeliveryList,
     name: &RowName,
 ) -> Result<Contents, NoMemory>
-    ensures { IfOk result (λ row. row ≡ row_after topology.now run.now entry.now sent.now name.now) }
+    ensures { IfOk result (λ row.
+        row ≡ row_after topology.now run.now entry.now sent.now name.now) }
 {
     let row = plain_row_of(alloc, topology, run, name)?;
     let row = changed(alloc, entry, sent, row)?;
@@ -224,7 +226,7 @@ fn still_unhandled(
     }
 }
 
-/// What stands after one more entry.
+/// What stands after one more entry, legal or not: `followed` of `run_history`, `specs/Runs.antt`.
 pub fn plain_followed(
     alloc: Global,
     topology: &Topology,
@@ -248,7 +250,8 @@ pub fn plain_followed(
     })
 }
 
-/// Before any entry.
+/// The run before any entry, where nothing was made: `empty_run` of `run_history`,
+/// `specs/Runs.antt`.
 pub fn plain_empty_run(alloc: Global) -> Run
     ensures empty { result ≡ empty_run }
 {
@@ -261,7 +264,7 @@ pub fn plain_empty_run(alloc: Global) -> Run
     }
 }
 
-/// What stands after a history.
+/// What stands after a history, legal or not: `run_of` of `run_history`, `specs/Runs.antt`.
 pub fn plain_run_of(alloc: Global, topology: &Topology, entries: &[Entry]) -> Result<Run, NoMemory>
     requires printable { IsPrintable topology.now entries.now }
 

@@ -12,7 +12,8 @@ use mw_types::{
 use std::alloc::Global;
 use std::cmp::Ordering;
 
-/// The first state of a row of a computation of this kind.
+/// The first state of a row of a computation of this kind: `fresh_state` of `computations`,
+/// `specs/Handlers.antt`.
 pub fn plain_fresh_state(alloc: Global, kind: Kind) -> State
     ensures fresh { result ≡ fresh_state kind }
 {
@@ -347,7 +348,8 @@ fn spiked(
     due: HeldTotal,
 ) -> Result<Outcome, NoMemory>
     ensures { IfOk result (λ left. left ≡
-        (if is_spike then with_record state key.now (due_time due.stamp) due.value else unchanged state)) }
+        (if is_spike then with_record state key.now (due_time due.stamp) due.value
+        else unchanged state)) }
 {
     if is_spike {
         with_record(alloc, state, key, due_time(due.stamp), due.value)
@@ -399,7 +401,8 @@ fn pass_record(alloc: Global, late: u64, item: &Record) -> Result<Outcome, NoMem
     with_record(alloc, state, &item.key, item.stamp, item.value)
 }
 
-/// What a part of this kind leaves of a record, by its row's key and state.
+/// What a part of this kind leaves of a record, by its row's key and state: `effects_of_record` of
+/// `computations`, `specs/Handlers.antt`.
 pub fn plain_effects_of_record(
     alloc: Global,
     kind: Kind,
@@ -408,7 +411,8 @@ pub fn plain_effects_of_record(
     item: &Record,
 ) -> Result<Outcome, NoMemory>
     requires kind { IsKind kind }
-    ensures effects { IfOk result (λ left. left ≡ effects_of_record kind key.now state.now item.now) }
+    ensures effects { IfOk result (λ left.
+        left ≡ effects_of_record kind key.now state.now item.now) }
 {
     match kind {
         Kind::Count { size } => match state {
@@ -435,7 +439,8 @@ pub fn plain_effects_of_timer(
     timer: &Timer,
 ) -> Result<Outcome, NoMemory>
     requires kind { IsKind kind }
-    ensures effects { IfOk result (λ left. left ≡ effects_of_timer kind key.now state.now timer.now) }
+    ensures effects { IfOk result (λ left.
+        left ≡ effects_of_timer kind key.now state.now timer.now) }
 {
     match kind {
         Kind::Count { .. } => match state {

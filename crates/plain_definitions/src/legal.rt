@@ -227,7 +227,7 @@ fn may_purge(
     Ok(there && contents.floor < floor && floor <= finished)
 }
 
-/// Whether an entry may come next.
+/// Whether an entry may come next: `MayFollow` of `run_history`, `specs/Legal.antt`.
 pub fn plain_may_follow(
     alloc: Global,
     case: &Case,
@@ -289,7 +289,8 @@ fn are_legal(alloc: Global, case: &Case, run: &Run, entries: &[Entry]) -> Result
     are_legal(alloc, case, &after, rest)
 }
 
-/// Whether a history is legal.
+/// Whether a history is legal, each entry after those before it: `IsLegal` of `run_history`,
+/// `specs/Legal.antt`.
 pub fn plain_is_legal(alloc: Global, case: &Case, entries: &[Entry]) -> Result<bool, NoMemory>
     requires printable { IsPrintable case.now.topology entries.now }
 

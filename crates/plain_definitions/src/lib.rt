@@ -1,12 +1,12 @@
 //! The definitions of handlers and histories as plain, slow functions, to be seen to compute.
 //!
 //! A reader who does not trust a definition runs its function: it goes through lists alone, anew at
-//! each call, and keeps nothing. Stands on `run_history` and what that stands on. Public contract: what
-//! a call answers is what its definition gives, and a truth value says whether its definition holds. A
-//! number that is too great for its type is refused as want of memory. The definitions are
-//! `specs/Handlers.antt` of `computations`, `specs/Contents.antt` of `row_parts`, and of `run_history`
-//! `specs/Made.antt`, `specs/Runs.antt`, `specs/Watermarks.antt`, `specs/Legal.antt` and
-//! `specs/Printing.antt`; there is none here.
+//! each call, and keeps nothing. Stands on `run_history` and what that stands on. Public contract:
+//! what a call answers is what its definition gives, and a truth value says whether its definition
+//! holds. A number that is too great for its type is refused as want of memory. The definitions are
+//! `specs/Handlers.antt` of `computations`, `specs/Contents.antt` of `row_parts`, and of
+//! `run_history` `specs/Made.antt`, `specs/Runs.antt`, `specs/Watermarks.antt`, `specs/Legal.antt`
+//! and `specs/Printing.antt`; there is none here.
 #![tactic(auto)]
 
 mod done;
