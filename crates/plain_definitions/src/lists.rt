@@ -209,6 +209,16 @@ pub fn row_in<'a>(name: &RowName, rows: &'a [NamedRow]) -> Option<&'a Contents>
     }
 }
 
+// A row of this name with these contents.
+fn named(alloc: Global, name: &RowName, contents: &Contents) -> Result<NamedRow, NoMemory>
+    ensures { IfOk result (λ row. row ≡ (name.now, contents.now)) }
+{
+    Ok(NamedRow {
+        name: name.copy(alloc)?,
+        contents: contents.copy(alloc)?,
+    })
+}
+
 /// The rows with this one in the place of the one of its name, or among them in the order of their
 /// names, as a map has them.
 pub fn with_row(
@@ -219,22 +229,12 @@ pub fn with_row(
 ) -> Result<RowList, NoMemory>
     ensures { IfOk result (λ all. all ≡ insert_entry row_cmp rows.now name.now contents.now) }
 {
-    let new = NamedRow {
-        name: name.copy(alloc)?,
-        contents: contents.copy(alloc)?,
-    };
     let [first, rest @ ..] = rows else {
-        return before(new, Seq::new(alloc));
+        return before(named(alloc, name, contents)?, Seq::new(alloc));
     };
     match row_order(name, &first.name) {
-        Ordering::Less => before(new, list_of(alloc, rows)?),
-        Ordering::Equal => {
-            let again = NamedRow {
-                name: first.name.copy(alloc)?,
-                contents: new.contents,
-            };
-            before(again, list_of(alloc, rest)?)
-        }
+        Ordering::Less => before(named(alloc, name, contents)?, list_of(alloc, rows)?),
+        Ordering::Equal => before(named(alloc, &first.name, contents)?, list_of(alloc, rest)?),
         Ordering::Greater => before(first.copy(alloc)?, with_row(alloc, rest, name, contents)?),
     }
 }
