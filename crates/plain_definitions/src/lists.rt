@@ -219,6 +219,19 @@ fn named(alloc: Global, name: &RowName, contents: &Contents) -> Result<NamedRow,
     })
 }
 
+// A row of this name with these contents, and then these rows.
+fn new_before(
+    alloc: Global,
+    name: &RowName,
+    contents: &Contents,
+    rows: &[NamedRow],
+) -> Result<RowList, NoMemory>
+    ensures { IfOk result (λ all. all ≡ (name.now, contents.now) ∷ rows.now) }
+{
+    let others = list_of(alloc, rows)?;
+    before(named(alloc, name, contents)?, others)
+}
+
 /// The rows with this one in the place of the one of its name, or among them in the order of their
 /// names, as a map has them.
 pub fn with_row(
@@ -230,11 +243,14 @@ pub fn with_row(
     ensures { IfOk result (λ all. all ≡ insert_entry row_cmp rows.now name.now contents.now) }
 {
     let [first, rest @ ..] = rows else {
-        return before(named(alloc, name, contents)?, Seq::new(alloc));
+        return new_before(alloc, name, contents, rows);
     };
     match row_order(name, &first.name) {
-        Ordering::Less => before(named(alloc, name, contents)?, list_of(alloc, rows)?),
-        Ordering::Equal => before(named(alloc, &first.name, contents)?, list_of(alloc, rest)?),
-        Ordering::Greater => before(first.copy(alloc)?, with_row(alloc, rest, name, contents)?),
+        Ordering::Less => new_before(alloc, name, contents, rows),
+        Ordering::Equal => new_before(alloc, &first.name, contents, rest),
+        Ordering::Greater => {
+            let others = with_row(alloc, rest, name, contents)?;
+            before(first.copy(alloc)?, others)
+        }
     }
 }
