@@ -65,7 +65,7 @@ fn none_pending(rows: &[NamedRow]) -> bool
 }
 
 /// Whether all work of one thread is done: each line is injected, nothing waits, and no timer is
-/// pending.
+/// set. `IsDone` of `run_history`, `specs/Legal.antt`.
 pub fn plain_is_done(alloc: Global, case: &Case, run: &Run) -> Result<bool, NoMemory>
     ensures done { IfOk result (λ is. IsTrue is ↔ IsDone case.now run.now) }
 {

@@ -1,6 +1,6 @@
 //! What stands after a history, one entry after another.
-ghost use Rattle.std.specs.Prelude.{◌≡◌, ◌<◌, ◌≤◌, ◌^◌, ◌++◌, length, IfOk};
-ghost use Rattle.row_parts.specs.Contents.{fresh};
+ghost use Rattle.std.specs.Prelude.{◌≡◌, ◌+◌, ◌<◌, ◌≤◌, ◌^◌, ◌++◌, length, IfOk};
+ghost use Rattle.row_parts.specs.Contents.{fresh, without_delivery, ids_from};
 ghost use Rattle.run_history.specs.Cases.{fresh_of};
 ghost use Rattle.run_history.specs.Made.{productions_of};
 ghost use Rattle.run_history.specs.Runs.{empty_run, row_of, advanced, noted, handled_in, fired_in, changed, row_after, rows_after, still_unhandled, followed, run_of};
@@ -13,8 +13,10 @@ use crate::lists::{
 use crate::made::{plain_made, row_written};
 use crate::run::{Contents, RowList, Run};
 use mw_types::{
-    DeliveryList, Duplicate, Effects, Entry, IdList, NoMemory, RecordId, RowName, Seq, State, Timer,
+    DeliveryList, Duplicate, Effects, Entry, IdList, NoMemory, RecordId, RowName, Seq, State,
+    Timer, TimerList,
 };
+use run_history::Made;
 use std::alloc::Global;
 use topology::Topology;
 
@@ -42,7 +44,8 @@ fn fresh(alloc: Global, state: State) -> Contents
     }
 }
 
-/// A row, which is fresh where no entry is on it.
+/// A row of a run, which is fresh where no entry is on it: `row_of` of `run_history`,
+/// `specs/Runs.antt`.
 pub fn plain_row_of(
     alloc: Global,
     topology: &Topology,
@@ -82,6 +85,33 @@ fn noted(alloc: Global, id: &RecordId, row: &Contents) -> Result<IdList, NoMemor
     with_id(alloc, id, row.seen.as_slice())
 }
 
+// A row with a handler's state, these timers and handled ids, and what was made added to what is
+// pending.
+fn left_in(
+    alloc: Global,
+    effects: &Effects,
+    timers: TimerList,
+    seen: IdList,
+    sent: &DeliveryList,
+    row: &Contents,
+) -> Result<Contents, NoMemory>
+    ensures { IfOk result (λ after. after ≡ record row.now {
+      state = effects.now.state;
+      timers = timers;
+      pending = row.now.pending ++ sent.now;
+      seen = seen;
+    }) }
+{
+    Ok(Contents {
+        state: effects.state.copy(alloc)?,
+        timers,
+        pending: joined(alloc, &row.pending, sent)?,
+        seen,
+        floor: row.floor,
+        last: row.last,
+    })
+}
+
 // A row after a handled record.
 fn handled_in(
     alloc: Global,
@@ -92,14 +122,9 @@ fn handled_in(
 ) -> Result<Contents, NoMemory>
     ensures { IfOk result (λ after. after ≡ handled_in id.now effects.now sent.now row.now) }
 {
-    Ok(Contents {
-        state: effects.state.copy(alloc)?,
-        timers: with_timers(alloc, effects.timers.as_slice(), &row.timers)?,
-        pending: joined(alloc, &row.pending, sent)?,
-        seen: noted(alloc, id, row)?,
-        floor: row.floor,
-        last: row.last,
-    })
+    let timers = with_timers(alloc, effects.timers.as_slice(), &row.timers)?;
+    let seen = noted(alloc, id, row)?;
+    left_in(alloc, effects, timers, seen, sent, row)
 }
 
 // A row after a fired timer.
@@ -112,14 +137,9 @@ fn fired_in(
 ) -> Result<Contents, NoMemory>
     ensures { IfOk result (λ after. after ≡ fired_in timer.now effects.now sent.now row.now) }
 {
-    Ok(Contents {
-        state: effects.state.copy(alloc)?,
-        timers: without_timer(alloc, timer.tag, timer.time, row.timers.as_slice())?,
-        pending: joined(alloc, &row.pending, sent)?,
-        seen: row.seen.copy(alloc)?,
-        floor: row.floor,
-        last: row.last,
-    })
+    let timers = without_timer(alloc, timer.tag, timer.time, row.timers.as_slice())?;
+    let seen = row.seen.copy(alloc)?;
+    left_in(alloc, effects, timers, seen, sent, row)
 }
 
 // A row after an injected line.
@@ -133,6 +153,38 @@ fn injected_in(alloc: Global, sent: &DeliveryList, row: Contents) -> Result<Cont
         pending: joined(alloc, &row.pending, sent)?,
         seen: row.seen,
         floor: row.floor,
+        last: row.last,
+    })
+}
+
+// A row after an acknowledgement.
+fn acknowledged_in(alloc: Global, id: RecordId, row: Contents) -> Result<Contents, NoMemory>
+    ensures { IfOk result (λ after.
+        after ≡ record row { pending = without_delivery id row.pending }) }
+{
+    let pending = without_delivery(alloc, id, row.pending.as_slice())?;
+    Ok(Contents {
+        state: row.state,
+        timers: row.timers,
+        pending,
+        seen: row.seen,
+        floor: row.floor,
+        last: row.last,
+    })
+}
+
+// A row after a purge.
+fn purged_in(alloc: Global, floor: u64, row: Contents) -> Result<Contents, NoMemory>
+    ensures { IfOk result (λ after.
+        after ≡ record row { floor = floor; seen = ids_from floor row.seen }) }
+{
+    let seen = ids_from(alloc, floor, row.seen.as_slice())?;
+    Ok(Contents {
+        state: row.state,
+        timers: row.timers,
+        pending: row.pending,
+        seen,
+        floor,
         last: row.last,
     })
 }
@@ -151,22 +203,8 @@ fn changed(
         Entry::Inject { .. } => injected_in(alloc, sent, row),
         Entry::Handle { id, effects, .. } => handled_in(alloc, id, effects, sent, &row),
         Entry::Fire { timer, effects, .. } => fired_in(alloc, timer, effects, sent, &row),
-        Entry::Ack { id, .. } => Ok(Contents {
-            state: row.state,
-            timers: row.timers,
-            pending: without_delivery(alloc, *id, row.pending.as_slice())?,
-            seen: row.seen,
-            floor: row.floor,
-            last: row.last,
-        }),
-        Entry::Purge { floor, .. } => Ok(Contents {
-            state: row.state,
-            timers: row.timers,
-            pending: row.pending,
-            seen: ids_from(alloc, *floor, row.seen.as_slice())?,
-            floor: *floor,
-            last: row.last,
-        }),
+        Entry::Ack { id, .. } => acknowledged_in(alloc, *id, row),
+        Entry::Purge { floor, .. } => purged_in(alloc, *floor, row),
     }
 }
 
@@ -179,7 +217,8 @@ fn row_after(
     sent: &DeliveryList,
     name: &RowName,
 ) -> Result<Contents, NoMemory>
-    ensures { IfOk result (λ row. row ≡ row_after topology.now run.now entry.now sent.now name.now) }
+    ensures { IfOk result (λ row.
+        row ≡ row_after topology.now run.now entry.now sent.now name.now) }
 {
     let row = plain_row_of(alloc, topology, run, name)?;
     let row = changed(alloc, entry, sent, row)?;
@@ -224,7 +263,46 @@ fn still_unhandled(
     }
 }
 
-/// What stands after one more entry.
+// The deliveries that wait after an entry that made these.
+fn waiting_after(
+    alloc: Global,
+    entry: &Entry,
+    waiting: &DeliveryList,
+    sent: &DeliveryList,
+) -> Result<DeliveryList, NoMemory>
+    ensures { IfOk result (λ all. all ≡ still_unhandled entry.now waiting.now ++ sent.now) }
+{
+    let left = still_unhandled(alloc, entry, waiting)?;
+    joined(alloc, &left, sent)
+}
+
+// A run with one more entry, which left these rows and waiting deliveries, and made this.
+fn with_made(
+    alloc: Global,
+    run: &Run,
+    rows: RowList,
+    unhandled: DeliveryList,
+    made: &Made,
+) -> Result<Run, NoMemory>
+    requires { run.now.next < 2 ^ 32 }
+    ensures { IfOk result (λ after. after ≡ record {
+      next = run.now.next + 1;
+      rows = rows;
+      made = run.now.made ++ made.now.deliveries;
+      unhandled = unhandled;
+      emissions = run.now.emissions ++ made.now.emissions;
+    }) }
+{
+    Ok(Run {
+        next: run.next + 1,
+        rows,
+        made: joined(alloc, &run.made, &made.deliveries)?,
+        unhandled,
+        emissions: joined(alloc, &run.emissions, &made.emissions)?,
+    })
+}
+
+/// What stands after one more entry, legal or not: `followed` of `run_history`, `specs/Runs.antt`.
 pub fn plain_followed(
     alloc: Global,
     topology: &Topology,
@@ -238,17 +316,13 @@ pub fn plain_followed(
     ensures followed { IfOk result (λ after. after ≡ followed topology.now run.now entry.now) }
 {
     let made = plain_made(alloc, topology, run.made.as_slice(), run.next, entry)?;
-    let waiting = still_unhandled(alloc, entry, &run.unhandled)?;
-    Ok(Run {
-        next: run.next + 1,
-        rows: rows_after(alloc, topology, run, entry, &made.deliveries)?,
-        made: joined(alloc, &run.made, &made.deliveries)?,
-        unhandled: joined(alloc, &waiting, &made.deliveries)?,
-        emissions: joined(alloc, &run.emissions, &made.emissions)?,
-    })
+    let rows = rows_after(alloc, topology, run, entry, &made.deliveries)?;
+    let unhandled = waiting_after(alloc, entry, &run.unhandled, &made.deliveries)?;
+    with_made(alloc, run, rows, unhandled, &made)
 }
 
-/// Before any entry.
+/// The run before any entry, where nothing was made: `empty_run` of `run_history`,
+/// `specs/Runs.antt`.
 pub fn plain_empty_run(alloc: Global) -> Run
     ensures empty { result ≡ empty_run }
 {
@@ -261,7 +335,7 @@ pub fn plain_empty_run(alloc: Global) -> Run
     }
 }
 
-/// What stands after a history.
+/// What stands after a history, legal or not: `run_of` of `run_history`, `specs/Runs.antt`.
 pub fn plain_run_of(alloc: Global, topology: &Topology, entries: &[Entry]) -> Result<Run, NoMemory>
     requires printable { IsPrintable topology.now entries.now }
 

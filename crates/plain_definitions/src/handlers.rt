@@ -12,7 +12,8 @@ use mw_types::{
 use std::alloc::Global;
 use std::cmp::Ordering;
 
-/// The first state of a row of a computation of this kind.
+/// The first state of a row of a computation of this kind: `fresh_state` of `computations`,
+/// `specs/Handlers.antt`.
 pub fn plain_fresh_state(alloc: Global, kind: Kind) -> State
     ensures fresh { result ≡ fresh_state kind }
 {
@@ -400,7 +401,8 @@ fn pass_record(alloc: Global, late: u64, item: &Record) -> Result<Outcome, NoMem
     with_record(alloc, state, &item.key, item.stamp, item.value)
 }
 
-/// What a part of this kind leaves of a record, by its row's key and state.
+/// What a part of this kind leaves of a record, by its row's key and state: `effects_of_record` of
+/// `computations`, `specs/Handlers.antt`.
 pub fn plain_effects_of_record(
     alloc: Global,
     kind: Kind,
@@ -409,7 +411,8 @@ pub fn plain_effects_of_record(
     item: &Record,
 ) -> Result<Outcome, NoMemory>
     requires kind { IsKind kind }
-    ensures effects { IfOk result (λ left. left ≡ effects_of_record kind key.now state.now item.now) }
+    ensures effects { IfOk result (λ left.
+        left ≡ effects_of_record kind key.now state.now item.now) }
 {
     match kind {
         Kind::Count { size } => match state {
@@ -436,7 +439,8 @@ pub fn plain_effects_of_timer(
     timer: &Timer,
 ) -> Result<Outcome, NoMemory>
     requires kind { IsKind kind }
-    ensures effects { IfOk result (λ left. left ≡ effects_of_timer kind key.now state.now timer.now) }
+    ensures effects { IfOk result (λ left.
+        left ≡ effects_of_timer kind key.now state.now timer.now) }
 {
     match kind {
         Kind::Count { .. } => match state {

@@ -8,7 +8,7 @@ ghost use Rattle.topology.specs.Rules.{interval_count};
 ghost use Rattle.run_history.specs.Cases.{source_of, record_of};
 ghost use Rattle.run_history.specs.Made.{productions_of};
 ghost use Rattle.run_history.specs.Printing.{IsOnPart, IsPrintable};
-ghost use Rattle.run_history.specs.Runs.{followed};
+ghost use Rattle.run_history.specs.Runs.{row_of, followed};
 ghost use Rattle.run_history.specs.Legal.{record_outcome, timer_outcome, MayClaim, MayInject, MayHandle, MayFire, MayAcknowledge, MayPurge, MayFollow, AreLegal, IsLegal};
 
 use crate::follow::{plain_empty_run, plain_followed, plain_row_of};
@@ -171,6 +171,21 @@ fn is_least(timers: &[Timer], timer: &Timer) -> bool
     }
 }
 
+// Whether the first timer of a row is this one.
+fn is_next(
+    alloc: Global,
+    case: &Case,
+    run: &Run,
+    row: &RowName,
+    timer: &Timer,
+) -> Result<bool, NoMemory>
+    ensures { IfOk result (λ is. IsTrue is
+        ↔ (slice_get (row_of case.now.topology run.now row.now).timers 0 ≡ Some timer.now)) }
+{
+    let contents = plain_row_of(alloc, &case.topology, run, row)?;
+    Ok(is_least(contents.timers.as_slice(), timer))
+}
+
 // Whether a row may fire a timer.
 fn may_fire(
     alloc: Global,
@@ -184,15 +199,10 @@ fn may_fire(
     ensures { IfOk result (λ may. IsTrue may
         ↔ MayFire case.now run.now row.now timer.now mark effects.now) }
 {
-    let contents = plain_row_of(alloc, &case.topology, run, row)?;
+    let next = is_next(alloc, case, run, row, timer)?;
     let low = plain_low_watermark(alloc, case, run, row.part)?;
     let left = timer_outcome(alloc, case, run, row, timer)?;
-    Ok(
-        is_least(contents.timers.as_slice(), timer)
-            && timer.time <= mark
-            && mark <= low
-            && leaves(&left, effects),
-    )
+    Ok(next && timer.time <= mark && mark <= low && leaves(&left, effects))
 }
 
 // Whether a sender may learn that what it made was handled.
@@ -222,12 +232,12 @@ fn may_purge(
     ensures { IfOk result (λ may. IsTrue may ↔ MayPurge case.now run.now row.now floor) }
 {
     let there = row_in(row, run.rows.as_slice()).is_some();
-    let contents = plain_row_of(alloc, &case.topology, run, row)?;
     let finished = plain_floor(alloc, run)?;
+    let contents = plain_row_of(alloc, &case.topology, run, row)?;
     Ok(there && contents.floor < floor && floor <= finished)
 }
 
-/// Whether an entry may come next.
+/// Whether an entry may come next: `MayFollow` of `run_history`, `specs/Legal.antt`.
 pub fn plain_may_follow(
     alloc: Global,
     case: &Case,
@@ -289,7 +299,8 @@ fn are_legal(alloc: Global, case: &Case, run: &Run, entries: &[Entry]) -> Result
     are_legal(alloc, case, &after, rest)
 }
 
-/// Whether a history is legal.
+/// Whether a history is legal, each entry after those before it: `IsLegal` of `run_history`,
+/// `specs/Legal.antt`.
 pub fn plain_is_legal(alloc: Global, case: &Case, entries: &[Entry]) -> Result<bool, NoMemory>
     requires printable { IsPrintable case.now.topology entries.now }
 

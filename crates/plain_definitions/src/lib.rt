@@ -1,12 +1,13 @@
 //! The definitions of handlers and histories as plain, slow functions, to be seen to compute.
 //!
 //! A reader who does not trust a definition runs its function: it goes through lists alone, anew at
-//! each call, and keeps nothing. Stands on `run_history` and what that stands on. Public contract: what
-//! a call answers is what its definition gives, and a truth value says whether its definition holds. A
-//! number that is too great for its type is refused as want of memory. The definitions are
-//! `specs/Handlers.antt` of `computations`, `specs/Contents.antt` of `row_parts`, and of `run_history`
-//! `specs/Made.antt`, `specs/Runs.antt`, `specs/Watermarks.antt`, `specs/Legal.antt` and
-//! `specs/Printing.antt`; there is none here.
+//! each call, and keeps nothing. Stands on `run_history` and what that stands on. Public contract:
+//! what a call answers is what its definition gives, and a truth value says whether its definition
+//! holds. A number that is too great for its type is refused as want of memory. The definitions are
+//! `specs/Handlers.antt` of `computations`, `specs/Contents.antt` of `row_parts`, and of
+//! `run_history` `specs/Made.antt`, `specs/Runs.antt`, `specs/Watermarks.antt`, `specs/Legal.antt`
+//! and `specs/Printing.antt`; there is none here. `plain_fences`, which stands above, runs these
+//! functions on the worked examples in its tests.
 #![tactic(auto)]
 
 mod done;
@@ -20,8 +21,6 @@ mod outcome;
 mod printable;
 mod run;
 mod same;
-#[cfg(test)]
-mod tests;
 
 pub use done::plain_is_done;
 pub use follow::{plain_empty_run, plain_followed, plain_row_of, plain_run_of};

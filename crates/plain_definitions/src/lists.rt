@@ -14,7 +14,7 @@ use mw_types::{
 use std::alloc::Global;
 use std::cmp::Ordering;
 
-// A list, and then another.
+/// A list, and then another, as an entry adds to what is pending, made or emitted.
 pub fn joined<X: Duplicate>(
     alloc: Global,
     front: &Seq<X>,
@@ -29,7 +29,7 @@ pub fn joined<X: Duplicate>(
     Ok(all)
 }
 
-// A list with one more element before it.
+/// A list with one more element before it, as the definitions by cases build their lists.
 pub fn before<X: Drop>(first: X, rest: Seq<X>) -> Result<Seq<X>, NoMemory>
     ensures { IfOk result (λ all. all ≡ first ∷ rest) }
 {
@@ -38,7 +38,7 @@ pub fn before<X: Drop>(first: X, rest: Seq<X>) -> Result<Seq<X>, NoMemory>
     Ok(all)
 }
 
-// A list of what a slice holds.
+/// A list of its own of what a slice holds.
 pub fn list_of<X: Duplicate>(alloc: Global, items: &[X]) -> Result<Seq<X>, NoMemory>
     ensures { IfOk result (λ all. all ≡ items.now) }
 {
@@ -81,7 +81,8 @@ fn set_again(new: &Timer, old: &Timer) -> Timer
     }
 }
 
-// The timers once this one is set too.
+/// The timers of a row, by time and then tag, once this one is set too: `with_timer` of
+/// `row_parts`, `specs/Contents.antt`.
 pub fn with_timer(alloc: Global, timer: &Timer, timers: &[Timer]) -> Result<TimerList, NoMemory>
     ensures { IfOk result (λ all. all ≡ with_timer timer.now timers.now) }
 {
@@ -95,7 +96,8 @@ pub fn with_timer(alloc: Global, timer: &Timer, timers: &[Timer]) -> Result<Time
     }
 }
 
-// The timers once these are set too, one after another.
+/// The timers of a row once those that a handler sets are set too, one after another: `with_timers`
+/// of `run_history`, `specs/Runs.antt`.
 pub fn with_timers(alloc: Global, set: &[Timer], timers: &TimerList) -> Result<TimerList, NoMemory>
     ensures { IfOk result (λ all. all ≡ with_timers set.now timers.now) }
 {
@@ -106,7 +108,8 @@ pub fn with_timers(alloc: Global, set: &[Timer], timers: &TimerList) -> Result<T
     Ok(all)
 }
 
-// The timers but for the one of this tag and time.
+/// The timers of a row but for the one of this tag and time, which fired: `without_timer` of
+/// `row_parts`, `specs/Contents.antt`.
 pub fn without_timer(
     alloc: Global,
     tag: u64,
@@ -124,7 +127,8 @@ pub fn without_timer(
     Ok(left)
 }
 
-// The ids with this one among them.
+/// The handled ids of a row, ascending, with this one among them: `with_id` of `row_parts`,
+/// `specs/Contents.antt`.
 pub fn with_id(alloc: Global, id: &RecordId, ids: &[RecordId]) -> Result<IdList, NoMemory>
     ensures { IfOk result (λ all. all ≡ with_id id.now ids.now) }
 {
@@ -138,7 +142,8 @@ pub fn with_id(alloc: Global, id: &RecordId, ids: &[RecordId]) -> Result<IdList,
     }
 }
 
-// The ids whose commit number is at least the floor.
+/// The handled ids that a purge leaves, whose commit number is at least the floor: `ids_from` of
+/// `row_parts`, `specs/Contents.antt`.
 pub fn ids_from(alloc: Global, floor: u64, ids: &[RecordId]) -> Result<IdList, NoMemory>
     ensures { IfOk result (λ left. left ≡ ids_from floor ids.now) }
 {
@@ -158,7 +163,8 @@ fn same_id(a: RecordId, b: RecordId) -> bool
     a.commit == b.commit && a.index == b.index
 }
 
-// The deliveries but for the one of this id.
+/// The deliveries but for the one of this id, which was handled or acknowledged: `without_delivery`
+/// of `row_parts`, `specs/Contents.antt`.
 pub fn without_delivery(
     alloc: Global,
     id: RecordId,
@@ -175,7 +181,7 @@ pub fn without_delivery(
     Ok(left)
 }
 
-// The delivery of this id.
+/// The first delivery of this id, or none: `found_delivery` of `run_history`, `specs/Made.antt`.
 pub fn found_delivery(id: RecordId, deliveries: &[Delivery]) -> Option<&Delivery>
     ensures { option_copied result ≡ found_delivery id deliveries.now }
 {
@@ -189,7 +195,7 @@ pub fn found_delivery(id: RecordId, deliveries: &[Delivery]) -> Option<&Delivery
     }
 }
 
-// What is kept in the row of this name.
+/// What is kept in the row of this name, or none where no entry is on it.
 pub fn row_in<'a>(name: &RowName, rows: &'a [NamedRow]) -> Option<&'a Contents>
     ensures { option_copied result ≡ lookup (is_at (row_cmp name.now)) rows.now }
 {
@@ -203,8 +209,31 @@ pub fn row_in<'a>(name: &RowName, rows: &'a [NamedRow]) -> Option<&'a Contents>
     }
 }
 
-// The rows with this one in the place of the one of its name, or among them in the order of their
-// names.
+// A row of this name with these contents.
+fn named(alloc: Global, name: &RowName, contents: &Contents) -> Result<NamedRow, NoMemory>
+    ensures { IfOk result (λ row. row ≡ (name.now, contents.now)) }
+{
+    Ok(NamedRow {
+        name: name.copy(alloc)?,
+        contents: contents.copy(alloc)?,
+    })
+}
+
+// A row of this name with these contents, and then these rows.
+fn new_before(
+    alloc: Global,
+    name: &RowName,
+    contents: &Contents,
+    rows: &[NamedRow],
+) -> Result<RowList, NoMemory>
+    ensures { IfOk result (λ all. all ≡ (name.now, contents.now) ∷ rows.now) }
+{
+    let others = list_of(alloc, rows)?;
+    before(named(alloc, name, contents)?, others)
+}
+
+/// The rows with this one in the place of the one of its name, or among them in the order of their
+/// names, as a map has them.
 pub fn with_row(
     alloc: Global,
     rows: &[NamedRow],
@@ -213,22 +242,15 @@ pub fn with_row(
 ) -> Result<RowList, NoMemory>
     ensures { IfOk result (λ all. all ≡ insert_entry row_cmp rows.now name.now contents.now) }
 {
-    let new = NamedRow {
-        name: name.copy(alloc)?,
-        contents: contents.copy(alloc)?,
-    };
     let [first, rest @ ..] = rows else {
-        return before(new, Seq::new(alloc));
+        return new_before(alloc, name, contents, rows);
     };
     match row_order(name, &first.name) {
-        Ordering::Less => before(new, list_of(alloc, rows)?),
-        Ordering::Equal => {
-            let again = NamedRow {
-                name: first.name.copy(alloc)?,
-                contents: new.contents,
-            };
-            before(again, list_of(alloc, rest)?)
+        Ordering::Less => new_before(alloc, name, contents, rows),
+        Ordering::Equal => new_before(alloc, &first.name, contents, rest),
+        Ordering::Greater => {
+            let others = with_row(alloc, rest, name, contents)?;
+            before(first.copy(alloc)?, others)
         }
-        Ordering::Greater => before(first.copy(alloc)?, with_row(alloc, rest, name, contents)?),
     }
 }

@@ -84,7 +84,8 @@ fn cursor_in(state: &State) -> u32
     }
 }
 
-// How many lines of an injector were injected.
+/// How many lines of an injector were injected, none for a part that is no injector: `cursor_of` of
+/// `run_history`, `specs/Watermarks.antt`.
 pub fn cursor_of(alloc: Global, case: &Case, run: &Run, part: u32) -> Result<u32, NoMemory>
     ensures { IfOk result (λ cursor. cursor ≡ cursor_of case.now run.now part) }
 {
@@ -136,7 +137,8 @@ fn low_under(alloc: Global, case: &Case, run: &Run, depth: u32, part: u32) -> Re
     Ok(low)
 }
 
-/// The low watermark of a part, taken afresh from all that waits and all timers.
+/// The low watermark of a part, a timestamp, taken afresh from all that waits and all timers:
+/// `low_watermark` of `run_history`, `specs/Watermarks.antt`.
 pub fn plain_low_watermark(
     alloc: Global,
     case: &Case,
@@ -171,7 +173,8 @@ fn pending_commits(alloc: Global, run: &Run) -> Result<MarkList, NoMemory>
     Ok(all)
 }
 
-/// The least commit number of a delivery that is not acknowledged, or the next one where all are.
+/// The floor, up to which a row may be purged: the least commit number of a delivery that is not
+/// acknowledged, or the next one where all are. `floor_of` of `run_history`, `specs/Legal.antt`.
 pub fn plain_floor(alloc: Global, run: &Run) -> Result<u64, NoMemory>
     ensures floor { IfOk result (λ floor. floor ≡ floor_of run.now) }
 {

@@ -11,7 +11,8 @@ use run_history::{Made, make};
 use std::alloc::Global;
 use topology::Topology;
 
-// The row that an entry is on; a claim is on none.
+/// The row that an entry is on; a claim is on none: `row_written` of `run_history`,
+/// `specs/Made.antt`.
 pub fn row_written(alloc: Global, entry: &Entry) -> Result<Option<RowName>, NoMemory>
     ensures { IfOk result (λ row. row ≡ row_written entry.now) }
 {
@@ -63,7 +64,8 @@ fn late_cause(made: &[Delivery], entry: &Entry) -> bool
     }
 }
 
-/// What an entry makes under its commit number, after the deliveries that were made before it.
+/// What an entry makes under its commit number, after the deliveries that were made before it:
+/// `deliveries_of` and `emissions_of` of `run_history`, `specs/Made.antt`.
 pub fn plain_made(
     alloc: Global,
     topology: &Topology,

@@ -2,7 +2,8 @@
 use mw_types::{ProductionList, State, TimerList};
 use std::marker::Model;
 
-/// The key's new state, the timers that were set and the records that were produced, in order.
+/// What a handler leaves: the key's new state, the timers that were set and the records that were
+/// produced, in order, whatever their number. An entry's `Effects` have bounds that this has not.
 #[derive(Debug, Drop)]
 pub struct Outcome {
     /// The key's state after the handler.
@@ -18,5 +19,6 @@ impl Model for Outcome {
 
     ghost Value = { Outcome };
 
-    ghost view = { λ o. record { state = o.state; timers = o.timers; productions = o.productions } };
+    ghost view = { λ o.
+        record { state = o.state; timers = o.timers; productions = o.productions } };
 }

@@ -63,7 +63,7 @@ fn have_few(entries: &[Entry]) -> bool
 }
 
 /// Whether a history has at most 2^32 entries, each on a part that is there and with at most 8
-/// productions, as the other calls need it.
+/// productions, as the other calls need it: `IsPrintable` of `run_history`, `specs/Printing.antt`.
 pub fn plain_is_printable(topology: &Topology, entries: &[Entry]) -> bool
     ensures printable { IsTrue result ↔ IsPrintable topology.now entries.now }
 {

@@ -27,7 +27,14 @@ impl Model for Contents {
 
     ghost Value = { Contents };
 
-    ghost view = { λ c. record { state = c.state; timers = c.timers; pending = c.pending; seen = c.seen; floor = c.floor; last = c.last } };
+    ghost view = { λ c. record {
+      state = c.state;
+      timers = c.timers;
+      pending = c.pending;
+      seen = c.seen;
+      floor = c.floor;
+      last = c.last;
+    } };
 }
 
 impl Duplicate for Contents {
@@ -93,5 +100,11 @@ impl Model for Run {
 
     ghost Value = { Run };
 
-    ghost view = { λ run. record { next = run.next; rows = run.rows; made = run.made; unhandled = run.unhandled; emissions = run.emissions } };
+    ghost view = { λ run. record {
+      next = run.next;
+      rows = run.rows;
+      made = run.made;
+      unhandled = run.unhandled;
+      emissions = run.emissions;
+    } };
 }

@@ -4,9 +4,10 @@ ghost use Rattle.std.specs.Prelude.{◌≡◌, ◌↔◌, IsTrue};
 use crate::outcome::Outcome;
 use mw_types::{Effects, HeldTotal, Key, Production, Record, RowName, State, Timer, Window};
 
-// A value that tells whether another is the same.
+/// A value that tells whether another is the same, so that what a handler left can be compared with
+/// what an entry tells.
 pub trait Same {
-    // Whether the other is the same.
+    /// Whether the other is the same.
     fn same(&self, other: &Self) -> bool
         ensures { IsTrue result ↔ (self.now ≡ other.now) };
 }
@@ -110,7 +111,7 @@ fn same_state(a: &State, b: &State) -> bool
     }
 }
 
-// Whether a handler left these effects.
+/// Whether a handler left these effects, as an entry tells them.
 pub fn same_outcome(left: &Outcome, effects: &Effects) -> bool
     ensures { IsTrue result ↔ (left.now ≡ effects.now) }
 {

@@ -98,21 +98,23 @@ fn injectors_left(alloc: Global, case: &Case, run: &Run) -> Result<Seq<u32>, NoM
     Ok(left)
 }
 
-// The sum of three numbers.
-fn sum_of(one: usize, two: usize, three: usize) -> Result<u64, NoMemory>
-    ensures { IfOk result (λ sum. sum ≡ one + two + three) }
+// How much work so many deliveries, timers and injectors are. A sum beyond 64 bits is not to be
+// had.
+fn sum_of(deliveries: usize, timers: usize, injectors: usize) -> Result<u64, NoMemory>
+    ensures { IfOk result (λ sum. sum ≡ deliveries + timers + injectors) }
 {
-    let Some(two) = (one as u64).checked_add(two as u64) else {
+    let Some(in_rows) = (deliveries as u64).checked_add(timers as u64) else {
         return Err(NoMemory);
     };
-    match two.checked_add(three as u64) {
+    match in_rows.checked_add(injectors as u64) {
         Some(sum) => Ok(sum),
         None => Err(NoMemory),
     }
 }
 
-/// How much work is left: the deliveries that are not acknowledged, the timers that are set, and the
-/// injectors that have a line left.
+/// How much work is left, as a count: the deliveries that are not acknowledged, the timers that are
+/// set, and the injectors that have a line left. `unfinished` of `history_laws`,
+/// `specs/Finished.antt`.
 pub fn plain_unfinished(alloc: Global, case: &Case, run: &Run) -> Result<u64, NoMemory>
     ensures unfinished { IfOk result (λ left. left ≡ unfinished case.now run.now) }
 {
@@ -122,7 +124,8 @@ pub fn plain_unfinished(alloc: Global, case: &Case, run: &Run) -> Result<u64, No
     sum_of(pending.len(), timers.len(), injectors.len())
 }
 
-/// Whether no work is left, and each record that was handled is acknowledged.
+/// Whether no work is left, so that each record that was handled is acknowledged: `IsFinished` of
+/// `history_laws`, `specs/Finished.antt`.
 pub fn plain_is_finished(alloc: Global, case: &Case, run: &Run) -> Result<bool, NoMemory>
     ensures finished { IfOk result (λ is. IsTrue is ↔ IsFinished case.now run.now) }
 {

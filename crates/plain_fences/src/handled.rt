@@ -35,7 +35,8 @@ fn acknowledges(id: RecordId, entry: &Entry) -> bool
     }
 }
 
-/// Whether the record of this id is handled in a history.
+/// Whether the record of this id is handled in a history: `is_handled` of `history_laws`,
+/// `specs/Finished.antt`.
 pub fn plain_is_handled(id: RecordId, entries: &[Entry]) -> bool
     ensures handled { result ≡ is_handled id entries.now }
 {
@@ -45,7 +46,8 @@ pub fn plain_is_handled(id: RecordId, entries: &[Entry]) -> bool
     handles(id, first) || plain_is_handled(id, rest)
 }
 
-/// Whether the record of this id is acknowledged in a history.
+/// Whether the record of this id is acknowledged in a history: `is_acknowledged` of `history_laws`,
+/// `specs/Finished.antt`.
 pub fn plain_is_acknowledged(id: RecordId, entries: &[Entry]) -> bool
     ensures acknowledged { result ≡ is_acknowledged id entries.now }
 {

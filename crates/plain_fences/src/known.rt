@@ -9,11 +9,11 @@ use mw_types::{Duplicate, Entry, EntryList, NoMemory, Seq};
 use std::alloc::Global;
 
 // One entry, and then others.
-fn before(first: Entry, rest: EntryList) -> Result<EntryList, NoMemory>
-    ensures { IfOk result (λ all. all ≡ first ∷ rest) }
+fn before(alloc: Global, first: &Entry, rest: EntryList) -> Result<EntryList, NoMemory>
+    ensures { IfOk result (λ all. all ≡ first.now ∷ rest) }
 {
     let mut all = rest;
-    all.insert(0, first)?;
+    all.insert(0, first.copy(alloc)?)?;
     Ok(all)
 }
 
@@ -24,7 +24,8 @@ fn joined(alloc: Global, front: &[Entry], rest: EntryList) -> Result<EntryList, 
     let [first, others @ ..] = front else {
         return Ok(rest);
     };
-    before(first.copy(alloc)?, joined(alloc, others, rest)?)
+    let after = joined(alloc, others, rest)?;
+    before(alloc, first, after)
 }
 
 // The entries up to the next claim of an interval.
@@ -38,11 +39,13 @@ fn until_claim(alloc: Global, interval: u32, entries: &[Entry]) -> Result<EntryL
     if is_claim(interval, first) {
         return Ok(Seq::new(alloc));
     }
-    before(first.copy(alloc)?, until_claim(alloc, interval, rest)?)
+    let others = until_claim(alloc, interval, rest)?;
+    before(alloc, first, others)
 }
 
 /// What is known under the claim of an interval that has this number: the history up to the next
-/// claim of the interval, or all of it where no claim has overtaken this one.
+/// claim of the interval, or all of it where no claim has overtaken this one. `known` of
+/// `history_laws`, `specs/Fences.antt`.
 pub fn plain_known(
     alloc: Global,
     interval: u32,

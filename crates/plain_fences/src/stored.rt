@@ -106,7 +106,8 @@ fn all_stored(alloc: Global, rows: &[NamedRow]) -> Result<KeptRowList, NoMemory>
     Ok(all)
 }
 
-/// Each row that an entry is on, with its bytes, in the order of the names.
+/// What a keeper has to hold: each row that an entry is on, with its bytes, in the order of the
+/// names. `stored_rows` of `history_laws`, `specs/Stored.antt`.
 pub fn plain_stored_rows(alloc: Global, run: &Run) -> Result<KeptRowList, NoMemory>
     ensures stored { IfOk result (λ rows. map entry_of rows ≡ stored_rows run.now) }
 {
