@@ -5,8 +5,8 @@
 //! reads, and on what that stands on. Public contract: what a call answers is what its definition
 //! gives, and a truth value says whether its definition holds. A number that is too great for its
 //! type is refused as want of memory. The definitions are `specs/Fences.antt`,
-//! `specs/Finished.antt` and `specs/Stored.antt` of `history_laws`; there is none here. The tests run
-//! the functions of both crates on the worked examples.
+//! `specs/Finished.antt` and `specs/Stored.antt` of `history_laws`; there is none here. The tests
+//! run the functions of both crates on the worked examples.
 #![tactic(auto)]
 
 mod claims;

@@ -39,8 +39,8 @@ fn answer_of(alloc: Global, case: &Case, steps: &[Step], asked: Asked) -> Result
     }
 }
 
-/// The answer for a case of these lines. No other function but that which goes through a table has a
-/// case of its own, since each that has one is slow to prove.
+/// The answer for a case of these lines. No other function but that which goes through a table has
+/// a case of its own, since each that has one is slow to prove.
 pub fn answer(alloc: Global, lines: &[u8], steps: &[Step], asked: Asked) -> Result<bool, NoMemory> {
     let case = case_of(alloc, lines)?;
     answer_of(alloc, &case, steps, asked)

@@ -24,8 +24,8 @@ pub enum Step {
     /// Under this sequencer the record that this entry made is handled; it leaves these windows and
     /// the timer of this end.
     Handle(u64, u64, [u64; 2], u32),
-    /// Under this sequencer the timer of this end fires at its own time; it leaves these windows and
-    /// produces this count.
+    /// Under this sequencer the timer of this end fires at its own time; it leaves these windows
+    /// and produces this count.
     Fire(u64, u32, [u64; 2], i64),
     /// The injector learns that the record that this entry made was handled.
     Ack(u64),
