@@ -41,7 +41,7 @@ use Rattle.book.specs.Conditions.{MayUse, IsRowSeen}
 use Rattle.book.specs.Answers.{written_row, IsWritten}
 use Rattle.book.specs.declared.answers.Written.{Written}
 use Rattle.book.specs.declared.refusals.WriteRefusal.{WriteRefusal}
-use Rattle.book.specs.Proposals.{IsNextLine, IsHandling, IsFiring, IsProposable, IsProposedOf, IsEntryOf, IsWrittenBy, left_by}
+use Rattle.book.specs.Proposals.{IsNextLine, IsHandling, IsFiring, IsDueUnder, IsProposable, IsProposedOf, IsEntryOf, IsWrittenBy, left_by}
 use Rattle.book.specs.Appending.{IsNext}
 use Rattle.book.specs.declared.proposal.Proposal.{Proposal}
 use Rattle.book.specs.declared.proposal.Proposal.TheVariants as proposals
@@ -190,9 +190,9 @@ handling-suits case n name row delivery effects fit handling =
     (of.0, (of.1, subst (λ (o : Outcome). (has_kind of.0 o.state ≡ true) × (length o.productions ≤ 8)) of.2 suits))
 
 -- and so of a timer
-pub firing-suits : (case : CaseShape) (n : ℕ) (name : RowName) (row : Contents) (timer : Timer) (mark : ℕ) (effects : Outcome) → fits case n name row ≡ true
-    → IsFiring case name row timer mark effects → (kind : Kind) × ((kind_of case.topology name.part ≡ Some kind) × ((has_kind kind effects.state ≡ true) × (length effects.productions ≤ 8)))
-firing-suits case n name row timer mark effects fit firing =
+pub firing-suits : (case : CaseShape) (n : ℕ) (name : RowName) (row : Contents) (timer : Timer) (effects : Outcome) → fits case n name row ≡ true
+    → IsFiring case name row timer effects → (kind : Kind) × ((kind_of case.topology name.part ≡ Some kind) × ((has_kind kind effects.state ≡ true) × (length effects.productions ≤ 8)))
+firing-suits case n name row timer effects fit firing =
     let of = was_some (λ (kind : Kind). effects_of_timer kind name.key row.state timer) (kind_of case.topology name.part) effects firing.does in
     let suits = timer-suits of.0 name.key row.state timer (sym (suits-computation case name.part row of.0 of.1) ∙ (fits-parts case n name row fit).0) in
     (of.0, (of.1, subst (λ (o : Outcome). (has_kind of.0 o.state ≡ true) × (length o.productions ≤ 8)) of.2 suits))
@@ -270,8 +270,8 @@ next-handled book lease front name row left delivery effects lawful uses seen la
 next-fired : (book : BookView) (lease : LeaseView) (front : ℕ) (name : RowName) (row left : Contents) (timer : Timer) (mark : ℕ) (effects : Outcome)
     → IsLawful book.case (core_of book) → MayUse book lease front name → IsRowSeen book lease front name row
     → last_claim lease.interval book.history ≡ Some lease.seq → length book.history < book.limit
-    → IsFiring book.case name row timer mark effects
-    → IfSome book.rows (λ _. mark ≤ low_watermark book.case (run_of book.case.topology (take front book.history)) name.part)
+    → IsFiring book.case name row timer effects
+    → IfSome book.rows (λ _. IsDueUnder book.case (run_of book.case.topology (take front book.history)) name.part mark timer)
     → left ≡ left_by book.case.topology name (proposals.Fire timer mark effects) (length book.history) (entries.Fire lease.seq name timer mark effects) row
     → IsNext book.case (core_of book) name (entries.Fire lease.seq name timer mark effects) left
 next-fired book lease front name row left timer mark effects lawful uses seen last room firing under leaves =
@@ -280,18 +280,18 @@ next-fired book lease front name row left timer mark effects lawful uses seen la
     let number = length book.history in
     let first = take front book.history in
     let sent = deliveries_made shape name.part effects.productions timer.late number in
-    let suits = firing-suits book.case number name row timer mark effects seen.fit firing in
+    let suits = firing-suits book.case number name row timer effects seen.fit firing in
     IsNext-seen book lease front name entry row left sent lawful uses seen last room refl refl suits.1.1.1 leaves
     (subst (λ (c : Contents). fits book.case (number + 1) name c ≡ true) (sym leaves)
     (fits-computed book.case number name row (written_row number entry sent row) effects.productions timer.late suits.0 seen.fit suits.1.0 suits.1.1.0 refl))
     (told-then book.rows
-    (λ r. (row ≡ row_of shape (run_of shape (known lease.interval lease.seq first)) name) × (mark ≤ low_watermark book.case (run_of shape first) name.part)) _
+    (λ r. (row ≡ row_of shape (run_of shape (known lease.interval lease.seq first)) name) × IsDueUnder book.case (run_of shape first) name.part mark timer) _
     (told-both book.rows _ _ seen.known under)
     (λ r p.
     let row-is : row ≡ row_of shape (run_of shape first) name = p.0 ∙ row-front book lease front name uses last in record {
       least_timer = sym (ap (λ (c : Contents). slice_get c.timers 0) row-is) ∙ firing.least;
-      due = firing.due;
-      under_watermark = p.1;
+      due = p.1.due;
+      under_watermark = p.1.under_watermark;
       does = sym (ap (λ (c : Contents). option_map (λ (kind : Kind). effects_of_timer kind name.key c.state timer) (kind_of shape name.part)) row-is) ∙ firing.does;
     }))
     (told-then book.rows (IsHeld book.case book.history) _ lawful.held

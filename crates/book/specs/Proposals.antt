@@ -1,7 +1,6 @@
 -- What may be proposed, and what is written of it.
 -- Akidau et al., VLDB 2013, section 6.1, for what a worker does on receipt of a record, and section
--- 4.6 for timers.
--- Own: what is asked over a keeper that does not tell its rows.
+-- 4.6 for timers. Own: what is asked over a keeper that does not tell its rows.
 use Rattle.std.specs.Prelude.{◌≡◌, ◌<◌, ◌≤◌, ℕ, Bool, true, false, [], length, slice_get, Some}
 use Rattle.std.specs.Option.{option_map}
 use Rattle.mw_types.specs.declared.identity.RowName.{RowName}
@@ -43,24 +42,27 @@ pub record IsHandling (case : CaseShape) (name : RowName) (row : Contents) (deli
   pub new : is_finished delivery.id row ≡ false
   pub does : option_map (λ (kind : Kind). effects_of_record kind name.key row.state delivery.item) (kind_of case.topology name.part) ≡ Some effects
 
--- the row's least timer, which is due, with what its computation's handler leaves of it
-pub record IsFiring (case : CaseShape) (name : RowName) (row : Contents) (timer : Timer) (mark : ℕ) (effects : Outcome) : Type 0 where
+-- the row's least timer, with what its computation's handler leaves of it
+pub record IsFiring (case : CaseShape) (name : RowName) (row : Contents) (timer : Timer) (effects : Outcome) : Type 0 where
   pub least : slice_get row.timers 0 ≡ Some timer
-  pub due : timer.time ≤ mark
   pub does : option_map (λ (kind : Kind). effects_of_timer kind name.key row.state timer) (kind_of case.topology name.part) ≡ Some effects
 
 -- the proposal is one of these
 abbrev pub IsProposable : CaseShape → RowName → Contents → Proposal → Type 0
 IsProposable case name row (proposals.Inject line) = IsNextLine case name row line
 IsProposable case name row (proposals.Handle delivery effects) = IsHandling case name row delivery effects
-IsProposable case name row (proposals.Fire timer mark effects) = IsFiring case name row timer mark effects
+IsProposable case name row (proposals.Fire timer mark effects) = IsFiring case name row timer effects
 
--- what was seen has the record that is handled, and its low watermark is not below the mark of the
--- timer that fires
+-- a timer is due under a mark, which is at most the low watermark of the timer's part
+pub record IsDueUnder (case : CaseShape) (run : Run) (part mark : ℕ) (timer : Timer) : Type 0 where
+  pub due : timer.time ≤ mark
+  pub under_watermark : mark ≤ low_watermark case run part
+
+-- what was seen has the record that is handled, and the timer that fires is due by what was seen
 abbrev pub IsProposedOf : CaseShape → RowName → Proposal → Run → Type 0
 IsProposedOf case name (proposals.Inject line) run = Unit {0}
 IsProposedOf case name (proposals.Handle delivery effects) run = found_delivery delivery.id run.made ≡ Some delivery
-IsProposedOf case name (proposals.Fire timer mark effects) run = mark ≤ low_watermark case run name.part
+IsProposedOf case name (proposals.Fire timer mark effects) run = IsDueUnder case run name.part mark timer
 
 -- ---- what is written of it
 

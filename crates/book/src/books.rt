@@ -103,9 +103,11 @@ impl<'a, K: Keeper> Book<'a, K> {
         self.case
     }
 
-    /// What has happened.
+    /// What has happened, and what always holds of a book: the history is fenced, and where the keeper
+    /// tells its rows it is legal, the rows are its rows, and no mark passes work that is left.
     pub fn history(&self) -> &History
         ensures history { result.now ≡ self.now.history }
+        ensures lawful { IsLawful self.now.case (core_of self.now) }
     {
         &self.core.history
     }
@@ -171,6 +173,7 @@ impl<'a, K: Keeper> Book<'a, K> {
         ensures rows { K.rows result.0 ≡ self.entry.rows }
         ensures faults { K.faults result.0 ≡ self.entry.faults }
         ensures history { result.1 ≡ self.entry.history }
+        ensures lawful { IsLawful self.entry.case (core_of self.entry) }
     {
         let Book { case: _, core } = self;
         let Core {

@@ -212,7 +212,7 @@ fn fired(
     effects: &Effects,
     commit: u64,
 ) -> Result<Step, NoMemory>
-    requires firing { IsFiring case.now name.now row.now timer mark effects.now }
+    requires firing { IsFiring case.now name.now row.now timer effects.now }
     requires fit { fits case.now commit name.now row.now ≡ true }
     requires commit { commit < 2 ^ 32 }
     ensures entry { IfOk result (λ step.

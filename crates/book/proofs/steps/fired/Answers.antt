@@ -7,5 +7,5 @@ use Rattle.book.proofs.steps.fired.Goals as goal
 -- a handler produces few records
 pub with_sent-requires-clause-few : goal.with_sent-requires-clause-few
 with_sent-requires-clause-few c =
-    let suits = firing-suits c.args.case.now c.args.commit c.args.name.now c.args.row.now c.args.timer c.args.mark c.args.effects.now c.requires.fit c.requires.firing in
+    let suits = firing-suits c.args.case.now c.args.commit c.args.name.now c.args.row.now c.args.timer c.args.effects.now c.requires.fit c.requires.firing in
     subst (λ (l : List Production). length l ≤ 8) (sym (c.as_slice.ensures.elements ∙ ap (λ (o : Outcome). o.productions) c.effects.view_is)) suits.1.1.1
