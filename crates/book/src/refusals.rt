@@ -5,7 +5,7 @@ use row_keeper::KeeperFault;
 /// Why no book was made of a keeper.
 #[derive(Debug, Drop)]
 pub enum StartWhy {
-    /// The keeper holds a row already: the one with the least name.
+    /// The keeper holds a row already; where it tells, this is the one with the least name.
     NotEmpty {
         /// The row's name.
         name: RowName,
@@ -34,7 +34,7 @@ pub enum ClaimRefusal {
     HistoryFull,
     /// The keeper failed.
     KeeperFault,
-    /// The keeper gave bytes that are no row that fits its name; this is the first such row.
+    /// The keeper gave bytes that are no row that fits its name.
     RowDamaged {
         /// The row's name.
         name: RowName,
