@@ -27,7 +27,7 @@ use Rattle.run_history.specs.Cases.{CaseShape, is_injector, source_of, record_of
 use Rattle.run_history.specs.Made.{deliveries_made, found_delivery, productions_of}
 use Rattle.run_history.specs.Runs.{run_of, row_of, advanced}
 use Rattle.run_history.specs.Legal.{IsLegal}
-use Rattle.run_history.specs.Watermarks.{cursor_in, low_watermark}
+use Rattle.run_history.specs.Watermarks.{cursor_in}
 use Rattle.history_laws.specs.Fences.{IsFenced, last_claim, known}
 use Rattle.history_laws.proofs.FeedLaws.{injector-no_kind}
 use Rattle.history_laws.proofs.PendingLaws.{was_some}

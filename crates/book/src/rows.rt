@@ -9,8 +9,10 @@ use std::alloc::Global;
 // A row once an id of it is settled by the entry of this number.
 pub(crate) fn settled(alloc: Global, row: &Row, id: RecordId, commit: u64) -> Result<Row, NoMemory>
     requires { commit < 2 ^ 32 }
-    ensures { IfOk result
-        (λ made. made ≡ record row.now { pending = without_delivery id row.now.pending; last = commit }) }
+    ensures { IfOk result (λ made. made ≡ record row.now {
+      pending = without_delivery id row.now.pending;
+      last = commit;
+    }) }
 {
     let mut made = row.copy(alloc)?;
     made.settle(id);
@@ -23,8 +25,11 @@ pub(crate) fn purged(alloc: Global, row: &Row, floor: u64, commit: u64) -> Resul
     requires commit { commit < 2 ^ 32 }
     requires rises { row.now.floor ≤ floor }
     requires few { floor ≤ 2 ^ 32 }
-    ensures { IfOk result
-        (λ made. made ≡ record row.now { floor = floor; seen = ids_from floor row.now.seen; last = commit }) }
+    ensures { IfOk result (λ made. made ≡ record row.now {
+      floor = floor;
+      seen = ids_from floor row.now.seen;
+      last = commit;
+    }) }
 {
     let mut made = row.copy(alloc)?;
     made.purge(floor);

@@ -16,8 +16,8 @@ pub(crate) fn work_after(
     after: &Row,
     work: u64,
 ) -> Result<u64, NoMemory>
-    ensures { IfOk result (λ left.
-        left ≡ (work + work_in case.now name.now after.now) - work_in case.now name.now before.now) }
+    ensures { IfOk result (λ left. left ≡ (work + work_in case.now name.now after.now)
+        - work_in case.now name.now before.now) }
 {
     let old = work_in(case, name, before)?;
     let new = work_in(case, name, after)?;
