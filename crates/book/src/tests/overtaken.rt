@@ -18,10 +18,7 @@ use std::process::Abort;
 use std::test::Fail;
 
 // Worker 1 claims the interval of the count, after the first line was injected.
-fn claim_later<K: Keeper>(
-    alloc: Global,
-    book: &mut Book<'_, K>,
-) -> Result<Claimed, ClaimRefusal>
+fn claim_later<K: Keeper>(alloc: Global, book: &mut Book<'_, K>) -> Result<Claimed, ClaimRefusal>
     requires risen { HasRisen 3 book.old }
     ensures overtaken { OnOk result (IsOvertaken book.new) }
     ensures lease { IfOk result (λ claimed. claimed.lease ≡ later_lease) }
@@ -178,6 +175,11 @@ fn try_start<K: Keeper>(rt: &impl Abort, alloc: Global, case: &Case, keeper: K)
 fn stale_handle(rt: HostRuntime) -> Result<(), Fail> {
     let alloc = rt.alloc();
     let case = two_line_case(alloc)?;
-    try_start(&rt, alloc, &case, MemKeeper::new(alloc, CallList::new(alloc)));
+    try_start(
+        &rt,
+        alloc,
+        &case,
+        MemKeeper::new(alloc, CallList::new(alloc)),
+    );
     Ok(())
 }

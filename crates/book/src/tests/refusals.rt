@@ -15,10 +15,7 @@ use std::process::Abort;
 use std::test::Fail;
 
 // Another worker claims the first interval, once both are claimed.
-fn claim_again<K: Keeper>(
-    alloc: Global,
-    book: &mut Book<'_, K>,
-) -> Result<Claimed, ClaimRefusal>
+fn claim_again<K: Keeper>(alloc: Global, book: &mut Book<'_, K>) -> Result<Claimed, ClaimRefusal>
     requires risen { HasRisen 2 book.old }
     ensures stayed { OnErr result (HasRisen 2 book.new) }
 {
@@ -26,12 +23,7 @@ fn claim_again<K: Keeper>(
 }
 
 // No line is injected into a full history.
-fn try_full_write<K: Keeper>(
-    rt: &impl Abort,
-    alloc: Global,
-    book: &mut Book<'_, K>,
-    hands: &Hands,
-)
+fn try_full_write<K: Keeper>(rt: &impl Abort, alloc: Global, book: &mut Book<'_, K>, hands: &Hands)
     requires risen { HasRisen 2 book.old }
 {
     let fresh = Row::new(alloc, State::Injector { cursor: 0 });
@@ -41,12 +33,7 @@ fn try_full_write<K: Keeper>(
 }
 
 // No interval is claimed in a full history.
-fn try_full_claim<K: Keeper>(
-    rt: &impl Abort,
-    alloc: Global,
-    book: &mut Book<'_, K>,
-    hands: &Hands,
-)
+fn try_full_claim<K: Keeper>(rt: &impl Abort, alloc: Global, book: &mut Book<'_, K>, hands: &Hands)
     requires risen { HasRisen 2 book.old }
 {
     match claim_again(alloc, book) {
