@@ -14,3 +14,4 @@ pub mod SentLaws
 pub mod Growing
 pub mod ProposalLaws
 pub mod FirstLaws
+pub mod TestLaws
