@@ -96,9 +96,3 @@ Leaves case history old new (Err _) = ⊥
 abbrev pub IsOfReading : Refusal → Type 0
 IsOfReading SinkFails = ⊥
 IsOfReading _ = ⊤
-
--- the refusals of the run and of the writing
-abbrev pub IsOfRun : Refusal → Type 0
-IsOfRun SinkFails = ⊤
-IsOfRun NoMemory = ⊤
-IsOfRun _ = ⊥

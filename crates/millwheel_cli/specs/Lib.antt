@@ -4,4 +4,5 @@ pub mod Files
 pub mod Reasons
 pub mod Answers
 pub mod Numbers
+pub mod Messages
 pub mod Inside

@@ -1,6 +1,7 @@
 //! How a call of the program ended.
 ghost use Rattle.std.specs.Prelude.{◌≡◌};
 ghost use Rattle.millwheel_cli.specs.Numbers.{number_of};
+ghost use Rattle.millwheel_cli.specs.Messages.{topology_rule, line_rule};
 
 use injector::LineWhy;
 use mw_types::Name;
@@ -81,14 +82,22 @@ impl Status {
 
 /// What the program says of it: nothing with Ok.
 impl fmt::Display for Status {
+    ghost use Rattle.std.specs.Prelude.{Some};
+    ghost use Rattle.millwheel_cli.specs.Messages.{message_of};
+
+    ghost output = { λ status. Some (message_of status) };
+
     fn fmt<W: fmt::Write>(&self, f: &mut fmt::Formatter<W>) -> fmt::Result {
         match self {
             Status::Ok => Ok(()),
             Status::Usage => f.write_str("usage: millwheel MODE ARGS"),
             Status::NoFile { name } => write!(f, "no file {}", name.text()),
-            Status::TopologyRefused { why } => write!(f, "topology refused: {why:?}"),
+            Status::TopologyRefused { why } => {
+                write!(f, "topology refused: {}", topology_rule(*why))
+            }
             Status::EventsRefused { file, line, why } => {
-                write!(f, "events refused: file {file} line {line}: {why:?}")
+                let rule = line_rule(*why);
+                write!(f, "events refused: file {file} line {line}: {rule}")
             }
             Status::SinkFault => f.write_str("the output failed"),
             Status::NoMemory => f.write_str("out of memory"),
@@ -99,5 +108,37 @@ impl fmt::Display for Status {
             }
             Status::NotBuilt => f.write_str("not built yet"),
         }
+    }
+}
+
+// The name of a rule of topology files.
+fn topology_rule(why: TopologyRefusal) -> &'static str
+    ensures { result.now ≡ topology_rule why }
+{
+    match why {
+        TopologyRefusal::NotJson => "NotJson",
+        TopologyRefusal::BadShape => "BadShape",
+        TopologyRefusal::TooMany => "TooMany",
+        TopologyRefusal::BadName => "BadName",
+        TopologyRefusal::DoubleName => "DoubleName",
+        TopologyRefusal::DoubleStream => "DoubleStream",
+        TopologyRefusal::UnknownStream => "UnknownStream",
+        TopologyRefusal::BadNumber => "BadNumber",
+        TopologyRefusal::BadCuts => "BadCuts",
+        TopologyRefusal::NoMemory => "NoMemory",
+    }
+}
+
+// The name of a rule of event lines.
+fn line_rule(why: LineWhy) -> &'static str
+    ensures { result.now ≡ line_rule why }
+{
+    match why {
+        LineWhy::NotJson => "NotJson",
+        LineWhy::NotObject => "NotObject",
+        LineWhy::BadKey => "BadKey",
+        LineWhy::BadStamp => "BadStamp",
+        LineWhy::BadValue => "BadValue",
+        LineWhy::TooManyLines => "TooManyLines",
     }
 }

@@ -1,10 +1,11 @@
 //! What no clause says: that ample memory is enough, and keys at their limits.
 use crate::{
-    Bytes, Delivery, Duplicate, Effects, Emission, Entry, IdList, Key, KeyRefusal, Name, NoMemory,
-    NumberList, ProductionList, Record, RecordId, RowName, State, Timer, TimerList, Window,
-    WindowList,
+    Bytes, Delivery, Duplicate, Effects, Emission, Entry, EntryList, HeldList, HeldTotal, IdList,
+    Key, KeyRefusal, Name, NoMemory, NumberList, Production, ProductionList, Record, RecordId,
+    RowName, State, Timer, TimerList, ValueList, Window, WindowList,
 };
 use std::alloc::Global;
+use std::test::Fail;
 
 // A text of so many letters.
 fn letters(alloc: Global, count: usize) -> Result<String, NoMemory> {
@@ -58,7 +59,7 @@ fn lists_are_edited_in_place(rt: HostRuntime) -> Result<(), NoMemory> {
     let alloc = rt.alloc();
     let mut list = NumberList::from_vec(vec![in alloc; 3, 1]?);
     list.insert(1, 9)?;
-    assert!(rt; list.as_slice() == [3, 9, 1].as_slice());
+    assert!(rt; list.as_slice() == [3, 9, 1].as_slice() && list.get(1) == Some(&9));
     list.set(0, 4);
     assert_eq!(rt; list.remove(1), 9);
     list.retain(|number| *number == 4);
@@ -148,35 +149,130 @@ fn copies_are_equal(rt: HostRuntime) -> Result<(), KeyRefusal> {
     Ok(())
 }
 
-// Whether an entry is of a row with this key.
-fn is_of(entry: &Entry, key: &str) -> bool {
-    match entry {
-        Entry::Handle { row, .. } => row.key.text() == key,
-        _ => false,
-    }
+// The row of a key.
+fn row(alloc: Global, key: &str) -> Result<RowName, KeyRefusal> {
+    Ok(RowName {
+        part: 1,
+        key: Key::of(alloc, key)?,
+    })
+}
+
+// A state of a spike that holds one total and knows another.
+fn spike(alloc: Global) -> Result<State, NoMemory> {
+    let mut held = HeldList::new(alloc);
+    held.push(HeldTotal {
+        stamp: 60,
+        value: -7,
+    })?;
+    let mut known = ValueList::new(alloc);
+    known.push(5)?;
+    Ok(State::Spike {
+        late: 1,
+        held,
+        known,
+    })
 }
 
 #[test]
-fn entries_are_copied(rt: HostRuntime) -> Result<(), KeyRefusal> {
+fn states_of_each_kind_are_copied(rt: HostRuntime) -> Result<(), NoMemory> {
     let alloc = rt.alloc();
-    let effects = Effects {
+    for state in [
+        State::Injector { cursor: 3 },
+        spike(alloc)?,
+        State::Pass { late: 2 },
+    ] {
+        assert!(rt; state.copy(alloc)? == state);
+    }
+    Ok(())
+}
+
+// What a handler leaves that set one timer and produced one record.
+fn effects(alloc: Global) -> Result<Effects, KeyRefusal> {
+    let mut timers = TimerList::new(alloc);
+    timers.push(Timer {
+        tag: 0,
+        time: 60,
+        late: true,
+    })?;
+    let mut productions = ProductionList::new(alloc);
+    productions.push(Production {
+        key: Key::of(alloc, "b")?,
+        stamp: 60,
+        value: 2,
+    })?;
+    Ok(Effects {
         state: State::Pass { late: 0 },
-        timers: TimerList::new(alloc),
-        productions: ProductionList::new(alloc),
-    };
-    let entry = Entry::Handle {
-        seq: 0,
-        row: RowName {
-            part: 1,
-            key: Key::of(alloc, "a")?,
+        timers,
+        productions,
+    })
+}
+
+// One entry of each kind.
+fn entries(alloc: Global) -> Result<EntryList, KeyRefusal> {
+    let (seq, id) = (3, some_id());
+    let mut all = EntryList::new(alloc);
+    all.push(Entry::Claim {
+        worker: 1,
+        interval: 2,
+    })?;
+    all.push(Entry::Inject {
+        seq,
+        part: 0,
+        line: 4,
+        item: record(alloc, "a")?,
+    })?;
+    all.push(Entry::Handle {
+        seq,
+        row: row(alloc, "a")?,
+        id,
+        effects: effects(alloc)?,
+    })?;
+    all.push(fire(alloc)?)?;
+    all.push(Entry::Ack {
+        seq,
+        row: row(alloc, "a")?,
+        id,
+    })?;
+    all.push(Entry::Purge {
+        seq,
+        row: row(alloc, "a")?,
+        floor: 5,
+    })?;
+    Ok(all)
+}
+
+// The id of the third record that the second entry made.
+fn some_id() -> RecordId {
+    RecordId {
+        commit: 1,
+        index: 2,
+    }
+}
+
+// A timer that fired.
+fn fire(alloc: Global) -> Result<Entry, KeyRefusal> {
+    Ok(Entry::Fire {
+        seq: 3,
+        row: row(alloc, "a")?,
+        timer: Timer {
+            tag: 0,
+            time: 60,
+            late: false,
         },
-        id: RecordId {
-            commit: 0,
-            index: 0,
-        },
-        effects,
-    };
-    let copy = entry.copy(alloc)?;
-    assert!(rt; is_of(&copy, "a"));
+        mark: 61,
+        effects: effects(alloc)?,
+    })
+}
+
+#[test]
+fn entries_of_each_kind_are_copied(rt: HostRuntime) -> Result<(), Fail> {
+    let alloc = rt.alloc();
+    let entries = entries(alloc)?;
+    let copies = entries.copy(alloc)?;
+    assert_eq!(rt; copies.len(), 6);
+    // Entries have no `==`; each field stands in their text.
+    let old = format!(in alloc; "{entries:?}")?;
+    let new = format!(in alloc; "{copies:?}")?;
+    assert!(rt; old == new);
     Ok(())
 }

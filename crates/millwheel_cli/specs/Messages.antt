@@ -1,0 +1,46 @@
+-- What the program says of each status. Own.
+use Rattle.std.specs.Prelude.{ℕ, List, [], ◌++◌, codes, decimal}
+use Rattle.topology.specs.declared.refusal.TopologyRefusal.{TopologyRefusal}
+use Rattle.topology.specs.declared.refusal.TopologyRefusal.TheVariants as topologies
+use Rattle.injector.specs.declared.refusal.LineWhy.{LineWhy}
+use Rattle.injector.specs.declared.refusal.LineWhy.TheVariants as lines
+use Rattle.millwheel_cli.specs.declared.status.Status.{Status}
+use Rattle.millwheel_cli.specs.declared.status.Status.TheVariants.{Ok, Usage, NoFile, TopologyRefused, EventsRefused, SinkFault, NoMemory, ReadFault, TooLong, FileCount, NotBuilt}
+
+-- the name of a rule of topology files
+abbrev pub topology_rule : TopologyRefusal → List ℕ
+topology_rule topologies.NotJson = codes "NotJson"
+topology_rule topologies.BadShape = codes "BadShape"
+topology_rule topologies.TooMany = codes "TooMany"
+topology_rule topologies.BadName = codes "BadName"
+topology_rule topologies.DoubleName = codes "DoubleName"
+topology_rule topologies.DoubleStream = codes "DoubleStream"
+topology_rule topologies.UnknownStream = codes "UnknownStream"
+topology_rule topologies.BadNumber = codes "BadNumber"
+topology_rule topologies.BadCuts = codes "BadCuts"
+topology_rule topologies.NoMemory = codes "NoMemory"
+
+-- the name of a rule of event lines
+abbrev pub line_rule : LineWhy → List ℕ
+line_rule lines.NotJson = codes "NotJson"
+line_rule lines.NotObject = codes "NotObject"
+line_rule lines.BadKey = codes "BadKey"
+line_rule lines.BadStamp = codes "BadStamp"
+line_rule lines.BadValue = codes "BadValue"
+line_rule lines.TooManyLines = codes "TooManyLines"
+
+-- the text of a status, which names the file or the rule that it is about; there is none with Ok
+abbrev pub message_of : Status → List ℕ
+message_of Ok = []
+message_of Usage = codes "usage: millwheel MODE ARGS"
+message_of (NoFile name) = codes "no file " ++ name
+message_of (TopologyRefused why) = codes "topology refused: " ++ topology_rule why
+message_of (EventsRefused file line why) =
+    codes "events refused: file " ++ decimal file ++ codes " line " ++ decimal line ++ codes ": " ++ line_rule why
+message_of SinkFault = codes "the output failed"
+message_of NoMemory = codes "out of memory"
+message_of (ReadFault name) = codes "can't read " ++ name
+message_of (TooLong name) = codes "too long: " ++ name
+message_of (FileCount files injectors) =
+    decimal files ++ codes " event files for " ++ decimal injectors ++ codes " injectors"
+message_of NotBuilt = codes "not built yet"
