@@ -289,3 +289,19 @@ fn a_timer_closes_its_window(rt: HostRuntime) -> Result<(), Fail> {
     fires(&rt, alloc, 1, 60, &[window(60, 3)], &[])?;
     Ok(())
 }
+
+#[test]
+fn a_handler_sets_and_produces(rt: HostRuntime) -> Result<(), Fail> {
+    let alloc = rt.alloc();
+    let key = Key::of(alloc, "a")?;
+    let state = State::Pass { late: 2 };
+    let item = record(alloc, 10, false)?;
+    let mut context = Context::for_record(alloc, &key, &state, &item)?;
+    assert!(rt; *context.key() == key && *context.state() == state);
+    context.set_timer(7, 11)?;
+    context.produce(alloc, &key, 10, -1)?;
+    let effects = context.into_effects();
+    assert!(rt; effects.state == state && effects.timers.len() == 1);
+    assert_eq!(rt; effects.productions.len(), 1);
+    Ok(())
+}
