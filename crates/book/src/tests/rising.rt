@@ -72,7 +72,7 @@ fn try_purge<K: Keeper>(
     }
 }
 
-// The timer of the window fires.
+// The interval of the count reports, and the timer of its window fires.
 fn try_fire<K: Keeper>(
     rt: &impl Abort,
     trial: Trial,
@@ -83,6 +83,7 @@ fn try_fire<K: Keeper>(
     requires risen { HasRisen 5 book.old }
     requires counted { counted.now ≡ row_counted }
 {
+    expect_mark(rt, report(book, &hands.count, 1, 5, 60), 60);
     match trials::fire(rt, trial, book, hands, counted) {
         Ok(Written { commit, row }) => {
             assert_eq!(rt; commit, 5);
@@ -93,8 +94,8 @@ fn try_fire<K: Keeper>(
     }
 }
 
-// Both intervals report.
-fn try_reports<K: Keeper>(
+// The injector's interval reports.
+fn try_source<K: Keeper>(
     rt: &impl Abort,
     trial: Trial,
     book: &mut Book<'_, K>,
@@ -105,7 +106,6 @@ fn try_reports<K: Keeper>(
     requires counted { counted.now ≡ row_counted }
 {
     expect_mark(rt, report(book, &hands.source, 0, 5, 60), 60);
-    expect_mark(rt, report(book, &hands.count, 1, 5, 60), 60);
     try_fire(rt, trial, book, hands, counted);
 }
 
@@ -128,7 +128,7 @@ fn try_settle<K: Keeper>(
             assert!(rt; commit == 4 && row.pending.is_empty());
             expect_no_sender(rt, book);
             expect(rt, book, (5, 5, 2, 10, 10));
-            try_reports(rt, trial, book, hands, counted);
+            try_source(rt, trial, book, hands, counted);
         }
         Err(_) => assert!(rt; false),
     }
