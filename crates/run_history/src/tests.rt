@@ -1,5 +1,6 @@
 //! What no clause says: that ample memory is enough. The texts are tested at the top.
-use crate::{History, make};
+use crate::{Case, History, emissions, make, result_text};
+use injector::{Items, ItemsList};
 use mw_types::{Entry, Key, KeyRefusal, Production, Record};
 use std::alloc::Global;
 use std::test::Fail;
@@ -54,5 +55,27 @@ fn a_count_is_sent_to_and_emits(rt: HostRuntime) -> Result<(), Fail> {
     let made = make(alloc, &topology, 1, &productions, false, 7)?;
     assert_eq!(rt; made.deliveries.len(), 0);
     assert_eq!(rt; made.emissions.len(), 1);
+    Ok(())
+}
+
+// The case of one count whose event file is empty.
+fn empty_case(alloc: Global) -> Result<Case, Fail> {
+    let topology = Topology::one_count(alloc, 60)?;
+    let mut all = ItemsList::new(alloc);
+    all.push(Items::new(alloc))?;
+    Ok(Case::of(alloc, topology, all)?)
+}
+
+#[test]
+fn a_run_of_nothing_is_printed(rt: HostRuntime) -> Result<(), Fail> {
+    let alloc = rt.alloc();
+    let case = empty_case(alloc)?;
+    assert_eq!(rt; case.intervals().count(), 2);
+    let history = History::new(alloc);
+    assert_eq!(rt; history.len(), 0);
+    assert!(rt; emissions(alloc, &case, &history)?.is_empty());
+    let text = result_text(alloc, &case, &history)?;
+    let summary = b"{\"fired\":0,\"handled\":0,\"injected\":0,\"late\":0}\n";
+    assert_eq!(rt; text.as_slice(), summary.as_slice());
     Ok(())
 }
