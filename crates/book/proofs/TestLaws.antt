@@ -1,5 +1,5 @@
 -- What the reports of the tests are sure of.
-use Rattle.std.proofs.Common.{◌≡◌, ◌<◌, ◌≤◌, ℕ, zero, suc, List, [], ◌∷◌, length, drop, take, refl, sym, ◌∙◌, ap, subst, arith}
+use Rattle.std.proofs.Common.{◌≡◌, ◌<◌, ℕ, zero, suc, List, [], ◌∷◌, length, drop, take, refl, sym, ◌∙◌, ap, subst, arith}
 use Rattle.std.specs.Prelude.{Option, Some, None, IfSome, All, slice_get, ◌≢◌}
 use Rattle.std.proofs.lemmas.List.Elements.{All-from_recursion}
 use Rattle.mw_types.specs.declared.identity.RowName.{RowName}
@@ -15,7 +15,7 @@ use Rattle.history_laws.specs.Marks.{own_work}
 use Rattle.worked_examples.specs.First.{row_a}
 use Rattle.book.specs.Books.{BookView, LeaseView}
 use Rattle.book.specs.Conditions.{IsOwnWork, MayUse}
-use Rattle.book.specs.Rising.{HasRisen, IsOvertaken, first_lease, later_lease, own_after, rise_case, rise_history, whole_part}
+use Rattle.book.specs.Rising.{HasRisen, IsOvertaken, first_lease, later_lease, own_after, rise_history, whole_part}
 
 -- what holds anyway holds where the keeper tells
 told : {X : Type 0} (o : Option Rows) → X → IfSome o (λ _. X)

@@ -1,5 +1,5 @@
--- The example of two lines and a watermark between them, worked by hand: the first line is worked off while the marks rise, and
--- its row is purged. No public clause cites this module.
+-- The example of two lines and a watermark between them, worked by hand: the first line is worked
+-- off while the marks rise, and its row is purged. No public clause cites this module.
 use Rattle.std.specs.Prelude.{◌≡◌, ℕ, List, [], ◌∷◌, pos, false, None, take}
 use Rattle.mw_types.specs.declared.delivery.Delivery.{Delivery}
 use Rattle.mw_types.specs.declared.state.State.TheVariants.{Injector, Count}
@@ -34,7 +34,8 @@ rise_source =
 abbrev pub rise_case : CaseShape
 rise_case = record { topology = one_count 60; sources = rise_source ∷ [] }
 
--- both intervals are claimed; the first line is injected, handled and acknowledged; its window closes, and its row is purged
+-- both intervals are claimed; the first line is injected, handled and acknowledged; its window
+-- closes, and its row is purged
 abbrev pub rise_history : List Entry
 rise_history =
     Claim 0 0
@@ -63,7 +64,14 @@ sent_delivery = record { id = id_of 2; to = row_a; item = record_at 10 }
 
 -- the injector's row once the first line is injected
 abbrev pub row_injected : Contents
-row_injected = record { state = Injector 1; timers = []; pending = sent_delivery ∷ []; seen = []; floor = 0; last = 2 }
+row_injected = record {
+  state = Injector 1;
+  timers = [];
+  pending = sent_delivery ∷ [];
+  seen = [];
+  floor = 0;
+  last = 2;
+}
 
 -- the row of the key a once the record is handled
 abbrev pub row_counted : Contents
@@ -78,7 +86,14 @@ row_counted = record {
 
 -- the row of the key a once its window is closed
 abbrev pub row_closed : Contents
-row_closed = record { state = Count 0 []; timers = []; pending = []; seen = id_of 2 ∷ []; floor = 0; last = 5 }
+row_closed = record {
+  state = Count 0 [];
+  timers = [];
+  pending = [];
+  seen = id_of 2 ∷ [];
+  floor = 0;
+  last = 5;
+}
 
 -- all keys of a part
 abbrev pub whole_part : ℕ → Bounds
@@ -87,7 +102,8 @@ whole_part part = record { part = part; from = []; to = None }
 -- the own work of an interval after so many of the entries
 abbrev pub own_after : ℕ → ℕ → ℕ
 own_after count interval =
-    own_work rise_case (run_of rise_case.topology (known interval interval (take count rise_history))) (whole_part interval)
+    let seen = known interval interval (take count rise_history) in
+    own_work rise_case (run_of rise_case.topology seen) (whole_part interval)
 
 -- ---- where a second worker claims the interval of the count
 
