@@ -349,7 +349,7 @@ fn spiked(
 ) -> Result<Outcome, NoMemory>
     ensures { IfOk result (λ left. left ≡
         (if is_spike then outcome_with_record state key.now (due_time due.stamp) due.value
-            else unchanged state)) }
+        else unchanged state)) }
 {
     if is_spike {
         with_record(alloc, state, key, due_time(due.stamp), due.value)

@@ -83,6 +83,7 @@ fn try_fire<K: Keeper>(
     requires risen { HasRisen 5 book.old }
     requires counted { counted.now ≡ row_counted }
 {
+    assert_eq!(rt; source_mark(book), 60);
     expect_mark(rt, report(book, &hands.count, 1, 5, 60), 60);
     match trials::fire(rt, trial, book, hands, counted) {
         Ok(Written { commit, row }) => {
