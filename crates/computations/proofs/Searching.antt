@@ -1,7 +1,7 @@
 -- What a search in an ascending list finds, and what an edit at that place does.
-use Rattle.std.proofs.Common.{◌≡◌, ℕ, zero, suc, ◌<◌, ◌≤◌, ◌==◌, not, List, [], ◌∷◌, length, get_or, set, Some, None, Result, Ok, Err, IfOk, IfErr, slice_get, map, filter, find, refl, sym, ap, ◌∙◌, arith}
+use Rattle.std.proofs.Common.{◌≡◌, ℕ, zero, suc, ◌+◌, ◌<◌, ◌≤◌, ◌==◌, not, List, [], ◌∷◌, length, get_or, set, Some, None, Result, Ok, Err, IfOk, IfErr, slice_get, map, filter, find, refl, sym, ap, ◌∙◌, arith}
 use Rattle.std.specs.List.{insert, remove}
-use Rattle.std.specs.List.Sorted.{IsSearchInRange, IsBinarySearchResult, IsNonDecreasingBy, IsStrictlySortedBy}
+use Rattle.std.specs.List.Sorted.{IsStrictlySortedBy}
 use Rattle.std.specs.Ordering.{nat_cmp, ordering_index}
 use Rattle.std.proofs.lemmas.Cmp.{ranked}
 use Rattle.std.proofs.lemmas.Map.Keys.{below_from_sorted}
@@ -9,7 +9,7 @@ use Rattle.std.proofs.lemmas.Bool.Decides.{nat_tests}
 use Rattle.std.proofs.lemmas.List.{get_or-map, length-map}
 use Rattle.std.proofs.lemmas.Option.{get_or_from_slice_get}
 use Rattle.computations.specs.Handlers.{entered}
-use Rattle.computations.specs.Places.{IsPlace, IsGap}
+use Rattle.computations.specs.Places.{IsPlace, IsGap, IsBetween}
 
 module _ {X : Type 0} (number : X → ℕ) where
   -- past the first element a place is one lower
@@ -78,30 +78,51 @@ module _ {X : Type 0} (number : X → ℕ) (xs : List X) (n : ℕ) (up : IsStric
       let at_j = get_or-map number xs j d (number d) within in
       omega (arith, below, at_i, at_j)
 
-  -- the comparisons with the number rise along the list, as a binary search asks
-  comparisons_rise : IsNonDecreasingBy (λ x. ordering_index (nat_cmp (number x) n)) xs
-  comparisons_rise i j d le within =
-      let numbers_rise : number (get_or xs i d) ≤ number (get_or xs j d) = grind (arith, rises i j d, λ (same : i ≡ j). ap (λ k. number (get_or xs k d)) same) in
-      grind (arith, nat_tests)
-
-  -- a binary search by number ends at the number's place, or at its gap
-  pub searched : (r : Result ℕ ℕ) → IsSearchInRange r (length xs) → IsBinarySearchResult (λ x. nat_cmp (number x) n) xs r → record { found : IfOk r (IsPlace number xs n); absent : IfErr r (IsGap number xs n) }
-  searched (Ok at) within equal =
-      let here : (d : X) → number (get_or xs at d) ≡ n = λ d. ranked _ n _ (sym (equal d)) in
-      record {
-        found = record {
-          in_range = within;
-          before = λ j d lt. omega (arith, rises j at d lt within, here d);
-          here = here;
-          after = λ j d lt inside. omega (arith, rises at j d lt inside, here d);
-        };
-        absent = tt;
-      }
-  searched (Err at) within parted = record {
-    found = tt;
-    absent = record {
-      in_range = within;
-      before = λ j d lt. ranked _ n _ (sym ((parted comparisons_rise).0 j d (omega arith) lt));
-      after = λ j d le inside. ranked _ n _ (sym ((parted comparisons_rise).1 j d le inside));
-    };
+  -- at first the number may stand anywhere
+  pub IsBetween-all : IsBetween number xs n 0 (length xs)
+  IsBetween-all = record {
+    ordered = omega arith;
+    in_range = omega arith;
+    before = λ j d lt. absurd (omega (arith, lt));
+    after = λ j d le within. absurd (omega (arith, le, within));
   }
+
+  -- where the two places meet the number has its gap
+  pub IsGap-between : (low high : ℕ) → IsBetween number xs n low high → high ≤ low → IsGap number xs n low
+  IsGap-between low high b le = record {
+    in_range = omega (arith, b.ordered, b.in_range, le);
+    before = b.before;
+    after = λ j d from within. b.after j d (omega (arith, le, from)) within;
+  }
+
+  module _ (low high middle : ℕ) (x : X) (between : IsBetween number xs n low high) (from : low ≤ middle) (below : middle < high) (read : slice_get xs middle ≡ Some x) where
+    -- the element in the middle, whatever stands in for one past the end
+    number-middle : (d : X) → number (get_or xs middle d) ≡ number x
+    number-middle d = ap number (get_or_from_slice_get xs middle x d read)
+
+    -- where the element in the middle is smaller the number stands after it
+    pub IsBetween-after : number x < n → IsBetween number xs n (middle + 1) high
+    IsBetween-after lt = record {
+      ordered = omega (arith, below);
+      in_range = between.in_range;
+      before = λ j d le. grind (arith, rises j middle d, number-middle d, between.in_range);
+      after = between.after;
+    }
+
+    -- where it is greater the number stands before it
+    pub IsBetween-before : n < number x → IsBetween number xs n low middle
+    IsBetween-before gt = record {
+      ordered = from;
+      in_range = omega (arith, below, between.in_range);
+      before = between.before;
+      after = λ j d le within. grind (arith, rises middle j d, number-middle d);
+    }
+
+    -- where it is the number it stands there
+    pub IsPlace-middle : number x ≡ n → IsPlace number xs n middle
+    IsPlace-middle same = record {
+      in_range = omega (arith, below, between.in_range);
+      before = λ j d lt. omega (arith, rises j middle d lt (omega (arith, below, between.in_range)), number-middle d, same);
+      here = λ d. number-middle d ∙ same;
+      after = λ j d lt inside. omega (arith, rises middle j d lt inside, number-middle d, same);
+    }

@@ -13,3 +13,10 @@ pub record IsGap {X : Type 0} (number : X → ℕ) (xs : List X) (n at : ℕ) : 
   pub in_range : at ≤ length xs
   pub before : (j : ℕ) (d : X) → j < at → number (slice_index_or xs j d) < n
   pub after : (j : ℕ) (d : X) → at ≤ j → j < length xs → n < number (slice_index_or xs j d)
+
+-- a number that the list may have stands between these places: the elements before the first are smaller, those from the second on greater
+pub record IsBetween {X : Type 0} (number : X → ℕ) (xs : List X) (n low high : ℕ) : Type 0 where
+  pub ordered : low ≤ high
+  pub in_range : high ≤ length xs
+  pub before : (j : ℕ) (d : X) → j < low → number (slice_index_or xs j d) < n
+  pub after : (j : ℕ) (d : X) → high ≤ j → j < length xs → n < number (slice_index_or xs j d)

@@ -7,7 +7,7 @@ ghost use Rattle.mw_types.specs.declared.state.Window.{Window};
 ghost use Rattle.mw_types.specs.Bounds.{IsWithin, AreWindows};
 ghost use Rattle.computations.specs.Handlers.{one_more, window_end, counted, effects_of_record, effects_of_timer};
 ghost use Rattle.computations.specs.Handlings.{begun_by_record, begun_by_timer, ended_with};
-ghost use Rattle.computations.specs.Places.{IsPlace, IsGap};
+ghost use Rattle.computations.specs.Places.{IsPlace, IsGap, IsBetween};
 
 use crate::context::Context;
 use mw_types::{Duplicate, MAX_STAMP, NoMemory, Record, State, Timer, Window, WindowList};
@@ -55,7 +55,7 @@ pub(crate) fn on_timer(alloc: Global, context: &mut Context, timer: &Timer) -> R
     let State::Count { late: _, windows } = context.state_mut() else {
         return Ok(());
     };
-    let Some(window) = close(windows, timer.time) else {
+    let Some(window) = close(windows, timer.time)? else {
         return Ok(());
     };
     let key = context.key().copy(alloc)?;
@@ -89,12 +89,33 @@ fn with_one_more(window: Window) -> Window
 }
 
 // The place of the window that ends here, or else the place where it belongs.
-fn place_of(windows: &[Window], end: u64) -> Result<usize, usize>
+fn place_of(windows: &WindowList, end: u64) -> Result<usize, usize>
     requires { IsStrictlySortedBy nat_cmp (map (λ w. w.end) windows.now) }
     ensures found { IfOk result (IsPlace (λ (w : Window). w.end) windows.now end) }
     ensures absent { IfErr result (IsGap (λ (w : Window). w.end) windows.now end) }
 {
-    windows.binary_search_by_key(&end, |window| window.end)
+    place_between(windows, end, 0, windows.len())
+}
+
+// The same, where the place is between two.
+fn place_between(windows: &WindowList, end: u64, low: usize, high: usize) -> Result<usize, usize>
+    requires ascending { IsStrictlySortedBy nat_cmp (map (λ w. w.end) windows.now) }
+    requires between { IsBetween (λ (w : Window). w.end) windows.now end low high }
+    ensures found { IfOk result (IsPlace (λ (w : Window). w.end) windows.now end) }
+    ensures absent { IfErr result (IsGap (λ (w : Window). w.end) windows.now end) }
+{
+    if low >= high {
+        return Err(low);
+    }
+    let middle = low + (high - low) / 2;
+    let window = window_at(windows, middle);
+    if window.end < end {
+        place_between(windows, end, middle + 1, high)
+    } else if end < window.end {
+        place_between(windows, end, low, middle)
+    } else {
+        Ok(middle)
+    }
 }
 
 // Counts one record in the window that ends here, which may be a new one.
@@ -104,10 +125,10 @@ fn count(windows: &mut WindowList, end: u64) -> Result<(), NoMemory>
     ensures counted { OnOk result (windows.new ≡ counted windows.old end) }
     ensures within { OnOk result (AreWindows windows.new) }
 {
-    match place_of(windows.as_slice(), end) {
+    match place_of(windows, end) {
         Ok(at) => {
-            let window = window_at(windows.as_slice(), at);
-            windows.set(at, with_one_more(window));
+            let window = window_at(windows, at);
+            windows.set(at, with_one_more(window))?;
             Ok(())
         }
         Err(at) => {
@@ -121,25 +142,33 @@ fn count(windows: &mut WindowList, end: u64) -> Result<(), NoMemory>
 }
 
 // Takes the window that ends here away, if it is there.
-fn close(windows: &mut WindowList, end: u64) -> Option<Window>
+fn close(windows: &mut WindowList, end: u64) -> Result<Option<Window>, NoMemory>
     requires { AreWindows windows.old }
-    ensures closed { result ≡ find (λ w. w.end == end) windows.old }
-    ensures gone { IfSome result (λ due.
-        windows.new ≡ filter (λ w. not (w.end == due.end)) windows.old) }
-    ensures stays { IfNone result (windows.new ≡ windows.old) }
-    ensures due { IfSome result (λ due. (due.end ≡ end) × (due.count ≤ MAX_STAMP)) }
-    ensures within { AreWindows windows.new }
+    ensures closed { IfOk result (λ due. due ≡ find (λ w. w.end == end) windows.old) }
+    ensures gone { IfOk result (λ due. IfSome due (λ due.
+        windows.new ≡ filter (λ w. not (w.end == due.end)) windows.old)) }
+    ensures stays { IfOk result (λ due. IfNone due (windows.new ≡ windows.old)) }
+    ensures due { IfOk result (λ due. IfSome due (λ due.
+        (due.end ≡ end) × (due.count ≤ MAX_STAMP))) }
+    ensures within { OnOk result (AreWindows windows.new) }
 {
-    match place_of(windows.as_slice(), end) {
-        Ok(at) => Some(windows.remove(at)),
-        Err(_) => None,
+    match place_of(windows, end) {
+        Ok(at) => {
+            let window = window_at(windows, at);
+            windows.remove(at)?;
+            Ok(Some(window))
+        }
+        Err(_) => Ok(None),
     }
 }
 
 // The window at a place.
-fn window_at(windows: &[Window], at: usize) -> Window
+fn window_at(windows: &WindowList, at: usize) -> Window
     requires { at < length windows.now }
     ensures { slice_get windows.now at ≡ Some result }
 {
-    windows[at]
+    match windows.get(at) {
+        Some(window) => *window,
+        None => unreachable!(),
+    }
 }

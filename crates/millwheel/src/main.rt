@@ -10,6 +10,7 @@ use mw_types::{Name, NoMemory, Seq};
 use std::alloc::Global;
 use std::env;
 use std::io::{Error, ErrorKind};
+use std::mem;
 use std::process::ExitCode;
 
 fn main(rt: HostRuntime) -> ExitCode {
@@ -65,6 +66,8 @@ fn unread(error: &Error) -> Status {
 fn run(rt: &HostRuntime, words: &[Name]) -> Status {
     let mut shelf = FileShelf::new(rt);
     let mut out = OutSink::new(rt);
-    let FirstDone { status, history: _ } = millwheel_alone(rt.alloc(), words, &mut shelf, &mut out);
+    let FirstDone { status, history } = millwheel_alone(rt.alloc(), words, &mut shelf, &mut out);
+    // The process ends here, so the history is not given back piece by piece.
+    mem::forget(history);
     status
 }

@@ -1,1 +1,3 @@
 pub mod OrderLaws
+pub mod Pairs
+pub mod Sides

@@ -3,3 +3,6 @@ pub mod Kinds
 pub mod Bounds
 pub mod Outcomes
 pub mod Causes
+pub mod Trees
+pub mod Lists
+pub mod Texts

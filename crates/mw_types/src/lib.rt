@@ -17,11 +17,14 @@ mod memory;
 mod record;
 mod refusal;
 mod seq;
+mod shared_list;
+mod short;
 mod state;
 #[cfg(test)]
 mod tests;
 mod text;
 mod timer;
+mod tree;
 
 pub use delivery::{Delivery, DeliveryList, Emission, EmissionList};
 pub use effects::Effects;
@@ -33,6 +36,7 @@ pub use memory::{Duplicate, NoMemory};
 pub use record::{Production, ProductionList, Record};
 pub use refusal::{KeyRefusal, PlanRefusal};
 pub use seq::{Bytes, CallList, NumberList, Seq};
+pub use shared_list::SharedList;
 pub use state::{HeldList, HeldTotal, State, ValueList, Window, WindowList};
 pub use text::{KeyText, Name, Text};
 pub use timer::{Timer, TimerList};

@@ -108,6 +108,13 @@ impl<X> Seq<X> {
         Seq { items }
     }
 
+    /// The elements in order, as a vector.
+    pub fn into_vec(self) -> Vec<X>
+        ensures { result.items ≡ self }
+    {
+        self.items
+    }
+
     /// How many elements the list has.
     pub fn len(&self) -> usize
         ensures count { result ≡ length self.now }

@@ -1,6 +1,7 @@
 //! What a row keeps for its key, Akidau et al., VLDB 2013, section 4.4.
 use crate::memory::{Duplicate, NoMemory};
 use crate::seq::Seq;
+use crate::shared_list::SharedList;
 use std::alloc::Global;
 
 /// A window that is open, and how many records it has.
@@ -13,7 +14,7 @@ pub struct Window {
 }
 
 /// A list of windows.
-pub type WindowList = Seq<Window>;
+pub type WindowList = SharedList<Window>;
 
 impl Duplicate for Window {
     fn copy(&self, _alloc: Global) -> Result<Window, NoMemory> {
@@ -31,7 +32,7 @@ pub struct HeldTotal {
 }
 
 /// A list of held totals.
-pub type HeldList = Seq<HeldTotal>;
+pub type HeldList = SharedList<HeldTotal>;
 
 /// A list of values.
 pub type ValueList = Seq<i64>;

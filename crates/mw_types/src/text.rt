@@ -1,23 +1,32 @@
 //! A text in UTF-8, which contracts see as its bytes.
-ghost use Rattle.std.specs.Prelude.{◌≡◌, length, IfOk, [], string_bytes};
+ghost use Rattle.std.specs.Prelude.{◌≡◌, length, IfOk, []};
 
 use crate::memory::{Duplicate, NoMemory};
+use crate::short::{SHORT_MAX, ShortText};
 use std::alloc::Global;
 use std::cmp::Ordering;
 use std::marker::Model;
 
+// Where a text lies: in the value itself, or on the heap.
+#[derive(Debug, Drop)]
+enum Held {
+    Short(ShortText),
+    Long(String),
+}
+
 /// A text whose representation is its own.
 #[derive(Debug, Drop)]
 pub struct Text {
-    text: String,
+    held: Held,
 }
 
 impl Model for Text {
-    ghost use Rattle.std.specs.Prelude.{List, ℕ, string_bytes};
+    ghost use Rattle.std.specs.Prelude.{List, ℕ};
+    ghost use Rattle.mw_types.specs.Texts.{held_bytes};
 
     ghost Value = { List ℕ };
 
-    ghost view = { λ t. string_bytes t.text };
+    ghost view = { λ t. held_bytes t.held };
 }
 
 /// The text of a key.
@@ -28,11 +37,11 @@ pub type Name = Text;
 
 impl Text {
     /// The empty text, which takes no memory.
-    pub fn new(alloc: Global) -> Text
+    pub fn new(_alloc: Global) -> Text
         ensures empty { result ≡ [] }
     {
         Text {
-            text: String::new(alloc),
+            held: Held::Short(ShortText::of("")),
         }
     }
 
@@ -40,8 +49,13 @@ impl Text {
     pub fn of(alloc: Global, text: &str) -> Result<Text, NoMemory>
         ensures held { IfOk result (λ made. made ≡ text.now) }
     {
+        if text.len() <= SHORT_MAX {
+            return Ok(Text {
+                held: Held::Short(ShortText::of(text)),
+            });
+        }
         Ok(Text {
-            text: String::from_str(alloc, text)?,
+            held: Held::Long(String::from_str(alloc, text)?),
         })
     }
 
@@ -49,20 +63,30 @@ impl Text {
     pub fn len(&self) -> usize
         ensures count { result ≡ length self.now }
     {
-        self.text.len()
+        self.text().len()
     }
 
     /// The text.
     pub fn text(&self) -> &str
         ensures bytes { result.now ≡ self.now }
     {
-        self.text.as_str()
+        match &self.held {
+            Held::Short(text) => text.text(),
+            Held::Long(text) => text.as_str(),
+        }
     }
 }
 
 impl Duplicate for Text {
     fn copy(&self, alloc: Global) -> Result<Text, NoMemory> {
-        Text::of(alloc, self.text())
+        match &self.held {
+            Held::Short(text) => Ok(Text {
+                held: Held::Short(text.again()),
+            }),
+            Held::Long(text) => Ok(Text {
+                held: Held::Long(String::from_str(alloc, text.as_str())?),
+            }),
+        }
     }
 }
 
@@ -76,7 +100,7 @@ impl PartialEq for Text {
     ghost laws = { partial_equiv_from_equiv nat_list_eq_equiv };
 
     fn eq(&self, other: &Text) -> bool {
-        self.text == other.text
+        self.text() == other.text()
     }
 }
 
@@ -117,6 +141,6 @@ impl Ord for Text {
     ghost matches_eq = { Prim.search (comparing, rules) };
 
     fn cmp(&self, other: &Text) -> Ordering {
-        self.text.cmp(&other.text)
+        self.text().cmp(other.text())
     }
 }

@@ -1,3 +1,4 @@
 pub mod Lowering
 pub mod Counting
 pub mod Deciding
+pub mod Rests

@@ -20,12 +20,12 @@ pub fn plain_fresh_state(alloc: Global, kind: Kind) -> State
     match kind {
         Kind::Count { .. } => State::Count {
             late: 0,
-            windows: Seq::new(alloc),
+            windows: WindowList::new(alloc),
         },
         Kind::Spike { .. } => State::Spike {
             late: 0,
-            held: Seq::new(alloc),
-            known: Seq::new(alloc),
+            held: HeldList::new(alloc),
+            known: ValueList::new(alloc),
         },
         Kind::Pass => State::Pass { late: 0 },
     }
@@ -98,7 +98,7 @@ fn window_end(size: u64, stamp: u64) -> u64
 }
 
 // The windows with one more record in the one that ends there.
-fn counted(alloc: Global, windows: &[Window], end: u64) -> Result<WindowList, NoMemory>
+fn counted(alloc: Global, windows: &[Window], end: u64) -> Result<Seq<Window>, NoMemory>
     ensures { IfOk result (λ all. all ≡ counted windows.now end) }
 {
     let new = Window { end, count: 1 };
@@ -135,7 +135,8 @@ fn count_record(
         return Ok(unchanged(alloc, State::Count { late, windows }));
     }
     let end = window_end(size, item.stamp);
-    let windows = counted(alloc, windows.as_slice(), end)?;
+    let windows = counted(alloc, &windows.flat(alloc)?, end)?;
+    let windows = WindowList::of(alloc, windows.into_vec())?;
     with_timer(alloc, State::Count { late, windows }, end, item)
 }
 
@@ -168,7 +169,7 @@ fn window_due(windows: &[Window], timer: &Timer) -> Option<Window>
 fn windows_but(alloc: Global, windows: &[Window], end: u64) -> Result<WindowList, NoMemory>
     ensures { IfOk result (λ left. left ≡ filter (λ w. not (w.end == end)) windows.now) }
 {
-    let mut left = Seq::new(alloc);
+    let mut left = WindowList::new(alloc);
     for window in windows {
         if !(window.end == end) {
             left.push(*window)?;
@@ -188,7 +189,7 @@ fn count_timer(
     ensures { let due = window_due windows.now timer.now in
         IfOk result (λ left. left ≡ count_timer key.now late windows.now due) }
 {
-    let Some(due) = window_due(windows.as_slice(), timer) else {
+    let Some(due) = window_due(&windows.flat(alloc)?, timer) else {
         let windows = windows.copy(alloc)?;
         return Ok(unchanged(alloc, State::Count { late, windows }));
     };
@@ -196,7 +197,7 @@ fn count_timer(
     if due.count > MAX_STAMP {
         return Err(NoMemory);
     }
-    let windows = windows_but(alloc, windows.as_slice(), due.end)?;
+    let windows = windows_but(alloc, &windows.flat(alloc)?, due.end)?;
     let state = State::Count { late, windows };
     with_record(alloc, state, key, due.end, due.count as i64)
 }
@@ -214,7 +215,7 @@ fn held_with(
     held: &[HeldTotal],
     stamp: u64,
     value: i64,
-) -> Result<HeldList, NoMemory>
+) -> Result<Seq<HeldTotal>, NoMemory>
     ensures { IfOk result (λ all. all ≡ held_with held.now stamp value) }
 {
     let new = HeldTotal { stamp, value };
@@ -250,7 +251,8 @@ fn spike_record(
         let late = one_more(late);
         return Ok(unchanged(alloc, State::Spike { late, held, known }));
     }
-    let held = held_with(alloc, held.as_slice(), item.stamp, item.value)?;
+    let held = held_with(alloc, &held.flat(alloc)?, item.stamp, item.value)?;
+    let held = HeldList::of(alloc, held.into_vec())?;
     let time = due_time(item.stamp);
     with_timer(alloc, State::Spike { late, held, known }, time, item)
 }
@@ -284,7 +286,7 @@ fn total_due(held: &[HeldTotal], timer: &Timer) -> Option<HeldTotal>
 fn totals_but(alloc: Global, held: &[HeldTotal], stamp: u64) -> Result<HeldList, NoMemory>
     ensures { IfOk result (λ left. left ≡ filter (λ h. not (h.stamp == stamp)) held.now) }
 {
-    let mut left = Seq::new(alloc);
+    let mut left = HeldList::new(alloc);
     for total in held {
         if !(total.stamp == stamp) {
             left.push(*total)?;
@@ -373,13 +375,13 @@ fn spike_timer(
     ensures { let due = total_due held.now timer.now in
         IfOk result (λ left. left ≡ spike_timer last times key.now late held.now known.now due) }
 {
-    let Some(due) = total_due(held.as_slice(), timer) else {
+    let Some(due) = total_due(&held.flat(alloc)?, timer) else {
         let held = held.copy(alloc)?;
         let known = known.copy(alloc)?;
         return Ok(unchanged(alloc, State::Spike { late, held, known }));
     };
     let is_spike = is_spike(last, times, known.as_slice(), due.value)?;
-    let held = totals_but(alloc, held.as_slice(), due.stamp)?;
+    let held = totals_but(alloc, &held.flat(alloc)?, due.stamp)?;
     let known = known_with(alloc, last, known, due.value)?;
     let state = State::Spike { late, held, known };
     spiked(alloc, is_spike, state, key, due)

@@ -1,8 +1,10 @@
 //! Whether two values are the same, part by part.
-ghost use Rattle.std.specs.Prelude.{◌≡◌, ◌↔◌, IsTrue};
+ghost use Rattle.std.specs.Prelude.{◌≡◌, ◌↔◌, IsTrue, length, drop};
 
 use crate::outcome::Outcome;
-use mw_types::{Effects, HeldTotal, Key, Production, Record, RowName, State, Timer, Window};
+use mw_types::{
+    Effects, HeldTotal, Key, Production, Record, RowName, SharedList, State, Timer, Window,
+};
 
 /// A value that tells whether another is the same, so that what a handler left can be compared with
 /// what an entry tells.
@@ -76,6 +78,27 @@ fn same_list<X: Same>(a: &[X], b: &[X]) -> bool
     x.same(y) && same_list(xs, ys)
 }
 
+// Whether two lists that may share memory have the same elements.
+fn same_shared<X: Same + Copy + Drop>(a: &SharedList<X>, b: &SharedList<X>) -> bool
+    ensures { IsTrue result ↔ (a.now ≡ b.now) }
+{
+    a.len() == b.len() && same_from(a, b, 0)
+}
+
+// Whether two lists of one length have the same elements from a place on.
+fn same_from<X: Same + Copy + Drop>(a: &SharedList<X>, b: &SharedList<X>, at: usize) -> bool
+    requires { length a.now ≡ length b.now }
+    ensures { IsTrue result ↔ (drop at a.now ≡ drop at b.now) }
+{
+    if at >= a.len() {
+        return true;
+    }
+    let (Some(x), Some(y)) = (a.get(at), b.get(at)) else {
+        unreachable!()
+    };
+    x.same(y) && same_from(a, b, at + 1)
+}
+
 // Whether two states are the same.
 fn same_state(a: &State, b: &State) -> bool
     ensures { IsTrue result ↔ (a.now ≡ b.now) }
@@ -89,7 +112,7 @@ fn same_state(a: &State, b: &State) -> bool
             State::Count {
                 late: other,
                 windows: others,
-            } => *late == *other && same_list(windows.as_slice(), others.as_slice()),
+            } => *late == *other && same_shared(windows, others),
             _ => false,
         },
         State::Spike { late, held, known } => match b {
@@ -99,7 +122,7 @@ fn same_state(a: &State, b: &State) -> bool
                 known: values,
             } => {
                 *late == *other
-                    && same_list(held.as_slice(), others.as_slice())
+                    && same_shared(held, others)
                     && same_list(known.as_slice(), values.as_slice())
             }
             _ => false,

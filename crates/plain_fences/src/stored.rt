@@ -55,10 +55,12 @@ fn put_state(out: &mut Vec<u8>, state: &State) -> Result<(), NoMemory>
         State::Count { late, windows } => {
             out.push(1)?;
             late.put(out)?;
-            put_all(out, windows.as_slice())
+            let windows = windows.flat(*out.allocator())?;
+            put_all(out, &windows)
         }
         State::Spike { late, held, known } => {
-            put_spike(out, *late, held.as_slice(), known.as_slice())
+            let held = held.flat(*out.allocator())?;
+            put_spike(out, *late, &held, known.as_slice())
         }
         State::Pass { late } => {
             out.push(3)?;

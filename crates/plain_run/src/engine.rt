@@ -18,7 +18,7 @@ use computations::{Computation, Context, Kinds};
 use injector::{Item, Items};
 use mw_types::{
     Delivery, DeliveryList, Duplicate, Effects, Entry, Key, NoMemory, Production, Record, RowName,
-    Seq, State, Timer,
+    State, Timer, WindowList,
 };
 use run_history::{Case, History, Made, make};
 use std::alloc::Global;
@@ -245,7 +245,7 @@ fn record_effects(
 {
     let fresh = State::Count {
         late: 0,
-        windows: Seq::new(alloc),
+        windows: WindowList::new(alloc),
     };
     let state = states.get(row).unwrap_or(&fresh);
     let mut context = Context::for_record(alloc, &row.key, state, item)?;
@@ -270,7 +270,7 @@ fn timer_effects(
 {
     let fresh = State::Count {
         late: 0,
-        windows: Seq::new(alloc),
+        windows: WindowList::new(alloc),
     };
     let state = states.get(row).unwrap_or(&fresh);
     let mut context = Context::for_timer(alloc, &row.key, state, timer)?;

@@ -112,7 +112,7 @@ fn copied(alloc: Global, name: &RowName, bytes: &Bytes) -> Result<KeptRow, NoMem
 {
     Ok(KeptRow {
         name: name.copy(alloc)?,
-        bytes: bytes.copy(alloc)?,
+        bytes: list_of(alloc, bytes.as_slice())?,
     })
 }
 
@@ -132,11 +132,9 @@ fn hold(alloc: Global, rows: &mut RowMap, name: &RowName, bytes: &[u8]) -> Resul
 fn list_of(alloc: Global, bytes: &[u8]) -> Result<Bytes, NoMemory>
     ensures { IfOk result (λ list. list ≡ bytes.now) }
 {
-    let mut list = Bytes::new(alloc);
-    for byte in bytes {
-        list.push(*byte)?;
-    }
-    Ok(list)
+    let mut list = Vec::with_capacity(alloc, bytes.len())?;
+    list.extend_from_slice(bytes)?;
+    Ok(Bytes::from_vec(list))
 }
 
 // The rows of the interval: those from where it begins, as long as it has them.

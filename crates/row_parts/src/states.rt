@@ -9,7 +9,7 @@ ghost use Rattle.row_parts.specs.Reading.{Gives, injector_at, count_at, spike_at
 use crate::lists::{put_list, take_ascending, take_list};
 use crate::refusal::StateRefusal;
 use crate::spelled::Spelled;
-use mw_types::{Bytes, HeldTotal, MAX_STAMP, NoMemory, State, Window};
+use mw_types::{Bytes, HeldList, HeldTotal, MAX_STAMP, NoMemory, State, Window, WindowList};
 use std::alloc::Global;
 
 // The greatest number of known values.
@@ -57,13 +57,14 @@ pub fn put_state(out: &mut Vec<u8>, state: &State) -> Result<(), NoMemory>
             out.push(0)?;
             cursor.put(out)
         }
-        State::Count { late, windows } => put_count(out, *late, windows.as_slice()),
-        State::Spike { late, held, known } => put_spike(
-            out,
-            *late,
-            held.as_slice(),
-            known.as_slice(),
-        ),
+        State::Count { late, windows } => {
+            let windows = windows.flat(*out.allocator())?;
+            put_count(out, *late, &windows)
+        }
+        State::Spike { late, held, known } => {
+            let held = held.flat(*out.allocator())?;
+            put_spike(out, *late, &held, known.as_slice())
+        }
         State::Pass { late } => {
             out.push(3)?;
             late.put(out)
@@ -98,6 +99,7 @@ fn take_count(alloc: Global, bytes: &[u8]) -> Result<(State, &[u8]), StateRefusa
 {
     let (late, rest) = u64::take(alloc, bytes)?;
     let (windows, rest) = take_ascending::<Window>(alloc, rest)?;
+    let windows = WindowList::of(alloc, windows.into_vec())?;
     if late <= MAX_STAMP {
         Ok((State::Count { late, windows }, rest))
     } else {
@@ -112,6 +114,7 @@ fn take_spike(alloc: Global, bytes: &[u8]) -> Result<(State, &[u8]), StateRefusa
 {
     let (late, rest) = u64::take(alloc, bytes)?;
     let (held, rest) = take_ascending::<HeldTotal>(alloc, rest)?;
+    let held = HeldList::of(alloc, held.into_vec())?;
     let (known, rest) = take_list::<i64>(alloc, rest)?;
     if late <= MAX_STAMP && known.len() <= KNOWN_MAX {
         Ok((State::Spike { late, held, known }, rest))

@@ -5,7 +5,7 @@ use super::examples::{
 };
 use super::{Asked, answer};
 use crate::{plain_is_finished, plain_unfinished};
-use mw_types::{END, HeldTotal, Key, Kind, NoMemory, Record, Seq, State, Timer};
+use mw_types::{END, HeldList, HeldTotal, Key, Kind, NoMemory, Record, Seq, State, Timer};
 use plain_definitions::{
     Contents, Outcome, Run, plain_effects_of_record, plain_effects_of_timer, plain_floor,
     plain_is_done, plain_is_legal, plain_is_printable, plain_low_watermark, plain_run_of,
@@ -300,7 +300,7 @@ fn each_wrong_entry_is_not_legal(rt: HostRuntime) -> Result<(), Fail> {
 
 // The state of a spike that knows totals of 1 and 1, and holds one of this value at 180.
 fn spike_state(alloc: Global, value: i64) -> Result<State, NoMemory> {
-    let mut held = Seq::new(alloc);
+    let mut held = HeldList::new(alloc);
     held.push(HeldTotal { stamp: 180, value })?;
     let mut known = Seq::new(alloc);
     known.push(1)?;
