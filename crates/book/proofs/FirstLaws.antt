@@ -13,7 +13,7 @@ use Rattle.computations.specs.Handlers.{fresh_state}
 use Rattle.run_history.specs.Cases.{CaseShape, source_of}
 use Rattle.run_history.specs.Runs.{empty_run}
 use Rattle.run_history.specs.Watermarks.{cursor_in, cursor_of}
-use Rattle.history_laws.specs.Finished.{has_line, unfinished}
+use Rattle.run_history.specs.Finished.{has_line, unfinished}
 
 -- nothing is injected before any entry
 cursor-none : (case : CaseShape) (part : ℕ) → cursor_of case empty_run part ≡ 0

@@ -8,10 +8,10 @@ use Rattle.std.proofs.lemmas.Option.{slice_get_within, get_or_from_slice_get}
 use Rattle.mw_types.specs.declared.identity.RowName.{RowName}
 use Rattle.mw_types.specs.declared.entry.Entry.{Entry}
 use Rattle.key_intervals.specs.declared.bounds.Bounds.{Bounds}
-use Rattle.key_intervals.specs.Intervals.{covers}
+use Rattle.key_intervals.specs.Intervals.{covers, rows_covered}
 use Rattle.row_parts.specs.Contents.{Contents}
 use Rattle.row_parts.specs.Spelling.{spelling_of}
-use Rattle.row_keeper.specs.Rows.{Rows, entry_of, rows_within}
+use Rattle.row_keeper.specs.Rows.{Rows, entry_of}
 use Rattle.row_keeper.specs.declared.keeper.KeptRow.{KeptRow}
 use Rattle.run_history.specs.Cases.{CaseShape, intervals_of}
 use Rattle.run_history.specs.Runs.{run_of}
@@ -19,11 +19,11 @@ use Rattle.run_history.proofs.CaseIntervals.{length-intervals}
 use Rattle.topology.specs.Rules.{interval_count}
 use Rattle.history_laws.proofs.Lists.{each-filter}
 use Rattle.history_laws.proofs.StampLaws.{at-each}
-use Rattle.history_laws.proofs.StoredLaws.{rows_within-stored}
+use Rattle.history_laws.proofs.StoredLaws.{rows_covered-stored}
 use Rattle.book.specs.Books.{BookView, core_of}
 use Rattle.book.specs.Fits.{fits}
 use Rattle.book.specs.Lawful.{IsKept, IsHeld, IsLawful}
-use Rattle.book.specs.Claims.{AreRowsOf, IsDamaged, IsFoundWithin, IsRead, named, spelled, rows_in}
+use Rattle.book.specs.Claims.{AreRowsOf, IsDamaged, IsFoundWithin, IsRead, named, spelled}
 use Rattle.book.specs.declared.answers.NamedRow.{NamedRow}
 use Rattle.book.specs.declared.refusals.ClaimRefusal.{ClaimRefusal}
 use Rattle.book.specs.declared.refusals.ClaimRefusal.TheVariants as refusals
@@ -32,13 +32,13 @@ use Rattle.book.proofs.SeenRows.{told-both, told-then}
 -- what is found is the spelling of the rows of the history
 pub found-spelled : (case : CaseShape) (history : List Entry) (interval : ℕ) (found : List KeptRow) (held : Rows) → IsHeld case history held
     → IsFoundWithin case interval found held → (bounds : Bounds) → slice_get (intervals_of case.topology) interval ≡ Some bounds
-    → map entry_of found ≡ map spelled (rows_in bounds (run_of case.topology history))
+    → map entry_of found ≡ map spelled (rows_covered bounds (run_of case.topology history).rows)
 found-spelled case history interval found held is within bounds at =
-    within bounds at ∙ ap (rows_within bounds) is.stored ∙ rows_within-stored (run_of case.topology history) bounds
+    within bounds at ∙ ap (rows_covered bounds) is.stored ∙ rows_covered-stored (run_of case.topology history) bounds
 
 -- each of which can be kept
 pub found-kept : (case : CaseShape) (history : List Entry) (held : Rows) (bounds : Bounds) → IsHeld case history held
-    → AllByRecursion (IsKept case (length history)) (rows_in bounds (run_of case.topology history))
+    → AllByRecursion (IsKept case (length history)) (rows_covered bounds (run_of case.topology history).rows)
 found-kept case history held bounds is =
     each-filter (IsKept case (length history)) (λ (r : RowName × Contents). covers bounds r.0) (run_of case.topology history).rows is.kept
 
@@ -125,7 +125,7 @@ AreRowsOf-read book interval found rows lawful within fit only = record {
   fit = fit;
   all = told-then book.rows (λ held. IsHeld book.case book.history held × IsFoundWithin book.case interval found held) _
       (told-both book.rows (IsHeld book.case book.history) (IsFoundWithin book.case interval found) lawful.held within)
-      (λ held p bounds at. only (rows_in bounds (run_of book.case.topology book.history)) (found-kept book.case book.history held bounds p.0)
+      (λ held p bounds at. only (rows_covered bounds (run_of book.case.topology book.history).rows) (found-kept book.case book.history held bounds p.0)
       (found-spelled book.case book.history interval found held p.0 p.1 bounds at));
 }
 
@@ -144,7 +144,7 @@ IsDamaged-read book interval found (refusals.RowDamaged name bytes) lawful there
       (told-both book.rows (IsHeld book.case book.history) (IsFoundWithin book.case interval found) lawful.held within)
       (λ held p.
       let bounds = some-at (intervals_of book.case.topology) interval (omega (arith, there, length-intervals book.case.topology)) in
-      let none : refusals.RowDamaged name bytes ≡ refusals.NoMemory = only (rows_in bounds.0 (run_of book.case.topology book.history))
+      let none : refusals.RowDamaged name bytes ≡ refusals.NoMemory = only (rows_covered bounds.0 (run_of book.case.topology book.history).rows)
       (found-kept book.case book.history held bounds.0 p.0) (found-spelled book.case book.history interval found held p.0 p.1 bounds.0 bounds.1) in
       absurd (cc));
 }

@@ -22,9 +22,9 @@ use Rattle.run_history.specs.Runs.{Run, run_of, row_of}
 use Rattle.run_history.specs.Legal.{MayClaim, MayFollow}
 use Rattle.run_history.specs.Printing.{IsPrintable, IsOnPart}
 use Rattle.run_history.proofs.RunLaws.{run_of-push, IsLegal-push}
-use Rattle.history_laws.specs.Fences.{IsFenced}
-use Rattle.history_laws.specs.Finished.{unfinished, work_in}
-use Rattle.history_laws.specs.Stored.{stored_rows}
+use Rattle.run_history.specs.Fences.{IsFenced}
+use Rattle.run_history.specs.Finished.{unfinished, work_in}
+use Rattle.run_history.specs.Stored.{stored_rows}
 use Rattle.history_laws.proofs.Lists.{each-weaker}
 use Rattle.history_laws.proofs.RowSteps.{same_row, made_row, row_of-here}
 use Rattle.history_laws.proofs.FenceLaws.{IsFenced-push, claim-under}

@@ -14,9 +14,9 @@ use Rattle.run_history.specs.Made.{row_written}
 use Rattle.run_history.specs.Runs.{Run, run_of}
 use Rattle.run_history.specs.Legal.{MayClaim}
 use Rattle.run_history.proofs.CaseIntervals.{length-intervals}
-use Rattle.history_laws.specs.Fences.{is_claim, last_claim}
-use Rattle.history_laws.specs.Inputs.{IsRunnable}
-use Rattle.history_laws.specs.Marks.{IsSafe}
+use Rattle.run_history.specs.Fences.{is_claim, last_claim}
+use Rattle.run_history.specs.Inputs.{IsRunnable}
+use Rattle.run_history.specs.Marks.{IsSafe}
 use Rattle.history_laws.proofs.Lists.{none_some}
 use Rattle.history_laws.proofs.FenceLaws.{last_claim-push}
 use Rattle.history_laws.proofs.MarkLaws.{IsSafe-stays}

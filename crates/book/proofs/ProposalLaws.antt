@@ -25,10 +25,10 @@ use Rattle.row_parts.specs.Contents.{Contents, is_finished}
 use Rattle.injector.specs.Sources.{item_at}
 use Rattle.run_history.specs.Cases.{CaseShape, is_injector, source_of, record_of}
 use Rattle.run_history.specs.Made.{deliveries_made, found_delivery, productions_of}
-use Rattle.run_history.specs.Runs.{run_of, row_of, advanced}
+use Rattle.run_history.specs.Runs.{run_of, row_of, advanced, written_row}
 use Rattle.run_history.specs.Legal.{IsLegal}
 use Rattle.run_history.specs.Watermarks.{cursor_in}
-use Rattle.history_laws.specs.Fences.{IsFenced, last_claim, known}
+use Rattle.run_history.specs.Fences.{IsFenced, last_claim, known}
 use Rattle.history_laws.proofs.FeedLaws.{injector-no_kind}
 use Rattle.history_laws.proofs.PendingLaws.{was_some}
 use Rattle.history_laws.proofs.IdLaws.{next-length}
@@ -38,7 +38,7 @@ use Rattle.book.specs.Books.{BookView, LeaseView, core_of}
 use Rattle.book.specs.Fits.{fits, suits_part, has_kind, is_cursor_within, is_sent_before}
 use Rattle.book.specs.Lawful.{IsHeld, IsLawful}
 use Rattle.book.specs.Conditions.{MayUse, IsRowSeen}
-use Rattle.book.specs.Answers.{written_row, IsWritten}
+use Rattle.book.specs.Answers.{IsWritten}
 use Rattle.book.specs.declared.answers.Written.{Written}
 use Rattle.book.specs.declared.refusals.WriteRefusal.{WriteRefusal}
 use Rattle.book.specs.Proposals.{IsNextLine, IsHandling, IsFiring, IsDueUnder, IsProposable, IsProposedOf, IsEntryOf, IsWrittenBy, left_by}

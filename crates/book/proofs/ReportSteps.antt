@@ -19,9 +19,9 @@ use Rattle.run_history.specs.Runs.{Run, run_of, empty_run}
 use Rattle.run_history.specs.Legal.{IsLegal}
 use Rattle.run_history.specs.Watermarks.{least, source_mark}
 use Rattle.run_history.proofs.CaseIntervals.{part_cuts_of-numbered, part_cuts_of-cuts, intervals-few}
-use Rattle.history_laws.specs.Fences.{IsFenced, HasSeen, last_claim, known}
-use Rattle.history_laws.specs.Inputs.{IsRunnable}
-use Rattle.history_laws.specs.Marks.{own_work, IsUnderMarks}
+use Rattle.run_history.specs.Fences.{IsFenced, HasSeen, last_claim, known}
+use Rattle.run_history.specs.Inputs.{IsRunnable}
+use Rattle.run_history.specs.Marks.{own_work, IsUnderMarks}
 use Rattle.history_laws.proofs.Lists.{none_some, some_same}
 use Rattle.history_laws.proofs.Along.{run_of-append, AreLegal-apart, along_entries}
 use Rattle.history_laws.proofs.FenceLaws.{known-last, last_claim-front, row_of-seen}

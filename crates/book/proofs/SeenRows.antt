@@ -14,11 +14,11 @@ use Rattle.topology.specs.Shapes.{Shape, injectors_of, parts_of, kind_of}
 use Rattle.row_parts.specs.Contents.{Contents, same_id}
 use Rattle.run_history.specs.Cases.{CaseShape, is_injector, source_of}
 use Rattle.run_history.specs.Made.{row_written, productions_of, deliveries_of, found_delivery}
-use Rattle.run_history.specs.Runs.{Run, run_of, row_of, row_in}
+use Rattle.run_history.specs.Runs.{Run, run_of, row_of, row_in, written_row}
 use Rattle.run_history.specs.Legal.{MayFollow, IsLegal, floor_of}
 use Rattle.run_history.proofs.RunLaws.{run_of-push}
-use Rattle.history_laws.specs.Fences.{IsFenced, HasSeen, last_claim, sequencer_of, known}
-use Rattle.history_laws.specs.Finished.{is_handled}
+use Rattle.run_history.specs.Fences.{IsFenced, HasSeen, last_claim, sequencer_of, known}
+use Rattle.run_history.specs.Finished.{is_handled}
 use Rattle.history_laws.proofs.FenceLaws.{known-last, last_claim-front, row_of-seen, entry-under}
 use Rattle.history_laws.proofs.FinishedLaws.{handled-waits_not}
 use Rattle.history_laws.proofs.IdLaws.{next-length}
@@ -29,7 +29,7 @@ use Rattle.book.specs.Books.{BookView, LeaseView, core_of}
 use Rattle.book.specs.Fits.{fits, suits_part, has_kind, is_cursor_within}
 use Rattle.book.specs.Lawful.{IsHeld, IsLawful}
 use Rattle.book.specs.Conditions.{MayUse, IsRowSeen, MaySettle, MayRaise}
-use Rattle.book.specs.Answers.{written_row, IsWritten}
+use Rattle.book.specs.Answers.{IsWritten}
 use Rattle.book.specs.declared.answers.Written.{Written}
 use Rattle.book.specs.declared.refusals.WriteRefusal.{WriteRefusal}
 use Rattle.book.specs.Appending.{IsNext}

@@ -10,8 +10,8 @@ use Rattle.topology.specs.Samples.{one_count}
 use Rattle.row_keeper.specs.Rows.{Rows}
 use Rattle.run_history.specs.Cases.{intervals_of}
 use Rattle.run_history.specs.Runs.{run_of}
-use Rattle.history_laws.specs.Fences.{interval_of, known, sequencer_of}
-use Rattle.history_laws.specs.Marks.{own_work}
+use Rattle.run_history.specs.Fences.{interval_of, known, sequencer_of}
+use Rattle.run_history.specs.Marks.{own_work}
 use Rattle.worked_examples.specs.First.{row_a}
 use Rattle.book.specs.Books.{BookView, LeaseView}
 use Rattle.book.specs.Conditions.{IsOwnWork, MayUse}

@@ -7,8 +7,8 @@ use Rattle.mw_types.specs.declared.delivery.Delivery.{Delivery}
 use Rattle.mw_types.specs.declared.entry.Entry.{Entry}
 use Rattle.row_parts.specs.Contents.{Contents}
 use Rattle.row_keeper.specs.Rows.{Rows}
-use Rattle.run_history.specs.Runs.{changed, run_of, row_of}
-use Rattle.history_laws.specs.Fences.{last_claim}
+use Rattle.run_history.specs.Runs.{run_of, row_of}
+use Rattle.run_history.specs.Fences.{last_claim}
 use Rattle.book.specs.Books.{BookView, LeaseView}
 use Rattle.book.specs.Fits.{fits}
 use Rattle.book.specs.declared.answers.Written.{Written}
@@ -23,10 +23,6 @@ use Rattle.book.specs.declared.refusals.WriteRefusal.TheVariants as refusals
 abbrev pub IsNotEmpty : Option Rows → StartWhy → Type 0
 IsNotEmpty rows (starts.NotEmpty name bytes) = IfSome rows (λ held. slice_get held 0 ≡ Some (name, bytes))
 IsNotEmpty rows _ = ⊤
-
--- the row that an entry of this number leaves, where it made these deliveries
-abbrev pub written_row : ℕ → Entry → List Delivery → Contents → Contents
-written_row commit entry sent row = record (changed entry sent row) { last = commit }
 
 -- a write was accepted: its entry is the next of the history, and the answer has the entry's number
 -- and its row

@@ -8,7 +8,7 @@ use Rattle.run_history.specs.Cases.{CaseShape}
 use Rattle.run_history.specs.Made.{row_written, productions_of, deliveries_of}
 use Rattle.run_history.specs.Runs.{run_of, row_of}
 use Rattle.run_history.specs.Legal.{MayFollow}
-use Rattle.history_laws.specs.Fences.{IsUnderLastClaim, last_claim}
+use Rattle.run_history.specs.Fences.{IsUnderLastClaim, last_claim}
 use Rattle.book.specs.Books.{CoreView}
 use Rattle.book.specs.Fits.{fits}
 

@@ -12,9 +12,9 @@ use Rattle.run_history.specs.Cases.{intervals_of}
 use Rattle.run_history.specs.Made.{found_delivery}
 use Rattle.run_history.specs.Runs.{run_of, row_in, row_of}
 use Rattle.run_history.specs.Legal.{floor_of}
-use Rattle.history_laws.specs.Fences.{CarryNot, interval_of, known}
-use Rattle.history_laws.specs.Finished.{is_handled}
-use Rattle.history_laws.specs.Marks.{own_work}
+use Rattle.run_history.specs.Fences.{CarryNot, interval_of, known}
+use Rattle.run_history.specs.Finished.{is_handled}
+use Rattle.run_history.specs.Marks.{own_work}
 use Rattle.book.specs.Books.{BookView, LeaseView}
 use Rattle.book.specs.Fits.{fits}
 

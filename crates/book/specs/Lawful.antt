@@ -14,10 +14,10 @@ use Rattle.run_history.specs.Cases.{CaseShape, intervals_of}
 use Rattle.run_history.specs.Runs.{run_of}
 use Rattle.run_history.specs.Legal.{IsLegal}
 use Rattle.run_history.specs.Printing.{IsPrintable}
-use Rattle.history_laws.specs.Fences.{IsFenced, last_claim}
-use Rattle.history_laws.specs.Finished.{unfinished}
-use Rattle.history_laws.specs.Inputs.{IsRunnable}
-use Rattle.history_laws.specs.Stored.{stored_rows}
+use Rattle.run_history.specs.Fences.{IsFenced, last_claim}
+use Rattle.run_history.specs.Finished.{unfinished}
+use Rattle.run_history.specs.Inputs.{IsRunnable}
+use Rattle.run_history.specs.Stored.{stored_rows}
 use Rattle.book.specs.Books.{CoreView}
 use Rattle.book.specs.Fits.{fits}
 use Rattle.book.specs.Senders.{AreSenders}

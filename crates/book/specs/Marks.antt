@@ -8,7 +8,7 @@ use Rattle.topology.specs.Shapes.{Shape, parts_of}
 use Rattle.run_history.specs.Cases.{CaseShape, intervals_of}
 use Rattle.run_history.specs.Runs.{Run}
 use Rattle.run_history.specs.Watermarks.{least, low_watermark}
-use Rattle.history_laws.specs.Marks.{IsSafe}
+use Rattle.run_history.specs.Marks.{IsSafe}
 use Rattle.watermark.specs.Marks.{mark_of, marks_of, feeding_marks}
 
 -- a mark of an interval is safe: no work of the interval, and none above it, is older

@@ -17,10 +17,10 @@ use Rattle.computations.specs.Handlers.{effects_of_record, effects_of_timer}
 use Rattle.row_parts.specs.Contents.{Contents, IsId, is_finished}
 use Rattle.run_history.specs.Cases.{CaseShape, is_injector, source_of, record_of}
 use Rattle.run_history.specs.Made.{found_delivery, productions_of, late_cause, deliveries_made}
-use Rattle.run_history.specs.Runs.{Run}
+use Rattle.run_history.specs.Runs.{Run, written_row}
 use Rattle.run_history.specs.Watermarks.{cursor_in, low_watermark}
 use Rattle.book.specs.Books.{BookView, LeaseView}
-use Rattle.book.specs.Answers.{written_row, IsWritten}
+use Rattle.book.specs.Answers.{IsWritten}
 use Rattle.book.specs.declared.answers.Written.{Written}
 use Rattle.book.specs.declared.proposal.Proposal.{Proposal}
 use Rattle.book.specs.declared.proposal.Proposal.TheVariants as proposals

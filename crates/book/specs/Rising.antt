@@ -12,9 +12,9 @@ use Rattle.topology.specs.Samples.{one_count}
 use Rattle.row_parts.specs.Contents.{Contents}
 use Rattle.run_history.specs.Cases.{CaseShape}
 use Rattle.run_history.specs.Runs.{run_of}
-use Rattle.history_laws.specs.Fences.{known}
-use Rattle.history_laws.specs.Marks.{own_work}
-use Rattle.history_laws.specs.Overtaken.{overtaken}
+use Rattle.run_history.specs.Fences.{known}
+use Rattle.run_history.specs.Marks.{own_work}
+use Rattle.worked_examples.specs.Overtaken.{overtaken}
 use Rattle.worked_examples.specs.First.{key_a, row_a, record_at, window, end_of, counts, closes}
 use Rattle.worked_examples.specs.Drained.{injector_row, id_of}
 use Rattle.book.specs.Books.{BookView, LeaseView}

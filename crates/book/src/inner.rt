@@ -4,7 +4,7 @@ ghost use Rattle.mw_types.specs.Causes.{HasCause};
 ghost use Rattle.mw_types.specs.declared.entry.Entry.TheVariants.{Claim};
 ghost use Rattle.row_keeper.specs.Rows.{AreInOrder, with_row};
 ghost use Rattle.run_history.specs.Made.{row_written};
-ghost use Rattle.history_laws.specs.Fences.{last_claim};
+ghost use Rattle.run_history.specs.Fences.{last_claim};
 ghost use Rattle.watermark.specs.Marks.{mark_of};
 ghost use Rattle.book.specs.Marks.{with_mark};
 ghost use Rattle.book.specs.Sending.{IsAfterEntry, IsLeastKnown, IsUnsent, KnowsSame, sender_of};

@@ -2,7 +2,7 @@
 ghost use Rattle.std.specs.Prelude.{◌≡◌, ◌<◌, IfOk, IfSome, OnErr, OnOk, Some, length, max};
 ghost use Rattle.run_history.specs.Cases.{intervals_of};
 ghost use Rattle.run_history.specs.Runs.{run_of};
-ghost use Rattle.history_laws.specs.Fences.{last_claim};
+ghost use Rattle.run_history.specs.Fences.{last_claim};
 ghost use Rattle.book.specs.Answers.{IsStaleReport};
 ghost use Rattle.book.specs.Conditions.{HasSeenAll, IsOwnWork};
 ghost use Rattle.book.specs.Marks.{IsSafeAt, reported, with_mark};

@@ -1,7 +1,7 @@
 //! How much work a row leaves.
 ghost use Rattle.std.specs.Prelude.{◌≡◌, ◌+◌, ◌-◌, IfOk};
 ghost use Rattle.run_history.specs.Watermarks.{cursor_in};
-ghost use Rattle.history_laws.specs.Finished.{row_has_line, work_in};
+ghost use Rattle.run_history.specs.Finished.{row_has_line, work_in};
 
 use crate::fitting::lines;
 use mw_types::{NoMemory, RowName, State};

@@ -2,11 +2,11 @@
 ghost use Rattle.std.specs.Prelude.{◌≡◌, ◌<◌, ◌^◌, ◌↔◌, ℕ, None, ◌++◌, ◌∷◌, ◌⊎◌, [], length, take, IfErr, IfOk, IfSome, IsErrOf, OnErr, OnOk, Some};
 ghost use Rattle.mw_types.specs.Causes.{HasCause};
 ghost use Rattle.mw_types.specs.declared.entry.Entry.TheVariants.{Ack, Purge};
-ghost use Rattle.run_history.specs.Runs.{run_of, row_of};
-ghost use Rattle.history_laws.specs.Fences.{last_claim};
+ghost use Rattle.run_history.specs.Runs.{run_of, row_of, written_row};
+ghost use Rattle.run_history.specs.Fences.{last_claim};
 ghost use Rattle.book.specs.Books.{core_of};
 ghost use Rattle.book.specs.Conditions.{IsClaimed, IsRowSeen, MayRaise, MaySettle, MayUse};
-ghost use Rattle.book.specs.Answers.{HasStayed, IsFullWhere, IsSameBook, IsStaleWhere, IsWritten, written_row};
+ghost use Rattle.book.specs.Answers.{HasStayed, IsFullWhere, IsSameBook, IsStaleWhere, IsWritten};
 ghost use Rattle.book.specs.Lawful.{IsLawful};
 ghost use Rattle.book.specs.Proposals.{IsProposable, IsProposedOf, IsWrittenBy};
 ghost use Rattle.book.specs.Appending.{IsNext, later_than, sent_by};

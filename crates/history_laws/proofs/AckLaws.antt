@@ -20,7 +20,7 @@ use Rattle.run_history.specs.Cases.{CaseShape, fresh_of}
 use Rattle.run_history.specs.Made.{found_delivery, row_written, deliveries_of}
 use Rattle.run_history.specs.Runs.{Run, run_of, row_of, followed, changed, empty_run}
 use Rattle.run_history.specs.Legal.{MayFollow, IsLegal, floor_of}
-use Rattle.history_laws.specs.Finished.{acknowledges, is_acknowledged, all_pending}
+use Rattle.run_history.specs.Finished.{acknowledges, is_acknowledged, all_pending}
 use Rattle.history_laws.specs.Ids.{IsSentBy, IsFloor}
 use Rattle.history_laws.proofs.Lists.{none_some, some_same, each-append, each-all, each-weaker, each-both, each-filter, find-each, find-passes, find-more, filter-passes, each-flat_map}
 use Rattle.history_laws.proofs.Along.{along_history}

@@ -6,7 +6,7 @@ use Rattle.std.proofs.lemmas.Option.{slice_get_within, get_or_from_slice_get}
 use Rattle.std.proofs.lemmas.List.{take_more, take-append-drop, length-take}
 use Rattle.mw_types.specs.declared.entry.Entry.{Entry}
 use Rattle.mw_types.specs.declared.entry.Entry.TheVariants.{Claim, Inject, Handle, Fire, Ack, Purge}
-use Rattle.history_laws.specs.Fences.{is_claim, last_claim}
+use Rattle.run_history.specs.Fences.{is_claim, last_claim}
 use Rattle.history_laws.proofs.Lists.{none_some, some_same}
 use Rattle.history_laws.proofs.FenceLaws.{claim_from, last_claim-append, last_claim-push}
 

@@ -16,7 +16,7 @@ use Rattle.run_history.specs.Cases.{CaseShape}
 use Rattle.run_history.specs.Made.{found_delivery, row_written, deliveries_of}
 use Rattle.run_history.specs.Runs.{Run, run_of, row_of, followed}
 use Rattle.run_history.specs.Legal.{MayFollow, IsLegal}
-use Rattle.history_laws.specs.Finished.{acknowledges, is_acknowledged, all_pending}
+use Rattle.run_history.specs.Finished.{acknowledges, is_acknowledged, all_pending}
 use Rattle.history_laws.specs.Ids.{is_unacknowledged}
 use Rattle.history_laws.proofs.Lists.{none_some, some_same, each-weaker, filter-filter, filter-all, find-each, find-kept, find-passes}
 use Rattle.history_laws.proofs.Along.{along_history}

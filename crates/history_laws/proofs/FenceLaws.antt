@@ -19,7 +19,7 @@ use Rattle.row_parts.specs.Contents.{fresh}
 use Rattle.run_history.specs.Runs.{Run, run_of, row_in, row_of}
 use Rattle.run_history.proofs.Making.{enumerate_from-append}
 use Rattle.run_history.proofs.RunLaws.{run_of-push}
-use Rattle.history_laws.specs.Fences.{Begins, interval_of, sequencer_of, is_claim, later_claim, last_claim, IsUnderLastClaim, IsFenced, HasSeen, known}
+use Rattle.run_history.specs.Fences.{Begins, interval_of, sequencer_of, is_claim, later_claim, last_claim, IsUnderLastClaim, IsFenced, HasSeen, known}
 use Rattle.history_laws.proofs.Lists.{some_same, none_some, each-append, each-weaker}
 use Rattle.history_laws.proofs.RowSteps.{row_in-elsewhere}
 

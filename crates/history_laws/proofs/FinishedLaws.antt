@@ -19,7 +19,7 @@ use Rattle.run_history.specs.Cases.{CaseShape}
 use Rattle.run_history.specs.Made.{found_delivery, row_written, deliveries_of}
 use Rattle.run_history.specs.Runs.{Run, run_of, row_of, followed, changed, noted}
 use Rattle.run_history.specs.Legal.{MayFollow, IsLegal, floor_of}
-use Rattle.history_laws.specs.Finished.{handles, is_handled}
+use Rattle.run_history.specs.Finished.{handles, is_handled}
 use Rattle.history_laws.specs.Ids.{is_left}
 use Rattle.history_laws.proofs.Lists.{some_same, each-append, each-weaker, find-none, find-kept, filter-passes, each-filter}
 use Rattle.history_laws.proofs.Along.{along_history}

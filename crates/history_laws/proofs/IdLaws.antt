@@ -25,7 +25,7 @@ use Rattle.run_history.specs.Cases.{CaseShape}
 use Rattle.run_history.specs.Made.{found_delivery, deliveries_of, deliveries_made, delivery_at, row_written, productions_of, late_cause}
 use Rattle.run_history.specs.Runs.{Run, run_of, followed, empty_run, still_unhandled}
 use Rattle.run_history.specs.Legal.{MayFollow, IsLegal}
-use Rattle.history_laws.specs.Finished.{handles, is_handled}
+use Rattle.run_history.specs.Finished.{handles, is_handled}
 use Rattle.history_laws.specs.Ids.{is_left, TellsWhatWaits}
 use Rattle.history_laws.proofs.Lists.{each-append, each-all, each-weaker, find-passes, find-each, find-more, filter-filter, filter-all, sorted-append, find-in_part, find-each_self}
 use Rattle.history_laws.proofs.Along.{along_history, along_any}

@@ -14,7 +14,7 @@ use Rattle.key_intervals.specs.Intervals.{covers, ends_after, HasRow, Meets, Are
 use Rattle.key_intervals.proofs.Beginnings.{begins_by, begin_in_two, after_part, key_decides, turned_below}
 use Rattle.key_intervals.proofs.Lookup.{begins_by_row, of_part, goes_past}
 use Rattle.topology.specs.Shapes.{Shape}
-use Rattle.history_laws.specs.Fences.{interval_of}
+use Rattle.run_history.specs.Fences.{interval_of}
 use Rattle.run_history.specs.Cases.{intervals_of}
 use Rattle.history_laws.proofs.Lists.{none_some, some_same}
 

@@ -23,7 +23,7 @@ use Rattle.run_history.specs.Runs.{Run, run_of, row_of, followed, empty_run}
 use Rattle.run_history.specs.Watermarks.{least, waiting_stamps, timer_times, times_set, oldest_work, source_mark, low_under, low_watermark}
 use Rattle.run_history.specs.Legal.{MayFollow, IsLegal}
 use Rattle.run_history.proofs.Lookups.{each_found, sorted-insert_entry}
-use Rattle.history_laws.specs.Inputs.{IsRunnable}
+use Rattle.run_history.specs.Inputs.{IsRunnable}
 use Rattle.history_laws.proofs.Lists.{each-append, each-weaker, each-both}
 use Rattle.history_laws.proofs.Along.{run_of-append, AreLegal-apart, along_entries, along_any}
 use Rattle.history_laws.proofs.FeedLaws.{feeds-before}

@@ -29,8 +29,8 @@ use Rattle.run_history.specs.Runs.{Run, run_of, row_of, followed, empty_run}
 use Rattle.run_history.specs.Watermarks.{times_set, source_mark}
 use Rattle.run_history.specs.Legal.{MayFollow, AreLegal, IsLegal}
 use Rattle.run_history.proofs.Lookups.{each_found}
-use Rattle.history_laws.specs.Inputs.{IsRunnable}
-use Rattle.history_laws.specs.Marks.{stamps_pending, row_marks, stated_marks, own_work, part_work, work_under, work_above, IsSafe}
+use Rattle.run_history.specs.Inputs.{IsRunnable}
+use Rattle.run_history.specs.Marks.{stamps_pending, row_marks, stated_marks, own_work, part_work, work_under, work_above, IsSafe}
 use Rattle.history_laws.proofs.Lists.{each-append, each-weaker, each-both, each-map}
 use Rattle.history_laws.proofs.Along.{run_of-append, AreLegal-apart, along_entries}
 use Rattle.history_laws.proofs.FeedLaws.{feeds-before}
@@ -116,24 +116,31 @@ from-row x row from = each-append (λ m. x ≤ m) (times_set row) (stamps_pendin
     (to_passing x (λ (t : Timer). t.time) (λ (t : Timer). not t.late) row.timers from.timers)
     (to_passing x (λ (d : Delivery). d.item.stamp) (λ (d : Delivery). not d.item.late) row.pending from.pending)
 
+-- the marks of the rows that pass
+abbrev marks_passing : (RowName → Bool) → List (RowName × Contents) → List ℕ
+marks_passing test rows = flat_map (λ (r : RowName × Contents). row_marks r.1) (filter (λ (r : RowName × Contents). test r.0) rows)
+
 -- a bound of the marks of all rows that pass
 rows-own : (x : ℕ) (test : RowName → Bool) (rows : List (RowName × Contents))
-    → AllByRecursion (λ m. x ≤ m) (flat_map (λ (r : RowName × Contents). cond (test r.0) (row_marks r.1) []) rows) → RowsOwn x test rows
+    → AllByRecursion (λ m. x ≤ m) (marks_passing test rows) → RowsOwn x test rows
 rows-own x test [] each = tt
 rows-own x test (r ∷ rs) each =
-    let parts = each-apart (λ m. x ≤ m) (cond (test r.0) (row_marks r.1) []) _ each in
-    ((λ (of : test r.0 ≡ true). row-from x r.1 (subst (λ b. AllByRecursion (λ m. x ≤ m) (cond b (row_marks r.1) [])) of parts.0)), rows-own x test rs parts.1)
+    elim (test r.0) as (λ b. AllByRecursion (λ m. x ≤ m) (flat_map (λ (r : RowName × Contents). row_marks r.1) (cond b (r ∷ filter (λ (r : RowName × Contents). test r.0) rs) (filter (λ (r : RowName × Contents). test r.0) rs)))
+        → (b ≡ true → IsRowFrom x r.1) × RowsOwn x test rs) [
+      | true ↦ λ each. let parts = each-apart (λ m. x ≤ m) (row_marks r.1) (marks_passing test rs) each in ((λ _. row-from x r.1 parts.0), rows-own x test rs parts.1)
+      | false ↦ λ each. ((λ e. absurd cc), rows-own x test rs each)
+    ] each
 
 -- and back
 own-rows : (x : ℕ) (test : RowName → Bool) (rows : List (RowName × Contents)) → RowsOwn x test rows
-    → AllByRecursion (λ m. x ≤ m) (flat_map (λ (r : RowName × Contents). cond (test r.0) (row_marks r.1) []) rows)
+    → AllByRecursion (λ m. x ≤ m) (marks_passing test rows)
 own-rows x test [] each = tt
-own-rows x test (r ∷ rs) each = each-append (λ m. x ≤ m) (cond (test r.0) (row_marks r.1) []) _
-    (elim (test r.0) as (λ b. (b ≡ true → IsRowFrom x r.1) → AllByRecursion (λ m. x ≤ m) (cond b (row_marks r.1) [])) [
-      | true ↦ λ here. from-row x r.1 (here refl)
-      | false ↦ λ here. tt
-    ] each.0)
-    (own-rows x test rs each.1)
+own-rows x test (r ∷ rs) each =
+    elim (test r.0) as (λ b. (b ≡ true → IsRowFrom x r.1) → AllByRecursion (λ m. x ≤ m)
+        (flat_map (λ (r : RowName × Contents). row_marks r.1) (cond b (r ∷ filter (λ (r : RowName × Contents). test r.0) rs) (filter (λ (r : RowName × Contents). test r.0) rs)))) [
+      | true ↦ λ here. each-append (λ m. x ≤ m) (row_marks r.1) (marks_passing test rs) (from-row x r.1 (here refl)) (own-rows x test rs each.1)
+      | false ↦ λ here. own-rows x test rs each.1
+    ] each.0
 
 -- a fact of rows that pass is one of the row of each name that passes
 name-own : (shape : Shape) (x : ℕ) (test : RowName → Bool) (name : RowName) (rows : List (RowName × Contents)) → test name ≡ true → RowsOwn x test rows
@@ -159,7 +166,7 @@ OfBounds b name = covers b name ≡ true
 -- a bound of the own work of an interval
 pub own-from : (case : CaseShape) (run : Run) (x : ℕ) (b : Bounds) → x ≤ own_work case run b → IsOwnFrom case run x b.part (OfBounds b)
 own-from case run x b below =
-    let marks = flat_map (λ (r : RowName × Contents). cond (covers b r.0) (row_marks r.1) []) run.rows in
+    let marks = marks_passing (covers b) run.rows in
     let parts = each-apart (λ m. x ≤ m) marks (stated_marks case run b.part) (bound-each x (marks ++ stated_marks case run b.part) below) in record {
       rows = λ name has. name-own case.topology x (covers b) name run.rows has (rows-own x (covers b) run.rows parts.0);
       mark = λ is. (subst (λ c. AllByRecursion (λ m. x ≤ m) (cond c (source_mark case run b.part ∷ []) [])) is parts.1).0;
@@ -168,7 +175,7 @@ own-from case run x b below =
 -- and back
 pub from-own : (case : CaseShape) (run : Run) (x : ℕ) (b : Bounds) → AreRowsInOrder run → x ≤ END → IsOwnFrom case run x b.part (OfBounds b) → x ≤ own_work case run b
 from-own case run x b order end own =
-    let marks = flat_map (λ (r : RowName × Contents). cond (covers b r.0) (row_marks r.1) []) run.rows in
+    let marks = marks_passing (covers b) run.rows in
     least-bound x (marks ++ stated_marks case run b.part) end
     (each-append (λ m. x ≤ m) marks (stated_marks case run b.part)
     (own-rows x (covers b) run.rows (own-name case.topology run x (covers b) order own.rows))
@@ -179,7 +186,7 @@ from-own case run x b order end own =
 
 -- the own work of an interval is at most the end
 pub own-end : (case : CaseShape) (run : Run) (b : Bounds) → own_work case run b ≤ END
-own-end case run b = least-end (flat_map (λ (r : RowName × Contents). cond (covers b r.0) (row_marks r.1) []) run.rows ++ stated_marks case run b.part)
+own-end case run b = least-end (marks_passing (covers b) run.rows ++ stated_marks case run b.part)
 
 -- a bound of the own work of each interval of a part is one of the part's work
 pub intervals-part_from : (case : CaseShape) (run : Run) (x part : ℕ) → part < parts_of case.topology

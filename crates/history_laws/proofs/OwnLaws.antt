@@ -18,7 +18,7 @@ use Rattle.run_history.specs.Made.{found_delivery, row_written, late_cause, deli
 use Rattle.run_history.specs.Runs.{Run, row_of, followed, changed}
 use Rattle.run_history.specs.Watermarks.{source_mark}
 use Rattle.run_history.specs.Legal.{MayFollow}
-use Rattle.history_laws.specs.Inputs.{IsRunnable}
+use Rattle.run_history.specs.Inputs.{IsRunnable}
 use Rattle.history_laws.specs.Ids.{IsSentBy}
 use Rattle.history_laws.proofs.Lists.{some_same, each-append, each-all, each-weaker, each-filter, find-each}
 use Rattle.history_laws.proofs.Made.{deliveries_made-each}

@@ -18,7 +18,7 @@ use Rattle.run_history.specs.Cases.{CaseShape}
 use Rattle.run_history.specs.Made.{found_delivery, row_written, productions_of, late_cause, deliveries_of, deliveries_made}
 use Rattle.run_history.specs.Runs.{Run, run_of, row_of, followed, changed, still_unhandled}
 use Rattle.run_history.specs.Legal.{MayFollow, IsLegal, floor_of}
-use Rattle.history_laws.specs.Finished.{handles}
+use Rattle.run_history.specs.Finished.{handles}
 use Rattle.history_laws.specs.Ids.{IsSentBy}
 use Rattle.history_laws.proofs.Lists.{none_some, some_same, each-append, each-all, each-weaker, each-filter, each-both, find-none, find-none_each, find-kept, find-more, find-behind, find-each}
 use Rattle.history_laws.proofs.Along.{along_history}

@@ -19,8 +19,8 @@ use Rattle.run_history.specs.Runs.{Run, run_of, row_of}
 use Rattle.run_history.specs.Watermarks.{source_mark, low_watermark}
 use Rattle.run_history.specs.Legal.{IsLegal}
 use Rattle.history_laws.specs.Ids.{IsSentBy}
-use Rattle.history_laws.specs.Inputs.{IsRunnable}
-use Rattle.history_laws.specs.Marks.{own_work, work_above, IsSafe, IsUnderMarks}
+use Rattle.run_history.specs.Inputs.{IsRunnable}
+use Rattle.run_history.specs.Marks.{own_work, work_above, IsSafe, IsUnderMarks}
 use Rattle.history_laws.proofs.Lists.{each-weaker, each-both, find-each}
 use Rattle.history_laws.proofs.PendingLaws.{AreSent, legal-sent}
 use Rattle.history_laws.proofs.WorkLaws.{WaitsFrom, IsWorkFrom, FeedsFrom}

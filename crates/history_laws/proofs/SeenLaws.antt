@@ -21,10 +21,10 @@ use Rattle.run_history.specs.Runs.{Run, run_of, row_in, row_of, followed}
 use Rattle.run_history.specs.Watermarks.{cursor_in}
 use Rattle.run_history.specs.Legal.{MayFollow, MayClaim, IsLegal}
 use Rattle.run_history.proofs.RunLaws.{IsLegal-push}
-use Rattle.history_laws.specs.Fences.{interval_of, sequencer_of, last_claim, IsFenced, HasSeen, IsWriteUnder, CarryNot}
-use Rattle.history_laws.specs.Finished.{handles, is_handled}
+use Rattle.run_history.specs.Fences.{interval_of, sequencer_of, last_claim, IsFenced, HasSeen, IsWriteUnder, CarryNot}
+use Rattle.run_history.specs.Finished.{handles, is_handled}
 use Rattle.history_laws.specs.Ids.{is_left}
-use Rattle.history_laws.specs.Inputs.{IsRunnable}
+use Rattle.run_history.specs.Inputs.{IsRunnable}
 use Rattle.history_laws.specs.Writes.{IsLawful, IsSeenWrite}
 use Rattle.history_laws.proofs.Lists.{some_same, find-each, find-kept, find-more, find-passes, filter-passes}
 use Rattle.history_laws.proofs.Along.{run_of-append, AreLegal-apart}

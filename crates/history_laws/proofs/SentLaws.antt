@@ -13,7 +13,7 @@ use Rattle.run_history.specs.Cases.{CaseShape}
 use Rattle.run_history.specs.Made.{found_delivery, deliveries_of}
 use Rattle.run_history.specs.Runs.{Run, run_of, row_of, followed, changed, empty_run}
 use Rattle.run_history.specs.Legal.{IsLegal}
-use Rattle.history_laws.specs.Finished.{is_handled}
+use Rattle.run_history.specs.Finished.{is_handled}
 use Rattle.history_laws.specs.Ids.{is_left}
 use Rattle.history_laws.proofs.Lists.{none_some, each-append, each-weaker, each-both, each-filter, find-each, find-kept, find-more, find-passes}
 use Rattle.history_laws.proofs.Along.{along_any}

@@ -28,8 +28,8 @@ use Rattle.run_history.specs.Cases.{CaseShape, source_of, record_of}
 use Rattle.run_history.specs.Made.{deliveries_of, deliveries_made}
 use Rattle.run_history.specs.Runs.{Run, run_of, row_of, followed, changed, with_timers, still_unhandled}
 use Rattle.run_history.specs.Legal.{MayFollow, IsLegal}
-use Rattle.history_laws.specs.Inputs.{IsRunnable}
-use Rattle.history_laws.specs.Finished.{handles}
+use Rattle.run_history.specs.Inputs.{IsRunnable}
+use Rattle.run_history.specs.Finished.{handles}
 use Rattle.history_laws.proofs.Lists.{none_some, some_same, each-append, each-all, each-weaker, each-filter, find-each}
 use Rattle.history_laws.proofs.Along.{along_history}
 use Rattle.history_laws.proofs.Made.{deliveries_made-each}

@@ -15,15 +15,15 @@ use Rattle.mw_types.specs.declared.entry.Entry.{Entry}
 use Rattle.mw_types.specs.Orders.{row_cmp}
 use Rattle.mw_types.proofs.OrderLaws.{row_cmp-total}
 use Rattle.key_intervals.specs.declared.bounds.Bounds.{Bounds}
-use Rattle.key_intervals.specs.Intervals.{covers}
+use Rattle.key_intervals.specs.Intervals.{covers, rows_covered}
 use Rattle.topology.specs.Shapes.{Shape}
 use Rattle.row_parts.specs.Contents.{Contents, fresh}
 use Rattle.row_parts.specs.Spelling.{spelling_of}
-use Rattle.row_keeper.specs.Rows.{AreInOrder, with_row, rows_within}
+use Rattle.row_keeper.specs.Rows.{AreInOrder, with_row}
 use Rattle.run_history.specs.Cases.{fresh_of}
 use Rattle.run_history.specs.Made.{row_written}
 use Rattle.run_history.specs.Runs.{Run, row_in, row_of, followed}
-use Rattle.history_laws.specs.Stored.{stored_rows}
+use Rattle.run_history.specs.Stored.{stored_rows}
 use Rattle.history_laws.proofs.LowLaws.{AreRowsInOrder}
 use Rattle.history_laws.proofs.RowSteps.{made_row, row_of-here}
 
@@ -88,9 +88,9 @@ pub stored_rows-in_order : (run : Run) → AreRowsInOrder run → AreInOrder (st
 stored_rows-in_order run order = subst (IsStrictlySortedBy row_cmp) (sym (keys_of-map row_cmp spelling_of run.rows)) order.sorted
 
 -- what is stored of an interval is the spelling of each of its rows
-pub rows_within-stored : (run : Run) (bounds : Bounds)
-    → rows_within bounds (stored_rows run) ≡ map (λ (r : RowName × Contents). (r.0, spelling_of r.1)) (filter (λ (r : RowName × Contents). covers bounds r.0) run.rows)
-rows_within-stored run bounds = filter-map row_cmp spelling_of run.rows (covers bounds)
+pub rows_covered-stored : (run : Run) (bounds : Bounds)
+    → rows_covered bounds (stored_rows run) ≡ map (λ (r : RowName × Contents). (r.0, spelling_of r.1)) (filter (λ (r : RowName × Contents). covers bounds r.0) run.rows)
+rows_covered-stored run bounds = filter-map row_cmp spelling_of run.rows (covers bounds)
 
 -- ---- what is counted over all rows
 

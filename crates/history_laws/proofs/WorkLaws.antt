@@ -29,8 +29,8 @@ use Rattle.run_history.specs.Made.{row_written, late_cause, deliveries_of, deliv
 use Rattle.run_history.specs.Runs.{Run, row_of, followed, changed, advanced, still_unhandled}
 use Rattle.run_history.specs.Watermarks.{cursor_in, cursor_of, source_mark}
 use Rattle.run_history.specs.Legal.{MayFollow}
-use Rattle.history_laws.specs.Finished.{handles}
-use Rattle.history_laws.specs.Inputs.{IsRunnable}
+use Rattle.run_history.specs.Finished.{handles}
+use Rattle.run_history.specs.Inputs.{IsRunnable}
 use Rattle.history_laws.proofs.Lists.{none_some, some_same, each-append, each-weaker, each-filter, find-each}
 use Rattle.history_laws.proofs.Made.{deliveries_made-each}
 use Rattle.history_laws.proofs.FeedLaws.{consumers-fed, injector-no_kind}

@@ -7,7 +7,7 @@ use Rattle.mw_types.specs.declared.entry.Entry.{Entry}
 use Rattle.topology.specs.Shapes.{Shape, feeds_of}
 use Rattle.run_history.specs.Made.{found_delivery, row_written}
 use Rattle.run_history.specs.Runs.{Run, row_of}
-use Rattle.history_laws.specs.Finished.{is_handled, is_acknowledged}
+use Rattle.run_history.specs.Finished.{is_handled, is_acknowledged}
 
 -- whether a delivery is not handled in a history
 abbrev pub is_left : List Entry → Delivery → Bool

@@ -4,7 +4,7 @@ use Rattle.mw_types.specs.declared.entry.Entry.{Entry}
 use Rattle.run_history.specs.Cases.{CaseShape}
 use Rattle.run_history.specs.Runs.{run_of}
 use Rattle.run_history.specs.Legal.{MayFollow, IsLegal}
-use Rattle.history_laws.specs.Fences.{IsFenced, HasSeen, IsWriteUnder}
+use Rattle.run_history.specs.Fences.{IsFenced, HasSeen, IsWriteUnder}
 
 -- the history is legal and fenced
 pub record IsLawful (case : CaseShape) (history : List Entry) : Type 0 where

@@ -2,7 +2,7 @@
 ghost use Rattle.std.specs.Prelude.{ℕ, List, Some, slice_get, ◌≡◌, ◌≤◌};
 ghost use Rattle.mw_types.specs.declared.entry.Entry.{Entry};
 ghost use Rattle.mw_types.specs.declared.entry.Entry.TheVariants.{Claim};
-ghost use Rattle.history_laws.specs.Fences.{last_claim};
+ghost use Rattle.run_history.specs.Fences.{last_claim};
 
 /// The last claim of an interval is a claim of it, and no claim of the interval is later.
 pub fn last_claims_are_latest()

@@ -4,11 +4,11 @@ ghost use Rattle.mw_types.specs.declared.TheConstants.{END};
 ghost use Rattle.run_history.specs.Runs.{run_of};
 ghost use Rattle.worked_examples.specs.First.{first_case, row_a};
 ghost use Rattle.worked_examples.specs.Drained.{drained_history, injector_row};
-ghost use Rattle.history_laws.specs.Fences.{IsFenced, interval_of, known, last_claim};
-ghost use Rattle.history_laws.specs.Finished.{unfinished};
-ghost use Rattle.history_laws.specs.Marks.{work_above};
-ghost use Rattle.history_laws.specs.OwnWorks.{drained_after, own_works};
-ghost use Rattle.history_laws.specs.Overtaken.{overtaken, handled_under};
+ghost use Rattle.run_history.specs.Fences.{IsFenced, interval_of, known, last_claim};
+ghost use Rattle.run_history.specs.Finished.{unfinished};
+ghost use Rattle.run_history.specs.Marks.{work_above};
+ghost use Rattle.worked_examples.specs.OwnWorks.{drained_after, own_works};
+ghost use Rattle.worked_examples.specs.Overtaken.{overtaken, handled_under};
 
 /// The example with claims, acknowledgements and a purge is fenced, and leaves no work at its end.
 pub fn drained_example_is_fenced()

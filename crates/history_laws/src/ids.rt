@@ -10,7 +10,7 @@ ghost use Rattle.run_history.specs.Cases.{CaseShape};
 ghost use Rattle.run_history.specs.Made.{deliveries_of, found_delivery};
 ghost use Rattle.run_history.specs.Runs.{run_of, row_of};
 ghost use Rattle.run_history.specs.Legal.{IsLegal};
-ghost use Rattle.history_laws.specs.Finished.{is_handled};
+ghost use Rattle.run_history.specs.Finished.{is_handled};
 ghost use Rattle.history_laws.specs.Ids.{TellsWhatWaits, IsSentBy};
 
 /// Ids ascend in the order in which records were made, whether or not the history is legal.

@@ -3,7 +3,7 @@ ghost use Rattle.std.specs.Prelude.{ℕ, Some, ◌≡◌};
 ghost use Rattle.mw_types.specs.declared.identity.RowName.{RowName};
 ghost use Rattle.key_intervals.specs.Intervals.{AreIntervals, HasRow};
 ghost use Rattle.topology.specs.Shapes.{Shape};
-ghost use Rattle.history_laws.specs.Fences.{interval_of};
+ghost use Rattle.run_history.specs.Fences.{interval_of};
 ghost use Rattle.run_history.specs.Cases.{intervals_of};
 
 /// The interval in which a row lies is the one that has it.

@@ -8,8 +8,8 @@ ghost use Rattle.run_history.specs.Cases.{CaseShape, intervals_of};
 ghost use Rattle.run_history.specs.Runs.{Run, run_of};
 ghost use Rattle.run_history.specs.Watermarks.{low_watermark};
 ghost use Rattle.run_history.specs.Legal.{IsLegal};
-ghost use Rattle.history_laws.specs.Inputs.{IsRunnable};
-ghost use Rattle.history_laws.specs.Marks.{own_work, work_above, IsSafe, IsUnderMarks};
+ghost use Rattle.run_history.specs.Inputs.{IsRunnable};
+ghost use Rattle.run_history.specs.Marks.{own_work, work_above, IsSafe, IsUnderMarks};
 
 /// A mark of an interval that is safe after a beginning of a legal history is safe after the whole.
 pub fn safe_marks_stay_safe()

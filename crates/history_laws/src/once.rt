@@ -9,7 +9,7 @@ ghost use Rattle.mw_types.specs.Outcomes.{Outcome};
 ghost use Rattle.run_history.specs.Cases.{CaseShape};
 ghost use Rattle.run_history.specs.Runs.{run_of};
 ghost use Rattle.run_history.specs.Legal.{IsLegal};
-ghost use Rattle.history_laws.specs.Finished.{IsFinished, is_acknowledged, is_handled};
+ghost use Rattle.run_history.specs.Finished.{IsFinished, is_acknowledged, is_handled};
 
 /// In a legal history each record is handled once at most, and acknowledged once at most.
 pub fn records_are_handled_once()

@@ -6,7 +6,7 @@ ghost use Rattle.mw_types.specs.declared.identity.RowName.{RowName};
 ghost use Rattle.topology.specs.Shapes.{Shape};
 ghost use Rattle.run_history.specs.Made.{row_written};
 ghost use Rattle.run_history.specs.Runs.{run_of, row_in};
-ghost use Rattle.history_laws.specs.Fences.{CarryNot, HasSeen, IsFenced, interval_of, known, last_claim};
+ghost use Rattle.run_history.specs.Fences.{CarryNot, HasSeen, IsFenced, interval_of, known, last_claim};
 
 /// An entry changes no row but the one that it is on, whether or not the history is legal.
 pub fn rows_change_by_their_entries()

@@ -1,5 +1,5 @@
 //! What a case of the program is.
-ghost use Rattle.history_laws.specs.Inputs.{IsRunnable};
+ghost use Rattle.run_history.specs.Inputs.{IsRunnable};
 
 use run_history::Case;
 

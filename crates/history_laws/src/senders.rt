@@ -9,7 +9,7 @@ ghost use Rattle.run_history.specs.Cases.{CaseShape};
 ghost use Rattle.run_history.specs.Made.{found_delivery};
 ghost use Rattle.run_history.specs.Runs.{run_of, row_of};
 ghost use Rattle.run_history.specs.Legal.{IsLegal};
-ghost use Rattle.history_laws.specs.Finished.{all_pending, is_acknowledged};
+ghost use Rattle.run_history.specs.Finished.{all_pending, is_acknowledged};
 ghost use Rattle.history_laws.specs.Ids.{IsMadeOn, IsSentBy, is_unacknowledged};
 
 /// What is pending in a row was made by an entry on the row, so that an id is pending in one row at

@@ -6,7 +6,7 @@ ghost use Rattle.mw_types.specs.declared.entry.Entry.{Entry};
 ghost use Rattle.run_history.specs.Cases.{CaseShape};
 ghost use Rattle.run_history.specs.Runs.{run_of, row_of};
 ghost use Rattle.run_history.specs.Legal.{IsLegal};
-ghost use Rattle.history_laws.specs.Inputs.{IsRunnable};
+ghost use Rattle.run_history.specs.Inputs.{IsRunnable};
 ghost use Rattle.history_laws.specs.Stamps.{IsInTime};
 
 /// After a legal history no delivery and no timer is above the greatest timestamp.

@@ -11,7 +11,7 @@ ghost use Rattle.row_parts.specs.Spelling.{spelling_of};
 ghost use Rattle.row_keeper.specs.Rows.{AreInOrder, with_row};
 ghost use Rattle.run_history.specs.Made.{row_written};
 ghost use Rattle.run_history.specs.Runs.{run_of, row_in, row_of};
-ghost use Rattle.history_laws.specs.Stored.{stored_rows};
+ghost use Rattle.run_history.specs.Stored.{stored_rows};
 
 /// An entry asks a keeper to hold its row anew, and to leave every other row as it is; a claim asks
 /// for nothing.

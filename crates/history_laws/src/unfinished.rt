@@ -6,7 +6,7 @@ ghost use Rattle.run_history.specs.Cases.{CaseShape};
 ghost use Rattle.run_history.specs.Made.{row_written};
 ghost use Rattle.run_history.specs.Runs.{run_of, row_of};
 ghost use Rattle.run_history.specs.Legal.{IsDone, IsLegal};
-ghost use Rattle.history_laws.specs.Finished.{IsFinished, unfinished, work_in};
+ghost use Rattle.run_history.specs.Finished.{IsFinished, unfinished, work_in};
 
 /// An entry changes how much work is left by what it changes in its row, and a claim leaves it,
 /// whether or not the history is legal.

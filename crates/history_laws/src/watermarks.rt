@@ -6,7 +6,7 @@ ghost use Rattle.run_history.specs.Cases.{CaseShape};
 ghost use Rattle.run_history.specs.Runs.{run_of};
 ghost use Rattle.run_history.specs.Watermarks.{low_watermark};
 ghost use Rattle.run_history.specs.Legal.{IsLegal};
-ghost use Rattle.history_laws.specs.Inputs.{IsRunnable};
+ghost use Rattle.run_history.specs.Inputs.{IsRunnable};
 
 /// The low watermark of a part after a legal history is at least that after each beginning of it.
 pub fn low_watermark_never_falls()

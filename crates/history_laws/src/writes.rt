@@ -5,7 +5,7 @@ ghost use Rattle.mw_types.specs.declared.entry.Entry.TheVariants.{Claim};
 ghost use Rattle.run_history.specs.Cases.{CaseShape};
 ghost use Rattle.run_history.specs.Runs.{run_of};
 ghost use Rattle.run_history.specs.Legal.{MayClaim, MayFollow};
-ghost use Rattle.history_laws.specs.Inputs.{IsRunnable};
+ghost use Rattle.run_history.specs.Inputs.{IsRunnable};
 ghost use Rattle.history_laws.specs.Writes.{IsLawful, IsSeenWrite};
 
 /// A write that was worked out on a beginning of the history may follow the whole of it, where the

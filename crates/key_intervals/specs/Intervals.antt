@@ -1,6 +1,6 @@
 -- Which rows each interval of keys has: Akidau et al., VLDB 2013, section 7.1, where each computation is divided
 -- into lexicographic intervals of keys. Own: the numbers of the intervals, and where the cuts stand.
-use Rattle.std.specs.Prelude.{◌≡◌, ◌≤◌, ◌+◌, ◌++◌, ◌∷◌, ◌&&◌, ◌==◌, [], ℕ, List, Bool, true, Option, Some, None, ⊤, length, slice_get, slice_index_or, IsTrue, IfSome, MatchOption}
+use Rattle.std.specs.Prelude.{◌≡◌, ◌≤◌, ◌+◌, ◌++◌, ◌∷◌, ◌&&◌, ◌==◌, [], ℕ, List, Bool, true, Option, Some, None, ⊤, length, filter, slice_get, slice_index_or, IsTrue, IfSome, MatchOption}
 use Rattle.std.specs.List.{AllAdjacentBelow}
 use Rattle.std.specs.List.Sorted.{IsStrictlySortedBy}
 use Rattle.std.specs.Ordering.{is_le, is_lt}
@@ -19,6 +19,10 @@ ends_after (Some end) key = is_lt (key_cmp key end)
 -- an interval has the rows of its part whose keys are at least `from`, and below `to` where there is one
 abbrev pub covers : Bounds → RowName → Bool
 covers b name = (b.part == name.part) && is_le (key_cmp b.from name.key) && ends_after b.to name.key
+
+-- those of some rows that an interval has, in their order
+abbrev pub rows_covered : {X : Type 0} → Bounds → List (RowName × X) → List (RowName × X)
+rows_covered b rows = filter (λ row. covers b row.0) rows
 
 -- there is an interval with this number, and it has the row
 abbrev pub HasRow : List Bounds → ℕ → RowName → Type 0

@@ -104,17 +104,6 @@ fn ids_and_rows_stand_in_order(rt: HostRuntime) -> Result<(), KeyRefusal> {
         key: Key::none(alloc),
     };
     assert!(rt; a < b && injector < a && a.copy(alloc)? == a);
-    let early = Timer {
-        tag: 9,
-        time: 60,
-        late: false,
-    };
-    let late = Timer {
-        tag: 0,
-        time: 61,
-        late: true,
-    };
-    assert!(rt; early.pair() < late.pair());
     Ok(())
 }
 

@@ -1,5 +1,4 @@
 //! Timers, Akidau et al., VLDB 2013, section 4.6.
-ghost use Rattle.std.specs.Prelude.{◌≡◌};
 
 use crate::memory::{Duplicate, NoMemory};
 use crate::seq::Seq;
@@ -22,27 +21,5 @@ pub type TimerList = Seq<Timer>;
 impl Duplicate for Timer {
     fn copy(&self, _alloc: Global) -> Result<Timer, NoMemory> {
         Ok(*self)
-    }
-}
-
-/// What tells the timers of one row apart, in the order in which they fire.
-#[derive(Clone, Copy, Debug, PartialEq, Eq, PartialOrd, Ord)]
-pub struct TimerPair {
-    /// When the timer is due, in whole microseconds.
-    pub time: u64,
-    /// What its computation knows it by.
-    pub tag: u64,
-}
-
-impl Timer {
-    /// The pair of its time and its tag.
-    pub fn pair(&self) -> TimerPair
-        ensures time { result.time ≡ self.now.time }
-        ensures tag { result.tag ≡ self.now.tag }
-    {
-        TimerPair {
-            time: self.time,
-            tag: self.tag,
-        }
     }
 }

@@ -11,7 +11,7 @@ use std::sync::Arc;
 const LEAF_MAX: usize = 16;
 
 // How high a tree is at most; balanced ones are never that high.
-const HEIGHT_MAX: u64 = 64;
+const HEIGHT_MAX: u8 = 64;
 
 // A tree, which several owners may share.
 pub(crate) type Shared<X> = Arc<Tree<X>>;
@@ -26,8 +26,12 @@ pub(crate) struct Tree<X> {
 #[derive(Debug, Drop)]
 enum Node<X> {
     Leaf(Vec<X>),
-    // The left side, the count of elements, the height and the right side.
-    Fork(Arc<Tree<X>>, usize, u64, Arc<Tree<X>>),
+    Fork {
+        height: u8,
+        count: usize,
+        left: Arc<Tree<X>>,
+        right: Arc<Tree<X>>,
+    },
 }
 
 impl<X> Model for Tree<X> {
@@ -55,18 +59,18 @@ impl<X> Tree<X> {
     {
         match &self.node {
             Node::Leaf(xs) => xs.len(),
-            Node::Fork(_, count, _, _) => *count,
+            Node::Fork { count, .. } => *count,
         }
     }
 
     // The height that the tree stores.
-    fn height(&self) -> u64
+    fn height(&self) -> u8
         ensures height { result ≡ self.now.1 }
         ensures low { result ≤ 64 }
     {
         match &self.node {
             Node::Leaf(_) => 0,
-            Node::Fork(_, _, height, _) => *height,
+            Node::Fork { height, .. } => *height,
         }
     }
 
@@ -76,7 +80,7 @@ impl<X> Tree<X> {
     {
         match &self.node {
             Node::Leaf(xs) => xs.get(at),
-            Node::Fork(left, _, _, right) => {
+            Node::Fork { left, right, .. } => {
                 let here = left.len();
                 if at < here {
                     left.get(at)
@@ -100,7 +104,7 @@ impl<X: Copy + Drop> Tree<X> {
                 ys[at] = x;
                 leaf(alloc, ys)
             }
-            Node::Fork(left, _, _, right) => {
+            Node::Fork { left, right, .. } => {
                 let here = left.len();
                 if at < here {
                     let left = left.with_other(alloc, at, x)?;
@@ -120,7 +124,7 @@ impl<X: Copy + Drop> Tree<X> {
     {
         match &self.node {
             Node::Leaf(xs) => leaf_with_more(alloc, xs, at, x),
-            Node::Fork(left, _, _, right) => {
+            Node::Fork { left, right, .. } => {
                 let here = left.len();
                 if at < here {
                     let left = left.with_more(alloc, at, x)?;
@@ -140,7 +144,7 @@ impl<X: Copy + Drop> Tree<X> {
     {
         match &self.node {
             Node::Leaf(xs) => leaf(alloc, slice_without(alloc, xs, at)?),
-            Node::Fork(left, _, _, right) => {
+            Node::Fork { left, right, .. } => {
                 let here = left.len();
                 if at < here {
                     if here == 1 {
@@ -168,7 +172,7 @@ impl<X: Copy + Drop> Tree<X> {
                 all.extend_from_slice(xs)?;
                 Ok(())
             }
-            Node::Fork(left, _, _, right) => {
+            Node::Fork { left, right, .. } => {
                 left.put(all)?;
                 right.put(all)
             }
@@ -183,7 +187,7 @@ impl<X: Copy + Drop> Tree<X> {
     {
         match &self.node {
             Node::Leaf(xs) => &xs[at..],
-            Node::Fork(left, _, _, right) => {
+            Node::Fork { left, right, .. } => {
                 let here = left.len();
                 if at < here {
                     left.run_at(at)
@@ -296,7 +300,12 @@ where
     Ok(Arc::new(
         alloc,
         Tree {
-            node: Node::Fork(left, count, height + 1, right),
+            node: Node::Fork {
+                height: height + 1,
+                count,
+                left,
+                right,
+            },
         },
     )?)
 }
@@ -322,11 +331,19 @@ fn lean_left<X: Drop>(
 ) -> Result<Shared<X>, NoMemory>
     ensures { IfOk result (λ t. (arc_value t).0 ≡ (arc_value left.now).0 ++ (arc_value right.now).0) }
 {
-    let Node::Fork(outer, _, _, inner) = &left.node else {
+    let Node::Fork {
+        left: outer,
+        right: inner,
+        ..
+    } = &left.node else {
         return fork(alloc, Arc::try_clone(left)?, Arc::try_clone(right)?);
     };
     if outer.height() < inner.height() {
-        let Node::Fork(front, _, _, back) = &inner.node else {
+        let Node::Fork {
+            left: front,
+            right: back,
+            ..
+        } = &inner.node else {
             return fork(alloc, Arc::try_clone(left)?, Arc::try_clone(right)?);
         };
         let first = fork(alloc, Arc::try_clone(outer)?, Arc::try_clone(front)?)?;
@@ -345,11 +362,19 @@ fn lean_right<X: Drop>(
 ) -> Result<Shared<X>, NoMemory>
     ensures { IfOk result (λ t. (arc_value t).0 ≡ (arc_value left.now).0 ++ (arc_value right.now).0) }
 {
-    let Node::Fork(inner, _, _, outer) = &right.node else {
+    let Node::Fork {
+        left: inner,
+        right: outer,
+        ..
+    } = &right.node else {
         return fork(alloc, Arc::try_clone(left)?, Arc::try_clone(right)?);
     };
     if outer.height() < inner.height() {
-        let Node::Fork(front, _, _, back) = &inner.node else {
+        let Node::Fork {
+            left: front,
+            right: back,
+            ..
+        } = &inner.node else {
             return fork(alloc, Arc::try_clone(left)?, Arc::try_clone(right)?);
         };
         let first = fork(alloc, Arc::try_clone(left)?, Arc::try_clone(front)?)?;

@@ -4,7 +4,7 @@ use Rattle.std.proofs.lemmas.List.{take_more, take-append-drop}
 use Rattle.std.specs.Prelude.{IsTrue}
 use Rattle.mw_types.specs.declared.entry.Entry.{Entry}
 use Rattle.topology.specs.Shapes.{Shape}
-use Rattle.history_laws.specs.Fences.{IsUnderLastClaim, IsFenced}
+use Rattle.run_history.specs.Fences.{IsUnderLastClaim, IsFenced}
 use Rattle.history_laws.proofs.FenceLaws.{IsFenced-push}
 
 -- what is not so is not true

@@ -1,7 +1,7 @@
 //! The interval that a row lies in, and the last claim of an interval.
 ghost use Rattle.std.specs.Prelude.{◌≡◌, ◌+◌, ◌<◌, ◌^◌, fold, length};
 ghost use Rattle.std.specs.List.{enumerate_from};
-ghost use Rattle.history_laws.specs.Fences.{interval_of, is_claim, later_claim, last_claim};
+ghost use Rattle.run_history.specs.Fences.{interval_of, is_claim, later_claim, last_claim};
 
 use mw_types::{Entry, RowName};
 use run_history::Case;

@@ -1,7 +1,7 @@
 //! Whether a history is fenced.
 ghost use Rattle.std.specs.Prelude.{◌≡◌, ◌↔◌, ℕ, Some, IsTrue};
 ghost use Rattle.std.specs.Option.{option_and_then};
-ghost use Rattle.history_laws.specs.Fences.{interval_of, last_claim, IsUnderLastClaim, IsFenced};
+ghost use Rattle.run_history.specs.Fences.{interval_of, last_claim, IsUnderLastClaim, IsFenced};
 
 use crate::claims::{plain_interval_of, plain_last_claim};
 use mw_types::{Entry, Key, RowName};

@@ -5,7 +5,7 @@ ghost use Rattle.mw_types.specs.declared.identity.RowName.{RowName as Name};
 ghost use Rattle.row_parts.specs.Contents.{Contents as Kept};
 ghost use Rattle.run_history.specs.Cases.{source_of};
 ghost use Rattle.run_history.specs.Watermarks.{cursor_in, cursor_of};
-ghost use Rattle.history_laws.specs.Finished.{has_line, injectors_left, unfinished, IsFinished};
+ghost use Rattle.run_history.specs.Finished.{has_line, injectors_left, unfinished, IsFinished};
 
 use mw_types::{DeliveryList, Duplicate, Key, NoMemory, RowName, Seq, State, TimerList};
 use plain_definitions::{NamedRow, Run, plain_row_of};

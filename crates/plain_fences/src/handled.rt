@@ -1,7 +1,7 @@
 //! What is handled and what is acknowledged in a history.
 ghost use Rattle.std.specs.Prelude.{◌≡◌};
 ghost use Rattle.row_parts.specs.Contents.{same_id};
-ghost use Rattle.history_laws.specs.Finished.{handles, acknowledges, is_handled, is_acknowledged};
+ghost use Rattle.run_history.specs.Finished.{handles, acknowledges, is_handled, is_acknowledged};
 
 use mw_types::{Entry, RecordId};
 

@@ -2,7 +2,7 @@
 ghost use Rattle.std.specs.Prelude.{◌≡◌, ◌++◌, ◌∷◌, not, IfOk};
 ghost use Rattle.std.specs.List.{take_while};
 ghost use Rattle.mw_types.specs.declared.entry.Entry.{Entry as Written};
-ghost use Rattle.history_laws.specs.Fences.{is_claim, known};
+ghost use Rattle.run_history.specs.Fences.{is_claim, known};
 
 use crate::claims::is_claim;
 use mw_types::{Duplicate, Entry, EntryList, NoMemory, Seq};

@@ -5,7 +5,7 @@ ghost use Rattle.mw_types.specs.declared.state.State.TheVariants.{Spike};
 ghost use Rattle.row_keeper.specs.Rows.{entry_of};
 ghost use Rattle.row_parts.specs.Contents.{Contents as Kept};
 ghost use Rattle.row_parts.specs.Spelling.{list_spelling, state_spelling, spelling_of};
-ghost use Rattle.history_laws.specs.Stored.{stored_rows};
+ghost use Rattle.run_history.specs.Stored.{stored_rows};
 
 use mw_types::{Bytes, Duplicate, HeldTotal, NoMemory, Seq, State};
 use plain_definitions::{Contents, NamedRow, Run};

@@ -15,10 +15,10 @@ use Rattle.mw_types.proofs.OrderLaws.{key_cmp-total}
 use Rattle.mw_types.specs.Orders.{row_cmp, key_cmp}
 use Rattle.mw_types.specs.declared.identity.RowName.{RowName}
 use Rattle.key_intervals.specs.declared.bounds.Bounds.{Bounds}
-use Rattle.key_intervals.specs.Intervals.{covers, ends_after, start_of}
+use Rattle.key_intervals.specs.Intervals.{covers, ends_after, start_of, rows_covered}
 use Rattle.key_intervals.proofs.Beginnings.{begins_by, part_below, key_decides}
 use Rattle.key_intervals.proofs.Lookup.{begins_by_row, of_part, goes_past, has_row}
-use Rattle.row_keeper.specs.Rows.{Rows, AreInOrder, rows_within}
+use Rattle.row_keeper.specs.Rows.{Rows, AreInOrder}
 
 -- rows in order, none of which is before the interval
 pub record IsFrom (b : Bounds) (rows : Rows) : Type 0 where
@@ -69,7 +69,7 @@ from_start b rows o = record {
 }
 
 -- an interval has the same of them as of all rows
-pub within_from_start : (b : Bounds) (rows : Rows) → rows_within b (entries_between row_cmp (Included (start_of b)) Unbounded rows) ≡ rows_within b rows
+pub within_from_start : (b : Bounds) (rows : Rows) → rows_covered b (entries_between row_cmp (Included (start_of b)) Unbounded rows) ≡ rows_covered b rows
 within_from_start b rows = filter_twice (λ row. covers b row.0) (λ row. at_or_after b row.0)
     (λ row h. to_test (begins_by row.0 b) (begins_by_row b row.0 h)) rows
 
@@ -101,31 +101,31 @@ past_end b name later begins out less = by_case (covers b later) refl
     by_case true e = absurd (true≢false (sym (between e) ∙ out))
 
 none_after : (b : Bounds) (name : RowName) (rows : Rows) → begins_by name b ≡ true → covers b name ≡ false
-    → AllByRecursion (λ y. row_cmp name y ≡ Less) (keys_of rows) → rows_within b rows ≡ []
+    → AllByRecursion (λ y. row_cmp name y ≡ Less) (keys_of rows) → rows_covered b rows ≡ []
 none_after b name [] begins out a = refl
 none_after b name (row ∷ rows) begins out a =
-    ap (λ t. cond t (row ∷ rows_within b rows) (rows_within b rows)) (past_end b name row.0 begins out a.0)
+    ap (λ t. cond t (row ∷ rows_covered b rows) (rows_covered b rows)) (past_end b name row.0 begins out a.0)
     ∙ none_after b name rows begins out a.1
 
 -- a search through the rows of an interval: what is found and what the interval has of the rest are what it has of all
 pub record IsRest (b : Bounds) (found rest all : Rows) : Type 0 where
-  pub left : found ++ rows_within b rest ≡ rows_within b all
+  pub left : found ++ rows_covered b rest ≡ rows_covered b all
   pub from : IsFrom b rest
 
 -- it begins where the interval does
 pub IsRest-begin : (b : Bounds) (found rest all : Rows) → found ≡ [] → rest ≡ entries_between row_cmp (Included (start_of b)) Unbounded all → AreInOrder all → IsRest b found rest all
 IsRest-begin b found rest all none e o = record {
-  left = ap (λ f. f ++ rows_within b rest) none ∙ ap (rows_within b) e ∙ within_from_start b all;
+  left = ap (λ f. f ++ rows_covered b rest) none ∙ ap (rows_covered b) e ∙ within_from_start b all;
   from = subst (IsFrom b) (sym e) (from_start b all o);
 }
 
 -- it ends at a row that the interval does not have
 pub IsRest-end : (b : Bounds) (found rest all : Rows) (row : RowName × List ℕ) (after : Rows) → IsRest b found rest all
-    → rest ≡ row ∷ after → covers b row.0 ≡ false → found ≡ rows_within b all
+    → rest ≡ row ∷ after → covers b row.0 ≡ false → found ≡ rows_covered b all
 IsRest-end b found rest all row after h e out =
     let from : IsFrom b (row ∷ after) = subst (IsFrom b) e h.from in
-    let none : rows_within b rest ≡ [] =
-    ap (rows_within b) e ∙ ap (λ t. cond t (row ∷ rows_within b after) (rows_within b after)) out
+    let none : rows_covered b rest ≡ [] =
+    ap (rows_covered b) e ∙ ap (λ t. cond t (row ∷ rows_covered b after) (rows_covered b after)) out
     ∙ none_after b row.0 after from.from.0 out (sorted_head row_cmp row.0 (keys_of after) from.ordered) in
     sym (append-nil found) ∙ ap (λ r. found ++ r) (sym none) ∙ h.left
 
@@ -134,10 +134,10 @@ pub IsRest-more : (b : Bounds) (found rest all : Rows) (row : RowName × List �
     → rest ≡ row ∷ after → covers b row.0 ≡ true → IsRest b (found ++ row ∷ []) after all
 IsRest-more b found rest all row after h e has =
     let from : IsFrom b (row ∷ after) = subst (IsFrom b) e h.from in
-    let one : rows_within b rest ≡ row ∷ rows_within b after =
-    ap (rows_within b) e ∙ ap (λ t. cond t (row ∷ rows_within b after) (rows_within b after)) has in
+    let one : rows_covered b rest ≡ row ∷ rows_covered b after =
+    ap (rows_covered b) e ∙ ap (λ t. cond t (row ∷ rows_covered b after) (rows_covered b after)) has in
     record {
-      left = append_assoc found (row ∷ []) (rows_within b after) ∙ ap (λ r. found ++ r) (sym one) ∙ h.left;
+      left = append_assoc found (row ∷ []) (rows_covered b after) ∙ ap (λ r. found ++ r) (sym one) ∙ h.left;
       from = record {
         ordered = sorted_tail row_cmp row.0 (keys_of after) from.ordered;
         from = from.from.1;

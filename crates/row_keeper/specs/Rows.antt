@@ -1,12 +1,10 @@
 -- What a keeper of rows holds. Own.
-use Rattle.std.specs.Prelude.{ℕ, List, filter}
+use Rattle.std.specs.Prelude.{ℕ, List}
 use Rattle.std.specs.BTreeMap.{insert_entry}
 use Rattle.std.specs.Map.{keys_of}
 use Rattle.std.specs.List.Sorted.{IsStrictlySortedBy}
 use Rattle.mw_types.specs.Orders.{row_cmp}
 use Rattle.mw_types.specs.declared.identity.RowName.{RowName}
-use Rattle.key_intervals.specs.declared.bounds.Bounds.{Bounds}
-use Rattle.key_intervals.specs.Intervals.{covers}
 use Rattle.row_keeper.specs.declared.keeper.KeptRow.{KeptRow}
 
 -- rows by their names, each with its bytes
@@ -20,10 +18,6 @@ AreInOrder rows = IsStrictlySortedBy row_cmp (keys_of rows)
 -- the rows with these bytes at this name, and each other row as it was
 abbrev pub with_row : RowName → List ℕ → Rows → Rows
 with_row name bytes rows = insert_entry row_cmp rows name bytes
-
--- the rows that an interval has, in order
-abbrev pub rows_within : Bounds → Rows → Rows
-rows_within bounds rows = filter (λ row. covers bounds row.0) rows
 
 -- the name of a row that was answered, and its bytes
 abbrev pub entry_of : KeptRow → RowName × List ℕ

@@ -1,7 +1,8 @@
 //! What every keeper of rows does.
 ghost use Rattle.std.specs.Prelude.{◌≡◌, ℕ, Option, map, slice_get, option_map, IfOk, IfSome, OnErr, OnOk};
 ghost use Rattle.mw_types.specs.Causes.{HasCause};
-ghost use Rattle.row_keeper.specs.Rows.{Rows, AreInOrder, entry_of, rows_within, with_row};
+ghost use Rattle.row_keeper.specs.Rows.{Rows, AreInOrder, entry_of, with_row};
+ghost use Rattle.key_intervals.specs.Intervals.{rows_covered};
 
 use key_intervals::Bounds;
 use mw_types::{Bytes, Duplicate, NoMemory, RowName, Seq};
@@ -67,7 +68,7 @@ pub trait Keeper: Drop {
     /// The rows of an interval, ascending by name.
     fn scan(&mut self, alloc: Global, bounds: &Bounds) -> Result<KeptRowList, KeeperFault>
         ensures within { IfOk result (λ found. IfSome (rows self.old)
-            (λ held. map entry_of found ≡ rows_within bounds.now held)) }
+            (λ held. map entry_of found ≡ rows_covered bounds.now held)) }
         ensures unchanged { rows self.new ≡ rows self.old }
         ensures ordered { IfSome (rows self.new) AreInOrder }
         ensures failed { HasCause (faults self.old) (faults self.new) result KeeperFault.Failed };

@@ -1,7 +1,8 @@
 //! A keeper in memory, which tells its rows and fails at named calls.
 ghost use Rattle.std.specs.Prelude.{◌≡◌, [], map, slice_get, option_map, IfOk, OnErr, OnOk};
 ghost use Rattle.mw_types.specs.Orders.{row_cmp};
-ghost use Rattle.row_keeper.specs.Rows.{AreInOrder, entry_of, rows_within, with_row};
+ghost use Rattle.row_keeper.specs.Rows.{AreInOrder, entry_of, with_row};
+ghost use Rattle.key_intervals.specs.Intervals.{rows_covered};
 ghost use Rattle.row_keeper.specs.Memory.{CountsCall};
 
 use crate::calls::Calls;
@@ -85,7 +86,7 @@ impl Keeper for MemKeeper {
 
     fn scan(&mut self, alloc: Global, bounds: &Bounds) -> Result<KeptRowList, KeeperFault>
         ensures within { IfOk result (λ found.
-            map entry_of found ≡ rows_within bounds.now self.old.rows) }
+            map entry_of found ≡ rows_covered bounds.now self.old.rows) }
         ensures unchanged { self.new.rows ≡ self.old.rows }
         ensures ordered { AreInOrder self.new.rows }
         ensures counts { CountsCall self.old self.new result }
@@ -139,7 +140,7 @@ fn list_of(alloc: Global, bytes: &[u8]) -> Result<Bytes, NoMemory>
 
 // The rows of the interval: those from where it begins, as long as it has them.
 fn found_within(alloc: Global, rows: &RowMap, bounds: &Bounds) -> Result<KeptRowList, NoMemory>
-    ensures { IfOk result (λ found. map entry_of found ≡ rows_within bounds.now rows.now.entries) }
+    ensures { IfOk result (λ found. map entry_of found ≡ rows_covered bounds.now rows.now.entries) }
 {
     let start = RowName {
         part: bounds.part,

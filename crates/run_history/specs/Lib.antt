@@ -1,7 +1,12 @@
 pub mod Cases
+pub mod Inputs
 pub mod Made
 pub mod Runs
 pub mod Watermarks
 pub mod Legal
+pub mod Fences
+pub mod Finished
+pub mod Marks
+pub mod Stored
 pub mod Texts
 pub mod Printing

@@ -81,9 +81,13 @@ changed (Fire seq name timer mark effects) sent row = fired_in timer effects sen
 changed (Ack seq name id) sent row = record row { pending = without_delivery id row.pending }
 changed (Purge seq name floor) sent row = record row { floor = floor; seen = ids_from floor row.seen }
 
--- the row that an entry leaves, which names the entry as its last
+-- the row that an entry of this number leaves, where it made these deliveries; it names the entry as its last
+abbrev pub written_row : ℕ → Entry → List Delivery → Contents → Contents
+written_row commit entry sent row = record (changed entry sent row) { last = commit }
+
+-- the row of this name that the next entry leaves
 abbrev pub row_after : Shape → Run → Entry → List Delivery → RowName → Contents
-row_after shape run entry sent name = record (changed entry sent (row_of shape run name)) { last = run.next }
+row_after shape run entry sent name = written_row run.next entry sent (row_of shape run name)
 
 -- the rows after an entry: the one that it is on is changed
 abbrev pub rows_after : Shape → Run → Entry → List Delivery → List (RowName × Contents)

@@ -1,2 +1,4 @@
 pub mod First
 pub mod Drained
+pub mod Overtaken
+pub mod OwnWorks

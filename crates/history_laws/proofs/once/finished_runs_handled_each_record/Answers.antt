@@ -2,7 +2,7 @@ use Rattle.std.proofs.Common.{◌≡◌, true}
 use Rattle.std.proofs.lemmas.List.Elements.{All-from_recursion}
 use Rattle.mw_types.specs.declared.delivery.Delivery.{Delivery}
 use Rattle.run_history.specs.Runs.{run_of}
-use Rattle.history_laws.specs.Finished.{is_handled, is_acknowledged}
+use Rattle.run_history.specs.Finished.{is_handled, is_acknowledged}
 use Rattle.history_laws.proofs.OnceLaws.{done-handled, finished-acknowledged}
 use Rattle.history_laws.proofs.once.finished_runs_handled_each_record.Goals as goal
 

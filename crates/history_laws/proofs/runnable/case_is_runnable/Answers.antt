@@ -3,7 +3,7 @@ use Rattle.std.specs.Prelude.{All}
 use Rattle.std.proofs.lemmas.List.{take_all}
 use Rattle.std.proofs.lemmas.List.Elements.{All-more}
 use Rattle.injector.specs.Sources.{IsSource}
-use Rattle.history_laws.specs.Inputs.{IsRunnable}
+use Rattle.run_history.specs.Inputs.{IsRunnable}
 use Rattle.history_laws.proofs.runnable.case_is_runnable.Goals as goal
 
 -- one more source keeps the rules

@@ -2,7 +2,7 @@ use Rattle.std.proofs.Common.{◌≡◌, false}
 use Rattle.std.proofs.lemmas.List.Elements.{All-from_recursion}
 use Rattle.mw_types.specs.declared.delivery.Delivery.{Delivery}
 use Rattle.run_history.specs.Runs.{run_of, row_of}
-use Rattle.history_laws.specs.Finished.{is_acknowledged}
+use Rattle.run_history.specs.Finished.{is_acknowledged}
 use Rattle.history_laws.specs.Ids.{IsSentBy}
 use Rattle.history_laws.proofs.CountLaws.{legal-counted}
 use Rattle.history_laws.proofs.AckLaws.{legal-acknowledged}

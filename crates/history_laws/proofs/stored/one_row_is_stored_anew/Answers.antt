@@ -3,7 +3,7 @@ use Rattle.row_parts.specs.Spelling.{spelling_of}
 use Rattle.row_keeper.specs.Rows.{with_row}
 use Rattle.run_history.specs.Runs.{Run, run_of, row_of}
 use Rattle.run_history.proofs.RunLaws.{run_of-push}
-use Rattle.history_laws.specs.Stored.{stored_rows}
+use Rattle.run_history.specs.Stored.{stored_rows}
 use Rattle.history_laws.proofs.LowLaws.{rows-in_order}
 use Rattle.history_laws.proofs.StoredLaws.{stored_rows-followed, stored_rows-kept, stored_rows-at, stored_rows-in_order}
 use Rattle.history_laws.proofs.stored.one_row_is_stored_anew.Goals as goal

@@ -1,7 +1,7 @@
 use Rattle.std.proofs.Common.{◌≡◌, ◌+◌, ◌∙◌, ap, subst, sym}
 use Rattle.run_history.specs.Runs.{Run, run_of, row_of}
 use Rattle.run_history.proofs.RunLaws.{run_of-push}
-use Rattle.history_laws.specs.Finished.{unfinished, work_in}
+use Rattle.run_history.specs.Finished.{unfinished, work_in}
 use Rattle.history_laws.proofs.LowLaws.{rows-in_order}
 use Rattle.history_laws.proofs.UnfinishedLaws.{unfinished-followed, unfinished-kept}
 use Rattle.history_laws.proofs.unfinished.work_is_counted_row_by_row.Goals as goal

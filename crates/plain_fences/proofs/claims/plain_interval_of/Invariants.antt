@@ -3,7 +3,7 @@ use Rattle.std.specs.List.{position_from}
 use Rattle.key_intervals.specs.declared.bounds.Bounds.{Bounds}
 use Rattle.key_intervals.specs.Intervals.{covers}
 use Rattle.run_history.specs.Cases.{intervals_of}
-use Rattle.history_laws.specs.Fences.{interval_of}
+use Rattle.run_history.specs.Fences.{interval_of}
 use Rattle.plain_fences.proofs.claims.plain_interval_of.Given as goal
 
 -- what is found among the intervals that follow is found among all

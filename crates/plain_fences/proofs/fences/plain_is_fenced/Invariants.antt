@@ -1,5 +1,5 @@
 use Rattle.std.proofs.Common.{take}
-use Rattle.history_laws.specs.Fences.{IsFenced}
+use Rattle.run_history.specs.Fences.{IsFenced}
 use Rattle.plain_fences.proofs.fences.plain_is_fenced.Given as goal
 
 -- the entries so far are fenced

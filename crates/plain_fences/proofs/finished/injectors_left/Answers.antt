@@ -3,7 +3,7 @@ use Rattle.std.specs.Prelude.{filter}
 use Rattle.std.specs.List.{range_with_len}
 use Rattle.topology.specs.Shapes.{injectors_of}
 use Rattle.run_history.specs.Cases.{CaseShape}
-use Rattle.history_laws.specs.Finished.{has_line}
+use Rattle.run_history.specs.Finished.{has_line}
 use Rattle.plain_fences.proofs.Walks.{range_with, range_without}
 use Rattle.plain_fences.proofs.finished.injectors_left.Goals as goal
 use Rattle.plain_fences.proofs.finished.injectors_left.Goals.{then-branch+in_ok-push, else-branch}

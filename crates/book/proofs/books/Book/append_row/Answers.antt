@@ -2,7 +2,7 @@ use Rattle.std.proofs.Common.{◌≡◌, ◌+◌, ◌-◌, List, ℕ, ap, subst,
 use Rattle.std.specs.Prelude.{IfSome, option_map}
 use Rattle.run_history.specs.Runs.{run_of, row_of}
 use Rattle.mw_types.specs.declared.entry.Entry.{Entry}
-use Rattle.history_laws.specs.Finished.{work_in}
+use Rattle.run_history.specs.Finished.{work_in}
 use Rattle.row_keeper.specs.Rows.{with_row}
 use Rattle.book.specs.Books.{BookView, core_of}
 use Rattle.book.specs.Appending.{IsNext, sent_by}

@@ -1,7 +1,7 @@
 use Rattle.std.proofs.Common.{◌≡◌, [], subst}
 use Rattle.std.specs.Prelude.{◌↔◌, None, IfSome}
 use Rattle.run_history.specs.Runs.{run_of}
-use Rattle.history_laws.specs.Finished.{all_pending}
+use Rattle.run_history.specs.Finished.{all_pending}
 use Rattle.book.specs.Books.{BookView}
 use Rattle.book.specs.Senders.{IsLeastSent}
 use Rattle.book.proofs.SenderFloors.{least-found, none-pending}

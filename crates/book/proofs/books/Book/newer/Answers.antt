@@ -1,5 +1,5 @@
 use Rattle.std.proofs.Common.{◌≡◌, sym, ◌∙◌}
-use Rattle.history_laws.specs.Fences.{last_claim}
+use Rattle.run_history.specs.Fences.{last_claim}
 use Rattle.book.specs.Appending.{later_than}
 use Rattle.book.proofs.ClaimLaws.{later-own}
 use Rattle.book.proofs.books.Book.newer.Goals as goal

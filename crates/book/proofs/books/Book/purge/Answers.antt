@@ -2,7 +2,7 @@ use Rattle.std.proofs.Common.{◌≡◌, [], length, ap, refl, subst, sym, ◌�
 use Rattle.mw_types.specs.declared.entry.Entry.{Entry}
 use Rattle.mw_types.specs.declared.entry.Entry.TheVariants.{Purge}
 use Rattle.book.specs.Books.{core_of}
-use Rattle.book.specs.Answers.{written_row}
+use Rattle.run_history.specs.Runs.{written_row}
 use Rattle.book.specs.Appending.{IsNext}
 use Rattle.book.proofs.ClaimLaws.{stale-again}
 use Rattle.book.proofs.SeenRows.{IsNext-purged, IsWritten-result, IfOk-row, row-was}

@@ -4,7 +4,7 @@ use Rattle.key_intervals.specs.declared.bounds.Bounds.{Bounds}
 use Rattle.run_history.specs.Runs.{Run, run_of}
 use Rattle.worked_examples.specs.First.{first_case}
 use Rattle.worked_examples.specs.Drained.{drained_history}
-use Rattle.history_laws.specs.Marks.{own_work}
+use Rattle.run_history.specs.Marks.{own_work}
 
 -- what stands after so many entries of the example's history
 abbrev pub drained_after : ℕ → Run

@@ -7,7 +7,7 @@ use Rattle.std.specs.List.{flat_map}
 use Rattle.mw_types.specs.declared.identity.RowName.{RowName}
 use Rattle.mw_types.specs.declared.delivery.Delivery.{Delivery}
 use Rattle.key_intervals.specs.declared.bounds.Bounds.{Bounds}
-use Rattle.key_intervals.specs.Intervals.{covers}
+use Rattle.key_intervals.specs.Intervals.{rows_covered}
 use Rattle.topology.specs.Shapes.{parts_of, feeds_of}
 use Rattle.row_parts.specs.Contents.{Contents}
 use Rattle.run_history.specs.Cases.{CaseShape, is_injector, intervals_of}
@@ -31,7 +31,7 @@ stated_marks case run part =
 -- the own work of an interval: the least of the marks of its rows, and of an injector the watermark that its file states
 abbrev pub own_work : CaseShape → Run → Bounds → ℕ
 own_work case run bounds = least
-    (flat_map (λ (r : RowName × Contents). if covers bounds r.0 then row_marks r.1 else []) run.rows
+    (flat_map (λ (r : RowName × Contents). row_marks r.1) (rows_covered bounds run.rows)
     ++ stated_marks case run bounds.part)
 
 -- the own work of a part: the least of that of its intervals
