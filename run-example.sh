@@ -1,2 +1,6 @@
 #!/usr/bin/env bash
-cd "$(dirname "$0")/crates/millwheel" && exec rt run -- solo ../../examples/t.json ../../examples/e
+# Shows a run within a minute: the crates are compiled with checks and run, and nothing is proved.
+# What is proved, and by what, README.md says; ./build.sh proves and builds the program itself.
+cd "$(dirname "$0")/crates/millwheel" || exit 1
+echo "compiling without a proof, which takes about a minute the first time ..." >&2
+exec rt try --data t.json=../../examples/t.json --data e=../../examples/e -- solo t.json e

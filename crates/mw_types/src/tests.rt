@@ -7,6 +7,8 @@ use crate::{
 use std::alloc::Global;
 use std::test::Fail;
 
+mod shared_lists;
+
 // A text of so many letters.
 fn letters(alloc: Global, count: usize) -> Result<String, NoMemory> {
     let mut text = String::new(alloc);
@@ -76,6 +78,20 @@ fn texts_are_held_and_copied(rt: HostRuntime) -> Result<(), NoMemory> {
     let name = Name::of(alloc, "t.json")?;
     assert!(rt; name.text() == "t.json" && name.len() == 6 && name.copy(alloc)? == name);
     assert_eq!(rt; Name::new(alloc).len(), 0);
+    Ok(())
+}
+
+#[test]
+fn short_and_long_texts_are_told_apart_by_their_bytes_alone(
+    rt: HostRuntime,
+) -> Result<(), NoMemory> {
+    let alloc = rt.alloc();
+    for count in [0, 1, 29, 30, 31, 256] {
+        let text = Name::of(alloc, letters(alloc, count)?.as_str())?;
+        let longer = Name::of(alloc, letters(alloc, count + 1)?.as_str())?;
+        assert!(rt; text.len() == count && text.copy(alloc)? == text);
+        assert!(rt; text < longer && text != longer);
+    }
     Ok(())
 }
 

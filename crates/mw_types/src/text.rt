@@ -14,6 +14,9 @@ enum Held {
     Long(String),
 }
 
+// A text on the heap takes 24 bytes and its tag, so 30 bytes of a short one cost no more room.
+const _: () = prove!(std::mem::size_of::<Held>() == 32);
+
 /// A text whose representation is its own.
 #[derive(Debug, Drop)]
 pub struct Text {

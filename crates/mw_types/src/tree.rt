@@ -34,6 +34,9 @@ enum Node<X> {
     },
 }
 
+// With the count of its owners a node takes 40 bytes.
+const _: () = prove!(std::mem::size_of::<Node<u64>>() == 32);
+
 impl<X> Model for Tree<X> {
     ghost use Rattle.std.specs.Prelude.{ℕ, List};
 
@@ -335,7 +338,8 @@ fn lean_left<X: Drop>(
         left: outer,
         right: inner,
         ..
-    } = &left.node else {
+    } = &left.node
+    else {
         return fork(alloc, Arc::try_clone(left)?, Arc::try_clone(right)?);
     };
     if outer.height() < inner.height() {
@@ -343,7 +347,8 @@ fn lean_left<X: Drop>(
             left: front,
             right: back,
             ..
-        } = &inner.node else {
+        } = &inner.node
+        else {
             return fork(alloc, Arc::try_clone(left)?, Arc::try_clone(right)?);
         };
         let first = fork(alloc, Arc::try_clone(outer)?, Arc::try_clone(front)?)?;
@@ -366,7 +371,8 @@ fn lean_right<X: Drop>(
         left: inner,
         right: outer,
         ..
-    } = &right.node else {
+    } = &right.node
+    else {
         return fork(alloc, Arc::try_clone(left)?, Arc::try_clone(right)?);
     };
     if outer.height() < inner.height() {
@@ -374,7 +380,8 @@ fn lean_right<X: Drop>(
             left: front,
             right: back,
             ..
-        } = &inner.node else {
+        } = &inner.node
+        else {
             return fork(alloc, Arc::try_clone(left)?, Arc::try_clone(right)?);
         };
         let first = fork(alloc, Arc::try_clone(left)?, Arc::try_clone(front)?)?;
