@@ -1,13 +1,10 @@
--- The first state of a row, and one with a single window, are within bounds.
+-- A list with no window, one with a single window and one with no held total are within bounds.
 use Rattle.std.proofs.Common.{◌≤◌, ◌∷◌, [], arith}
 use Rattle.std.specs.List.Sorted.{IsStrictlySortedBy}
 use Rattle.std.proofs.lemmas.List.Elements.{All-nil, All-cons}
 use Rattle.mw_types.specs.declared.TheConstants.{MAX_STAMP}
-use Rattle.mw_types.specs.declared.kind.Kind.{Kind}
-use Rattle.mw_types.specs.declared.kind.Kind.TheVariants as kinds
 use Rattle.mw_types.specs.declared.state.Window.{Window}
-use Rattle.mw_types.specs.Bounds.{IsWithin, AreWindows, AreHeld}
-use Rattle.computations.specs.Handlers.{fresh_state, IsOfKind}
+use Rattle.mw_types.specs.Bounds.{AreWindows, AreHeld}
 
 -- no window
 pub AreWindows-none : AreWindows []
@@ -28,15 +25,3 @@ AreWindows-one w in_time few = record {
 pub AreHeld-none : AreHeld []
 unfolding IsStrictlySortedBy
 AreHeld-none = record { ascending = tt; stamps = All-nil _; few = omega arith }
-
--- the first state of a row is within bounds
-pub IsWithin-fresh_state : (kind : Kind) → IsWithin (fresh_state kind)
-IsWithin-fresh_state (kinds.Count size) = (omega arith, AreWindows-none)
-IsWithin-fresh_state (kinds.Spike last times) = (omega arith, AreHeld-none, omega arith)
-IsWithin-fresh_state kinds.Pass = omega arith
-
--- and of its kind
-pub IsOfKind-fresh_state : (kind : Kind) → IsOfKind kind (fresh_state kind)
-IsOfKind-fresh_state (kinds.Count size) = tt
-IsOfKind-fresh_state (kinds.Spike last times) = tt
-IsOfKind-fresh_state kinds.Pass = tt

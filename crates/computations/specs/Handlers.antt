@@ -2,9 +2,12 @@
 -- Akidau et al., VLDB 2013, section 4.1, has such handlers of a computation; what each kind does is our own.
 -- A count counts each key's records in windows, and produces a window's count when the window's timer fires.
 -- A spike holds each total until its timer fires, and produces it where it is far above those before it.
--- A pass produces each record again. A late record brings no window and no total; it is only counted as late.
+-- A pass produces each record again, also a late one.
+-- Each kind counts its late records; to a count and a spike a late record brings nothing else.
 -- A timer that a record sets has the tag 0, and is late where the record is.
-use Rattle.std.specs.Prelude.{ℕ, ◌+◌, ◌-◌, ◌%◌, min, Bool, not, ◌==◌, ◌&&◌, if◌then◌else◌, List, [], ◌∷◌, ◌++◌, length, drop, filter, find, fold, Option, None, Some, ℤ, pos, ◌+ℤ◌, ◌*ℤ◌, int_lt, ⊤}
+use Rattle.std.specs.Prelude.{ℕ, ◌+◌, ◌-◌, ◌%◌, min, Bool, true, false, not, ◌==◌, ◌&&◌, if◌then◌else◌}
+use Rattle.std.specs.Prelude.{List, [], ◌∷◌, ◌++◌, length, drop, filter, find, fold, Option, None, Some}
+use Rattle.std.specs.Prelude.{ℤ, pos, ◌+ℤ◌, ◌*ℤ◌, int_lt}
 use Rattle.std.specs.Int.{int_max}
 use Rattle.std.specs.Ordering.{nat_cmp, match_ordering}
 use Rattle.mw_types.specs.declared.TheConstants.{MAX_STAMP}
@@ -15,6 +18,7 @@ use Rattle.mw_types.specs.declared.state.State.TheVariants as states
 use Rattle.mw_types.specs.declared.state.Window.{Window}
 use Rattle.mw_types.specs.declared.state.HeldTotal.{HeldTotal}
 use Rattle.mw_types.specs.declared.record.Record.{Record}
+use Rattle.mw_types.specs.declared.record.Production.{Production}
 use Rattle.mw_types.specs.declared.timer.Timer.{Timer}
 use Rattle.mw_types.specs.Outcomes.{Outcome}
 
@@ -24,12 +28,12 @@ fresh_state (kinds.Count size) = states.Count 0 []
 fresh_state (kinds.Spike last times) = states.Spike 0 [] []
 fresh_state kinds.Pass = states.Pass 0
 
--- the state is one that a row of this kind may have
-abbrev pub IsOfKind : Kind → State → Type 0
-IsOfKind (kinds.Count size) (states.Count late windows) = ⊤
-IsOfKind (kinds.Spike last times) (states.Spike late held known) = ⊤
-IsOfKind kinds.Pass (states.Pass late) = ⊤
-IsOfKind _ _ = ⊥
+-- whether a state is one that a row of this kind may have
+abbrev pub has_kind : Kind → State → Bool
+has_kind (kinds.Count size) (states.Count late windows) = true
+has_kind (kinds.Spike last times) (states.Spike late held known) = true
+has_kind kinds.Pass (states.Pass late) = true
+has_kind _ _ = false
 
 -- a number of records after one more; it goes no further than the greatest timestamp, which is 2^63 - 1
 abbrev pub one_more : ℕ → ℕ
@@ -42,14 +46,17 @@ unchanged state = record { state = state; timers = []; productions = [] }
 -- the outcome with this state and with one timer, which is due at this time and late where the record is
 abbrev pub outcome_with_timer : State → ℕ → Record → Outcome
 outcome_with_timer state time item =
-    record { state = state; timers = record { tag = 0; time = time; late = item.late } ∷ []; productions = [] }
+    let timer : Timer = record { tag = 0; time = time; late = item.late } in
+    record { state = state; timers = timer ∷ []; productions = [] }
 
 -- the outcome with this state and with one production
 abbrev pub outcome_with_record : State → List ℕ → ℕ → ℤ → Outcome
 outcome_with_record state key stamp value =
-    record { state = state; timers = []; productions = record { key = key; stamp = stamp; value = value } ∷ [] }
+    let produced : Production = record { key = key; stamp = stamp; value = value } in
+    record { state = state; timers = []; productions = produced ∷ [] }
 
--- where the window of a timestamp ends: at the next multiple of its size, or at the greatest timestamp if that is less
+-- where the window of a timestamp ends: at the next multiple of its size,
+-- or at the greatest timestamp if that is less
 abbrev pub window_end : ℕ → ℕ → ℕ
 window_end size stamp = min (stamp - stamp % size + size) MAX_STAMP
 
@@ -62,41 +69,50 @@ entered number x change (y ∷ ys) = match_ordering (nat_cmp (number x) (number 
     (change y ∷ ys)
     (y ∷ entered number x change ys)
 
--- the windows with one more record in the one that ends there; where none ends there, one with 1 record is new
+-- the windows with one more record in the one that ends there; where none does, one with 1 record is new
 abbrev pub counted : List Window → ℕ → List Window
 counted windows end =
-    entered (λ w. w.end) (record { end = end; count = 1 }) (λ w. record w { count = one_more w.count }) windows
+    let new : Window = record { end = end; count = 1 } in
+    entered (λ w. w.end) new (λ w. record w { count = one_more w.count }) windows
 
--- a count takes a record into its window, and sets a timer for the window's end; a late record only counts as late
+-- a count takes a record into its window, and sets a timer for the window's end;
+-- a late record only counts as late
 abbrev pub count_record : ℕ → ℕ → List Window → Record → Outcome
 count_record size late windows item = if item.late
     then unchanged (states.Count (one_more late) windows)
-    else let end = window_end size item.stamp in outcome_with_timer (states.Count late (counted windows end)) end item
+    else let end = window_end size item.stamp in
+    outcome_with_timer (states.Count late (counted windows end)) end item
 
 -- the open window that ends at the timer's time, where the timer has the tag 0
 abbrev pub window_due : List Window → Timer → Option Window
 window_due windows timer = if timer.tag == 0 then find (λ w. w.end == timer.time) windows else None
 
--- a window that is due is closed, and its count is produced under the row's key; where none is due, nothing changes
+-- a window that is due is closed, and its count is produced under the row's key;
+-- where none is due, nothing changes
 abbrev pub count_timer : List ℕ → ℕ → List Window → Option Window → Outcome
 count_timer key late windows None = unchanged (states.Count late windows)
 count_timer key late windows (Some due) =
-    outcome_with_record (states.Count late (filter (λ w. not (w.end == due.end)) windows)) key due.end (pos due.count)
+    let rest = filter (λ w. not (w.end == due.end)) windows in
+    outcome_with_record (states.Count late rest) key due.end (pos due.count)
 
--- when the total of a timestamp is due: one microsecond after it, or at the greatest timestamp if that is less
+-- when the total of a timestamp is due: one microsecond after it,
+-- or at the greatest timestamp if that is less
 abbrev pub due_time : ℕ → ℕ
 due_time stamp = min (stamp + 1) MAX_STAMP
 
 -- the totals held, with this one; of two at one timestamp the greater stays
 abbrev pub held_with : List HeldTotal → ℕ → ℤ → List HeldTotal
 held_with held stamp value =
-    entered (λ h. h.stamp) (record { stamp = stamp; value = value }) (λ h. record h { value = int_max h.value value }) held
+    let new : HeldTotal = record { stamp = stamp; value = value } in
+    entered (λ h. h.stamp) new (λ h. record h { value = int_max h.value value }) held
 
--- a spike holds a record's value as a total, and sets a timer for when it is due; a late record only counts as late
+-- a spike holds a record's value as a total, and sets a timer for when it is due;
+-- a late record only counts as late
 abbrev pub spike_record : ℕ → List HeldTotal → List ℤ → Record → Outcome
 spike_record late held known item = if item.late
     then unchanged (states.Spike (one_more late) held known)
-    else outcome_with_timer (states.Spike late (held_with held item.stamp item.value) known) (due_time item.stamp) item
+    else let due = due_time item.stamp in
+    outcome_with_timer (states.Spike late (held_with held item.stamp item.value) known) due item
 
 -- the first held total that is due at the timer's time, where the timer has the tag 0
 abbrev pub total_due : List HeldTotal → Timer → Option HeldTotal
@@ -119,17 +135,22 @@ spike_timer last times key late held known None = unchanged (states.Spike late h
 spike_timer last times key late held known (Some due) =
     let rest = filter (λ h. not (h.stamp == due.stamp)) held in
     let state = states.Spike late rest (known_with last known due.value) in
-    if is_spike last times known due.value then outcome_with_record state key (due_time due.stamp) due.value else unchanged state
+    if is_spike last times known due.value
+    then outcome_with_record state key (due_time due.stamp) due.value
+    else unchanged state
 
 -- a pass produces each record again, under the record's own key, and counts the late ones
 abbrev pub pass_record : ℕ → Record → Outcome
 pass_record late item =
-    outcome_with_record (states.Pass (if item.late then one_more late else late)) item.key item.stamp item.value
+    let state = states.Pass (if item.late then one_more late else late) in
+    outcome_with_record state item.key item.stamp item.value
 
 -- what a part of this kind leaves of a record, by its row's key and state
 abbrev pub effects_of_record : Kind → List ℕ → State → Record → Outcome
-effects_of_record (kinds.Count size) key (states.Count late windows) item = count_record size late windows item
-effects_of_record (kinds.Spike last times) key (states.Spike late held known) item = spike_record late held known item
+effects_of_record (kinds.Count size) key (states.Count late windows) item =
+    count_record size late windows item
+effects_of_record (kinds.Spike last times) key (states.Spike late held known) item =
+    spike_record late held known item
 effects_of_record kinds.Pass key (states.Pass late) item = pass_record late item
 effects_of_record _ _ state _ = unchanged state
 

@@ -29,18 +29,21 @@ pub record IsLawful (stamp : ℕ) (late : Bool) (MayHave : State → Type 0) (o 
   pub few_productions : length o.productions ≤ 8
 
 -- what each record leaves is lawful, in a row that is within bounds and may have its state
-abbrev pub LawfulAtRecords : {C : Type 0} → (C → ℕ → State → Type 0) → (C → ℕ → List ℕ → State → Record → Outcome) → Type 0
+abbrev pub LawfulAtRecords : {C : Type 0} → (C → ℕ → State → Type 0) →
+    (C → ℕ → List ℕ → State → Record → Outcome) → Type 0
 LawfulAtRecords {C} has gives = (c : C) (part : ℕ) (key : List ℕ) (state : State) (item : Record) →
     has c part state → IsWithin state → item.stamp ≤ MAX_STAMP →
     IsLawful item.stamp item.late (has c part) (gives c part key state item)
 
 -- what each timer leaves is lawful, in a row that is within bounds and may have its state
-abbrev pub LawfulAtTimers : {C : Type 0} → (C → ℕ → State → Type 0) → (C → ℕ → List ℕ → State → Timer → Outcome) → Type 0
+abbrev pub LawfulAtTimers : {C : Type 0} → (C → ℕ → State → Type 0) →
+    (C → ℕ → List ℕ → State → Timer → Outcome) → Type 0
 LawfulAtTimers {C} has gives = (c : C) (part : ℕ) (key : List ℕ) (state : State) (timer : Timer) →
     has c part state → IsWithin state → timer.time ≤ MAX_STAMP →
     IsLawful timer.time timer.late (has c part) (gives c part key state timer)
 
 -- a timer sets no timer
-abbrev pub SetsNoneAtTimers : {C : Type 0} → (C → ℕ → State → Type 0) → (C → ℕ → List ℕ → State → Timer → Outcome) → Type 0
+abbrev pub SetsNoneAtTimers : {C : Type 0} → (C → ℕ → State → Type 0) →
+    (C → ℕ → List ℕ → State → Timer → Outcome) → Type 0
 SetsNoneAtTimers {C} has gives = (c : C) (part : ℕ) (key : List ℕ) (state : State) (timer : Timer) →
     has c part state → IsWithin state → timer.time ≤ MAX_STAMP → (gives c part key state timer).timers ≡ []

@@ -1,5 +1,6 @@
 -- Which part of a topology has which kind of computation. Own.
-use Rattle.std.specs.Prelude.{◌≡◌, ℕ, ◌-◌, nat_lt, if◌then◌else◌, List, slice_get, Option, None, Some, ⊤}
+use Rattle.std.specs.Prelude.{◌≡◌, ℕ, ◌-◌, true, nat_lt, if◌then◌else◌, ⊤}
+use Rattle.std.specs.Prelude.{List, slice_get, Option, None, Some}
 use Rattle.std.specs.Option.{option_map_or}
 use Rattle.mw_types.specs.declared.kind.Kind.{Kind}
 use Rattle.mw_types.specs.declared.kind.Kind.TheVariants as kinds
@@ -8,7 +9,7 @@ use Rattle.mw_types.specs.declared.record.Record.{Record}
 use Rattle.mw_types.specs.declared.timer.Timer.{Timer}
 use Rattle.mw_types.specs.Kinds.{IsKind}
 use Rattle.mw_types.specs.Outcomes.{Outcome}
-use Rattle.computations.specs.Handlers.{IsOfKind, unchanged, effects_of_record, effects_of_timer}
+use Rattle.computations.specs.Handlers.{has_kind, unchanged, effects_of_record, effects_of_timer}
 
 -- the parts by number: so many injectors, and then the computations, by kind
 pub record Parts : Type 0 where
@@ -17,11 +18,13 @@ pub record Parts : Type 0 where
 
 -- the kind of a part, where it is a computation
 abbrev pub kind_at : Parts → ℕ → Option Kind
-kind_at parts part = if nat_lt part parts.injectors then None else slice_get parts.kinds (part - parts.injectors)
+kind_at parts part =
+    if nat_lt part parts.injectors then None else slice_get parts.kinds (part - parts.injectors)
 
 -- the part is a computation, whose kind is in range, and a row of it may have the state
 abbrev pub HasState : Parts → ℕ → State → Type 0
-HasState parts part state = (kind : Kind) × (kind_at parts part ≡ Some kind) × IsKind kind × IsOfKind kind state
+HasState parts part state =
+    (kind : Kind) × (kind_at parts part ≡ Some kind) × IsKind kind × (has_kind kind state ≡ true)
 
 -- what a part leaves of a record; a part that is no computation changes nothing
 abbrev pub part_record : Parts → ℕ → List ℕ → State → Record → Outcome

@@ -19,7 +19,7 @@ use Rattle.mw_types.specs.declared.entry.Entry.TheVariants.{Claim, Inject, Handl
 use Rattle.mw_types.specs.Outcomes.{Outcome}
 use Rattle.topology.specs.declared.subscription.Subscription.{Subscription}
 use Rattle.topology.specs.Shapes.{Shape, injectors_of, parts_of, kind_of}
-use Rattle.computations.specs.Handlers.{IsOfKind, fresh_state, unchanged, outcome_with_timer, outcome_with_record, one_more, window_end, counted, window_due, count_timer, due_time, held_with, total_due, is_spike, known_with, spike_timer, effects_of_record, effects_of_timer}
+use Rattle.computations.specs.Handlers.{has_kind, fresh_state, unchanged, outcome_with_timer, outcome_with_record, one_more, window_end, counted, window_due, count_timer, due_time, held_with, total_due, is_spike, known_with, spike_timer, effects_of_record, effects_of_timer}
 use Rattle.row_parts.specs.Contents.{Contents, same_id}
 use Rattle.run_history.specs.Cases.{CaseShape, is_injector, fresh_of}
 use Rattle.run_history.specs.Made.{row_written, late_cause, productions_of, deliveries_of, deliveries_made}
@@ -38,79 +38,79 @@ use Rattle.history_laws.proofs.UnfinishedLaws.{legal-within}
 -- ---- handlers keep the kind of a state
 
 -- a window that closes keeps the kind
-count_timer-kind : (size : ℕ) (key : List ℕ) (late : ℕ) (windows : List Window) (due : Option Window) → IsOfKind (kinds.Count size) (count_timer key late windows due).state
-count_timer-kind size key late windows None = tt
-count_timer-kind size key late windows (Some due) = tt
+count_timer-kind : (size : ℕ) (key : List ℕ) (late : ℕ) (windows : List Window) (due : Option Window) → has_kind (kinds.Count size) (count_timer key late windows due).state ≡ true
+count_timer-kind size key late windows None = refl
+count_timer-kind size key late windows (Some due) = refl
 
 -- a total that is due keeps the kind
 spike_timer-kind : (last times : ℕ) (key : List ℕ) (late : ℕ) (held : List HeldTotal) (known : List ℤ) (due : Option HeldTotal)
-    → IsOfKind (kinds.Spike last times) (spike_timer last times key late held known due).state
-spike_timer-kind last times key late held known None = tt
+    → has_kind (kinds.Spike last times) (spike_timer last times key late held known due).state ≡ true
+spike_timer-kind last times key late held known None = refl
 spike_timer-kind last times key late held known (Some due) =
     let state = states.Spike late (filter (λ h. not (h.stamp == due.stamp)) held) (known_with last known due.value) in
-    elim (is_spike last times known due.value) as (λ b. IsOfKind (kinds.Spike last times) (cond b (outcome_with_record state key (due_time due.stamp) due.value) (unchanged state)).state) [ true ↦ tt | false ↦ tt ]
+    elim (is_spike last times known due.value) as (λ b. has_kind (kinds.Spike last times) (cond b (outcome_with_record state key (due_time due.stamp) due.value) (unchanged state)).state ≡ true) [ true ↦ refl | false ↦ refl ]
 
 -- a record keeps the kind
-record-kind : (kind : Kind) (key : List ℕ) (state : State) (item : Record) → IsOfKind kind state → IsOfKind kind (effects_of_record kind key state item).state
+record-kind : (kind : Kind) (key : List ℕ) (state : State) (item : Record) → has_kind kind state ≡ true → has_kind kind (effects_of_record kind key state item).state ≡ true
 record-kind (kinds.Count size) key (states.Count late windows) item of =
-    elim item.late as (λ b. IsOfKind (kinds.Count size) (cond b (unchanged (states.Count (one_more late) windows)) (outcome_with_timer (states.Count late (counted windows (window_end size item.stamp))) (window_end size item.stamp) item)).state) [ true ↦ tt | false ↦ tt ]
+    elim item.late as (λ b. has_kind (kinds.Count size) (cond b (unchanged (states.Count (one_more late) windows)) (outcome_with_timer (states.Count late (counted windows (window_end size item.stamp))) (window_end size item.stamp) item)).state ≡ true) [ true ↦ refl | false ↦ refl ]
 record-kind (kinds.Spike last times) key (states.Spike late held known) item of =
-    elim item.late as (λ b. IsOfKind (kinds.Spike last times) (cond b (unchanged (states.Spike (one_more late) held known)) (outcome_with_timer (states.Spike late (held_with held item.stamp item.value) known) (due_time item.stamp) item)).state) [ true ↦ tt | false ↦ tt ]
-record-kind kinds.Pass key (states.Pass late) item of = tt
-record-kind (kinds.Count size) key (states.Injector cursor) item of = absurd of
-record-kind (kinds.Count size) key (states.Spike late held known) item of = absurd of
-record-kind (kinds.Count size) key (states.Pass late) item of = absurd of
-record-kind (kinds.Spike last times) key (states.Injector cursor) item of = absurd of
-record-kind (kinds.Spike last times) key (states.Count late windows) item of = absurd of
-record-kind (kinds.Spike last times) key (states.Pass late) item of = absurd of
-record-kind kinds.Pass key (states.Injector cursor) item of = absurd of
-record-kind kinds.Pass key (states.Count late windows) item of = absurd of
-record-kind kinds.Pass key (states.Spike late held known) item of = absurd of
+    elim item.late as (λ b. has_kind (kinds.Spike last times) (cond b (unchanged (states.Spike (one_more late) held known)) (outcome_with_timer (states.Spike late (held_with held item.stamp item.value) known) (due_time item.stamp) item)).state ≡ true) [ true ↦ refl | false ↦ refl ]
+record-kind kinds.Pass key (states.Pass late) item of = refl
+record-kind (kinds.Count size) key (states.Injector cursor) item of = absurd cc
+record-kind (kinds.Count size) key (states.Spike late held known) item of = absurd cc
+record-kind (kinds.Count size) key (states.Pass late) item of = absurd cc
+record-kind (kinds.Spike last times) key (states.Injector cursor) item of = absurd cc
+record-kind (kinds.Spike last times) key (states.Count late windows) item of = absurd cc
+record-kind (kinds.Spike last times) key (states.Pass late) item of = absurd cc
+record-kind kinds.Pass key (states.Injector cursor) item of = absurd cc
+record-kind kinds.Pass key (states.Count late windows) item of = absurd cc
+record-kind kinds.Pass key (states.Spike late held known) item of = absurd cc
 
 -- and so does a timer
-timer-kind : (kind : Kind) (key : List ℕ) (state : State) (timer : Timer) → IsOfKind kind state → IsOfKind kind (effects_of_timer kind key state timer).state
+timer-kind : (kind : Kind) (key : List ℕ) (state : State) (timer : Timer) → has_kind kind state ≡ true → has_kind kind (effects_of_timer kind key state timer).state ≡ true
 timer-kind (kinds.Count size) key (states.Count late windows) timer of = count_timer-kind size key late windows (window_due windows timer)
 timer-kind (kinds.Spike last times) key (states.Spike late held known) timer of = spike_timer-kind last times key late held known (total_due held timer)
 timer-kind kinds.Pass key state timer of = of
-timer-kind (kinds.Count size) key (states.Injector cursor) timer of = absurd of
-timer-kind (kinds.Count size) key (states.Spike late held known) timer of = absurd of
-timer-kind (kinds.Count size) key (states.Pass late) timer of = absurd of
-timer-kind (kinds.Spike last times) key (states.Injector cursor) timer of = absurd of
-timer-kind (kinds.Spike last times) key (states.Count late windows) timer of = absurd of
-timer-kind (kinds.Spike last times) key (states.Pass late) timer of = absurd of
+timer-kind (kinds.Count size) key (states.Injector cursor) timer of = absurd cc
+timer-kind (kinds.Count size) key (states.Spike late held known) timer of = absurd cc
+timer-kind (kinds.Count size) key (states.Pass late) timer of = absurd cc
+timer-kind (kinds.Spike last times) key (states.Injector cursor) timer of = absurd cc
+timer-kind (kinds.Spike last times) key (states.Count late windows) timer of = absurd cc
+timer-kind (kinds.Spike last times) key (states.Pass late) timer of = absurd cc
 
 -- a fresh state is of its kind
-fresh-kind : (kind : Kind) → IsOfKind kind (fresh_state kind)
-fresh-kind (kinds.Count size) = tt
-fresh-kind (kinds.Spike last times) = tt
-fresh-kind kinds.Pass = tt
+fresh-kind : (kind : Kind) → has_kind kind (fresh_state kind) ≡ true
+fresh-kind (kinds.Count size) = refl
+fresh-kind (kinds.Spike last times) = refl
+fresh-kind kinds.Pass = refl
 
 -- a fresh row's state is of the kind of its part
 fresh_of-kind : (shape : Shape) (part : ℕ) → IsStateOf shape part (fresh_of shape part)
 fresh_of-kind shape part = by_kind (kind_of shape part)
   where
-    by_kind : (o : Option Kind) → MatchOption o (IsCursor (option_map_or fresh_state o (states.Injector 0))) (λ kind. IsOfKind kind (option_map_or fresh_state o (states.Injector 0)))
+    by_kind : (o : Option Kind) → MatchOption o (IsCursor (option_map_or fresh_state o (states.Injector 0))) (λ kind. has_kind kind (option_map_or fresh_state o (states.Injector 0)) ≡ true)
     by_kind None = tt
     by_kind (Some kind) = fresh-kind kind
 
 -- a state of a computation is of its kind
-pub of_kind : (shape : Shape) (part : ℕ) (kind : Kind) (state : State) → kind_of shape part ≡ Some kind → IsStateOf shape part state → IsOfKind kind state
-of_kind shape part kind state is of = subst (λ o. MatchOption o (IsCursor state) (λ kind. IsOfKind kind state)) is of
+pub of_kind : (shape : Shape) (part : ℕ) (kind : Kind) (state : State) → kind_of shape part ≡ Some kind → IsStateOf shape part state → has_kind kind state ≡ true
+of_kind shape part kind state is of = subst (λ o. MatchOption o (IsCursor state) (λ kind. has_kind kind state ≡ true)) is of
 
 -- and back
-kind_of-state : (shape : Shape) (part : ℕ) (kind : Kind) (state : State) → kind_of shape part ≡ Some kind → IsOfKind kind state → IsStateOf shape part state
-kind_of-state shape part kind state is of = subst (λ o. MatchOption o (IsCursor state) (λ kind. IsOfKind kind state)) (sym is) of
+kind_of-state : (shape : Shape) (part : ℕ) (kind : Kind) (state : State) → kind_of shape part ≡ Some kind → has_kind kind state ≡ true → IsStateOf shape part state
+kind_of-state shape part kind state is of = subst (λ o. MatchOption o (IsCursor state) (λ kind. has_kind kind state ≡ true)) (sym is) of
 
 -- an injector's next state is of the same kind of part
 advanced-kind : (shape : Shape) (part : ℕ) (state : State) → IsStateOf shape part state → IsStateOf shape part (advanced state)
 advanced-kind shape part (states.Injector cursor) of = by_kind (kind_of shape part) of
   where
-    by_kind : (o : Option Kind) → MatchOption o (IsCursor (states.Injector cursor)) (λ kind. IsOfKind kind (states.Injector cursor))
-        → MatchOption o (IsCursor (states.Injector (cursor + 1))) (λ kind. IsOfKind kind (states.Injector (cursor + 1)))
+    by_kind : (o : Option Kind) → MatchOption o (IsCursor (states.Injector cursor)) (λ kind. has_kind kind (states.Injector cursor) ≡ true)
+        → MatchOption o (IsCursor (states.Injector (cursor + 1))) (λ kind. has_kind kind (states.Injector (cursor + 1)) ≡ true)
     by_kind None of = tt
-    by_kind (Some (kinds.Count size)) of = absurd of
-    by_kind (Some (kinds.Spike last times)) of = absurd of
-    by_kind (Some kinds.Pass) of = absurd of
+    by_kind (Some (kinds.Count size)) of = absurd cc
+    by_kind (Some (kinds.Spike last times)) of = absurd cc
+    by_kind (Some kinds.Pass) of = absurd cc
 advanced-kind shape part (states.Count late windows) of = of
 advanced-kind shape part (states.Spike late held known) of = of
 advanced-kind shape part (states.Pass late) of = of
@@ -125,14 +125,14 @@ changed-kind case run (Handle seq row id effects) sent name may written of =
     let here : IsStateOf case.topology row.part (row_of case.topology run row).state = subst (λ (n : RowName). IsStateOf case.topology n.part (row_of case.topology run n).state) (sym (some_same row name written)) of in
     subst (λ (n : RowName). IsStateOf case.topology n.part effects.state) (some_same row name written)
     (kind_of-state case.topology row.part kind.0 effects.state kind.1
-    (subst (λ (o : Outcome). IsOfKind kind.0 o.state) kind.2
+    (subst (λ (o : Outcome). has_kind kind.0 o.state ≡ true) kind.2
     (record-kind kind.0 row.key (row_of case.topology run row).state may.delivery.item (of_kind case.topology row.part kind.0 (row_of case.topology run row).state kind.1 here))))
 changed-kind case run (Fire seq row timer mark effects) sent name may written of =
     let kind = was_some (λ (kind : Kind). effects_of_timer kind row.key (row_of case.topology run row).state timer) (kind_of case.topology row.part) effects may.does in
     let here : IsStateOf case.topology row.part (row_of case.topology run row).state = subst (λ (n : RowName). IsStateOf case.topology n.part (row_of case.topology run n).state) (sym (some_same row name written)) of in
     subst (λ (n : RowName). IsStateOf case.topology n.part effects.state) (some_same row name written)
     (kind_of-state case.topology row.part kind.0 effects.state kind.1
-    (subst (λ (o : Outcome). IsOfKind kind.0 o.state) kind.2
+    (subst (λ (o : Outcome). has_kind kind.0 o.state ≡ true) kind.2
     (timer-kind kind.0 row.key (row_of case.topology run row).state timer (of_kind case.topology row.part kind.0 (row_of case.topology run row).state kind.1 here))))
 changed-kind case run (Ack seq row id) sent name may written of = of
 changed-kind case run (Purge seq row floor) sent name may written of = of

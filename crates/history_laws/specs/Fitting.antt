@@ -1,11 +1,11 @@
 -- Which rows fit their names. Own.
-use Rattle.std.specs.Prelude.{◌≡◌, ℕ, ◌<◌, ◌≤◌, [], length, All, MatchOption, IsTrue, ⊤}
+use Rattle.std.specs.Prelude.{◌≡◌, ℕ, ◌<◌, ◌≤◌, true, [], length, All, MatchOption, IsTrue, ⊤}
 use Rattle.mw_types.specs.declared.identity.RowName.{RowName}
 use Rattle.mw_types.specs.declared.delivery.Delivery.{Delivery}
 use Rattle.mw_types.specs.declared.state.State.{State}
 use Rattle.mw_types.specs.declared.state.State.TheVariants as states
 use Rattle.topology.specs.Shapes.{Shape, injectors_of, parts_of, kind_of}
-use Rattle.computations.specs.Handlers.{IsOfKind}
+use Rattle.computations.specs.Handlers.{has_kind}
 use Rattle.row_parts.specs.Contents.{Contents}
 use Rattle.run_history.specs.Cases.{CaseShape, is_injector, source_of}
 use Rattle.run_history.specs.Watermarks.{cursor_in}
@@ -18,7 +18,7 @@ IsCursor _ = ⊥
 -- a state is of the kind of a part: a computation's is of its kind, and another part's is an injector's
 abbrev pub IsStateOf : Shape → ℕ → State → Type 0
 IsStateOf shape part state =
-    MatchOption (kind_of shape part) (IsCursor state) (λ kind. IsOfKind kind state)
+    MatchOption (kind_of shape part) (IsCursor state) (λ kind. has_kind kind state ≡ true)
 
 -- a delivery was made by one of so many entries, and goes to a computation
 pub record IsSendable (shape : Shape) (entries : ℕ) (d : Delivery) : Type 0 where

@@ -71,7 +71,7 @@ fresh_kept : (parts : Parts) (size : ℕ) → kind_at parts 1 ≡ Some (Count si
 unfolding IsStrictlySortedBy
 fresh_kept parts size kind within = record {
   within = (omega arith, record { ascending = tt; ends = All-nil _; counts = All-nil _; few = omega arith });
-  has = (Count size, kind, within, tt);
+  has = (Count size, kind, within, refl);
 }
 
 -- the state of a row of the count can be kept, there or fresh
