@@ -38,7 +38,7 @@ filter_twice {X} p q weaker (x ∷ xs) = by_tests (p x) (q x) refl (weaker x) (f
     by_tests false false e h more = more
 
 -- the names of the rows whose names pass a test
-keys_of-filter : (p : RowName → Bool) (rows : Rows) → keys_of (filter (λ row. p row.0) rows) ≡ filter p (keys_of rows)
+pub keys_of-filter : (p : RowName → Bool) (rows : Rows) → keys_of (filter (λ row. p row.0) rows) ≡ filter p (keys_of rows)
 keys_of-filter p [] = refl
 keys_of-filter p (row ∷ rows) = by_test (p row.0) (keys_of-filter p rows)
   where

@@ -1,10 +1,12 @@
 //! A keeper that tells nothing of its rows, and shows one row whatever was put.
-ghost use Rattle.std.specs.Prelude.{◌≡◌, ◌∷◌, [], if◌then◌else◌, Ok, None, IfErr, IfOk, IsOk};
+ghost use Rattle.std.specs.Prelude.{◌≡◌, ◌∷◌, [], All, if◌then◌else◌, map, true, Ok, None, IfErr, IfOk, IsOk};
 ghost use Rattle.key_intervals.specs.Intervals.{covers};
+ghost use Rattle.row_keeper.specs.Rows.{AreInOrder, entry_of};
+ghost use Rattle.row_keeper.specs.declared.keeper.KeptRow.{KeptRow};
 
 use crate::keeper::{Keeper, KeeperFault, KeptRow, KeptRowList};
 use key_intervals::Bounds;
-use mw_types::{Duplicate, RowName};
+use mw_types::{Duplicate, NoMemory, RowName};
 use std::alloc::Global;
 use std::marker::Model;
 
@@ -45,17 +47,16 @@ impl Keeper for BlindKeeper {
         Ok(())
     }
 
+    #[tactic(auto, using(crate::proofs::Answered::shown_covered))]
     fn scan(&mut self, alloc: Global, bounds: &Bounds) -> Result<KeptRowList, KeeperFault>
         ensures shown { IfOk result (λ found.
             found ≡ (if covers bounds.now self.old.name then self.old ∷ [] else [])) }
+        ensures covered { IfOk result (All (λ (row : KeptRow). covers bounds.now row.name ≡ true)) }
+        ensures ascending { IfOk result (λ found. AreInOrder (map entry_of found)) }
         ensures no_memory { IfErr result (λ fault. fault ≡ KeeperFault.NoMemory) }
         ensures unchanged { self.new ≡ self.old }
     {
-        let mut found = KeptRowList::new(alloc);
-        if bounds.covers(&self.row.name) {
-            found.push(self.row.copy(alloc)?)?;
-        }
-        Ok(found)
+        Ok(shown(alloc, &self.row, bounds)?)
     }
 
     fn first(&mut self, _alloc: Global) -> Result<Option<KeptRow>, KeeperFault>
@@ -64,4 +65,16 @@ impl Keeper for BlindKeeper {
     {
         Ok(None)
     }
+}
+
+// The row, where the interval has it.
+fn shown(alloc: Global, row: &KeptRow, bounds: &Bounds) -> Result<KeptRowList, NoMemory>
+    ensures { IfOk result (λ found.
+        found ≡ (if covers bounds.now row.now.name then row.now ∷ [] else [])) }
+{
+    let mut found = KeptRowList::new(alloc);
+    if bounds.covers(&row.name) {
+        found.push(row.copy(alloc)?)?;
+    }
+    Ok(found)
 }

@@ -1,8 +1,8 @@
 //! What every keeper of rows does.
-ghost use Rattle.std.specs.Prelude.{◌≡◌, ℕ, Option, map, slice_get, option_map, IfOk, IfSome, OnErr, OnOk};
+ghost use Rattle.std.specs.Prelude.{◌≡◌, ℕ, All, Option, map, slice_get, option_map, true, IfOk, IfSome, OnErr, OnOk};
 ghost use Rattle.mw_types.specs.Causes.{HasCause};
 ghost use Rattle.row_keeper.specs.Rows.{Rows, AreInOrder, entry_of, with_row};
-ghost use Rattle.key_intervals.specs.Intervals.{rows_covered};
+ghost use Rattle.key_intervals.specs.Intervals.{covers, rows_covered};
 
 use key_intervals::Bounds;
 use mw_types::{Bytes, Duplicate, NoMemory, RowName, Seq};
@@ -65,10 +65,13 @@ pub trait Keeper: Drop {
         ensures ordered { IfSome (rows self.new) AreInOrder }
         ensures failed { HasCause (faults self.old) (faults self.new) result KeeperFault.Failed };
 
-    /// The rows of an interval, ascending by name.
+    /// The rows of an interval, ascending by name. Any keeper keeps to the interval and the order, also
+    /// one that does not tell its rows.
     fn scan(&mut self, alloc: Global, bounds: &Bounds) -> Result<KeptRowList, KeeperFault>
         ensures within { IfOk result (λ found. IfSome (rows self.old)
             (λ held. map entry_of found ≡ rows_covered bounds.now held)) }
+        ensures covered { IfOk result (All (λ (row : KeptRow). covers bounds.now row.name ≡ true)) }
+        ensures ascending { IfOk result (λ found. AreInOrder (map entry_of found)) }
         ensures unchanged { rows self.new ≡ rows self.old }
         ensures ordered { IfSome (rows self.new) AreInOrder }
         ensures failed { HasCause (faults self.old) (faults self.new) result KeeperFault.Failed };

@@ -1,9 +1,10 @@
 //! A keeper in memory, which tells its rows and fails at named calls.
-ghost use Rattle.std.specs.Prelude.{◌≡◌, [], map, slice_get, option_map, IfOk, OnErr, OnOk};
+ghost use Rattle.std.specs.Prelude.{◌≡◌, [], All, map, slice_get, option_map, true, IfOk, OnErr, OnOk};
 ghost use Rattle.mw_types.specs.Orders.{row_cmp};
 ghost use Rattle.row_keeper.specs.Rows.{AreInOrder, entry_of, with_row};
-ghost use Rattle.key_intervals.specs.Intervals.{rows_covered};
+ghost use Rattle.key_intervals.specs.Intervals.{covers, rows_covered};
 ghost use Rattle.row_keeper.specs.Memory.{CountsCall};
+ghost use Rattle.row_keeper.specs.declared.keeper.KeptRow.{KeptRow};
 
 use crate::calls::Calls;
 use crate::keeper::{Keeper, KeeperFault, KeptRow, KeptRowList};
@@ -84,9 +85,12 @@ impl Keeper for MemKeeper {
         Ok(())
     }
 
+    #[tactic(auto, using(crate::proofs::Answered::found_covered, crate::proofs::Answered::found_ascending))]
     fn scan(&mut self, alloc: Global, bounds: &Bounds) -> Result<KeptRowList, KeeperFault>
         ensures within { IfOk result (λ found.
             map entry_of found ≡ rows_covered bounds.now self.old.rows) }
+        ensures covered { IfOk result (All (λ (row : KeptRow). covers bounds.now row.name ≡ true)) }
+        ensures ascending { IfOk result (λ found. AreInOrder (map entry_of found)) }
         ensures unchanged { self.new.rows ≡ self.old.rows }
         ensures ordered { AreInOrder self.new.rows }
         ensures counts { CountsCall self.old self.new result }
