@@ -1,4 +1,3 @@
 pub mod Growth
-pub mod Texts
 pub mod Splitting
-pub mod Plainness
+pub mod ShortForms

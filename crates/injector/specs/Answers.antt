@@ -1,13 +1,9 @@
 -- How the functions that read a line answer. No public clause cites this module.
-use Rattle.std.specs.Prelude.{◌≡◌, ◌≤◌, ℕ, ⊤, Option, Some, None, Result, Ok, Err}
-use Rattle.serde_json.specs.Data.{Data}
-use Rattle.serde_json.specs.View.{view}
-use Rattle.serde_json.specs.declared.value.Value.{Value}
+use Rattle.std.specs.Prelude.{◌≡◌, ◌≤◌, ℕ, ⊤, Result, Ok, Err}
 use Rattle.mw_types.specs.declared.TheConstants.{INPUT_MAX}
 use Rattle.injector.specs.declared.reading.LineKind.{LineKind}
 use Rattle.injector.specs.declared.reading.LineKind.TheVariants.{Blank, Watermark, Record}
 use Rattle.injector.specs.declared.refusal.LineWhy.{LineWhy}
-use Rattle.injector.specs.declared.refusal.LineWhy.TheVariants.{NotJson}
 use Rattle.injector.specs.declared.refusal.LineRefusal.{LineRefusal}
 use Rattle.injector.specs.declared.refusal.LineRefusal.TheVariants.{Breaks, NoMemory}
 use Rattle.injector.specs.declared.refusal.LinesRefusal.{LinesRefusal}
@@ -19,12 +15,6 @@ abbrev pub Gives : {A : Type 0} → Result A LineRefusal → Result A LineWhy �
 Gives (Ok x) reading = reading ≡ Ok x
 Gives (Err (Breaks why)) reading = reading ≡ Err why
 Gives (Err NoMemory) reading = ⊤
-
--- the answer is the value, or that there is none, unless memory was wanting
-abbrev pub ReadsAs : Result Value LineRefusal → Option Data → Type 0
-ReadsAs (Ok value) found = found ≡ Some (view value)
-ReadsAs (Err (Breaks why)) found = (found ≡ None) × (why ≡ NotJson)
-ReadsAs (Err NoMemory) found = ⊤
 
 -- the refusal of a line as that of its file
 abbrev pub refusal_at : ℕ → LineRefusal → LinesRefusal

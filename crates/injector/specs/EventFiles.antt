@@ -1,5 +1,5 @@
 -- What an event file holds: its record lines in order, each behind the watermark lines before it. Own.
-use Rattle.std.specs.Prelude.{◌≡◌, ◌≢◌, ℕ, ◌+◌, ◌-◌, ◌==◌, ℤ, List, [], ◌∷◌, length, map, max, take, nat_lt, slice_index, if◌then◌else◌, Result, Ok, Err}
+use Rattle.std.specs.Prelude.{ℕ, ◌+◌, ◌-◌, ◌==◌, ℤ, List, [], ◌∷◌, length, map, max, take, nat_lt, slice_index, if◌then◌else◌, Result, Ok, Err}
 use Rattle.std.specs.List.{slice_split}
 use Rattle.injector.specs.Sources.{SourceLine, Source}
 use Rattle.injector.specs.declared.item.Item.{Item}
@@ -9,7 +9,7 @@ use Rattle.injector.specs.declared.reading.LineKind.TheVariants.{Blank, Watermar
 use Rattle.injector.specs.declared.refusal.LineWhy.{LineWhy}
 use Rattle.injector.specs.declared.refusal.LineWhy.TheVariants.{TooManyLines}
 use Rattle.injector.specs.declared.refusal.LinesRefusal.{LinesRefusal}
-use Rattle.injector.specs.declared.refusal.LinesRefusal.TheVariants.{Line, NoMemory}
+use Rattle.injector.specs.declared.refusal.LinesRefusal.TheVariants.{Line}
 
 -- the last part of a text is a line where it is not empty
 abbrev pub last_line : List ℕ → List (List ℕ)
@@ -31,8 +31,8 @@ abbrev pub lines_of : List ℕ → List (List ℕ)
 lines_of bytes = map without_return (without_empty_end (slice_split (λ b. b == 10) bytes))
 
 -- the line of this record, behind this watermark
-abbrev pub line_of : Item → ℕ → SourceLine
-line_of item mark = record { item = item; stated = mark }
+abbrev pub source_line : Item → ℕ → SourceLine
+source_line item mark = record { item = item; stated = mark }
 
 -- a record behind a watermark, late exactly where it is below
 abbrev pub item_of : ℕ → List ℕ → ℕ → ℤ → Item
@@ -53,7 +53,7 @@ with_line n room mark (Ok Blank) rest = rest room mark
 with_line n room mark (Ok (Watermark stamp)) rest = rest room (max mark stamp)
 with_line n room mark (Ok (Record key stamp value)) rest =
     if room == 0 then Err (Line n TooManyLines)
-    else before (line_of (item_of mark key stamp value) mark) (rest (room - 1) mark)
+    else before (source_line (item_of mark key stamp value) mark) (rest (room - 1) mark)
 
 -- what the lines from this number on hold, with this room and under the greatest watermark so far
 abbrev pub source_from : ℕ → ℕ → ℕ → List (List ℕ) → Result Source LinesRefusal
@@ -62,9 +62,5 @@ source_from n room mark (line ∷ lines) =
     with_line n room mark (line_reading line) (λ left greatest. source_from (n + 1) left greatest lines)
 
 -- what a file holds, or its first line, from 1, that breaks a rule, and the first rule that it breaks
-abbrev pub source_of : ℕ → List ℕ → Result Source LinesRefusal
-source_of room bytes = source_from 1 room 0 (lines_of bytes)
-
--- a refusal is that of the file, unless memory was wanting
-abbrev pub IsRefusalOf : Result Source LinesRefusal → LinesRefusal → Type 0
-IsRefusalOf whole refusal = refusal ≢ NoMemory → whole ≡ Err refusal
+abbrev pub source_in : ℕ → List ℕ → Result Source LinesRefusal
+source_in room bytes = source_from 1 room 0 (lines_of bytes)

@@ -4,28 +4,19 @@
 use Rattle.std.specs.Prelude.{ℕ, ◌==◌, ◌||◌, ◌&&◌, ℤ, pos, List, length, Bool, nat_lt, nat_le, if◌then◌else◌, codes, Option, Some, None, option_and_then, Result, Ok, Err}
 use Rattle.std.specs.Option.{option_map_or, ok_or, is_some}
 use Rattle.std.specs.List.{list_all}
-use Rattle.std.specs.Str.{is_utf8}
 use Rattle.serde_json.specs.Data.{Data}
-use Rattle.serde_json.specs.Read.{read}
 use Rattle.serde_json.specs.Find.{get, as_object, as_number, as_str, as_u64, as_i64}
 use Rattle.mw_types.specs.declared.TheConstants.{INPUT_MAX}
+use Rattle.json_reading.specs.Texts.{json_of}
+use Rattle.json_reading.specs.Refusals.{and_then}
 use Rattle.injector.specs.declared.refusal.LineWhy.{LineWhy}
 use Rattle.injector.specs.declared.refusal.LineWhy.TheVariants.{NotJson, NotObject, BadKey, BadStamp, BadValue}
 use Rattle.injector.specs.declared.reading.LineKind.{LineKind}
 use Rattle.injector.specs.declared.reading.LineKind.TheVariants.{Blank, Watermark, Record}
 
--- what the second gives of what the first gave, or why the first gave nothing
-abbrev pub and_then : {A B : Type 0} → Result A LineWhy → (A → Result B LineWhy) → Result B LineWhy
-and_then (Ok x) f = f x
-and_then (Err why) f = Err why
-
 -- a line of spaces and tabs alone, or of nothing
 abbrev pub is_blank : List ℕ → Bool
 is_blank line = list_all (λ b. (b == 32) || (b == 9)) line
-
--- the value of a line that is one JSON text in UTF-8
-abbrev pub json_of : List ℕ → Option Data
-json_of line = if is_utf8 line then read line else None
 
 -- a text, where it has 1 to 256 bytes
 abbrev pub key_within : List ℕ → Option (List ℕ)

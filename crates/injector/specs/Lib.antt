@@ -3,4 +3,4 @@ pub mod EventLines
 pub mod EventFiles
 pub mod Answers
 pub mod Progress
-pub mod PlainLines
+pub mod ShortForm

@@ -2,7 +2,7 @@
 ghost use Rattle.std.specs.Prelude.{◌≡◌, ◌++◌, ◌∷◌, ◌+◌, ◌^◌, ◌<◌, ◌≤◌, [], All, length, nat_lt, OnErr, OnOk, Some};
 ghost use Rattle.mw_types.specs.declared.TheConstants.{INPUT_MAX};
 ghost use Rattle.injector.specs.Sources.{SourceLine, IsSource, item_at, stated_at};
-ghost use Rattle.injector.specs.EventFiles.{line_of};
+ghost use Rattle.injector.specs.EventFiles.{source_line};
 
 use crate::item::Item;
 use mw_types::{END, INPUT_MAX, NoMemory, Seq};
@@ -62,7 +62,7 @@ impl Items {
         requires rising { All (λ line. line.stated ≤ stated) self.old }
         requires lateness { item.late ≡ nat_lt item.stamp stated }
 
-        ensures appended { OnOk result (self.new ≡ self.old ++ line_of item stated ∷ []) }
+        ensures appended { OnOk result (self.new ≡ self.old ++ source_line item stated ∷ []) }
         ensures unchanged { OnErr result (self.new ≡ self.old) }
     {
         self.lines.push(Line { item, stated })?;

@@ -1,6 +1,7 @@
 //! What the lines of an event file hold together.
 ghost use Rattle.std.specs.Prelude.{◌≡◌, ◌^◌, ◌<◌, ◌∷◌, length, IfErr, IfOk, Ok};
-ghost use Rattle.injector.specs.EventFiles.{without_return, lines_of, source_of, IsRefusalOf};
+ghost use Rattle.json_reading.specs.Refusals.{IsRefusalOf};
+ghost use Rattle.injector.specs.EventFiles.{without_return, lines_of, source_in};
 ghost use Rattle.injector.specs.Answers.{refusal_at};
 
 use crate::items::Items;
@@ -47,8 +48,8 @@ fn refusal_at(line: u32, refusal: LineRefusal) -> LinesRefusal
 pub fn read_lines(alloc: Global, bytes: &[u8], room: u32) -> Result<Items, LinesRefusal>
     requires { length bytes.now < 2 ^ 32 }
 
-    ensures source { IfOk result (λ items. source_of room bytes.now ≡ Ok items) }
-    ensures refused { IfErr result (IsRefusalOf (source_of room bytes.now)) }
+    ensures source { IfOk result (λ items. source_in room bytes.now ≡ Ok items) }
+    ensures refused { IfErr result (IsRefusalOf LinesRefusal.NoMemory (source_in room bytes.now)) }
 {
     let mut progress = Progress::new(alloc, room);
     let mut rest = bytes;

@@ -5,11 +5,12 @@ ghost use Rattle.std.specs.Option.{option_map, ok_or};
 ghost use Rattle.serde_json.specs.Data.{Data};
 ghost use Rattle.serde_json.specs.Find.{get};
 ghost use Rattle.serde_json.specs.View.{view};
-ghost use Rattle.injector.specs.EventLines.{is_blank, as_stamp, as_value, key_in, stamp_in, value_in, record_in, watermark_in, object_reading, data_reading, line_reading, json_of};
-ghost use Rattle.injector.specs.Answers.{Gives, ReadsAs, IsInput};
+ghost use Rattle.injector.specs.EventLines.{is_blank, as_stamp, as_value, key_in, stamp_in, value_in, record_in, watermark_in, object_reading, data_reading, line_reading};
+ghost use Rattle.injector.specs.Answers.{Gives, IsInput};
 
-use crate::plain::plain_reading;
 use crate::refusal::{LineRefusal, LineWhy};
+use crate::short_form::short_reading;
+use json_reading::json_of;
 use mw_types::{INPUT_MAX, Key, KeyRefusal};
 use serde_json::Value;
 use std::alloc::Global;
@@ -136,22 +137,6 @@ fn data_reading(alloc: Global, line: &Value) -> Result<LineKind, LineRefusal>
     object_reading(alloc, line)
 }
 
-// The value of a line that is one JSON text.
-fn json_of(alloc: Global, line: &[u8]) -> Result<Value, LineRefusal>
-    ensures { ReadsAs result (json_of line.now) }
-{
-    match Value::from_slice(alloc, line) {
-        Ok(value) => Ok(value),
-        Err(error) => {
-            if error.is_memory() {
-                Err(LineRefusal::NoMemory)
-            } else {
-                Err(LineRefusal::Breaks(LineWhy::NotJson))
-            }
-        }
-    }
-}
-
 // What a line says in whatever spelling.
 fn any_reading(alloc: Global, line: &[u8]) -> Result<LineKind, LineRefusal>
     ensures reading { Gives result (line_reading line.now) }
@@ -160,7 +145,9 @@ fn any_reading(alloc: Global, line: &[u8]) -> Result<LineKind, LineRefusal>
     if is_blank(line) {
         return Ok(LineKind::Blank);
     }
-    let value = json_of(alloc, line)?;
+    let Some(value) = json_of(alloc, line)? else {
+        return Err(LineRefusal::Breaks(LineWhy::NotJson));
+    };
     data_reading(alloc, &value)
 }
 
@@ -169,8 +156,8 @@ pub fn line_reading(alloc: Global, line: &[u8]) -> Result<LineKind, LineRefusal>
     ensures reading { Gives result (line_reading line.now) }
     ensures bounded { IfOk result IsInput }
 {
-    // Most lines are spelt plainly, and a JSON reader takes several times as long for them.
-    match plain_reading(alloc, line)? {
+    // Most lines are in the short form, and a JSON reader takes several times as long for them.
+    match short_reading(alloc, line)? {
         Some(kind) => Ok(kind),
         None => any_reading(alloc, line),
     }

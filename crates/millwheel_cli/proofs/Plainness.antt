@@ -15,7 +15,7 @@ use Rattle.topology.specs.Shapes.{Shape, InjectorShape, ComputationShape, Readin
 use Rattle.topology.specs.Rules.{IsTopology, all_differ}
 use Rattle.computations.specs.Parts.{IsCount}
 use Rattle.plain_run.specs.Plain.{IsPlain, IsCounted}
-use Rattle.millwheel_cli.specs.Built.{is_count, is_by_key, reads_once, is_plain_count, are_built, is_built}
+use Rattle.millwheel_cli.specs.Built.{is_count, is_by_key, reads_once, are_built, is_built, is_built_count}
 use Rattle.millwheel_cli.specs.Inside.{subscribes_once}
 
 -- both of two that are true together
@@ -113,7 +113,7 @@ subscribes_once-map (r ∷ []) = refl
 subscribes_once-map (r ∷ (q ∷ qs)) = refl
 
 -- one injector, and a computation that is a plain count, which alone reads its stream
-counted_of : (i : InjectorShape) (c : ComputationShape) → IsTopology (two_parts i c) → IsTrue (is_plain_count c) → IsCounted (two_parts i c)
+counted_of : (i : InjectorShape) (c : ComputationShape) → IsTopology (two_parts i c) → IsTrue (is_built_count c) → IsCounted (two_parts i c)
 counted_of i c rules plain =
     let parts = both_true (is_count c.kind && reads_once c.reads) (length c.cuts == 0) plain in
     let halves = both_true (is_count c.kind) (reads_once c.reads) parts.0 in

@@ -4,12 +4,12 @@ use Rattle.mw_types.specs.Causes.{Rose}
 use Rattle.mw_ports.specs.Shelves.{Files}
 use Rattle.topology.specs.Shapes.{Shape}
 use Rattle.topology.specs.FileRules.{topology_of}
-use Rattle.injector.specs.EventFiles.{source_of}
+use Rattle.injector.specs.EventFiles.{source_in}
 use Rattle.millwheel_cli.specs.declared.status.Status.{Status}
 use Rattle.millwheel_cli.specs.declared.status.Status.TheVariants as status
 use Rattle.millwheel_cli.specs.declared.refusal.Refusal.{Refusal}
 use Rattle.millwheel_cli.specs.declared.refusal.Refusal.TheVariants.{Usage, NoFile, TopologyRefused, EventsRefused, SinkFails, NoMemory, ReadFault, TooLong, FileCount, NotBuilt}
-use Rattle.millwheel_cli.specs.Words.{Names, names_of, events_limit, lines_limit}
+use Rattle.millwheel_cli.specs.Words.{Names, events_limit, lines_limit, files_named}
 use Rattle.millwheel_cli.specs.Files.{HoldsTopology, source_taken}
 use Rattle.millwheel_cli.specs.Reasons.{ShelfSeen, IsUnread, IsFileRefused, IsTopologyRefused, IsRefused, HasReason}
 use Rattle.millwheel_cli.specs.Inside.{status_of, UnlessWant}
@@ -45,12 +45,12 @@ file_reason seen words NotBuilt apart is = is
 refused-usage : (seen : ShelfSeen) (words : List (List ℕ)) → IsRefused seen words status.Usage → ⊥
 refused-usage seen words is = elim is.why [
   | inl topology ↦ file-usage seen is.names.0 _ _ (λ bytes e. built_of-usage (topology_of bytes) e) topology
-  | inr source ↦ file-usage seen is.names.1 _ _ (λ bytes e. unstated_of-usage (source_of lines_limit bytes) e) source.refused
+  | inr source ↦ file-usage seen is.names.1 _ _ (λ bytes e. unstated_of-usage (source_in lines_limit bytes) e) source.refused
 ]
 
 -- why the topology's file was refused is why the call was
 pub topology_reason : (seen : ShelfSeen) (words : List (List ℕ)) (names : Names) (refusal : Refusal)
-    → names_of words ≡ Some names → UnlessWant (IsTopologyRefused seen names.0) refusal → HasReason seen words (status_of refusal)
+    → files_named words ≡ Some names → UnlessWant (IsTopologyRefused seen names.0) refusal → HasReason seen words (status_of refusal)
 topology_reason seen words names refusal named is = file_reason seen words refusal (refused-usage seen words)
     (unless_map (IsTopologyRefused seen names.0) (IsRefused seen words) refusal
     (λ s why. record { names = names; named = named; why = inl why }) is)
@@ -73,7 +73,7 @@ unread_over files f0 f1 f2 l0 l1 l2 name limit status.NotBuilt f l is = absurd i
 
 -- why the event file was refused is why the call was, where the topology was taken before
 items_reason_of : (files : Option Files) (f0 f1 f2 l0 l1 l2 : ℕ) (words : List (List ℕ)) (names : Names) (shape : Shape) (refusal : Refusal)
-    → names_of words ≡ Some names → HoldsTopology files names.0 shape → f0 ≤ f1 → l0 ≤ l1
+    → files_named words ≡ Some names → HoldsTopology files names.0 shape → f0 ≤ f1 → l0 ≤ l1
     → UnlessWant (IsFileRefused (record { files = files; faults = (f1, f2); lacks = (l1, l2) }) names.1 events_limit source_taken) refusal
     → HasReason (record { files = files; faults = (f0, f2); lacks = (l0, l2) }) words (status_of refusal)
 items_reason_of files f0 f1 f2 l0 l1 l2 words names shape refusal named topology f l is =
@@ -96,7 +96,7 @@ items_reason_of files f0 f1 f2 l0 l1 l2 words names shape refusal named topology
 
 -- so it is where the shelf's files stayed as they were
 pub items_reason : (files later : Option Files) (f0 f1 f2 l0 l1 l2 : ℕ) (words : List (List ℕ)) (names : Names) (shape : Shape) (refusal : Refusal)
-    → later ≡ files → names_of words ≡ Some names → HoldsTopology files names.0 shape → f0 ≤ f1 → l0 ≤ l1
+    → later ≡ files → files_named words ≡ Some names → HoldsTopology files names.0 shape → f0 ≤ f1 → l0 ≤ l1
     → UnlessWant (IsFileRefused (record { files = later; faults = (f1, f2); lacks = (l1, l2) }) names.1 events_limit source_taken) refusal
     → HasReason (record { files = files; faults = (f0, f2); lacks = (l0, l2) }) words (status_of refusal)
 items_reason files later f0 f1 f2 l0 l1 l2 words names shape refusal same named topology f l is =

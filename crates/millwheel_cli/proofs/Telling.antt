@@ -5,12 +5,13 @@ use Rattle.mw_types.specs.Causes.{Rose}
 use Rattle.mw_ports.specs.Shelves.{Files}
 use Rattle.mw_types.specs.declared.entry.Entry.{Entry}
 use Rattle.run_history.specs.Cases.{CaseShape}
+use Rattle.json_reading.specs.Refusals.{and_then}
 use Rattle.millwheel_cli.specs.declared.status.Status.{Status}
 use Rattle.millwheel_cli.specs.declared.status.Status.TheVariants.{Usage, NoFile, TopologyRefused, EventsRefused, SinkFault, NoMemory, ReadFault, TooLong, FileCount, NotBuilt}
 use Rattle.millwheel_cli.specs.declared.status.Status.TheVariants as status
-use Rattle.millwheel_cli.specs.Words.{Names, names_of, topology_limit, events_limit}
+use Rattle.millwheel_cli.specs.Words.{Names, topology_limit, events_limit, files_named}
 use Rattle.millwheel_cli.specs.Files.{HoldsAs, IsCaseRead, topology_taken, source_taken}
-use Rattle.millwheel_cli.specs.Reasons.{ShelfSeen, IsUnread, IsFileRefused, IsRefused, HasReason, and_then, file_within, file_as, ended, answer_for, answer_of}
+use Rattle.millwheel_cli.specs.Reasons.{ShelfSeen, IsUnread, IsFileRefused, IsRefused, HasReason, file_within, file_as, ended, answer_for, answer_of}
 use Rattle.millwheel_cli.specs.Answers.{HasWritten}
 
 -- what is said of the files where they are told is said of them
@@ -78,7 +79,7 @@ refused_as seen held name limit taken s told well is = elim is [
 ]
 
 -- the answer to words that name two files is that for the files
-answer_of-named : (held : Files) (words : List (List ℕ)) (names : Names) → names_of words ≡ Some names → answer_of held words ≡ answer_for held names
+answer_of-named : (held : Files) (words : List (List ℕ)) (names : Names) → files_named words ≡ Some names → answer_of held words ≡ answer_for held names
 answer_of-named held words names named = ap (λ (n : Option Names). option_map_or (answer_for held) n Usage) named
 
 -- a refused call is answered so
@@ -101,7 +102,7 @@ answer_read seen words held case told is = sym (answer_of-named held words is.na
     ∙ ap (λ found. ended found) (held_as seen.files held is.names.1 events_limit source_taken _ told is.events))
 
 -- words that name no files are answered with Usage
-answer_usage : (words : List (List ℕ)) (held : Files) → names_of words ≡ None → Usage ≡ answer_of held words
+answer_usage : (words : List (List ℕ)) (held : Files) → files_named words ≡ None → Usage ≡ answer_of held words
 answer_usage words held none = sym (ap (λ (n : Option Names). option_map_or (answer_for held) n Usage) none)
 
 -- over a shelf that tells its files, where nothing failed, the answer is that of the files, or memory was wanting

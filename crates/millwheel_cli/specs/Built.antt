@@ -24,13 +24,13 @@ reads_once (reading ∷ []) = is_by_key reading.by
 reads_once _ = false
 
 -- whether a computation is a count that reads once, by the whole key, and has no cuts
-abbrev pub is_plain_count : ComputationShape → Bool
-is_plain_count c = is_count c.kind && reads_once c.reads && (length c.cuts == 0)
+abbrev pub is_built_count : ComputationShape → Bool
+is_built_count c = is_count c.kind && reads_once c.reads && (length c.cuts == 0)
 
--- whether there is no computation, or one plain count
+-- whether there is no computation, or one such count
 abbrev pub are_built : List ComputationShape → Bool
 are_built [] = true
-are_built (c ∷ []) = is_plain_count c
+are_built (c ∷ []) = is_built_count c
 are_built (c ∷ (d ∷ ds)) = false
 
 -- whether a topology is run

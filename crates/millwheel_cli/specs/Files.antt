@@ -5,14 +5,14 @@ use Rattle.topology.specs.declared.refusal.TopologyRefusal.{TopologyRefusal}
 use Rattle.topology.specs.FileRules.{topology_of}
 use Rattle.topology.specs.Shapes.{Shape, injectors_of}
 use Rattle.injector.specs.Sources.{Source}
-use Rattle.injector.specs.EventFiles.{source_of}
+use Rattle.injector.specs.EventFiles.{source_in}
 use Rattle.injector.specs.declared.refusal.LinesRefusal.{LinesRefusal}
 use Rattle.injector.specs.declared.refusal.LinesRefusal.TheVariants.{Line}
 use Rattle.injector.specs.declared.refusal.LinesRefusal.TheVariants as lines
 use Rattle.run_history.specs.Cases.{CaseShape}
 use Rattle.millwheel_cli.specs.declared.status.Status.{Status}
 use Rattle.millwheel_cli.specs.declared.status.Status.TheVariants.{TopologyRefused, EventsRefused, FileCount, NoMemory, NotBuilt}
-use Rattle.millwheel_cli.specs.Words.{Names, names_of, topology_limit, events_limit, lines_limit}
+use Rattle.millwheel_cli.specs.Words.{Names, topology_limit, events_limit, lines_limit, files_named}
 use Rattle.millwheel_cli.specs.Built.{is_built, is_unstated}
 
 -- a topology that is read is taken where it has one injector, for the one event file, and is built
@@ -34,7 +34,7 @@ unstated_of (Ok source) = if is_unstated source then Ok source else Err NotBuilt
 
 -- the source that the bytes of an event file are taken for, or the status with which they are refused
 abbrev pub source_taken : List ℕ → Result Source Status
-source_taken bytes = unstated_of (source_of lines_limit bytes)
+source_taken bytes = unstated_of (source_in lines_limit bytes)
 
 -- the bytes are those of the file of that name, where the shelf tells its files
 abbrev pub IsContent : Option Files → List ℕ → List ℕ → Type 0
@@ -59,7 +59,7 @@ HoldsSource files name source = HoldsAs files name events_limit source_taken (Ok
 -- the case is that of the two files that the words name
 pub record IsCaseRead (files : Option Files) (words : List (List ℕ)) (case : CaseShape) : Type 0 where
   pub names : Names
-  pub named : names_of words ≡ Some names
+  pub named : files_named words ≡ Some names
   pub topology : HoldsTopology files names.0 case.topology
   pub source : Source
   pub events : HoldsSource files names.1 source

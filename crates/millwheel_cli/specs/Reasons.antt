@@ -3,11 +3,12 @@ use Rattle.std.specs.Prelude.{◌≡◌, ◌<◌, ◌⊎◌, ℕ, ⊤, List, len
 use Rattle.std.specs.Option.{option_map_or}
 use Rattle.mw_types.specs.Causes.{Rose}
 use Rattle.mw_ports.specs.Shelves.{Files}
+use Rattle.json_reading.specs.Refusals.{and_then}
 use Rattle.topology.specs.Shapes.{Shape}
 use Rattle.millwheel_cli.specs.declared.status.Status.{Status}
 use Rattle.millwheel_cli.specs.declared.status.Status.TheVariants.{Usage, NoFile, SinkFault, NoMemory, ReadFault, TooLong}
 use Rattle.millwheel_cli.specs.declared.status.Status.TheVariants as status
-use Rattle.millwheel_cli.specs.Words.{Names, names_of, topology_limit, events_limit}
+use Rattle.millwheel_cli.specs.Words.{Names, topology_limit, events_limit, files_named}
 use Rattle.millwheel_cli.specs.Files.{topology_taken, source_taken, HoldsAs, HoldsTopology}
 
 -- what a call saw of a shelf: its files, where it tells them, and how its counts stood before and after
@@ -43,7 +44,7 @@ pub record IsSourceRefused (seen : ShelfSeen) (names : Names) (status : Status) 
 -- one of the two files that the words name is refused with the status
 pub record IsRefused (seen : ShelfSeen) (words : List (List ℕ)) (status : Status) : Type 0 where
   pub names : Names
-  pub named : names_of words ≡ Some names
+  pub named : files_named words ≡ Some names
   pub why : IsTopologyRefused seen names.0 status ⊎ IsSourceRefused seen names status
 
 -- why the status came; what is said of the other three stands in clauses of their own
@@ -51,13 +52,8 @@ abbrev pub HasReason : ShelfSeen → List (List ℕ) → Status → Type 0
 HasReason seen words status.Ok = ⊤
 HasReason seen words SinkFault = ⊤
 HasReason seen words NoMemory = ⊤
-HasReason seen words Usage = names_of words ≡ None
+HasReason seen words Usage = files_named words ≡ None
 HasReason seen words status = IsRefused seen words status
-
--- what the second gives of what the first gave, or the status with which the first ended
-abbrev pub and_then : {A B : Type 0} → Result A Status → (A → Result B Status) → Result B Status
-and_then (Ok x) f = f x
-and_then (Err status) f = Err status
 
 -- a file of a shelf, or why it is not read
 abbrev pub file_within : Files → List ℕ → ℕ → Result (List ℕ) Status
@@ -80,4 +76,4 @@ answer_for held names = ended (and_then (file_as held names.0 topology_limit top
 
 -- the answer to these words over a shelf that holds these files, where nothing fails and memory is not wanting
 abbrev pub answer_of : Files → List (List ℕ) → Status
-answer_of held words = option_map_or (answer_for held) (names_of words) Usage
+answer_of held words = option_map_or (answer_for held) (files_named words) Usage

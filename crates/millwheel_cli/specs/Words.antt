@@ -7,10 +7,10 @@ abbrev pub Names : Type 0
 Names = List ℕ × List ℕ
 
 -- the names that the words give, which are `solo` and two names
-abbrev pub names_of : List (List ℕ) → Option Names
-names_of (mode ∷ (topology ∷ (events ∷ []))) =
+abbrev pub files_named : List (List ℕ) → Option Names
+files_named (mode ∷ (topology ∷ (events ∷ []))) =
     if pointwise nat_eq mode (codes "solo") then Some (topology, events) else None
-names_of _ = None
+files_named _ = None
 
 -- how many bytes a topology may have
 abbrev pub topology_limit : ℕ

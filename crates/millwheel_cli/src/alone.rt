@@ -1,7 +1,7 @@
 //! The call behind the program.
 ghost use Rattle.std.specs.Prelude.{◌≡◌, ◌↔◌, ◌⊎◌, [], Err, IsErrOf, None, Some};
 ghost use Rattle.mw_types.specs.Causes.{HasCause, Rose};
-ghost use Rattle.millwheel_cli.specs.Words.{names_of};
+ghost use Rattle.millwheel_cli.specs.Words.{files_named};
 ghost use Rattle.mw_ports.specs.Shelves.{Files};
 ghost use Rattle.millwheel_cli.specs.Reasons.{ShelfSeen, HasReason, answer_of};
 ghost use Rattle.millwheel_cli.specs.Answers.{HasWritten, HasHistory, IsWhole};
@@ -39,7 +39,7 @@ pub fn millwheel_alone<S: Shelf, O: Sink>(
         IsWhole (S.files shelf.old) words.now result.history (O.text out.old) (O.text out.new) }
 
     // Each other status has its reason.
-    ensures usage { (result.status ≡ Status.Usage) ↔ (names_of words.now ≡ None) }
+    ensures usage { (result.status ≡ Status.Usage) ↔ (files_named words.now ≡ None) }
     ensures reason { let seen : ShelfSeen = record {
       files = S.files shelf.old;
       faults = (S.faults shelf.old, S.faults shelf.new);
@@ -74,7 +74,7 @@ fn solo<S: Shelf, O: Sink>(
 ) -> Result<(), Refusal>
     requires { history.old ≡ [] }
 
-    ensures usage { names_of words.now ≡ None → result ≡ Err Refusal.Usage }
+    ensures usage { files_named words.now ≡ None → result ≡ Err Refusal.Usage }
     ensures reason { let seen : ShelfSeen = record {
       files = S.files shelf.old;
       faults = (S.faults shelf.old, S.faults shelf.new);

@@ -3,7 +3,7 @@ ghost use Rattle.std.specs.Prelude.{◌≡◌, ◌≤◌, ◌^◌, [], ◌∷◌
 ghost use Rattle.mw_ports.specs.Shelves.{Files};
 ghost use Rattle.topology.specs.Shapes.{injectors_of};
 ghost use Rattle.plain_run.specs.Plain.{IsPlain};
-ghost use Rattle.millwheel_cli.specs.Words.{names_of, topology_limit, events_limit};
+ghost use Rattle.millwheel_cli.specs.Words.{topology_limit, events_limit, files_named};
 ghost use Rattle.millwheel_cli.specs.Files.{source_taken, IsContent, HoldsTopology, HoldsSource, IsCaseRead};
 ghost use Rattle.millwheel_cli.specs.Reasons.{ShelfSeen, IsUnread, IsFileRefused, IsTopologyRefused, HasReason};
 ghost use Rattle.millwheel_cli.specs.Inside.{of_shelf, status_of, UnlessWant, IsOfReading};
@@ -35,7 +35,7 @@ pub fn read_case<S: Shelf>(alloc: Global, words: &[Name], shelf: &mut S) -> Resu
       lacks = (S.lacks shelf.old, S.lacks shelf.new);
     } in IfErr result (λ refusal. HasReason seen words.now (status_of refusal)) }
     ensures reading { IfErr result IsOfReading }
-    ensures usage { names_of words.now ≡ None → result ≡ Err Refusal.Usage }
+    ensures usage { files_named words.now ≡ None → result ≡ Err Refusal.Usage }
 {
     let Some((topology, events)) = names(words) else {
         return Err(Refusal::Usage);

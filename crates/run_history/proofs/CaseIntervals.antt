@@ -11,7 +11,7 @@ use Rattle.mw_types.specs.declared.key.PartCuts.{PartCuts}
 use Rattle.key_intervals.specs.Intervals as intervals
 use Rattle.key_intervals.specs.Intervals.{AreNumbered, bounds_from, bounds_of}
 use Rattle.topology.specs.Shapes.{Shape, ComputationShape, injectors_of, parts_of, computation_of, cuts_of}
-use Rattle.topology.specs.Rules.{IsTopology, AreCuts, interval_count, part_cuts_of}
+use Rattle.topology.specs.Rules.{IsTopology, interval_count, part_cuts_of, AreCutKeys}
 
 -- a part of this number with the cuts that a function gives
 abbrev with_cuts : (ℕ → List (List ℕ)) → ℕ → PartCuts
@@ -33,7 +33,7 @@ above_empty ([] ∷ cuts) some = absurd (omega (arith, some.0))
 above_empty ((b ∷ bs) ∷ cuts) some = (refl, above_empty cuts some.1)
 
 -- cuts of a topology are cuts of intervals
-cuts_above : (cuts : List (List ℕ)) → AreCuts cuts → intervals.AreCuts cuts
+cuts_above : (cuts : List (List ℕ)) → AreCutKeys cuts → intervals.AreCuts cuts
 unfolding IsStrictlySortedBy
 cuts_above cuts are = (above_empty cuts (recursion_from_All (λ (cut : List ℕ). 1 ≤ length cut) cuts are.some), are.ascending)
 
@@ -54,7 +54,7 @@ if_either P true found holds = tt
 if_either P false found holds = holds
 
 -- the cuts of a computation that may be there
-cuts_if : (found : Option ComputationShape) → IfSome found (λ (c : ComputationShape). AreCuts c.cuts)
+cuts_if : (found : Option ComputationShape) → IfSome found (λ (c : ComputationShape). AreCutKeys c.cuts)
     → intervals.AreCuts (unwrap_or (option_map (λ (c : ComputationShape). c.cuts) found) [])
 cuts_if None are = no_cuts
 cuts_if (Some c) are = cuts_above c.cuts are
@@ -62,8 +62,8 @@ cuts_if (Some c) are = cuts_above c.cuts are
 -- each part of a topology has cuts of intervals
 cuts_of-cuts : (shape : Shape) (part : ℕ) → IsTopology shape → intervals.AreCuts (cuts_of shape part)
 cuts_of-cuts shape part rules =
-    let each = recursion_from_All (λ (c : ComputationShape). AreCuts c.cuts) shape.computations rules.cuts in
-    let test = λ (c : ComputationShape). AreCuts c.cuts in
+    let each = recursion_from_All (λ (c : ComputationShape). AreCutKeys c.cuts) shape.computations rules.cuts in
+    let test = λ (c : ComputationShape). AreCutKeys c.cuts in
     cuts_if (computation_of shape part)
     (if_either test (nat_lt part (injectors_of shape)) _ (if_there test shape.computations (part - injectors_of shape) each))
 

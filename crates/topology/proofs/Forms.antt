@@ -5,7 +5,7 @@ use Rattle.std.proofs.lemmas.List.Elements.{All-nil, All-cons}
 use Rattle.serde_json.specs.Data.{Data, Items, no_items, item}
 use Rattle.mw_types.specs.declared.kind.Kind.{Kind}
 use Rattle.topology.specs.Shapes.{Shape, InjectorShape, ComputationShape, Reading}
-use Rattle.topology.specs.Grammar.{and_then, has_members, each_of, array_in, list_in, injector_in, some_of, text_in, reading_in, kind_in, reads_in, cuts_in, members_of, computation_of, computation_in, injectors_in, shape_in}
+use Rattle.topology.specs.Grammar.{and_then, has_members, each_of, array_in, list_in, injector_in, some_of, text_in, reading_in, kind_in, reads_in, cuts_in, members_of, computation_in, injectors_in, shape_in, computation_of_kind}
 use Rattle.topology.specs.Answers.{IsFull}
 
 -- what two steps give, the first gave something for
@@ -52,7 +52,7 @@ reads_stated kind (Some n) (Some r) (Some s) (Some k) c e = at_some (λ (c : Com
 -- a computation reads something
 computation_in-reads : (value : Data) (c : ComputationShape) → computation_in value ≡ Some c → 1 ≤ length c.reads
 computation_in-reads value c e =
-    let kind = and_then-some (kind_in value) (computation_of value) c e in
+    let kind = and_then-some (kind_in value) (computation_of_kind value) c e in
     let reads = list_in reading_in (codes "reads") value in
     let stated = reads_stated kind.0 (text_in (codes "name") value) (reads_in value)
     (text_in (codes "stream") value) (cuts_in value) c (if-some (has_members (members_of kind.0 value) value) _ c kind.2) in

@@ -15,7 +15,7 @@ use Rattle.mw_types.specs.Kinds.{IsKind}
 use Rattle.mw_types.specs.declared.kind.Kind.{Kind}
 use Rattle.mw_types.specs.declared.kind.Kind.TheVariants.{Count, Spike, Pass}
 use Rattle.topology.specs.Shapes.{Shape, ComputationShape, Reading, injectors_of, parts_of, streams_of, reads_of}
-use Rattle.topology.specs.Rules.{IsTopology, AreCuts}
+use Rattle.topology.specs.Rules.{IsTopology, AreCutKeys}
 use Rattle.topology.specs.FileRules.{is_few, reads_among, reads_above, in_range, is_ascending, is_cut, are_cuts, where_holds, checked}
 use Rattle.topology.specs.Answers.{IsFull}
 use Rattle.topology.specs.declared.refusal.TopologyRefusal.{TopologyRefusal}
@@ -108,7 +108,7 @@ is_ascending-sorted [] e = tt
 is_ascending-sorted (cut ∷ cuts) e = (less_than_all cut cuts (and_parts _ _ e).0, is_ascending-sorted cuts (and_parts _ _ e).1)
 
 -- cuts that pass are cuts
-are_cuts-cuts : (cuts : List (List ℕ)) → are_cuts cuts ≡ true → AreCuts cuts
+are_cuts-cuts : (cuts : List (List ℕ)) → are_cuts cuts ≡ true → AreCutKeys cuts
 are_cuts-cuts cuts e =
     let each = AllPass-from_list_all is_cut cuts (and_parts _ _ e).0 in
     record {
@@ -143,5 +143,5 @@ checked-is_topology shape s full e =
       reading = full.reading;
       above = reads_above-above shape above.0;
       kinds = All-weaker (λ (c : ComputationShape). in_range c.kind ≡ true) (λ (c : ComputationShape). IsKind c.kind) (λ c passes. in_range-is_kind c.kind passes) shape.computations (AllPass-from_list_all _ shape.computations range.0);
-      cuts = All-weaker (λ (c : ComputationShape). are_cuts c.cuts ≡ true) (λ (c : ComputationShape). AreCuts c.cuts) (λ c passes. are_cuts-cuts c.cuts passes) shape.computations (AllPass-from_list_all _ shape.computations cuts.0);
+      cuts = All-weaker (λ (c : ComputationShape). are_cuts c.cuts ≡ true) (λ (c : ComputationShape). AreCutKeys c.cuts) (λ c passes. are_cuts-cuts c.cuts passes) shape.computations (AllPass-from_list_all _ shape.computations cuts.0);
     }

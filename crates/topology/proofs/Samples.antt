@@ -6,7 +6,7 @@ use Rattle.std.proofs.lemmas.Option.{slice_get_past}
 use Rattle.mw_types.specs.Kinds.{IsKind}
 use Rattle.mw_types.specs.declared.kind.Kind.TheVariants.{Count}
 use Rattle.topology.specs.Shapes.{Shape, Reading, ComputationShape, injectors_of, parts_of, streams_of, computation_of, reads_of}
-use Rattle.topology.specs.Rules.{IsTopology, AreCuts}
+use Rattle.topology.specs.Rules.{IsTopology, AreCutKeys}
 use Rattle.topology.specs.Samples.{one_count}
 
 -- what holds of an element holds of each of the list of it alone
@@ -14,7 +14,7 @@ pub all_one : {X : Type 0} (P : X → Type 0) (x : X) → P x → All P (x ∷ [
 all_one P x holds = All-cons P x [] holds (All-nil P)
 
 -- no cuts are cuts
-pub no_cuts : AreCuts []
+pub no_cuts : AreCutKeys []
 unfolding IsStrictlySortedBy
 no_cuts = record { some = All-nil _; short = All-nil _; ascending = tt }
 
@@ -48,5 +48,5 @@ one_count-is_topology size kind = record {
   reading = all_one (λ (c : ComputationShape). 1 ≤ length c.reads) _ (lit≤ tt);
   above = one_count-above size;
   kinds = all_one (λ (c : ComputationShape). IsKind c.kind) _ kind;
-  cuts = all_one (λ (c : ComputationShape). AreCuts c.cuts) _ no_cuts;
+  cuts = all_one (λ (c : ComputationShape). AreCutKeys c.cuts) _ no_cuts;
 }

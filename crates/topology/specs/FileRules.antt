@@ -1,25 +1,20 @@
 -- Which bytes are a topology file, and which rule other bytes break first. Own.
 -- Each rule is tried on the whole file before the next.
-use Rattle.std.specs.Prelude.{◌≡◌, ◌≢◌, ℕ, ◌^◌, ◌&&◌, nat_le, nat_eq, Bool, true, List, [], ◌∷◌, length, take, sum_by, if◌then◌else◌, Option, None, Result, Ok, Err}
+use Rattle.std.specs.Prelude.{ℕ, ◌^◌, ◌&&◌, nat_le, nat_eq, Bool, true, List, [], ◌∷◌, length, take, sum_by, if◌then◌else◌, Result, Ok, Err}
 use Rattle.std.specs.Option.{option_map_or}
 use Rattle.std.specs.Ordering.{is_lt}
 use Rattle.std.specs.List.{list_any, list_all, enumerate_from}
-use Rattle.std.specs.Str.{is_utf8}
 use Rattle.std.specs.Cmp.Lexicographic.{pointwise}
 use Rattle.serde_json.specs.Data.{Data}
-use Rattle.serde_json.specs.Read.{read}
 use Rattle.mw_types.specs.Orders.{key_cmp}
+use Rattle.json_reading.specs.Texts.{json_of}
 use Rattle.mw_types.specs.declared.kind.Kind.{Kind}
 use Rattle.mw_types.specs.declared.kind.Kind.TheVariants.{Count, Spike, Pass}
 use Rattle.topology.specs.Shapes.{Shape, ComputationShape, Reading, injectors_of, streams_of}
 use Rattle.topology.specs.Rules.{is_name, all_differ, names_of, interval_count}
 use Rattle.topology.specs.Grammar.{shape_in}
 use Rattle.topology.specs.declared.refusal.TopologyRefusal.{TopologyRefusal}
-use Rattle.topology.specs.declared.refusal.TopologyRefusal.TheVariants.{NotJson, BadShape, TooMany, BadName, DoubleName, DoubleStream, UnknownStream, BadNumber, BadCuts, NoMemory}
-
--- the value of bytes that are one JSON text in UTF-8
-abbrev pub json_of : List ℕ → Option Data
-json_of bytes = if is_utf8 bytes then read bytes else None
+use Rattle.topology.specs.declared.refusal.TopologyRefusal.TheVariants.{NotJson, BadShape, TooMany, BadName, DoubleName, DoubleStream, UnknownStream, BadNumber, BadCuts}
 
 -- at most 16 injectors, 32 computations, 64 readings and 61 intervals
 abbrev pub is_few : Shape → Bool
@@ -92,7 +87,3 @@ topology_at value = option_map_or checked (shape_in value) (Err BadShape)
 -- the topology that a file states, or the first rule that it breaks
 abbrev pub topology_of : List ℕ → Result Shape TopologyRefusal
 topology_of bytes = option_map_or topology_at (json_of bytes) (Err NotJson)
-
--- a refusal is that of the file, unless memory was wanting
-abbrev pub IsRefusalOf : Result Shape TopologyRefusal → TopologyRefusal → Type 0
-IsRefusalOf whole refusal = refusal ≢ NoMemory → whole ≡ Err refusal

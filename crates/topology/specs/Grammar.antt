@@ -90,12 +90,12 @@ reading_in value =
     Some (record { stream = stream; by = by })))))
 
 -- a count, with the length of its windows
-abbrev pub count_in : Data → Option Kind
-count_in value = and_then (number_in (2 ^ 64 - 1) (codes "size") value) (λ size. Some (Count size))
+abbrev pub count_kind : Data → Option Kind
+count_kind value = and_then (number_in (2 ^ 64 - 1) (codes "size") value) (λ size. Some (Count size))
 
 -- a spike, with its two numbers
-abbrev pub spike_in : Data → Option Kind
-spike_in value =
+abbrev pub spike_kind : Data → Option Kind
+spike_kind value =
     and_then (number_in (2 ^ 32 - 1) (codes "last") value) (λ last.
     and_then (number_in (2 ^ 32 - 1) (codes "times") value) (λ times.
     Some (Spike last times)))
@@ -103,8 +103,8 @@ spike_in value =
 -- the kind of this name, with the numbers that the computation states for it
 abbrev pub kind_named : Data → List ℕ → Option Kind
 kind_named value name =
-    if pointwise nat_eq name (codes "count") then count_in value
-    else (if pointwise nat_eq name (codes "spike") then spike_in value
+    if pointwise nat_eq name (codes "count") then count_kind value
+    else (if pointwise nat_eq name (codes "spike") then spike_kind value
     else (if pointwise nat_eq name (codes "pass") then Some Pass
     else None))
 
@@ -131,8 +131,8 @@ abbrev pub members_of : Kind → Data → ℕ
 members_of kind value = 4 + numbers_of kind + option_map_or (λ cuts. 1) (get (codes "cuts") value) 0
 
 -- a computation of this kind, which has a name, readings, a stream, maybe cuts, and no other member
-abbrev pub computation_of : Data → Kind → Option ComputationShape
-computation_of value kind =
+abbrev pub computation_of_kind : Data → Kind → Option ComputationShape
+computation_of_kind value kind =
     with_members (members_of kind value) value
     (and_then (text_in (codes "name") value) (λ name.
     and_then (reads_in value) (λ reads.
@@ -142,7 +142,7 @@ computation_of value kind =
 
 -- a computation
 abbrev pub computation_in : Data → Option ComputationShape
-computation_in value = and_then (kind_in value) (computation_of value)
+computation_in value = and_then (kind_in value) (computation_of_kind value)
 
 -- the injectors of a file, of which there is one at least
 abbrev pub injectors_in : Data → Option (List InjectorShape)

@@ -38,7 +38,7 @@ abbrev pub part_cuts_of : Shape → List PartCuts
 part_cuts_of shape = map (λ (part : ℕ). record { part = part; cuts = cuts_of shape part }) (range_with_len 0 (parts_of shape))
 
 -- cuts have 1 to 256 bytes each, and stand strictly ascending
-pub record AreCuts (cuts : List (List ℕ)) : Type 0 where
+pub record AreCutKeys (cuts : List (List ℕ)) : Type 0 where
   pub some : All (λ (cut : List ℕ). 1 ≤ length cut) cuts
   pub short : All (λ (cut : List ℕ). length cut ≤ 256) cuts
   pub ascending : IsStrictlySortedBy key_cmp cuts
@@ -59,4 +59,4 @@ pub record IsTopology (shape : Shape) : Type 0 where
   pub reading : All (λ (c : ComputationShape). 1 ≤ length c.reads) shape.computations
   pub above : (part : ℕ) → All (λ (r : Reading). Contains (take part (streams_of shape)) r.stream) (reads_of shape part)
   pub kinds : All (λ (c : ComputationShape). IsKind c.kind) shape.computations
-  pub cuts : All (λ (c : ComputationShape). AreCuts c.cuts) shape.computations
+  pub cuts : All (λ (c : ComputationShape). AreCutKeys c.cuts) shape.computations

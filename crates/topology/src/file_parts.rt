@@ -113,13 +113,16 @@ fn computations_in(
 {
     let mut made = Seq::new(alloc);
     for computation in computations {
-        made.push(computation_of(alloc, computation)?)?;
+        made.push(computation_part(alloc, computation)?)?;
     }
     Ok(made)
 }
 
 // A computation, with keys as cuts.
-fn computation_of(alloc: Global, computation: &FileComputation) -> Result<ComputationPart, NoMemory>
+fn computation_part(
+    alloc: Global,
+    computation: &FileComputation,
+) -> Result<ComputationPart, NoMemory>
     ensures { IfOk result (λ made. made ≡ computation.now) }
 {
     Ok(ComputationPart {

@@ -7,7 +7,8 @@ ghost use Rattle.mw_types.specs.Orders.{key_cmp};
 ghost use Rattle.topology.specs.Shapes.{ComputationShape, streams_of};
 ghost use Rattle.topology.specs.Rules.{is_name_byte, is_name, all_differ, names_of};
 ghost use Rattle.topology.specs.Answers.{reading_count, cut_count};
-ghost use Rattle.topology.specs.FileRules.{is_few, reads_among, reads_above, in_range, is_in_range, is_ascending, is_cut, are_cuts, has_cuts, checked, IsRefusalOf};
+ghost use Rattle.json_reading.specs.Refusals.{IsRefusalOf};
+ghost use Rattle.topology.specs.FileRules.{is_few, reads_among, reads_above, in_range, is_in_range, is_ascending, is_cut, are_cuts, has_cuts, checked};
 
 use crate::file_parts::{FileComputation, FileParts};
 use crate::parts::{InjectorPart, ReadingPart};
@@ -269,7 +270,7 @@ fn broken_rule(file: &FileParts, names: &[Name], streams: &[Name]) -> Result<(),
 /// Tries the rules in their order.
 pub fn check(alloc: Global, file: &FileParts) -> Result<(), TopologyRefusal>
     ensures kept { OnOk result (checked file.now ≡ Ok file.now) }
-    ensures broken { IfErr result (IsRefusalOf (checked file.now)) }
+    ensures broken { IfErr result (IsRefusalOf TopologyRefusal.NoMemory (checked file.now)) }
 {
     let names = names_in(alloc, file)?;
     let streams = streams_in(alloc, file)?;

@@ -3,7 +3,7 @@ ghost use Rattle.std.specs.Prelude.{◌≡◌, ◌≤◌, codes, IfSome};
 ghost use Rattle.std.specs.Option.{option_map};
 ghost use Rattle.serde_json.specs.Find.{as_str};
 ghost use Rattle.serde_json.specs.View.{view, items_view};
-ghost use Rattle.topology.specs.Grammar.{and_then, has_members, each_of, list_of, array_in, list_in, some_of, text_in, number_in, injector_in, by_named, reading_in, count_in, spike_in, kind_named, kind_in, reads_in, cuts_in, members_of, computation_of, computation_in, injectors_in, shape_in};
+ghost use Rattle.topology.specs.Grammar.{and_then, has_members, each_of, list_of, array_in, list_in, some_of, text_in, number_in, injector_in, by_named, reading_in, kind_named, kind_in, reads_in, cuts_in, members_of, computation_in, injectors_in, shape_in, count_kind, spike_kind, computation_of_kind};
 ghost use Rattle.topology.specs.Answers.{Gives};
 
 use crate::file_parts::{FileComputation, FileParts};
@@ -90,7 +90,7 @@ fn injector_in(alloc: Global, value: &Value) -> Result<InjectorPart, ShapeRefusa
 }
 
 // The injectors that these values state.
-fn injectors_of(alloc: Global, values: &[Value]) -> Result<Seq<InjectorPart>, ShapeRefusal>
+fn each_injector(alloc: Global, values: &[Value]) -> Result<Seq<InjectorPart>, ShapeRefusal>
     ensures { Gives result (each_of injector_in (items_view values.now)) }
 {
     let mut found = Seq::new(alloc);
@@ -145,8 +145,8 @@ fn readings_of(alloc: Global, values: &[Value]) -> Result<Seq<ReadingPart>, Shap
 }
 
 // A count.
-fn count_in(value: &Value) -> Option<Kind>
-    ensures { result ≡ count_in (view value.now) }
+fn count_kind(value: &Value) -> Option<Kind>
+    ensures { result ≡ count_kind (view value.now) }
 {
     let size = number_in(value, "size", u64::MAX)?;
     Some(Kind::Count { size })
@@ -161,8 +161,8 @@ fn small_in(value: &Value, name: &str) -> Option<u32>
 }
 
 // A spike.
-fn spike_in(value: &Value) -> Option<Kind>
-    ensures { result ≡ spike_in (view value.now) }
+fn spike_kind(value: &Value) -> Option<Kind>
+    ensures { result ≡ spike_kind (view value.now) }
 {
     let last = small_in(value, "last")?;
     let times = small_in(value, "times")?;
@@ -174,8 +174,8 @@ fn kind_named(value: &Value, name: &str) -> Option<Kind>
     ensures { result ≡ kind_named (view value.now) name.now }
 {
     match name {
-        "count" => count_in(value),
-        "spike" => spike_in(value),
+        "count" => count_kind(value),
+        "spike" => spike_kind(value),
         "pass" => Some(Kind::Pass),
         _ => None,
     }
@@ -256,8 +256,12 @@ fn reads_in(alloc: Global, value: &Value) -> Result<Seq<ReadingPart>, ShapeRefus
 }
 
 // A computation of this kind.
-fn computation_of(alloc: Global, value: &Value, kind: Kind) -> Result<FileComputation, ShapeRefusal>
-    ensures { Gives result (computation_of (view value.now) kind) }
+fn computation_of_kind(
+    alloc: Global,
+    value: &Value,
+    kind: Kind,
+) -> Result<FileComputation, ShapeRefusal>
+    ensures { Gives result (computation_of_kind (view value.now) kind) }
 {
     if !has_members(value, members_of(kind, value)) {
         return Err(ShapeRefusal::BadShape);
@@ -280,13 +284,13 @@ fn computation_in(alloc: Global, value: &Value) -> Result<FileComputation, Shape
     ensures { Gives result (computation_in (view value.now)) }
 {
     match kind_in(value) {
-        Some(kind) => computation_of(alloc, value, kind),
+        Some(kind) => computation_of_kind(alloc, value, kind),
         None => Err(ShapeRefusal::BadShape),
     }
 }
 
 // The computations that these values state.
-fn computations_of(alloc: Global, values: &[Value]) -> Result<Seq<FileComputation>, ShapeRefusal>
+fn each_computation(alloc: Global, values: &[Value]) -> Result<Seq<FileComputation>, ShapeRefusal>
     ensures { Gives result (each_of computation_in (items_view values.now)) }
 {
     let mut found = Seq::new(alloc);
@@ -301,7 +305,7 @@ fn injectors_in(alloc: Global, value: &Value) -> Result<Seq<InjectorPart>, Shape
     ensures { Gives result (injectors_in (view value.now)) }
 {
     match array_in(value, "injectors") {
-        Some(values) => some_of(injectors_of(alloc, values)?),
+        Some(values) => some_of(each_injector(alloc, values)?),
         None => Err(ShapeRefusal::BadShape),
     }
 }
@@ -311,7 +315,7 @@ fn computations_in(alloc: Global, value: &Value) -> Result<Seq<FileComputation>,
     ensures { Gives result (list_in computation_in (codes "computations") (view value.now)) }
 {
     match array_in(value, "computations") {
-        Some(values) => computations_of(alloc, values),
+        Some(values) => each_computation(alloc, values),
         None => Err(ShapeRefusal::BadShape),
     }
 }

@@ -1,9 +1,10 @@
 //! The parts of a run, the streams between them, and how a consumer's key is extracted.
 //!
-//! Stands on `mw_types` and `serde_json`. Public contract: `read` gives the topology that a file states, or
-//! names the first rule that it breaks; the accessors of `Topology` give what its shape says, and every
-//! `Topology` keeps the rules. Definitions: `specs/Shapes.antt`, what a topology is; `specs/Rules.antt`, which
-//! shapes are topologies; `specs/Grammar.antt` and `specs/FileRules.antt`, which bytes are a file.
+//! Stands on `mw_types`, `json_reading` and `serde_json`. Public contract: `read` gives the topology that
+//! a file states, or names the first rule that it breaks; the accessors of `Topology` give what its shape
+//! says, and every `Topology` keeps the rules. Definitions: `specs/Shapes.antt`, what a topology is;
+//! `specs/Rules.antt`, which shapes are topologies; `specs/Grammar.antt` and `specs/FileRules.antt`, which
+//! bytes are a file.
 #![tactic(auto)]
 
 mod extraction;

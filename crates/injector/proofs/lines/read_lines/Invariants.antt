@@ -1,5 +1,5 @@
 use Rattle.std.proofs.Common.{◌≡◌, ◌+◌, ◌≤◌, length}
-use Rattle.injector.specs.EventFiles.{lines_of, source_from, source_of}
+use Rattle.injector.specs.EventFiles.{lines_of, source_from, source_in}
 use Rattle.injector.specs.Progress.{followed_by}
 use Rattle.injector.proofs.lines.read_lines.Given as goal
 
@@ -7,7 +7,7 @@ use Rattle.injector.proofs.lines.read_lines.Given as goal
 abbrev pub invariant-loop-rest : goal.invariant-loop-rest
 invariant-loop-rest l = record {
   same :
-      source_of l.room l.bytes
+      source_in l.room l.bytes
       ≡ followed_by l.progress.items (source_from (l.line + 1) l.progress.room l.progress.mark (lines_of l.rest));
   few : l.line + length l.rest ≤ length l.bytes;
 }

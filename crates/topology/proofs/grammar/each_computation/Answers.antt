@@ -1,7 +1,7 @@
 use Rattle.std.proofs.Common.{arith}
 use Rattle.topology.specs.Grammar.{computation_in}
 use Rattle.topology.proofs.Stating.{each_of-step}
-use Rattle.topology.proofs.grammar.computations_of.Goals as goal
+use Rattle.topology.proofs.grammar.each_computation.Goals as goal
 
 pub loop-value-preserved : goal.loop-value-preserved
 loop-value-preserved c =

@@ -1,4 +1,4 @@
-//! Record lines in their plainest spelling, which are read without a JSON reader.
+//! Record lines in the short form, which are read without a JSON reader.
 ghost use Rattle.std.specs.Prelude.{◌≡◌, ◌≤◌, IfOk, IfSome, Ok, decimal};
 ghost use Rattle.std.specs.List.{list_all};
 ghost use Rattle.std.specs.Str.{IsUtf8};
@@ -6,7 +6,8 @@ ghost use Rattle.json.specs.Run.{is_plain};
 ghost use Rattle.mw_types.specs.declared.TheConstants.{INPUT_MAX};
 ghost use Rattle.injector.specs.EventLines.{line_reading};
 ghost use Rattle.injector.specs.Answers.{IsInput};
-ghost use Rattle.injector.specs.PlainLines.{plain_line, IsPlain};
+ghost use Rattle.injector.specs.ShortForm.{IsUnescaped};
+ghost use Rattle.injector.specs.ShortForm.{short_line};
 
 use crate::reading::LineKind;
 use itoa::Buffer;
@@ -14,9 +15,9 @@ use memchr::memchr;
 use mw_types::{INPUT_MAX, Key, KeyRefusal, NoMemory};
 use std::alloc::Global;
 
-// The key and the digits of a line that is spelt plainly.
+// The key and the digits of a line that is in the short form.
 fn parts(line: &[u8]) -> Option<(&[u8], &[u8])>
-    ensures { IfSome result (λ parts. line.now ≡ plain_line parts.0.now parts.1.now) }
+    ensures { IfSome result (λ parts. line.now ≡ short_line parts.0.now parts.1.now) }
 {
     let rest = line.strip_prefix(b"{\"key\":\"")?;
     let end = memchr(b'"', rest)?;
@@ -51,34 +52,34 @@ fn stamp_of(digits: &[u8]) -> Option<u64>
 }
 
 // Whether the byte stands for itself in JSON.
-fn is_plain(b: u8) -> bool
+fn stands_for_itself(b: u8) -> bool
     ensures { result ≡ is_plain b }
 {
     !(b == b'"' || b == b'\\' || b < b' ')
 }
 
 // Whether no byte of a key is escaped.
-fn are_plain(key: &[u8]) -> bool
+fn is_unescaped(key: &[u8]) -> bool
     ensures { result ≡ list_all is_plain key.now }
 {
-    key.iter().all(|b| is_plain(*b))
+    key.iter().all(|b| stands_for_itself(*b))
 }
 
 // The text of a key with no byte that is escaped.
 fn text_of(key: &[u8]) -> Option<&str>
     ensures same { IfSome result (λ text. text.now ≡ key.now) }
-    ensures plain { IfSome result (λ text. IsPlain text.now) }
+    ensures unescaped { IfSome result (λ text. IsUnescaped text.now) }
     ensures utf8 { IfSome result (λ text. IsUtf8 text.now) }
 {
-    if are_plain(key) {
+    if is_unescaped(key) {
         std::str::from_utf8(key).ok()
     } else {
         None
     }
 }
 
-/// What a line says that is spelt plainly, and none where it is spelt otherwise.
-pub fn plain_reading(alloc: Global, line: &[u8]) -> Result<Option<LineKind>, NoMemory>
+/// What a line in the short form says, and none where it is spelt otherwise.
+pub fn short_reading(alloc: Global, line: &[u8]) -> Result<Option<LineKind>, NoMemory>
     ensures reading { IfOk result (λ o. IfSome o (λ kind. line_reading line.now ≡ Ok kind)) }
     ensures bounded { IfOk result (λ o. IfSome o IsInput) }
 {

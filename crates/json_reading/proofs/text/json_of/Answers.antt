@@ -1,6 +1,6 @@
 use Rattle.std.proofs.Common.{rules, sym}
-use Rattle.topology.proofs.Texts.{json_of-read, json_of-unread}
-use Rattle.topology.proofs.reader.json_of.Goals as goal
+use Rattle.json_reading.proofs.Texts.{json_of-read, json_of-unread}
+use Rattle.json_reading.proofs.text.json_of.Goals as goal
 
 pub returns-in-Ok : goal.returns-in-Ok
 returns-in-Ok c = sym (json_of-read _ _ c.in-Ok.ensures.ok.0 c.in-Ok.ensures.ok.1)

@@ -1,4 +1,4 @@
--- A line that is spelt plainly says what its key and its timestamp are.
+-- A line that is in the short form says what its key and its timestamp are.
 use Rattle.std.proofs.Common.{◌≡◌, ◌∙◌, ℕ, ◌<◌, ◌≤◌, ◌^◌, ◌++◌, pos, true, List, [], ◌∷◌, length, take, drop, nat_eq, ◌-◌, rules, codes, decimal, Some, Ok, Err, refl, ap, sym, arith, append_assoc}
 use Rattle.std.specs.Option.{option_map_or}
 use Rattle.std.specs.Str.{IsUtf8}
@@ -22,46 +22,48 @@ use Rattle.serde_json.specs.Written.{outline, compact_text}
 use Rattle.serde_json.proofs.Numbers.{number_of-decimal}
 use Rattle.serde_json.proofs.Texts.{print-outline}
 use Rattle.mw_types.specs.declared.TheConstants.{INPUT_MAX}
-use Rattle.injector.specs.EventLines.{json_of, key_within, data_reading, line_reading}
-use Rattle.injector.specs.PlainLines.{plain_data, plain_line, IsPlain}
+use Rattle.json_reading.specs.Texts.{json_of}
+use Rattle.json_reading.proofs.Texts.{json_of-read}
+use Rattle.injector.specs.EventLines.{key_within, data_reading, line_reading}
+use Rattle.injector.specs.ShortForm.{short_data}
+use Rattle.injector.specs.ShortForm.{short_line, IsUnescaped}
 use Rattle.injector.specs.declared.refusal.LineWhy.TheVariants.{NotJson}
 use Rattle.injector.specs.declared.reading.LineKind.TheVariants.{Record}
-use Rattle.injector.proofs.Texts.{json_of-read}
 
--- a plain text is not escaped
-escape-plain : (text : List ℕ) → IsPlain text → escape text ≡ text
-escape-plain [] plain = refl
-escape-plain (x ∷ xs) plain =
-    let p = and_parts _ _ plain in
+-- a text that needs no escape is printed as it is
+escape-unescaped : (text : List ℕ) → IsUnescaped text → escape text ≡ text
+escape-unescaped [] unescaped = refl
+escape-unescaped (x ∷ xs) unescaped =
+    let p = and_parts _ _ unescaped in
     let stop = or_parts _ _ (not-true (is_stop x) p.0) in
     let quote = or_parts _ _ stop.0 in
     ap (λ first. first ++ escape xs) (escape_byte_plain x (eqb-false x 34 quote.0) (eqb-false x 92 quote.1) (ltb-false x 32 stop.1))
-    ∙ ap (λ rest. x ∷ rest) (escape-plain xs p.1)
+    ∙ ap (λ rest. x ∷ rest) (escape-unescaped xs p.1)
 
 -- the line is the compact text of its value
-compact_text-plain :
-    (key : List ℕ) (stamp : ℕ) → IsPlain key → compact_text (plain_data key stamp) ≡ plain_line key (decimal stamp)
+compact_text-short :
+    (key : List ℕ) (stamp : ℕ) → IsUnescaped key → compact_text (short_data key stamp) ≡ short_line key (decimal stamp)
 unfolding escape_byte
-compact_text-plain key stamp plain = rw (escape-plain key plain, append_assoc key (34 ∷ [])) refl
+compact_text-short key stamp unescaped = rw (escape-unescaped key unescaped, append_assoc key (34 ∷ [])) refl
 
 -- and is read as that value
-read-plain :
+read-short :
     (key : List ℕ) (stamp : ℕ)
     → stamp < 2 ^ 64
-    → read (compact_text (plain_data key stamp)) ≡ Some (plain_data key stamp)
+    → read (compact_text (short_data key stamp)) ≡ Some (short_data key stamp)
 unfolding ArePrintable
-read-plain key stamp fits =
-    let j = outline (plain_data key stamp) in
+read-short key stamp fits =
+    let j = outline (short_data key stamp) in
     let printable : ArePrintable (json_tokens j) = (tt, (tt, (tt, (tt, (IsNumber-decimal stamp fits, (tt, tt)))))) in
-    let told : tokens (compact_text (plain_data key stamp)) ≡ json_tokens j =
-    ap tokens (sym (print-outline (plain_data key stamp))) ∙ tokens-print (json_tokens j) printable in
+    let told : tokens (compact_text (short_data key stamp)) ≡ json_tokens j =
+    ap tokens (sym (print-outline (short_data key stamp))) ∙ tokens-print (json_tokens j) printable in
     let value : json.value 127 (json_tokens j) ≡ Some (j, []) = value-json_tokens j 127 [] (omega arith) in
-    let held : of_json j ≡ Some (plain_data key stamp) = rw (number_of-decimal stamp fits) refl in
+    let held : of_json j ≡ Some (short_data key stamp) = rw (number_of-decimal stamp fits) refl in
     rw (told, value) held
 
 -- it is text where its key is
-IsUtf8-plain : (key : List ℕ) (stamp : ℕ) → IsUtf8 key → stamp < 2 ^ 64 → IsUtf8 (plain_line key (decimal stamp))
-IsUtf8-plain key stamp text fits =
+IsUtf8-short : (key : List ℕ) (stamp : ℕ) → IsUtf8 key → stamp < 2 ^ 64 → IsUtf8 (short_line key (decimal stamp))
+IsUtf8-short key stamp text fits =
     IsUtf8-append _ _ (IsUtf8-are_ascii (codes "{\"key\":\"") refl)
     (IsUtf8-append key _ text
     (IsUtf8-append _ _ (IsUtf8-are_ascii (codes "\",\"ts\":") refl)
@@ -72,41 +74,41 @@ key_within-some : (text : List ℕ) → 0 < length text → length text ≤ 256 
 key_within-some text some short = search (arith, rules)
 
 -- what such a line says
-pub line_reading-plain :
+pub line_reading-short :
     (line key : List ℕ) (stamp : ℕ)
-    → line ≡ plain_line key (decimal stamp)
-    → IsPlain key
+    → line ≡ short_line key (decimal stamp)
+    → IsUnescaped key
     → IsUtf8 key
     → (0 < length key) × (length key ≤ 256)
     → stamp ≤ INPUT_MAX
     → line_reading line ≡ Ok (Record key stamp (pos 1))
-line_reading-plain line key stamp is plain text within bounded =
+line_reading-short line key stamp is unescaped text within bounded =
     let fits : stamp < 2 ^ 64 = omega (arith, bounded) in
-    let held : json_of (plain_line key (decimal stamp)) ≡ Some (plain_data key stamp) =
-    json_of-read _ _ (IsUtf8-plain key stamp text fits)
-    (ap read (sym (compact_text-plain key stamp plain)) ∙ read-plain key stamp fits) in
-    let says : data_reading (plain_data key stamp) ≡ Ok (Record key stamp (pos 1)) =
+    let held : json_of (short_line key (decimal stamp)) ≡ Some (short_data key stamp) =
+    json_of-read _ _ (IsUtf8-short key stamp text fits)
+    (ap read (sym (compact_text-short key stamp unescaped)) ∙ read-short key stamp fits) in
+    let says : data_reading (short_data key stamp) ≡ Ok (Record key stamp (pos 1)) =
     rw (key_within-some key within.0 within.1, le-leb stamp INPUT_MAX bounded) refl in
     ap line_reading is
     ∙ ap (λ found. option_map_or data_reading found (Err NotJson)) held
     ∙ says
 
 -- what is read of such a line by its parts
-pub plain_reading-is :
+pub short_reading-is :
     (line key digits text record_key : List ℕ) (stamp : ℕ)
-    → line ≡ plain_line key digits
+    → line ≡ short_line key digits
     → digits ≡ decimal stamp
     → text ≡ key
-    → IsPlain text
+    → IsUnescaped text
     → IsUtf8 text
     → record_key ≡ text
     → (0 < length record_key) × (length record_key ≤ 256)
     → stamp ≤ INPUT_MAX
     → line_reading line ≡ Ok (Record record_key stamp (pos 1))
-plain_reading-is line key digits text record_key stamp is spelt same plain utf8 held within bounded =
-    line_reading-plain line record_key stamp
-    (is ∙ ap (λ k. plain_line k digits) (sym (held ∙ same)) ∙ ap (λ d. plain_line record_key d) spelt)
-    (rw held plain)
+short_reading-is line key digits text record_key stamp is spelt same unescaped utf8 held within bounded =
+    line_reading-short line record_key stamp
+    (is ∙ ap (λ k. short_line k digits) (sym (held ∙ same)) ∙ ap (λ d. short_line record_key d) spelt)
+    (rw held unescaped)
     (rw held utf8)
     within
     bounded
@@ -133,15 +135,15 @@ suffix-is text back rest same is =
     ∙ ap (λ b. take (length text - length back) text ++ b) (same_text _ _ (sym same))
     ∙ ap (λ b. b ++ back) (sym is)
 
--- a line that is cut four times in this way is spelt plainly
-pub plain_line-parts :
+-- a line that is cut four times in this way is in the short form
+pub short_line-parts :
     (line rest key behind after digits : List ℕ)
     → line ≡ codes "{\"key\":\"" ++ rest
     → rest ≡ key ++ behind
     → behind ≡ codes "\",\"ts\":" ++ after
     → after ≡ digits ++ codes "}"
-    → line ≡ plain_line key digits
-plain_line-parts line rest key behind after digits a b c d =
+    → line ≡ short_line key digits
+short_line-parts line rest key behind after digits a b c d =
     a ∙ ap (λ l. codes "{\"key\":\"" ++ l) (b ∙ ap (λ l. key ++ l) (c ∙ ap (λ l. codes "\",\"ts\":" ++ l) d))
 
 -- what `split_at` says of bytes

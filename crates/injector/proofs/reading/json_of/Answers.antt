@@ -1,9 +1,0 @@
-use Rattle.std.proofs.Common.{rules, refl}
-use Rattle.injector.proofs.Texts.{json_of-read, json_of-unread}
-use Rattle.injector.proofs.reading.json_of.Goals as goal
-
-pub returns-in-Ok : goal.returns-in-Ok
-returns-in-Ok c = json_of-read _ _ c.in-Ok.ensures.ok.0 c.in-Ok.ensures.ok.1
-
-pub returns-else-is_memory : goal.returns-else-is_memory
-returns-else-is_memory c = (json_of-unread _ (c.in-Err.ensures.err (λ memory. search rules)), refl)
