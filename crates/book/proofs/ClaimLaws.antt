@@ -12,8 +12,8 @@ use Rattle.mw_types.specs.declared.entry.Entry.{Entry}
 use Rattle.mw_types.specs.declared.entry.Entry.TheVariants.{Claim, Inject, Handle, Fire, Ack, Purge}
 use Rattle.run_history.specs.Made.{row_written}
 use Rattle.run_history.specs.Fences.{is_claim, later_claim, last_claim}
-use Rattle.history_laws.proofs.Lists.{none_some, some_same}
-use Rattle.history_laws.proofs.FenceLaws.{last_claim-push}
+use Rattle.run_history.proofs.Lists.{none_some, some_same}
+use Rattle.run_history.proofs.Claims.{last_claim-push}
 use Rattle.book.specs.Books.{BookView, LeaseView}
 use Rattle.book.specs.Answers.{IsStaleWhere, IsFullWhere}
 use Rattle.book.specs.declared.refusals.WriteRefusal.{WriteRefusal}

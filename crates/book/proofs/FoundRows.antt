@@ -17,11 +17,11 @@ use Rattle.run_history.specs.Cases.{CaseShape, intervals_of}
 use Rattle.run_history.specs.Runs.{run_of}
 use Rattle.run_history.proofs.CaseIntervals.{length-intervals}
 use Rattle.topology.specs.Rules.{interval_count}
-use Rattle.history_laws.proofs.Lists.{each-filter}
+use Rattle.run_history.proofs.Lists.{each-filter}
 use Rattle.history_laws.proofs.StampLaws.{at-each}
 use Rattle.history_laws.proofs.StoredLaws.{rows_covered-stored}
 use Rattle.book.specs.Books.{BookView, core_of}
-use Rattle.book.specs.Fits.{fits}
+use Rattle.run_history.specs.Fits.{fits}
 use Rattle.book.specs.Lawful.{IsKept, IsHeld, IsLawful}
 use Rattle.book.specs.Claims.{AreRowsOf, IsDamaged, IsFoundWithin, IsRead, named, spelled}
 use Rattle.book.specs.declared.answers.NamedRow.{NamedRow}

@@ -25,9 +25,9 @@ use Rattle.run_history.proofs.RunLaws.{run_of-push, IsLegal-push}
 use Rattle.run_history.specs.Fences.{IsFenced}
 use Rattle.run_history.specs.Finished.{unfinished, work_in}
 use Rattle.run_history.specs.Stored.{stored_rows}
-use Rattle.history_laws.proofs.Lists.{each-weaker}
+use Rattle.run_history.proofs.Lists.{each-weaker}
 use Rattle.history_laws.proofs.RowSteps.{same_row, made_row, row_of-here}
-use Rattle.history_laws.proofs.FenceLaws.{IsFenced-push, claim-under}
+use Rattle.run_history.proofs.Fenced.{IsFenced-push, claim-under}
 use Rattle.history_laws.proofs.LowLaws.{rows-in_order}
 use Rattle.history_laws.proofs.UnfinishedLaws.{unfinished-followed, unfinished-kept}
 use Rattle.history_laws.proofs.StoredLaws.{stored_rows-followed, stored_rows-kept}
@@ -39,7 +39,7 @@ use Rattle.book.specs.Senders.{AreSenders}
 use Rattle.book.specs.Sending.{sender_of, KnowsSame}
 use Rattle.book.proofs.SenderSteps.{senders-claim, senders-same}
 use Rattle.book.proofs.MarkSteps.{claims-next, claims-claim, AreSafe-appended, AreSafe-same, told-stored}
-use Rattle.book.proofs.FitLaws.{fits-later}
+use Rattle.run_history.proofs.Fitting.{fits-later}
 
 -- what holds of each row, and of one that is put among them, holds of each then
 each-put : (P : RowName × Contents → Type 0) (es : List (RowName × Contents)) (k : RowName) (v : Contents)

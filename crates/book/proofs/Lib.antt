@@ -1,4 +1,3 @@
-pub mod FitLaws
 pub mod StartLaws
 pub mod MarkSteps
 pub mod Keeping

@@ -17,8 +17,8 @@ use Rattle.run_history.proofs.CaseIntervals.{length-intervals}
 use Rattle.run_history.specs.Fences.{is_claim, last_claim}
 use Rattle.run_history.specs.Inputs.{IsRunnable}
 use Rattle.run_history.specs.Marks.{IsSafe}
-use Rattle.history_laws.proofs.Lists.{none_some}
-use Rattle.history_laws.proofs.FenceLaws.{last_claim-push}
+use Rattle.run_history.proofs.Lists.{none_some}
+use Rattle.run_history.proofs.Claims.{last_claim-push}
 use Rattle.history_laws.proofs.MarkLaws.{IsSafe-stays}
 use Rattle.history_laws.proofs.ReportLaws.{IsSafe-greater}
 use Rattle.watermark.specs.Marks.{mark_of}

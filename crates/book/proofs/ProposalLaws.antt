@@ -20,7 +20,7 @@ use Rattle.mw_types.specs.declared.entry.Entry.{Entry}
 use Rattle.mw_types.specs.declared.entry.Entry.TheVariants as entries
 use Rattle.mw_types.specs.Outcomes.{Outcome}
 use Rattle.topology.specs.Shapes.{Shape, kind_of}
-use Rattle.computations.specs.Handlers.{effects_of_record, effects_of_timer, unchanged, outcome_with_timer, outcome_with_record, count_timer, window_due, spike_timer, total_due, is_spike, known_with, due_time, one_more, window_end, counted, held_with}
+use Rattle.computations.specs.Handlers.{effects_of_record, effects_of_timer, unchanged, outcome_with_timer, outcome_with_record, count_timer, window_due, spike_timer, total_due, is_spike, known_with, due_time, one_more, window_end, counted, held_with, has_kind}
 use Rattle.row_parts.specs.Contents.{Contents, is_finished}
 use Rattle.injector.specs.Sources.{item_at}
 use Rattle.run_history.specs.Cases.{CaseShape, is_injector, source_of, record_of}
@@ -33,9 +33,9 @@ use Rattle.history_laws.proofs.FeedLaws.{injector-no_kind}
 use Rattle.history_laws.proofs.PendingLaws.{was_some}
 use Rattle.history_laws.proofs.IdLaws.{next-length}
 use Rattle.history_laws.proofs.FinishedLaws.{waits-unless_finished}
-use Rattle.history_laws.proofs.SeenLaws.{IsLawful-front, found-more}
+use Rattle.history_laws.proofs.SeenLaws.{found-more, IsLegalAndFenced-front}
 use Rattle.book.specs.Books.{BookView, LeaseView, core_of}
-use Rattle.book.specs.Fits.{fits, suits_part, has_kind, is_cursor_within, is_sent_before}
+use Rattle.run_history.specs.Fits.{fits, suits_part, is_cursor_within, is_sent_before}
 use Rattle.book.specs.Lawful.{IsHeld, IsLawful}
 use Rattle.book.specs.Conditions.{MayUse, IsRowSeen}
 use Rattle.book.specs.Answers.{IsWritten}
@@ -45,7 +45,7 @@ use Rattle.book.specs.Proposals.{IsNextLine, IsHandling, IsFiring, IsDueUnder, I
 use Rattle.book.specs.Appending.{IsNext}
 use Rattle.book.specs.declared.proposal.Proposal.{Proposal}
 use Rattle.book.specs.declared.proposal.Proposal.TheVariants as proposals
-use Rattle.book.proofs.FitLaws.{both, fits-parts, sent_each-later}
+use Rattle.run_history.proofs.Fitting.{both, fits-parts, sent_each-later}
 use Rattle.book.proofs.SentLaws.{sent-before}
 use Rattle.book.proofs.SeenRows.{told-both, told-then, row-front, IsNext-seen, IsWritten-next}
 
@@ -251,7 +251,7 @@ next-handled book lease front name row left delivery effects lawful uses seen la
     (λ r. IsHeld book.case book.history r × ((row ≡ row_of shape (run_of shape (known lease.interval lease.seq first)) name) × (found_delivery delivery.id (run_of shape first).made ≡ Some delivery))) _
     (told-both book.rows _ _ lawful.held (told-both book.rows _ _ seen.known made))
     (λ r p.
-    let legal = IsLawful-front book.case first (drop front book.history)
+    let legal = IsLegalAndFenced-front book.case first (drop front book.history)
     (record { legal = subst (IsLegal book.case) (sym split) p.0.legal; fenced = subst (IsFenced shape) (sym split) lawful.fenced }) in
     let row-is : row ≡ row_of shape (run_of shape first) name = p.1.0 ∙ row-front book lease front name uses last in record {
       delivery = delivery;

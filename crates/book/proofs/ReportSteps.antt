@@ -9,24 +9,22 @@ use Rattle.std.proofs.lemmas.List.{take-append-drop}
 use Rattle.std.proofs.lemmas.List.Folds.{list_any_at}
 use Rattle.mw_types.specs.declared.entry.Entry.{Entry}
 use Rattle.key_intervals.specs.declared.bounds.Bounds.{Bounds}
-use Rattle.key_intervals.specs.Intervals.{AreIntervals}
-use Rattle.key_intervals.proofs.Made as made
 use Rattle.topology.specs.Shapes.{Shape, feeds_of}
-use Rattle.topology.specs.Rules.{IsTopology, part_cuts_of}
 use Rattle.row_keeper.specs.Rows.{Rows}
 use Rattle.run_history.specs.Cases.{CaseShape, is_injector, intervals_of}
 use Rattle.run_history.specs.Runs.{Run, run_of, empty_run}
 use Rattle.run_history.specs.Legal.{IsLegal}
 use Rattle.run_history.specs.Watermarks.{least, source_mark}
-use Rattle.run_history.proofs.CaseIntervals.{part_cuts_of-numbered, part_cuts_of-cuts, intervals-few}
 use Rattle.run_history.specs.Fences.{IsFenced, HasSeen, last_claim, known}
 use Rattle.run_history.specs.Inputs.{IsRunnable}
 use Rattle.run_history.specs.Marks.{own_work, IsUnderMarks}
-use Rattle.history_laws.proofs.Lists.{none_some, some_same}
+use Rattle.run_history.proofs.Lists.{none_some, some_same}
 use Rattle.history_laws.proofs.Along.{run_of-append, AreLegal-apart, along_entries}
-use Rattle.history_laws.proofs.FenceLaws.{known-last, last_claim-front, row_of-seen}
-use Rattle.history_laws.proofs.IntervalLaws.{has-interval_of}
-use Rattle.history_laws.proofs.LowLaws.{rows-in_order, least-end, bound-each}
+use Rattle.history_laws.proofs.FenceLaws.{row_of-seen}
+use Rattle.run_history.proofs.Known.{known-last}
+use Rattle.run_history.proofs.Claims.{last_claim-front}
+use Rattle.run_history.proofs.IntervalLaws.{has-interval_of, are-intervals}
+use Rattle.history_laws.proofs.LowLaws.{rows-in_order, bound-each}
 use Rattle.history_laws.proofs.MarkLaws.{own-from, from-own, own-end}
 use Rattle.history_laws.proofs.OwnLaws.{IsRowFrom}
 use Rattle.history_laws.proofs.ReportLaws.{IsSafe-reported, marks-low}
@@ -43,11 +41,6 @@ use Rattle.book.proofs.ClaimLaws.{err-is, is-err}
 use Rattle.book.proofs.SeenRows.{told-both, told-then}
 
 -- ---- own work
-
--- the intervals of a topology are intervals
-pub are-intervals : (shape : Shape) → IsTopology shape → AreIntervals (intervals_of shape)
-are-intervals shape rules =
-    made.intervals_of (part_cuts_of shape) (part_cuts_of-numbered shape) (part_cuts_of-cuts shape rules) (intervals-few shape (part_cuts_of shape) rules refl)
 
 -- the watermark that an injector states never falls
 pub source_mark-rises : (case : CaseShape) (front rest : List Entry) (part : ℕ) → IsRunnable case → IsLegal case (front ++ rest) → is_injector case.topology part ≡ true
@@ -199,7 +192,7 @@ are-under_low book lawful =
     (λ r p part there.
     let marks = marks_of book.case.topology part book.marks in
     let x = least marks in
-    marks-low book.case book.history part x lawful.runnable p.0.legal there (least-end marks)
+    marks-low book.case book.history part x lawful.runnable p.0.legal there
     (λ interval b at of. (
       mark_of book.marks interval,
       part-bound x part (intervals_of book.case.topology) book.marks interval b lawful.marks (bound-each x marks (omega arith)) at of,

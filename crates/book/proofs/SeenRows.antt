@@ -19,21 +19,25 @@ use Rattle.run_history.specs.Legal.{MayFollow, IsLegal, floor_of}
 use Rattle.run_history.proofs.RunLaws.{run_of-push}
 use Rattle.run_history.specs.Fences.{IsFenced, HasSeen, last_claim, sequencer_of, known}
 use Rattle.run_history.specs.Finished.{is_handled}
-use Rattle.history_laws.proofs.FenceLaws.{known-last, last_claim-front, row_of-seen, entry-under}
+use Rattle.history_laws.proofs.FenceLaws.{row_of-seen}
+use Rattle.run_history.proofs.Known.{known-last}
+use Rattle.run_history.proofs.Claims.{last_claim-front}
+use Rattle.run_history.proofs.Fenced.{entry-under}
 use Rattle.history_laws.proofs.FinishedLaws.{handled-waits_not}
 use Rattle.history_laws.proofs.IdLaws.{next-length}
 use Rattle.history_laws.proofs.PendingLaws.{kind-there}
 use Rattle.history_laws.proofs.RowSteps.{row_of-here}
-use Rattle.history_laws.proofs.SeenLaws.{MayFollow-seen, HasSeen-take, IsLawful-front}
+use Rattle.history_laws.proofs.SeenLaws.{MayFollow-seen, HasSeen-take, IsLegalAndFenced-front}
 use Rattle.book.specs.Books.{BookView, LeaseView, core_of}
-use Rattle.book.specs.Fits.{fits, suits_part, has_kind, is_cursor_within}
+use Rattle.run_history.specs.Fits.{fits, suits_part, is_cursor_within}
+use Rattle.computations.specs.Handlers.{has_kind}
 use Rattle.book.specs.Lawful.{IsHeld, IsLawful}
 use Rattle.book.specs.Conditions.{MayUse, IsRowSeen, MaySettle, MayRaise}
 use Rattle.book.specs.Answers.{IsWritten}
 use Rattle.book.specs.declared.answers.Written.{Written}
 use Rattle.book.specs.declared.refusals.WriteRefusal.{WriteRefusal}
 use Rattle.book.specs.Appending.{IsNext}
-use Rattle.book.proofs.FitLaws.{fits-parts, fits-less, fits-later}
+use Rattle.run_history.proofs.Fitting.{fits-parts, fits-less, fits-later}
 
 -- two facts of what is told
 pub told-both : {X : Type 0} (o : Option X) (P Q : X → Type 0) → IfSome o P → IfSome o Q → IfSome o (λ x. P x × Q x)
@@ -154,7 +158,7 @@ may-settle book lease front name row id lawful uses seen settles last =
     (λ r. IsHeld book.case book.history r × ((row ≡ row_of shape (run_of shape (known lease.interval lease.seq (take front book.history))) name) × (is_handled id (take front book.history) ≡ true))) _
     (told-both book.rows _ _ lawful.held (told-both book.rows _ _ seen.known settles.handled))
     (λ r p.
-    let legal = IsLawful-front book.case (take front book.history) (drop front book.history)
+    let legal = IsLegalAndFenced-front book.case (take front book.history) (drop front book.history)
     (record { legal = subst (IsLegal book.case) (sym split) p.0.legal; fenced = subst (IsFenced shape) (sym split) lawful.fenced }) in record {
       pending = subst (λ (c : Contents). IsSome (found_delivery id c.pending)) (p.1.0 ∙ row-front book lease front name uses last) settles.pending;
       handled = ap is_some (handled-waits_not book.case (take front book.history) id legal.legal p.1.1);

@@ -17,11 +17,11 @@ use Rattle.topology.specs.declared.subscription.Subscription.{Subscription}
 use Rattle.topology.specs.Shapes.{Shape, ComputationShape, Reading, consumers_of, subscriptions_to, stream_of, injectors_of, parts_of}
 use Rattle.row_parts.specs.Contents.{IsId, delivery_cmp}
 use Rattle.run_history.specs.Made.{deliveries_made, delivery_at, sends_of, produced, row_to}
-use Rattle.history_laws.proofs.Lists.{each-all, each-map, each-weaker, each-both, each-flat_map, each-enumerate, sorted-append}
+use Rattle.run_history.proofs.Lists.{each-all, each-map, each-weaker, each-both, each-flat_map, each-enumerate, sorted-append}
 use Rattle.history_laws.proofs.Made.{each_of_commit, deliveries_made-each}
 use Rattle.history_laws.proofs.IdLaws.{made-ascend, across}
-use Rattle.book.specs.Fits.{is_sent_before}
-use Rattle.book.proofs.FitLaws.{both, each-passes, passes-each}
+use Rattle.run_history.specs.Fits.{is_sent_before}
+use Rattle.run_history.proofs.Fitting.{both, each-passes, passes-each}
 
 -- ---- ids
 
@@ -103,7 +103,7 @@ consumers-range : (stream : List ℕ) (n : ℕ) (cs : List ComputationShape)
     → AllByRecursion (IsConsumer n (n + length cs)) (flat_map (subscriptions_to stream) (enumerate_from n cs))
 consumers-range stream n [] = tt
 consumers-range stream n (c ∷ cs) =
-    Rattle.history_laws.proofs.Lists.each-append (IsConsumer n (n + length (c ∷ cs))) (subscriptions_to stream (n, c)) _
+    Rattle.run_history.proofs.Lists.each-append (IsConsumer n (n + length (c ∷ cs))) (subscriptions_to stream (n, c)) _
     (each-map (IsConsumer n (n + length (c ∷ cs))) (λ (r : Reading). record { to = n; by = r.by }) _ (each-all _ (λ r. (omega arith, omega arith)) _))
     (each-weaker (IsConsumer (n + 1) ((n + 1) + length cs)) (IsConsumer n (n + length (c ∷ cs)))
     (λ s is. let low = is.0 in let high = is.1 in (omega (arith, low), omega (arith, high))) _ (consumers-range stream (n + 1) cs))

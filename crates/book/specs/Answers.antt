@@ -10,7 +10,7 @@ use Rattle.row_keeper.specs.Rows.{Rows}
 use Rattle.run_history.specs.Runs.{run_of, row_of}
 use Rattle.run_history.specs.Fences.{last_claim}
 use Rattle.book.specs.Books.{BookView, LeaseView}
-use Rattle.book.specs.Fits.{fits}
+use Rattle.run_history.specs.Fits.{fits}
 use Rattle.book.specs.declared.answers.Written.{Written}
 use Rattle.book.specs.declared.refusals.StartWhy.{StartWhy}
 use Rattle.book.specs.declared.refusals.StartWhy.TheVariants as starts

@@ -10,7 +10,7 @@ use Rattle.run_history.specs.Runs.{run_of, row_of}
 use Rattle.run_history.specs.Legal.{MayFollow}
 use Rattle.run_history.specs.Fences.{IsUnderLastClaim, last_claim}
 use Rattle.book.specs.Books.{CoreView}
-use Rattle.book.specs.Fits.{fits}
+use Rattle.run_history.specs.Fits.{fits}
 
 -- for each interval it is known which claim is its last
 abbrev pub KnowsClaims : (ℕ → Option ℕ) → List Entry → Type 0

@@ -11,7 +11,7 @@ use Rattle.row_keeper.specs.declared.keeper.KeptRow.{KeptRow}
 use Rattle.run_history.specs.Cases.{CaseShape, intervals_of}
 use Rattle.run_history.specs.Runs.{run_of}
 use Rattle.book.specs.Books.{BookView}
-use Rattle.book.specs.Fits.{fits}
+use Rattle.run_history.specs.Fits.{fits}
 use Rattle.book.specs.Lawful.{IsKept}
 use Rattle.book.specs.declared.answers.NamedRow.{NamedRow}
 use Rattle.book.specs.declared.refusals.ClaimRefusal.{ClaimRefusal}

@@ -16,7 +16,7 @@ use Rattle.run_history.specs.Fences.{CarryNot, interval_of, known}
 use Rattle.run_history.specs.Finished.{is_handled}
 use Rattle.run_history.specs.Marks.{own_work}
 use Rattle.book.specs.Books.{BookView, LeaseView}
-use Rattle.book.specs.Fits.{fits}
+use Rattle.run_history.specs.Fits.{fits}
 
 -- a lease was got by a claim in the history
 abbrev pub IsClaimed : List Entry → LeaseView → Type 0

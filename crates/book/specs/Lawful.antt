@@ -19,7 +19,7 @@ use Rattle.run_history.specs.Finished.{unfinished}
 use Rattle.run_history.specs.Inputs.{IsRunnable}
 use Rattle.run_history.specs.Stored.{stored_rows}
 use Rattle.book.specs.Books.{CoreView}
-use Rattle.book.specs.Fits.{fits}
+use Rattle.run_history.specs.Fits.{fits}
 use Rattle.book.specs.Senders.{AreSenders}
 use Rattle.book.specs.Marks.{AreSafe}
 

@@ -1,5 +1,4 @@
 pub mod Books
-pub mod Fits
 pub mod Senders
 pub mod Marks
 pub mod Lawful

@@ -9,7 +9,7 @@ ghost use Rattle.row_parts.specs.Contents.{Contents};
 ghost use Rattle.row_parts.specs.Spelling.{spelling_of};
 ghost use Rattle.row_keeper.specs.Rows.{entry_of};
 ghost use Rattle.run_history.specs.Legal.{MayClaim};
-ghost use Rattle.book.specs.Fits.{fits};
+ghost use Rattle.run_history.specs.Fits.{fits};
 ghost use Rattle.book.specs.Lawful.{IsKept};
 ghost use Rattle.book.specs.Answers.{HasStayed, IsSameBook};
 ghost use Rattle.book.specs.Claims.{AreRowsOf, IsDamaged, IsFoundWithin, named, spelled};

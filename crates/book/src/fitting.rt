@@ -3,7 +3,8 @@ ghost use Rattle.std.specs.Prelude.{◌≡◌, ◌<◌, length};
 ghost use Rattle.std.specs.List.{list_all};
 ghost use Rattle.topology.specs.Shapes.{injectors_of};
 ghost use Rattle.run_history.specs.Cases.{source_of};
-ghost use Rattle.book.specs.Fits.{fits, has_kind, is_cursor_within, is_sent_before, suits_part};
+ghost use Rattle.run_history.specs.Fits.{fits, is_cursor_within, is_sent_before, suits_part};
+ghost use Rattle.computations.specs.Handlers.{has_kind};
 
 use mw_types::{Delivery, Kind, RowName, State};
 use row_parts::Row;

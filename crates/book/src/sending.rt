@@ -7,7 +7,7 @@ ghost use Rattle.topology.specs.Shapes.{consumers_of, parts_of};
 ghost use Rattle.topology.specs.Rules.{IsTopology};
 ghost use Rattle.row_parts.specs.Contents.{IsId, delivery_cmp};
 ghost use Rattle.run_history.specs.Made.{deliveries_made};
-ghost use Rattle.book.specs.Fits.{is_sent_before};
+ghost use Rattle.run_history.specs.Fits.{is_sent_before};
 
 use mw_types::{Delivery, DeliveryList, Duplicate, NoMemory, Production};
 use row_parts::Row;

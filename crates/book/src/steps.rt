@@ -7,7 +7,7 @@ ghost use Rattle.topology.specs.Shapes.{injectors_of};
 ghost use Rattle.row_parts.specs.Contents.{IsId, is_finished, with_id, without_timer};
 ghost use Rattle.run_history.specs.Cases.{record_of, source_of};
 ghost use Rattle.run_history.specs.Runs.{with_timers};
-ghost use Rattle.book.specs.Fits.{fits};
+ghost use Rattle.run_history.specs.Fits.{fits};
 ghost use Rattle.book.specs.Proposals.{IsEntryOf, IsFiring, IsHandling, IsNextLine, IsProposable, left_by};
 
 use crate::proposal::Proposal;

@@ -1,6 +1,6 @@
 -- A record that is handled is finished in the row that handled it, so a record that was made and is not finished waits.
 use Rattle.std.proofs.Common.{◌≡◌, ℕ, ◌≤◌, Bool, true, false, cond, List, [], ◌∷◌, ◌++◌, refl, sym, ◌∙◌, ap, subst, arith}
-use Rattle.std.specs.Prelude.{⊤, Some, None, filter, not, nat_lt, nat_le, ◌||◌}
+use Rattle.std.specs.Prelude.{⊤, Some, None, IsSome, filter, not, nat_lt, nat_le, ◌||◌}
 use Rattle.std.specs.List.{AllByRecursion, list_any}
 use Rattle.std.specs.Ordering.{match_ordering}
 use Rattle.std.specs.declared.cmp.Ordering.TheVariants.{Less, Equal, Greater}
@@ -21,9 +21,9 @@ use Rattle.run_history.specs.Runs.{Run, run_of, row_of, followed, changed, noted
 use Rattle.run_history.specs.Legal.{MayFollow, IsLegal, floor_of}
 use Rattle.run_history.specs.Finished.{handles, is_handled}
 use Rattle.history_laws.specs.Ids.{is_left}
-use Rattle.history_laws.proofs.Lists.{some_same, each-append, each-weaker, find-none, find-kept, filter-passes, each-filter}
+use Rattle.run_history.proofs.Lists.{some_same, each-append, each-weaker, find-none, find-kept, filter-passes, each-filter}
 use Rattle.history_laws.proofs.Along.{along_history}
-use Rattle.history_laws.proofs.IdLaws.{same_id-true, same_id-itself, AreIds, WasMade, legal-ids, is_handled-push}
+use Rattle.history_laws.proofs.IdLaws.{same_id-true, same_id-itself, AreIds, WasMade, legal-ids, legal-tells, is_handled-push}
 use Rattle.history_laws.proofs.FloorLaws.{floor_of-followed}
 use Rattle.history_laws.proofs.PendingLaws.{waiting-above}
 use Rattle.history_laws.proofs.RowSteps.{row_of-step, row_of-here, both_Equal}
@@ -341,3 +341,30 @@ finished-handled case history d legal made = elim (is_handled d.id history) as (
     by_test : (b : Bool) → is_finished d.id row ≡ b → is_handled d.id history ≡ false → b ≡ false
     by_test true done e = absurd (by_seen (nat_lt d.id.commit row.floor) refl done e)
     by_test false done e = refl
+
+-- an id under which nothing was made is finished in no row, unless it is below the floor
+pub unmade-unfinished : (case : CaseShape) (history : List Entry) (id : RecordId) (name : RowName) → IsLegal case history
+    → found_delivery id (run_of case.topology history).made ≡ None → floor_of (run_of case.topology history) ≤ id.commit
+    → is_finished id (row_of case.topology (run_of case.topology history) name) ≡ false
+unmade-unfinished case history id name legal unmade above = by_test (is_finished id row) refl
+  where
+    row : Contents
+    row = row_of case.topology (run_of case.topology history) name
+
+    kept : AreFloorsKept case history (run_of case.topology history)
+    kept = legal-floors case history legal
+
+    by_seen : (b : Bool) → nat_lt id.commit row.floor ≡ b → (b || list_any (same_id id) row.seen) ≡ true → ⊥
+    by_seen true below done =
+        let less = ltb-true id.commit row.floor below in
+        let under = kept.floors name in absurd (omega (arith, less, under, above))
+    by_seen false below done =
+        let handled = seen-each (λ (i : RecordId). is_handled i history ≡ true) id row.seen (kept.seen name) done in
+        absurd (none (subst IsSome unmade ((legal-tells case history legal).handled id handled)))
+      where
+        none : IsSome {X = Delivery} None → ⊥
+        none is = cc
+
+    by_test : (b : Bool) → is_finished id row ≡ b → b ≡ false
+    by_test true done = absurd (by_seen (nat_lt id.commit row.floor) refl done)
+    by_test false done = refl

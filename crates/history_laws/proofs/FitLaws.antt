@@ -1,9 +1,9 @@
 -- Each row of a legal history fits its name.
-use Rattle.std.proofs.Common.{◌≡◌, ◌==◌, ℕ, ℤ, ◌+◌, ◌<◌, ◌≤◌, true, false, cond, Option, Some, None, List, [], length, refl, sym, subst, arith}
-use Rattle.std.specs.Prelude.{⊤, MatchOption, filter, not}
+use Rattle.std.proofs.Common.{◌≡◌, ◌==◌, ℕ, ℤ, ◌+◌, ◌<◌, ◌≤◌, true, false, cond, Option, Some, None, List, [], length, refl, sym, ◌∙◌, ap, subst, arith, ◌&&◌}
+use Rattle.std.specs.Prelude.{⊤, MatchOption, filter, not, nat_lt, nat_le}
 use Rattle.std.specs.Option.{option_map_or}
-use Rattle.std.specs.List.{AllByRecursion}
-use Rattle.std.proofs.lemmas.List.Elements.{All-from_recursion}
+use Rattle.std.specs.List.{AllByRecursion, list_all}
+use Rattle.std.proofs.lemmas.Bool.{and_from, lt-ltb, le-leb}
 use Rattle.mw_types.specs.declared.identity.RowName.{RowName}
 use Rattle.mw_types.specs.declared.record.Record.{Record}
 use Rattle.mw_types.specs.declared.timer.Timer.{Timer}
@@ -21,12 +21,14 @@ use Rattle.topology.specs.declared.subscription.Subscription.{Subscription}
 use Rattle.topology.specs.Shapes.{Shape, injectors_of, parts_of, kind_of}
 use Rattle.computations.specs.Handlers.{has_kind, fresh_state, unchanged, outcome_with_timer, outcome_with_record, one_more, window_end, counted, window_due, count_timer, due_time, held_with, total_due, is_spike, known_with, spike_timer, effects_of_record, effects_of_timer}
 use Rattle.row_parts.specs.Contents.{Contents, same_id}
-use Rattle.run_history.specs.Cases.{CaseShape, is_injector, fresh_of}
+use Rattle.run_history.specs.Cases.{CaseShape, is_injector, source_of, fresh_of}
 use Rattle.run_history.specs.Made.{row_written, late_cause, productions_of, deliveries_of, deliveries_made}
 use Rattle.run_history.specs.Runs.{Run, run_of, row_of, followed, changed, advanced, empty_run}
 use Rattle.run_history.specs.Legal.{MayFollow, IsLegal}
-use Rattle.history_laws.specs.Fitting.{IsCursor, IsStateOf, IsSendable, FitsName}
-use Rattle.history_laws.proofs.Lists.{some_same, each-append, each-all, each-weaker, each-filter, each-both}
+use Rattle.run_history.specs.Watermarks.{cursor_in}
+use Rattle.run_history.specs.Fits.{is_cursor_within, is_sent_before, suits_part, fits}
+use Rattle.run_history.proofs.Fitting.{kind-none, kind-some, passes-each, fresh_state-kind}
+use Rattle.run_history.proofs.Lists.{some_same, each-append, each-all, each-weaker, each-filter, each-both}
 use Rattle.history_laws.proofs.Along.{along_history}
 use Rattle.history_laws.proofs.Made.{deliveries_made-each}
 use Rattle.history_laws.proofs.FeedLaws.{consumers-there, injector-no_kind}
@@ -79,11 +81,14 @@ timer-kind (kinds.Spike last times) key (states.Injector cursor) timer of = absu
 timer-kind (kinds.Spike last times) key (states.Count late windows) timer of = absurd cc
 timer-kind (kinds.Spike last times) key (states.Pass late) timer of = absurd cc
 
--- a fresh state is of its kind
-fresh-kind : (kind : Kind) → has_kind kind (fresh_state kind) ≡ true
-fresh-kind (kinds.Count size) = refl
-fresh-kind (kinds.Spike last times) = refl
-fresh-kind kinds.Pass = refl
+-- the state is an injector's
+abbrev IsCursor : State → Type 0
+IsCursor (states.Injector cursor) = ⊤
+IsCursor _ = ⊥
+
+-- a state is of the kind of a part: a computation's is of its kind, and another part's is an injector's
+abbrev IsStateOf : Shape → ℕ → State → Type 0
+IsStateOf shape part state = MatchOption (kind_of shape part) (IsCursor state) (λ kind. has_kind kind state ≡ true)
 
 -- a fresh row's state is of the kind of its part
 fresh_of-kind : (shape : Shape) (part : ℕ) → IsStateOf shape part (fresh_of shape part)
@@ -91,7 +96,7 @@ fresh_of-kind shape part = by_kind (kind_of shape part)
   where
     by_kind : (o : Option Kind) → MatchOption o (IsCursor (option_map_or fresh_state o (states.Injector 0))) (λ kind. has_kind kind (option_map_or fresh_state o (states.Injector 0)) ≡ true)
     by_kind None = tt
-    by_kind (Some kind) = fresh-kind kind
+    by_kind (Some kind) = fresh_state-kind kind
 
 -- a state of a computation is of its kind
 pub of_kind : (shape : Shape) (part : ℕ) (kind : Kind) (state : State) → kind_of shape part ≡ Some kind → IsStateOf shape part state → has_kind kind state ≡ true
@@ -209,20 +214,49 @@ pub legal-of_kind : (case : CaseShape) (history : List Entry) → IsLegal case h
 legal-of_kind case = along_history case (λ done run. AreOfKind case run) (λ done run entry are may. AreOfKind-followed case run entry are may)
     (AreOfKind-empty case)
 
--- each row of a legal history fits its name
-pub legal-fits : (case : CaseShape) (history : List Entry) (name : RowName) → IsLegal case history
-    → FitsName case (length history) name (row_of case.topology (run_of case.topology history) name)
-legal-fits case history name legal =
+-- an injector's state, which has injected no more lines than these, is one within them
+cursor-within : (lines : ℕ) (state : State) → IsCursor state → cursor_in state ≤ lines → is_cursor_within lines state ≡ true
+cursor-within lines (states.Injector cursor) is le = le-leb cursor lines le
+cursor-within lines (states.Count late windows) is le = absurd is
+cursor-within lines (states.Spike late held known) is le = absurd is
+cursor-within lines (states.Pass late) is le = absurd is
+
+-- a state and timers as they stand after a legal history suit their part, where that is there
+suits-part : (case : CaseShape) (part : ℕ) (row : Contents) → part < parts_of case.topology → IsStateOf case.topology part row.state
+    → (is_injector case.topology part ≡ true → cursor_in row.state ≤ length (source_of case part))
+    → (is_injector case.topology part ≡ true → row.timers ≡ []) → suits_part case part row ≡ true
+suits-part case part row there of lines none = by_part (is_injector case.topology part) refl
+  where
+    by_part : (b : Bool) → is_injector case.topology part ≡ b
+        → cond b (is_cursor_within (length (source_of case part)) row.state && (length row.timers == 0))
+            (option_map_or (λ (kind : Kind). has_kind kind row.state) (kind_of case.topology part) false) ≡ true
+    by_part true is =
+        let cursor : IsCursor row.state = subst (λ o. MatchOption o (IsCursor row.state) (λ kind. has_kind kind row.state ≡ true)) (kind-none case.topology part is) of in
+        and_from (is_cursor_within (length (source_of case part)) row.state) (length row.timers == 0)
+        (cursor-within (length (source_of case part)) row.state cursor (lines is)) (ap (λ l. length l == 0) (none is))
+    by_part false is =
+        let kind = kind-some case.topology part is there in
+        ap (λ o. option_map_or (λ (k : Kind). has_kind k row.state) o false) kind.1 ∙ of_kind case.topology part kind.0 row.state kind.1 of
+
+-- a delivery that was made by one of so many entries, and goes to a computation
+sent-tested : (shape : Shape) (n : ℕ) (d : Delivery) → d.id.commit < n → GoesToReader shape d → is_sent_before shape n d ≡ true
+sent-tested shape n d less goes =
+    and_from (nat_lt d.id.commit n && nat_le (injectors_of shape) d.to.part) (nat_lt d.to.part (parts_of shape))
+    (and_from (nat_lt d.id.commit n) (nat_le (injectors_of shape) d.to.part) (lt-ltb d.id.commit n less) (le-leb (injectors_of shape) d.to.part goes.0))
+    (lt-ltb d.to.part (parts_of shape) goes.1)
+
+-- each row of a legal history fits its name, where its part is there
+pub legal-fits : (case : CaseShape) (history : List Entry) (name : RowName) → IsLegal case history → name.part < parts_of case.topology
+    → fits case (length history) name (row_of case.topology (run_of case.topology history) name) ≡ true
+legal-fits case history name legal there =
     let run = run_of case.topology history in
     let are = legal-of_kind case history legal in
-    let pending = (row_of case.topology run name).pending in record {
-      state = are.states name;
-      lines = (legal-within case history legal).each name;
-      no_timer = are.no_timers name;
-      pending = All-from_recursion (IsSendable case.topology (length history)) pending
-          (each-weaker (λ (d : Delivery). (d.id.commit < run.next) × GoesToReader case.topology d) (IsSendable case.topology (length history))
-          (λ d (both : (d.id.commit < run.next) × GoesToReader case.topology d).
-          let less = both.0 in record { made = omega (arith, less, next-length case.topology history); reads = both.1.0; there = both.1.1 }) pending
-          (each-both (λ (d : Delivery). d.id.commit < run.next) (GoesToReader case.topology) pending
-          (row_of-in_order case.topology run name (pending-in_order case.topology history)).below (are.reads name)));
-    }
+    let row = row_of case.topology run name in
+    and_from (suits_part case name.part row) (list_all (is_sent_before case.topology (length history)) row.pending)
+    (suits-part case name.part row there (are.states name) ((legal-within case history legal).each name) (are.no_timers name))
+    (passes-each (is_sent_before case.topology (length history)) row.pending
+    (each-weaker (λ (d : Delivery). (d.id.commit < run.next) × GoesToReader case.topology d) (λ d. is_sent_before case.topology (length history) d ≡ true)
+    (λ d (both : (d.id.commit < run.next) × GoesToReader case.topology d).
+    let less = both.0 in sent-tested case.topology (length history) d (omega (arith, less, next-length case.topology history)) both.1) row.pending
+    (each-both (λ (d : Delivery). d.id.commit < run.next) (GoesToReader case.topology) row.pending
+    (row_of-in_order case.topology run name (pending-in_order case.topology history)).below (are.reads name))))

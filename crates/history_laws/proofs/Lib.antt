@@ -1,4 +1,3 @@
-pub mod Lists
 pub mod Along
 pub mod Made
 pub mod FloorLaws
@@ -12,18 +11,17 @@ pub mod FenceLaws
 pub mod StampLaws
 pub mod WorkLaws
 pub mod LowLaws
+pub mod CoveredLaws
 pub mod SentLaws
 pub mod SenderLaws
 pub mod AckLaws
 pub mod StoredLaws
-pub mod IntervalLaws
 pub mod UnfinishedLaws
 pub mod OwnLaws
 pub mod MarkLaws
 pub mod ReportLaws
 pub mod FitLaws
 pub mod StateLaws
-pub mod ClaimLaws
 pub mod CountLaws
 pub mod PrintLaws
 pub mod OnceLaws

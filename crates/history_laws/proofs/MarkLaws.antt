@@ -31,7 +31,7 @@ use Rattle.run_history.specs.Legal.{MayFollow, AreLegal, IsLegal}
 use Rattle.run_history.proofs.Lookups.{each_found}
 use Rattle.run_history.specs.Inputs.{IsRunnable}
 use Rattle.run_history.specs.Marks.{stamps_pending, row_marks, stated_marks, own_work, part_work, work_under, work_above, IsSafe}
-use Rattle.history_laws.proofs.Lists.{each-append, each-weaker, each-both, each-map}
+use Rattle.run_history.proofs.Lists.{each-append, each-weaker, each-both, each-map}
 use Rattle.history_laws.proofs.Along.{run_of-append, AreLegal-apart, along_entries}
 use Rattle.history_laws.proofs.FeedLaws.{feeds-before}
 use Rattle.history_laws.proofs.IdLaws.{AreIds, AreIds-followed, legal-ids}

@@ -20,7 +20,7 @@ use Rattle.run_history.specs.Watermarks.{source_mark}
 use Rattle.run_history.specs.Legal.{MayFollow}
 use Rattle.run_history.specs.Inputs.{IsRunnable}
 use Rattle.history_laws.specs.Ids.{IsSentBy}
-use Rattle.history_laws.proofs.Lists.{some_same, each-append, each-all, each-weaker, each-filter, find-each}
+use Rattle.run_history.proofs.Lists.{some_same, each-append, each-all, each-weaker, each-filter, find-each}
 use Rattle.history_laws.proofs.Made.{deliveries_made-each}
 use Rattle.history_laws.proofs.HandlerBounds.{IsTimerAfter}
 use Rattle.history_laws.proofs.IdLaws.{AreIds}

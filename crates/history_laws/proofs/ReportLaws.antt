@@ -7,6 +7,7 @@ use Rattle.std.specs.Cmp.{first_so, second_so}
 use Rattle.std.proofs.lemmas.Bool.{eqb-true}
 use Rattle.std.proofs.lemmas.List.Elements.{All-contains, All-from_recursion, recursion_from_All}
 use Rattle.mw_types.specs.declared.TheConstants.{END}
+use Rattle.mw_types.specs.declared.identity.RowName.{RowName}
 use Rattle.mw_types.specs.declared.delivery.Delivery.{Delivery}
 use Rattle.mw_types.specs.declared.entry.Entry.{Entry}
 use Rattle.key_intervals.specs.declared.bounds.Bounds.{Bounds}
@@ -21,7 +22,7 @@ use Rattle.run_history.specs.Legal.{IsLegal}
 use Rattle.history_laws.specs.Ids.{IsSentBy}
 use Rattle.run_history.specs.Inputs.{IsRunnable}
 use Rattle.run_history.specs.Marks.{own_work, work_above, IsSafe, IsUnderMarks}
-use Rattle.history_laws.proofs.Lists.{each-weaker, each-both, find-each}
+use Rattle.run_history.proofs.Lists.{each-weaker, each-both, find-each}
 use Rattle.history_laws.proofs.PendingLaws.{AreSent, legal-sent}
 use Rattle.history_laws.proofs.WorkLaws.{WaitsFrom, IsWorkFrom, FeedsFrom}
 use Rattle.history_laws.proofs.LowLaws.{rows-in_order, LowFrom, from-low}
@@ -124,10 +125,24 @@ above-low case run x sent (suc depth) part above = (
       (λ f from. above-feed case run x (LowFrom case run x depth) f from (λ again. above-low case run x sent depth f again)) (feeds_of case.topology part) (feeds-above case run x part above),
 )
 
+-- a mark that is at most a safe mark of each interval of a part is not above the end
+marks-end : (case : CaseShape) (run : Run) (x part : ℕ) → part < parts_of case.topology → IsUnderMarks case run part x → x ≤ END
+marks-end case run x part there under =
+    covered (x ≤ END) case.topology first there
+    (each-numbered (λ (b : Bounds). covers b first ≡ true → x ≤ END) (intervals_of case.topology)
+    (λ i b at has.
+    let mark = under i b at (of_part b first has) in
+    let below = mark.1 in
+    let own = mark.2.own in
+    let top = own-end case run b in omega (arith, below, own, top)))
+  where
+    first : RowName
+    first = record { part = part; key = [] }
+
 -- a mark that is at most a safe mark of each interval of a part is at most the part's low watermark
-pub marks-low : (case : CaseShape) (history : List Entry) (part x : ℕ) → IsRunnable case → IsLegal case history → part < parts_of case.topology → x ≤ END
+pub marks-low : (case : CaseShape) (history : List Entry) (part x : ℕ) → IsRunnable case → IsLegal case history → part < parts_of case.topology
     → IsUnderMarks case (run_of case.topology history) part x → x ≤ low_watermark case (run_of case.topology history) part
-marks-low case history part x runs legal there end under =
+marks-low case history part x runs legal there under =
     let run = run_of case.topology history in
-    from-low case run x (parts_of case.topology) part (rows-in_order case.topology history) end
+    from-low case run x (parts_of case.topology) part (rows-in_order case.topology history) (marks-end case run x part there under)
     (above-low case run x (legal-sent case history legal) (parts_of case.topology) part (marks-above case run x part runs there under))

@@ -25,7 +25,7 @@ use Rattle.run_history.specs.Cases.{fresh_of}
 use Rattle.run_history.specs.Made.{row_written, deliveries_of}
 use Rattle.run_history.specs.Runs.{Run, run_of, row_in, row_of, row_after, followed, changed, empty_run}
 use Rattle.run_history.proofs.Lookups.{lookup-insert_entry, each-insert_entry}
-use Rattle.history_laws.proofs.Lists.{none_some, some_same, each-weaker, each-filter, found_of_each, sorted-append}
+use Rattle.run_history.proofs.Lists.{none_some, some_same, each-weaker, each-filter, found_of_each, sorted-append}
 use Rattle.history_laws.proofs.Along.{along_any}
 use Rattle.history_laws.proofs.Made.{each_of_commit}
 use Rattle.history_laws.proofs.IdLaws.{across, below_next, made-ascend}

@@ -25,14 +25,16 @@ use Rattle.run_history.specs.Fences.{interval_of, sequencer_of, last_claim, IsFe
 use Rattle.run_history.specs.Finished.{handles, is_handled}
 use Rattle.history_laws.specs.Ids.{is_left}
 use Rattle.run_history.specs.Inputs.{IsRunnable}
-use Rattle.history_laws.specs.Writes.{IsLawful, IsSeenWrite}
-use Rattle.history_laws.proofs.Lists.{some_same, find-each, find-kept, find-more, find-passes, filter-passes}
+use Rattle.history_laws.specs.Writes.{IsSeenWrite, IsLegalAndFenced}
+use Rattle.run_history.proofs.Lists.{some_same, find-each, find-kept, find-more, find-passes, filter-passes}
 use Rattle.history_laws.proofs.Along.{run_of-append, AreLegal-apart}
 use Rattle.history_laws.proofs.FloorLaws.{floor_of-rises}
 use Rattle.history_laws.proofs.IdLaws.{same_id-true, WasMade, legal-ids, waits_as_made}
 use Rattle.history_laws.proofs.FinishedLaws.{is_handled-more, handled-waits_not}
 use Rattle.history_laws.proofs.PendingLaws.{was_some, kind-there}
-use Rattle.history_laws.proofs.FenceLaws.{last_claim-front, carried, row_in-seen, row_of-seen, IsFenced-push, IsFenced-begins, IsFenced-empty, claim-under, entry-under}
+use Rattle.history_laws.proofs.FenceLaws.{row_in-seen, row_of-seen}
+use Rattle.run_history.proofs.Claims.{last_claim-front}
+use Rattle.run_history.proofs.Fenced.{carried, IsFenced-push, IsFenced-begins, IsFenced-empty, claim-under, entry-under}
 use Rattle.history_laws.proofs.LowLaws.{low_watermark-rises}
 use Rattle.history_laws.proofs.SentLaws.{pending-handled}
 
@@ -215,29 +217,29 @@ pub IsFenced-seen : (shape : Shape) (front rest : List Entry) (interval seq : �
 IsFenced-seen shape front rest interval seq entry fenced seen under =
     IsFenced-push shape (front ++ rest) entry fenced (entry-under shape (front ++ rest) entry under.name interval seq under.on_row under.of_interval seen.last under.carries)
 
--- a write that was worked out on a beginning keeps the whole lawful
-pub IsLawful-seen : (case : CaseShape) (front rest : List Entry) (interval seq : ℕ) (entry : Entry) → IsRunnable case
-    → IsSeenWrite case front rest interval seq entry → IsLawful case ((front ++ rest) ++ entry ∷ [])
-IsLawful-seen case front rest interval seq entry runs write = record {
+-- a write that was worked out on a beginning keeps the whole legal and fenced
+pub IsLegalAndFenced-seen : (case : CaseShape) (front rest : List Entry) (interval seq : ℕ) (entry : Entry) → IsRunnable case
+    → IsSeenWrite case front rest interval seq entry → IsLegalAndFenced case ((front ++ rest) ++ entry ∷ [])
+IsLegalAndFenced-seen case front rest interval seq entry runs write = record {
   legal = IsLegal-seen case front rest interval seq entry runs write.history.legal write.history.fenced write.seen write.under write.may;
   fenced = IsFenced-seen case.topology front rest interval seq entry write.history.fenced write.seen write.under;
 }
 
 -- and so does a claim
-pub IsLawful-claim : (case : CaseShape) (history : List Entry) (worker interval : ℕ) → IsLawful case history → MayClaim case worker interval
-    → IsLawful case (history ++ Claim worker interval ∷ [])
-IsLawful-claim case history worker interval lawful may = record {
+pub IsLegalAndFenced-claim : (case : CaseShape) (history : List Entry) (worker interval : ℕ) → IsLegalAndFenced case history → MayClaim case worker interval
+    → IsLegalAndFenced case (history ++ Claim worker interval ∷ [])
+IsLegalAndFenced-claim case history worker interval lawful may = record {
   legal = IsLegal-push case history (Claim worker interval) lawful.legal may;
   fenced = IsFenced-push case.topology history (Claim worker interval) lawful.fenced (claim-under case.topology history worker interval);
 }
 
--- before any entry a history is lawful
-pub IsLawful-empty : (case : CaseShape) → IsLawful case []
-IsLawful-empty case = record { legal = tt; fenced = IsFenced-empty case.topology }
+-- before any entry a history is legal and fenced
+pub IsLegalAndFenced-empty : (case : CaseShape) → IsLegalAndFenced case []
+IsLegalAndFenced-empty case = record { legal = tt; fenced = IsFenced-empty case.topology }
 
--- a beginning of a lawful history is lawful
-pub IsLawful-front : (case : CaseShape) (front rest : List Entry) → IsLawful case (front ++ rest) → IsLawful case front
-IsLawful-front case front rest lawful = record {
+-- a beginning of a legal and fenced history is legal and fenced
+pub IsLegalAndFenced-front : (case : CaseShape) (front rest : List Entry) → IsLegalAndFenced case (front ++ rest) → IsLegalAndFenced case front
+IsLegalAndFenced-front case front rest lawful = record {
   legal = (AreLegal-apart case front rest Rattle.run_history.specs.Runs.empty_run lawful.legal).0;
   fenced = IsFenced-begins case.topology front (front ++ rest) (rest, refl) lawful.fenced;
 }

@@ -1,5 +1,5 @@
 -- What is pending in a row was made by an entry on the row, so no id is pending in two rows.
-use Rattle.std.proofs.Common.{◌≡◌, ℕ, zero, suc, ◌+◌, List, [], ◌∷◌, ◌++◌, length, refl, sym, ◌∙◌, ap}
+use Rattle.std.proofs.Common.{◌≡◌, ◌+◌, List, [], ◌∷◌, ◌++◌, length, refl, sym, ◌∙◌, ap}
 use Rattle.std.specs.Prelude.{Some, not, slice_get}
 use Rattle.std.specs.List.{AllByRecursion}
 use Rattle.mw_types.specs.declared.identity.RecordId.{RecordId}
@@ -11,27 +11,22 @@ use Rattle.topology.specs.Shapes.{Shape}
 use Rattle.row_parts.specs.Contents.{Contents, same_id}
 use Rattle.run_history.specs.Made.{found_delivery, row_written, deliveries_of}
 use Rattle.run_history.specs.Runs.{Run, run_of, row_of, followed, changed, empty_run}
+use Rattle.run_history.proofs.Lists.{some_same, each-append, each-weaker, each-filter, find-each, find-passes}
+use Rattle.run_history.proofs.Beginnings.{slice_get-more, slice_get-last}
 use Rattle.history_laws.specs.Ids.{IsMadeOn}
-use Rattle.history_laws.proofs.Lists.{none_some, some_same, each-append, each-weaker, each-filter, find-each, find-passes}
 use Rattle.history_laws.proofs.Along.{along_all}
 use Rattle.history_laws.proofs.Made.{each_of_commit}
 use Rattle.history_laws.proofs.IdLaws.{same_id-true}
 use Rattle.history_laws.proofs.RowSteps.{row_of-step}
 
--- an entry stays at its place where more follow
-slice_get-more : (history : List Entry) (n : ℕ) (e : Entry) (more : List Entry) → slice_get history n ≡ Some e → slice_get (history ++ more) n ≡ Some e
-slice_get-more [] n e more at = absurd (none_some e at)
-slice_get-more (x ∷ xs) zero e more at = at
-slice_get-more (x ∷ xs) (suc n) e more at = slice_get-more xs n e more at
-
--- the last entry stands behind all others
-slice_get-last : (history : List Entry) (e : Entry) → slice_get (history ++ e ∷ []) (length history) ≡ Some e
-slice_get-last [] e = refl
-slice_get-last (x ∷ xs) e = slice_get-last xs e
-
--- a delivery stays made by its entry
-IsMadeOn-more : (history : List Entry) (name : RowName) (d : Delivery) (e : Entry) → IsMadeOn history name d → IsMadeOn (history ++ e ∷ []) name d
-IsMadeOn-more history name d e on = record { entry = on.entry; numbered = slice_get-more history d.id.commit on.entry (e ∷ []) on.numbered; on_row = on.on_row }
+-- a delivery stays made by its entry where more entries follow
+pub IsMadeOn-more : (history : List Entry) (name : RowName) (d : Delivery) (more : List Entry) → IsMadeOn history name d
+    → IsMadeOn (history ++ more) name d
+IsMadeOn-more history name d more on = record {
+  entry = on.entry;
+  numbered = slice_get-more history d.id.commit on.entry more on.numbered;
+  on_row = on.on_row;
+}
 
 -- what an entry leaves pending in its row was made by entries on the row
 changed-on : (history : List Entry) (name : RowName) (entry : Entry) (sent : List Delivery) (row : Contents)
@@ -59,7 +54,7 @@ ArePendingOn-followed shape history run entry on = record {
 }
   where
     old : (name : RowName) → AllByRecursion (IsMadeOn (history ++ entry ∷ []) name) (row_of shape run name).pending
-    old name = each-weaker (IsMadeOn history name) (IsMadeOn (history ++ entry ∷ []) name) (λ d was. IsMadeOn-more history name d entry was) (row_of shape run name).pending (on.each name)
+    old name = each-weaker (IsMadeOn history name) (IsMadeOn (history ++ entry ∷ []) name) (λ d was. IsMadeOn-more history name d (entry ∷ []) was) (row_of shape run name).pending (on.each name)
 
     new : (name : RowName) → row_written entry ≡ Some name → AllByRecursion (IsMadeOn (history ++ entry ∷ []) name) (deliveries_of shape run.made run.next entry)
     new name written = each-weaker (λ (d : Delivery). d.id.commit ≡ run.next) (IsMadeOn (history ++ entry ∷ []) name)

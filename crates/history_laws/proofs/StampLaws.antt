@@ -30,7 +30,7 @@ use Rattle.run_history.specs.Runs.{Run, run_of, row_of, followed, changed, with_
 use Rattle.run_history.specs.Legal.{MayFollow, IsLegal}
 use Rattle.run_history.specs.Inputs.{IsRunnable}
 use Rattle.run_history.specs.Finished.{handles}
-use Rattle.history_laws.proofs.Lists.{none_some, some_same, each-append, each-all, each-weaker, each-filter, find-each}
+use Rattle.run_history.proofs.Lists.{none_some, some_same, each-append, each-all, each-weaker, each-filter, find-each}
 use Rattle.history_laws.proofs.Along.{along_history}
 use Rattle.history_laws.proofs.Made.{deliveries_made-each}
 use Rattle.history_laws.proofs.FeedLaws.{kind-ranged}

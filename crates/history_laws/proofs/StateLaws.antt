@@ -33,7 +33,7 @@ use Rattle.run_history.specs.Made.{row_written, deliveries_of}
 use Rattle.run_history.specs.Runs.{Run, run_of, row_of, followed, changed, advanced}
 use Rattle.run_history.specs.Legal.{MayFollow, IsLegal}
 use Rattle.run_history.specs.Inputs.{IsRunnable}
-use Rattle.history_laws.proofs.Lists.{some_same, find-each}
+use Rattle.run_history.proofs.Lists.{some_same, find-each}
 use Rattle.history_laws.proofs.Along.{along_history}
 use Rattle.history_laws.proofs.FeedLaws.{kind-ranged}
 use Rattle.history_laws.proofs.FitLaws.{AreOfKind, AreOfKind-followed, of_kind, AreOfKind-empty}

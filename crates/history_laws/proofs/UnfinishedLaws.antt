@@ -23,7 +23,7 @@ use Rattle.run_history.specs.Watermarks.{cursor_in, cursor_of}
 use Rattle.run_history.specs.Legal.{MayFollow, IsLegal, IsDone}
 use Rattle.run_history.specs.Finished.{all_pending, all_timers, has_line, injectors_left, unfinished, IsFinished, row_has_line, work_in}
 use Rattle.history_laws.specs.Ids.{IsSentBy}
-use Rattle.history_laws.proofs.Lists.{none_some, some_same}
+use Rattle.run_history.proofs.Lists.{none_some, some_same}
 use Rattle.history_laws.proofs.Along.{along_history}
 use Rattle.history_laws.proofs.FeedLaws.{injector-no_kind}
 use Rattle.history_laws.proofs.PendingLaws.{was_some, legal-sent}

@@ -31,7 +31,7 @@ use Rattle.run_history.specs.Watermarks.{cursor_in, cursor_of, source_mark}
 use Rattle.run_history.specs.Legal.{MayFollow}
 use Rattle.run_history.specs.Finished.{handles}
 use Rattle.run_history.specs.Inputs.{IsRunnable}
-use Rattle.history_laws.proofs.Lists.{none_some, some_same, each-append, each-weaker, each-filter, find-each}
+use Rattle.run_history.proofs.Lists.{none_some, some_same, each-append, each-weaker, each-filter, find-each}
 use Rattle.history_laws.proofs.Made.{deliveries_made-each}
 use Rattle.history_laws.proofs.FeedLaws.{consumers-fed, injector-no_kind}
 use Rattle.history_laws.proofs.HandlerBounds.{IsTimerAfter, IsProductionAfter}

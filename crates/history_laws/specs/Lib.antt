@@ -1,4 +1,3 @@
 pub mod Writes
 pub mod Ids
 pub mod Stamps
-pub mod Fitting

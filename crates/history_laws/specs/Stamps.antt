@@ -8,7 +8,7 @@ use Rattle.topology.specs.Shapes.{Shape}
 use Rattle.run_history.specs.Runs.{Run, row_of}
 
 -- no delivery that was made has a timestamp above the greatest, and no timer that is set is due after it
-pub record IsInTime (shape : Shape) (run : Run) : Type 0 where
+pub record AreStampsWithin (shape : Shape) (run : Run) : Type 0 where
   pub made : All (λ (d : Delivery). d.item.stamp ≤ MAX_STAMP) run.made
   pub timers : (name : RowName) →
       All (λ (t : Timer). t.time ≤ MAX_STAMP) (row_of shape run name).timers

@@ -1,15 +1,16 @@
 //! What ids tell.
-ghost use Rattle.std.specs.Prelude.{ℕ, false, List, All, Some, ◌≡◌, ◌<◌, length};
+ghost use Rattle.std.specs.Prelude.{ℕ, false, List, All, None, Some, ◌≡◌, ◌<◌, ◌≤◌, length};
 ghost use Rattle.std.specs.List.Sorted.{IsStrictlySortedBy};
 ghost use Rattle.mw_types.specs.declared.delivery.Delivery.{Delivery};
 ghost use Rattle.mw_types.specs.declared.entry.Entry.{Entry};
+ghost use Rattle.mw_types.specs.declared.identity.RecordId.{RecordId};
 ghost use Rattle.mw_types.specs.declared.identity.RowName.{RowName};
 ghost use Rattle.topology.specs.Shapes.{Shape};
 ghost use Rattle.row_parts.specs.Contents.{delivery_cmp, is_finished};
 ghost use Rattle.run_history.specs.Cases.{CaseShape};
 ghost use Rattle.run_history.specs.Made.{deliveries_of, found_delivery};
 ghost use Rattle.run_history.specs.Runs.{run_of, row_of};
-ghost use Rattle.run_history.specs.Legal.{IsLegal};
+ghost use Rattle.run_history.specs.Legal.{IsLegal, floor_of};
 ghost use Rattle.run_history.specs.Finished.{is_handled};
 ghost use Rattle.history_laws.specs.Ids.{TellsWhatWaits, IsSentBy};
 
@@ -53,4 +54,10 @@ pub fn ids_tell_what_is_finished()
         found_delivery d.id run.made ≡ Some d →
         is_finished d.id (row_of case.topology run d.to) ≡ false →
         found_delivery d.id run.unhandled ≡ Some d }
+
+    // An id under which nothing was made is finished in no row, unless it is below the floor.
+    ensures unmade { (case : CaseShape) (history : List Entry) (id : RecordId) (name : RowName) →
+        IsLegal case history → let run = run_of case.topology history in
+        found_delivery id run.made ≡ None → floor_of run ≤ id.commit →
+        is_finished id (row_of case.topology run name) ≡ false }
 {}

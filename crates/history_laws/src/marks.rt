@@ -1,6 +1,5 @@
 //! Marks of intervals: what is still to do in them and above them.
 ghost use Rattle.std.specs.Prelude.{ℕ, List, Some, All, max, slice_get, ◌≡◌, ◌<◌, ◌≤◌, ◌++◌};
-ghost use Rattle.mw_types.specs.declared.TheConstants.{END};
 ghost use Rattle.mw_types.specs.declared.entry.Entry.{Entry};
 ghost use Rattle.key_intervals.specs.declared.bounds.Bounds.{Bounds};
 ghost use Rattle.topology.specs.Shapes.{feeds_of, parts_of};
@@ -42,7 +41,7 @@ pub fn reported_marks_are_safe()
 /// watermark.
 pub fn safe_marks_are_under_low_watermarks()
     ensures low { (case : CaseShape) (history : List Entry) (part mark : ℕ) →
-        IsRunnable case → IsLegal case history → part < parts_of case.topology → mark ≤ END →
+        IsRunnable case → IsLegal case history → part < parts_of case.topology →
         let run = run_of case.topology history in
         IsUnderMarks case run part mark → mark ≤ low_watermark case run part }
 {}

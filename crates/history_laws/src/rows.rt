@@ -3,7 +3,11 @@ ghost use Rattle.std.specs.Prelude.{ℕ, List, Some, slice_get, ◌≡◌, ◌�
 ghost use Rattle.mw_types.specs.declared.entry.Entry.{Entry};
 ghost use Rattle.mw_types.specs.declared.entry.Entry.TheVariants.{Claim};
 ghost use Rattle.mw_types.specs.declared.identity.RowName.{RowName};
+ghost use Rattle.key_intervals.specs.declared.bounds.Bounds.{Bounds};
+ghost use Rattle.key_intervals.specs.Intervals.{rows_covered};
 ghost use Rattle.topology.specs.Shapes.{Shape};
+ghost use Rattle.topology.specs.Rules.{IsTopology};
+ghost use Rattle.run_history.specs.Cases.{intervals_of};
 ghost use Rattle.run_history.specs.Made.{row_written};
 ghost use Rattle.run_history.specs.Runs.{run_of, row_in};
 ghost use Rattle.run_history.specs.Fences.{CarryNot, HasSeen, IsFenced, interval_of, known, last_claim};
@@ -22,6 +26,13 @@ pub fn rows_are_as_seen()
         IsFenced shape (front ++ rest) → HasSeen interval seq front rest →
         (name : RowName) → interval_of shape name ≡ Some interval →
         row_in (run_of shape (front ++ rest)) name ≡ row_in (run_of shape front) name }
+
+    // And so the rows of the interval as a list.
+    ensures listed { (shape : Shape) (front rest : List Entry) (interval seq : ℕ) (b : Bounds) →
+        IsTopology shape → slice_get (intervals_of shape) interval ≡ Some b →
+        IsFenced shape (front ++ rest) → HasSeen interval seq front rest →
+        rows_covered b (run_of shape (front ++ rest)).rows
+        ≡ rows_covered b (run_of shape front).rows }
 {}
 
 /// A row, as it is known under a claim of its interval, is the same by a beginning of a fenced
@@ -34,6 +45,14 @@ pub fn rows_are_as_known()
         (name : RowName) → interval_of shape name ≡ Some interval →
         row_in (run_of shape (known interval seq (front ++ rest))) name
         ≡ row_in (run_of shape (known interval seq front)) name }
+
+    // And so the rows of the interval as a list.
+    ensures listed { (shape : Shape) (front rest : List Entry) (interval seq worker : ℕ)
+        (b : Bounds) → IsTopology shape → slice_get (intervals_of shape) interval ≡ Some b →
+        IsFenced shape (front ++ rest) → slice_get front seq ≡ Some (Claim worker interval) →
+        CarryNot seq rest →
+        rows_covered b (run_of shape (known interval seq (front ++ rest))).rows
+        ≡ rows_covered b (run_of shape (known interval seq front)).rows }
 
     // Under the last claim the whole history is known.
     ensures whole { (history : List Entry) (interval seq : ℕ) →

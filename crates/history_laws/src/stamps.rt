@@ -7,13 +7,13 @@ ghost use Rattle.run_history.specs.Cases.{CaseShape};
 ghost use Rattle.run_history.specs.Runs.{run_of, row_of};
 ghost use Rattle.run_history.specs.Legal.{IsLegal};
 ghost use Rattle.run_history.specs.Inputs.{IsRunnable};
-ghost use Rattle.history_laws.specs.Stamps.{IsInTime};
+ghost use Rattle.history_laws.specs.Stamps.{AreStampsWithin};
 
 /// After a legal history no delivery and no timer is above the greatest timestamp.
 pub fn stamps_are_in_time()
     ensures in_time { (case : CaseShape) (history : List Entry) →
         IsRunnable case → IsLegal case history →
-        IsInTime case.topology (run_of case.topology history) }
+        AreStampsWithin case.topology (run_of case.topology history) }
 {}
 
 /// After a legal history of fewer than 2^32 entries each row's state is within bounds.

@@ -1,4 +1,4 @@
-//! One more entry of a lawful history.
+//! One more entry of a history that is legal and fenced.
 ghost use Rattle.std.specs.Prelude.{ℕ, List, ◌++◌, ◌∷◌, []};
 ghost use Rattle.mw_types.specs.declared.entry.Entry.{Entry};
 ghost use Rattle.mw_types.specs.declared.entry.Entry.TheVariants.{Claim};
@@ -6,7 +6,7 @@ ghost use Rattle.run_history.specs.Cases.{CaseShape};
 ghost use Rattle.run_history.specs.Runs.{run_of};
 ghost use Rattle.run_history.specs.Legal.{MayClaim, MayFollow};
 ghost use Rattle.run_history.specs.Inputs.{IsRunnable};
-ghost use Rattle.history_laws.specs.Writes.{IsLawful, IsSeenWrite};
+ghost use Rattle.history_laws.specs.Writes.{IsSeenWrite, IsLegalAndFenced};
 
 /// A write that was worked out on a beginning of the history may follow the whole of it, where the
 /// beginning has seen the last claim of the write's interval, and all that was written under it.
@@ -16,12 +16,12 @@ pub fn seen_writes_are_lawful()
         MayFollow case (run_of case.topology (front ++ rest)) entry }
     ensures lawful { (case : CaseShape) (front rest : List Entry) (interval seq : ℕ)
         (entry : Entry) → IsRunnable case → IsSeenWrite case front rest interval seq entry →
-        IsLawful case ((front ++ rest) ++ entry ∷ []) }
+        IsLegalAndFenced case ((front ++ rest) ++ entry ∷ []) }
 {}
 
 /// A worker may claim an interval at any time.
 pub fn claims_are_lawful()
     ensures lawful { (case : CaseShape) (history : List Entry) (worker interval : ℕ) →
-        IsLawful case history → MayClaim case worker interval →
-        IsLawful case (history ++ Claim worker interval ∷ []) }
+        IsLegalAndFenced case history → MayClaim case worker interval →
+        IsLegalAndFenced case (history ++ Claim worker interval ∷ []) }
 {}

@@ -3,7 +3,7 @@ use Rattle.std.proofs.Common.{◌≡◌, ◌<◌, ◌≤◌, ◌+◌, ◌-◌, �
 use Rattle.std.specs.Prelude.{MatchOption, IfSome, slice_get, Any}
 use Rattle.std.proofs.lemmas.Option.{slice_get-get_or, slice_get_within, get_or_from_slice_get}
 use Rattle.std.proofs.lemmas.Bool.Decides.{nat_tests}
-use Rattle.std.proofs.lemmas.Bool.{cases_lt}
+use Rattle.std.proofs.lemmas.Bool.{cases_lt, both_ways}
 use Rattle.std.proofs.Math.Nat.{eq-or-lt_of_le}
 use Rattle.std.specs.declared.cmp.Ordering.{Ordering}
 use Rattle.std.specs.declared.cmp.Ordering.TheVariants.{Less}
@@ -14,7 +14,7 @@ use Rattle.mw_types.specs.declared.identity.RowName.{RowName}
 use Rattle.mw_types.proofs.OrderLaws.{key_cmp-total}
 use Rattle.key_intervals.specs.declared.bounds.Bounds.{Bounds}
 use Rattle.key_intervals.specs.Intervals.{start_of, Meets, AreIntervals, HasRow, covers, ends_after}
-use Rattle.key_intervals.proofs.Beginnings.{begins_by, part_below, parts_rise, key_decides, after_part, empty_first, above, turned_below}
+use Rattle.key_intervals.proofs.Beginnings.{begins_by, begin_in_two, part_below, parts_rise, key_decides, after_part, empty_first, above, turned_below}
 
 -- the first interval begins with the empty key
 first_from : (all : List Bounds) (d : Bounds) → IfSome (slice_get all 0) (λ (b : Bounds). b.from ≡ []) → 0 < length all → (get_or all 0 d).from ≡ []
@@ -93,6 +93,29 @@ begins_after b next name m h = by_end b.to m (of_part b name h) (goes_past b nam
     by_end None m p h = after_part next.part name.part _ (omega (arith, m.0, p))
     by_end (Some end) m p h =
         ap is_le (key_decides next.part name.part _ (m.0 ∙ p) ∙ ap (λ k. key_cmp k name.key) m.1 ∙ key_cmp-total.antisymm end name.key) ∙ turned_below _ h
+
+-- of two intervals that have a row the one is not before the other
+not_before : (all : List Bounds) (i j : ℕ) (name : RowName) → AreIntervals all → HasRow all i name → HasRow all j name → i < j → ⊥
+not_before all i j name are one other less =
+    let d = one.0 in
+    let first : get_or all i d ≡ one.0 = get_or_from_slice_get all i one.0 d one.1 in
+    let second : get_or all j d ≡ other.0 = get_or_from_slice_get all j other.0 d other.1 in
+    let short : j < length all = slice_get_within all j other.0 other.1 in
+    let near : i + 1 < length all = omega (arith, less, short) in
+    let by : begins_by name (get_or all (i + 1) d) ≡ true =
+    begin_in_two all name are.next (i + 1) j d (omega (arith, less)) short (subst (λ (b : Bounds). begins_by name b ≡ true) (sym second) (begins_by_row other.0 name other.2)) in
+    both_ways (begins_by name (get_or all (i + 1) d))
+    (begins_after (get_or all i d) (get_or all (i + 1) d) name (are.next i d near) (subst (λ (b : Bounds). covers b name ≡ true) (sym first) one.2)) by
+
+-- one interval at most has a row
+pub one_interval : (all : List Bounds) (i j : ℕ) (name : RowName) → AreIntervals all → HasRow all i name → HasRow all j name → i ≡ j
+one_interval all i j name are one other = elim (cases_lt i j) [
+  | inl less ↦ absurd (not_before all i j name are one other less)
+  | inr le ↦ elim (cases_lt j i) [
+    | inl less ↦ absurd (not_before all j i name are other one less)
+    | inr ge ↦ omega (arith, le, ge)
+  ]
+]
 
 -- a search among the intervals ends at n: the n before it begin by the row, and the others after it
 module _ (all : List Bounds) (name : RowName) (n : ℕ) (d : Bounds) (a : AreIntervals all)

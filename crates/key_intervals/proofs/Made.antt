@@ -10,7 +10,7 @@ use Rattle.mw_types.specs.Orders.{key_cmp}
 use Rattle.mw_types.specs.declared.key.PartCuts.{PartCuts}
 use Rattle.key_intervals.specs.declared.bounds.Bounds.{Bounds}
 use Rattle.key_intervals.specs.declared.TheConstants.{INTERVALS_MAX}
-use Rattle.key_intervals.specs.Intervals.{Meets, AreIntervals, AreCuts, AreNumbered, bounds_from, part_bounds_of, bounds_of}
+use Rattle.key_intervals.specs.Intervals.{Meets, AreIntervals, AreNumbered, bounds_from, part_bounds_of, bounds_of, DivideKeys}
 
 -- one more interval before those that meet
 meet_cons : (b : Bounds) (rest : List Bounds) → ((d : Bounds) → 0 < length rest → Meets b (get_or rest 0 d))
@@ -58,13 +58,13 @@ begin_of : (n : ℕ) (parts : List PartCuts) → AreNumbered n parts → Begin n
 begin_of n [] a d l = absurd (omega arith)
 begin_of n (p ∷ ps) a d l = let w = begins_with p.part [] p.cuts (bounds_of ps) d in (w.0 ∙ a.0, w.1)
 
-meet_of : (n : ℕ) (parts : List PartCuts) → AreNumbered n parts → All (λ (p : PartCuts). AreCuts p.cuts) parts
+meet_of : (n : ℕ) (parts : List PartCuts) → AreNumbered n parts → All (λ (p : PartCuts). DivideKeys p.cuts) parts
     → AllAdjacentBelow Meets (bounds_of parts) (length (bounds_of parts))
 meet_of n [] a cuts = λ k d l. absurd (omega arith)
 meet_of n (p ∷ ps) a cuts =
-    meet_from p.part [] p.cuts (bounds_of ps) (All-head (λ (p : PartCuts). AreCuts p.cuts) p ps cuts)
+    meet_from p.part [] p.cuts (bounds_of ps) (All-head (λ (p : PartCuts). DivideKeys p.cuts) p ps cuts)
     (subst (λ m. Begin (m + 1) (bounds_of ps)) (sym a.0) (begin_of (n + 1) ps a.1))
-    (meet_of (n + 1) ps a.1 (All-tail (λ (p : PartCuts). AreCuts p.cuts) p ps cuts))
+    (meet_of (n + 1) ps a.1 (All-tail (λ (p : PartCuts). DivideKeys p.cuts) p ps cuts))
 
 last_of : (parts : List PartCuts) → LastEnds (bounds_of parts)
 last_of [] = λ k d e. absurd (omega arith)
@@ -75,7 +75,7 @@ first_of [] h = tt
 first_of (b ∷ bs) h = h b (omega arith)
 
 -- what the cuts of the parts make
-pub intervals_of : (parts : List PartCuts) → AreNumbered 0 parts → All (λ (p : PartCuts). AreCuts p.cuts) parts
+pub intervals_of : (parts : List PartCuts) → AreNumbered 0 parts → All (λ (p : PartCuts). DivideKeys p.cuts) parts
     → length (bounds_of parts) ≤ INTERVALS_MAX → AreIntervals (bounds_of parts)
 intervals_of parts a cuts few = record {
   first = first_of (bounds_of parts) (λ d l. (begin_of 0 parts a d l).1);
@@ -98,12 +98,12 @@ has_part (p ∷ ps) n (suc k) a l =
     (m + h.0, h.1, omega (arith, length-append (part_bounds_of p) (bounds_of ps), h.2), get_or-append-add (part_bounds_of p) (bounds_of ps) h.0 h.1 ∙ h.3, h.4 ∙ omega arith)
 
 -- a part may have no cuts
-pub no_cuts : AreCuts []
+pub no_cuts : DivideKeys []
 unfolding IsStrictlySortedBy
 no_cuts = (tt, tt)
 
 -- cuts that ascend strictly, and none of which is empty, may divide a part
-pub cuts_of : (cuts : List (List ℕ)) → IsStrictlySortedBy key_cmp cuts → All (λ cut. 0 < length cut) cuts → AreCuts cuts
+pub cuts_of : (cuts : List (List ℕ)) → IsStrictlySortedBy key_cmp cuts → All (λ cut. 0 < length cut) cuts → DivideKeys cuts
 unfolding IsStrictlySortedBy
 cuts_of cuts sorted some = (recursion_from_All (λ cut. key_cmp [] cut ≡ Less) cuts (All-weaker (λ cut. 0 < length cut) (λ cut. key_cmp [] cut ≡ Less) above cuts some), sorted)
   where

@@ -28,9 +28,9 @@ rows_covered b rows = filter (λ row. covers b row.0) rows
 abbrev pub HasRow : List Bounds → ℕ → RowName → Type 0
 HasRow all number name = (b : Bounds) × (slice_get all number ≡ Some b) × IsTrue (covers b name)
 
--- the cuts of a part ascend strictly, above the empty key
-abbrev pub AreCuts : List (List ℕ) → Type 0
-AreCuts cuts = IsStrictlySortedBy key_cmp ([] ∷ cuts)
+-- these keys divide all keys into intervals: they ascend strictly, above the empty key
+abbrev pub DivideKeys : List (List ℕ) → Type 0
+DivideKeys cuts = IsStrictlySortedBy key_cmp ([] ∷ cuts)
 
 -- the parts have the numbers n, n + 1 and so on
 abbrev pub AreNumbered : ℕ → List PartCuts → Type 0

@@ -2,7 +2,7 @@
 ghost use Rattle.std.specs.Prelude.{◌≡◌, ◌≤◌, ◌<◌, ◌++◌, ℕ, length, slice_get, All, Any, IfOk, OnOk};
 ghost use Rattle.mw_types.specs.declared.key.PartCuts.{PartCuts};
 ghost use Rattle.key_intervals.specs.declared.bounds.Bounds.{Bounds};
-ghost use Rattle.key_intervals.specs.Intervals.{bounds_of, part_bounds_of, AreCuts, AreNumbered, HasRow};
+ghost use Rattle.key_intervals.specs.Intervals.{bounds_of, part_bounds_of, AreNumbered, HasRow, DivideKeys};
 
 use crate::INTERVALS_MAX;
 use crate::bounds::Bounds;
@@ -32,7 +32,7 @@ impl Intervals {
     /// The intervals of the parts: one of a part without cuts, and one more with each cut.
     pub fn of(alloc: Global, parts: &[PartCuts]) -> Result<Intervals, NoMemory>
         requires numbered { AreNumbered 0 parts.now }
-        requires cuts { All (λ (p : PartCuts). AreCuts p.cuts) parts.now }
+        requires cuts { All (λ (p : PartCuts). DivideKeys p.cuts) parts.now }
         requires few { length (bounds_of parts.now) ≤ INTERVALS_MAX }
         ensures all { IfOk result (λ all. all ≡ bounds_of parts.now) }
     {

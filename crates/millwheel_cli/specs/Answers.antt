@@ -15,7 +15,7 @@ use Rattle.millwheel_cli.specs.declared.status.Status.TheVariants as status
 use Rattle.millwheel_cli.specs.Files.{IsCaseRead}
 
 -- a run that came to its end: its history is a legal one, without entries of several workers, and all work is done
-pub record IsFinished (case : CaseShape) (history : List Entry) : Type 0 where
+pub record IsPlainRun (case : CaseShape) (history : List Entry) : Type 0 where
   pub legal : IsLegal case history
   pub plain : All IsPlainEntry history
   pub done : IsDone case (run_of case.topology history)
@@ -24,7 +24,7 @@ pub record IsFinished (case : CaseShape) (history : List Entry) : Type 0 where
 pub record IsWhole (files : Option Files) (words : List (List ℕ)) (history : List Entry) (old new : Option (List ℕ)) : Type 0 where
   pub case : CaseShape
   pub read : IsCaseRead files words case
-  pub finished : IsFinished case history
+  pub finished : IsPlainRun case history
   pub text : List ℕ
   pub result : IsResultText case.topology history text
   pub written : new ≡ append_known old text
@@ -33,7 +33,7 @@ pub record IsWhole (files : Option Files) (words : List (List ℕ)) (history : L
 pub record IsPart (files : Option Files) (words : List (List ℕ)) (history : List Entry) (old new : Option (List ℕ)) : Type 0 where
   pub case : CaseShape
   pub read : IsCaseRead files words case
-  pub finished : IsFinished case history
+  pub finished : IsPlainRun case history
   pub text : List ℕ
   pub result : IsResultText case.topology history text
   pub written : AppendsPrefix text old new

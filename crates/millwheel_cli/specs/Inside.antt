@@ -20,7 +20,7 @@ use Rattle.millwheel_cli.specs.declared.status.Status.TheVariants as status
 use Rattle.millwheel_cli.specs.declared.refusal.Refusal.{Refusal}
 use Rattle.millwheel_cli.specs.declared.refusal.Refusal.TheVariants.{Usage, NoFile, TopologyRefused, EventsRefused, SinkFails, NoMemory, ReadFault, TooLong, FileCount, NotBuilt}
 use Rattle.millwheel_cli.specs.Built.{is_by_key}
-use Rattle.millwheel_cli.specs.Answers.{IsFinished}
+use Rattle.millwheel_cli.specs.Answers.{IsPlainRun}
 
 -- a refusal as a status
 abbrev pub status_of : Refusal → Status
@@ -80,14 +80,14 @@ pub record WritesWhole (case : CaseShape) (history : List Entry) (old new : Opti
 
 -- a beginning of the result of the history was written
 pub record WritesPart (case : CaseShape) (history : List Entry) (old new : Option (List ℕ)) : Type 0 where
-  pub finished : IsFinished case history
+  pub finished : IsPlainRun case history
   pub text : List ℕ
   pub result : IsResultText case.topology history text
   pub written : AppendsPrefix text old new
 
 -- what a run and the writing of its result leave
 abbrev pub Leaves : {T : Type 0} → CaseShape → List Entry → Option (List ℕ) → Option (List ℕ) → Result T Refusal → Type 0
-Leaves case history old new (Ok t) = IsFinished case history × WritesWhole case history old new
+Leaves case history old new (Ok t) = IsPlainRun case history × WritesWhole case history old new
 Leaves case history old new (Err SinkFails) = WritesPart case history old new
 Leaves case history old new (Err NoMemory) = WritesPart case history old new ⊎ (new ≡ old)
 Leaves case history old new (Err _) = ⊥

@@ -5,7 +5,7 @@ use Rattle.std.specs.Prelude.{IsTrue}
 use Rattle.mw_types.specs.declared.entry.Entry.{Entry}
 use Rattle.topology.specs.Shapes.{Shape}
 use Rattle.run_history.specs.Fences.{IsUnderLastClaim, IsFenced}
-use Rattle.history_laws.proofs.FenceLaws.{IsFenced-push}
+use Rattle.run_history.proofs.Fenced.{IsFenced-push}
 
 -- what is not so is not true
 pub false_is_not_true : IsTrue false → ⊥

@@ -14,7 +14,7 @@ use Rattle.std.proofs.lemmas.List.Elements.{recursion_from_All, filter-append}
 use Rattle.std.proofs.lemmas.List.Sorted.{searchable_from_sorted}
 use Rattle.std.proofs.lemmas.Map.Keys.{Less-from_sorted}
 use Rattle.row_parts.specs.Contents.{put_in}
-use Rattle.row_parts.specs.Places.{IsHit, IsGap, IsPlace}
+use Rattle.row_parts.specs.Places.{IsHit, IsGap, IsHitOrGap}
 
 -- ---- a search by rank
 
@@ -26,7 +26,7 @@ sorted_from_strict key {R} o xs sorted i d low high =
 
 -- what a binary search by rank answers in a list that stands in strict order
 pub is_place : {X K : Type 0} (key : X → K) {R : K → K → Ordering} (o : IsTotalOrder R) (k : K) (xs : List X) (found : Result ℕ ℕ) → IsStrictlySortedBy (on key R) xs
-    → IsSearchInRange found (length xs) → IsBinarySearchResult (λ x. R (key x) k) xs found → IsPlace (λ x. R (key x) k) xs found
+    → IsSearchInRange found (length xs) → IsBinarySearchResult (λ x. R (key x) k) xs found → IsHitOrGap (λ x. R (key x) k) xs found
 is_place key {R} o k xs (Ok at) sorted within here = record {
   within = within;
   here = here;

@@ -13,7 +13,7 @@ use Rattle.mw_types.specs.Orders.{id_cmp, timer_cmp}
 use Rattle.mw_types.proofs.OrderLaws.{id_cmp-total}
 use Rattle.row_parts.specs.Orders.{timer_cmp-total}
 use Rattle.row_parts.specs.Contents.{is_timer, same_id, delivery_cmp}
-use Rattle.row_parts.specs.Places.{IsPlace, IsGap, timer_rank, id_rank, delivery_rank}
+use Rattle.row_parts.specs.Places.{IsGap, timer_rank, id_rank, delivery_rank, IsHitOrGap}
 use Rattle.row_parts.proofs.PlaceLemmas.{is_place, gap_at_end}
 use Rattle.std.specs.declared.cmp.Ordering.TheVariants.{Less, Equal, Greater}
 
@@ -35,13 +35,13 @@ probe tag time = record { tag = tag; time = time; late = false }
 
 -- a binary search for a timer
 pub timer_is_place : (tag time : ℕ) (timers : List Timer) (found : Result ℕ ℕ) → IsStrictlySortedBy timer_cmp timers → IsSearchInRange found (length timers)
-    → IsBinarySearchResult (timer_rank tag time) timers found → IsPlace (timer_rank tag time) timers found
+    → IsBinarySearchResult (timer_rank tag time) timers found → IsHitOrGap (timer_rank tag time) timers found
 unfolding probe
 timer_is_place tag time timers found sorted within at = is_place (λ (t : Timer). t) timer_cmp-total (probe tag time) timers found sorted within at
 
 -- a binary search for an id
 pub id_is_place : (id : RecordId) (ids : List RecordId) (found : Result ℕ ℕ) → IsStrictlySortedBy id_cmp ids → IsSearchInRange found (length ids)
-    → IsBinarySearchResult (id_rank id) ids found → IsPlace (id_rank id) ids found
+    → IsBinarySearchResult (id_rank id) ids found → IsHitOrGap (id_rank id) ids found
 id_is_place id ids found sorted within at = is_place (λ (x : RecordId). x) id_cmp-total id ids found sorted within at
 
 is_less : (r : Ordering) → is_lt r ≡ true → r ≡ Less
@@ -63,5 +63,5 @@ id_at_end id ids last sorted at_end below =
 
 -- a binary search for a delivery
 pub delivery_is_place : (id : RecordId) (ds : List Delivery) (found : Result ℕ ℕ) → IsStrictlySortedBy delivery_cmp ds → IsSearchInRange found (length ds)
-    → IsBinarySearchResult (delivery_rank id) ds found → IsPlace (delivery_rank id) ds found
+    → IsBinarySearchResult (delivery_rank id) ds found → IsHitOrGap (delivery_rank id) ds found
 delivery_is_place id ds found sorted within at = is_place (λ (d : Delivery). d.id) id_cmp-total id ds found sorted within at

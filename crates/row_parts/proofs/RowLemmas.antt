@@ -19,7 +19,7 @@ use Rattle.mw_types.specs.Bounds.{IsWithin}
 use Rattle.mw_types.specs.Orders.{id_cmp, timer_cmp}
 use Rattle.mw_types.proofs.OrderLaws.{id_cmp-total}
 use Rattle.row_parts.specs.Contents.{fresh, IsRow, AreTimers, AreSeen, ArePending, IsId, IsDelivery, set_again, with_timer, without_timer, is_timer, with_id, same_id, ids_from, delivery_cmp, without_delivery}
-use Rattle.row_parts.specs.Places.{IsHit, IsGap, IsPlace, timer_rank, id_rank, delivery_rank}
+use Rattle.row_parts.specs.Places.{IsHit, IsGap, timer_rank, id_rank, delivery_rank, IsHitOrGap}
 use Rattle.row_parts.proofs.PlaceLemmas.{put_in-hit, put_in-gap, sorted-put_in, All-put_in, sorted-push, filter-hit, filter-gap}
 use Rattle.row_parts.specs.Orders.{timer_cmp-total}
 use Rattle.row_parts.proofs.Ranks.{is_timer-rank, same_id-rank, delivery-rank}
@@ -96,7 +96,7 @@ timers_kept tag time xs slice at same gap =
 -- ---- handled ids
 
 -- whether an id is among those that were handled
-pub has_id : (id : RecordId) (ids : List RecordId) (found : Result ℕ ℕ) → IsPlace (id_rank id) ids found → is_ok found ≡ list_any (same_id id) ids
+pub has_id : (id : RecordId) (ids : List RecordId) (found : Result ℕ ℕ) → IsHitOrGap (id_rank id) ids found → is_ok found ≡ list_any (same_id id) ids
 has_id id ids (Ok at) hit = sym (filter-hit (id_rank id) (same_id id) (same_id-rank id) ids at id hit).1
 has_id id ids (Err at) gap = sym (filter-gap (id_rank id) (same_id id) (same_id-rank id) ids at gap).1
 

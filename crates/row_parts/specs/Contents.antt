@@ -78,7 +78,7 @@ pub record IsKey (key : List ℕ) : Type 0 where
   pub short : length key ≤ 256
   pub text : IsUtf8 key
 
--- an id: the commit number is that of an entry, which makes fewer than 512 records
+-- an id: the commit number is that of an entry, which makes at most 512 records
 pub record IsId (id : RecordId) : Type 0 where
   pub commit : id.commit < 2 ^ 32
   pub index : id.index < 512

@@ -23,8 +23,8 @@ pub record IsGap {X : Type 0} (rank : X → Ordering) (xs : List X) (at : ℕ) :
   pub behind : All (λ x. rank x ≡ Greater) (drop at xs)
 
 -- a search answers where the element is, or where it would stand
-abbrev pub IsPlace : {X : Type 0} → (X → Ordering) → List X → Result ℕ ℕ → Type 0
-IsPlace rank xs found = MatchResult found (IsHit rank xs) (IsGap rank xs)
+abbrev pub IsHitOrGap : {X : Type 0} → (X → Ordering) → List X → Result ℕ ℕ → Type 0
+IsHitOrGap rank xs found = MatchResult found (IsHit rank xs) (IsGap rank xs)
 
 -- how a timer stands to a tag and a time
 abbrev pub timer_rank : ℕ → ℕ → Timer → Ordering

@@ -10,7 +10,7 @@ use crate::lists::Ranked;
 use crate::refusal::StateRefusal;
 use crate::spelled::Spelled;
 use mw_types::{
-    Delivery, HeldTotal, Key, MAX_STAMP, NoMemory, Record, RecordId, RowName, Timer, Window,
+    Delivery, HeldTotal, Key, KeyRefusal, MAX_STAMP, NoMemory, Record, RecordId, RowName, Timer, Window,
 };
 use std::alloc::Global;
 
@@ -24,7 +24,8 @@ fn key_of(alloc: Global, text: &str) -> Result<Key, NoMemory>
     }
     match Key::of(alloc, text) {
         Ok(key) => Ok(key),
-        Err(_) => Err(NoMemory),
+        Err(KeyRefusal::NoMemory) => Err(NoMemory),
+        Err(KeyRefusal::BadLength) => unreachable!(),
     }
 }
 

@@ -3,7 +3,7 @@ ghost use Rattle.std.specs.Prelude.{◌+◌, ◌<◌, ◌^◌, OnOk};
 ghost use Rattle.std.specs.List.Sorted.{IsStrictlySortedBy};
 ghost use Rattle.mw_types.specs.Orders.{id_cmp, timer_cmp};
 ghost use Rattle.row_parts.specs.Contents.{delivery_cmp};
-ghost use Rattle.row_parts.specs.Places.{IsPlace, timer_rank, id_rank, delivery_rank};
+ghost use Rattle.row_parts.specs.Places.{timer_rank, id_rank, delivery_rank, IsHitOrGap};
 
 use mw_types::{Delivery, NoMemory, RecordId, Timer};
 
@@ -26,7 +26,7 @@ pub fn room(len: usize) -> Result<(), NoMemory>
 /// it would stand.
 pub fn timer_place(timers: &[Timer], tag: u64, time: u64) -> Result<usize, usize>
     requires { IsStrictlySortedBy timer_cmp timers.now }
-    ensures { IsPlace (timer_rank tag time) timers.now result }
+    ensures { IsHitOrGap (timer_rank tag time) timers.now result }
 {
     timers.binary_search_by(|timer| timer.time.cmp(&time).then(timer.tag.cmp(&tag)))
 }
@@ -34,7 +34,7 @@ pub fn timer_place(timers: &[Timer], tag: u64, time: u64) -> Result<usize, usize
 /// The place of an id, which is mostly at the end; `Err` has the place where it would stand.
 pub fn id_place(ids: &[RecordId], id: RecordId) -> Result<usize, usize>
     requires { IsStrictlySortedBy id_cmp ids.now }
-    ensures { IsPlace (id_rank id) ids.now result }
+    ensures { IsHitOrGap (id_rank id) ids.now result }
 {
     match ids.last() {
         Some(last) if *last < id => Err(ids.len()),
@@ -45,7 +45,7 @@ pub fn id_place(ids: &[RecordId], id: RecordId) -> Result<usize, usize>
 /// The place of the delivery with this id; `Err` has the place where it would stand.
 pub fn delivery_place(deliveries: &[Delivery], id: RecordId) -> Result<usize, usize>
     requires { IsStrictlySortedBy delivery_cmp deliveries.now }
-    ensures { IsPlace (delivery_rank id) deliveries.now result }
+    ensures { IsHitOrGap (delivery_rank id) deliveries.now result }
 {
     deliveries.binary_search_by(|delivery| delivery.id.cmp(&id))
 }

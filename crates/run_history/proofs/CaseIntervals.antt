@@ -8,8 +8,7 @@ use Rattle.std.proofs.lemmas.List.Elements.{All-nil, All-cons, recursion_from_Al
 use Rattle.std.proofs.lemmas.List.Sums.{sum_by-cons}
 use Rattle.mw_types.specs.Orders.{key_cmp}
 use Rattle.mw_types.specs.declared.key.PartCuts.{PartCuts}
-use Rattle.key_intervals.specs.Intervals as intervals
-use Rattle.key_intervals.specs.Intervals.{AreNumbered, bounds_from, bounds_of}
+use Rattle.key_intervals.specs.Intervals.{DivideKeys, AreNumbered, bounds_from, bounds_of}
 use Rattle.topology.specs.Shapes.{Shape, ComputationShape, injectors_of, parts_of, computation_of, cuts_of}
 use Rattle.topology.specs.Rules.{IsTopology, interval_count, part_cuts_of, AreCutKeys}
 
@@ -33,12 +32,12 @@ above_empty ([] ∷ cuts) some = absurd (omega (arith, some.0))
 above_empty ((b ∷ bs) ∷ cuts) some = (refl, above_empty cuts some.1)
 
 -- cuts of a topology are cuts of intervals
-cuts_above : (cuts : List (List ℕ)) → AreCutKeys cuts → intervals.AreCuts cuts
+cuts_above : (cuts : List (List ℕ)) → AreCutKeys cuts → DivideKeys cuts
 unfolding IsStrictlySortedBy
 cuts_above cuts are = (above_empty cuts (recursion_from_All (λ (cut : List ℕ). 1 ≤ length cut) cuts are.some), are.ascending)
 
 -- no cuts are cuts of intervals
-no_cuts : intervals.AreCuts []
+no_cuts : DivideKeys []
 unfolding IsStrictlySortedBy
 no_cuts = (tt, tt)
 
@@ -55,12 +54,12 @@ if_either P false found holds = holds
 
 -- the cuts of a computation that may be there
 cuts_if : (found : Option ComputationShape) → IfSome found (λ (c : ComputationShape). AreCutKeys c.cuts)
-    → intervals.AreCuts (unwrap_or (option_map (λ (c : ComputationShape). c.cuts) found) [])
+    → DivideKeys (unwrap_or (option_map (λ (c : ComputationShape). c.cuts) found) [])
 cuts_if None are = no_cuts
 cuts_if (Some c) are = cuts_above c.cuts are
 
 -- each part of a topology has cuts of intervals
-cuts_of-cuts : (shape : Shape) (part : ℕ) → IsTopology shape → intervals.AreCuts (cuts_of shape part)
+cuts_of-cuts : (shape : Shape) (part : ℕ) → IsTopology shape → DivideKeys (cuts_of shape part)
 cuts_of-cuts shape part rules =
     let each = recursion_from_All (λ (c : ComputationShape). AreCutKeys c.cuts) shape.computations rules.cuts in
     let test = λ (c : ComputationShape). AreCutKeys c.cuts in
@@ -73,9 +72,9 @@ all_from P f n zero each = All-nil P
 all_from P f n (suc k) each = All-cons P (with_cuts f n) _ (each n) (all_from P f (n + 1) k each)
 
 -- all cuts of a topology are cuts of intervals
-pub part_cuts_of-cuts : (shape : Shape) → IsTopology shape → All (λ (p : PartCuts). intervals.AreCuts p.cuts) (part_cuts_of shape)
+pub part_cuts_of-cuts : (shape : Shape) → IsTopology shape → All (λ (p : PartCuts). DivideKeys p.cuts) (part_cuts_of shape)
 part_cuts_of-cuts shape rules =
-    all_from (λ (p : PartCuts). intervals.AreCuts p.cuts) (cuts_of shape) 0 (parts_of shape) (λ part. cuts_of-cuts shape part rules)
+    all_from (λ (p : PartCuts). DivideKeys p.cuts) (cuts_of shape) 0 (parts_of shape) (λ part. cuts_of-cuts shape part rules)
 
 -- a part has one interval more than cuts
 length-bounds_from : (part : ℕ) (from : List ℕ) (cuts : List (List ℕ)) → length (bounds_from part from cuts) ≡ suc (length cuts)

@@ -1,6 +1,13 @@
+pub mod Lists
 pub mod Making
 pub mod Knowing
 pub mod Reaching
 pub mod Lookups
 pub mod RunLaws
+pub mod Beginnings
+pub mod Claims
+pub mod Fenced
+pub mod Known
 pub mod CaseIntervals
+pub mod IntervalLaws
+pub mod Fitting

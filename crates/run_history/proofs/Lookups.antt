@@ -1,6 +1,6 @@
 -- Look-ups in lists of entries that stand in the order of their keys.
-use Rattle.std.proofs.Common.{◌≡◌, Bool, true, false, cond, List, [], ◌∷◌, refl, sym, ◌∙◌, ap}
-use Rattle.std.specs.Prelude.{Some}
+use Rattle.std.proofs.Common.{◌≡◌, Bool, true, false, cond, List, [], ◌∷◌, filter, refl, sym, ◌∙◌, ap, subst}
+use Rattle.std.specs.Prelude.{Some, None}
 use Rattle.std.specs.declared.cmp.Ordering.{Ordering}
 use Rattle.std.specs.declared.cmp.Ordering.TheVariants.{Less, Equal, Greater}
 use Rattle.std.specs.Ordering.{is_eq, match_ordering, ordering_reverse}
@@ -9,6 +9,8 @@ use Rattle.std.specs.List.{AllByRecursion}
 use Rattle.std.specs.List.Sorted.{IsStrictlySortedBy}
 use Rattle.std.specs.Map.{lookup, keys_of}
 use Rattle.std.specs.BTreeMap.{insert_entry, is_at}
+use Rattle.std.proofs.lemmas.Map.Entries.{lookup-filter-keys}
+use Rattle.run_history.proofs.Lists.{none_some, some_same}
 
 -- of two tests that are the same, the inner one is never reached
 pub shadowed : {A : Type 0} (b : Bool) (x y z : A) → cond b x z ≡ cond b x (cond b y z)
@@ -92,6 +94,92 @@ module _ {K X : Type 0} {R : K → K → Ordering} (o : IsTotalOrder R) where
         | Equal ↦ λ p. sorted
         | Greater ↦ λ p. (below-insert_entry e.0 k v es (o.antisymm e.0 k ∙ ap ordering_reverse p) sorted.0, sorted-insert_entry es k v sorted.1)
       ] refl
+
+  -- a key that ties with one before all others is not found among them
+  lookup-above : (q x : K) (es : List (K × X)) → R q x ≡ Equal → AllByRecursion (λ (k : K). R x k ≡ Less) (keys_of es)
+      → lookup (is_at (R q)) es ≡ None
+  lookup-above q x [] tie above = refl
+  lookup-above q x (e ∷ es) tie above =
+      ap (λ r. cond (is_eq r) (Some e.1) (lookup (is_at (R q)) es)) (o.congr q x e.0 tie ∙ above.0) ∙ lookup-above q x es tie above.1
+
+  -- a first entry is found at its key
+  lookup-first : (e : K × X) (es : List (K × X)) → lookup (is_at (R e.0)) (e ∷ es) ≡ Some e.1
+  lookup-first e es = ap (λ r. cond (is_eq r) (Some e.1) (lookup (is_at (R e.0)) es)) (tied_itself o e.0)
+
+  -- a key before a first entry, and so before all, is not found
+  lookup-before : (x : K) (f : K × X) (fs : List (K × X)) → IsStrictlySortedBy R (keys_of (f ∷ fs)) → R x f.0 ≡ Less
+      → lookup (is_at (R x)) (f ∷ fs) ≡ None
+  unfolding IsStrictlySortedBy
+  lookup-before x f fs sorted less =
+      lookup-above x x (f ∷ fs) (tied_itself o x) (less, above_too o x f.0 (keys_of fs) less sorted.0)
+
+  -- lists in the order of their keys, in which each look-up finds the same, are the same
+  pub same_entries : ((a b : K) → R a b ≡ Equal → a ≡ b) → (es fs : List (K × X)) → IsStrictlySortedBy R (keys_of es) → IsStrictlySortedBy R (keys_of fs)
+      → ((q : K) → lookup (is_at (R q)) es ≡ lookup (is_at (R q)) fs) → es ≡ fs
+  unfolding IsStrictlySortedBy
+  same_entries tie [] [] one other same = refl
+  same_entries tie [] (f ∷ fs) one other same = absurd (none_some f.1 (same f.0 ∙ lookup-first f fs))
+  same_entries tie (e ∷ es) [] one other same = absurd (none_some e.1 (sym (same e.0) ∙ lookup-first e es))
+  same_entries tie (e ∷ es) (f ∷ fs) one other same = by_order (R e.0 f.0) refl
+    where
+      -- behind equal first entries each look-up finds the same too
+      behind : R e.0 f.0 ≡ Equal → (q : K) → (b : Bool) → is_eq (R q e.0) ≡ b → lookup (is_at (R q)) es ≡ lookup (is_at (R q)) fs
+      behind at q true is =
+          let tied : R q e.0 ≡ Equal = equal_from_tie (R q e.0) is in
+          lookup-above q e.0 es tied one.0 ∙ sym (lookup-above q f.0 fs (sym (alike_right o e.0 f.0 q at) ∙ tied) other.0)
+      behind at q false is =
+          sym (ap (λ b. cond b (Some e.1) (lookup (is_at (R q)) es)) is) ∙ same q
+          ∙ ap (λ b. cond b (Some f.1) (lookup (is_at (R q)) fs)) (ap is_eq (sym (alike_right o e.0 f.0 q at)) ∙ is)
+
+      -- equal keys have equal values
+      value : R e.0 f.0 ≡ Equal → e.1 ≡ f.1
+      value at = some_same e.1 f.1
+          (sym (lookup-first e es) ∙ same e.0 ∙ ap (λ r. cond (is_eq r) (Some f.1) (lookup (is_at (R e.0)) fs)) at)
+
+      by_order : (r : Ordering) → R e.0 f.0 ≡ r → e ∷ es ≡ f ∷ fs
+      by_order Less at = absurd (none_some e.1 (sym (lookup-before e.0 f fs other at) ∙ sym (same e.0) ∙ lookup-first e es))
+      by_order Greater at = absurd (none_some f.1
+          (sym (lookup-before f.0 e es one (o.antisymm f.0 e.0 ∙ ap ordering_reverse at)) ∙ same f.0 ∙ lookup-first f fs))
+      by_order Equal at =
+          let keys = tie e.0 f.0 at in
+          let values = value at in
+          let rest = same_entries tie es fs one.1 other.1 (λ q. behind at q (is_eq (R q e.0)) refl) in
+          λ i. (keys i, values i) ∷ rest i
+
+  -- a filter keeps entries in the order of their keys
+  sorted-filter : (p : K → Bool) (es : List (K × X)) → IsStrictlySortedBy R (keys_of es) → IsStrictlySortedBy R (keys_of (filter (λ e. p e.0) es))
+  unfolding IsStrictlySortedBy
+  sorted-filter p [] sorted = tt
+  sorted-filter p (e ∷ es) sorted =
+      elim (p e.0) as (λ b. IsStrictlySortedBy R (keys_of (cond b (e ∷ filter (λ f. p f.0) es) (filter (λ f. p f.0) es)))) [
+        | true ↦ (above es sorted.0, sorted-filter p es sorted.1)
+        | false ↦ sorted-filter p es sorted.1
+      ]
+    where
+      above : (fs : List (K × X)) → AllByRecursion (λ (k : K). R e.0 k ≡ Less) (keys_of fs)
+          → AllByRecursion (λ (k : K). R e.0 k ≡ Less) (keys_of (filter (λ f. p f.0) fs))
+      above [] each = tt
+      above (f ∷ fs) each =
+          elim (p f.0) as (λ b. AllByRecursion (λ (k : K). R e.0 k ≡ Less) (keys_of (cond b (f ∷ filter (λ g. p g.0) fs) (filter (λ g. p g.0) fs)))) [
+            | true ↦ (each.0, above fs each.1)
+            | false ↦ above fs each.1
+          ]
+
+  -- of lists in the order of their keys, in which each look-up of a key that passes a test finds the same, the entries whose keys
+  -- pass are the same
+  pub same_filtered : ((a b : K) → R a b ≡ Equal → a ≡ b) → (p : K → Bool) (es fs : List (K × X))
+      → IsStrictlySortedBy R (keys_of es) → IsStrictlySortedBy R (keys_of fs)
+      → ((q : K) → p q ≡ true → lookup (is_at (R q)) es ≡ lookup (is_at (R q)) fs) → filter (λ e. p e.0) es ≡ filter (λ e. p e.0) fs
+  same_filtered tie p es fs one other same =
+      same_entries tie (filter (λ e. p e.0) es) (filter (λ e. p e.0) fs) (sorted-filter p es one) (sorted-filter p fs other)
+      (λ q. by_key q es ∙ by_test q (p q) refl ∙ sym (by_key q fs))
+    where
+      by_key : (q : K) (gs : List (K × X)) → lookup (is_at (R q)) (filter (λ e. p e.0) gs) ≡ cond (p q) (lookup (is_at (R q)) gs) None
+      by_key q gs = lookup-filter-keys (is_at (R q)) p (p q) (λ k at. ap p (sym (tie q k (equal_from_tie (R q k) at)))) gs
+
+      by_test : (q : K) (b : Bool) → p q ≡ b → cond (p q) (lookup (is_at (R q)) es) None ≡ cond (p q) (lookup (is_at (R q)) fs) None
+      by_test q true is = ap (λ b. cond b (lookup (is_at (R q)) es) None) is ∙ same q is ∙ sym (ap (λ b. cond b (lookup (is_at (R q)) fs) None) is)
+      by_test q false is = ap (λ b. cond b (lookup (is_at (R q)) es) None) is ∙ sym (ap (λ b. cond b (lookup (is_at (R q)) fs) None) is)
 
 -- what holds of each value, and of one that is put among them, holds of each then
 pub each-insert_entry : {K X : Type 0} (R : K → K → Ordering) (P : X → Type 0) (es : List (K × X)) (k : K) (v : X)

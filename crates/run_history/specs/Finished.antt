@@ -1,6 +1,6 @@
 -- What is handled and acknowledged in a history, and how much work is left after it.
 -- Akidau et al., VLDB 2013, section 6.1, for what a worker does on receipt of a record. Own: what counts as work.
-use Rattle.std.specs.Prelude.{◌≡◌, ℕ, ◌+◌, Bool, true, false, ◌&&◌, if◌then◌else◌, nat_lt, List, [], ◌∷◌, length, filter}
+use Rattle.std.specs.Prelude.{◌≡◌, ℕ, ◌+◌, Bool, true, false, ◌&&◌, ◌==◌, if◌then◌else◌, nat_lt, List, [], ◌∷◌, length, filter}
 use Rattle.std.specs.List.{flat_map, list_any, range_with_len}
 use Rattle.mw_types.specs.declared.identity.RecordId.{RecordId}
 use Rattle.mw_types.specs.declared.identity.RowName.{RowName}
@@ -54,18 +54,13 @@ abbrev pub unfinished : CaseShape → Run → ℕ
 unfinished case run =
     length (all_pending run) + length (all_timers run) + length (injectors_left case run)
 
--- no work is left, and each record that was handled is acknowledged
+-- no work is left: nothing that was made waits for an acknowledgement, no timer is set, and each line is injected
 abbrev pub IsFinished : CaseShape → Run → Type 0
 IsFinished case run = unfinished case run ≡ 0
 
--- whether a key is the empty one
-abbrev pub is_no_key : List ℕ → Bool
-is_no_key [] = true
-is_no_key (b ∷ bs) = false
-
 -- whether a row is an injector's, and has a line left
 abbrev pub row_has_line : CaseShape → RowName → Contents → Bool
-row_has_line case name row = is_injector case.topology name.part && is_no_key name.key
+row_has_line case name row = is_injector case.topology name.part && (length name.key == 0)
     && nat_lt (cursor_in row.state) (length (source_of case name.part))
 
 -- how much work is left in a row: what is pending, the timers that are set, and an injector that has a line left

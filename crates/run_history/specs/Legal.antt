@@ -32,7 +32,7 @@ abbrev pub timer_outcome : CaseShape → Run → RowName → Timer → Option Ou
 timer_outcome case run row timer = option_map
     (λ kind. effects_of_timer kind row.key (row_of case.topology run row).state timer) (kind_of case.topology row.part)
 
--- the least commit number of a delivery that is not acknowledged, or the next one where all are
+-- the least commit number of a delivery that is pending in a row, or the next number where none is
 abbrev pub floor_of : Run → ℕ
 floor_of run = fold min run.next
     (map (λ (d : Delivery). d.id.commit) (flat_map (λ (r : RowName × Contents). r.1.pending) run.rows))

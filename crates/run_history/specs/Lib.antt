@@ -2,6 +2,7 @@ pub mod Cases
 pub mod Inputs
 pub mod Made
 pub mod Runs
+pub mod Fits
 pub mod Watermarks
 pub mod Legal
 pub mod Fences

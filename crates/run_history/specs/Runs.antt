@@ -34,6 +34,10 @@ pub record Run : Type 0 where
 abbrev pub empty_run : Run
 empty_run = record { next = 0; rows = []; made = []; unhandled = []; emissions = [] }
 
+-- a run of which only some rows are known
+abbrev pub cached : List (RowName × Contents) → Run
+cached rows = record empty_run { rows = rows }
+
 -- a row that an entry is on
 abbrev pub row_in : Run → RowName → Option Contents
 row_in run name = lookup (is_at (row_cmp name)) run.rows

@@ -1,12 +1,16 @@
 //! What a run is of.
-ghost use Rattle.std.specs.Prelude.{◌≡◌, ◌<◌, length, IfOk};
-ghost use Rattle.topology.specs.Shapes.{injectors_of};
+ghost use Rattle.std.specs.Prelude.{◌≡◌, ◌<◌, ◌≤◌, ◌^◌, length, IfOk, Some};
+ghost use Rattle.std.specs.Option.{option_map};
+ghost use Rattle.mw_types.specs.declared.TheConstants.{MAX_STAMP};
+ghost use Rattle.injector.specs.Sources.{item_at};
+ghost use Rattle.topology.specs.Shapes.{injectors_of, parts_of};
 ghost use Rattle.topology.specs.Rules.{interval_count};
-ghost use Rattle.run_history.specs.Cases.{intervals_of};
+ghost use Rattle.run_history.specs.Cases.{intervals_of, source_of, record_of};
+ghost use Rattle.run_history.specs.Fences.{interval_of};
 
 use injector::ItemsList;
 use key_intervals::Intervals;
-use mw_types::NoMemory;
+use mw_types::{Duplicate, NoMemory, Record, RowName};
 use std::alloc::Global;
 use std::marker::Model;
 use topology::Topology;
@@ -52,6 +56,36 @@ impl Case {
         ensures count { length result.now ≡ interval_count self.now.topology }
     {
         &self.intervals
+    }
+
+    /// The number of the interval in which a row lies, of a part that is there.
+    pub fn interval_of(&self, name: &RowName) -> u32
+        requires part { name.now.part < parts_of self.now.topology }
+        ensures interval { interval_of self.now.topology name.now ≡ Some result }
+    {
+        // Every topology keeps the rules that intervals need.
+        let _parts = self.topology.parts();
+        self.intervals.find(name)
+    }
+
+    /// The record that an injector injects of a line that its file has.
+    pub fn line_record(&self, alloc: Global, part: u32, line: u32) -> Result<Record, NoMemory>
+        requires injector { part < injectors_of self.now.topology }
+        requires there { line < length (source_of self.now part) }
+        ensures item { IfOk result
+            (λ item. option_map record_of (item_at (source_of self.now part) line) ≡ Some item) }
+        ensures stamp { IfOk result (λ item. item.stamp ≤ MAX_STAMP) }
+        ensures few { length (source_of self.now part) < 2 ^ 32 }
+    {
+        let items = &self.items.as_slice()[part as usize];
+        let _lines = items.count();
+        let item = items.at(line);
+        Ok(Record {
+            key: item.record_key.copy(alloc)?,
+            stamp: item.stamp,
+            value: item.value,
+            late: item.late,
+        })
     }
 }
 

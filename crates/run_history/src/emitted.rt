@@ -9,8 +9,8 @@ ghost use Rattle.run_history.specs.Printing.{IsOnPart, IsPrintable, KnowsLate, L
 use crate::case::Case;
 use crate::history::History;
 use crate::lateness::Lateness;
-use crate::made::{consumers, deliveries, emit};
-use mw_types::{Duplicate, EmissionList, Entry, NoMemory, Production, Record, Seq};
+use crate::made::{consumers, deliveries, emit, production};
+use mw_types::{EmissionList, Entry, NoMemory, Production, Seq};
 use std::alloc::Global;
 use topology::Topology;
 
@@ -119,21 +119,6 @@ fn is_late(lateness: &Lateness, entry: &Entry) -> bool
         Entry::Fire { timer, .. } => timer.late,
         _ => false,
     }
-}
-
-// An injected record, as what its injector produces.
-fn production(alloc: Global, item: &Record) -> Result<Production, NoMemory>
-    ensures { IfOk result (λ p. p ≡ record {
-      key = item.now.key;
-      stamp = item.now.stamp;
-      value = item.now.value;
-    }) }
-{
-    Ok(Production {
-        key: item.key.copy(alloc)?,
-        stamp: item.stamp,
-        value: item.value,
-    })
 }
 
 // Appends what productions of a part emit, or learns what they send.

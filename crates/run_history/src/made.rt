@@ -51,6 +51,21 @@ pub fn make(
     })
 }
 
+/// An injected record, as what its injector produces.
+pub fn production(alloc: Global, item: &Record) -> Result<Production, NoMemory>
+    ensures produced { IfOk result (λ production. production ≡ record {
+      key = item.now.key;
+      stamp = item.now.stamp;
+      value = item.now.value;
+    }) }
+{
+    Ok(Production {
+        key: item.key.copy(alloc)?,
+        stamp: item.stamp,
+        value: item.value,
+    })
+}
+
 // The subscriptions to the stream of a part.
 pub(crate) fn consumers(topology: &Topology, part: u32) -> &[Subscription]
     requires { part < parts_of topology.now }

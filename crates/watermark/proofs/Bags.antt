@@ -16,7 +16,7 @@ use Rattle.std.specs.declared.cmp.Ordering.{Ordering}
 use Rattle.std.specs.declared.cmp.Ordering.TheVariants.{Less, Equal, Greater}
 use Rattle.mw_types.specs.declared.TheConstants.{END}
 use Rattle.run_history.specs.Watermarks.{least}
-use Rattle.watermark.specs.Counted.{AreCounts, count_in, stamps_in}
+use Rattle.watermark.specs.Counted.{AreCounts, stamps_in, times_counted}
 
 -- numbers that compare as equal are the same
 same_at : (x s : ℕ) → is_at (nat_cmp x) s ≡ true → x ≡ s
@@ -41,7 +41,7 @@ to_front x first old new moved =
 -- an entry whose count falls to n, or one of the later ones
 lowered_step : (b : Bool) (x s c n : ℕ) (es : List (ℕ × ℕ)) → (b ≡ true → x ≡ s)
     → unwrap_or (cond b (Some c) (lookup (is_at (nat_cmp x)) es)) 0 ≡ suc n
-    → (count_in x es ≡ suc n → IsPermutation (stamps_in es) (x ∷ stamps_in (set_value (is_at (nat_cmp x)) es n)))
+    → (times_counted x es ≡ suc n → IsPermutation (stamps_in es) (x ∷ stamps_in (set_value (is_at (nat_cmp x)) es n)))
     → IsPermutation (replicate c s ++ stamps_in es)
     (x ∷ stamps_in (cond b ((s, n) ∷ es) ((s, c) ∷ set_value (is_at (nat_cmp x)) es n)))
 lowered_step true x s c n es same count later =
@@ -49,7 +49,7 @@ lowered_step true x s c n es same count later =
 lowered_step false x s c n es same count later = to_front x (replicate c s) (stamps_in es) _ (later count)
 
 -- a count that is lowered lets go of one stamp
-pub lowered : (x n : ℕ) (es : List (ℕ × ℕ)) → count_in x es ≡ suc n
+pub lowered : (x n : ℕ) (es : List (ℕ × ℕ)) → times_counted x es ≡ suc n
     → IsPermutation (stamps_in es) (x ∷ stamps_in (set_value (is_at (nat_cmp x)) es n))
 lowered x n [] count = absurd (omega (arith, count))
 lowered x n (e ∷ es) count = lowered_step (is_at (nat_cmp x) e.0) x e.0 e.1 n es (same_at x e.0) count (lowered x n es)
@@ -57,7 +57,7 @@ lowered x n (e ∷ es) count = lowered_step (is_at (nat_cmp x) e.0) x e.0 e.1 n 
 -- an entry that was counted once, or one of the later ones
 removed_step : (b : Bool) (x s c : ℕ) (es : List (ℕ × ℕ)) → (b ≡ true → x ≡ s)
     → unwrap_or (cond b (Some c) (lookup (is_at (nat_cmp x)) es)) 0 ≡ 1
-    → (count_in x es ≡ 1 → IsPermutation (stamps_in es) (x ∷ stamps_in (remove_entry (is_at (nat_cmp x)) es)))
+    → (times_counted x es ≡ 1 → IsPermutation (stamps_in es) (x ∷ stamps_in (remove_entry (is_at (nat_cmp x)) es)))
     → IsPermutation (replicate c s ++ stamps_in es)
     (x ∷ stamps_in (cond b es ((s, c) ∷ remove_entry (is_at (nat_cmp x)) es)))
 removed_step true x s c es same count later =
@@ -65,7 +65,7 @@ removed_step true x s c es same count later =
 removed_step false x s c es same count later = to_front x (replicate c s) (stamps_in es) _ (later count)
 
 -- an entry that was counted once is one stamp
-pub removed : (x : ℕ) (es : List (ℕ × ℕ)) → count_in x es ≡ 1
+pub removed : (x : ℕ) (es : List (ℕ × ℕ)) → times_counted x es ≡ 1
     → IsPermutation (stamps_in es) (x ∷ stamps_in (remove_entry (is_at (nat_cmp x)) es))
 removed x [] count = absurd (omega (arith, count))
 removed x (e ∷ es) count = removed_step (is_at (nat_cmp x) e.0) x e.0 e.1 es (same_at x e.0) count (removed x es)
@@ -77,14 +77,14 @@ repeated (suc n) s x (zero, within, is) = grind (arith, nat_tests, is)
 repeated (suc n) s x (suc k, within, is) = repeated n s x (k, omega (arith, within), is)
 
 -- the first entry counts the stamp, or a later one does
-counted_step : (b : Bool) (x c : ℕ) (es : List (ℕ × ℕ)) → 1 ≤ c → ((b ≡ true) ⊎ (1 ≤ count_in x es))
+counted_step : (b : Bool) (x c : ℕ) (es : List (ℕ × ℕ)) → 1 ≤ c → ((b ≡ true) ⊎ (1 ≤ times_counted x es))
     → 1 ≤ unwrap_or (cond b (Some c) (lookup (is_at (nat_cmp x)) es)) 0
 counted_step true x c es some either = some
 counted_step false x c es some (inl wrong) = absurd (true≢false (sym wrong))
 counted_step false x c es some (inr later) = later
 
 -- a stamp that is held is counted
-pub counted : (x : ℕ) (es : List (ℕ × ℕ)) → AllByRecursion (λ (e : ℕ × ℕ). 1 ≤ e.1) es → Contains (stamps_in es) x → 1 ≤ count_in x es
+pub counted : (x : ℕ) (es : List (ℕ × ℕ)) → AllByRecursion (λ (e : ℕ × ℕ). 1 ≤ e.1) es → Contains (stamps_in es) x → 1 ≤ times_counted x es
 counted x [] some held = absurd (omega (arith, held.1))
 counted x (e ∷ es) some held = counted_step (is_at (nat_cmp x) e.0) x e.1 es some.0
     (elim (Contains-append_cases (replicate e.1 e.0) (stamps_in es) x held) [
@@ -98,7 +98,7 @@ counted x (e ∷ es) some held = counted_step (is_at (nat_cmp x) e.0) x e.1 es s
 added_step : (o : Ordering) (x s c n : ℕ) (es : List (ℕ × ℕ)) → (o ≡ Equal → x ≡ s)
     → (o ≡ Less → lookup (is_at (nat_cmp x)) es ≡ None)
     → n ≡ suc (unwrap_or (cond (is_eq o) (Some c) (lookup (is_at (nat_cmp x)) es)) 0)
-    → (n ≡ suc (count_in x es) → IsPermutation (x ∷ stamps_in es) (stamps_in (insert_entry nat_cmp es x n)))
+    → (n ≡ suc (times_counted x es) → IsPermutation (x ∷ stamps_in es) (stamps_in (insert_entry nat_cmp es x n)))
     → IsPermutation (x ∷ (replicate c s ++ stamps_in es))
     (stamps_in (match_ordering o ((x, n) ∷ (s, c) ∷ es) ((s, n) ∷ es) ((s, c) ∷ insert_entry nat_cmp es x n)))
 added_step Less x s c n es same none count later =
@@ -112,7 +112,7 @@ added_step Greater x s c n es same none count later =
     (to_front x (replicate c s) new (stamps_in es) (IsPermutation-sym (x ∷ stamps_in es) new (later count)))
 
 -- a count that is raised, or begun, holds one stamp more
-pub added : (x n : ℕ) (es : List (ℕ × ℕ)) → IsStrictlySortedBy nat_cmp (keys_of es) → n ≡ suc (count_in x es)
+pub added : (x n : ℕ) (es : List (ℕ × ℕ)) → IsStrictlySortedBy nat_cmp (keys_of es) → n ≡ suc (times_counted x es)
     → IsPermutation (x ∷ stamps_in es) (stamps_in (insert_entry nat_cmp es x n))
 added x n [] ordered count = by_equal _ _ (ap (λ k. replicate k x ++ []) (sym count))
 added x n (e ∷ es) ordered count =

@@ -12,8 +12,8 @@ stamps_in [] = []
 stamps_in (e ∷ es) = replicate e.1 e.0 ++ stamps_in es
 
 -- how often a stamp is counted
-abbrev pub count_in : ℕ → List (ℕ × ℕ) → ℕ
-count_in stamp counts = unwrap_or (lookup (is_at (nat_cmp stamp)) counts) 0
+abbrev pub times_counted : ℕ → List (ℕ × ℕ) → ℕ
+times_counted stamp counts = unwrap_or (lookup (is_at (nat_cmp stamp)) counts) 0
 
 -- the stamps ascend, and each is counted at least once
 pub record AreCounts (counts : List (ℕ × ℕ)) : Type 0 where
@@ -30,4 +30,4 @@ HasOneLess stamp old new = IsPermutation (stamps_in old) (stamp ∷ stamps_in ne
 
 -- the counts with that of a stamp lower by one
 abbrev pub with_lower : ℕ → List (ℕ × ℕ) → List (ℕ × ℕ)
-with_lower stamp counts = set_value (is_at (nat_cmp stamp)) counts (count_in stamp counts - 1)
+with_lower stamp counts = set_value (is_at (nat_cmp stamp)) counts (times_counted stamp counts - 1)

@@ -4,7 +4,7 @@ ghost use Rattle.std.specs.Map.{keys_of};
 ghost use Rattle.std.specs.Ordering.{nat_cmp};
 ghost use Rattle.std.specs.List.Sorted.{IsPermutation, IsStrictlySortedBy};
 ghost use Rattle.run_history.specs.Watermarks.{least};
-ghost use Rattle.watermark.specs.Counted.{AreCounts, HasOneLess, HasOneMore, count_in, stamps_in, with_lower};
+ghost use Rattle.watermark.specs.Counted.{AreCounts, HasOneLess, HasOneMore, stamps_in, with_lower, times_counted};
 
 use mw_types::{END, NoMemory};
 use std::alloc::Global;
@@ -68,7 +68,7 @@ impl Oldest {
 
 // How often a stamp is held.
 fn count_of(counts: &Counts, stamp: u64) -> u64
-    ensures { result ≡ count_in stamp counts.now.entries }
+    ensures { result ≡ times_counted stamp counts.now.entries }
 {
     match counts.get(&stamp) {
         Some(count) => *count,
@@ -106,7 +106,7 @@ fn count_down(counts: &mut Counts, stamp: u64)
 
 // Lowers the count of a stamp.
 fn lower(counts: &mut Counts, stamp: u64)
-    requires { 1 ≤ count_in stamp counts.old.entries }
+    requires { 1 ≤ times_counted stamp counts.old.entries }
     ensures lowered { counts.new.entries ≡ with_lower stamp counts.old.entries }
     ensures ordered { IsStrictlySortedBy nat_cmp (keys_of counts.new.entries) }
 {

@@ -1,4 +1,4 @@
-use Rattle.history_laws.proofs.ClaimLaws.{last_claim-there, last_claim-latest}
+use Rattle.run_history.proofs.Claims.{last_claim-there, last_claim-latest}
 use Rattle.history_laws.proofs.claims.last_claims_are_latest.Goals as goal
 
 pub returns : goal.returns

@@ -2,7 +2,7 @@ use Rattle.std.proofs.Common.{◌≡◌, ℕ, ◌++◌, ◌∷◌, [], refl}
 use Rattle.std.specs.Prelude.{Option, Some}
 use Rattle.worked_examples.specs.First.{first_case, row_a}
 use Rattle.worked_examples.specs.Overtaken.{overtaken, handled_under}
-use Rattle.history_laws.proofs.FenceLaws.{IsFenced-tested}
+use Rattle.run_history.proofs.Fenced.{IsFenced-tested}
 use Rattle.history_laws.proofs.examples.an_overtaken_claim_is_stale.Goals as goal
 
 -- the numbers of the two claims differ

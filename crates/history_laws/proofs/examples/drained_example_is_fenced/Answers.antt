@@ -1,7 +1,7 @@
 use Rattle.std.proofs.Common.{refl}
 use Rattle.worked_examples.specs.First.{first_case}
 use Rattle.worked_examples.specs.Drained.{drained_history}
-use Rattle.history_laws.proofs.FenceLaws.{IsFenced-tested}
+use Rattle.run_history.proofs.Fenced.{IsFenced-tested}
 use Rattle.history_laws.proofs.examples.drained_example_is_fenced.Goals as goal
 
 pub returns : goal.returns

@@ -2,16 +2,16 @@ use Rattle.std.proofs.Common.{◌∙◌, ◌∷◌, [], List, codes, All, subst,
 use Rattle.std.specs.List.Sorted.{IsStrictlySortedBy}
 use Rattle.std.proofs.lemmas.List.Elements.{All-from_recursion}
 use Rattle.mw_types.specs.declared.key.PartCuts.{PartCuts}
-use Rattle.key_intervals.specs.Intervals.{AreCuts}
+use Rattle.key_intervals.specs.Intervals.{DivideKeys}
 use Rattle.key_intervals.proofs.Made.{no_cuts}
 use Rattle.key_intervals.proofs.tests.a_cut_begins_an_interval.Goals as goal
 
-two_cuts : AreCuts (codes "h" ∷ codes "q" ∷ [])
+two_cuts : DivideKeys (codes "h" ∷ codes "q" ∷ [])
 unfolding IsStrictlySortedBy
 two_cuts = ((refl, (refl, tt)), ((refl, tt), (tt, tt)))
 
 abbrev P : PartCuts → Type 0
-P p = AreCuts p.cuts
+P p = DivideKeys p.cuts
 
 abbrev three : List PartCuts
 three = record { part = 0; cuts = [] } ∷ record { part = 1; cuts = codes "h" ∷ codes "q" ∷ [] } ∷ record { part = 2; cuts = [] } ∷ []

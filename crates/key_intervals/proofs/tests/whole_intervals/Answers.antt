@@ -2,15 +2,15 @@ use Rattle.std.proofs.Common.{◌≡◌, ◌∙◌, ◌<◌, [], List, All, Any,
 use Rattle.std.proofs.lemmas.List.Elements.{All-weaker}
 use Rattle.mw_types.specs.declared.key.PartCuts.{PartCuts}
 use Rattle.key_intervals.specs.declared.bounds.Bounds.{Bounds}
-use Rattle.key_intervals.specs.Intervals.{AreCuts, bounds_of}
+use Rattle.key_intervals.specs.Intervals.{bounds_of, DivideKeys}
 use Rattle.key_intervals.proofs.Made.{no_cuts, length-bounds_of, has_part}
 use Rattle.key_intervals.proofs.tests.whole_intervals.Goals as goal
 
-all_cut : (parts : List PartCuts) → All (λ (p : PartCuts). p.cuts ≡ []) parts → All (λ (p : PartCuts). AreCuts p.cuts) parts
-all_cut parts h = All-weaker (λ (p : PartCuts). p.cuts ≡ []) (λ (p : PartCuts). AreCuts p.cuts) (λ p e. subst AreCuts (sym e) no_cuts) parts h
+all_cut : (parts : List PartCuts) → All (λ (p : PartCuts). p.cuts ≡ []) parts → All (λ (p : PartCuts). DivideKeys p.cuts) parts
+all_cut parts h = All-weaker (λ (p : PartCuts). p.cuts ≡ []) (λ (p : PartCuts). DivideKeys p.cuts) (λ p e. subst DivideKeys (sym e) no_cuts) parts h
 
 pub of-requires-clause-cuts : goal.of-requires-clause-cuts
-of-requires-clause-cuts c = subst (All (λ (p : PartCuts). AreCuts p.cuts)) (sym c.as_slice.ensures.elements) (all_cut _ c.in_ok-parts.ensures.whole)
+of-requires-clause-cuts c = subst (All (λ (p : PartCuts). DivideKeys p.cuts)) (sym c.as_slice.ensures.elements) (all_cut _ c.in_ok-parts.ensures.whole)
 
 pub of-requires-clause-few : goal.of-requires-clause-few
 of-requires-clause-few c = omega (arith, ap (λ ps. length (bounds_of ps)) c.as_slice.ensures.elements, length-bounds_of _ c.in_ok-parts.ensures.whole, c.in_ok-parts.ensures.count)

@@ -1,6 +1,6 @@
 use Rattle.std.proofs.Common.{◌∙◌, All, sym, subst}
 use Rattle.mw_types.specs.declared.key.PartCuts.{PartCuts}
-use Rattle.key_intervals.specs.Intervals.{AreNumbered, AreCuts}
+use Rattle.key_intervals.specs.Intervals.{AreNumbered, DivideKeys}
 use Rattle.run_history.proofs.CaseIntervals.{part_cuts_of-numbered, part_cuts_of-cuts, intervals-few}
 use Rattle.run_history.proofs.case.intervals_in.Goals as goal
 
@@ -10,7 +10,7 @@ of-requires-clause-numbered c =
 
 pub of-requires-clause-cuts : goal.of-requires-clause-cuts
 of-requires-clause-cuts c =
-    subst (All (λ (p : PartCuts). AreCuts p.cuts)) (sym (c.as_slice.ensures.elements ∙ c.in_ok-cuts.ensures.cut))
+    subst (All (λ (p : PartCuts). DivideKeys p.cuts)) (sym (c.as_slice.ensures.elements ∙ c.in_ok-cuts.ensures.cut))
     (part_cuts_of-cuts c.args.topology.now c.parts-parts.ensures.rules)
 
 pub of-requires-clause-few : goal.of-requires-clause-few

@@ -1,13 +1,13 @@
 use Rattle.std.proofs.Common.{◌≡◌, ◌≤◌, ◌∷◌, ℕ, suc, subst, sym, arith, rules}
 use Rattle.std.specs.List.Sorted.{IsPermutation}
 use Rattle.std.specs.List.{AllByRecursion}
-use Rattle.watermark.specs.Counted.{stamps_in, count_in}
+use Rattle.watermark.specs.Counted.{stamps_in, times_counted}
 use Rattle.watermark.proofs.Bags.{added, some-insert_entry}
 use Rattle.watermark.proofs.oldest.count_up.Goals as goal
 
 pub returns-clause-added : goal.returns-clause-added
 returns-clause-added c =
-    let raised : c.in-Some.count ≡ suc (count_in c.args.stamp c.args.counts.now.entries) = search (rules, arith) in
+    let raised : c.in-Some.count ≡ suc (times_counted c.args.stamp c.args.counts.now.entries) = search (rules, arith) in
     subst (λ es. IsPermutation (c.args.stamp ∷ stamps_in c.args.counts.now.entries) (stamps_in es)) (sym c.in_ok-insert.ensures.entries)
     (added c.args.stamp c.in-Some.count c.args.counts.now.entries c.requires.ordered raised)
 

@@ -5,19 +5,12 @@ use Rattle.std.specs.Option.{option_map_or}
 use Rattle.mw_types.specs.declared.identity.RowName.{RowName}
 use Rattle.mw_types.specs.declared.delivery.Delivery.{Delivery}
 use Rattle.mw_types.specs.declared.kind.Kind.{Kind}
-use Rattle.mw_types.specs.declared.kind.Kind.TheVariants as kinds
 use Rattle.mw_types.specs.declared.state.State.{State}
 use Rattle.mw_types.specs.declared.state.State.TheVariants as states
 use Rattle.topology.specs.Shapes.{Shape, injectors_of, parts_of, kind_of}
+use Rattle.computations.specs.Handlers.{has_kind}
 use Rattle.row_parts.specs.Contents.{Contents}
 use Rattle.run_history.specs.Cases.{CaseShape, is_injector, source_of}
-
--- whether a state is one of this kind of computation
-abbrev pub has_kind : Kind → State → Bool
-has_kind (kinds.Count size) (states.Count late windows) = true
-has_kind (kinds.Spike last times) (states.Spike late held known) = true
-has_kind kinds.Pass (states.Pass late) = true
-has_kind _ _ = false
 
 -- whether a state is an injector's, which has injected no more lines than these
 abbrev pub is_cursor_within : ℕ → State → Bool
@@ -29,16 +22,14 @@ abbrev pub is_sent_before : Shape → ℕ → Delivery → Bool
 is_sent_before shape number d =
     nat_lt d.id.commit number && nat_le (injectors_of shape) d.to.part && nat_lt d.to.part (parts_of shape)
 
--- whether a row's state and timers are those of a part: an injector's has a cursor within its lines
--- and no timer
+-- whether a row's state and timers are those of a part: an injector's has a cursor within its lines, and no timer
 abbrev pub suits_part : CaseShape → ℕ → Contents → Bool
 suits_part case part row = if is_injector case.topology part
     then is_cursor_within (length (source_of case part)) row.state && (length row.timers == 0)
     else option_map_or (λ (kind : Kind). has_kind kind row.state) (kind_of case.topology part) false
 
--- whether a row fits a name, after a history of this length: its state and timers are those of the
--- part, and what is
--- pending was made in the history and goes to computations
+-- whether a row fits a name, after a history of this length: its state and timers are those of the part, and what
+-- is pending was made in the history and goes to computations
 abbrev pub fits : CaseShape → ℕ → RowName → Contents → Bool
 fits case number name row =
     suits_part case name.part row && list_all (is_sent_before case.topology number) row.pending
