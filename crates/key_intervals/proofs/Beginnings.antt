@@ -80,10 +80,13 @@ abbrev pub begins_by : RowName → Bounds → Bool
 begins_by name b = is_le (row_cmp (start_of b) name)
 
 -- the rows at which intervals begin ascend
-pub starts_sorted : (all : List Bounds) (d : Bounds) → AllAdjacentBelow Meets all (length all) → IsStrictlySortedBy row_cmp (map start_of all)
-starts_sorted all d next = sorted_from_all_adjacent row_cmp-total (map start_of all) (start_of d) (λ k h. step k (subst (λ n. k + 1 < n) (length-map all start_of) h))
+pub starts_sorted : (all : List Bounds) (d : Bounds) → AllAdjacentBelow Meets all (length all)
+    → IsStrictlySortedBy row_cmp (map start_of all)
+starts_sorted all d next = sorted_from_all_adjacent row_cmp-total (map start_of all) (start_of d)
+    (λ k h. step k (subst (λ n. k + 1 < n) (length-map all start_of) h))
   where
-    step : (k : ℕ) → k + 1 < length all → row_cmp (get_or (map start_of all) k (start_of d)) (get_or (map start_of all) (k + 1) (start_of d)) ≡ Less
+    step : (k : ℕ) → k + 1 < length all → row_cmp (get_or (map start_of all) k (start_of d))
+        (get_or (map start_of all) (k + 1) (start_of d)) ≡ Less
     step k h =
         let low : k < length all = omega arith in
         ap (λ r. row_cmp r (get_or (map start_of all) (k + 1) (start_of d))) (get_or-map start_of all k d (start_of d) low)
@@ -97,7 +100,8 @@ in_order all d next i j lt short =
     let low : i < length all = omega arith in
     ap (λ r. row_cmp r (start_of (get_or all j d))) (sym (get_or-map start_of all i d (start_of d) low))
     ∙ ap (λ r. row_cmp (get_or (map start_of all) i (start_of d)) r) (sym (get_or-map start_of all j d (start_of d) short))
-    ∙ Less-from_sorted row_cmp (map start_of all) i j (start_of d) (starts_sorted all d next) lt (subst (λ n. j < n) (sym (length-map all start_of)) short)
+    ∙ Less-from_sorted row_cmp (map start_of all) i j (start_of d) (starts_sorted all d next) lt
+    (subst (λ n. j < n) (sym (length-map all start_of)) short)
 
 -- the intervals that begin by a row come before those that begin after it
 pub begin_in_two : (all : List Bounds) (name : RowName) → AllAdjacentBelow Meets all (length all) → IsPartitionedBy (begins_by name) all

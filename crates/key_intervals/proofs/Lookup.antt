@@ -17,7 +17,8 @@ use Rattle.key_intervals.specs.Intervals.{start_of, Meets, AreIntervals, HasRow,
 use Rattle.key_intervals.proofs.Beginnings.{begins_by, begin_in_two, part_below, parts_rise, key_decides, after_part, empty_first, above, turned_below}
 
 -- the first interval begins with the empty key
-first_from : (all : List Bounds) (d : Bounds) → IfSome (slice_get all 0) (λ (b : Bounds). b.from ≡ []) → 0 < length all → (get_or all 0 d).from ≡ []
+first_from : (all : List Bounds) (d : Bounds) → IfSome (slice_get all 0) (λ (b : Bounds). b.from ≡ []) → 0 < length all
+    → (get_or all 0 d).from ≡ []
 first_from [] d f l = absurd (omega arith)
 first_from (b ∷ bs) d f l = f
 
@@ -25,7 +26,8 @@ first_from (b ∷ bs) d f l = f
 continues : (b next : Bounds) → Meets b next → (next.from ≡ []) ⊎ (next.part ≡ b.part)
 continues b next = by_end b.to
   where
-    by_end : (to : Option (List ℕ)) → MatchOption to ((next.part ≡ b.part + 1) × (next.from ≡ [])) (λ end. (next.part ≡ b.part) × (next.from ≡ end) × (key_cmp b.from end ≡ Less)) → (next.from ≡ []) ⊎ (next.part ≡ b.part)
+    by_end : (to : Option (List ℕ)) → MatchOption to ((next.part ≡ b.part + 1) × (next.from ≡ []))
+        (λ end. (next.part ≡ b.part) × (next.from ≡ end) × (key_cmp b.from end ≡ Less)) → (next.from ≡ []) ⊎ (next.part ≡ b.part)
     by_end None m = inl m.1
     by_end (Some end) m = inr m.0
 
@@ -52,7 +54,8 @@ begins_by_row b name h = by_parts b.part name.part (key_cmp b.from name.key) (en
     by_parts m n o e h = grind (arith, nat_tests)
 
 -- an interval has a row of its part from its first key on and below its end
-pub has_row : (b : Bounds) (name : RowName) → b.part ≡ name.part → is_le (key_cmp b.from name.key) ≡ true → ends_after b.to name.key ≡ true → covers b name ≡ true
+pub has_row : (b : Bounds) (name : RowName) → b.part ≡ name.part → is_le (key_cmp b.from name.key) ≡ true
+    → ends_after b.to name.key ≡ true → covers b name ≡ true
 has_row b name part from to = by_parts _ _ _ _ part from to
   where
     by_parts : (m n : ℕ) (l e : Bool) → m ≡ n → l ≡ true → e ≡ true → ((m == n) && l && e) ≡ true
@@ -74,10 +77,12 @@ goes_past b name h = third (b.part == name.part) (is_le (key_cmp b.from name.key
     third false l e h = absurd (true≢false (sym h))
 
 -- an interval goes on past a row of its part by which the next one does not begin
-before_next : (b next : Bounds) (name : RowName) → Meets b next → b.part ≡ name.part → begins_by name next ≡ false → ends_after b.to name.key ≡ true
+before_next : (b next : Bounds) (name : RowName) → Meets b next → b.part ≡ name.part → begins_by name next ≡ false
+    → ends_after b.to name.key ≡ true
 before_next b next name = by_end b.to
   where
-    by_end : (to : Option (List ℕ)) → MatchOption to ((next.part ≡ b.part + 1) × (next.from ≡ [])) (λ end. (next.part ≡ b.part) × (next.from ≡ end) × (key_cmp b.from end ≡ Less))
+    by_end : (to : Option (List ℕ)) → MatchOption to ((next.part ≡ b.part + 1) × (next.from ≡ []))
+        (λ end. (next.part ≡ b.part) × (next.from ≡ end) × (key_cmp b.from end ≡ Less))
         → b.part ≡ name.part → begins_by name next ≡ false → ends_after to name.key ≡ true
     by_end None m p h = refl
     by_end (Some end) m p h =
@@ -88,11 +93,13 @@ before_next b next name = by_end b.to
 begins_after : (b next : Bounds) (name : RowName) → Meets b next → covers b name ≡ true → begins_by name next ≡ false
 begins_after b next name m h = by_end b.to m (of_part b name h) (goes_past b name h)
   where
-    by_end : (to : Option (List ℕ)) → MatchOption to ((next.part ≡ b.part + 1) × (next.from ≡ [])) (λ end. (next.part ≡ b.part) × (next.from ≡ end) × (key_cmp b.from end ≡ Less))
+    by_end : (to : Option (List ℕ)) → MatchOption to ((next.part ≡ b.part + 1) × (next.from ≡ []))
+        (λ end. (next.part ≡ b.part) × (next.from ≡ end) × (key_cmp b.from end ≡ Less))
         → b.part ≡ name.part → ends_after to name.key ≡ true → begins_by name next ≡ false
     by_end None m p h = after_part next.part name.part _ (omega (arith, m.0, p))
     by_end (Some end) m p h =
-        ap is_le (key_decides next.part name.part _ (m.0 ∙ p) ∙ ap (λ k. key_cmp k name.key) m.1 ∙ key_cmp-total.antisymm end name.key) ∙ turned_below _ h
+        ap is_le (key_decides next.part name.part _ (m.0 ∙ p) ∙ ap (λ k. key_cmp k name.key) m.1 ∙ key_cmp-total.antisymm end name.key)
+        ∙ turned_below _ h
 
 -- of two intervals that have a row the one is not before the other
 not_before : (all : List Bounds) (i j : ℕ) (name : RowName) → AreIntervals all → HasRow all i name → HasRow all j name → i < j → ⊥
@@ -103,9 +110,11 @@ not_before all i j name are one other less =
     let short : j < length all = slice_get_within all j other.0 other.1 in
     let near : i + 1 < length all = omega (arith, less, short) in
     let by : begins_by name (get_or all (i + 1) d) ≡ true =
-    begin_in_two all name are.next (i + 1) j d (omega (arith, less)) short (subst (λ (b : Bounds). begins_by name b ≡ true) (sym second) (begins_by_row other.0 name other.2)) in
+    begin_in_two all name are.next (i + 1) j d (omega (arith, less)) short
+    (subst (λ (b : Bounds). begins_by name b ≡ true) (sym second) (begins_by_row other.0 name other.2)) in
     both_ways (begins_by name (get_or all (i + 1) d))
-    (begins_after (get_or all i d) (get_or all (i + 1) d) name (are.next i d near) (subst (λ (b : Bounds). covers b name ≡ true) (sym first) one.2)) by
+    (begins_after (get_or all i d) (get_or all (i + 1) d) name (are.next i d near)
+    (subst (λ (b : Bounds). covers b name ≡ true) (sym first) one.2)) by
 
 -- one interval at most has a row
 pub one_interval : (all : List Bounds) (i j : ℕ) (name : RowName) → AreIntervals all → HasRow all i name → HasRow all j name → i ≡ j
@@ -136,7 +145,8 @@ module _ (all : List Bounds) (name : RowName) (n : ℕ) (d : Bounds) (a : AreInt
   -- the last of the n goes on past the row
   last_goes_past : n ≤ length all → 0 < n → (get_or all (n - 1) d).part ≡ name.part → ends_after (get_or all (n - 1) d).to name.key ≡ true
   last_goes_past le some of = elim (eq-or-lt_of_le le) [
-    | inr lt ↦ before_next (get_or all (n - 1) d) (get_or all (n - 1 + 1) d) name (a.next (n - 1) d (omega arith)) of (later (n - 1 + 1) (omega arith) (omega arith))
+    | inr lt ↦ before_next (get_or all (n - 1) d) (get_or all (n - 1 + 1) d) name (a.next (n - 1) d (omega arith)) of
+        (later (n - 1 + 1) (omega arith) (omega arith))
     | inl e ↦ ap (λ to. ends_after to name.key) (a.last (n - 1) d (omega arith))
   ]
 
@@ -145,7 +155,8 @@ module _ (all : List Bounds) (name : RowName) (n : ℕ) (d : Bounds) (a : AreInt
   last_has le p =
       let some : 0 < n = omega (arith, p.1) in
       let begins : begins_by name (get_or all (n - 1) d) ≡ true = begun (n - 1) (omega arith) in
-      let rises : (get_or all p.0 d).part ≤ (get_or all (n - 1) d).part = parts_rise all d a.next p.0 (n - 1) (omega (arith, p.1)) (omega arith) in
+      let rises : (get_or all p.0 d).part ≤ (get_or all (n - 1) d).part = parts_rise all d a.next p.0 (n - 1) (omega (arith, p.1))
+      (omega arith) in
       let most : (get_or all (n - 1) d).part ≤ name.part = part_below _ _ _ begins in
       let of : (get_or all (n - 1) d).part ≡ name.part = omega (arith, p.2) in
       has_row _ name of (sym (ap is_le (key_decides _ _ _ of)) ∙ begins) (last_goes_past le some of)
@@ -154,9 +165,15 @@ module _ (all : List Bounds) (name : RowName) (n : ℕ) (d : Bounds) (a : AreInt
   only_last : n ≤ length all → (other : ℕ) → HasRow all other name → other ≡ n - 1
   only_last le other h =
       let short : other < length all = slice_get_within all other h.0 h.1 in
-      let has : covers (get_or all other d) name ≡ true = subst (λ b. covers b name ≡ true) (sym (get_or_from_slice_get all other h.0 d h.1)) h.2 in
+      let has : covers (get_or all other d) name ≡ true = subst (λ b. covers b name ≡ true)
+      (sym (get_or_from_slice_get all other h.0 d h.1)) h.2 in
       let lt : other < n = begun_before other short (begins_by_row (get_or all other d) name has) in
-      elim (cases_lt (other + 1) n) [ inr le ↦ omega arith | inl below ↦ absurd (true≢false (sym (begun (other + 1) below) ∙ begins_after (get_or all other d) (get_or all (other + 1) d) name (a.next other d (omega arith)) has)) ]
+      elim (cases_lt (other + 1) n) [
+        | inr le ↦ omega arith
+        | inl below ↦ absurd
+            (true≢false (sym (begun (other + 1) below)
+            ∙ begins_after (get_or all other d) (get_or all (other + 1) d) name (a.next other d (omega arith)) has))
+      ]
 
 -- where a search by beginnings ends, the interval before that place has the row, and no other does
 pub record IsFound (all : List Bounds) (name : RowName) (n : ℕ) : Type 0 where

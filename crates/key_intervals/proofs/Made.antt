@@ -48,7 +48,8 @@ meet_from part from (cut ∷ cuts) rest s begin a =
 abbrev LastEnds : List Bounds → Type 0
 LastEnds all = (k : ℕ) (d : Bounds) → k + 1 ≡ length all → (get_or all k d).to ≡ None
 
-last_from : (part : ℕ) (from : List ℕ) (cuts : List (List ℕ)) (rest : List Bounds) → LastEnds rest → LastEnds (bounds_from part from cuts ++ rest)
+last_from : (part : ℕ) (from : List ℕ) (cuts : List (List ℕ)) (rest : List Bounds) → LastEnds rest
+    → LastEnds (bounds_from part from cuts ++ rest)
 last_from part from [] rest h zero d e = refl
 last_from part from [] rest h (suc k) d e = h k d (omega arith)
 last_from part from (cut ∷ cuts) rest h zero d e = absurd (omega (arith, some_from part cut cuts rest))
@@ -70,7 +71,8 @@ last_of : (parts : List PartCuts) → LastEnds (bounds_of parts)
 last_of [] = λ k d e. absurd (omega arith)
 last_of (p ∷ ps) = last_from p.part [] p.cuts (bounds_of ps) (last_of ps)
 
-first_of : (all : List Bounds) → ((d : Bounds) → 0 < length all → (get_or all 0 d).from ≡ []) → IfSome (slice_get all 0) (λ (b : Bounds). b.from ≡ [])
+first_of : (all : List Bounds) → ((d : Bounds) → 0 < length all → (get_or all 0 d).from ≡ [])
+    → IfSome (slice_get all 0) (λ (b : Bounds). b.from ≡ [])
 first_of [] h = tt
 first_of (b ∷ bs) h = h b (omega arith)
 
@@ -85,17 +87,30 @@ intervals_of parts a cuts few = record {
 }
 
 -- each part that there is has an interval
-pub has_part : (parts : List PartCuts) (n k : ℕ) → AreNumbered n parts → k < length parts → Any (λ (b : Bounds). b.part ≡ n + k) (bounds_of parts)
+pub has_part : (parts : List PartCuts) (n k : ℕ) → AreNumbered n parts → k < length parts
+    → Any (λ (b : Bounds). b.part ≡ n + k) (bounds_of parts)
 has_part [] n k a l = absurd (omega arith)
 has_part (p ∷ ps) n zero a l =
     let d : Bounds = record { part = 0; from = []; to = None } in
     let first = get_or (bounds_of (p ∷ ps)) 0 d in
-    let some = some_from p.part [] p.cuts (bounds_of ps) in
-    (0, first, some, get_or_default (bounds_of (p ∷ ps)) 0 first d some, (begins_with p.part [] p.cuts (bounds_of ps) d).0 ∙ a.0 ∙ omega arith)
+    let some = some_from p.part [] p.cuts (bounds_of ps) in (
+      0,
+      first,
+      some,
+      get_or_default (bounds_of (p ∷ ps)) 0 first d some,
+      (begins_with p.part [] p.cuts (bounds_of ps) d).0 ∙ a.0
+          ∙ omega arith,
+    )
 has_part (p ∷ ps) n (suc k) a l =
     let h = has_part ps (n + 1) k a.1 (omega arith) in
-    let m = length (part_bounds_of p) in
-    (m + h.0, h.1, omega (arith, length-append (part_bounds_of p) (bounds_of ps), h.2), get_or-append-add (part_bounds_of p) (bounds_of ps) h.0 h.1 ∙ h.3, h.4 ∙ omega arith)
+    let m = length (part_bounds_of p) in (
+      m + h.0,
+      h.1,
+      omega (arith, length-append (part_bounds_of p) (bounds_of ps), h.2),
+      get_or-append-add (part_bounds_of p)
+          (bounds_of ps) h.0 h.1 ∙ h.3,
+      h.4 ∙ omega arith,
+    )
 
 -- a part may have no cuts
 pub no_cuts : DivideKeys []
@@ -105,14 +120,19 @@ no_cuts = (tt, tt)
 -- cuts that ascend strictly, and none of which is empty, may divide a part
 pub cuts_of : (cuts : List (List ℕ)) → IsStrictlySortedBy key_cmp cuts → All (λ cut. 0 < length cut) cuts → DivideKeys cuts
 unfolding IsStrictlySortedBy
-cuts_of cuts sorted some = (recursion_from_All (λ cut. key_cmp [] cut ≡ Less) cuts (All-weaker (λ cut. 0 < length cut) (λ cut. key_cmp [] cut ≡ Less) above cuts some), sorted)
+cuts_of cuts sorted some = (
+  recursion_from_All (λ cut. key_cmp [] cut ≡ Less) cuts
+      (All-weaker (λ cut. 0 < length cut) (λ cut. key_cmp [] cut ≡ Less) above cuts some),
+  sorted,
+)
   where
     above : (cut : List ℕ) → 0 < length cut → key_cmp [] cut ≡ Less
     above [] l = absurd (omega arith)
     above (b ∷ bs) l = refl
 
 -- the next part keeps the numbers in order
-pub AreNumbered-push : (n : ℕ) (parts : List PartCuts) (p : PartCuts) → AreNumbered n parts → p.part ≡ n + length parts → AreNumbered n (parts ++ p ∷ [])
+pub AreNumbered-push : (n : ℕ) (parts : List PartCuts) (p : PartCuts) → AreNumbered n parts → p.part ≡ n + length parts
+    → AreNumbered n (parts ++ p ∷ [])
 AreNumbered-push n [] p a e = (omega (arith, e), tt)
 AreNumbered-push n (q ∷ qs) p a e = (a.0, AreNumbered-push (n + 1) qs p a.1 (omega (arith, e)))
 

@@ -39,21 +39,30 @@ signed_reads = record {
       let a = bind_some (number_at w64 bytes) (λ n. Some (cast_signed w64 n.0, n.1)) x e in
       let t = u64_reads.takes bytes a.0 fits a.1 in
       let back : cast_unsigned w64 (cast_signed w64 a.0.0) ≡ a.0.0 = of_z-to_z w64 a.0.0 t.2 in
-      let whole : bytes ≡ to_be_bytes w64 (cast_unsigned w64 (cast_signed w64 a.0.0)) ++ a.0.1 = t.0 ∙ ap (λ (n : ℕ). to_be_bytes w64 n ++ a.0.1) (sym back) in
-      subst (λ (y : ℤ × List ℕ). (bytes ≡ signed_spelling y.0 ++ y.1) × IsBytes y.1 × FitsSigned w64 y.0) (some_is (cast_signed w64 a.0.0, a.0.1) x a.2) (whole, t.1, sfits_to_z {w = w64} {n = a.0.0} (Fits-of_lt t.2));
-  again = λ z rest fits. rw (u64_reads.again (cast_unsigned w64 z) rest (omega (arith, Fits-of_z {w = w64} {z = z} fits)), to_z-of_z w64 z fits) refl;
+      let whole : bytes ≡ to_be_bytes w64 (cast_unsigned w64 (cast_signed w64 a.0.0)) ++ a.0.1 = t.0
+      ∙ ap (λ (n : ℕ). to_be_bytes w64 n ++ a.0.1) (sym back) in
+      subst (λ (y : ℤ × List ℕ). (bytes ≡ signed_spelling y.0 ++ y.1) × IsBytes y.1 × FitsSigned w64 y.0)
+      (some_is (cast_signed w64 a.0.0, a.0.1) x a.2) (whole, t.1, sfits_to_z {w = w64} {n = a.0.0} (Fits-of_lt t.2));
+  again = λ z rest fits. rw (
+    u64_reads.again (cast_unsigned w64 z) rest
+        (omega (arith, Fits-of_z {w = w64} {z = z} fits)),
+    to_z-of_z w64 z fits,
+  ) refl;
 }
 
 IsBytes-rest : (b : ℕ) (bytes : List ℕ) → IsBytes (b ∷ bytes) → IsBytes bytes
 IsBytes-rest b bytes h i = h (suc i)
 
-flag_takes : (bytes : List ℕ) (x : Bool × List ℕ) → IsBytes bytes → flag_at bytes ≡ Some x → (bytes ≡ flag_spelling x.0 ++ x.1) × IsBytes x.1 × ⊤
+flag_takes : (bytes : List ℕ) (x : Bool × List ℕ) → IsBytes bytes → flag_at bytes ≡ Some x
+    → (bytes ≡ flag_spelling x.0 ++ x.1) × IsBytes x.1 × ⊤
 unfolding flag_at
 flag_takes [] x fits e = absurd cc
 flag_takes (zero ∷ bytes) x fits e =
-    subst (λ (y : Bool × List ℕ). (0 ∷ bytes ≡ flag_spelling y.0 ++ y.1) × IsBytes y.1 × ⊤) (some_is (false, bytes) x e) (refl, IsBytes-rest 0 bytes fits, tt)
+    subst (λ (y : Bool × List ℕ). (0 ∷ bytes ≡ flag_spelling y.0 ++ y.1) × IsBytes y.1 × ⊤) (some_is (false, bytes) x e)
+    (refl, IsBytes-rest 0 bytes fits, tt)
 flag_takes (suc zero ∷ bytes) x fits e =
-    subst (λ (y : Bool × List ℕ). (1 ∷ bytes ≡ flag_spelling y.0 ++ y.1) × IsBytes y.1 × ⊤) (some_is (true, bytes) x e) (refl, IsBytes-rest 1 bytes fits, tt)
+    subst (λ (y : Bool × List ℕ). (1 ∷ bytes ≡ flag_spelling y.0 ++ y.1) × IsBytes y.1 × ⊤) (some_is (true, bytes) x e)
+    (refl, IsBytes-rest 1 bytes fits, tt)
 flag_takes (suc (suc b) ∷ bytes) x fits e = absurd cc
 
 flag_again : (b : Bool) (rest : List ℕ) → flag_at (flag_spelling b ++ rest) ≡ Some (b, rest)
@@ -80,29 +89,47 @@ both {P} {Q} {x} {y} p q = Decides-and x y p q
 
 -- ---- parts
 
-key_takes : (bytes : List ℕ) (x : List ℕ × List ℕ) → IsBytes bytes → key_at bytes ≡ Some x → (bytes ≡ key_spelling x.0 ++ x.1) × IsBytes x.1 × IsKey x.0
+key_takes : (bytes : List ℕ) (x : List ℕ × List ℕ) → IsBytes bytes → key_at bytes ≡ Some x
+    → (bytes ≡ key_spelling x.0 ++ x.1) × IsBytes x.1 × IsKey x.0
 unfolding key_at
 key_takes bytes x fits e =
-    let a = bind_some (number_at w16 bytes) (λ n. keep (nat_le n.0 256 && nat_le n.0 (length n.1) && is_utf8 (take n.0 n.1)) (take n.0 n.1, drop n.0 n.1)) x e in
+    let a = bind_some (number_at w16 bytes) (λ n. keep (nat_le n.0 256 && nat_le n.0 (length n.1) && is_utf8 (take n.0 n.1))
+    (take n.0 n.1, drop n.0 n.1)) x e in
     let n = a.0.0 in
     let rest = a.0.1 in
     let t = u16_reads.takes bytes a.0 fits a.1 in
     let k = keep_some (nat_le n 256 && nat_le n (length rest) && is_utf8 (take n rest)) (take n rest, drop n rest) x a.2 in
-    let passed = (both (both (at_most n 256) (at_most n (length rest))) (IsUtf8-from_is_utf8 (take n rest), is_utf8-from_IsUtf8 (take n rest))).0 k.0 in
+    let passed = (both (both (at_most n 256) (at_most n (length rest)))
+    (IsUtf8-from_is_utf8 (take n rest), is_utf8-from_IsUtf8 (take n rest))).0 k.0 in
     let len : length (take n rest) ≡ n = omega (arith, length-take n rest, passed.0.1) in
-    let parts : bytes ≡ to_be_bytes w16 n ++ (take n rest ++ drop n rest) = t.0 ∙ ap (λ (l : List ℕ). to_be_bytes w16 n ++ l) (sym (take-append-drop n rest)) in
-    let counted : bytes ≡ to_be_bytes w16 (length (take n rest)) ++ (take n rest ++ drop n rest) = subst (λ (m : ℕ). bytes ≡ to_be_bytes w16 m ++ (take n rest ++ drop n rest)) (sym len) parts in
-    let ended : bytes ≡ to_be_bytes w16 (length (take n rest)) ++ ((take n rest ++ []) ++ drop n rest) = counted ∙ ap (λ (l : List ℕ). to_be_bytes w16 (length (take n rest)) ++ (l ++ drop n rest)) (sym (append-nil (take n rest))) in
-    let whole : bytes ≡ key_spelling (take n rest) ++ drop n rest = ended ∙ sym (append_assoc (to_be_bytes w16 (length (take n rest))) (take n rest ++ []) (drop n rest)) in
-    subst (λ (y : List ℕ × List ℕ). (bytes ≡ key_spelling y.0 ++ y.1) × IsBytes y.1 × IsKey y.0) k.1 (whole, IsBytes-drop n rest t.1, record { short = omega (arith, len, passed.0.0); text = passed.1 })
+    let parts : bytes ≡ to_be_bytes w16 n ++ (take n rest ++ drop n rest) = t.0
+    ∙ ap (λ (l : List ℕ). to_be_bytes w16 n ++ l) (sym (take-append-drop n rest)) in
+    let counted : bytes ≡ to_be_bytes w16 (length (take n rest)) ++ (take n rest ++ drop n rest) = subst
+    (λ (m : ℕ). bytes ≡ to_be_bytes w16 m ++ (take n rest ++ drop n rest)) (sym len) parts in
+    let ended : bytes ≡ to_be_bytes w16 (length (take n rest)) ++ ((take n rest ++ []) ++ drop n rest) = counted
+    ∙ ap (λ (l : List ℕ). to_be_bytes w16 (length (take n rest)) ++ (l ++ drop n rest)) (sym (append-nil (take n rest))) in
+    let whole : bytes ≡ key_spelling (take n rest) ++ drop n rest = ended
+    ∙ sym (append_assoc (to_be_bytes w16 (length (take n rest))) (take n rest ++ []) (drop n rest)) in
+    subst (λ (y : List ℕ × List ℕ). (bytes ≡ key_spelling y.0 ++ y.1) × IsBytes y.1 × IsKey y.0) k.1
+    (whole, IsBytes-drop n rest t.1, record { short = omega (arith, len, passed.0.0); text = passed.1 })
 
 key_again : (key rest : List ℕ) → IsKey key → key_at (key_spelling key ++ rest) ≡ Some (key, rest)
 unfolding key_at
 key_again key rest fits =
     let regrouped : key_spelling key ++ rest ≡ to_be_bytes w16 (length key) ++ (key ++ rest) =
-    append_assoc (to_be_bytes w16 (length key)) (key ++ []) rest ∙ ap (λ (l : List ℕ). to_be_bytes w16 (length key) ++ (l ++ rest)) (append-nil key) in
+    append_assoc (to_be_bytes w16 (length key)) (key ++ []) rest
+    ∙ ap (λ (l : List ℕ). to_be_bytes w16 (length key) ++ (l ++ rest)) (append-nil key) in
     let inside : nat_le (length key) (length (key ++ rest)) ≡ true = le-leb _ _ (omega (arith, length-append key rest)) in
-    ap key_at regrouped ∙ rw (u16_reads.again (length key) (key ++ rest) (omega (arith, fits.short)), le-leb (length key) 256 fits.short, inside, take_at key rest (length key) refl, drop_at key rest (length key) refl, is_utf8-from_IsUtf8 key fits.text) refl
+    ap key_at regrouped ∙ rw (
+      u16_reads.again (length key) (key ++ rest) (omega (arith, fits.short)),
+      le-leb
+          (length key) 256 fits.short,
+      inside,
+      take_at key rest (length key) refl,
+      drop_at key rest
+          (length key) refl,
+      is_utf8-from_IsUtf8 key fits.text,
+    ) refl
 
 pub key_reads : Reads key_spelling IsKey key_at
 key_reads = record { takes = key_takes; again = key_again }
@@ -115,9 +142,12 @@ id_reads =
     let from : RecordId → ℕ × (ℕ × ⊤) = λ id. (id.commit, (id.index, tt)) in
     let k : ℕ × (ℕ × ⊤) → List ℕ → Option (RecordId × List ℕ) = λ p rest. keep (test p) (to p, rest) in
     let tail = pair_at (number_at w32) nothing_at in
-    as_read id_at (λ bytes. more (number_at w64) tail bytes k _ (λ a. more (number_at w32) nothing_at a.1 (λ p rest. k (a.0, p) rest) _ (λ b. refl)))
-    (λ id. refl) (λ id f. ((omega (arith, f.commit), (omega (arith, f.index), tt)), (f.commit, f.index))) (λ id f. record { commit = f.1.0; index = f.1.1 })
-    (made_reads (pair_at (number_at w64) tail) test (λ p. (p.0 < 2 ^ 32) × (p.1.0 < 512)) (λ p. both (below p.0 (2 ^ 32)) (below p.1.0 512)) to from (λ id. refl) (λ p. refl)
+    as_read id_at (λ bytes. more (number_at w64) tail bytes k _
+    (λ a. more (number_at w32) nothing_at a.1 (λ p rest. k (a.0, p) rest) _ (λ b. refl)))
+    (λ id. refl) (λ id f. ((omega (arith, f.commit), (omega (arith, f.index), tt)), (f.commit, f.index)))
+    (λ id f. record { commit = f.1.0; index = f.1.1 })
+    (made_reads (pair_at (number_at w64) tail) test (λ p. (p.0 < 2 ^ 32) × (p.1.0 < 512))
+    (λ p. both (below p.0 (2 ^ 32)) (below p.1.0 512)) to from (λ id. refl) (λ p. refl)
     (pair_reads (number_at w64) tail u64_reads (pair_reads (number_at w32) nothing_at u32_reads nothing_reads)))
 
 pub window_reads : Reads window_spelling (λ w. (w.end ≤ MAX_STAMP) × (w.count ≤ MAX_STAMP)) window_at
@@ -128,9 +158,11 @@ window_reads =
     let from : Window → ℕ × (ℕ × ⊤) = λ w. (w.end, (w.count, tt)) in
     let k : ℕ × (ℕ × ⊤) → List ℕ → Option (Window × List ℕ) = λ p rest. keep (test p) (to p, rest) in
     let tail = pair_at (number_at w64) nothing_at in
-    as_read window_at (λ bytes. more (number_at w64) tail bytes k _ (λ a. more (number_at w64) nothing_at a.1 (λ p rest. k (a.0, p) rest) _ (λ b. refl)))
+    as_read window_at (λ bytes. more (number_at w64) tail bytes k _
+    (λ a. more (number_at w64) nothing_at a.1 (λ p rest. k (a.0, p) rest) _ (λ b. refl)))
     (λ w. refl) (λ w f. ((omega (arith, f.0), (omega (arith, f.1), tt)), f)) (λ w f. f.1)
-    (made_reads (pair_at (number_at w64) tail) test (λ p. (p.0 ≤ MAX_STAMP) × (p.1.0 ≤ MAX_STAMP)) (λ p. both (at_most p.0 MAX_STAMP) (at_most p.1.0 MAX_STAMP)) to from (λ w. refl) (λ p. refl)
+    (made_reads (pair_at (number_at w64) tail) test (λ p. (p.0 ≤ MAX_STAMP) × (p.1.0 ≤ MAX_STAMP))
+    (λ p. both (at_most p.0 MAX_STAMP) (at_most p.1.0 MAX_STAMP)) to from (λ w. refl) (λ p. refl)
     (pair_reads (number_at w64) tail u64_reads (pair_reads (number_at w64) nothing_at u64_reads nothing_reads)))
 
 pub held_reads : Reads held_spelling (λ h. (h.stamp ≤ MAX_STAMP) × FitsSigned w64 h.value) held_at
@@ -141,7 +173,8 @@ held_reads =
     let from : HeldTotal → ℕ × (ℤ × ⊤) = λ h. (h.stamp, (h.value, tt)) in
     let k : ℕ × (ℤ × ⊤) → List ℕ → Option (HeldTotal × List ℕ) = λ p rest. keep (test p) (to p, rest) in
     let tail = pair_at signed_at nothing_at in
-    as_read held_at (λ bytes. more (number_at w64) tail bytes k _ (λ a. more signed_at nothing_at a.1 (λ p rest. k (a.0, p) rest) _ (λ b. refl)))
+    as_read held_at (λ bytes. more (number_at w64) tail bytes k _
+    (λ a. more signed_at nothing_at a.1 (λ p rest. k (a.0, p) rest) _ (λ b. refl)))
     (λ h. refl) (λ h f. ((omega (arith, f.0), (f.1, tt)), f.0)) (λ h f. (f.1, f.0.1.0))
     (made_reads (pair_at (number_at w64) tail) test (λ p. p.0 ≤ MAX_STAMP) (λ p. at_most p.0 MAX_STAMP) to from (λ h. refl) (λ p. refl)
     (pair_reads (number_at w64) tail u64_reads (pair_reads signed_at nothing_at signed_reads nothing_reads)))
@@ -155,10 +188,13 @@ timer_reads =
     let k : ℕ × (ℕ × (Bool × ⊤)) → List ℕ → Option (Timer × List ℕ) = λ p rest. keep (test p) (to p, rest) in
     let tail = pair_at flag_at nothing_at in
     let tails = pair_at (number_at w64) tail in
-    as_read timer_at (λ bytes. more (number_at w64) tails bytes k _ (λ a. more (number_at w64) tail a.1 (λ p rest. k (a.0, p) rest) _ (λ b. more flag_at nothing_at b.1 (λ p rest. k (a.0, (b.0, p)) rest) _ (λ c. refl))))
+    as_read timer_at (λ bytes. more (number_at w64) tails bytes k _
+    (λ a. more (number_at w64) tail a.1 (λ p rest. k (a.0, p) rest) _
+    (λ b. more flag_at nothing_at b.1 (λ p rest. k (a.0, (b.0, p)) rest) _ (λ c. refl))))
     (λ t. refl) (λ t f. ((omega (arith, f.0), (f.1, (tt, tt))), f.0)) (λ t f. (f.1, f.0.1.0))
     (made_reads (pair_at (number_at w64) tails) test (λ p. p.0 ≤ MAX_STAMP) (λ p. at_most p.0 MAX_STAMP) to from (λ t. refl) (λ p. refl)
-    (pair_reads (number_at w64) tails u64_reads (pair_reads (number_at w64) tail u64_reads (pair_reads flag_at nothing_at flag_reads nothing_reads))))
+    (pair_reads (number_at w64) tails u64_reads (pair_reads (number_at w64) tail u64_reads
+    (pair_reads flag_at nothing_at flag_reads nothing_reads))))
 
 name_reads : Reads name_spelling (λ name. (name.part < 2 ^ 32) × IsKey name.key) name_at
 unfolding name_at
@@ -167,7 +203,8 @@ name_reads =
     let from : RowName → ℕ × (List ℕ × ⊤) = λ name. (name.part, (name.key, tt)) in
     let k : ℕ × (List ℕ × ⊤) → List ℕ → Option (RowName × List ℕ) = λ p rest. keep true (to p, rest) in
     let tail = pair_at key_at nothing_at in
-    as_read name_at (λ bytes. more (number_at w32) tail bytes k _ (λ a. more key_at nothing_at a.1 (λ p rest. k (a.0, p) rest) _ (λ b. refl)))
+    as_read name_at (λ bytes. more (number_at w32) tail bytes k _
+    (λ a. more key_at nothing_at a.1 (λ p rest. k (a.0, p) rest) _ (λ b. refl)))
     (λ name. refl) (λ name f. ((f.0, (f.1, tt)), tt)) (λ name f. (f.0.0, f.0.1.0))
     (made_reads (pair_at (number_at w32) tail) (λ p. true) (λ p. ⊤) always to from (λ name. refl) (λ p. refl)
     (pair_reads (number_at w32) tail u32_reads (pair_reads key_at nothing_at key_reads nothing_reads)))
@@ -184,10 +221,12 @@ record_reads =
     let first = pair_at (number_at w64) second in
     as_read record_at
     (λ bytes. more key_at first bytes k _ (λ a. more (number_at w64) second a.1 (λ p rest. k (a.0, p) rest) _
-    (λ b. more signed_at third b.1 (λ p rest. k (a.0, (b.0, p)) rest) _ (λ c. more flag_at nothing_at c.1 (λ p rest. k (a.0, (b.0, (c.0, p))) rest) _ (λ d. refl)))))
+    (λ b. more signed_at third b.1 (λ p rest. k (a.0, (b.0, p)) rest) _
+    (λ c. more flag_at nothing_at c.1 (λ p rest. k (a.0, (b.0, (c.0, p))) rest) _ (λ d. refl)))))
     (λ r. refl) (λ r f. ((f.0, (omega (arith, f.1), (f.2, (tt, tt)))), f.1)) (λ r f. (f.0.0, f.1, f.0.1.1.0))
     (made_reads (pair_at key_at first) test (λ p. p.1.0 ≤ MAX_STAMP) (λ p. at_most p.1.0 MAX_STAMP) to from (λ r. refl) (λ p. refl)
-    (pair_reads key_at first key_reads (pair_reads (number_at w64) second u64_reads (pair_reads signed_at third signed_reads (pair_reads flag_at nothing_at flag_reads nothing_reads)))))
+    (pair_reads key_at first key_reads (pair_reads (number_at w64) second u64_reads
+    (pair_reads signed_at third signed_reads (pair_reads flag_at nothing_at flag_reads nothing_reads)))))
 
 pub delivery_reads : Reads delivery_spelling (λ d. IsDelivery d × DeliveryFits d) delivery_at
 unfolding delivery_at
@@ -198,9 +237,13 @@ delivery_reads =
     let second = pair_at record_at nothing_at in
     let first = pair_at name_at second in
     as_read delivery_at
-    (λ bytes. more id_at first bytes k _ (λ a. more name_at second a.1 (λ p rest. k (a.0, p) rest) _ (λ b. more record_at nothing_at b.1 (λ p rest. k (a.0, (b.0, p)) rest) _ (λ c. refl))))
+    (λ bytes. more id_at first bytes k _ (λ a. more name_at second a.1 (λ p rest. k (a.0, p) rest) _
+    (λ b. more record_at nothing_at b.1 (λ p rest. k (a.0, (b.0, p)) rest) _ (λ c. refl))))
     (λ d. refl)
     (λ d f. ((f.0.id, ((f.1.part, f.0.to), ((f.0.key, f.0.stamp, f.1.value), tt))), tt))
-    (λ d f. (record { id = f.0.0; to = f.0.1.0.1; key = f.0.1.1.0.0; stamp = f.0.1.1.0.1 }, record { part = f.0.1.0.0; value = f.0.1.1.0.2 }))
+    (λ d f. (
+      record { id = f.0.0; to = f.0.1.0.1; key = f.0.1.1.0.0; stamp = f.0.1.1.0.1 },
+      record { part = f.0.1.0.0; value = f.0.1.1.0.2 },
+    ))
     (made_reads (pair_at id_at first) (λ p. true) (λ p. ⊤) always to from (λ d. refl) (λ p. refl)
     (pair_reads id_at first id_reads (pair_reads name_at second name_reads (pair_reads record_at nothing_at record_reads nothing_reads))))

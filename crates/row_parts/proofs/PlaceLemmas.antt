@@ -19,13 +19,16 @@ use Rattle.row_parts.specs.Places.{IsHit, IsGap, IsHitOrGap}
 -- ---- a search by rank
 
 -- a list in strict order is sorted
-sorted_from_strict : {X K : Type 0} (key : X → K) {R : K → K → Ordering} (o : IsTotalOrder R) (xs : List X) → IsStrictlySortedBy (on key R) xs → IsSortedBy (λ a b. is_lt (R (key a) (key b))) xs
+sorted_from_strict : {X K : Type 0} (key : X → K) {R : K → K → Ordering} (o : IsTotalOrder R) (xs : List X)
+    → IsStrictlySortedBy (on key R) xs → IsSortedBy (λ a b. is_lt (R (key a) (key b))) xs
 sorted_from_strict key {R} o xs sorted i d low high =
-    let up : R (key (get_or xs i d)) (key (get_or xs (i + 1) d)) ≡ Less = Less-from_sorted (on key R) xs i (i + 1) d sorted (omega arith) high in
+    let up : R (key (get_or xs i d)) (key (get_or xs (i + 1) d)) ≡ Less = Less-from_sorted (on key R) xs i (i + 1) d sorted
+    (omega arith) high in
     rw (o.antisymm (key (get_or xs (i + 1) d)) (key (get_or xs i d)), up) refl
 
 -- what a binary search by rank answers in a list that stands in strict order
-pub is_place : {X K : Type 0} (key : X → K) {R : K → K → Ordering} (o : IsTotalOrder R) (k : K) (xs : List X) (found : Result ℕ ℕ) → IsStrictlySortedBy (on key R) xs
+pub is_place : {X K : Type 0} (key : X → K) {R : K → K → Ordering} (o : IsTotalOrder R) (k : K) (xs : List X) (found : Result ℕ ℕ)
+    → IsStrictlySortedBy (on key R) xs
     → IsSearchInRange found (length xs) → IsBinarySearchResult (λ x. R (key x) k) xs found → IsHitOrGap (λ x. R (key x) k) xs found
 is_place key {R} o k xs (Ok at) sorted within here = record {
   within = within;
@@ -36,20 +39,24 @@ is_place key {R} o k xs (Ok at) sorted within here = record {
       rw (get_or-take at xs i d below) (sym (alike_right o (key (get_or xs at d)) k (key (get_or xs i d)) (here d)) ∙ up);
   behind = λ i d h.
       let above : at + 1 + i < length xs = omega (arith, length-drop (at + 1) xs) in
-      let up : R (key (get_or xs at d)) (key (get_or xs (at + 1 + i) d)) ≡ Less = Less-from_sorted (on key R) xs at (at + 1 + i) d sorted (omega arith) above in
-      let down : R k (key (get_or xs (at + 1 + i) d)) ≡ Less = sym (o.congr (key (get_or xs at d)) k (key (get_or xs (at + 1 + i) d)) (here d)) ∙ up in
+      let up : R (key (get_or xs at d)) (key (get_or xs (at + 1 + i) d)) ≡ Less = Less-from_sorted (on key R) xs at (at + 1 + i) d sorted
+      (omega arith) above in
+      let down : R k (key (get_or xs (at + 1 + i) d)) ≡ Less = sym
+      (o.congr (key (get_or xs at d)) k (key (get_or xs (at + 1 + i) d)) (here d)) ∙ up in
       rw (get_or-drop (at + 1) xs i d) (o.antisymm (key (get_or xs (at + 1 + i) d)) k ∙ ap ordering_reverse down);
 }
 is_place key {R} o k xs (Err at) sorted within parted =
     let p = parted (searchable_from_sorted o key xs k (sorted_from_strict key o xs sorted)) in
     record {
       within = within;
-      before = λ i d h. rw (get_or-take at xs i d (omega (arith, length-take at xs))) (p.0 i d (omega arith) (omega (arith, length-take at xs)));
+      before = λ i d h. rw (get_or-take at xs i d (omega (arith, length-take at xs)))
+          (p.0 i d (omega arith) (omega (arith, length-take at xs)));
       behind = λ i d h. rw (get_or-drop at xs i d) (p.1 (at + i) d (omega arith) (omega (arith, length-drop at xs)));
     }
 
 -- past the greatest element there is a gap
-pub gap_at_end : {X K : Type 0} (key : X → K) {R : K → K → Ordering} (o : IsTotalOrder R) (k : K) (xs : List X) (last : X) → IsStrictlySortedBy (on key R) xs
+pub gap_at_end : {X K : Type 0} (key : X → K) {R : K → K → Ordering} (o : IsTotalOrder R) (k : K) (xs : List X) (last : X)
+    → IsStrictlySortedBy (on key R) xs
     → 0 < length xs → get_or xs (length xs - 1) last ≡ last → R (key last) k ≡ Less → IsGap (λ x. R (key x) k) xs (length xs)
 gap_at_end key {R} o k xs last sorted some at_end below = record {
   within = omega arith;
@@ -57,7 +64,9 @@ gap_at_end key {R} o k xs last sorted some at_end below = record {
       let inside : i < length xs = omega (arith, length-take (length xs) xs) in
       let here : get_or xs (length xs - 1) d ≡ last = get_or_default xs (length xs - 1) d last (omega arith) ∙ at_end in
       rw (get_or-take (length xs) xs i d inside) (elim (cases_lt i (length xs - 1)) [
-        | inl lt ↦ o.trans (key (get_or xs i d)) (key last) k (subst (λ y. R (key (get_or xs i d)) (key y) ≡ Less) here (Less-from_sorted (on key R) xs i (length xs - 1) d sorted lt (omega arith))) below
+        | inl lt ↦ o.trans (key (get_or xs i d)) (key last) k
+            (subst (λ y. R (key (get_or xs i d)) (key y) ≡ Less) here
+            (Less-from_sorted (on key R) xs i (length xs - 1) d sorted lt (omega arith))) below
         | inr le ↦
             let same : i ≡ length xs - 1 = omega arith in
             rw (same, here) below
@@ -87,7 +96,8 @@ pub put_in-gap : {X : Type 0} {cmp : X → X → Ordering} (o : IsTotalOrder cmp
 put_in-gap {X} {cmp} o again new xs at gap =
     ap (put_in cmp again new) (sym (take-append-drop at xs))
     ∙ put_in-past o again new (take at xs) (drop at xs) (recursion_from_All (λ x. cmp x new ≡ Less) (take at xs) gap.before)
-    ∙ ap (λ (l : List X). take at xs ++ l) (put_in-before o again new (drop at xs) (recursion_from_All (λ x. cmp x new ≡ Greater) (drop at xs) gap.behind))
+    ∙ ap (λ (l : List X). take at xs ++ l) (put_in-before o again new (drop at xs)
+    (recursion_from_All (λ x. cmp x new ≡ Greater) (drop at xs) gap.behind))
 
 -- at a hit it takes the place of the one that is there
 pub put_in-hit : {X : Type 0} {cmp : X → X → Ordering} (o : IsTotalOrder cmp) (again : X → X → X) (new : X) (xs : List X) (at : ℕ) (d : X)
@@ -96,20 +106,23 @@ put_in-hit {X} {cmp} o again new xs at d hit =
     let x = get_or xs at d in
     let tie : cmp new x ≡ Equal = o.antisymm new x ∙ ap ordering_reverse (hit.here d) in
     let rest : put_in cmp again new (drop at xs) ≡ again new x ∷ drop (at + 1) xs = rw (drop_more xs at d hit.within, tie) refl in
-    let set_is : set xs at (again new x) ≡ take at xs ++ again new x ∷ drop (at + 1) xs = rw add-one (set_split xs at (again new x) hit.within) in
+    let set_is : set xs at (again new x) ≡ take at xs ++ again new x ∷ drop (at + 1) xs = rw add-one
+    (set_split xs at (again new x) hit.within) in
     ap (put_in cmp again new) (sym (take-append-drop at xs))
     ∙ put_in-past o again new (take at xs) (drop at xs) (recursion_from_All (λ y. cmp y new ≡ Less) (take at xs) hit.before)
     ∙ ap (λ (l : List X). take at xs ++ l) rest
     ∙ sym set_is
 
 -- what holds of the new element, and stays true where an element is put again, holds of all
-pub All-put_in : {X : Type 0} (P : X → Type 0) (cmp : X → X → Ordering) (again : X → X → X) (new : X) → P new → ((x : X) → P x → P (again new x))
+pub All-put_in : {X : Type 0} (P : X → Type 0) (cmp : X → X → Ordering) (again : X → X → X) (new : X) → P new
+    → ((x : X) → P x → P (again new x))
     → (xs : List X) → AllByRecursion P xs → AllByRecursion P (put_in cmp again new xs)
 All-put_in P cmp again new here kept [] all = (here, tt)
 All-put_in P cmp again new here kept (x ∷ xs) all =
     all_put_by P cmp again new here kept x xs all (cmp new x) (All-put_in P cmp again new here kept xs all.1)
   where
-    all_put_by : {X : Type 0} (P : X → Type 0) (cmp : X → X → Ordering) (again : X → X → X) (new : X) → P new → ((x : X) → P x → P (again new x)) → (x : X) (xs : List X)
+    all_put_by : {X : Type 0} (P : X → Type 0) (cmp : X → X → Ordering) (again : X → X → X) (new : X) → P new
+        → ((x : X) → P x → P (again new x)) → (x : X) (xs : List X)
         → AllByRecursion P (x ∷ xs) → (r : Ordering) → AllByRecursion P (put_in cmp again new xs)
         → AllByRecursion P (match_ordering r (new ∷ x ∷ xs) (again new x ∷ xs) (x ∷ put_in cmp again new xs))
     all_put_by P cmp again new here kept x xs all Less rest = (here, all)
@@ -117,7 +130,8 @@ All-put_in P cmp again new here kept (x ∷ xs) all =
     all_put_by P cmp again new here kept x xs all Greater rest = (all.0, rest)
 
 -- where an element that is put again keeps its rank, a list in strict order stays so
-pub sorted-put_in : {X : Type 0} {cmp : X → X → Ordering} (o : IsTotalOrder cmp) (again : X → X → X) (left : (x new old : X) → cmp x (again new old) ≡ cmp x old) (right : (new old x : X) → cmp (again new old) x ≡ cmp old x)
+pub sorted-put_in : {X : Type 0} {cmp : X → X → Ordering} (o : IsTotalOrder cmp) (again : X → X → X)
+    (left : (x new old : X) → cmp x (again new old) ≡ cmp x old) (right : (new old x : X) → cmp (again new old) x ≡ cmp old x)
     → (new : X) (xs : List X) → IsStrictlySortedBy cmp xs → IsStrictlySortedBy cmp (put_in cmp again new xs)
 unfolding IsStrictlySortedBy
 sorted-put_in o again left right new [] sorted = (tt, tt)
@@ -131,18 +145,25 @@ sorted-put_in {X} {cmp} o again left right new (x ∷ xs) sorted = by (cmp new x
     renamed [] all = tt
     renamed (z ∷ zs) all = (right new x z ∙ all.0, renamed zs all.1)
 
-    by : (r : Ordering) → IsStrictlySortedBy cmp (put_in cmp again new xs) → cmp new x ≡ r → IsStrictlySortedBy cmp (match_ordering r (new ∷ x ∷ xs) (again new x ∷ xs) (x ∷ put_in cmp again new xs))
+    by : (r : Ordering) → IsStrictlySortedBy cmp (put_in cmp again new xs) → cmp new x ≡ r
+        → IsStrictlySortedBy cmp (match_ordering r (new ∷ x ∷ xs) (again new x ∷ xs) (x ∷ put_in cmp again new xs))
     by Less rest e = ((e, later x e xs sorted.0), sorted)
     by Equal rest e = (renamed xs sorted.0, sorted.1)
-    by Greater rest e = (All-put_in (λ z. cmp x z ≡ Less) cmp again new (o.antisymm x new ∙ ap ordering_reverse e) (λ z less. left x new z ∙ less) xs sorted.0, rest)
+    by Greater rest e = (
+      All-put_in (λ z. cmp x z ≡ Less) cmp again new (o.antisymm x new ∙ ap ordering_reverse e)
+          (λ z less. left x new z ∙ less) xs sorted.0,
+      rest,
+    )
 
 -- a list in strict order stays so where an element above all of it is appended
-pub sorted-push : {X : Type 0} (cmp : X → X → Ordering) (new : X) (xs : List X) → IsStrictlySortedBy cmp xs → AllByRecursion (λ x. cmp x new ≡ Less) xs → IsStrictlySortedBy cmp (xs ++ new ∷ [])
+pub sorted-push : {X : Type 0} (cmp : X → X → Ordering) (new : X) (xs : List X) → IsStrictlySortedBy cmp xs
+    → AllByRecursion (λ x. cmp x new ≡ Less) xs → IsStrictlySortedBy cmp (xs ++ new ∷ [])
 unfolding IsStrictlySortedBy
 sorted-push cmp new [] sorted below = (tt, tt)
 sorted-push {X} cmp new (x ∷ xs) sorted below = (above x xs below.0 sorted.0, sorted-push cmp new xs sorted.1 below.1)
   where
-    above : (x : X) (ys : List X) → cmp x new ≡ Less → AllByRecursion (λ y. cmp x y ≡ Less) ys → AllByRecursion (λ y. cmp x y ≡ Less) (ys ++ new ∷ [])
+    above : (x : X) (ys : List X) → cmp x new ≡ Less → AllByRecursion (λ y. cmp x y ≡ Less) ys
+        → AllByRecursion (λ y. cmp x y ≡ Less) (ys ++ new ∷ [])
     above x [] less all = (less, tt)
     above x (y ∷ ys) less all = (all.0, above x ys less all.1)
 
@@ -156,7 +177,8 @@ none_passes : {X : Type 0} (test : X → Bool) (xs : List X) → AllByRecursion 
 none_passes test [] none = refl
 none_passes test (x ∷ xs) none = rw none.0 (none_passes test xs none.1)
 
-one_passes : {X : Type 0} (test : X → Bool) (d : X) (xs : List X) (at : ℕ) → at < length xs → test (get_or xs at d) ≡ true → list_any test xs ≡ true
+one_passes : {X : Type 0} (test : X → Bool) (d : X) (xs : List X) (at : ℕ) → at < length xs → test (get_or xs at d) ≡ true
+    → list_any test xs ≡ true
 one_passes test d [] at within here = absurd (omega arith)
 one_passes test d (x ∷ xs) zero within here = rw here refl
 one_passes test d (x ∷ xs) (suc at) within here = rw (one_passes test d xs at (omega arith) here) (or_true (test x))
@@ -165,16 +187,21 @@ one_passes test d (x ∷ xs) (suc at) within here = rw (one_passes test d xs at 
     or_true true = refl
     or_true false = refl
 
-fails : {X : Type 0} (rank : X → Ordering) (test : X → Bool) (r : Ordering) → is_eq r ≡ false → ((x : X) → test x ≡ is_eq (rank x)) → (xs : List X) → All (λ x. rank x ≡ r) xs → AllByRecursion (λ x. test x ≡ false) xs
-fails rank test r apart means xs all = recursion_from_All (λ x. test x ≡ false) xs (λ i d h. means (get_or xs i d) ∙ ap is_eq (all i d h) ∙ apart)
+fails : {X : Type 0} (rank : X → Ordering) (test : X → Bool) (r : Ordering) → is_eq r ≡ false → ((x : X) → test x ≡ is_eq (rank x))
+    → (xs : List X) → All (λ x. rank x ≡ r) xs → AllByRecursion (λ x. test x ≡ false) xs
+fails rank test r apart means xs all = recursion_from_All (λ x. test x ≡ false) xs
+    (λ i d h. means (get_or xs i d) ∙ ap is_eq (all i d h) ∙ apart)
 
 -- at a gap nothing is taken away
-pub filter-gap : {X : Type 0} (rank : X → Ordering) (test : X → Bool) → ((x : X) → test x ≡ is_eq (rank x)) → (xs : List X) (at : ℕ) → IsGap rank xs at → (filter (λ x. not (test x)) xs ≡ xs) × (list_any test xs ≡ false)
+pub filter-gap : {X : Type 0} (rank : X → Ordering) (test : X → Bool) → ((x : X) → test x ≡ is_eq (rank x)) → (xs : List X) (at : ℕ)
+    → IsGap rank xs at → (filter (λ x. not (test x)) xs ≡ xs) × (list_any test xs ≡ false)
 filter-gap rank test means xs at gap =
     let front = fails rank test Less refl means (take at xs) gap.before in
     let back = fails rank test Greater refl means (drop at xs) gap.behind in
-    let whole : AllByRecursion (λ x. test x ≡ false) (take at xs ++ drop at xs) = all_both (λ x. test x ≡ false) (take at xs) (drop at xs) front back in
-    let all : AllByRecursion (λ x. test x ≡ false) xs = subst (λ l. AllByRecursion (λ x. test x ≡ false) l) (take-append-drop at xs) whole in
+    let whole : AllByRecursion (λ x. test x ≡ false) (take at xs ++ drop at xs) = all_both (λ x. test x ≡ false) (take at xs)
+    (drop at xs) front back in
+    let all : AllByRecursion (λ x. test x ≡ false) xs = subst (λ l. AllByRecursion (λ x. test x ≡ false) l)
+    (take-append-drop at xs) whole in
     (all_pass test xs all, none_passes test xs all)
   where
     all_both : {X : Type 0} (P : X → Type 0) (xs ys : List X) → AllByRecursion P xs → AllByRecursion P ys → AllByRecursion P (xs ++ ys)
@@ -182,14 +209,16 @@ filter-gap rank test means xs at gap =
     all_both P (x ∷ xs) ys a b = (a.0, all_both P xs ys a.1 b)
 
 -- at a hit that element is taken away
-pub filter-hit : {X : Type 0} (rank : X → Ordering) (test : X → Bool) → ((x : X) → test x ≡ is_eq (rank x)) → (xs : List X) (at : ℕ) (d : X) → IsHit rank xs at → (filter (λ x. not (test x)) xs ≡ remove xs at) × (list_any test xs ≡ true)
+pub filter-hit : {X : Type 0} (rank : X → Ordering) (test : X → Bool) → ((x : X) → test x ≡ is_eq (rank x))
+    → (xs : List X) (at : ℕ) (d : X) → IsHit rank xs at → (filter (λ x. not (test x)) xs ≡ remove xs at) × (list_any test xs ≡ true)
 filter-hit {X} rank test means xs at d hit =
     let x = get_or xs at d in
     let p : X → Bool = λ y. not (test y) in
     let here : test x ≡ true = means x ∙ ap is_eq (hit.here d) in
     let front = all_pass test (take at xs) (fails rank test Less refl means (take at xs) hit.before) in
     let back = all_pass test (drop (at + 1) xs) (fails rank test Greater refl means (drop (at + 1) xs) hit.behind) in
-    let rest : filter p (drop at xs) ≡ drop (suc at) xs = rw (drop_more xs at d hit.within, here) (back ∙ ap (λ (n : ℕ). drop n xs) (add-one at)) in
+    let rest : filter p (drop at xs) ≡ drop (suc at) xs = rw (drop_more xs at d hit.within, here)
+    (back ∙ ap (λ (n : ℕ). drop n xs) (add-one at)) in
     let whole : filter p xs ≡ take at xs ++ drop (suc at) xs =
     ap (filter p) (sym (take-append-drop at xs)) ∙ filter-append p (take at xs) (drop at xs) ∙ rw (front, rest) refl in
     (whole, one_passes test d xs at hit.within here)

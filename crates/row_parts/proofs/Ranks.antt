@@ -34,13 +34,16 @@ probe : ℕ → ℕ → Timer
 probe tag time = record { tag = tag; time = time; late = false }
 
 -- a binary search for a timer
-pub timer_is_place : (tag time : ℕ) (timers : List Timer) (found : Result ℕ ℕ) → IsStrictlySortedBy timer_cmp timers → IsSearchInRange found (length timers)
+pub timer_is_place : (tag time : ℕ) (timers : List Timer) (found : Result ℕ ℕ) → IsStrictlySortedBy timer_cmp timers
+    → IsSearchInRange found (length timers)
     → IsBinarySearchResult (timer_rank tag time) timers found → IsHitOrGap (timer_rank tag time) timers found
 unfolding probe
-timer_is_place tag time timers found sorted within at = is_place (λ (t : Timer). t) timer_cmp-total (probe tag time) timers found sorted within at
+timer_is_place tag time timers found sorted within at = is_place (λ (t : Timer). t) timer_cmp-total
+    (probe tag time) timers found sorted within at
 
 -- a binary search for an id
-pub id_is_place : (id : RecordId) (ids : List RecordId) (found : Result ℕ ℕ) → IsStrictlySortedBy id_cmp ids → IsSearchInRange found (length ids)
+pub id_is_place : (id : RecordId) (ids : List RecordId) (found : Result ℕ ℕ) → IsStrictlySortedBy id_cmp ids
+    → IsSearchInRange found (length ids)
     → IsBinarySearchResult (id_rank id) ids found → IsHitOrGap (id_rank id) ids found
 id_is_place id ids found sorted within at = is_place (λ (x : RecordId). x) id_cmp-total id ids found sorted within at
 
@@ -56,12 +59,15 @@ below_is Equal q = refl
 below_is Greater q = refl
 
 -- an id above the last one stands at the end
-pub id_at_end : (id : RecordId) (ids : List RecordId) (last : RecordId) → IsStrictlySortedBy id_cmp ids → slice_get ids (length ids - 1) ≡ Some last → is_lt (id_cmp last id) ≡ true → IsGap (id_rank id) ids (length ids)
+pub id_at_end : (id : RecordId) (ids : List RecordId) (last : RecordId) → IsStrictlySortedBy id_cmp ids
+    → slice_get ids (length ids - 1) ≡ Some last → is_lt (id_cmp last id) ≡ true → IsGap (id_rank id) ids (length ids)
 id_at_end id ids last sorted at_end below =
     let within : length ids - 1 < length ids = slice_get_within ids (length ids - 1) last at_end in
-    gap_at_end (λ (x : RecordId). x) id_cmp-total id ids last sorted (omega arith) (get_or_from_slice_get ids (length ids - 1) last last at_end) (is_less (id_cmp last id) below)
+    gap_at_end (λ (x : RecordId). x) id_cmp-total id ids last sorted (omega arith)
+    (get_or_from_slice_get ids (length ids - 1) last last at_end) (is_less (id_cmp last id) below)
 
 -- a binary search for a delivery
-pub delivery_is_place : (id : RecordId) (ds : List Delivery) (found : Result ℕ ℕ) → IsStrictlySortedBy delivery_cmp ds → IsSearchInRange found (length ds)
+pub delivery_is_place : (id : RecordId) (ds : List Delivery) (found : Result ℕ ℕ) → IsStrictlySortedBy delivery_cmp ds
+    → IsSearchInRange found (length ds)
     → IsBinarySearchResult (delivery_rank id) ds found → IsHitOrGap (delivery_rank id) ds found
 delivery_is_place id ds found sorted within at = is_place (λ (d : Delivery). d.id) id_cmp-total id ds found sorted within at

@@ -42,26 +42,32 @@ length-filter p xs = omega (arith, length-filter_both p (λ x. not (p x)) (λ x.
 
 -- ---- timers
 
-timers_with : (t : Timer) (xs : List Timer) → AreTimers xs → t.time ≤ MAX_STAMP → length (with_timer t xs) < 2 ^ 32 → AreTimers (with_timer t xs)
+timers_with : (t : Timer) (xs : List Timer) → AreTimers xs → t.time ≤ MAX_STAMP → length (with_timer t xs) < 2 ^ 32
+    → AreTimers (with_timer t xs)
 timers_with t xs are time few = record {
   ascending = sorted-put_in timer_cmp-total set_again (λ x new old. refl) (λ new old x. refl) t xs are.ascending;
-  times = All-from_recursion (λ (u : Timer). u.time ≤ MAX_STAMP) (with_timer t xs) (All-put_in (λ (u : Timer). u.time ≤ MAX_STAMP) timer_cmp set_again t time (λ u h. h) xs (recursion_from_All (λ (u : Timer). u.time ≤ MAX_STAMP) xs are.times));
+  times = All-from_recursion (λ (u : Timer). u.time ≤ MAX_STAMP) (with_timer t xs)
+      (All-put_in (λ (u : Timer). u.time ≤ MAX_STAMP) timer_cmp set_again t time (λ u h. h) xs
+      (recursion_from_All (λ (u : Timer). u.time ≤ MAX_STAMP) xs are.times));
   few = few;
 }
 
 -- a timer that is set again
-pub timers_set : (t d made : Timer) (xs slice new : List Timer) (at : ℕ) → slice ≡ xs → AreTimers xs → t.time ≤ MAX_STAMP → IsHit (timer_rank t.tag t.time) slice at
+pub timers_set : (t d made : Timer) (xs slice new : List Timer) (at : ℕ) → slice ≡ xs → AreTimers xs → t.time ≤ MAX_STAMP
+    → IsHit (timer_rank t.tag t.time) slice at
     → made ≡ set_again t (get_or slice at d) → new ≡ set xs at made → (new ≡ with_timer t xs) × AreTimers new
 timers_set t d made xs slice new at same are time hit joined written =
     let hit' : IsHit (timer_rank t.tag t.time) xs at = subst (λ l. IsHit (timer_rank t.tag t.time) l at) same hit in
     let made' : made ≡ set_again t (get_or xs at d) = subst (λ l. made ≡ set_again t (get_or l at d)) same joined in
-    let whole : with_timer t xs ≡ set xs at made = put_in-hit timer_cmp-total set_again t xs at d hit' ∙ ap (λ (u : Timer). set xs at u) (sym made') in
+    let whole : with_timer t xs ≡ set xs at made = put_in-hit timer_cmp-total set_again t xs at d hit'
+    ∙ ap (λ (u : Timer). set xs at u) (sym made') in
     let is : new ≡ with_timer t xs = written ∙ sym whole in
     let few : length (with_timer t xs) < 2 ^ 32 = rw (whole, length-set xs at made) are.few in
     (is, subst AreTimers (sym is) (timers_with t xs are time few))
 
 -- a timer that is set for the first time
-pub timers_inserted : (t : Timer) (xs slice new : List Timer) (at : ℕ) → slice ≡ xs → AreTimers xs → t.time ≤ MAX_STAMP → IsGap (timer_rank t.tag t.time) slice at
+pub timers_inserted : (t : Timer) (xs slice new : List Timer) (at : ℕ) → slice ≡ xs → AreTimers xs → t.time ≤ MAX_STAMP
+    → IsGap (timer_rank t.tag t.time) slice at
     → length xs + 1 < 2 ^ 32 → new ≡ insert xs at t → (new ≡ with_timer t xs) × AreTimers new
 timers_inserted t xs slice new at same are time gap room written =
     let gap' : IsGap (timer_rank t.tag t.time) xs at = subst (λ l. IsGap (timer_rank t.tag t.time) l at) same gap in
@@ -78,11 +84,13 @@ timers_filtered p xs are = record {
 }
 
 -- a timer that is taken away
-pub timers_removed : (tag time : ℕ) (xs slice new : List Timer) (at : ℕ) → slice ≡ xs → AreTimers xs → IsHit (timer_rank tag time) slice at → new ≡ remove xs at
+pub timers_removed : (tag time : ℕ) (xs slice new : List Timer) (at : ℕ) → slice ≡ xs → AreTimers xs
+    → IsHit (timer_rank tag time) slice at → new ≡ remove xs at
     → (true ≡ list_any (is_timer tag time) xs) × (new ≡ without_timer tag time xs) × AreTimers new
 timers_removed tag time xs slice new at same are hit written =
     let hit' : IsHit (timer_rank tag time) xs at = subst (λ l. IsHit (timer_rank tag time) l at) same hit in
-    let both = filter-hit (timer_rank tag time) (is_timer tag time) (is_timer-rank tag time) xs at (record { tag = tag; time = time; late = false }) hit' in
+    let both = filter-hit (timer_rank tag time) (is_timer tag time) (is_timer-rank tag time) xs at
+    (record { tag = tag; time = time; late = false }) hit' in
     let made : new ≡ without_timer tag time xs = written ∙ sym both.0 in
     (sym both.1, made, subst AreTimers (sym made) (timers_filtered (λ t. not (is_timer tag time t)) xs are))
 
@@ -90,13 +98,15 @@ timers_removed tag time xs slice new at same are hit written =
 pub timers_kept : (tag time : ℕ) (xs slice : List Timer) (at : ℕ) → slice ≡ xs → IsGap (timer_rank tag time) slice at
     → (false ≡ list_any (is_timer tag time) xs) × (xs ≡ without_timer tag time xs)
 timers_kept tag time xs slice at same gap =
-    let both = filter-gap (timer_rank tag time) (is_timer tag time) (is_timer-rank tag time) xs at (subst (λ l. IsGap (timer_rank tag time) l at) same gap) in
+    let both = filter-gap (timer_rank tag time) (is_timer tag time) (is_timer-rank tag time) xs at
+    (subst (λ l. IsGap (timer_rank tag time) l at) same gap) in
     (sym both.1, sym both.0)
 
 -- ---- handled ids
 
 -- whether an id is among those that were handled
-pub has_id : (id : RecordId) (ids : List RecordId) (found : Result ℕ ℕ) → IsHitOrGap (id_rank id) ids found → is_ok found ≡ list_any (same_id id) ids
+pub has_id : (id : RecordId) (ids : List RecordId) (found : Result ℕ ℕ) → IsHitOrGap (id_rank id) ids found
+    → is_ok found ≡ list_any (same_id id) ids
 has_id id ids (Ok at) hit = sym (filter-hit (id_rank id) (same_id id) (same_id-rank id) ids at id hit).1
 has_id id ids (Err at) gap = sym (filter-gap (id_rank id) (same_id id) (same_id-rank id) ids at gap).1
 
@@ -107,7 +117,8 @@ id_kept id ids slice at same hit =
     sym (put_in-hit id_cmp-total (λ new old. old) id ids at id hit' ∙ set-get_or ids at id)
 
 -- an id that is added
-pub id_inserted : (floor : ℕ) (id : RecordId) (ids slice new : List RecordId) (at : ℕ) → slice ≡ ids → AreSeen floor ids → IsId id → floor ≤ id.commit → IsGap (id_rank id) slice at
+pub id_inserted : (floor : ℕ) (id : RecordId) (ids slice new : List RecordId) (at : ℕ) → slice ≡ ids → AreSeen floor ids → IsId id
+    → floor ≤ id.commit → IsGap (id_rank id) slice at
     → length ids + 1 < 2 ^ 32 → new ≡ insert ids at id → (new ≡ with_id id ids) × AreSeen floor new
 id_inserted floor id ids slice new at same are is_id above gap room written =
     let gap' : IsGap (id_rank id) ids at = subst (λ l. IsGap (id_rank id) l at) same gap in
@@ -116,8 +127,11 @@ id_inserted floor id ids slice new at same are is_id above gap room written =
       made,
       subst (AreSeen floor) (sym made) (record {
         ascending = sorted-put_in id_cmp-total (λ new old. old) (λ x new old. refl) (λ new old x. refl) id ids are.ascending;
-        each = All-from_recursion IsId (with_id id ids) (All-put_in IsId id_cmp (λ new old. old) id is_id (λ u h. h) ids (recursion_from_All IsId ids are.each));
-        kept = All-from_recursion (λ (x : RecordId). floor ≤ x.commit) (with_id id ids) (All-put_in (λ (x : RecordId). floor ≤ x.commit) id_cmp (λ new old. old) id above (λ u h. h) ids (recursion_from_All (λ (x : RecordId). floor ≤ x.commit) ids are.kept));
+        each = All-from_recursion IsId (with_id id ids)
+            (All-put_in IsId id_cmp (λ new old. old) id is_id (λ u h. h) ids (recursion_from_All IsId ids are.each));
+        kept = All-from_recursion (λ (x : RecordId). floor ≤ x.commit) (with_id id ids)
+            (All-put_in (λ (x : RecordId). floor ≤ x.commit) id_cmp (λ new old. old) id above (λ u h. h) ids
+            (recursion_from_All (λ (x : RecordId). floor ≤ x.commit) ids are.kept));
         few = rw (whole, length-insert ids at id gap'.within) room;
       }),
     )
@@ -129,14 +143,16 @@ seen_from old floor ids are =
     record {
       ascending = IsStrictlySortedBy-filter id_cmp p ids are.ascending;
       each = All-filter p IsId ids are.each;
-      kept = All-weaker (λ (id : RecordId). p id ≡ true) (λ (id : RecordId). floor ≤ id.commit) (λ id h. leb-true floor id.commit h) (filter p ids) (filter_passes p ids);
+      kept = All-weaker (λ (id : RecordId). p id ≡ true) (λ (id : RecordId). floor ≤ id.commit) (λ id h. leb-true floor id.commit h)
+          (filter p ids) (filter_passes p ids);
       few = omega (arith, length-filter p ids, are.few);
     }
 
 -- ---- deliveries
 
 -- a delivery that is appended
-pub delivery_appended : (d : Delivery) (ds new : List Delivery) → ArePending ds → IsDelivery d → All (λ x. delivery_cmp x d ≡ Less) ds → length ds + 1 < 2 ^ 32 → new ≡ ds ++ d ∷ [] → ArePending new
+pub delivery_appended : (d : Delivery) (ds new : List Delivery) → ArePending ds → IsDelivery d → All (λ x. delivery_cmp x d ≡ Less) ds
+    → length ds + 1 < 2 ^ 32 → new ≡ ds ++ d ∷ [] → ArePending new
 delivery_appended d ds new are is above room written = subst ArePending (sym written) (record {
   ascending = sorted-push delivery_cmp d ds are.ascending (recursion_from_All (λ x. delivery_cmp x d ≡ Less) ds above);
   each = All-push IsDelivery ds d are.each is;
@@ -144,7 +160,8 @@ delivery_appended d ds new are is above room written = subst ArePending (sym wri
 })
 
 -- a delivery that is taken away
-pub delivery_removed : (id : RecordId) (d : Delivery) (ds slice new : List Delivery) (at : ℕ) → slice ≡ ds → ArePending ds → IsHit (delivery_rank id) slice at → new ≡ remove ds at
+pub delivery_removed : (id : RecordId) (d : Delivery) (ds slice new : List Delivery) (at : ℕ) → slice ≡ ds → ArePending ds
+    → IsHit (delivery_rank id) slice at → new ≡ remove ds at
     → (true ≡ list_any (λ (x : Delivery). same_id x.id id) ds) × (new ≡ without_delivery id ds) × ArePending new
 delivery_removed id d ds slice new at same are hit written =
     let test : Delivery → Bool = λ x. same_id x.id id in

@@ -10,7 +10,8 @@ use crate::lists::Ranked;
 use crate::refusal::StateRefusal;
 use crate::spelled::Spelled;
 use mw_types::{
-    Delivery, HeldTotal, Key, KeyRefusal, MAX_STAMP, NoMemory, Record, RecordId, RowName, Timer, Window,
+    Delivery, HeldTotal, Key, KeyRefusal, MAX_STAMP, NoMemory, Record, RecordId, RowName, Timer,
+    Window,
 };
 use std::alloc::Global;
 

@@ -21,10 +21,12 @@ Begins-trans one two three first second =
 -- a beginning is not longer
 pub Begins-length : (front history : List Entry) → Begins front history → length front ≤ length history
 Begins-length front history begins =
-    let whole : length front + length begins.0 ≡ length history = sym (length-append front begins.0) ∙ ap length begins.1 in omega (arith, whole)
+    let whole : length front + length begins.0 ≡ length history = sym (length-append front begins.0) ∙ ap length begins.1 in
+    omega (arith, whole)
 
 -- a beginning of a history with one more entry is the whole of it, or a beginning of the history
-pub Begins-push : (front history : List Entry) (entry : Entry) → Begins front (history ++ entry ∷ []) → (front ≡ history ++ entry ∷ []) ⊎ Begins front history
+pub Begins-push : (front history : List Entry) (entry : Entry) → Begins front (history ++ entry ∷ [])
+    → (front ≡ history ++ entry ∷ []) ⊎ Begins front history
 Begins-push [] history entry begins = inr (history, refl)
 Begins-push (x ∷ xs) [] entry begins =
     inl (whole xs begins.0 (ap (drop 1) begins.1) ∙ sym (ap (λ l. x ∷ l) (whole_rest xs begins.0 (ap (drop 1) begins.1))) ∙ head)
@@ -66,17 +68,22 @@ push_same (a ∷ xs) (b ∷ bs) x y e =
     ((λ i. heads i ∷ rest.0 i), rest.1)
 
 -- what holds of each of a list holds of each of a beginning of it
-pub each-begins : (P : Entry → Type 0) (front history : List Entry) → Begins front history → AllByRecursion P history → AllByRecursion P front
+pub each-begins : (P : Entry → Type 0) (front history : List Entry) → Begins front history → AllByRecursion P history
+    → AllByRecursion P front
 each-begins P [] history begins each = tt
 each-begins P (x ∷ xs) [] begins each = absurd (none begins.1)
   where
     none : x ∷ (xs ++ begins.0) ≡ [] → ⊥
     none e = cc
-each-begins P (x ∷ xs) (y ∷ ys) begins each =
-    (subst P (sym (ap (λ (l : List Entry). unwrap_or (slice_get l 0) x) begins.1)) each.0, each-begins P xs ys (begins.0, ap (drop 1) begins.1) each.1)
+each-begins P (x ∷ xs) (y ∷ ys) begins each = (
+  subst P (sym (ap (λ (l : List Entry). unwrap_or (slice_get l 0) x) begins.1)) each.0,
+  each-begins P xs ys
+      (begins.0, ap (drop 1) begins.1) each.1,
+)
 
 -- an entry stays at its place where more follow
-pub slice_get-more : (history : List Entry) (n : ℕ) (e : Entry) (more : List Entry) → slice_get history n ≡ Some e → slice_get (history ++ more) n ≡ Some e
+pub slice_get-more : (history : List Entry) (n : ℕ) (e : Entry) (more : List Entry) → slice_get history n ≡ Some e
+    → slice_get (history ++ more) n ≡ Some e
 slice_get-more [] n e more at = absurd (none_some e at)
 slice_get-more (x ∷ xs) zero e more at = at
 slice_get-more (x ∷ xs) (suc n) e more at = slice_get-more xs n e more at
@@ -87,11 +94,13 @@ slice_get-last [] e = refl
 slice_get-last (x ∷ xs) e = slice_get-last xs e
 
 -- an entry of a beginning stands at the same place of the whole
-pub Begins-at : (front history : List Entry) (n : ℕ) (e : Entry) → Begins front history → slice_get front n ≡ Some e → slice_get history n ≡ Some e
+pub Begins-at : (front history : List Entry) (n : ℕ) (e : Entry) → Begins front history → slice_get front n ≡ Some e
+    → slice_get history n ≡ Some e
 Begins-at front history n e begins at = subst (λ l. slice_get l n ≡ Some e) begins.1 (slice_get-more front n e begins.0 at)
 
 -- an entry of the whole whose place is in a beginning stands there
-pub at-Begins : (front history : List Entry) (n : ℕ) (e : Entry) → Begins front history → n < length front → slice_get history n ≡ Some e → slice_get front n ≡ Some e
+pub at-Begins : (front history : List Entry) (n : ℕ) (e : Entry) → Begins front history → n < length front → slice_get history n ≡ Some e
+    → slice_get front n ≡ Some e
 at-Begins front history n e begins within at =
     let here : slice_get front n ≡ Some (get_or front n e) = slice_get-get_or front n e within in
     here ∙ ap Some (some_same (get_or front n e) e (sym (Begins-at front history n (get_or front n e) begins here) ∙ at))

@@ -26,7 +26,8 @@ pub part_cuts_of-numbered : (shape : Shape) → AreNumbered 0 (part_cuts_of shap
 part_cuts_of-numbered shape = numbered_from (cuts_of shape) 0 (parts_of shape)
 
 -- a cut that is not empty is above the empty key
-above_empty : (cuts : List (List ℕ)) → AllByRecursion (λ (cut : List ℕ). 1 ≤ length cut) cuts → AllByRecursion (λ (cut : List ℕ). key_cmp [] cut ≡ Less) cuts
+above_empty : (cuts : List (List ℕ)) → AllByRecursion (λ (cut : List ℕ). 1 ≤ length cut) cuts
+    → AllByRecursion (λ (cut : List ℕ). key_cmp [] cut ≡ Less) cuts
 above_empty [] some = tt
 above_empty ([] ∷ cuts) some = absurd (omega (arith, some.0))
 above_empty ((b ∷ bs) ∷ cuts) some = (refl, above_empty cuts some.1)
@@ -67,7 +68,8 @@ cuts_of-cuts shape part rules =
     (if_either test (nat_lt part (injectors_of shape)) _ (if_there test shape.computations (part - injectors_of shape) each))
 
 -- what holds of each number's part holds of all
-all_from : (P : PartCuts → Type 0) (f : ℕ → List (List ℕ)) (n k : ℕ) → ((part : ℕ) → P (with_cuts f part)) → All P (map (with_cuts f) (range_with_len n k))
+all_from : (P : PartCuts → Type 0) (f : ℕ → List (List ℕ)) (n k : ℕ) → ((part : ℕ) → P (with_cuts f part))
+    → All P (map (with_cuts f) (range_with_len n k))
 all_from P f n zero each = All-nil P
 all_from P f n (suc k) each = All-cons P (with_cuts f n) _ (each n) (all_from P f (n + 1) k each)
 
@@ -95,7 +97,8 @@ length-bounds_of f n (suc k) =
     ∙ ap (λ m. suc (length (f n)) + m) (length-bounds_of f (n + 1) k)
 
 -- first so many parts, and then the others
-interval_total-add : (f : ℕ → List (List ℕ)) (n a b m : ℕ) → m ≡ n + a → interval_total f n (a + b) ≡ interval_total f n a + interval_total f m b
+interval_total-add : (f : ℕ → List (List ℕ)) (n a b m : ℕ) → m ≡ n + a
+    → interval_total f n (a + b) ≡ interval_total f n a + interval_total f m b
 interval_total-add f n zero b m at =
     let all : 0 + b ≡ b = omega arith in
     let start : n ≡ m = omega (arith, at) in
@@ -104,7 +107,8 @@ interval_total-add f n zero b m at =
 interval_total-add f n (suc a) b m at =
     let all : suc a + b ≡ suc (a + b) = omega arith in
     let rest = interval_total-add f (n + 1) a b m (omega (arith, at)) in
-    let sum : suc (length (f n)) + (interval_total f (n + 1) a + interval_total f m b) ≡ interval_total f n (suc a) + interval_total f m b = omega arith in
+    let sum : suc (length (f n)) + (interval_total f (n + 1) a + interval_total f m b) ≡ interval_total f n
+    (suc a) + interval_total f m b = omega arith in
     ap (interval_total f n) all ∙ ap (λ k. suc (length (f n)) + k) rest ∙ sum
 
 -- parts without cuts have one interval each
@@ -128,7 +132,8 @@ interval_total-cut f n (c ∷ cs) each =
     let own : length (f n) ≡ length c.cuts = ap length (ap f (sym here) ∙ each 0) in
     let next : (k : ℕ) → f (n + 1 + k) ≡ cuts_at cs k = λ k. (let on : n + 1 + k ≡ n + suc k = omega arith in ap f on ∙ each (suc k)) in
     let rest = interval_total-cut f (n + 1) cs next in
-    let sum : sum_by (λ (d : ComputationShape). length d.cuts) (c ∷ cs) ≡ length c.cuts + sum_by (λ (d : ComputationShape). length d.cuts) cs =
+    let sum : sum_by (λ (d : ComputationShape). length d.cuts) (c ∷ cs) ≡ length c.cuts + sum_by
+    (λ (d : ComputationShape). length d.cuts) cs =
     sum_by-cons (λ (d : ComputationShape). length d.cuts) c cs in
     omega (arith, own, rest, sum)
 
@@ -136,14 +141,16 @@ interval_total-cut f n (c ∷ cs) each =
 cuts_of-injector : (shape : Shape) (part : ℕ) → part < injectors_of shape → cuts_of shape part ≡ []
 cuts_of-injector shape part below =
     let test : nat_lt part (injectors_of shape) ≡ true = grind (arith, below) in
-    ap (λ b. unwrap_or (option_map (λ (c : ComputationShape). c.cuts) (cond b None (slice_get shape.computations (part - injectors_of shape)))) []) test
+    ap (λ b. unwrap_or (option_map (λ (c : ComputationShape). c.cuts)
+    (cond b None (slice_get shape.computations (part - injectors_of shape)))) []) test
 
 -- a computation has its own
 cuts_of-computation : (shape : Shape) (k : ℕ) → cuts_of shape (injectors_of shape + k) ≡ cuts_at shape.computations k
 cuts_of-computation shape k =
     let test : nat_lt (injectors_of shape + k) (injectors_of shape) ≡ false = grind arith in
     let at : injectors_of shape + k - injectors_of shape ≡ k = omega arith in
-    ap (λ b. unwrap_or (option_map (λ (c : ComputationShape). c.cuts) (cond b None (slice_get shape.computations (injectors_of shape + k - injectors_of shape)))) []) test
+    ap (λ b. unwrap_or (option_map (λ (c : ComputationShape). c.cuts)
+    (cond b None (slice_get shape.computations (injectors_of shape + k - injectors_of shape)))) []) test
     ∙ ap (cuts_at shape.computations) at
 
 -- a topology has so many intervals as its rules count

@@ -31,9 +31,11 @@ pub last_claim-push : (interval : ℕ) (history : List Entry) (entry : Entry)
 last_claim-push interval history entry = last_claim-append interval history (entry ∷ [])
 
 -- a last claim was there before, or is among the entries
-pub claim_from-where : (interval n s : ℕ) (last : Option ℕ) (entries : List Entry) → claim_from interval n last entries ≡ Some s → (last ≡ Some s) ⊎ (n ≤ s)
+pub claim_from-where : (interval n s : ℕ) (last : Option ℕ) (entries : List Entry) → claim_from interval n last entries ≡ Some s
+    → (last ≡ Some s) ⊎ (n ≤ s)
 claim_from-where interval n s last [] found = inl found
-claim_from-where interval n s last (e ∷ es) found = by_case (claim_from-where interval (n + 1) s (cond (is_claim interval e) (Some n) last) es found)
+claim_from-where interval n s last (e ∷ es) found = by_case
+    (claim_from-where interval (n + 1) s (cond (is_claim interval e) (Some n) last) es found)
   where
     by_test : (b : Bool) → cond b (Some n) last ≡ Some s → (last ≡ Some s) ⊎ (n ≤ s)
     by_test true same = let is : n ≡ s = some_same n s same in inr (omega (arith, is))
@@ -47,7 +49,8 @@ claim_from-where interval n s last (e ∷ es) found = by_case (claim_from-where 
 pub last_claim-front : (interval s : ℕ) (front rest : List Entry) → last_claim interval (front ++ rest) ≡ Some s → s < length front
     → last_claim interval front ≡ Some s
 last_claim-front interval s front rest last within =
-    by_case (claim_from-where interval (length front) s (last_claim interval front) rest (sym (last_claim-append interval front rest) ∙ last))
+    by_case (claim_from-where interval (length front) s (last_claim interval front) rest
+    (sym (last_claim-append interval front rest) ∙ last))
   where
     by_case : (last_claim interval front ≡ Some s) ⊎ (length front ≤ s) → last_claim interval front ≡ Some s
     by_case (inl same) = same
@@ -58,7 +61,8 @@ pub last_claim-rest : (interval : ℕ) (front rest : List Entry) → AllByRecurs
     → last_claim interval (front ++ rest) ≡ last_claim interval front
 last_claim-rest interval front rest none = last_claim-append interval front rest ∙ kept (length front) (last_claim interval front) rest none
   where
-    kept : (n : ℕ) (last : Option ℕ) (entries : List Entry) → AllByRecursion (λ e. is_claim interval e ≡ false) entries → claim_from interval n last entries ≡ last
+    kept : (n : ℕ) (last : Option ℕ) (entries : List Entry) → AllByRecursion (λ e. is_claim interval e ≡ false) entries
+        → claim_from interval n last entries ≡ last
     kept n last [] none = refl
     kept n last (e ∷ es) none = ap (λ b. claim_from interval (n + 1) (cond b (Some n) last) es) none.0 ∙ kept (n + 1) last es none.1
 
@@ -66,7 +70,8 @@ last_claim-rest interval front rest none = last_claim-append interval front rest
 pub claims-none : (interval n s : ℕ) (last : Option ℕ) (entries : List Entry) → claim_from interval n last entries ≡ Some s → s < n
     → AllByRecursion (λ e. is_claim interval e ≡ false) entries
 claims-none interval n s last [] found before = tt
-claims-none interval n s last (e ∷ es) found before = (here, claims-none interval (n + 1) s (cond (is_claim interval e) (Some n) last) es found (omega (arith, before)))
+claims-none interval n s last (e ∷ es) found before =
+    (here, claims-none interval (n + 1) s (cond (is_claim interval e) (Some n) last) es found (omega (arith, before)))
   where
     later : is_claim interval e ≡ true → (Some n ≡ Some s) ⊎ (n + 1 ≤ s) → ⊥
     later is (inl same) = let equal : n ≡ s = some_same n s same in omega (arith, equal, before)
@@ -75,7 +80,8 @@ claims-none interval n s last (e ∷ es) found before = (here, claims-none inter
     here : is_claim interval e ≡ false
     here = elim (is_claim interval e) as (λ b. is_claim interval e ≡ b → b ≡ false) [
       | false ↦ λ _. refl
-      | true ↦ λ is. absurd (later is (claim_from-where interval (n + 1) s (Some n) es (ap (λ b. claim_from interval (n + 1) (cond b (Some n) last) es) (sym is) ∙ found)))
+      | true ↦ λ is. absurd (later is (claim_from-where interval (n + 1) s (Some n) es
+          (ap (λ b. claim_from interval (n + 1) (cond b (Some n) last) es) (sym is) ∙ found)))
     ] refl
 
 -- the last claim of a history that has a claim, where no claim of its interval follows
@@ -99,23 +105,28 @@ claim-is interval (Purge seq row floor) is = absurd (cc)
 claim_from-there : (interval n s : ℕ) (last : Option ℕ) (entries : List Entry) → claim_from interval n last entries ≡ Some s
     → (last ≡ Some s) ⊎ ((k : ℕ) × (worker : ℕ) × (s ≡ n + k) × (slice_get entries k ≡ Some (Claim worker interval)))
 claim_from-there interval n s last [] found = inl found
-claim_from-there interval n s last (e ∷ es) found = by_case (claim_from-there interval (n + 1) s (cond (is_claim interval e) (Some n) last) es found)
+claim_from-there interval n s last (e ∷ es) found = by_case
+    (claim_from-there interval (n + 1) s (cond (is_claim interval e) (Some n) last) es found)
   where
     here : (b : Bool) → is_claim interval e ≡ b → cond b (Some n) last ≡ Some s
         → (last ≡ Some s) ⊎ ((k : ℕ) × (worker : ℕ) × (s ≡ n + k) × (slice_get (e ∷ es) k ≡ Some (Claim worker interval)))
-    here true is same = let claim = claim-is interval e is in let number : n ≡ s = some_same n s same in inr (0, claim.0, omega (arith, number), ap Some claim.1)
+    here true is same = let claim = claim-is interval e is in let number : n ≡ s = some_same n s same in
+        inr (0, claim.0, omega (arith, number), ap Some claim.1)
     here false is same = inl same
 
-    by_case : (cond (is_claim interval e) (Some n) last ≡ Some s) ⊎ ((k : ℕ) × (worker : ℕ) × (s ≡ n + 1 + k) × (slice_get es k ≡ Some (Claim worker interval)))
+    by_case : (cond (is_claim interval e) (Some n) last ≡ Some s) ⊎
+        ((k : ℕ) × (worker : ℕ) × (s ≡ n + 1 + k) × (slice_get es k ≡ Some (Claim worker interval)))
         → (last ≡ Some s) ⊎ ((k : ℕ) × (worker : ℕ) × (s ≡ n + k) × (slice_get (e ∷ es) k ≡ Some (Claim worker interval)))
     by_case (inl same) = here (is_claim interval e) refl same
     by_case (inr later) = let number = later.2 in inr (suc later.0, later.1, omega (arith, number), later.3)
 
 -- the last claim of an interval is a claim of it
-pub last_claim-there : (interval s : ℕ) (history : List Entry) → last_claim interval history ≡ Some s → (worker : ℕ) × (slice_get history s ≡ Some (Claim worker interval))
+pub last_claim-there : (interval s : ℕ) (history : List Entry) → last_claim interval history ≡ Some s
+    → (worker : ℕ) × (slice_get history s ≡ Some (Claim worker interval))
 last_claim-there interval s history last = by_case (claim_from-there interval 0 s None history last)
   where
-    by_case : (None ≡ Some s) ⊎ ((k : ℕ) × (worker : ℕ) × (s ≡ 0 + k) × (slice_get history k ≡ Some (Claim worker interval))) → (worker : ℕ) × (slice_get history s ≡ Some (Claim worker interval))
+    by_case : (None ≡ Some s) ⊎ ((k : ℕ) × (worker : ℕ) × (s ≡ 0 + k) × (slice_get history k ≡ Some (Claim worker interval)))
+        → (worker : ℕ) × (slice_get history s ≡ Some (Claim worker interval))
     by_case (inl none) = absurd (none_some s none)
     by_case (inr there) = let number = there.2 in let same : there.0 ≡ s = omega (arith, number) in
         (there.1, subst (λ n. slice_get history n ≡ Some (Claim there.1 interval)) same there.3)
@@ -132,15 +143,18 @@ claim_from-rises interval n a (e ∷ es) less =
     ]
 
 -- no claim of an interval is later than the last
-pub last_claim-latest : (interval seq worker : ℕ) (history : List Entry) → slice_get history seq ≡ Some (Claim worker interval) → (s : ℕ) × (seq ≤ s) × (last_claim interval history ≡ Some s)
+pub last_claim-latest : (interval seq worker : ℕ) (history : List Entry) → slice_get history seq ≡ Some (Claim worker interval)
+    → (s : ℕ) × (seq ≤ s) × (last_claim interval history ≡ Some s)
 last_claim-latest interval seq worker history at =
     let within = slice_get_within history seq (Claim worker interval) at in
     let up_to : take (seq + 1) history ≡ take seq history ++ Claim worker interval ∷ [] =
-    take_more history seq (Claim worker interval) within ∙ ap (λ e. take seq history ++ e ∷ []) (get_or_from_slice_get history seq (Claim worker interval) (Claim worker interval) at) in
+    take_more history seq (Claim worker interval) within
+    ∙ ap (λ e. take seq history ++ e ∷ []) (get_or_from_slice_get history seq (Claim worker interval) (Claim worker interval) at) in
     let number : length (take seq history) ≡ seq = (let len = length-take seq history in omega (arith, len, within)) in
     let claimed : last_claim interval (take (seq + 1) history) ≡ Some seq =
     ap (last_claim interval) up_to ∙ last_claim-push interval (take seq history) (Claim worker interval)
-    ∙ ap (λ b. cond b (Some (length (take seq history))) (last_claim interval (take seq history))) (eq-eqb interval interval refl) ∙ ap Some number in
+    ∙ ap (λ b. cond b (Some (length (take seq history))) (last_claim interval (take seq history))) (eq-eqb interval interval refl)
+    ∙ ap Some number in
     let len : length (take (seq + 1) history) ≡ seq + 1 = (let l = length-take (seq + 1) history in omega (arith, l, within)) in
     let later = claim_from-rises interval (length (take (seq + 1) history)) seq (drop (seq + 1) history) (omega (arith, len)) in (
       later.0,

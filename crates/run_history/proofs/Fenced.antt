@@ -16,11 +16,13 @@ use Rattle.run_history.proofs.Beginnings.{Begins-trans, Begins-length, Begins-pu
 
 -- a beginning of a fenced history is fenced
 pub IsFenced-begins : (shape : Shape) (front history : List Entry) → Begins front history → IsFenced shape history → IsFenced shape front
-IsFenced-begins shape front history begins fenced before entry inside = fenced before entry (Begins-trans (before ++ entry ∷ []) front history inside begins)
+IsFenced-begins shape front history begins fenced before entry inside = fenced before entry
+    (Begins-trans (before ++ entry ∷ []) front history inside begins)
 
 -- the empty history is fenced
 pub IsFenced-empty : (shape : Shape) → IsFenced shape []
-IsFenced-empty shape before entry begins = absurd (omega (arith, length-append before (entry ∷ []), Begins-length (before ++ entry ∷ []) [] begins))
+IsFenced-empty shape before entry begins = absurd (omega
+    (arith, length-append before (entry ∷ []), Begins-length (before ++ entry ∷ []) [] begins))
 
 -- a fenced history stays fenced with an entry under the last claim of its row's interval
 pub IsFenced-push : (shape : Shape) (history : List Entry) (entry : Entry) → IsFenced shape history → IsUnderLastClaim shape history entry
@@ -39,7 +41,8 @@ claim-under shape history worker interval name written = absurd (none_some name 
 
 -- an entry with the last claim's number, on a row of the interval
 pub entry-under : (shape : Shape) (history : List Entry) (entry : Entry) (name : RowName) (interval s : ℕ) → row_written entry ≡ Some name
-    → interval_of shape name ≡ Some interval → last_claim interval history ≡ Some s → sequencer_of entry ≡ Some s → IsUnderLastClaim shape history entry
+    → interval_of shape name ≡ Some interval → last_claim interval history ≡ Some s → sequencer_of entry ≡ Some s
+    → IsUnderLastClaim shape history entry
 entry-under shape history entry name interval s written lies last carries other here =
     let same : name ≡ other = some_same name other (sym written ∙ here) in
     ap (λ (n : RowName). option_and_then (λ (i : ℕ). last_claim i history) (interval_of shape n)) (sym same)
@@ -47,7 +50,8 @@ entry-under shape history entry name interval s written lies last carries other 
 
 -- an entry on a row of the interval, in a fenced history, carries the last claim's number
 pub carried : (shape : Shape) (before : List Entry) (entry : Entry) (name : RowName) (interval s : ℕ) → IsUnderLastClaim shape before entry
-    → row_written entry ≡ Some name → interval_of shape name ≡ Some interval → last_claim interval before ≡ Some s → sequencer_of entry ≡ Some s
+    → row_written entry ≡ Some name → interval_of shape name ≡ Some interval → last_claim interval before ≡ Some s
+    → sequencer_of entry ≡ Some s
 carried shape before entry name interval s under written lies last =
     sym (under name written) ∙ ap (option_and_then (λ (i : ℕ). last_claim i before)) lies ∙ last
 
@@ -57,10 +61,12 @@ AreUnder shape before [] = ⊤
 AreUnder shape before (entry ∷ entries) = IsUnderLastClaim shape before entry × AreUnder shape (before ++ entry ∷ []) entries
 
 -- a fenced history stays fenced with several entries under the last claims of their rows' intervals
-pub IsFenced-all : (shape : Shape) (entries before : List Entry) → IsFenced shape before → AreUnder shape before entries → IsFenced shape (before ++ entries)
+pub IsFenced-all : (shape : Shape) (entries before : List Entry) → IsFenced shape before → AreUnder shape before entries
+    → IsFenced shape (before ++ entries)
 IsFenced-all shape [] before fenced under = subst (IsFenced shape) (sym (append-nil before)) fenced
 IsFenced-all shape (e ∷ es) before fenced under =
-    subst (IsFenced shape) (append_assoc before (e ∷ []) es) (IsFenced-all shape es (before ++ e ∷ []) (IsFenced-push shape before e fenced under.0) under.1)
+    subst (IsFenced shape) (append_assoc before (e ∷ []) es)
+    (IsFenced-all shape es (before ++ e ∷ []) (IsFenced-push shape before e fenced under.0) under.1)
 
 -- whether two numbers that may be none are the same
 abbrev same_number : Option ℕ → Option ℕ → Bool
@@ -80,7 +86,8 @@ same_number-true (Some a) (Some b) e = ap Some (eqb-true a b e)
 abbrev pub are_under : Shape → List Entry → List Entry → Bool
 are_under shape before [] = true
 are_under shape before (entry ∷ entries) =
-    option_map_or (λ (name : RowName). same_number (option_and_then (λ (i : ℕ). last_claim i before) (interval_of shape name)) (sequencer_of entry)) (row_written entry) true
+    option_map_or (λ (name : RowName). same_number (option_and_then (λ (i : ℕ). last_claim i before) (interval_of shape name))
+    (sequencer_of entry)) (row_written entry) true
     && are_under shape (before ++ entry ∷ []) entries
 
 -- entries that the test finds under their claims are
@@ -92,9 +99,12 @@ AreUnder-tested shape before (entry ∷ entries) e = (
 )
   where
     here : (name : RowName) (w : Option RowName) → w ≡ Some name
-        → option_map_or (λ (n : RowName). same_number (option_and_then (λ (i : ℕ). last_claim i before) (interval_of shape n)) (sequencer_of entry)) w true ≡ true
+        → option_map_or (λ (n : RowName). same_number (option_and_then (λ (i : ℕ). last_claim i before) (interval_of shape n))
+        (sequencer_of entry)) w true ≡ true
         → same_number (option_and_then (λ (i : ℕ). last_claim i before) (interval_of shape name)) (sequencer_of entry) ≡ true
-    here name w is passes = sym (ap (λ o. option_map_or (λ (n : RowName). same_number (option_and_then (λ (i : ℕ). last_claim i before) (interval_of shape n)) (sequencer_of entry)) o true) is) ∙ passes
+    here name w is passes = sym (ap (λ o. option_map_or
+        (λ (n : RowName). same_number (option_and_then (λ (i : ℕ). last_claim i before) (interval_of shape n))
+        (sequencer_of entry)) o true) is) ∙ passes
 
 -- a history of which the test finds each entry under its claim is fenced
 pub IsFenced-tested : (shape : Shape) (history : List Entry) → are_under shape [] history ≡ true → IsFenced shape history

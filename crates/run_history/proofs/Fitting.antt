@@ -122,10 +122,12 @@ pub kind-some : (shape : Shape) (part : ℕ) → is_injector shape part ≡ fals
     → (kind : Kind) × (kind_of shape part ≡ Some kind)
 kind-some shape part no_injector there =
     let from : injectors_of shape ≤ part = ltb-false part (injectors_of shape) no_injector in
-    let c = slice_get-some shape.computations (part - injectors_of shape) (omega (arith, from, there)) in
-    (c.0.kind,
-      ap (λ b. option_map (λ (c : ComputationShape). c.kind) (cond b None (slice_get shape.computations (part - injectors_of shape)))) no_injector
-      ∙ ap (option_map (λ (c : ComputationShape). c.kind)) c.1)
+    let c = slice_get-some shape.computations (part - injectors_of shape) (omega (arith, from, there)) in (
+      c.0.kind,
+      ap (λ b. option_map (λ (c : ComputationShape). c.kind)
+          (cond b None (slice_get shape.computations (part - injectors_of shape)))) no_injector
+          ∙ ap (option_map (λ (c : ComputationShape). c.kind)) c.1,
+    )
 
 -- an injector has no kind
 kind-none : (shape : Shape) (part : ℕ) → is_injector shape part ≡ true → kind_of shape part ≡ None
@@ -135,7 +137,7 @@ kind-none shape part is =
 -- the fresh state of a part suits the part
 fresh-suits : (lines : ℕ) (b : Bool) (kind : Option Kind) → (b ≡ true → kind ≡ None) → (b ≡ false → (k : Kind) × (kind ≡ Some k))
     → cond b (is_cursor_within lines (option_map_or fresh_state kind (states.Injector 0)) && true)
-        (option_map_or (λ (k : Kind). has_kind k (option_map_or fresh_state kind (states.Injector 0))) kind false) ≡ true
+    (option_map_or (λ (k : Kind). has_kind k (option_map_or fresh_state kind (states.Injector 0))) kind false) ≡ true
 fresh-suits lines true None none some = and_from (nat_le 0 lines) true (le-leb 0 lines (omega arith)) refl
 fresh-suits lines true (Some k) none some = absurd (none_some k (sym (none refl)))
 fresh-suits lines false None none some = let found = some refl in absurd (none_some found.0 found.1)

@@ -21,9 +21,11 @@ position_from-at : {X : Type 0} (test : X → Bool) (n : ℕ) (xs : List X) (i :
     → (k : ℕ) × (x : X) × (i ≡ n + k) × (slice_get xs k ≡ Some x) × (test x ≡ true)
 position_from-at test n [] i found = absurd (none_some i found)
 position_from-at {X} test n (x ∷ xs) i found =
-    elim (test x) as (λ b. test x ≡ b → cond b (Some n) (position_from test (n + 1) xs) ≡ Some i → (k : ℕ) × (y : X) × (i ≡ n + k) × (slice_get (x ∷ xs) k ≡ Some y) × (test y ≡ true)) [
+    elim (test x) as (λ b. test x ≡ b → cond b (Some n) (position_from test (n + 1) xs) ≡ Some i
+    → (k : ℕ) × (y : X) × (i ≡ n + k) × (slice_get (x ∷ xs) k ≡ Some y) × (test y ≡ true)) [
       | true ↦ λ e f. let same : n ≡ i = some_same n i f in (0, x, omega (arith, same), refl, e)
-      | false ↦ λ e f. let rest = position_from-at test (n + 1) xs i f in let at = rest.2 in (suc rest.0, rest.1, omega (arith, at), rest.3, rest.4)
+      | false ↦ λ e f. let rest = position_from-at test (n + 1) xs i f in let at = rest.2 in
+          (suc rest.0, rest.1, omega (arith, at), rest.3, rest.4)
     ] refl found
 
 -- where an element passes, the search finds a place
@@ -46,7 +48,8 @@ interval_of-has shape i name lies =
     subst (λ n. HasRow (intervals_of shape) n name) place (at.1, at.3, at.4)
 
 -- a row lies in the interval that has it
-pub has-interval_of : (shape : Shape) (i : ℕ) (name : RowName) → AreIntervals (intervals_of shape) → HasRow (intervals_of shape) i name → interval_of shape name ≡ Some i
+pub has-interval_of : (shape : Shape) (i : ℕ) (name : RowName) → AreIntervals (intervals_of shape) → HasRow (intervals_of shape) i name
+    → interval_of shape name ≡ Some i
 has-interval_of shape i name are has =
     let some = position_from-some (λ (b : Bounds). covers b name) 0 (intervals_of shape) i has.0 has.1 has.2 in
     some.1 ∙ ap Some (one_interval (intervals_of shape) some.0 i name are (interval_of-has shape some.0 name some.1) has)

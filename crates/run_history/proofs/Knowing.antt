@@ -72,7 +72,8 @@ is_some-false None e = refl
 is_some-false (Some b) e = cc
 
 -- a delivery whose id is new is noted
-pub noted_new : (seen old new : List (RecordId × Bool)) (id : RecordId) (late : Bool) → seen ≡ old → is_some (lookup (is_at (id_cmp id)) old) ≡ false
+pub noted_new : (seen old new : List (RecordId × Bool)) (id : RecordId) (late : Bool) → seen ≡ old
+    → is_some (lookup (is_at (id_cmp id)) old) ≡ false
     → ((q : RecordId) → lookup (is_at (id_cmp q)) new ≡ cond (is_at (id_cmp id) q) (Some late) (lookup (is_at (id_cmp q)) old))
     → (q : RecordId) → lookup (is_at (id_cmp q)) new ≡ option_or (lookup (is_at (id_cmp q)) seen) (cond (same_id id q) (Some late) None)
 noted_new seen old new id late same absent updated q =
@@ -107,7 +108,8 @@ late_of_two (Some a) t d = refl
 
 -- one more delivery that was made is known
 knows_one : (old new : List (RecordId × Bool)) (made : List Delivery) (d : Delivery) → KnowsLate old made
-    → ((q : RecordId) → lookup (is_at (id_cmp q)) new ≡ option_or (lookup (is_at (id_cmp q)) old) (cond (same_id d.id q) (Some d.item.late) None))
+    → ((q : RecordId) → lookup (is_at (id_cmp q)) new ≡ option_or (lookup (is_at (id_cmp q)) old)
+    (cond (same_id d.id q) (Some d.item.late) None))
     → KnowsLate new (made ++ d ∷ [])
 knows_one old new made d knows noted q =
     let test = λ (e : Delivery). same_id e.id q in
@@ -119,7 +121,8 @@ knows_one old new made d knows noted q =
 -- one more of the deliveries is known
 pub learns_step : (old mid new : List (RecordId × Bool)) (ds : List Delivery) (i : ℕ) (d : Delivery) → i < length ds → d ≡ get_or ds i d
     → Learns old mid (take i ds)
-    → ((q : RecordId) → lookup (is_at (id_cmp q)) new ≡ option_or (lookup (is_at (id_cmp q)) mid) (cond (same_id d.id q) (Some d.item.late) None))
+    → ((q : RecordId) → lookup (is_at (id_cmp q)) new ≡ option_or (lookup (is_at (id_cmp q)) mid)
+    (cond (same_id d.id q) (Some d.item.late) None))
     → Learns old new (take (i + 1) ds)
 learns_step old mid new ds i d within is learns noted made knows =
     let more : take (i + 1) ds ≡ take i ds ++ d ∷ [] = take_more ds i d within ∙ ap (λ x. take i ds ++ x ∷ []) (sym is) in

@@ -81,11 +81,14 @@ find-none test [] each = refl
 find-none test (x ∷ xs) each = ap (λ b. cond b (Some x) (find test xs)) each.0 ∙ find-none test xs each.1
 
 -- what a search finds is still found where only others are left out
-pub find-kept : {X : Type 0} (test keep : X → Bool) (xs : List X) (d : X) → find test xs ≡ Some d → keep d ≡ true → find test (filter keep xs) ≡ Some d
+pub find-kept : {X : Type 0} (test keep : X → Bool) (xs : List X) (d : X) → find test xs ≡ Some d → keep d ≡ true
+    → find test (filter keep xs) ≡ Some d
 find-kept test keep [] d found kept = found
 find-kept test keep (x ∷ xs) d found kept =
-    elim (test x) as (λ b. test x ≡ b → cond b (Some x) (find test xs) ≡ Some d → find test (cond (keep x) (x ∷ filter keep xs) (filter keep xs)) ≡ Some d) [
-      | true ↦ λ e f. ap (λ b. find test (cond b (x ∷ filter keep xs) (filter keep xs))) (subst (λ y. keep y ≡ true) (sym (some_same x d f)) kept)
+    elim (test x) as (λ b. test x ≡ b → cond b (Some x) (find test xs) ≡ Some d
+    → find test (cond (keep x) (x ∷ filter keep xs) (filter keep xs)) ≡ Some d) [
+      | true ↦ λ e f. ap (λ b. find test (cond b (x ∷ filter keep xs) (filter keep xs)))
+          (subst (λ y. keep y ≡ true) (sym (some_same x d f)) kept)
           ∙ ap (λ b. cond b (Some x) (find test (filter keep xs))) e ∙ f
       | false ↦ λ e f. elim (keep x) as (λ k. find test (cond k (x ∷ filter keep xs) (filter keep xs)) ≡ Some d) [
         | true ↦ ap (λ b. cond b (Some x) (find test (filter keep xs))) e ∙ find-kept test keep xs d f kept
@@ -106,10 +109,11 @@ find-behind test xs ys none = find-append test xs ys ∙ ap (λ o. option_or o (
 -- two filters are one
 pub filter-filter : {X : Type 0} (p q : X → Bool) (xs : List X) → filter p (filter q xs) ≡ filter (λ x. q x && p x) xs
 filter-filter p q [] = refl
-filter-filter p q (x ∷ xs) = elim (q x) as (λ b. filter p (cond b (x ∷ filter q xs) (filter q xs)) ≡ cond (b && p x) (x ∷ filter (λ y. q y && p y) xs) (filter (λ y. q y && p y) xs)) [
-  | true ↦ λ i. cond (p x) (x ∷ filter-filter p q xs i) (filter-filter p q xs i)
-  | false ↦ filter-filter p q xs
-]
+filter-filter p q (x ∷ xs) = elim (q x) as (λ b. filter p (cond b (x ∷ filter q xs) (filter q xs)) ≡ cond (b && p x)
+    (x ∷ filter (λ y. q y && p y) xs) (filter (λ y. q y && p y) xs)) [
+      | true ↦ λ i. cond (p x) (x ∷ filter-filter p q xs i) (filter-filter p q xs i)
+      | false ↦ filter-filter p q xs
+    ]
 
 -- a filter that each passes changes nothing
 pub filter-all : {X : Type 0} (p : X → Bool) (xs : List X) → AllByRecursion (λ x. p x ≡ true) xs → filter p xs ≡ xs
@@ -144,15 +148,18 @@ find-in_part {X} R test keep apart (x ∷ xs) d sorted found =
     by_keep : test x ≡ true → (k : Bool) → keep x ≡ k → Some x ≡ Some d
     by_keep e true k = sym (ap (λ b. cond b (Some x) (find test (filter keep xs))) e)
         ∙ sym (ap (λ b. find test (cond b (x ∷ filter keep xs) (filter keep xs))) k) ∙ found
-    by_keep e false k = absurd (none_some d (sym (find-none test (filter keep xs) (each-filter (λ y. test y ≡ false) keep xs (behind e xs sorted.0)))
+    by_keep e false k = absurd (none_some d (sym (find-none test (filter keep xs)
+        (each-filter (λ y. test y ≡ false) keep xs (behind e xs sorted.0)))
         ∙ sym (ap (λ b. find test (cond b (x ∷ filter keep xs) (filter keep xs))) k) ∙ found))
 
-    skip : test x ≡ false → (k : Bool) → find test (cond k (x ∷ filter keep xs) (filter keep xs)) ≡ Some d → find test (filter keep xs) ≡ Some d
+    skip : test x ≡ false → (k : Bool) → find test (cond k (x ∷ filter keep xs) (filter keep xs)) ≡ Some d
+        → find test (filter keep xs) ≡ Some d
     skip e true f = sym (ap (λ b. cond b (Some x) (find test (filter keep xs))) e) ∙ f
     skip e false f = f
 
 -- in a list in order, a test that passes an element and nothing after it finds the element
-pub find-each_self : {X : Type 0} (R : X → X → Ordering) (test : X → X → Bool) → ((x : X) → test x x ≡ true) → ((x y : X) → R x y ≡ Less → test y x ≡ false)
+pub find-each_self : {X : Type 0} (R : X → X → Ordering) (test : X → X → Bool) → ((x : X) → test x x ≡ true)
+    → ((x y : X) → R x y ≡ Less → test y x ≡ false)
     → (xs : List X) → IsStrictlySortedBy R xs → AllByRecursion (λ x. find (test x) xs ≡ Some x) xs
 unfolding IsStrictlySortedBy
 find-each_self R test same apart [] sorted = tt
@@ -168,7 +175,8 @@ find-each_self {X} R test same apart (x ∷ xs) sorted = (
         (ap (λ b. cond b (Some x) (find (test y) xs)) (apart x y above.0) ∙ found.0, later ys above.1 found.1)
 
 -- what holds of each and what else holds of each hold of each together
-pub each-both : {X : Type 0} (P Q : X → Type 0) (xs : List X) → AllByRecursion P xs → AllByRecursion Q xs → AllByRecursion (λ x. P x × Q x) xs
+pub each-both : {X : Type 0} (P Q : X → Type 0) (xs : List X) → AllByRecursion P xs → AllByRecursion Q xs
+    → AllByRecursion (λ x. P x × Q x) xs
 each-both P Q [] one other = tt
 each-both P Q (x ∷ xs) one other = ((one.0, other.0), each-both P Q xs one.1 other.1)
 
@@ -182,7 +190,8 @@ find-none_each test (x ∷ xs) none =
     ] refl none
 
 -- what holds of each element holds of each numbered one
-pub each-enumerate : {X : Type 0} (P : X → Type 0) (n : ℕ) (xs : List X) → AllByRecursion P xs → AllByRecursion (λ (p : ℕ × X). P p.1) (enumerate_from n xs)
+pub each-enumerate : {X : Type 0} (P : X → Type 0) (n : ℕ) (xs : List X) → AllByRecursion P xs
+    → AllByRecursion (λ (p : ℕ × X). P p.1) (enumerate_from n xs)
 each-enumerate P n [] each = tt
 each-enumerate P n (x ∷ xs) each = (each.0, each-enumerate P (n + 1) xs each.1)
 

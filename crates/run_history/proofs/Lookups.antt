@@ -44,7 +44,9 @@ module _ {K X : Type 0} {R : K → K → Ordering} (o : IsTotalOrder R) where
       → lookup (is_at (R q)) (insert_entry R es k v) ≡ cond (is_at (R q) k) (Some v) (lookup (is_at (R q)) es)
   lookup-insert_entry [] k v q = refl
   lookup-insert_entry (e ∷ es) k v q =
-      elim (R k e.0) as (λ r. R k e.0 ≡ r → lookup (is_at (R q)) (match_ordering r ((k, v) ∷ e ∷ es) ((e.0, v) ∷ es) (e ∷ insert_entry R es k v)) ≡ cond (is_at (R q) k) (Some v) (lookup (is_at (R q)) (e ∷ es))) [
+      elim (R k e.0) as (λ r. R k e.0 ≡ r → lookup (is_at (R q))
+      (match_ordering r ((k, v) ∷ e ∷ es) ((e.0, v) ∷ es) (e ∷ insert_entry R es k v)) ≡ cond (is_at (R q) k) (Some v)
+      (lookup (is_at (R q)) (e ∷ es))) [
         | Less ↦ λ p. refl
         | Equal ↦ λ p. shadowed (is_eq (R q e.0)) (Some v) (Some e.1) (lookup (is_at (R q)) es)
             ∙ ap (λ r. cond (is_eq r) (Some v) (lookup (is_at (R q)) (e ∷ es))) (sym (alike_right o k e.0 q p))
@@ -77,7 +79,8 @@ module _ {K X : Type 0} {R : K → K → Ordering} (o : IsTotalOrder R) where
       → AllByRecursion (λ (q : K). R x q ≡ Less) (keys_of (insert_entry R es k v))
   below-insert_entry x k v [] less above = (less, tt)
   below-insert_entry x k v (e ∷ es) less above =
-      elim (R k e.0) as (λ r. AllByRecursion (λ (q : K). R x q ≡ Less) (keys_of (match_ordering r ((k, v) ∷ e ∷ es) ((e.0, v) ∷ es) (e ∷ insert_entry R es k v)))) [
+      elim (R k e.0) as (λ r. AllByRecursion (λ (q : K). R x q ≡ Less)
+      (keys_of (match_ordering r ((k, v) ∷ e ∷ es) ((e.0, v) ∷ es) (e ∷ insert_entry R es k v)))) [
         | Less ↦ (less, above)
         | Equal ↦ above
         | Greater ↦ (above.0, below-insert_entry x k v es less above.1)
@@ -89,10 +92,15 @@ module _ {K X : Type 0} {R : K → K → Ordering} (o : IsTotalOrder R) where
   unfolding IsStrictlySortedBy
   sorted-insert_entry [] k v sorted = (tt, tt)
   sorted-insert_entry (e ∷ es) k v sorted =
-      elim (R k e.0) as (λ r. R k e.0 ≡ r → IsStrictlySortedBy R (keys_of (match_ordering r ((k, v) ∷ e ∷ es) ((e.0, v) ∷ es) (e ∷ insert_entry R es k v)))) [
+      elim (R k e.0) as (λ r. R k e.0 ≡ r → IsStrictlySortedBy R
+      (keys_of (match_ordering r ((k, v) ∷ e ∷ es) ((e.0, v) ∷ es) (e ∷ insert_entry R es k v)))) [
         | Less ↦ λ p. ((p, above_too o k e.0 (keys_of es) p sorted.0), sorted)
         | Equal ↦ λ p. sorted
-        | Greater ↦ λ p. (below-insert_entry e.0 k v es (o.antisymm e.0 k ∙ ap ordering_reverse p) sorted.0, sorted-insert_entry es k v sorted.1)
+        | Greater ↦ λ p. (
+          below-insert_entry e.0 k v es
+              (o.antisymm e.0 k ∙ ap ordering_reverse p) sorted.0,
+          sorted-insert_entry es k v sorted.1,
+        )
       ] refl
 
   -- a key that ties with one before all others is not found among them
@@ -114,7 +122,8 @@ module _ {K X : Type 0} {R : K → K → Ordering} (o : IsTotalOrder R) where
       lookup-above x x (f ∷ fs) (tied_itself o x) (less, above_too o x f.0 (keys_of fs) less sorted.0)
 
   -- lists in the order of their keys, in which each look-up finds the same, are the same
-  pub same_entries : ((a b : K) → R a b ≡ Equal → a ≡ b) → (es fs : List (K × X)) → IsStrictlySortedBy R (keys_of es) → IsStrictlySortedBy R (keys_of fs)
+  pub same_entries : ((a b : K) → R a b ≡ Equal → a ≡ b) → (es fs : List (K × X)) → IsStrictlySortedBy R (keys_of es)
+      → IsStrictlySortedBy R (keys_of fs)
       → ((q : K) → lookup (is_at (R q)) es ≡ lookup (is_at (R q)) fs) → es ≡ fs
   unfolding IsStrictlySortedBy
   same_entries tie [] [] one other same = refl
@@ -147,7 +156,8 @@ module _ {K X : Type 0} {R : K → K → Ordering} (o : IsTotalOrder R) where
           λ i. (keys i, values i) ∷ rest i
 
   -- a filter keeps entries in the order of their keys
-  sorted-filter : (p : K → Bool) (es : List (K × X)) → IsStrictlySortedBy R (keys_of es) → IsStrictlySortedBy R (keys_of (filter (λ e. p e.0) es))
+  sorted-filter : (p : K → Bool) (es : List (K × X)) → IsStrictlySortedBy R (keys_of es)
+      → IsStrictlySortedBy R (keys_of (filter (λ e. p e.0) es))
   unfolding IsStrictlySortedBy
   sorted-filter p [] sorted = tt
   sorted-filter p (e ∷ es) sorted =
@@ -160,7 +170,8 @@ module _ {K X : Type 0} {R : K → K → Ordering} (o : IsTotalOrder R) where
           → AllByRecursion (λ (k : K). R e.0 k ≡ Less) (keys_of (filter (λ f. p f.0) fs))
       above [] each = tt
       above (f ∷ fs) each =
-          elim (p f.0) as (λ b. AllByRecursion (λ (k : K). R e.0 k ≡ Less) (keys_of (cond b (f ∷ filter (λ g. p g.0) fs) (filter (λ g. p g.0) fs)))) [
+          elim (p f.0) as (λ b. AllByRecursion (λ (k : K). R e.0 k ≡ Less)
+          (keys_of (cond b (f ∷ filter (λ g. p g.0) fs) (filter (λ g. p g.0) fs)))) [
             | true ↦ (each.0, above fs each.1)
             | false ↦ above fs each.1
           ]
@@ -178,7 +189,8 @@ module _ {K X : Type 0} {R : K → K → Ordering} (o : IsTotalOrder R) where
       by_key q gs = lookup-filter-keys (is_at (R q)) p (p q) (λ k at. ap p (sym (tie q k (equal_from_tie (R q k) at)))) gs
 
       by_test : (q : K) (b : Bool) → p q ≡ b → cond (p q) (lookup (is_at (R q)) es) None ≡ cond (p q) (lookup (is_at (R q)) fs) None
-      by_test q true is = ap (λ b. cond b (lookup (is_at (R q)) es) None) is ∙ same q is ∙ sym (ap (λ b. cond b (lookup (is_at (R q)) fs) None) is)
+      by_test q true is = ap (λ b. cond b (lookup (is_at (R q)) es) None) is ∙ same q is
+          ∙ sym (ap (λ b. cond b (lookup (is_at (R q)) fs) None) is)
       by_test q false is = ap (λ b. cond b (lookup (is_at (R q)) es) None) is ∙ sym (ap (λ b. cond b (lookup (is_at (R q)) fs) None) is)
 
 -- what holds of each value, and of one that is put among them, holds of each then
@@ -186,7 +198,8 @@ pub each-insert_entry : {K X : Type 0} (R : K → K → Ordering) (P : X → Typ
     → AllByRecursion (λ (e : K × X). P e.1) es → P v → AllByRecursion (λ (e : K × X). P e.1) (insert_entry R es k v)
 each-insert_entry R P [] k v each new = (new, tt)
 each-insert_entry {K} {X} R P (e ∷ es) k v each new =
-    elim (R k e.0) as (λ r. AllByRecursion (λ (f : K × X). P f.1) (match_ordering r ((k, v) ∷ e ∷ es) ((e.0, v) ∷ es) (e ∷ insert_entry R es k v))) [
+    elim (R k e.0) as (λ r. AllByRecursion (λ (f : K × X). P f.1)
+    (match_ordering r ((k, v) ∷ e ∷ es) ((e.0, v) ∷ es) (e ∷ insert_entry R es k v))) [
       | Less ↦ (new, each)
       | Equal ↦ (new, each.1)
       | Greater ↦ (each.0, each-insert_entry R P es k v each.1 new)

@@ -62,7 +62,8 @@ sent_step f h xs i x done new all within is sent left =
 
 -- no element is left
 pub sent_all : {W X Y Z : Type 0} (f : ℕ × Z → Y) (g : W → List Z) (v : X → W) (xs : List X) (i : ℕ) (done : List Y) → length xs ≤ i
-    → done ++ map f (enumerate_from (length done) (flat_map (λ x. g (v x)) (drop i xs))) ≡ map f (enumerate_from 0 (flat_map (λ x. g (v x)) xs))
+    → done ++ map f (enumerate_from (length done) (flat_map (λ x. g (v x)) (drop i xs))) ≡ map f
+    (enumerate_from 0 (flat_map (λ x. g (v x)) xs))
     → done ≡ map f (enumerate_from 0 (flat_map g (map v xs)))
 sent_all f g v xs i done over left =
     sym (append-nil done)
@@ -81,7 +82,8 @@ count_step p xs i n m x within is before now =
 subscriptions_few : (stream : List ℕ) (n : ℕ) (c : ComputationShape) → length (subscriptions_to stream (n, c)) ≤ length c.reads
 subscriptions_few stream n c =
     let test = λ (r : Reading). pointwise nat_eq r.stream stream in
-    let subscribed : length (subscriptions_to stream (n, c)) ≡ length (filter test c.reads) = length-map (filter test c.reads) (λ (r : Reading). record { to = n; by = r.by }) in
+    let subscribed : length (subscriptions_to stream (n, c)) ≡ length (filter test c.reads) = length-map (filter test c.reads)
+    (λ (r : Reading). record { to = n; by = r.by }) in
     omega (arith, subscribed, length-filter test c.reads, count_by-le-length test c.reads)
 
 -- no stream has more consumers than there are readings
@@ -90,8 +92,10 @@ pub consumers_few : (stream : List ℕ) (n : ℕ) (cs : List ComputationShape)
 consumers_few stream n [] = omega arith
 consumers_few stream n (c ∷ cs) =
     let rest = flat_map (subscriptions_to stream) (enumerate_from (n + 1) cs) in
-    let all : length (flat_map (subscriptions_to stream) (enumerate_from n (c ∷ cs))) ≡ length (subscriptions_to stream (n, c)) + length rest =
+    let all : length (flat_map (subscriptions_to stream) (enumerate_from n (c ∷ cs))) ≡ length
+    (subscriptions_to stream (n, c)) + length rest =
     length-append (subscriptions_to stream (n, c)) rest in
-    let total : sum_by (λ (d : ComputationShape). length d.reads) (c ∷ cs) ≡ length c.reads + sum_by (λ (d : ComputationShape). length d.reads) cs =
+    let total : sum_by (λ (d : ComputationShape). length d.reads) (c ∷ cs) ≡ length c.reads + sum_by
+    (λ (d : ComputationShape). length d.reads) cs =
     sum_by-cons (λ (d : ComputationShape). length d.reads) c cs in
     omega (arith, all, total, subscriptions_few stream n c, consumers_few stream (n + 1) cs)

@@ -19,7 +19,8 @@ use Rattle.run_history.specs.Runs.{Run, empty_run, followed, run_of}
 use Rattle.run_history.specs.Printing.{IsOnPart, KnowsLate}
 
 -- the emissions and what is known of the deliveries are those of the entries so far
-pub record Reached (shape : Shape) (entries : List Entry) (at : ℕ) (known : List (RecordId × Bool)) (emissions : List Emission) : Type 0 where
+pub record Reached (shape : Shape) (entries : List Entry) (at : ℕ) (known : List (RecordId × Bool))
+    (emissions : List Emission) : Type 0 where
   pub run : Run
   pub left : fold (followed shape) run (drop at entries) ≡ run_of shape entries
   pub next : run.next ≡ at
@@ -62,7 +63,8 @@ reached_none shape entries known emissions unknown none = record {
 }
 
 -- one more entry
-pub reached_step : (shape : Shape) (entries : List Entry) (at : ℕ) (entry : Entry) (known known' : List (RecordId × Bool)) (emissions emissions' : List Emission)
+pub reached_step : (shape : Shape) (entries : List Entry) (at : ℕ) (entry : Entry) (known known' : List (RecordId × Bool))
+    (emissions emissions' : List Emission)
     → at < length entries → entry ≡ get_or entries at entry → IsOnPart shape entry
     → Reached shape entries at known emissions
     → ((made : List Delivery) → KnowsLate known made → KnowsLate known' (made ++ deliveries_of shape made at entry))

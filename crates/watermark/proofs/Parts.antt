@@ -27,13 +27,15 @@ each_at {X = X} P xs k x each at = subst (λ found. IfSome found P) at (there xs
     there (y ∷ ys) (suc j) all = there ys j all.1
 
 -- the intervals of a part below m are of parts below m
-part_below : (part m : ℕ) (from : List ℕ) (cuts : List (List ℕ)) → part < m → AllByRecursion (λ (b : Bounds). b.part < m) (bounds_from part from cuts)
+part_below : (part m : ℕ) (from : List ℕ) (cuts : List (List ℕ)) → part < m
+    → AllByRecursion (λ (b : Bounds). b.part < m) (bounds_from part from cuts)
 part_below part m from [] below = (below, tt)
 part_below part m from (cut ∷ cuts) below = (below, part_below part m cut cuts below)
 
 -- so are those of k parts from n on
 parts_below : (f : ℕ → List (List ℕ)) (n k m : ℕ) → n + k ≤ m
-    → AllByRecursion (λ (b : Bounds). b.part < m) (bounds_of (map (λ (part : ℕ). record { part = part; cuts = f part }) (range_with_len n k)))
+    → AllByRecursion (λ (b : Bounds). b.part < m) (bounds_of
+    (map (λ (part : ℕ). record { part = part; cuts = f part }) (range_with_len n k)))
 parts_below f n zero m most = tt
 parts_below f n (suc k) m most =
     each_append (λ (b : Bounds). b.part < m) (bounds_from n [] (f n)) _

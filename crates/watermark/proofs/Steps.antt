@@ -39,7 +39,8 @@ numbers_step_no parts xs i b found all at is left =
 -- the marks from the next on, by whether its interval is of the part
 marks_step : (part : ℕ) (xs : List Bounds) (marks : List ℕ) (i : ℕ) (b : Bounds) (mark : ℕ) (test : Bool) → slice_get xs i ≡ Some b
     → slice_get marks i ≡ Some mark → test ≡ (b.part == part)
-    → marks_in (drop i xs) part (drop i marks) ≡ cons_option (cond test (Some mark) None) (marks_in (drop (i + 1) xs) part (drop (i + 1) marks))
+    → marks_in (drop i xs) part (drop i marks) ≡ cons_option (cond test (Some mark) None)
+    (marks_in (drop (i + 1) xs) part (drop (i + 1) marks))
 marks_step part xs marks i b mark test at read is =
     ap (λ l. marks_in l part (drop i marks)) (left_from xs i b at)
     ∙ ap (marks_in (b ∷ drop (i + 1) xs) part) (left_from marks i mark read)
@@ -86,7 +87,8 @@ so_far_no xs part marks i b mark low new at read is same before = record {
 
 -- a mark is with the marks of those that are left the least of the marks of the parts' intervals, and at most the end
 pub record IsSoFarAmong (parts : List ℕ) (xs : List Bounds) (marks : List ℕ) (low i : ℕ) : Type 0 where
-  pub with_left : min low (least (map (mark_of marks) (numbers_in parts i (drop i xs)))) ≡ least (map (mark_of marks) (numbers_in parts 0 xs))
+  pub with_left : min low (least (map (mark_of marks) (numbers_in parts i (drop i xs)))) ≡ least
+      (map (mark_of marks) (numbers_in parts 0 xs))
   pub end : low ≤ END
 
 -- the end is before the first interval

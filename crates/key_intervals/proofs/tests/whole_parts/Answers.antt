@@ -11,6 +11,9 @@ loop-part-preserved c =
     let more : c.push.new.self ≡ c.loop-part.parts ++ c.whole.result ∷ [] = c.in_ok-push.ensures.appended in
     record {
       count = omega (arith, ap length more, length-append c.loop-part.parts (c.whole.result ∷ []));
-      numbered = subst (AreNumbered 0) (sym more) (AreNumbered-push 0 c.loop-part.parts c.whole.result c.loop-part.invariant.numbered (ap (λ (p : PartCuts). p.part) c.whole.ensures ∙ omega arith));
-      whole = subst (All (λ (p : PartCuts). p.cuts ≡ [])) (sym more) (All-push (λ (p : PartCuts). p.cuts ≡ []) c.loop-part.parts c.whole.result c.loop-part.invariant.whole (ap (λ (p : PartCuts). p.cuts) c.whole.ensures));
+      numbered = subst (AreNumbered 0) (sym more) (AreNumbered-push 0 c.loop-part.parts c.whole.result c.loop-part.invariant.numbered
+          (ap (λ (p : PartCuts). p.part) c.whole.ensures ∙ omega arith));
+      whole = subst (All (λ (p : PartCuts). p.cuts ≡ [])) (sym more)
+          (All-push (λ (p : PartCuts). p.cuts ≡ []) c.loop-part.parts c.whole.result c.loop-part.invariant.whole
+          (ap (λ (p : PartCuts). p.cuts) c.whole.ensures));
     }

@@ -10,4 +10,5 @@ pub returns-clause-rest : goal.returns-clause-rest
 returns-clause-rest c = filter_same _ (λ (id : RecordId). nat_le c.args.floor id.commit) _ (λ x b f' k. search rules) _ _ c.retain.ensures
 
 pub returns-clause-ids : goal.returns-clause-ids
-returns-clause-ids c = subst (AreSeen c.args.floor) (sym (returns-clause-rest c)) (seen_from c.args.old c.args.floor c.args.ids.now c.requires.ids)
+returns-clause-ids c = subst (AreSeen c.args.floor) (sym (returns-clause-rest c))
+    (seen_from c.args.old c.args.floor c.args.ids.now c.requires.ids)

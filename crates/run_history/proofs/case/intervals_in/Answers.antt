@@ -15,4 +15,5 @@ of-requires-clause-cuts c =
 
 pub of-requires-clause-few : goal.of-requires-clause-few
 of-requires-clause-few c =
-    intervals-few c.args.topology.now c.as_slice.result.now c.parts-parts.ensures.rules (c.as_slice.ensures.elements ∙ c.in_ok-cuts.ensures.cut)
+    intervals-few c.args.topology.now c.as_slice.result.now c.parts-parts.ensures.rules
+    (c.as_slice.ensures.elements ∙ c.in_ok-cuts.ensures.cut)

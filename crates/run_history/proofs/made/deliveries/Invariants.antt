@@ -8,6 +8,9 @@ use Rattle.run_history.proofs.made.deliveries.Given as goal
 abbrev pub invariant-loop-production : goal.invariant-loop-production
 invariant-loop-production l = record {
   count : length l.deliveries ≤ 64 * l.production-index;
-  left : l.deliveries ++ map (delivery_at l.commit) (enumerate_from (length l.deliveries) (flat_map (λ (p : Production). sends_of l.consumers (produced l.late p)) (drop l.production-index l.productions)))
-      ≡ map (delivery_at l.commit) (enumerate_from 0 (flat_map (λ (p : Production). sends_of l.consumers (produced l.late p)) l.productions));
+  left : l.deliveries ++ map (delivery_at l.commit)
+      (enumerate_from (length l.deliveries) (flat_map (λ (p : Production). sends_of l.consumers (produced l.late p))
+      (drop l.production-index l.productions)))
+      ≡ map (delivery_at l.commit) (enumerate_from 0
+      (flat_map (λ (p : Production). sends_of l.consumers (produced l.late p)) l.productions));
 }

@@ -7,6 +7,8 @@ use Rattle.run_history.proofs.made.send.Given as goal
 abbrev pub invariant-loop-consumer : goal.invariant-loop-consumer
 invariant-loop-consumer l = record {
   count : length l.deliveries ≡ length l.initial.deliveries + l.consumer-index;
-  left : l.deliveries ++ map (delivery_at l.commit) (enumerate_from (length l.deliveries) (sends_of (drop l.consumer-index l.consumers) (produced l.late l.production)))
-      ≡ l.initial.deliveries ++ map (delivery_at l.commit) (enumerate_from (length l.initial.deliveries) (sends_of l.consumers (produced l.late l.production)));
+  left : l.deliveries ++ map (delivery_at l.commit)
+      (enumerate_from (length l.deliveries) (sends_of (drop l.consumer-index l.consumers) (produced l.late l.production)))
+      ≡ l.initial.deliveries ++ map (delivery_at l.commit)
+      (enumerate_from (length l.initial.deliveries) (sends_of l.consumers (produced l.late l.production)));
 }

@@ -14,7 +14,8 @@ loop-interval-preserved c =
     let at = c.loop-interval.interval in
     elim c.if-is_among.branch [
       | then-is_among w ↦
-          among_yes parts all marks at c.bounds.result.now c.mark_at-mark.result c.loop-interval.least c.if-is_among.least c.bounds.ensures.at
+          among_yes parts all marks at c.bounds.result.now c.mark_at-mark.result c.loop-interval.least c.if-is_among.least
+          c.bounds.ensures.at
           c.mark_at-mark.ensures (sym w.if-is_among.true ∙ c.is_among.ensures) (search (rules, arith)) c.loop-interval.invariant
       | else-is_among w ↦
           among_no parts all marks at c.bounds.result.now c.loop-interval.least c.if-is_among.least c.bounds.ensures.at

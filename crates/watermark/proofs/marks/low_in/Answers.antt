@@ -14,7 +14,8 @@ loop-interval-preserved c =
     let at = c.loop-interval.interval in
     elim c.if-bounds-part.branch [
       | then-bounds-part w ↦
-          so_far_yes all part marks at c.bounds.result.now c.mark_at-mark.result c.loop-interval.low c.if-bounds-part.low c.bounds.ensures.at
+          so_far_yes all part marks at c.bounds.result.now c.mark_at-mark.result c.loop-interval.low c.if-bounds-part.low
+          c.bounds.ensures.at
           c.mark_at-mark.ensures (search (rules, arith)) (search (rules, arith)) c.loop-interval.invariant
       | else-bounds-part w ↦
           so_far_no all part marks at c.bounds.result.now c.mark_at-mark.result c.loop-interval.low c.if-bounds-part.low c.bounds.ensures.at

@@ -13,4 +13,5 @@ loop-delivery-preserved c =
 pub returns : goal.returns
 returns c =
     let over : length c.args.deliveries.now ≤ c.loop-delivery.delivery-index = omega arith in
-    subst (λ (l : List Delivery). Learns c.args.self.now c.loop-delivery.self l) (take_all c.loop-delivery.delivery-index c.args.deliveries.now over) c.loop-delivery.invariant
+    subst (λ (l : List Delivery). Learns c.args.self.now c.loop-delivery.self l)
+    (take_all c.loop-delivery.delivery-index c.args.deliveries.now over) c.loop-delivery.invariant
