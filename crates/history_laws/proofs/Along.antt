@@ -9,7 +9,8 @@ use Rattle.run_history.specs.Runs.{Run, run_of, followed, empty_run}
 use Rattle.run_history.specs.Legal.{MayFollow, AreLegal, IsLegal}
 
 -- the run of a history that goes on
-pub run_of-append : (shape : Shape) (front rest : List Entry) → run_of shape (front ++ rest) ≡ fold (followed shape) (run_of shape front) rest
+pub run_of-append : (shape : Shape) (front rest : List Entry)
+    → run_of shape (front ++ rest) ≡ fold (followed shape) (run_of shape front) rest
 run_of-append shape front rest = fold-append (followed shape) empty_run front rest
 
 -- legal entries after legal entries are legal each
@@ -21,7 +22,8 @@ AreLegal-apart case (e ∷ es) rest run legal =
 
 -- what holds of a history and its run, and still does after each entry that may follow, holds after entries that are legal
 pub along_entries : (case : CaseShape) (Holds : List Entry → Run → Type 0)
-    → ((done : List Entry) (run : Run) (entry : Entry) → Holds done run → MayFollow case run entry → Holds (done ++ entry ∷ []) (followed case.topology run entry))
+    → ((done : List Entry) (run : Run) (entry : Entry) → Holds done run → MayFollow case run entry
+    → Holds (done ++ entry ∷ []) (followed case.topology run entry))
     → (entries done : List Entry) (run : Run) → Holds done run → AreLegal case run entries
     → Holds (done ++ entries) (fold (followed case.topology) run entries)
 along_entries case Holds step [] done run holds legal = subst (λ (h : List Entry). Holds h run) (sym (append-nil done)) holds
@@ -31,7 +33,8 @@ along_entries case Holds step (e ∷ es) done run holds legal =
 
 -- what holds before any entry, and still does after each entry that may follow, holds after each legal history
 pub along_history : (case : CaseShape) (Holds : List Entry → Run → Type 0)
-    → ((done : List Entry) (run : Run) (entry : Entry) → Holds done run → MayFollow case run entry → Holds (done ++ entry ∷ []) (followed case.topology run entry))
+    → ((done : List Entry) (run : Run) (entry : Entry) → Holds done run → MayFollow case run entry
+    → Holds (done ++ entry ∷ []) (followed case.topology run entry))
     → Holds [] empty_run
     → (history : List Entry) → IsLegal case history → Holds history (run_of case.topology history)
 along_history case Holds step first history legal = along_entries case Holds step history [] empty_run first legal

@@ -35,10 +35,12 @@ unfolding IsStrictlySortedBy
 length-without id [] d sorted found = absurd (none_some d found)
 length-without id (e ∷ es) d sorted found =
     elim (same_id e.id id) as (λ b. same_id e.id id ≡ b → cond b (Some e) (found_delivery id es) ≡ Some d
-    → length (cond (not b) (e ∷ filter (λ (e : Delivery). not (same_id e.id id)) es) (filter (λ (e : Delivery). not (same_id e.id id)) es)) + 1 ≡ length (e ∷ es)) [
+    → length (cond (not b) (e ∷ filter (λ (e : Delivery). not (same_id e.id id)) es)
+    (filter (λ (e : Delivery). not (same_id e.id id)) es)) + 1 ≡ length (e ∷ es)) [
       | true ↦ λ same f.
           let rest : filter (λ (e : Delivery). not (same_id e.id id)) es ≡ es = filter-all (λ (e : Delivery). not (same_id e.id id)) es
-          (each-weaker (λ y. delivery_cmp e y ≡ Less) (λ (y : Delivery). not (same_id y.id id) ≡ true) (λ y less. ap not (passes_once id e y less same)) es sorted.0) in
+          (each-weaker (λ y. delivery_cmp e y ≡ Less) (λ (y : Delivery). not (same_id y.id id) ≡ true)
+          (λ y less. ap not (passes_once id e y less same)) es sorted.0) in
           ap (λ (l : List Delivery). length l + 1) rest ∙ omega arith
       | false ↦ λ other f. let rest = length-without id es d sorted.1 f in omega (arith, rest)
     ] refl found
@@ -51,26 +53,32 @@ pub record IsCounted (case : CaseShape) (history : List Entry) (run : Run) : Typ
 
 -- what an entry acknowledges leaves the list of what is not
 left-filter : (history : List Entry) (entry : Entry) (made : List Delivery)
-    → filter (is_unacknowledged (history ++ entry ∷ [])) made ≡ filter (λ (d : Delivery). not (acknowledges d.id entry)) (filter (is_unacknowledged history) made)
+    → filter (is_unacknowledged (history ++ entry ∷ [])) made ≡ filter (λ (d : Delivery). not (acknowledges d.id entry))
+    (filter (is_unacknowledged history) made)
 left-filter history entry made =
     filter_agree (is_unacknowledged (history ++ entry ∷ [])) (λ d. is_unacknowledged history d && not (acknowledges d.id entry))
     (λ d. ap not (is_acknowledged-push d.id history entry) ∙ left_push (is_acknowledged d.id history) (acknowledges d.id entry)) made
     ∙ sym (filter-filter (λ (d : Delivery). not (acknowledges d.id entry)) (is_unacknowledged history) made)
 
 -- what an entry made is not acknowledged
-new-left : (case : CaseShape) (history : List Entry) (run : Run) (entry : Entry) → AreAcknowledged case history run → MayFollow case run entry
-    → filter (is_unacknowledged (history ++ entry ∷ [])) (deliveries_of case.topology run.made run.next entry) ≡ deliveries_of case.topology run.made run.next entry
+new-left : (case : CaseShape) (history : List Entry) (run : Run) (entry : Entry) → AreAcknowledged case history run
+    → MayFollow case run entry
+    → filter (is_unacknowledged (history ++ entry ∷ []))
+    (deliveries_of case.topology run.made run.next entry) ≡ deliveries_of case.topology run.made run.next entry
 new-left case history run entry acked may =
     filter-all (is_unacknowledged (history ++ entry ∷ [])) (deliveries_of case.topology run.made run.next entry)
     (each-weaker (λ (d : Delivery). d.id.commit ≡ run.next) (λ (d : Delivery). is_unacknowledged (history ++ entry ∷ []) d ≡ true)
     (λ d is. ap not (acknowledges_not-next run.made run.next d (history ++ entry ∷ []) acked.made.order.below is
-    (Rattle.run_history.proofs.Lists.each-append (Rattle.history_laws.proofs.AckLaws.WasPending run.made) history (entry ∷ []) acked.was (acknowledged-made case run entry acked.made may, tt))))
+    (Rattle.run_history.proofs.Lists.each-append (Rattle.history_laws.proofs.AckLaws.WasPending run.made) history (entry ∷ []) acked.was
+    (acknowledged-made case run entry acked.made may, tt))))
     (deliveries_of case.topology run.made run.next entry) (each_of_commit case.topology run.made run.next entry))
 
 -- how many are not acknowledged after one more entry
-left-count : (case : CaseShape) (history : List Entry) (run : Run) (entry : Entry) → AreAcknowledged case history run → MayFollow case run entry
+left-count : (case : CaseShape) (history : List Entry) (run : Run) (entry : Entry) → AreAcknowledged case history run
+    → MayFollow case run entry
     → length (filter (is_unacknowledged (history ++ entry ∷ [])) (followed case.topology run entry).made)
-    ≡ length (filter (λ (d : Delivery). not (acknowledges d.id entry)) (filter (is_unacknowledged history) run.made)) + length (deliveries_of case.topology run.made run.next entry)
+    ≡ length (filter (λ (d : Delivery). not (acknowledges d.id entry)) (filter (is_unacknowledged history) run.made)) + length
+    (deliveries_of case.topology run.made run.next entry)
 left-count case history run entry acked may =
     let sent = deliveries_of case.topology run.made run.next entry in
     ap length (filter-append (is_unacknowledged (history ++ entry ∷ [])) run.made sent)
@@ -79,7 +87,8 @@ left-count case history run entry acked may =
 
 -- one more entry counts alike
 count-step : (case : CaseShape) (history : List Entry) (run : Run) (entry : Entry) → IsCounted case history run → MayFollow case run entry
-    → length (all_pending (followed case.topology run entry)) ≡ length (filter (is_unacknowledged (history ++ entry ∷ [])) (followed case.topology run entry).made)
+    → length (all_pending (followed case.topology run entry)) ≡ length
+    (filter (is_unacknowledged (history ++ entry ∷ [])) (followed case.topology run entry).made)
 count-step case history run entry counted may = by_kind entry may ∙ sym (left-count case history run entry counted.acked may)
   where
     shape : Shape
@@ -94,35 +103,47 @@ count-step case history run entry counted may = by_kind entry may ∙ sym (left-
 
     -- an entry that makes something
     makes : (entry : Entry) (name : RowName) → row_written entry ≡ Some name
-        → (row_of shape (followed shape run entry) name).pending ≡ (row_of shape run name).pending ++ deliveries_of shape run.made run.next entry
-        → length (all_pending (followed shape run entry)) ≡ length (filter (λ (d : Delivery). not false) made) + length (deliveries_of shape run.made run.next entry)
+        → (row_of shape (followed shape run entry) name).pending ≡
+        (row_of shape run name).pending ++ deliveries_of shape run.made run.next entry
+        → length (all_pending (followed shape run entry)) ≡ length (filter (λ (d : Delivery). not false) made) + length
+        (deliveries_of shape run.made run.next entry)
     makes entry name written is =
         let step = count-followed shape run entry name (λ (c : Contents). c.pending) counted.order written refl in
         let more = ap length is ∙ length-append (row_of shape run name).pending (deliveries_of shape run.made run.next entry) in
         omega (arith, step, more, counted.count, same)
 
     by_kind : (entry : Entry) → MayFollow case run entry
-        → length (all_pending (followed shape run entry)) ≡ length (filter (λ (d : Delivery). not (acknowledges d.id entry)) made) + length (deliveries_of shape run.made run.next entry)
+        → length (all_pending (followed shape run entry)) ≡ length
+        (filter (λ (d : Delivery). not (acknowledges d.id entry)) made) + length (deliveries_of shape run.made run.next entry)
     by_kind (Claim worker interval) may = omega (arith, counted.count, same)
     by_kind (Inject seq part line item) may = makes (Inject seq part line item) (record { part = part; key = [] }) refl
         (ap (λ (c : Contents). c.pending) (row_of-here shape run (Inject seq part line item) (record { part = part; key = [] }) refl))
-    by_kind (Handle seq row id effects) may = makes (Handle seq row id effects) row refl (ap (λ (c : Contents). c.pending) (row_of-here shape run (Handle seq row id effects) row refl))
-    by_kind (Fire seq row timer mark effects) may = makes (Fire seq row timer mark effects) row refl (ap (λ (c : Contents). c.pending) (row_of-here shape run (Fire seq row timer mark effects) row refl))
+    by_kind (Handle seq row id effects) may = makes (Handle seq row id effects) row refl
+        (ap (λ (c : Contents). c.pending) (row_of-here shape run (Handle seq row id effects) row refl))
+    by_kind (Fire seq row timer mark effects) may = makes (Fire seq row timer mark effects) row refl
+        (ap (λ (c : Contents). c.pending) (row_of-here shape run (Fire seq row timer mark effects) row refl))
     by_kind (Ack seq row id) may = acks (found_delivery id (row_of shape run row).pending) refl may.pending
       where
         acks : (o : Option Delivery) → found_delivery id (row_of shape run row).pending ≡ o → IsSome o
-            → length (all_pending (followed shape run (Ack seq row id))) ≡ length (filter (λ (d : Delivery). not (same_id d.id id)) made) + 0
+            → length (all_pending (followed shape run (Ack seq row id))) ≡ length
+            (filter (λ (d : Delivery). not (same_id d.id id)) made) + 0
         acks None at is = absurd (cc)
         acks (Some d) at is =
             let step = count-followed shape run (Ack seq row id) row (λ (c : Contents). c.pending) counted.order refl refl in
-            let left : length (row_of shape (followed shape run (Ack seq row id)) row).pending ≡ length (filter (λ (e : Delivery). not (same_id e.id id)) (row_of shape run row).pending) =
+            let left : length (row_of shape (followed shape run (Ack seq row id)) row).pending ≡ length
+            (filter (λ (e : Delivery). not (same_id e.id id)) (row_of shape run row).pending) =
             ap (λ (c : Contents). length c.pending) (row_of-here shape run (Ack seq row id) row refl) in
-            let fewer = length-without id (row_of shape run row).pending d (row_of-in_order shape run row counted.acked.order).ascending at in
-            let own : d.id ≡ id = same_id-true d.id id (find-passes (λ (e : Delivery). same_id e.id id) (row_of shape run row).pending d at) in
+            let fewer = length-without id (row_of shape run row).pending d
+            (row_of-in_order shape run row counted.acked.order).ascending at in
+            let own : d.id ≡ id = same_id-true d.id id
+            (find-passes (λ (e : Delivery). same_id e.id id) (row_of shape run row).pending d at) in
             let was_made : found_delivery id run.made ≡ Some d = ap (λ (i : RecordId). found_delivery i run.made) (sym own)
-            ∙ find-each (λ (e : Delivery). found_delivery e.id run.made ≡ Some e) (λ (e : Delivery). same_id e.id id) (row_of shape run row).pending d (row_of-made shape run row counted.acked.made) at in
-            let not_acked : is_acknowledged d.id history ≡ false = find-each (λ (e : Delivery). is_acknowledged e.id history ≡ false) (λ (e : Delivery). same_id e.id id) (row_of shape run row).pending d (counted.acked.left row) at in
-            let one_fewer = length-without id made d (IsStrictlySortedBy-filter delivery_cmp (is_unacknowledged history) run.made counted.acked.made.order.ascending)
+            ∙ find-each (λ (e : Delivery). found_delivery e.id run.made ≡ Some e) (λ (e : Delivery). same_id e.id id)
+            (row_of shape run row).pending d (row_of-made shape run row counted.acked.made) at in
+            let not_acked : is_acknowledged d.id history ≡ false = find-each (λ (e : Delivery). is_acknowledged e.id history ≡ false)
+            (λ (e : Delivery). same_id e.id id) (row_of shape run row).pending d (counted.acked.left row) at in
+            let one_fewer = length-without id made d
+            (IsStrictlySortedBy-filter delivery_cmp (is_unacknowledged history) run.made counted.acked.made.order.ascending)
             (find-kept (λ (e : Delivery). same_id e.id id) (is_unacknowledged history) run.made d was_made (ap not not_acked)) in
             omega (arith, step, left, fewer, one_fewer, counted.count)
     by_kind (Purge seq row floor) may =

@@ -49,7 +49,8 @@ rows_covered-seen shape interval seq b front rest rules at fenced seen =
 pub rows_covered-known : (shape : Shape) (interval seq worker : ℕ) (b : Bounds) (front rest : List Entry) → IsTopology shape
     → slice_get (intervals_of shape) interval ≡ Some b → IsFenced shape (front ++ rest)
     → slice_get front seq ≡ Some (Claim worker interval) → CarryNot seq rest
-    → rows_covered b (run_of shape (known interval seq (front ++ rest))).rows ≡ rows_covered b (run_of shape (known interval seq front)).rows
+    → rows_covered b (run_of shape (known interval seq (front ++ rest))).rows ≡ rows_covered b
+    (run_of shape (known interval seq front)).rows
 rows_covered-known shape interval seq worker b front rest rules at fenced claimed none =
     rows_covered-lies shape interval b (known interval seq (front ++ rest)) (known interval seq front) rules at
     (row_in-known shape interval seq worker front rest fenced claimed none)

@@ -40,7 +40,8 @@ use Rattle.history_laws.proofs.UnfinishedLaws.{legal-within}
 -- ---- handlers keep the kind of a state
 
 -- a window that closes keeps the kind
-count_timer-kind : (size : ℕ) (key : List ℕ) (late : ℕ) (windows : List Window) (due : Option Window) → has_kind (kinds.Count size) (count_timer key late windows due).state ≡ true
+count_timer-kind : (size : ℕ) (key : List ℕ) (late : ℕ) (windows : List Window) (due : Option Window)
+    → has_kind (kinds.Count size) (count_timer key late windows due).state ≡ true
 count_timer-kind size key late windows None = refl
 count_timer-kind size key late windows (Some due) = refl
 
@@ -50,14 +51,23 @@ spike_timer-kind : (last times : ℕ) (key : List ℕ) (late : ℕ) (held : List
 spike_timer-kind last times key late held known None = refl
 spike_timer-kind last times key late held known (Some due) =
     let state = states.Spike late (filter (λ h. not (h.stamp == due.stamp)) held) (known_with last known due.value) in
-    elim (is_spike last times known due.value) as (λ b. has_kind (kinds.Spike last times) (cond b (outcome_with_record state key (due_time due.stamp) due.value) (unchanged state)).state ≡ true) [ true ↦ refl | false ↦ refl ]
+    elim (is_spike last times known due.value) as (λ b. has_kind (kinds.Spike last times)
+    (cond b (outcome_with_record state key (due_time due.stamp) due.value) (unchanged state)).state
+    ≡ true) [ true ↦ refl | false ↦ refl ]
 
 -- a record keeps the kind
-record-kind : (kind : Kind) (key : List ℕ) (state : State) (item : Record) → has_kind kind state ≡ true → has_kind kind (effects_of_record kind key state item).state ≡ true
+record-kind : (kind : Kind) (key : List ℕ) (state : State) (item : Record) → has_kind kind state ≡ true
+    → has_kind kind (effects_of_record kind key state item).state ≡ true
 record-kind (kinds.Count size) key (states.Count late windows) item of =
-    elim item.late as (λ b. has_kind (kinds.Count size) (cond b (unchanged (states.Count (one_more late) windows)) (outcome_with_timer (states.Count late (counted windows (window_end size item.stamp))) (window_end size item.stamp) item)).state ≡ true) [ true ↦ refl | false ↦ refl ]
+    elim item.late as (λ b. has_kind (kinds.Count size)
+    (cond b (unchanged (states.Count (one_more late) windows))
+    (outcome_with_timer (states.Count late (counted windows (window_end size item.stamp))) (window_end size item.stamp) item)).state
+    ≡ true) [ true ↦ refl | false ↦ refl ]
 record-kind (kinds.Spike last times) key (states.Spike late held known) item of =
-    elim item.late as (λ b. has_kind (kinds.Spike last times) (cond b (unchanged (states.Spike (one_more late) held known)) (outcome_with_timer (states.Spike late (held_with held item.stamp item.value) known) (due_time item.stamp) item)).state ≡ true) [ true ↦ refl | false ↦ refl ]
+    elim item.late as (λ b. has_kind (kinds.Spike last times)
+    (cond b (unchanged (states.Spike (one_more late) held known))
+    (outcome_with_timer (states.Spike late (held_with held item.stamp item.value) known) (due_time item.stamp) item)).state
+    ≡ true) [ true ↦ refl | false ↦ refl ]
 record-kind kinds.Pass key (states.Pass late) item of = refl
 record-kind (kinds.Count size) key (states.Injector cursor) item of = absurd cc
 record-kind (kinds.Count size) key (states.Spike late held known) item of = absurd cc
@@ -70,9 +80,11 @@ record-kind kinds.Pass key (states.Count late windows) item of = absurd cc
 record-kind kinds.Pass key (states.Spike late held known) item of = absurd cc
 
 -- and so does a timer
-timer-kind : (kind : Kind) (key : List ℕ) (state : State) (timer : Timer) → has_kind kind state ≡ true → has_kind kind (effects_of_timer kind key state timer).state ≡ true
+timer-kind : (kind : Kind) (key : List ℕ) (state : State) (timer : Timer) → has_kind kind state ≡ true
+    → has_kind kind (effects_of_timer kind key state timer).state ≡ true
 timer-kind (kinds.Count size) key (states.Count late windows) timer of = count_timer-kind size key late windows (window_due windows timer)
-timer-kind (kinds.Spike last times) key (states.Spike late held known) timer of = spike_timer-kind last times key late held known (total_due held timer)
+timer-kind (kinds.Spike last times) key (states.Spike late held known) timer of = spike_timer-kind last times key late held known
+    (total_due held timer)
 timer-kind kinds.Pass key state timer of = of
 timer-kind (kinds.Count size) key (states.Injector cursor) timer of = absurd cc
 timer-kind (kinds.Count size) key (states.Spike late held known) timer of = absurd cc
@@ -94,16 +106,19 @@ IsStateOf shape part state = MatchOption (kind_of shape part) (IsCursor state) (
 fresh_of-kind : (shape : Shape) (part : ℕ) → IsStateOf shape part (fresh_of shape part)
 fresh_of-kind shape part = by_kind (kind_of shape part)
   where
-    by_kind : (o : Option Kind) → MatchOption o (IsCursor (option_map_or fresh_state o (states.Injector 0))) (λ kind. has_kind kind (option_map_or fresh_state o (states.Injector 0)) ≡ true)
+    by_kind : (o : Option Kind) → MatchOption o (IsCursor (option_map_or fresh_state o (states.Injector 0)))
+        (λ kind. has_kind kind (option_map_or fresh_state o (states.Injector 0)) ≡ true)
     by_kind None = tt
     by_kind (Some kind) = fresh_state-kind kind
 
 -- a state of a computation is of its kind
-pub of_kind : (shape : Shape) (part : ℕ) (kind : Kind) (state : State) → kind_of shape part ≡ Some kind → IsStateOf shape part state → has_kind kind state ≡ true
+pub of_kind : (shape : Shape) (part : ℕ) (kind : Kind) (state : State) → kind_of shape part ≡ Some kind → IsStateOf shape part state
+    → has_kind kind state ≡ true
 of_kind shape part kind state is of = subst (λ o. MatchOption o (IsCursor state) (λ kind. has_kind kind state ≡ true)) is of
 
 -- and back
-kind_of-state : (shape : Shape) (part : ℕ) (kind : Kind) (state : State) → kind_of shape part ≡ Some kind → has_kind kind state ≡ true → IsStateOf shape part state
+kind_of-state : (shape : Shape) (part : ℕ) (kind : Kind) (state : State) → kind_of shape part ≡ Some kind → has_kind kind state ≡ true
+    → IsStateOf shape part state
 kind_of-state shape part kind state is of = subst (λ o. MatchOption o (IsCursor state) (λ kind. has_kind kind state ≡ true)) (sym is) of
 
 -- an injector's next state is of the same kind of part
@@ -121,40 +136,55 @@ advanced-kind shape part (states.Spike late held known) of = of
 advanced-kind shape part (states.Pass late) of = of
 
 -- the state that an entry leaves in its row is of the kind of the row's part
-changed-kind : (case : CaseShape) (run : Run) (entry : Entry) (sent : List Delivery) (name : RowName) → MayFollow case run entry → row_written entry ≡ Some name
-    → IsStateOf case.topology name.part (row_of case.topology run name).state → IsStateOf case.topology name.part (changed entry sent (row_of case.topology run name)).state
+changed-kind : (case : CaseShape) (run : Run) (entry : Entry) (sent : List Delivery) (name : RowName) → MayFollow case run entry
+    → row_written entry ≡ Some name
+    → IsStateOf case.topology name.part (row_of case.topology run name).state
+    → IsStateOf case.topology name.part (changed entry sent (row_of case.topology run name)).state
 changed-kind case run (Claim worker interval) sent name may written of = of
-changed-kind case run (Inject seq part line item) sent name may written of = advanced-kind case.topology name.part (row_of case.topology run name).state of
+changed-kind case run (Inject seq part line item) sent name may written of = advanced-kind case.topology name.part
+    (row_of case.topology run name).state of
 changed-kind case run (Handle seq row id effects) sent name may written of =
-    let kind = was_some (λ (kind : Kind). effects_of_record kind row.key (row_of case.topology run row).state may.delivery.item) (kind_of case.topology row.part) effects may.does in
-    let here : IsStateOf case.topology row.part (row_of case.topology run row).state = subst (λ (n : RowName). IsStateOf case.topology n.part (row_of case.topology run n).state) (sym (some_same row name written)) of in
+    let kind = was_some (λ (kind : Kind). effects_of_record kind row.key (row_of case.topology run row).state may.delivery.item)
+    (kind_of case.topology row.part) effects may.does in
+    let here : IsStateOf case.topology row.part (row_of case.topology run row).state = subst
+    (λ (n : RowName). IsStateOf case.topology n.part (row_of case.topology run n).state) (sym (some_same row name written)) of in
     subst (λ (n : RowName). IsStateOf case.topology n.part effects.state) (some_same row name written)
     (kind_of-state case.topology row.part kind.0 effects.state kind.1
     (subst (λ (o : Outcome). has_kind kind.0 o.state ≡ true) kind.2
-    (record-kind kind.0 row.key (row_of case.topology run row).state may.delivery.item (of_kind case.topology row.part kind.0 (row_of case.topology run row).state kind.1 here))))
+    (record-kind kind.0 row.key (row_of case.topology run row).state may.delivery.item
+    (of_kind case.topology row.part kind.0 (row_of case.topology run row).state kind.1 here))))
 changed-kind case run (Fire seq row timer mark effects) sent name may written of =
-    let kind = was_some (λ (kind : Kind). effects_of_timer kind row.key (row_of case.topology run row).state timer) (kind_of case.topology row.part) effects may.does in
-    let here : IsStateOf case.topology row.part (row_of case.topology run row).state = subst (λ (n : RowName). IsStateOf case.topology n.part (row_of case.topology run n).state) (sym (some_same row name written)) of in
+    let kind = was_some (λ (kind : Kind). effects_of_timer kind row.key (row_of case.topology run row).state timer)
+    (kind_of case.topology row.part) effects may.does in
+    let here : IsStateOf case.topology row.part (row_of case.topology run row).state = subst
+    (λ (n : RowName). IsStateOf case.topology n.part (row_of case.topology run n).state) (sym (some_same row name written)) of in
     subst (λ (n : RowName). IsStateOf case.topology n.part effects.state) (some_same row name written)
     (kind_of-state case.topology row.part kind.0 effects.state kind.1
     (subst (λ (o : Outcome). has_kind kind.0 o.state ≡ true) kind.2
-    (timer-kind kind.0 row.key (row_of case.topology run row).state timer (of_kind case.topology row.part kind.0 (row_of case.topology run row).state kind.1 here))))
+    (timer-kind kind.0 row.key (row_of case.topology run row).state timer
+    (of_kind case.topology row.part kind.0 (row_of case.topology run row).state kind.1 here))))
 changed-kind case run (Ack seq row id) sent name may written of = of
 changed-kind case run (Purge seq row floor) sent name may written of = of
 
 -- ---- injectors set no timer
 
 -- an entry sets no timer in an injector's row
-changed-no_timer : (case : CaseShape) (run : Run) (entry : Entry) (sent : List Delivery) (name : RowName) → MayFollow case run entry → row_written entry ≡ Some name
-    → is_injector case.topology name.part ≡ true → (row_of case.topology run name).timers ≡ [] → (changed entry sent (row_of case.topology run name)).timers ≡ []
+changed-no_timer : (case : CaseShape) (run : Run) (entry : Entry) (sent : List Delivery) (name : RowName) → MayFollow case run entry
+    → row_written entry ≡ Some name
+    → is_injector case.topology name.part ≡ true → (row_of case.topology run name).timers ≡ []
+    → (changed entry sent (row_of case.topology run name)).timers ≡ []
 changed-no_timer case run (Claim worker interval) sent name may written is none = none
 changed-no_timer case run (Inject seq part line item) sent name may written is none = none
 changed-no_timer case run (Handle seq row id effects) sent name may written is none =
-    let kind = was_some (λ (kind : Kind). effects_of_record kind row.key (row_of case.topology run row).state may.delivery.item) (kind_of case.topology row.part) effects may.does in
-    absurd (injector-no_kind case.topology row.part kind.0 (subst (λ (n : RowName). is_injector case.topology n.part ≡ true) (sym (some_same row name written)) is) kind.1)
+    let kind = was_some (λ (kind : Kind). effects_of_record kind row.key (row_of case.topology run row).state may.delivery.item)
+    (kind_of case.topology row.part) effects may.does in
+    absurd (injector-no_kind case.topology row.part kind.0
+    (subst (λ (n : RowName). is_injector case.topology n.part ≡ true) (sym (some_same row name written)) is) kind.1)
 changed-no_timer case run (Fire seq row timer mark effects) sent name may written is none =
-    let kind = was_some (λ (kind : Kind). effects_of_timer kind row.key (row_of case.topology run row).state timer) (kind_of case.topology row.part) effects may.does in
-    absurd (injector-no_kind case.topology row.part kind.0 (subst (λ (n : RowName). is_injector case.topology n.part ≡ true) (sym (some_same row name written)) is) kind.1)
+    let kind = was_some (λ (kind : Kind). effects_of_timer kind row.key (row_of case.topology run row).state timer)
+    (kind_of case.topology row.part) effects may.does in
+    absurd (injector-no_kind case.topology row.part kind.0
+    (subst (λ (n : RowName). is_injector case.topology n.part ≡ true) (sym (some_same row name written)) is) kind.1)
 changed-no_timer case run (Ack seq row id) sent name may written is none = none
 changed-no_timer case run (Purge seq row floor) sent name may written is none = none
 
@@ -165,24 +195,28 @@ abbrev GoesToReader : Shape → Delivery → Type 0
 GoesToReader shape d = (injectors_of shape ≤ d.to.part) × (d.to.part < parts_of shape)
 
 -- what an entry makes goes to computations
-sent-read : (shape : Shape) (made : List Delivery) (commit : ℕ) (entry : Entry) → AllByRecursion (GoesToReader shape) (deliveries_of shape made commit entry)
+sent-read : (shape : Shape) (made : List Delivery) (commit : ℕ) (entry : Entry)
+    → AllByRecursion (GoesToReader shape) (deliveries_of shape made commit entry)
 sent-read shape made commit entry = by_row (row_written entry)
   where
     by_row : (w : Option RowName) → AllByRecursion (GoesToReader shape)
         (option_map_or (λ (row : RowName). deliveries_made shape row.part (productions_of entry) (late_cause made entry) commit) w [])
     by_row None = tt
     by_row (Some row) = deliveries_made-each shape row.part (productions_of entry) (late_cause made entry) commit
-        (λ (s : Subscription). (injectors_of shape ≤ s.to) × (s.to < parts_of shape)) (λ p. ⊤) (λ to item. (injectors_of shape ≤ to.part) × (to.part < parts_of shape))
+        (λ (s : Subscription). (injectors_of shape ≤ s.to) × (s.to < parts_of shape)) (λ p. ⊤)
+        (λ to item. (injectors_of shape ≤ to.part) × (to.part < parts_of shape))
         (λ s p there _. there) (consumers-there shape row.part) (each-all (λ p. ⊤) (λ p. tt) (productions_of entry))
 
 -- what an entry leaves pending goes to computations
-changed-read : (shape : Shape) (entry : Entry) (sent : List Delivery) (row : Contents) → AllByRecursion (GoesToReader shape) row.pending → AllByRecursion (GoesToReader shape) sent
+changed-read : (shape : Shape) (entry : Entry) (sent : List Delivery) (row : Contents) → AllByRecursion (GoesToReader shape) row.pending
+    → AllByRecursion (GoesToReader shape) sent
     → AllByRecursion (GoesToReader shape) (changed entry sent row).pending
 changed-read shape (Claim worker interval) sent row old new = old
 changed-read shape (Inject seq part line item) sent row old new = each-append (GoesToReader shape) row.pending sent old new
 changed-read shape (Handle seq name id effects) sent row old new = each-append (GoesToReader shape) row.pending sent old new
 changed-read shape (Fire seq name timer mark effects) sent row old new = each-append (GoesToReader shape) row.pending sent old new
-changed-read shape (Ack seq name id) sent row old new = each-filter (GoesToReader shape) (λ (d : Delivery). not (same_id d.id id)) row.pending old
+changed-read shape (Ack seq name id) sent row old new = each-filter (GoesToReader shape)
+    (λ (d : Delivery). not (same_id d.id id)) row.pending old
 changed-read shape (Purge seq name floor) sent row old new = old
 
 -- ---- all together
@@ -194,15 +228,19 @@ pub record AreOfKind (case : CaseShape) (run : Run) : Type 0 where
   pub reads : (name : RowName) → AllByRecursion (GoesToReader case.topology) (row_of case.topology run name).pending
 
 -- one more entry keeps it so
-pub AreOfKind-followed : (case : CaseShape) (run : Run) (entry : Entry) → AreOfKind case run → MayFollow case run entry → AreOfKind case (followed case.topology run entry)
+pub AreOfKind-followed : (case : CaseShape) (run : Run) (entry : Entry) → AreOfKind case run → MayFollow case run entry
+    → AreOfKind case (followed case.topology run entry)
 AreOfKind-followed case run entry are may =
     let sent = deliveries_of case.topology run.made run.next entry in record {
-      states = λ name. row_of-step case.topology run entry name (λ (c : Contents). IsStateOf case.topology name.part c.state) (are.states name)
+      states = λ name. row_of-step case.topology run entry name (λ (c : Contents). IsStateOf case.topology name.part c.state)
+          (are.states name)
           (λ written. changed-kind case run entry sent name may written (are.states name));
       no_timers = λ name is. row_of-step case.topology run entry name (λ (c : Contents). c.timers ≡ []) (are.no_timers name is)
           (λ written. changed-no_timer case run entry sent name may written is (are.no_timers name is));
-      reads = λ name. row_of-step case.topology run entry name (λ (c : Contents). AllByRecursion (GoesToReader case.topology) c.pending) (are.reads name)
-          (λ written. changed-read case.topology entry sent (row_of case.topology run name) (are.reads name) (sent-read case.topology run.made run.next entry));
+      reads = λ name. row_of-step case.topology run entry name (λ (c : Contents). AllByRecursion (GoesToReader case.topology) c.pending)
+          (are.reads name)
+          (λ written. changed-read case.topology entry sent (row_of case.topology run name) (are.reads name)
+          (sent-read case.topology run.made run.next entry));
     }
 
 -- before any entry it is so
@@ -211,7 +249,8 @@ AreOfKind-empty case = record { states = λ name. fresh_of-kind case.topology na
 
 -- after each legal history it is so
 pub legal-of_kind : (case : CaseShape) (history : List Entry) → IsLegal case history → AreOfKind case (run_of case.topology history)
-legal-of_kind case = along_history case (λ done run. AreOfKind case run) (λ done run entry are may. AreOfKind-followed case run entry are may)
+legal-of_kind case = along_history case (λ done run. AreOfKind case run)
+    (λ done run entry are may. AreOfKind-followed case run entry are may)
     (AreOfKind-empty case)
 
 -- an injector's state, which has injected no more lines than these, is one within them
@@ -229,9 +268,10 @@ suits-part case part row there of lines none = by_part (is_injector case.topolog
   where
     by_part : (b : Bool) → is_injector case.topology part ≡ b
         → cond b (is_cursor_within (length (source_of case part)) row.state && (length row.timers == 0))
-            (option_map_or (λ (kind : Kind). has_kind kind row.state) (kind_of case.topology part) false) ≡ true
+        (option_map_or (λ (kind : Kind). has_kind kind row.state) (kind_of case.topology part) false) ≡ true
     by_part true is =
-        let cursor : IsCursor row.state = subst (λ o. MatchOption o (IsCursor row.state) (λ kind. has_kind kind row.state ≡ true)) (kind-none case.topology part is) of in
+        let cursor : IsCursor row.state = subst (λ o. MatchOption o (IsCursor row.state) (λ kind. has_kind kind row.state ≡ true))
+        (kind-none case.topology part is) of in
         and_from (is_cursor_within (length (source_of case part)) row.state) (length row.timers == 0)
         (cursor-within (length (source_of case part)) row.state cursor (lines is)) (ap (λ l. length l == 0) (none is))
     by_part false is =
@@ -242,7 +282,8 @@ suits-part case part row there of lines none = by_part (is_injector case.topolog
 sent-tested : (shape : Shape) (n : ℕ) (d : Delivery) → d.id.commit < n → GoesToReader shape d → is_sent_before shape n d ≡ true
 sent-tested shape n d less goes =
     and_from (nat_lt d.id.commit n && nat_le (injectors_of shape) d.to.part) (nat_lt d.to.part (parts_of shape))
-    (and_from (nat_lt d.id.commit n) (nat_le (injectors_of shape) d.to.part) (lt-ltb d.id.commit n less) (le-leb (injectors_of shape) d.to.part goes.0))
+    (and_from (nat_lt d.id.commit n) (nat_le (injectors_of shape) d.to.part) (lt-ltb d.id.commit n less)
+    (le-leb (injectors_of shape) d.to.part goes.0))
     (lt-ltb d.to.part (parts_of shape) goes.1)
 
 -- each row of a legal history fits its name, where its part is there
@@ -255,8 +296,10 @@ legal-fits case history name legal there =
     and_from (suits_part case name.part row) (list_all (is_sent_before case.topology (length history)) row.pending)
     (suits-part case name.part row there (are.states name) ((legal-within case history legal).each name) (are.no_timers name))
     (passes-each (is_sent_before case.topology (length history)) row.pending
-    (each-weaker (λ (d : Delivery). (d.id.commit < run.next) × GoesToReader case.topology d) (λ d. is_sent_before case.topology (length history) d ≡ true)
+    (each-weaker (λ (d : Delivery). (d.id.commit < run.next) × GoesToReader case.topology d)
+    (λ d. is_sent_before case.topology (length history) d ≡ true)
     (λ d (both : (d.id.commit < run.next) × GoesToReader case.topology d).
-    let less = both.0 in sent-tested case.topology (length history) d (omega (arith, less, next-length case.topology history)) both.1) row.pending
+    let less = both.0 in sent-tested case.topology (length history) d
+    (omega (arith, less, next-length case.topology history)) both.1) row.pending
     (each-both (λ (d : Delivery). d.id.commit < run.next) (GoesToReader case.topology) row.pending
     (row_of-in_order case.topology run name (pending-in_order case.topology history)).below (are.reads name))))

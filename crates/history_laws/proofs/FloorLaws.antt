@@ -93,7 +93,8 @@ changed-from x n (Ack seq name id) sent row below new old = each-filter (λ (d :
 changed-from x n (Purge seq name floor) sent row below new old = old
 
 -- one more entry keeps each bound of the floor
-pub IsFloorBelow-followed : (shape : Shape) (run : Run) (entry : Entry) (x : ℕ) → IsFloorBelow x run → IsFloorBelow x (followed shape run entry)
+pub IsFloorBelow-followed : (shape : Shape) (run : Run) (entry : Entry) (x : ℕ) → IsFloorBelow x run
+    → IsFloorBelow x (followed shape run entry)
 IsFloorBelow-followed shape run entry x below = record {
   next = let before = below.next in omega (arith, before);
   pending = by_row (row_written entry);
@@ -105,18 +106,23 @@ IsFloorBelow-followed shape run entry x below = record {
     by_row : (written : Option RowName) → AllByRecursion (λ (r : RowName × Contents). CommitsFrom x r.1.pending)
         (option_map_or (λ (name : RowName). insert_entry row_cmp run.rows name (row_after shape run entry sent name)) written run.rows)
     by_row None = below.pending
-    by_row (Some name) = each-insert_entry row_cmp (λ (r : Contents). CommitsFrom x r.pending) run.rows name (row_after shape run entry sent name) below.pending
+    by_row (Some name) = each-insert_entry row_cmp (λ (r : Contents). CommitsFrom x r.pending) run.rows name
+        (row_after shape run entry sent name) below.pending
         (changed-from x run.next entry sent (row_of shape run name) below.next (each_of_commit shape run.made run.next entry)
-        (found_of_each (λ (r : Contents). CommitsFrom x r.pending) (is_at (row_cmp name)) run.rows (fresh (fresh_of shape name.part)) below.pending tt))
+        (found_of_each (λ (r : Contents). CommitsFrom x r.pending) (is_at (row_cmp name)) run.rows
+        (fresh (fresh_of shape name.part)) below.pending tt))
 
 -- one more entry does not lower the floor
 pub floor_of-followed : (shape : Shape) (run : Run) (entry : Entry) → floor_of run ≤ floor_of (followed shape run entry)
-floor_of-followed shape run entry = floor_of-bound (floor_of run) (followed shape run entry) (IsFloorBelow-followed shape run entry (floor_of run) (floor_of-below run))
+floor_of-followed shape run entry = floor_of-bound (floor_of run) (followed shape run entry)
+    (IsFloorBelow-followed shape run entry (floor_of run) (floor_of-below run))
 
 -- more entries keep each bound of the floor
-IsFloorBelow-fold : (shape : Shape) (entries : List Entry) (run : Run) (x : ℕ) → IsFloorBelow x run → IsFloorBelow x (fold (followed shape) run entries)
+IsFloorBelow-fold : (shape : Shape) (entries : List Entry) (run : Run) (x : ℕ) → IsFloorBelow x run
+    → IsFloorBelow x (fold (followed shape) run entries)
 IsFloorBelow-fold shape [] run x below = below
-IsFloorBelow-fold shape (e ∷ es) run x below = IsFloorBelow-fold shape es (followed shape run e) x (IsFloorBelow-followed shape run e x below)
+IsFloorBelow-fold shape (e ∷ es) run x below = IsFloorBelow-fold shape es (followed shape run e) x
+    (IsFloorBelow-followed shape run e x below)
 
 -- the floor never falls
 pub floor_of-rises : (shape : Shape) (front rest : List Entry) → floor_of (run_of shape front) ≤ floor_of (run_of shape (front ++ rest))
@@ -127,7 +133,8 @@ floor_of-rises shape front rest =
 
 -- what is pending in the row of a name is at or above the floor
 pub row_of-above : (shape : Shape) (run : Run) (name : RowName) → CommitsFrom (floor_of run) (row_of shape run name).pending
-row_of-above shape run name = found_of_each (λ (r : Contents). CommitsFrom (floor_of run) r.pending) (is_at (row_cmp name)) run.rows (fresh (fresh_of shape name.part))
+row_of-above shape run name = found_of_each (λ (r : Contents). CommitsFrom (floor_of run) r.pending) (is_at (row_cmp name)) run.rows
+    (fresh (fresh_of shape name.part))
     (floor_of-below run).pending tt
 
 -- the least of some numbers and a bound is the bound, or one of the numbers
@@ -138,14 +145,17 @@ fold_min-reached n (m ∷ ms) = by_case (fold_min-reached (min n m) ms)
     by_less : (min n m ≡ n) ⊎ (min n m ≡ m)
     by_less = elim (cases_lt n m) [ inl less ↦ inl (omega (arith, less)) | inr le ↦ inr (omega (arith, le)) ]
 
-    head : fold min (min n m) ms ≡ min n m → (min n m ≡ n) ⊎ (min n m ≡ m) → (fold min (min n m) ms ≡ n) ⊎ Contains (m ∷ ms) (fold min (min n m) ms)
+    head : fold min (min n m) ms ≡ min n m → (min n m ≡ n) ⊎ (min n m ≡ m)
+        → (fold min (min n m) ms ≡ n) ⊎ Contains (m ∷ ms) (fold min (min n m) ms)
     head same (inl one) = inl (same ∙ one)
     head same (inr other) = inr (0, omega arith, sym (same ∙ other))
 
-    by_case : (fold min (min n m) ms ≡ min n m) ⊎ Contains ms (fold min (min n m) ms) → (fold min (min n m) ms ≡ n) ⊎ Contains (m ∷ ms) (fold min (min n m) ms)
+    by_case : (fold min (min n m) ms ≡ min n m) ⊎ Contains ms (fold min (min n m) ms)
+        → (fold min (min n m) ms ≡ n) ⊎ Contains (m ∷ ms) (fold min (min n m) ms)
     by_case (inl same) = head same by_less
     by_case (inr has) = inr (suc has.0, omega (arith, has.1), has.2)
 
 -- the floor is the next number, or is the number of something that is pending
-pub floor_of-reached : (run : Run) → (floor_of run ≡ run.next) ⊎ Contains (map (λ (d : Delivery). d.id.commit) (flat_map (λ (r : RowName × Contents). r.1.pending) run.rows)) (floor_of run)
+pub floor_of-reached : (run : Run) → (floor_of run ≡ run.next) ⊎ Contains
+    (map (λ (d : Delivery). d.id.commit) (flat_map (λ (r : RowName × Contents). r.1.pending) run.rows)) (floor_of run)
 floor_of-reached run = fold_min-reached run.next (commits_of run)

@@ -40,12 +40,14 @@ unchanged-after stamp late state = record { timers = tt; productions = tt }
 -- a cause that produces one record, which is not before it
 outcome_with_record-after : (stamp : ℕ) (late : Bool) (state : State) (key : List ℕ) (at : ℕ) (value : ℤ) → stamp ≤ at → at ≤ MAX_STAMP
     → IsAfter stamp late (outcome_with_record state key at value)
-outcome_with_record-after stamp late state key at value after in_time = record { timers = tt; productions = (record { after = after; in_time = in_time }, tt) }
+outcome_with_record-after stamp late state key at value after in_time =
+    record { timers = tt; productions = (record { after = after; in_time = in_time }, tt) }
 
 -- a record that sets one timer, which is not before it
 outcome_with_timer-after : (state : State) (time : ℕ) (item : Record) → item.stamp ≤ time → time ≤ MAX_STAMP
     → IsAfter item.stamp item.late (outcome_with_timer state time item)
-outcome_with_timer-after state time item after in_time = record { timers = (record { after = after; in_time = in_time; as_late = refl }, tt); productions = tt }
+outcome_with_timer-after state time item after in_time =
+    record { timers = (record { after = after; in_time = in_time; as_late = refl }, tt); productions = tt }
 
 -- a window ends after each of its timestamps
 window_end-after : (size stamp : ℕ) → 1 ≤ size → stamp ≤ MAX_STAMP → stamp ≤ window_end size stamp
@@ -56,9 +58,12 @@ count_record-after : (size late : ℕ) (windows : List Window) (item : Record) �
     → IsAfter item.stamp item.late (count_record size late windows item)
 count_record-after size late windows item one in_time =
     let end = window_end size item.stamp in
-    elim item.late as (λ b. IsAfter item.stamp item.late (cond b (unchanged (states.Count (one_more late) windows)) (outcome_with_timer (states.Count late (counted windows end)) end item))) [
+    elim item.late as (λ b. IsAfter item.stamp item.late
+    (cond b (unchanged (states.Count (one_more late) windows))
+    (outcome_with_timer (states.Count late (counted windows end)) end item))) [
       | true ↦ unchanged-after item.stamp item.late _
-      | false ↦ outcome_with_timer-after (states.Count late (counted windows end)) end item (window_end-after size item.stamp one in_time) (omega arith)
+      | false ↦ outcome_with_timer-after (states.Count late (counted windows end)) end item
+          (window_end-after size item.stamp one in_time) (omega arith)
     ]
 
 -- a total that is held
@@ -66,7 +71,9 @@ spike_record-after : (late : ℕ) (held : List HeldTotal) (known : List ℤ) (it
     → IsAfter item.stamp item.late (spike_record late held known item)
 spike_record-after late held known item in_time =
     let all = held_with held item.stamp item.value in
-    elim item.late as (λ b. IsAfter item.stamp item.late (cond b (unchanged (states.Spike (one_more late) held known)) (outcome_with_timer (states.Spike late all known) (due_time item.stamp) item))) [
+    elim item.late as (λ b. IsAfter item.stamp item.late
+    (cond b (unchanged (states.Spike (one_more late) held known))
+    (outcome_with_timer (states.Spike late all known) (due_time item.stamp) item))) [
       | true ↦ unchanged-after item.stamp item.late _
       | false ↦ outcome_with_timer-after (states.Spike late all known) (due_time item.stamp) item (omega (arith, in_time)) (omega arith)
     ]
@@ -74,10 +81,13 @@ spike_record-after late held known item in_time =
 -- what a part of each kind leaves of a record is no earlier than the record
 pub record-after : (kind : Kind) (key : List ℕ) (state : State) (item : Record) → IsKind kind → item.stamp ≤ MAX_STAMP
     → IsAfter item.stamp item.late (effects_of_record kind key state item)
-record-after (kinds.Count size) key (states.Count late windows) item ranged in_time = count_record-after size late windows item ranged.0 in_time
-record-after (kinds.Spike last times) key (states.Spike late held known) item ranged in_time = spike_record-after late held known item in_time
+record-after (kinds.Count size) key (states.Count late windows) item ranged in_time =
+    count_record-after size late windows item ranged.0 in_time
+record-after (kinds.Spike last times) key (states.Spike late held known) item ranged in_time =
+    spike_record-after late held known item in_time
 record-after kinds.Pass key (states.Pass late) item ranged in_time =
-    let least : item.stamp ≤ item.stamp = omega arith in outcome_with_record-after item.stamp item.late _ item.key item.stamp item.value least in_time
+    let least : item.stamp ≤ item.stamp = omega arith in
+    outcome_with_record-after item.stamp item.late _ item.key item.stamp item.value least in_time
 record-after (kinds.Count size) key (states.Injector cursor) item ranged in_time = unchanged-after item.stamp item.late _
 record-after (kinds.Count size) key (states.Spike late held known) item ranged in_time = unchanged-after item.stamp item.late _
 record-after (kinds.Count size) key (states.Pass late) item ranged in_time = unchanged-after item.stamp item.late _
@@ -108,26 +118,32 @@ window_due-time windows timer =
 -- the total that is due is due at the timer's time
 total_due-time : (held : List HeldTotal) (timer : Timer) → IfSome (total_due held timer) (λ h. due_time h.stamp ≡ timer.time)
 total_due-time held timer =
-    elim (timer.tag == 0) as (λ b. IfSome (cond b (find (λ h. due_time h.stamp == timer.time) held) None) (λ h. due_time h.stamp ≡ timer.time)) [
+    elim (timer.tag == 0) as (λ b. IfSome (cond b (find (λ h. due_time h.stamp == timer.time) held) None)
+    (λ h. due_time h.stamp ≡ timer.time)) [
       | true ↦ found_number (λ h. due_time h.stamp) timer.time held
       | false ↦ tt
     ]
 
 -- a window that closes, at the timer's time
-count_timer-after : (key : List ℕ) (late : ℕ) (windows : List Window) (timer : Timer) (due : Option Window) → IfSome due (λ w. w.end ≡ timer.time)
+count_timer-after : (key : List ℕ) (late : ℕ) (windows : List Window) (timer : Timer) (due : Option Window)
+    → IfSome due (λ w. w.end ≡ timer.time)
     → timer.time ≤ MAX_STAMP → IsAfter timer.time timer.late (count_timer key late windows due)
 count_timer-after key late windows timer None at in_time = unchanged-after timer.time timer.late _
 count_timer-after key late windows timer (Some due) at in_time =
     outcome_with_record-after timer.time timer.late _ key due.end (pos due.count) (omega (arith, at)) (omega (arith, at, in_time))
 
 -- a total that is due, at the timer's time
-spike_timer-after : (last times : ℕ) (key : List ℕ) (late : ℕ) (held : List HeldTotal) (known : List ℤ) (timer : Timer) (due : Option HeldTotal)
-    → IfSome due (λ h. due_time h.stamp ≡ timer.time) → timer.time ≤ MAX_STAMP → IsAfter timer.time timer.late (spike_timer last times key late held known due)
+spike_timer-after : (last times : ℕ) (key : List ℕ) (late : ℕ) (held : List HeldTotal) (known : List ℤ) (timer : Timer)
+    (due : Option HeldTotal)
+    → IfSome due (λ h. due_time h.stamp ≡ timer.time) → timer.time ≤ MAX_STAMP
+    → IsAfter timer.time timer.late (spike_timer last times key late held known due)
 spike_timer-after last times key late held known timer None at in_time = unchanged-after timer.time timer.late _
 spike_timer-after last times key late held known timer (Some due) at in_time =
     let state = states.Spike late (filter (λ h. not (h.stamp == due.stamp)) held) (known_with last known due.value) in
-    elim (is_spike last times known due.value) as (λ b. IsAfter timer.time timer.late (cond b (outcome_with_record state key (due_time due.stamp) due.value) (unchanged state))) [
-      | true ↦ outcome_with_record-after timer.time timer.late state key (due_time due.stamp) due.value (omega (arith, at)) (omega (arith, at, in_time))
+    elim (is_spike last times known due.value) as (λ b. IsAfter timer.time timer.late
+    (cond b (outcome_with_record state key (due_time due.stamp) due.value) (unchanged state))) [
+      | true ↦ outcome_with_record-after timer.time timer.late state key (due_time due.stamp) due.value (omega (arith, at))
+          (omega (arith, at, in_time))
       | false ↦ unchanged-after timer.time timer.late state
     ]
 

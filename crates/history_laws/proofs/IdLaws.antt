@@ -55,13 +55,15 @@ pub passes_once : (id : RecordId) (a b : Delivery) → delivery_cmp a b ≡ Less
 passes_once id a b less same = subst (λ (i : RecordId). same_id b.id i ≡ false) (same_id-true a.id id same) (apart_ids a b less)
 
 -- in deliveries in the order of their ids each is the one that is found under its id
-pub each_found_delivery : (ds : List Delivery) → IsStrictlySortedBy delivery_cmp ds → AllByRecursion (λ d. found_delivery d.id ds ≡ Some d) ds
+pub each_found_delivery : (ds : List Delivery) → IsStrictlySortedBy delivery_cmp ds
+    → AllByRecursion (λ d. found_delivery d.id ds ≡ Some d) ds
 each_found_delivery ds sorted = find-each_self delivery_cmp (λ d e. same_id e.id d.id) (λ d. same_id-itself d.id) back ds sorted
   where
     back : (x y : Delivery) → delivery_cmp x y ≡ Less → same_id x.id y.id ≡ false
     back x y less = elim (same_id x.id y.id) as (λ t. same_id x.id y.id ≡ t → t ≡ false) [
       | false ↦ λ _. refl
-      | true ↦ λ same. sym (subst (λ (i : RecordId). same_id y.id i ≡ true) (sym (same_id-true x.id y.id same)) (same_id-itself y.id)) ∙ apart_ids x y less
+      | true ↦ λ same. sym (subst (λ (i : RecordId). same_id y.id i ≡ true) (sym (same_id-true x.id y.id same)) (same_id-itself y.id))
+          ∙ apart_ids x y less
     ] refl
 
 -- ---- what an entry makes is in order, and after all that was made before it
@@ -98,7 +100,8 @@ made-ascend shape made commit entry = by_row (row_written entry)
     by_row (Some row) = sends-ascend commit 0 _
 
 -- what was made before an entry is before what it makes
-pub across : (n : ℕ) (ds es : List Delivery) → AllByRecursion (λ (d : Delivery). d.id.commit < n) ds → AllByRecursion (λ (d : Delivery). d.id.commit ≡ n) es
+pub across : (n : ℕ) (ds es : List Delivery) → AllByRecursion (λ (d : Delivery). d.id.commit < n) ds
+    → AllByRecursion (λ (d : Delivery). d.id.commit ≡ n) es
     → AllByRecursion (λ d. AllByRecursion (λ e. delivery_cmp d e ≡ Less) es) ds
 across n [] es old new = tt
 across n (d ∷ ds) es old new = (
@@ -108,7 +111,8 @@ across n (d ∷ ds) es old new = (
 )
 
 -- deliveries with lesser numbers, and with this one, are all below the next
-pub below_next : (n : ℕ) (ds es : List Delivery) → AllByRecursion (λ (d : Delivery). d.id.commit < n) ds → AllByRecursion (λ (d : Delivery). d.id.commit ≡ n) es
+pub below_next : (n : ℕ) (ds es : List Delivery) → AllByRecursion (λ (d : Delivery). d.id.commit < n) ds
+    → AllByRecursion (λ (d : Delivery). d.id.commit ≡ n) es
     → AllByRecursion (λ (d : Delivery). d.id.commit < n + 1) (ds ++ es)
 below_next n ds es old new = each-append (λ (d : Delivery). d.id.commit < n + 1) ds es
     (each-weaker (λ (d : Delivery). d.id.commit < n) (λ (d : Delivery). d.id.commit < n + 1) (λ d less. omega (arith, less)) ds old)
@@ -125,7 +129,8 @@ IsMadeInOrder-followed shape run entry made =
     let new = each_of_commit shape run.made run.next entry in record {
       below = below_next run.next run.made (deliveries_of shape run.made run.next entry) made.below new;
       ascending = sorted-append delivery_cmp run.made (deliveries_of shape run.made run.next entry) made.ascending
-          (made-ascend shape run.made run.next entry) (across run.next run.made (deliveries_of shape run.made run.next entry) made.below new);
+          (made-ascend shape run.made run.next entry)
+          (across run.next run.made (deliveries_of shape run.made run.next entry) made.below new);
     }
 
 -- before any entry nothing was made
@@ -170,7 +175,8 @@ waits_as_made history run id d ids waits =
     (subst (λ (l : List Delivery). found_delivery id l ≡ Some d) ids.waiting waits)
 
 -- a record that may be handled was made
-handled-made : (case : CaseShape) (history : List Entry) (run : Run) (entry : Entry) → AreIds history run → MayFollow case run entry → WasMade run.made entry
+handled-made : (case : CaseShape) (history : List Entry) (run : Run) (entry : Entry) → AreIds history run → MayFollow case run entry
+    → WasMade run.made entry
 handled-made case history run (Claim worker interval) ids may = tt
 handled-made case history run (Inject seq part line item) ids may = tt
 handled-made case history run (Handle seq row id effects) ids may =
@@ -190,7 +196,8 @@ handles_not-next made n d (Handle seq row id effects) below is was = elim (same_
       let one : d.id ≡ id = same_id-true d.id id same in
       let other : was.0.id ≡ id = same_id-true was.0.id id (find-passes (λ (e : Delivery). same_id e.id id) made was.0 was.1) in
       let commit : d.id.commit ≡ was.0.id.commit = ap (λ (i : RecordId). i.commit) (one ∙ sym other) in
-      let less : was.0.id.commit < n = find-each (λ (e : Delivery). e.id.commit < n) (λ (e : Delivery). same_id e.id id) made was.0 below was.1 in
+      let less : was.0.id.commit < n = find-each (λ (e : Delivery). e.id.commit < n)
+      (λ (e : Delivery). same_id e.id id) made was.0 below was.1 in
       absurd (omega (arith, commit, less, is))
 ] refl
 handles_not-next made n d (Fire seq row timer mark effects) below is was = refl
@@ -198,7 +205,8 @@ handles_not-next made n d (Ack seq row id) below is was = refl
 handles_not-next made n d (Purge seq row floor) below is was = refl
 
 -- no entry of a history has handled what the next entry makes
-not_handled-next : (made : List Delivery) (n : ℕ) (d : Delivery) (entries : List Entry) → AllByRecursion (λ (e : Delivery). e.id.commit < n) made
+not_handled-next : (made : List Delivery) (n : ℕ) (d : Delivery) (entries : List Entry)
+    → AllByRecursion (λ (e : Delivery). e.id.commit < n) made
     → d.id.commit ≡ n → AllByRecursion (WasMade made) entries → is_handled d.id entries ≡ false
 not_handled-next made n d [] below is was = refl
 not_handled-next made n d (e ∷ es) below is was =
@@ -217,10 +225,12 @@ left_push false false = refl
 
 -- an entry that handles nothing takes nothing
 pub none_taken : (waiting : List Delivery) → waiting ≡ filter (λ (d : Delivery). not false) waiting
-none_taken waiting = sym (filter-all (λ (d : Delivery). not false) waiting (each-all (λ (d : Delivery). not false ≡ true) (λ d. refl) waiting))
+none_taken waiting = sym (filter-all (λ (d : Delivery). not false) waiting
+    (each-all (λ (d : Delivery). not false ≡ true) (λ d. refl) waiting))
 
 -- what still waits is what the entry does not handle
-pub still_unhandled-filter : (entry : Entry) (waiting : List Delivery) → still_unhandled entry waiting ≡ filter (λ (d : Delivery). not (handles d.id entry)) waiting
+pub still_unhandled-filter : (entry : Entry) (waiting : List Delivery)
+    → still_unhandled entry waiting ≡ filter (λ (d : Delivery). not (handles d.id entry)) waiting
 still_unhandled-filter (Claim worker interval) waiting = none_taken waiting
 still_unhandled-filter (Inject seq part line item) waiting = none_taken waiting
 still_unhandled-filter (Handle seq row id effects) waiting = refl
@@ -255,7 +265,8 @@ AreIds-followed case history run entry ids may = record {
     waits = still_unhandled-filter entry run.unhandled
         ∙ ap (filter (λ (d : Delivery). not (handles d.id entry))) ids.waiting
         ∙ filter-filter (λ (d : Delivery). not (handles d.id entry)) (is_left history) run.made
-        ∙ filter_agree _ left (λ d. sym (ap not (is_handled-push d.id history entry) ∙ left_push (is_handled d.id history) (handles d.id entry))) run.made
+        ∙ filter_agree _ left (λ d. sym (ap not (is_handled-push d.id history entry)
+        ∙ left_push (is_handled d.id history) (handles d.id entry))) run.made
 
     new_left : AllByRecursion (λ d. left d ≡ true) sent
     new_left = each-weaker (λ (d : Delivery). d.id.commit ≡ run.next) (λ d. left d ≡ true)

@@ -21,7 +21,8 @@ each_of_commit shape made commit entry = by_row (row_written entry)
     by_row : (written : Option RowName) → AllByRecursion (λ (d : Delivery). d.id.commit ≡ commit)
         (option_map_or (λ (row : RowName). deliveries_made shape row.part (productions_of entry) (late_cause made entry) commit) written [])
     by_row None = tt
-    by_row (Some row) = each-map (λ (d : Delivery). d.id.commit ≡ commit) (delivery_at commit) _ (each-all (λ (s : ℕ × (RowName × Record)). (delivery_at commit s).id.commit ≡ commit) (λ s. refl) _)
+    by_row (Some row) = each-map (λ (d : Delivery). d.id.commit ≡ commit) (delivery_at commit) _
+        (each-all (λ (s : ℕ × (RowName × Record)). (delivery_at commit s).id.commit ≡ commit) (λ s. refl) _)
 
 -- what holds of each consumer with each production holds of each delivery that is made of them
 pub deliveries_made-each : (shape : Shape) (part : ℕ) (productions : List Production) (late : Bool) (commit : ℕ)

@@ -59,7 +59,8 @@ waits-from case run x id d sent feeds waits =
     let work : IsPartFrom case run x by.sender.part =
     All-contains (IsPartFrom case run x) (feeds_of case.topology d.to.part) by.sender.part
     (All-from_recursion (IsPartFrom case run x) (feeds_of case.topology d.to.part) feeds) by.feeds in
-    find-each (PendsFrom x) (λ (e : Delivery). same_id e.id d.id) (row_of case.topology run by.sender).pending d (work.rows by.sender refl).pending by.pending
+    find-each (PendsFrom x) (λ (e : Delivery). same_id e.id d.id) (row_of case.topology run by.sender).pending d
+    (work.rows by.sender refl).pending by.pending
 
 -- deliveries of productions that go on from a bound, where they are not late
 made-own : (shape : Shape) (part : ℕ) (productions : List Production) (late : Bool) (commit x : ℕ)
@@ -75,23 +76,29 @@ made-own shape part productions late commit x from =
     each [] from = tt
     each (p ∷ ps) from = ((λ on_time. (from on_time).0), each ps (λ on_time. (from on_time).1))
 
-module _ (case : CaseShape) (history : List Entry) (run : Run) (x part : ℕ) (runs : IsRunnable case) (ids : AreIds history run) (sent : AreSent case.topology run) (in_time : AreInTime run)
+module _ (case : CaseShape) (history : List Entry) (run : Run) (x part : ℕ) (runs : IsRunnable case) (ids : AreIds history run)
+    (sent : AreSent case.topology run) (in_time : AreInTime run)
     (feeds : AllByRecursion (IsPartFrom case run x) (feeds_of case.topology part)) where
   -- a delivery that a row of the part may handle, where it is not late, is no older than the bound
-  may_handle-from : (seq : ℕ) (row : RowName) (id : RecordId) (effects : Outcome) (may : MayFollow case run (Handle seq row id effects)) → row.part ≡ part → PendsFrom x may.delivery
+  may_handle-from : (seq : ℕ) (row : RowName) (id : RecordId) (effects : Outcome) (may : MayFollow case run (Handle seq row id effects))
+      → row.part ≡ part → PendsFrom x may.delivery
   may_handle-from seq row id effects may of =
       waits-from case run x id may.delivery sent
-      (subst (λ n. AllByRecursion (IsPartFrom case run x) (feeds_of case.topology n)) (sym (ap (λ (r : RowName). r.part) may.to_row ∙ of)) feeds) may.waits
+      (subst (λ n. AllByRecursion (IsPartFrom case run x) (feeds_of case.topology n))
+      (sym (ap (λ (r : RowName). r.part) may.to_row ∙ of)) feeds) may.waits
 
   -- what an entry makes is no older than the bound, where it is on a row of the part that has no older work
-  sent-own : (entry : Entry) (name : RowName) → MayFollow case run entry → row_written entry ≡ Some name → name.part ≡ part → IsRowFrom x (row_of case.topology run name)
-      → (is_injector case.topology part ≡ true → x ≤ source_mark case run part) → AllByRecursion (PendsFrom x) (deliveries_of case.topology run.made run.next entry)
+  sent-own : (entry : Entry) (name : RowName) → MayFollow case run entry → row_written entry ≡ Some name → name.part ≡ part
+      → IsRowFrom x (row_of case.topology run name)
+      → (is_injector case.topology part ≡ true → x ≤ source_mark case run part)
+      → AllByRecursion (PendsFrom x) (deliveries_of case.topology run.made run.next entry)
   sent-own (Claim worker interval) name may written of row mark = tt
   sent-own (Inject seq other line item) name may written of row mark =
       let same : other ≡ part = ap (λ (n : RowName). n.part) (some_same (record { part = other; key = [] }) name written) ∙ of in
       made-own case.topology other (record { key = item.key; stamp = item.stamp; value = item.value } ∷ []) item.late run.next x
       (λ on_time.
-      let stated : x ≤ source_mark case run other = subst (λ n. x ≤ source_mark case run n) (sym same) (mark (subst (λ n. is_injector case.topology n ≡ true) same may.injector)) in
+      let stated : x ≤ source_mark case run other = subst (λ n. x ≤ source_mark case run n) (sym same)
+      (mark (subst (λ n. is_injector case.topology n ≡ true) same may.injector)) in
       let later = injected-from case run seq other line item runs may on_time in
       (omega (arith, stated, later), tt))
   sent-own (Handle seq row_name id effects) name may written of row mark =
@@ -106,13 +113,15 @@ module _ (case : CaseShape) (history : List Entry) (run : Run) (x part : ℕ) (r
       (λ on_time.
       productions-from x timer.time effects.productions
       (at-each (DueFrom x) (row_of case.topology run row_name).timers 0 timer
-      (subst (λ (n : RowName). AllByRecursion (DueFrom x) (row_of case.topology run n).timers) (sym (some_same row_name name written)) row.timers) may.least_timer on_time)
+      (subst (λ (n : RowName). AllByRecursion (DueFrom x) (row_of case.topology run n).timers)
+      (sym (some_same row_name name written)) row.timers) may.least_timer on_time)
       (fire-after case run seq row_name timer fire_mark effects in_time may).productions)
   sent-own (Ack seq row_name id) name may written of row mark = tt
   sent-own (Purge seq row_name floor) name may written of row mark = tt
 
   -- what an entry leaves of its row has no older work
-  changed-own : (entry : Entry) (name : RowName) → MayFollow case run entry → row_written entry ≡ Some name → name.part ≡ part → IsRowFrom x (row_of case.topology run name)
+  changed-own : (entry : Entry) (name : RowName) → MayFollow case run entry → row_written entry ≡ Some name → name.part ≡ part
+      → IsRowFrom x (row_of case.topology run name)
       → AllByRecursion (PendsFrom x) (deliveries_of case.topology run.made run.next entry)
       → IsRowFrom x (changed entry (deliveries_of case.topology run.made run.next entry) (row_of case.topology run name))
   changed-own (Claim worker interval) name may written of row new = row
@@ -125,7 +134,8 @@ module _ (case : CaseShape) (history : List Entry) (run : Run) (x part : ℕ) (r
         (each-weaker (IsTimerAfter may.delivery.item.stamp may.delivery.item.late) (DueFrom x)
         (λ t (after : IsTimerAfter may.delivery.item.stamp may.delivery.item.late t) on_time.
         let later = after.after in
-        let from = may_handle-from seq row_name id effects may (ap (λ (n : RowName). n.part) (some_same row_name name written) ∙ of) (sym (ap not after.as_late) ∙ on_time) in omega (arith, later, from))
+        let from = may_handle-from seq row_name id effects may (ap (λ (n : RowName). n.part) (some_same row_name name written) ∙ of)
+        (sym (ap not after.as_late) ∙ on_time) in omega (arith, later, from))
         effects.timers (handle-after case run seq row_name id effects runs in_time may).timers)
         row.timers;
     pending = each-append (PendsFrom x) (row_of case.topology run name).pending _ row.pending new;
@@ -142,14 +152,18 @@ module _ (case : CaseShape) (history : List Entry) (run : Run) (x part : ℕ) (r
 
   -- a row of the part that has no older work has none after one more entry
   row-own : (entry : Entry) (name : RowName) → MayFollow case run entry → name.part ≡ part → IsRowFrom x (row_of case.topology run name)
-      → (is_injector case.topology part ≡ true → x ≤ source_mark case run part) → IsRowFrom x (row_of case.topology (followed case.topology run entry) name)
+      → (is_injector case.topology part ≡ true → x ≤ source_mark case run part)
+      → IsRowFrom x (row_of case.topology (followed case.topology run entry) name)
   row-own entry name may of row mark = row_of-step case.topology run entry name (IsRowFrom x) row
-      (λ written. let after = changed-own entry name may written of row (sent-own entry name may written of row mark) in record { timers = after.timers; pending = after.pending })
+      (λ written. let after = changed-own entry name may written of row (sent-own entry name may written of row mark) in
+      record { timers = after.timers; pending = after.pending })
 
   -- rows of the part that have no older work have none after one more entry, where what feeds the part has none
-  pub IsOwnFrom-followed : (entry : Entry) (Has : RowName → Type 0) → MayFollow case run entry → ((name : RowName) → Has name → name.part ≡ part)
+  pub IsOwnFrom-followed : (entry : Entry) (Has : RowName → Type 0) → MayFollow case run entry
+      → ((name : RowName) → Has name → name.part ≡ part)
       → IsOwnFrom case run x part Has → IsOwnFrom case (followed case.topology run entry) x part Has
   IsOwnFrom-followed entry Has may of_part own = record {
     rows = λ name has. row-own entry name may (of_part name has) (own.rows name has) own.mark;
-    mark = λ is. let before = own.mark is in let rises = source_mark-followed case run entry part runs may is in omega (arith, before, rises);
+    mark = λ is. let before = own.mark is in let rises = source_mark-followed case run entry part runs may is in
+        omega (arith, before, rises);
   }

@@ -32,21 +32,26 @@ use Rattle.history_laws.proofs.RowSteps.{RowStep, row_step}
 -- ---- few productions
 
 -- a window that closes produces one record at most
-count_timer-few : (key : List ℕ) (late : ℕ) (windows : List Window) (due : Option Window) → length (count_timer key late windows due).productions ≤ 8
+count_timer-few : (key : List ℕ) (late : ℕ) (windows : List Window) (due : Option Window)
+    → length (count_timer key late windows due).productions ≤ 8
 count_timer-few key late windows None = omega arith
 count_timer-few key late windows (Some due) = omega arith
 
 -- a total that is due produces one record at most
-spike_timer-few : (last times : ℕ) (key : List ℕ) (late : ℕ) (held : List HeldTotal) (known : List ℤ) (due : Option HeldTotal) → length (spike_timer last times key late held known due).productions ≤ 8
+spike_timer-few : (last times : ℕ) (key : List ℕ) (late : ℕ) (held : List HeldTotal) (known : List ℤ) (due : Option HeldTotal)
+    → length (spike_timer last times key late held known due).productions ≤ 8
 spike_timer-few last times key late held known None = omega arith
 spike_timer-few last times key late held known (Some due) =
     let state = states.Spike late (filter (λ h. not (h.stamp == due.stamp)) held) (known_with last known due.value) in
-    elim (is_spike last times known due.value) as (λ b. length (cond b (outcome_with_record state key (due_time due.stamp) due.value) (unchanged state)).productions ≤ 8) [ true ↦ omega arith | false ↦ omega arith ]
+    elim (is_spike last times known due.value) as (λ b. length
+    (cond b (outcome_with_record state key (due_time due.stamp) due.value)
+    (unchanged state)).productions ≤ 8) [ true ↦ omega arith | false ↦ omega arith ]
 
 -- a timer produces one record at most
 timer-few : (kind : Kind) (key : List ℕ) (state : State) (timer : Timer) → length (effects_of_timer kind key state timer).productions ≤ 8
 timer-few (kinds.Count size) key (states.Count late windows) timer = count_timer-few key late windows (window_due windows timer)
-timer-few (kinds.Spike last times) key (states.Spike late held known) timer = spike_timer-few last times key late held known (total_due held timer)
+timer-few (kinds.Spike last times) key (states.Spike late held known) timer = spike_timer-few last times key late held known
+    (total_due held timer)
 timer-few kinds.Pass key state timer = omega arith
 timer-few (kinds.Count size) key (states.Injector cursor) timer = omega arith
 timer-few (kinds.Count size) key (states.Spike late held known) timer = omega arith
@@ -58,9 +63,13 @@ timer-few (kinds.Spike last times) key (states.Pass late) timer = omega arith
 -- a record produces one record at most
 record-few : (kind : Kind) (key : List ℕ) (state : State) (item : Record) → length (effects_of_record kind key state item).productions ≤ 8
 record-few (kinds.Count size) key (states.Count late windows) item =
-    elim item.late as (λ b. length (cond b (unchanged (states.Count (one_more late) windows)) (outcome_with_timer (states.Count late (counted windows (window_end size item.stamp))) (window_end size item.stamp) item)).productions ≤ 8) [ true ↦ omega arith | false ↦ omega arith ]
+    elim item.late as (λ b. length (cond b (unchanged (states.Count (one_more late) windows))
+    (outcome_with_timer (states.Count late (counted windows (window_end size item.stamp)))
+    (window_end size item.stamp) item)).productions ≤ 8) [ true ↦ omega arith | false ↦ omega arith ]
 record-few (kinds.Spike last times) key (states.Spike late held known) item =
-    elim item.late as (λ b. length (cond b (unchanged (states.Spike (one_more late) held known)) (outcome_with_timer (states.Spike late (held_with held item.stamp item.value) known) (due_time item.stamp) item)).productions ≤ 8) [ true ↦ omega arith | false ↦ omega arith ]
+    elim item.late as (λ b. length (cond b (unchanged (states.Spike (one_more late) held known))
+    (outcome_with_timer (states.Spike late (held_with held item.stamp item.value) known)
+    (due_time item.stamp) item)).productions ≤ 8) [ true ↦ omega arith | false ↦ omega arith ]
 record-few kinds.Pass key (states.Pass late) item = omega arith
 record-few (kinds.Count size) key (states.Injector cursor) item = omega arith
 record-few (kinds.Count size) key (states.Spike late held known) item = omega arith
@@ -77,10 +86,13 @@ few-productions : (case : CaseShape) (run : Run) (entry : Entry) → MayFollow c
 few-productions case run (Claim worker interval) may = omega arith
 few-productions case run (Inject seq part line item) may = omega arith
 few-productions case run (Handle seq row id effects) may =
-    let kind = was_some (λ (kind : Kind). effects_of_record kind row.key (row_of case.topology run row).state may.delivery.item) (kind_of case.topology row.part) effects may.does in
-    subst (λ (o : Outcome). length o.productions ≤ 8) kind.2 (record-few kind.0 row.key (row_of case.topology run row).state may.delivery.item)
+    let kind = was_some (λ (kind : Kind). effects_of_record kind row.key (row_of case.topology run row).state may.delivery.item)
+    (kind_of case.topology row.part) effects may.does in
+    subst (λ (o : Outcome). length o.productions ≤ 8) kind.2
+    (record-few kind.0 row.key (row_of case.topology run row).state may.delivery.item)
 few-productions case run (Fire seq row timer mark effects) may =
-    let kind = was_some (λ (kind : Kind). effects_of_timer kind row.key (row_of case.topology run row).state timer) (kind_of case.topology row.part) effects may.does in
+    let kind = was_some (λ (kind : Kind). effects_of_timer kind row.key (row_of case.topology run row).state timer)
+    (kind_of case.topology row.part) effects may.does in
     subst (λ (o : Outcome). length o.productions ≤ 8) kind.2 (timer-few kind.0 row.key (row_of case.topology run row).state timer)
 few-productions case run (Ack seq row id) may = omega arith
 few-productions case run (Purge seq row floor) may = omega arith
@@ -94,15 +106,19 @@ pub record AreOnParts (case : CaseShape) (history : List Entry) (run : Run) : Ty
   pub productions : AllByRecursion (λ entry. length (productions_of entry) ≤ 8) history
 
 -- an entry that may follow is on a part that is there
-on_part : (case : CaseShape) (run : Run) (entry : Entry) → ((name : RowName) → IsSome (row_in run name) → name.part < parts_of case.topology) → MayFollow case run entry
+on_part : (case : CaseShape) (run : Run) (entry : Entry)
+    → ((name : RowName) → IsSome (row_in run name) → name.part < parts_of case.topology) → MayFollow case run entry
     → IsOnPart case.topology entry
 on_part case run (Claim worker interval) rows may = tt
-on_part case run (Inject seq part line item) rows may = let below = ltb-true part (injectors_of case.topology) may.injector in omega (arith, below)
+on_part case run (Inject seq part line item) rows may = let below = ltb-true part (injectors_of case.topology) may.injector in
+    omega (arith, below)
 on_part case run (Handle seq row id effects) rows may =
-    let kind = was_some (λ (kind : Kind). effects_of_record kind row.key (row_of case.topology run row).state may.delivery.item) (kind_of case.topology row.part) effects may.does in
+    let kind = was_some (λ (kind : Kind). effects_of_record kind row.key (row_of case.topology run row).state may.delivery.item)
+    (kind_of case.topology row.part) effects may.does in
     kind-there case.topology row.part kind.0 kind.1
 on_part case run (Fire seq row timer mark effects) rows may =
-    let kind = was_some (λ (kind : Kind). effects_of_timer kind row.key (row_of case.topology run row).state timer) (kind_of case.topology row.part) effects may.does in
+    let kind = was_some (λ (kind : Kind). effects_of_timer kind row.key (row_of case.topology run row).state timer)
+    (kind_of case.topology row.part) effects may.does in
     kind-there case.topology row.part kind.0 kind.1
 on_part case run (Ack seq row id) rows may = rows row (there (row_in run row) may.pending)
   where
@@ -112,25 +128,31 @@ on_part case run (Ack seq row id) rows may = rows row (there (row_in run row) ma
 on_part case run (Purge seq row floor) rows may = rows row may.there
 
 -- one more entry keeps each row on a part that is there
-AreOnParts-followed : (case : CaseShape) (history : List Entry) (run : Run) (entry : Entry) → AreOnParts case history run → MayFollow case run entry
+AreOnParts-followed : (case : CaseShape) (history : List Entry) (run : Run) (entry : Entry) → AreOnParts case history run
+    → MayFollow case run entry
     → AreOnParts case (history ++ entry ∷ []) (followed case.topology run entry)
 AreOnParts-followed case history run entry are may = record {
   rows = λ name there. by_step name there (row_step case.topology run entry name);
   entries = each-append (IsOnPart case.topology) history (entry ∷ []) are.entries (on_part case run entry are.rows may, tt);
-  productions = each-append (λ entry. length (productions_of entry) ≤ 8) history (entry ∷ []) are.productions (few-productions case run entry may, tt);
+  productions = each-append (λ entry. length (productions_of entry) ≤ 8) history (entry ∷ []) are.productions
+      (few-productions case run entry may, tt);
 }
   where
-    by_step : (name : RowName) → IsSome (row_in (followed case.topology run entry) name) → RowStep case.topology run entry name → name.part < parts_of case.topology
-    by_step name there (inl here) = subst (λ w. IfSome w (λ (row : RowName). row.part < parts_of case.topology)) here.0 (on_part case run entry are.rows may)
+    by_step : (name : RowName) → IsSome (row_in (followed case.topology run entry) name) → RowStep case.topology run entry name
+        → name.part < parts_of case.topology
+    by_step name there (inl here) = subst (λ w. IfSome w (λ (row : RowName). row.part < parts_of case.topology)) here.0
+        (on_part case run entry are.rows may)
     by_step name there (inr same) = are.rows name (subst IsSome same there)
 
 -- after each legal history each row is of a part that is there
-pub legal-on_parts : (case : CaseShape) (history : List Entry) → IsLegal case history → AreOnParts case history (run_of case.topology history)
+pub legal-on_parts : (case : CaseShape) (history : List Entry) → IsLegal case history
+    → AreOnParts case history (run_of case.topology history)
 legal-on_parts case = along_history case (AreOnParts case) (λ done run entry are may. AreOnParts-followed case done run entry are may)
     (record { rows = λ name there. absurd (cc); entries = tt; productions = tt })
 
 -- a legal history that is not too long can be printed
-pub legal-printable : (case : CaseShape) (history : List Entry) → IsLegal case history → length history ≤ 2 ^ 32 → IsPrintable case.topology history
+pub legal-printable : (case : CaseShape) (history : List Entry) → IsLegal case history → length history ≤ 2 ^ 32
+    → IsPrintable case.topology history
 legal-printable case history legal few =
     let are = legal-on_parts case history legal in record {
       few = few;

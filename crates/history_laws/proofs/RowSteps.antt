@@ -77,7 +77,8 @@ row_step shape run entry row = elim (row_written entry) as (λ w. row_written en
   where
     found : {w : Option RowName} → row_written entry ≡ w → row_in (followed shape run entry) row ≡ lookup (is_at (row_cmp row))
         (option_map_or (λ (n : RowName). insert_entry row_cmp run.rows n (made_row shape run entry n)) w run.rows)
-    found e = ap (λ w. lookup (is_at (row_cmp row)) (option_map_or (λ (n : RowName). insert_entry row_cmp run.rows n (made_row shape run entry n)) w run.rows)) e
+    found e = ap (λ w. lookup (is_at (row_cmp row))
+        (option_map_or (λ (n : RowName). insert_entry row_cmp run.rows n (made_row shape run entry n)) w run.rows)) e
 
     put : (name : RowName) → lookup (is_at (row_cmp row)) (insert_entry row_cmp run.rows name (made_row shape run entry name))
         ≡ cond (is_at (row_cmp row) name) (Some (made_row shape run entry name)) (row_in run row)
@@ -87,11 +88,12 @@ row_step shape run entry row = elim (row_written entry) as (λ w. row_written en
 pub on_row_or_not : (entry : Entry) (name : RowName) → (row_written entry ≡ Some name) ⊎ (row_written entry ≡ Some name → ⊥)
 on_row_or_not entry name = elim (row_written entry) as (λ w. (w ≡ Some name) ⊎ (w ≡ Some name → ⊥)) [
   | None ↦ inr (λ e. none_some name e)
-  | Some row ↦ elim (is_at (row_cmp name) row) as (λ b. is_at (row_cmp name) row ≡ b → (Some row ≡ Some name) ⊎ (Some row ≡ Some name → ⊥)) [
-    | true ↦ λ tie. inl (ap Some (sym (same_row name row tie)))
-    | false ↦ λ apart. inr (λ e. both_ways (is_at (row_cmp name) row) apart
-        (subst (λ (r : RowName). is_at (row_cmp name) r ≡ true) (sym (some_same row name e)) (ap is_eq (tied_itself row_cmp-total name))))
-  ] refl
+  | Some row ↦ elim (is_at (row_cmp name) row) as (λ b. is_at (row_cmp name) row ≡ b
+      → (Some row ≡ Some name) ⊎ (Some row ≡ Some name → ⊥)) [
+        | true ↦ λ tie. inl (ap Some (sym (same_row name row tie)))
+        | false ↦ λ apart. inr (λ e. both_ways (is_at (row_cmp name) row) apart
+            (subst (λ (r : RowName). is_at (row_cmp name) r ≡ true) (sym (some_same row name e)) (ap is_eq (tied_itself row_cmp-total name))))
+      ] refl
 ]
 
 -- a row that an entry is not on is found as it was
@@ -117,7 +119,8 @@ row_of-here shape run entry row written = ap (λ o. unwrap_or o (fresh (fresh_of
   where
     found : RowStep shape run entry row → row_in (followed shape run entry) row ≡ Some (made_row shape run entry row)
     found (inl here) = here.1
-    found (inr same) = ap (λ w. lookup (is_at (row_cmp row)) (option_map_or (λ (n : RowName). insert_entry row_cmp run.rows n (made_row shape run entry n)) w run.rows)) written
+    found (inr same) = ap (λ w. lookup (is_at (row_cmp row))
+        (option_map_or (λ (n : RowName). insert_entry row_cmp run.rows n (made_row shape run entry n)) w run.rows)) written
         ∙ lookup-insert_entry row_cmp-total run.rows row (made_row shape run entry row) row
         ∙ ap (λ b. cond b (Some (made_row shape run entry row)) (row_in run row)) (tie row)
       where
@@ -155,7 +158,8 @@ pub record IsPendingInOrder (n : ℕ) (row : Contents) : Type 0 where
 -- a greater bound
 later_bound : (n : ℕ) (row : Contents) → IsPendingInOrder n row → IsPendingInOrder (n + 1) row
 later_bound n row order = record {
-  below = each-weaker (λ (d : Delivery). d.id.commit < n) (λ (d : Delivery). d.id.commit < n + 1) (λ d less. omega (arith, less)) row.pending order.below;
+  below = each-weaker (λ (d : Delivery). d.id.commit < n) (λ (d : Delivery). d.id.commit < n + 1)
+      (λ d less. omega (arith, less)) row.pending order.below;
   ascending = order.ascending;
 }
 
@@ -164,7 +168,8 @@ sent_in_order : (n : ℕ) (row after : Contents) (sent : List Delivery) → IsPe
     → AllByRecursion (λ (d : Delivery). d.id.commit ≡ n) sent → IsStrictlySortedBy delivery_cmp sent
     → after.pending ≡ row.pending ++ sent → IsPendingInOrder (n + 1) after
 sent_in_order n row after sent order new sorted is = record {
-  below = subst (λ (l : List Delivery). AllByRecursion (λ (d : Delivery). d.id.commit < n + 1) l) (sym is) (below_next n row.pending sent order.below new);
+  below = subst (λ (l : List Delivery). AllByRecursion (λ (d : Delivery). d.id.commit < n + 1) l) (sym is)
+      (below_next n row.pending sent order.below new);
   ascending = subst (IsStrictlySortedBy delivery_cmp) (sym is)
       (sorted-append delivery_cmp row.pending sent order.ascending sorted (across n row.pending sent order.below new));
 }
@@ -194,13 +199,17 @@ unfolding IsStrictlySortedBy
 fresh_in_order shape part n = record { below = tt; ascending = tt }
 
 -- what is pending in the row of a name is in order
-pub row_of-in_order : (shape : Shape) (run : Run) (name : RowName) → ArePendingInOrder run → IsPendingInOrder run.next (row_of shape run name)
-row_of-in_order shape run name order = row_of-each shape run name (IsPendingInOrder run.next) order.each (fresh_in_order shape name.part run.next)
+pub row_of-in_order : (shape : Shape) (run : Run) (name : RowName) → ArePendingInOrder run
+    → IsPendingInOrder run.next (row_of shape run name)
+row_of-in_order shape run name order = row_of-each shape run name (IsPendingInOrder run.next) order.each
+    (fresh_in_order shape name.part run.next)
 
 -- one more entry keeps what is pending in order
-pub ArePendingInOrder-followed : (shape : Shape) (run : Run) (entry : Entry) → ArePendingInOrder run → ArePendingInOrder (followed shape run entry)
+pub ArePendingInOrder-followed : (shape : Shape) (run : Run) (entry : Entry) → ArePendingInOrder run
+    → ArePendingInOrder (followed shape run entry)
 ArePendingInOrder-followed shape run entry order = record {
-  each = each_row-followed shape run entry (IsPendingInOrder run.next) (IsPendingInOrder (run.next + 1)) order.each (later_bound run.next) here;
+  each = each_row-followed shape run entry (IsPendingInOrder run.next) (IsPendingInOrder (run.next + 1)) order.each
+      (later_bound run.next) here;
 }
   where
     here : (name : RowName) → row_written entry ≡ Some name → IsPendingInOrder (run.next + 1) (made_row shape run entry name)
@@ -212,9 +221,11 @@ ArePendingInOrder-followed shape run entry order = record {
 
 -- what is pending is in order after each history
 pub pending-in_order : (shape : Shape) (history : List Entry) → ArePendingInOrder (run_of shape history)
-pending-in_order shape history = along_any shape ArePendingInOrder (ArePendingInOrder-followed shape) history empty_run (record { each = tt })
+pending-in_order shape history = along_any shape ArePendingInOrder (ArePendingInOrder-followed shape) history empty_run
+    (record { each = tt })
 
 -- a row that an entry is not on, there or fresh, is as it was
 pub row_of-elsewhere : (shape : Shape) (run : Run) (entry : Entry) (row : RowName) → (row_written entry ≡ Some row → ⊥)
     → row_of shape (followed shape run entry) row ≡ row_of shape run row
-row_of-elsewhere shape run entry row apart = ap (λ o. unwrap_or o (fresh (fresh_of shape row.part))) (row_in-elsewhere shape run entry row apart)
+row_of-elsewhere shape run entry row apart = ap (λ o. unwrap_or o (fresh (fresh_of shape row.part)))
+    (row_in-elsewhere shape run entry row apart)

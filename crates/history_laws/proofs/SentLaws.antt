@@ -33,7 +33,8 @@ pub record ArePendingMade (run : Run) : Type 0 where
 
 -- what was made stays made
 AreMade-more : (made more ds : List Delivery) → AreMade made ds → AreMade (made ++ more) ds
-AreMade-more made more ds each = each-weaker (λ (d : Delivery). found_delivery d.id made ≡ Some d) (λ (d : Delivery). found_delivery d.id (made ++ more) ≡ Some d)
+AreMade-more made more ds each = each-weaker (λ (d : Delivery). found_delivery d.id made ≡ Some d)
+    (λ (d : Delivery). found_delivery d.id (made ++ more) ≡ Some d)
     (λ d found. find-more (λ (e : Delivery). same_id e.id d.id) made more d found) ds each
 
 -- what an entry makes is made
@@ -41,8 +42,10 @@ sent-made : (shape : Shape) (run : Run) (entry : Entry) → IsMadeInOrder run
     → AreMade (run.made ++ deliveries_of shape run.made run.next entry) (deliveries_of shape run.made run.next entry)
 sent-made shape run entry order =
     let sent = deliveries_of shape run.made run.next entry in
-    each-weaker (λ (d : Delivery). (found_delivery d.id sent ≡ Some d) × (d.id.commit ≡ run.next)) (λ (d : Delivery). found_delivery d.id (run.made ++ sent) ≡ Some d)
-    (λ d (facts : (found_delivery d.id sent ≡ Some d) × (d.id.commit ≡ run.next)). found_behind run.next run.made sent d order.below facts.1 facts.0) sent
+    each-weaker (λ (d : Delivery). (found_delivery d.id sent ≡ Some d) × (d.id.commit ≡ run.next))
+    (λ (d : Delivery). found_delivery d.id (run.made ++ sent) ≡ Some d)
+    (λ d (facts : (found_delivery d.id sent ≡ Some d) × (d.id.commit ≡ run.next)). found_behind run.next run.made sent d order.below
+    facts.1 facts.0) sent
     (each-both (λ (d : Delivery). found_delivery d.id sent ≡ Some d) (λ (d : Delivery). d.id.commit ≡ run.next) sent
     (each_found_delivery sent (made-ascend shape run.made run.next entry)) (each_of_commit shape run.made run.next entry))
 
@@ -50,10 +53,14 @@ sent-made shape run entry order =
 changed-made : (made : List Delivery) (entry : Entry) (sent : List Delivery) (row : Contents) → AreMade made row.pending → AreMade made sent
     → AreMade made (changed entry sent row).pending
 changed-made made (Claim worker interval) sent row old new = old
-changed-made made (Inject seq part line item) sent row old new = each-append (λ (d : Delivery). found_delivery d.id made ≡ Some d) row.pending sent old new
-changed-made made (Handle seq name id effects) sent row old new = each-append (λ (d : Delivery). found_delivery d.id made ≡ Some d) row.pending sent old new
-changed-made made (Fire seq name timer mark effects) sent row old new = each-append (λ (d : Delivery). found_delivery d.id made ≡ Some d) row.pending sent old new
-changed-made made (Ack seq name id) sent row old new = each-filter (λ (d : Delivery). found_delivery d.id made ≡ Some d) (λ (d : Delivery). not (same_id d.id id)) row.pending old
+changed-made made (Inject seq part line item) sent row old new = each-append
+    (λ (d : Delivery). found_delivery d.id made ≡ Some d) row.pending sent old new
+changed-made made (Handle seq name id effects) sent row old new = each-append
+    (λ (d : Delivery). found_delivery d.id made ≡ Some d) row.pending sent old new
+changed-made made (Fire seq name timer mark effects) sent row old new = each-append
+    (λ (d : Delivery). found_delivery d.id made ≡ Some d) row.pending sent old new
+changed-made made (Ack seq name id) sent row old new = each-filter (λ (d : Delivery). found_delivery d.id made ≡ Some d)
+    (λ (d : Delivery). not (same_id d.id id)) row.pending old
 changed-made made (Purge seq name floor) sent row old new = old
 
 -- what is pending in the row of a name was made
@@ -65,15 +72,18 @@ pub ArePendingMade-followed : (shape : Shape) (run : Run) (entry : Entry) → Ar
 ArePendingMade-followed shape run entry made =
     let sent = deliveries_of shape run.made run.next entry in record {
       order = IsMadeInOrder-followed shape run entry made.order;
-      each = each_row-followed shape run entry (λ (c : Contents). AreMade run.made c.pending) (λ (c : Contents). AreMade (run.made ++ sent) c.pending) made.each
+      each = each_row-followed shape run entry (λ (c : Contents). AreMade run.made c.pending)
+          (λ (c : Contents). AreMade (run.made ++ sent) c.pending) made.each
           (λ c each. AreMade-more run.made sent c.pending each)
-          (λ name written. changed-made (run.made ++ sent) entry sent (row_of shape run name) (AreMade-more run.made sent (row_of shape run name).pending (row_of-made shape run name made))
+          (λ name written. changed-made (run.made ++ sent) entry sent (row_of shape run name)
+          (AreMade-more run.made sent (row_of shape run name).pending (row_of-made shape run name made))
           (sent-made shape run entry made.order));
     }
 
 -- what is pending after a history was made
 pub pending-made : (shape : Shape) (history : List Entry) → ArePendingMade (run_of shape history)
-pending-made shape history = along_any shape ArePendingMade (ArePendingMade-followed shape) history empty_run (record { order = IsMadeInOrder-empty; each = tt })
+pending-made shape history = along_any shape ArePendingMade (ArePendingMade-followed shape) history empty_run
+    (record { order = IsMadeInOrder-empty; each = tt })
 
 -- a delivery that is pending in a row is the one that was made under its id
 pub pending-as_made : (shape : Shape) (history : List Entry) (name : RowName) (id : RecordId) (d : Delivery)
@@ -82,7 +92,8 @@ pending-as_made shape history name id d found =
     let run = run_of shape history in
     let own : d.id ≡ id = same_id-true d.id id (find-passes (λ (e : Delivery). same_id e.id id) (row_of shape run name).pending d found) in
     ap (λ (i : RecordId). found_delivery i run.made) (sym own)
-    ∙ find-each (λ (e : Delivery). found_delivery e.id run.made ≡ Some e) (λ (e : Delivery). same_id e.id id) (row_of shape run name).pending d
+    ∙ find-each (λ (e : Delivery). found_delivery e.id run.made ≡ Some e) (λ (e : Delivery). same_id e.id id)
+    (row_of shape run name).pending d
     (row_of-made shape run name (pending-made shape history)) found
 
 -- a delivery that is pending, and does not wait, is handled

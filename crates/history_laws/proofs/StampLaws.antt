@@ -68,14 +68,18 @@ line_of source line item of =
     (two.0, two.1, ap record_of two.2 ∙ one.2)
 
 -- what holds of each line holds of a line that is found
-pub line-each : (P : SourceLine → Type 0) (source : Source) (line : ℕ) (l : SourceLine) → All P source → slice_get source line ≡ Some l → P l
-line-each P source line l each at = subst P (get_or_from_slice_get source line l l at) (All-get_or P source line l (slice_get_within source line l at) each)
+pub line-each : (P : SourceLine → Type 0) (source : Source) (line : ℕ) (l : SourceLine) → All P source → slice_get source line ≡ Some l
+    → P l
+line-each P source line l each at = subst P (get_or_from_slice_get source line l l at)
+    (All-get_or P source line l (slice_get_within source line l at) each)
 
 -- an injected record has an input's timestamp
-pub injected-in_time : (source : Source) (line : ℕ) (item : Record) → IsSource source → option_map record_of (item_at source line) ≡ Some item → item.stamp ≤ INPUT_MAX
+pub injected-in_time : (source : Source) (line : ℕ) (item : Record) → IsSource source
+    → option_map record_of (item_at source line) ≡ Some item → item.stamp ≤ INPUT_MAX
 injected-in_time source line item rules of =
     let l = line_of source line item of in
-    subst (λ (r : Record). r.stamp ≤ INPUT_MAX) l.2 (line-each (λ (l : SourceLine). l.item.stamp ≤ INPUT_MAX) source line l.0 rules.stamps l.1)
+    subst (λ (r : Record). r.stamp ≤ INPUT_MAX) l.2
+    (line-each (λ (l : SourceLine). l.item.stamp ≤ INPUT_MAX) source line l.0 rules.stamps l.1)
 
 -- ---- timers that are set
 
@@ -88,7 +92,8 @@ with_timer-each : (P : Timer → Type 0) → ((t u : Timer) → t.time ≡ u.tim
     → P t → AllByRecursion P ts → AllByRecursion P (with_timer t ts)
 with_timer-each P again t [] new each = (new, tt)
 with_timer-each P again t (u ∷ us) new each =
-    elim (timer_cmp t u) as (λ r. timer_cmp t u ≡ r → AllByRecursion P (match_ordering r (t ∷ u ∷ us) (set_again t u ∷ us) (u ∷ with_timer t us))) [
+    elim (timer_cmp t u) as (λ r. timer_cmp t u ≡ r
+    → AllByRecursion P (match_ordering r (t ∷ u ∷ us) (set_again t u ∷ us) (u ∷ with_timer t us))) [
       | Less ↦ λ e. (new, each)
       | Equal ↦ λ e. (again t u (tie_time t u e) new each.0, each.1)
       | Greater ↦ λ e. (each.0, with_timer-each P again t us new each.1)
@@ -98,7 +103,8 @@ with_timer-each P again t (u ∷ us) new each =
 pub with_timers-each : (P : Timer → Type 0) → ((t u : Timer) → t.time ≡ u.time → P t → P u → P (set_again t u)) → (set ts : List Timer)
     → AllByRecursion P set → AllByRecursion P ts → AllByRecursion P (with_timers set ts)
 with_timers-each P again [] ts new each = each
-with_timers-each P again (t ∷ set) ts new each = with_timers-each P again set (with_timer t ts) new.1 (with_timer-each P again t ts new.0 each)
+with_timers-each P again (t ∷ set) ts new each = with_timers-each P again set (with_timer t ts) new.1
+    (with_timer-each P again t ts new.0 each)
 
 -- ---- what is in time
 
@@ -123,25 +129,31 @@ at-each P (y ∷ ys) Rattle.std.proofs.Common.zero x each at = subst P (some_sam
 at-each P (y ∷ ys) (Rattle.std.proofs.Common.suc n) x each at = at-each P ys n x each.1 at
 
 -- a handled record that waited, with what its computation's handler leaves of it
-pub handle-after : (case : CaseShape) (run : Run) (seq : ℕ) (row : RowName) (id : RecordId) (effects : Outcome) → IsRunnable case → AreInTime run
+pub handle-after : (case : CaseShape) (run : Run) (seq : ℕ) (row : RowName) (id : RecordId) (effects : Outcome) → IsRunnable case
+    → AreInTime run
     → (may : MayFollow case run (Handle seq row id effects)) → IsAfter may.delivery.item.stamp may.delivery.item.late effects
 handle-after case run seq row id effects runs in_time may =
-    let kind = was_some (λ (kind : Kind). effects_of_record kind row.key (row_of case.topology run row).state may.delivery.item) (kind_of case.topology row.part) effects may.does in
+    let kind = was_some (λ (kind : Kind). effects_of_record kind row.key (row_of case.topology run row).state may.delivery.item)
+    (kind_of case.topology row.part) effects may.does in
     subst (IsAfter may.delivery.item.stamp may.delivery.item.late) kind.2
-    (record-after kind.0 row.key (row_of case.topology run row).state may.delivery.item (kind-ranged case.topology row.part kind.0 runs.topology kind.1)
-    (find-each (λ (d : Delivery). d.item.stamp ≤ MAX_STAMP) (λ (d : Delivery). same_id d.id id) run.unhandled may.delivery in_time.waiting may.waits))
+    (record-after kind.0 row.key (row_of case.topology run row).state may.delivery.item
+    (kind-ranged case.topology row.part kind.0 runs.topology kind.1)
+    (find-each (λ (d : Delivery). d.item.stamp ≤ MAX_STAMP)
+    (λ (d : Delivery). same_id d.id id) run.unhandled may.delivery in_time.waiting may.waits))
 
 -- a timer that fires is in time
 pub fire-in_time : (case : CaseShape) (run : Run) (seq : ℕ) (row : RowName) (timer : Timer) (mark : ℕ) (effects : Outcome) → AreInTime run
     → MayFollow case run (Fire seq row timer mark effects) → timer.time ≤ MAX_STAMP
 fire-in_time case run seq row timer mark effects in_time may =
-    at-each (λ (t : Timer). t.time ≤ MAX_STAMP) (row_of case.topology run row).timers 0 timer (row_of-in_time case.topology run row in_time) may.least_timer
+    at-each (λ (t : Timer). t.time ≤ MAX_STAMP) (row_of case.topology run row).timers 0 timer
+    (row_of-in_time case.topology run row in_time) may.least_timer
 
 -- a fired timer, with what its computation's handler leaves of it
 pub fire-after : (case : CaseShape) (run : Run) (seq : ℕ) (row : RowName) (timer : Timer) (mark : ℕ) (effects : Outcome) → AreInTime run
     → MayFollow case run (Fire seq row timer mark effects) → IsAfter timer.time timer.late effects
 fire-after case run seq row timer mark effects in_time may =
-    let kind = was_some (λ (kind : Kind). effects_of_timer kind row.key (row_of case.topology run row).state timer) (kind_of case.topology row.part) effects may.does in
+    let kind = was_some (λ (kind : Kind). effects_of_timer kind row.key (row_of case.topology run row).state timer)
+    (kind_of case.topology row.part) effects may.does in
     subst (IsAfter timer.time timer.late) kind.2
     (timer-after kind.0 row.key (row_of case.topology run row).state timer (fire-in_time case run seq row timer mark effects in_time may))
 
@@ -150,7 +162,8 @@ made-in_time : (shape : Shape) (part : ℕ) (productions : List Production) (lat
     → AllByRecursion (λ (p : Production). p.stamp ≤ MAX_STAMP) productions
     → AllByRecursion (λ (d : Delivery). d.item.stamp ≤ MAX_STAMP) (deliveries_made shape part productions late commit)
 made-in_time shape part productions late commit in_time =
-    deliveries_made-each shape part productions late commit (λ s. ⊤) (λ (p : Production). p.stamp ≤ MAX_STAMP) (λ to item. item.stamp ≤ MAX_STAMP)
+    deliveries_made-each shape part productions late commit (λ s. ⊤) (λ (p : Production). p.stamp ≤ MAX_STAMP)
+    (λ to item. item.stamp ≤ MAX_STAMP)
     (λ s p _ in_time. in_time) (each-all (λ s. ⊤) (λ s. tt) (consumers_of shape part)) in_time
 
 -- what an entry makes is in time
@@ -159,27 +172,32 @@ sent-in_time : (case : CaseShape) (run : Run) (entry : Entry) → IsRunnable cas
 sent-in_time case run (Claim worker interval) runs in_time may = tt
 sent-in_time case run (Inject seq part line item) runs in_time may =
     let input = injected-in_time (source_of case part) line item (source_of-source case part runs) may.of_line in
-    made-in_time case.topology part (record { key = item.key; stamp = item.stamp; value = item.value } ∷ []) item.late run.next (omega (arith, input), tt)
+    made-in_time case.topology part (record { key = item.key; stamp = item.stamp; value = item.value } ∷ []) item.late run.next
+    (omega (arith, input), tt)
 sent-in_time case run (Handle seq row id effects) runs in_time may =
     made-in_time case.topology row.part effects.productions _ run.next
-    (each-weaker (IsProductionAfter may.delivery.item.stamp) (λ (p : Production). p.stamp ≤ MAX_STAMP) (λ p (after : IsProductionAfter may.delivery.item.stamp p). after.in_time)
+    (each-weaker (IsProductionAfter may.delivery.item.stamp) (λ (p : Production). p.stamp ≤ MAX_STAMP)
+    (λ p (after : IsProductionAfter may.delivery.item.stamp p). after.in_time)
     effects.productions (handle-after case run seq row id effects runs in_time may).productions)
 sent-in_time case run (Fire seq row timer mark effects) runs in_time may =
     made-in_time case.topology row.part effects.productions _ run.next
-    (each-weaker (IsProductionAfter timer.time) (λ (p : Production). p.stamp ≤ MAX_STAMP) (λ p (after : IsProductionAfter timer.time p). after.in_time)
+    (each-weaker (IsProductionAfter timer.time) (λ (p : Production). p.stamp ≤ MAX_STAMP)
+    (λ p (after : IsProductionAfter timer.time p). after.in_time)
     effects.productions (fire-after case run seq row timer mark effects in_time may).productions)
 sent-in_time case run (Ack seq row id) runs in_time may = tt
 sent-in_time case run (Purge seq row floor) runs in_time may = tt
 
 -- the timers that an entry leaves in its row are in time
-timers-in_time : (case : CaseShape) (run : Run) (entry : Entry) (sent : List Delivery) (row : Contents) → IsRunnable case → AreInTime run → MayFollow case run entry
+timers-in_time : (case : CaseShape) (run : Run) (entry : Entry) (sent : List Delivery) (row : Contents) → IsRunnable case → AreInTime run
+    → MayFollow case run entry
     → InTime row.timers → InTime (changed entry sent row).timers
 timers-in_time case run (Claim worker interval) sent row runs in_time may old = old
 timers-in_time case run (Inject seq part line item) sent row runs in_time may old = old
 timers-in_time case run (Handle seq name id effects) sent row runs in_time may old =
     with_timers-each (λ (t : Timer). t.time ≤ MAX_STAMP) (λ t u same p q. q) effects.timers row.timers
     (each-weaker (IsTimerAfter may.delivery.item.stamp may.delivery.item.late) (λ (t : Timer). t.time ≤ MAX_STAMP)
-    (λ t (after : IsTimerAfter may.delivery.item.stamp may.delivery.item.late t). after.in_time) effects.timers (handle-after case run seq name id effects runs in_time may).timers) old
+    (λ t (after : IsTimerAfter may.delivery.item.stamp may.delivery.item.late t). after.in_time) effects.timers
+    (handle-after case run seq name id effects runs in_time may).timers) old
 timers-in_time case run (Fire seq name timer mark effects) sent row runs in_time may old =
     each-filter (λ (t : Timer). t.time ≤ MAX_STAMP) (λ t. not (is_timer timer.tag timer.time t)) row.timers old
 timers-in_time case run (Ack seq name id) sent row runs in_time may old = old
@@ -193,13 +211,18 @@ AreInTime-followed case run entry runs in_time may =
       made = each-append (λ (d : Delivery). d.item.stamp ≤ MAX_STAMP) run.made _ in_time.made sent;
       waiting = each-append (λ (d : Delivery). d.item.stamp ≤ MAX_STAMP) (still_unhandled entry run.unhandled) _
           (subst (AllByRecursion (λ (d : Delivery). d.item.stamp ≤ MAX_STAMP)) (sym (still_unhandled-filter entry run.unhandled))
-          (each-filter (λ (d : Delivery). d.item.stamp ≤ MAX_STAMP) (λ (d : Delivery). not (handles d.id entry)) run.unhandled in_time.waiting)) sent;
-      timers = each_row-followed case.topology run entry (λ (c : Contents). InTime c.timers) (λ (c : Contents). InTime c.timers) in_time.timers (λ c p. p)
-          (λ name written. timers-in_time case run entry (deliveries_of case.topology run.made run.next entry) (row_of case.topology run name) runs in_time may
+          (each-filter (λ (d : Delivery). d.item.stamp ≤ MAX_STAMP)
+          (λ (d : Delivery). not (handles d.id entry)) run.unhandled in_time.waiting)) sent;
+      timers = each_row-followed case.topology run entry (λ (c : Contents). InTime c.timers)
+          (λ (c : Contents). InTime c.timers) in_time.timers (λ c p. p)
+          (λ name written. timers-in_time case run entry (deliveries_of case.topology run.made run.next entry)
+          (row_of case.topology run name) runs in_time may
           (row_of-in_time case.topology run name in_time));
     }
 
 -- after each legal history all is in time
-pub legal-in_time : (case : CaseShape) (history : List Entry) → IsRunnable case → IsLegal case history → AreInTime (run_of case.topology history)
-legal-in_time case history runs = along_history case (λ done run. AreInTime run) (λ done run entry in_time may. AreInTime-followed case run entry runs in_time may)
+pub legal-in_time : (case : CaseShape) (history : List Entry) → IsRunnable case → IsLegal case history
+    → AreInTime (run_of case.topology history)
+legal-in_time case history runs = along_history case (λ done run. AreInTime run)
+    (λ done run entry in_time may. AreInTime-followed case run entry runs in_time may)
     (record { made = tt; waiting = tt; timers = tt }) history

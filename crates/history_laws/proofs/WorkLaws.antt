@@ -65,10 +65,12 @@ feeding-injector : (case : CaseShape) (run : Run) (x : ℕ) (Work : ℕ → Type
 feeding-injector case run x Work part is from = subst (λ b. MatchBool b (x ≤ source_mark case run part) (Work part)) is from
 
 -- a feeding computation has no older work
-feeding-computation : (case : CaseShape) (run : Run) (x : ℕ) (Work : ℕ → Type 0) (part : ℕ) (kind : Kind) → kind_of case.topology part ≡ Some kind
+feeding-computation : (case : CaseShape) (run : Run) (x : ℕ) (Work : ℕ → Type 0) (part : ℕ) (kind : Kind)
+    → kind_of case.topology part ≡ Some kind
     → FeedsFrom case run x Work part → Work part
 feeding-computation case run x Work part kind of from =
-    elim (is_injector case.topology part) as (λ b. is_injector case.topology part ≡ b → MatchBool b (x ≤ source_mark case run part) (Work part) → Work part) [
+    elim (is_injector case.topology part) as (λ b. is_injector case.topology part ≡ b
+    → MatchBool b (x ≤ source_mark case run part) (Work part) → Work part) [
       | true ↦ λ e f. absurd (injector-no_kind case.topology part kind e of)
       | false ↦ λ e f. f
     ] refl from
@@ -81,10 +83,12 @@ made-from shape part productions late commit x reader there from =
     deliveries_made-each shape part productions late commit (λ (s : Subscription). Contains (feeds_of shape s.to) part)
     (λ (p : Production). Contains (feeds_of shape reader) part → not late ≡ true → x ≤ p.stamp)
     (λ (to : RowName) (item : Record). ((to.part == reader) && not item.late) ≡ true → x ≤ item.stamp)
-    (λ s p fed q e. q (subst (λ n. Contains (feeds_of shape n) part) (eqb-true s.to reader (first_so (s.to == reader) (not late) e)) fed) (second_so (s.to == reader) (not late) e))
+    (λ s p fed q e. q (subst (λ n. Contains (feeds_of shape n) part) (eqb-true s.to reader (first_so (s.to == reader) (not late) e)) fed)
+    (second_so (s.to == reader) (not late) e))
     (consumers-fed shape part there) (each productions from)
   where
-    each : (ps : List Production) → (Contains (feeds_of shape reader) part → not late ≡ true → AllByRecursion (λ (p : Production). x ≤ p.stamp) ps)
+    each : (ps : List Production) → (Contains (feeds_of shape reader) part → not late ≡ true
+        → AllByRecursion (λ (p : Production). x ≤ p.stamp) ps)
         → AllByRecursion (λ (p : Production). Contains (feeds_of shape reader) part → not late ≡ true → x ≤ p.stamp) ps
     each [] from = tt
     each (p ∷ ps) from = ((λ fed on_time. (from fed on_time).0), each ps (λ fed on_time. (from fed on_time).1))
@@ -97,20 +101,23 @@ productions-from x stamp productions from each = each-weaker (IsProductionAfter 
 
 -- the delivery that a row handles, where it is not late, is no older than the work of the row's part
 handled-from : (case : CaseShape) (run : Run) (x : ℕ) (seq : ℕ) (row : RowName) (id : RecordId) (effects : Outcome)
-    → (may : MayFollow case run (Handle seq row id effects)) → IsWorkFrom case.topology run x row.part → not may.delivery.item.late ≡ true → x ≤ may.delivery.item.stamp
+    → (may : MayFollow case run (Handle seq row id effects)) → IsWorkFrom case.topology run x row.part
+    → not may.delivery.item.late ≡ true → x ≤ may.delivery.item.stamp
 handled-from case run x seq row id effects may work on_time =
     let d = may.delivery in
     find-each (WaitsFrom x row.part) (λ (e : Delivery). same_id e.id id) run.unhandled d work.waiting may.waits
     (ap (λ b. b && not d.item.late) (eq-eqb d.to.part row.part (ap (λ (r : RowName). r.part) may.to_row)) ∙ on_time)
 
 -- whether the cause of a handled record is late
-pub handled-late : (case : CaseShape) (history : List Entry) (run : Run) (seq : ℕ) (row : RowName) (id : RecordId) (effects : Outcome) → AreIds history run
+pub handled-late : (case : CaseShape) (history : List Entry) (run : Run) (seq : ℕ) (row : RowName) (id : RecordId) (effects : Outcome)
+    → AreIds history run
     → (may : MayFollow case run (Handle seq row id effects)) → late_cause run.made (Handle seq row id effects) ≡ may.delivery.item.late
 handled-late case history run seq row id effects ids may =
     ap (λ o. option_map_or (λ (d : Delivery). d.item.late) o false) (waits_as_made history run id may.delivery ids may.waits)
 
 -- a record that an injector injects, where it is not late, is no older than the watermark that its file states
-pub injected-from : (case : CaseShape) (run : Run) (seq part line : ℕ) (item : Record) → IsRunnable case → (may : MayFollow case run (Inject seq part line item))
+pub injected-from : (case : CaseShape) (run : Run) (seq part line : ℕ) (item : Record) → IsRunnable case
+    → (may : MayFollow case run (Inject seq part line item))
     → not item.late ≡ true → source_mark case run part ≤ item.stamp
 injected-from case run seq part line item runs may on_time =
     let source = source_of case part in
@@ -128,13 +135,15 @@ injected-from case run seq part line item runs may on_time =
     off false e = refl
 
 -- what an entry makes for a part is no older than a bound of what feeds the part
-sent-from : (case : CaseShape) (history : List Entry) (run : Run) (entry : Entry) (x reader : ℕ) → IsRunnable case → AreIds history run → AreInTime run → MayFollow case run entry
+sent-from : (case : CaseShape) (history : List Entry) (run : Run) (entry : Entry) (x reader : ℕ) → IsRunnable case → AreIds history run
+    → AreInTime run → MayFollow case run entry
     → AllByRecursion (FeedsFrom case run x (IsWorkFrom case.topology run x)) (feeds_of case.topology reader)
     → AllByRecursion (WaitsFrom x reader) (deliveries_of case.topology run.made run.next entry)
 sent-from case history run (Claim worker interval) x reader runs ids in_time may feeds = tt
 sent-from case history run (Inject seq part line item) x reader runs ids in_time may feeds =
     let below = Rattle.std.proofs.lemmas.Bool.ltb-true part (injectors_of case.topology) may.injector in
-    made-from case.topology part (record { key = item.key; stamp = item.stamp; value = item.value } ∷ []) item.late run.next x reader (omega (arith, below))
+    made-from case.topology part (record { key = item.key; stamp = item.stamp; value = item.value } ∷ []) item.late run.next x reader
+    (omega (arith, below))
     (λ fed on_time.
     let from = feeding-injector case run x (IsWorkFrom case.topology run x) part may.injector
     (All-contains (FeedsFrom case run x (IsWorkFrom case.topology run x)) (feeds_of case.topology reader) part
@@ -142,17 +151,21 @@ sent-from case history run (Inject seq part line item) x reader runs ids in_time
     let later = injected-from case run seq part line item runs may on_time in
     (omega (arith, from, later), tt))
 sent-from case history run (Handle seq row id effects) x reader runs ids in_time may feeds =
-    let kind = was_some (λ (kind : Kind). effects_of_record kind row.key (row_of case.topology run row).state may.delivery.item) (kind_of case.topology row.part) effects may.does in
-    made-from case.topology row.part effects.productions (late_cause run.made (Handle seq row id effects)) run.next x reader (kind-there case.topology row.part kind.0 kind.1)
+    let kind = was_some (λ (kind : Kind). effects_of_record kind row.key (row_of case.topology run row).state may.delivery.item)
+    (kind_of case.topology row.part) effects may.does in
+    made-from case.topology row.part effects.productions (late_cause run.made (Handle seq row id effects)) run.next x reader
+    (kind-there case.topology row.part kind.0 kind.1)
     (λ fed on_time.
     let work = feeding-computation case run x (IsWorkFrom case.topology run x) row.part kind.0 kind.1
     (All-contains (FeedsFrom case run x (IsWorkFrom case.topology run x)) (feeds_of case.topology reader) row.part
     (All-from_recursion (FeedsFrom case run x (IsWorkFrom case.topology run x)) (feeds_of case.topology reader) feeds) fed) in
     productions-from x may.delivery.item.stamp effects.productions
-    (handled-from case run x seq row id effects may work (sym (ap not (handled-late case history run seq row id effects ids may)) ∙ on_time))
+    (handled-from case run x seq row id effects may work
+    (sym (ap not (handled-late case history run seq row id effects ids may)) ∙ on_time))
     (handle-after case run seq row id effects runs in_time may).productions)
 sent-from case history run (Fire seq row timer mark effects) x reader runs ids in_time may feeds =
-    let kind = was_some (λ (kind : Kind). effects_of_timer kind row.key (row_of case.topology run row).state timer) (kind_of case.topology row.part) effects may.does in
+    let kind = was_some (λ (kind : Kind). effects_of_timer kind row.key (row_of case.topology run row).state timer)
+    (kind_of case.topology row.part) effects may.does in
     made-from case.topology row.part effects.productions timer.late run.next x reader (kind-there case.topology row.part kind.0 kind.1)
     (λ fed on_time.
     let work = feeding-computation case run x (IsWorkFrom case.topology run x) row.part kind.0 kind.1
@@ -174,13 +187,15 @@ set_again-from x t u same one other = by_late t.late u.late one other
     by_late true true one other e = cc
 
 -- the timers that an entry leaves in a row of a part are due from a bound of the part's work
-timers-from : (case : CaseShape) (run : Run) (entry : Entry) (sent : List Delivery) (x : ℕ) (name : RowName) → IsRunnable case → AreInTime run → MayFollow case run entry
+timers-from : (case : CaseShape) (run : Run) (entry : Entry) (sent : List Delivery) (x : ℕ) (name : RowName) → IsRunnable case
+    → AreInTime run → MayFollow case run entry
     → row_written entry ≡ Some name → IsWorkFrom case.topology run x name.part
     → AllByRecursion (DueFrom x) (changed entry sent (row_of case.topology run name)).timers
 timers-from case run (Claim worker interval) sent x name runs in_time may written work = work.timers name refl
 timers-from case run (Inject seq part line item) sent x name runs in_time may written work = work.timers name refl
 timers-from case run (Handle seq row id effects) sent x name runs in_time may written work =
-    let here : IsWorkFrom case.topology run x row.part = subst (λ (n : RowName). IsWorkFrom case.topology run x n.part) (sym (some_same row name written)) work in
+    let here : IsWorkFrom case.topology run x row.part = subst (λ (n : RowName). IsWorkFrom case.topology run x n.part)
+    (sym (some_same row name written)) work in
     with_timers-each (DueFrom x) (set_again-from x) effects.timers (row_of case.topology run name).timers
     (each-weaker (IsTimerAfter may.delivery.item.stamp may.delivery.item.late) (DueFrom x)
     (λ t (after : IsTimerAfter may.delivery.item.stamp may.delivery.item.late t) on_time.
@@ -194,7 +209,8 @@ timers-from case run (Ack seq row id) sent x name runs in_time may written work 
 timers-from case run (Purge seq row floor) sent x name runs in_time may written work = work.timers name refl
 
 -- one more entry makes no older work for a part, where what feeds the part has none
-pub IsWorkFrom-followed : (case : CaseShape) (history : List Entry) (run : Run) (entry : Entry) (x part : ℕ) → IsRunnable case → AreIds history run → AreInTime run → MayFollow case run entry
+pub IsWorkFrom-followed : (case : CaseShape) (history : List Entry) (run : Run) (entry : Entry) (x part : ℕ) → IsRunnable case
+    → AreIds history run → AreInTime run → MayFollow case run entry
     → IsWorkFrom case.topology run x part
     → AllByRecursion (FeedsFrom case run x (IsWorkFrom case.topology run x)) (feeds_of case.topology part)
     → IsWorkFrom case.topology (followed case.topology run entry) x part
@@ -211,7 +227,8 @@ IsWorkFrom-followed case history run entry x part runs ids in_time may work feed
 -- ---- the watermark that a source states
 
 -- the line at a place, in the list of what lines state
-stated-at : (lines : Source) (n : ℕ) (l : SourceLine) (d : ℕ) → slice_get lines n ≡ Some l → Rattle.std.proofs.Common.get_or (map (λ (l : SourceLine). l.stated) lines) n d ≡ l.stated
+stated-at : (lines : Source) (n : ℕ) (l : SourceLine) (d : ℕ) → slice_get lines n ≡ Some l
+    → Rattle.std.proofs.Common.get_or (map (λ (l : SourceLine). l.stated) lines) n d ≡ l.stated
 stated-at [] n l d at = absurd (none_some l at)
 stated-at (k ∷ ks) zero l d at = ap (λ (l : SourceLine). l.stated) (some_same k l at)
 stated-at (k ∷ ks) (suc n) l d at = stated-at ks n l d at
@@ -229,14 +246,16 @@ stated_at-rises source n rules = by_next (slice_get source (n + 1)) refl
     both next at None now =
         let inside = Rattle.std.proofs.lemmas.Option.slice_get_within source (n + 1) next at in
         let less : n < Rattle.std.proofs.Common.length source = omega (arith, inside) in
-        absurd (none_some (Rattle.std.proofs.Common.get_or source n next) (sym now ∙ Rattle.std.proofs.lemmas.Option.slice_get-get_or source n next less))
+        absurd (none_some (Rattle.std.proofs.Common.get_or source n next)
+        (sym now ∙ Rattle.std.proofs.lemmas.Option.slice_get-get_or source n next less))
     both next at (Some l) now =
         let inside = Rattle.std.proofs.lemmas.Option.slice_get_within source (n + 1) next at in
         let same_length = Rattle.std.proofs.lemmas.List.length-map source (λ (l : SourceLine). l.stated) in
         let rises = rules.rising n (n + 1) 0 (omega arith) (omega (arith, inside, same_length)) in
         omega (arith, rises, stated-at source n l 0 now, stated-at source (n + 1) next 0 at)
 
-    by_next : (o : Option SourceLine) → slice_get source (n + 1) ≡ o → stated_at source n ≤ option_map_or (λ (l : SourceLine). l.stated) o END
+    by_next : (o : Option SourceLine) → slice_get source (n + 1) ≡ o
+        → stated_at source n ≤ option_map_or (λ (l : SourceLine). l.stated) o END
     by_next None at = high (slice_get source n) refl
     by_next (Some next) at = both next at (slice_get source n) refl
 
@@ -252,22 +271,28 @@ advanced-next (states.Spike late held known) = inl refl
 advanced-next (states.Pass late) = inl refl
 
 -- an entry takes an injector one line further, or leaves its cursor
-changed-cursor : (case : CaseShape) (run : Run) (entry : Entry) (sent : List Delivery) (name : RowName) → MayFollow case run entry → is_injector case.topology name.part ≡ true
+changed-cursor : (case : CaseShape) (run : Run) (entry : Entry) (sent : List Delivery) (name : RowName) → MayFollow case run entry
+    → is_injector case.topology name.part ≡ true
     → row_written entry ≡ Some name
     → IsNextOr (cursor_in (changed entry sent (row_of case.topology run name)).state) (cursor_in (row_of case.topology run name).state)
 changed-cursor case run (Claim worker interval) sent name may is written = inl refl
 changed-cursor case run (Inject seq part line item) sent name may is written = advanced-next (row_of case.topology run name).state
 changed-cursor case run (Handle seq row id effects) sent name may is written =
-    let kind = was_some (λ (kind : Kind). effects_of_record kind row.key (row_of case.topology run row).state may.delivery.item) (kind_of case.topology row.part) effects may.does in
-    absurd (injector-no_kind case.topology row.part kind.0 (subst (λ (n : RowName). is_injector case.topology n.part ≡ true) (sym (some_same row name written)) is) kind.1)
+    let kind = was_some (λ (kind : Kind). effects_of_record kind row.key (row_of case.topology run row).state may.delivery.item)
+    (kind_of case.topology row.part) effects may.does in
+    absurd (injector-no_kind case.topology row.part kind.0
+    (subst (λ (n : RowName). is_injector case.topology n.part ≡ true) (sym (some_same row name written)) is) kind.1)
 changed-cursor case run (Fire seq row timer mark effects) sent name may is written =
-    let kind = was_some (λ (kind : Kind). effects_of_timer kind row.key (row_of case.topology run row).state timer) (kind_of case.topology row.part) effects may.does in
-    absurd (injector-no_kind case.topology row.part kind.0 (subst (λ (n : RowName). is_injector case.topology n.part ≡ true) (sym (some_same row name written)) is) kind.1)
+    let kind = was_some (λ (kind : Kind). effects_of_timer kind row.key (row_of case.topology run row).state timer)
+    (kind_of case.topology row.part) effects may.does in
+    absurd (injector-no_kind case.topology row.part kind.0
+    (subst (λ (n : RowName). is_injector case.topology n.part ≡ true) (sym (some_same row name written)) is) kind.1)
 changed-cursor case run (Ack seq row id) sent name may is written = inl refl
 changed-cursor case run (Purge seq row floor) sent name may is written = inl refl
 
 -- one more entry makes no injector state an earlier watermark
-pub source_mark-followed : (case : CaseShape) (run : Run) (entry : Entry) (part : ℕ) → IsRunnable case → MayFollow case run entry → is_injector case.topology part ≡ true
+pub source_mark-followed : (case : CaseShape) (run : Run) (entry : Entry) (part : ℕ) → IsRunnable case → MayFollow case run entry
+    → is_injector case.topology part ≡ true
     → source_mark case run part ≤ source_mark case (followed case.topology run entry) part
 source_mark-followed case run entry part runs may is =
     let name : RowName = record { part = part; key = [] } in
@@ -276,8 +301,10 @@ source_mark-followed case run entry part runs may is =
   where
     by_case : IsNextOr (cursor_of case (followed case.topology run entry) part) (cursor_of case run part)
         → source_mark case run part ≤ source_mark case (followed case.topology run entry) part
-    by_case (inl same) = let marks : source_mark case run part ≡ source_mark case (followed case.topology run entry) part = ap (stated_at (source_of case part)) (sym same) in omega (arith, marks)
+    by_case (inl same) = let marks : source_mark case run part ≡ source_mark case (followed case.topology run entry) part = ap
+        (stated_at (source_of case part)) (sym same) in omega (arith, marks)
     by_case (inr next) =
-        let marks : stated_at (source_of case part) (cursor_of case run part + 1) ≡ source_mark case (followed case.topology run entry) part = ap (stated_at (source_of case part)) (sym next) in
+        let marks : stated_at (source_of case part) (cursor_of case run part + 1) ≡ source_mark case
+        (followed case.topology run entry) part = ap (stated_at (source_of case part)) (sym next) in
         let rises = stated_at-rises (source_of case part) (cursor_of case run part) (source_of-source case part runs) in
         omega (arith, marks, rises)

@@ -8,6 +8,7 @@ use Rattle.history_laws.proofs.ids.ids_tell_what_waits.Goals as goal
 pub returns : goal.returns
 returns c = record {
   waits = legal-tells;
-  sent = λ case history legal. All-from_recursion (IsSentBy case.topology (run_of case.topology history)) (run_of case.topology history).unhandled
+  sent = λ case history legal. All-from_recursion (IsSentBy case.topology (run_of case.topology history))
+      (run_of case.topology history).unhandled
       (legal-sent case history legal).each;
 }

@@ -8,6 +8,8 @@ use Rattle.history_laws.proofs.once.finished_runs_handled_each_record.Goals as g
 
 pub returns : goal.returns
 returns c = record {
-  handled = λ case history legal none. All-from_recursion (λ (d : Delivery). is_handled d.id history ≡ true) (run_of case.topology history).made (done-handled case history legal none);
-  acknowledged = λ case history legal finished. All-from_recursion (λ (d : Delivery). is_acknowledged d.id history ≡ true) (run_of case.topology history).made (finished-acknowledged case history legal finished);
+  handled = λ case history legal none. All-from_recursion (λ (d : Delivery). is_handled d.id history ≡ true)
+      (run_of case.topology history).made (done-handled case history legal none);
+  acknowledged = λ case history legal finished. All-from_recursion (λ (d : Delivery). is_acknowledged d.id history ≡ true)
+      (run_of case.topology history).made (finished-acknowledged case history legal finished);
 }

@@ -8,7 +8,8 @@ use Rattle.history_laws.proofs.runnable.case_is_runnable.Goals as goal
 
 -- one more source keeps the rules
 pub loop-items-preserved : goal.loop-items-preserved
-loop-items-preserved c = All-more IsSource c.as_slice-items-items.result.now c.loop-items.items-index c.items-item.result (omega (arith, c.loop-items-test.true))
+loop-items-preserved c = All-more IsSource c.as_slice-items-items.result.now c.loop-items.items-index c.items-item.result
+    (omega (arith, c.loop-items-test.true))
     c.loop-items.invariant (subst IsSource c.items-item.is c.count-lines.ensures.lawful)
 
 -- all of them do
@@ -17,6 +18,7 @@ returns c = record {
   runnable = subst IsRunnable c.case.view_is (record {
     topology = c.parts-parts.ensures.rules;
     sources = subst (All IsSource) c.as_slice-items-items.ensures.elements
-        (subst (All IsSource) (take_all c.loop-items.items-index c.as_slice-items-items.result.now (omega (arith, c.loop-items-test.false))) c.loop-items.invariant);
+        (subst (All IsSource) (take_all c.loop-items.items-index c.as_slice-items-items.result.now
+        (omega (arith, c.loop-items-test.false))) c.loop-items.invariant);
   });
 }

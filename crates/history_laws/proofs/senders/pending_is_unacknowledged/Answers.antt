@@ -10,7 +10,8 @@ use Rattle.history_laws.proofs.senders.pending_is_unacknowledged.Goals as goal
 
 pub returns : goal.returns
 returns c = record {
-  pending = λ case history legal. All-from_recursion (λ (d : Delivery). is_acknowledged d.id history ≡ false → IsSentBy case.topology (run_of case.topology history) d)
+  pending = λ case history legal. All-from_recursion
+      (λ (d : Delivery). is_acknowledged d.id history ≡ false → IsSentBy case.topology (run_of case.topology history) d)
       (run_of case.topology history).made (legal-acknowledged case history legal).sent;
   unacknowledged = λ case history name legal. All-from_recursion (λ (d : Delivery). is_acknowledged d.id history ≡ false)
       (row_of case.topology (run_of case.topology history) name).pending ((legal-acknowledged case history legal).left name);

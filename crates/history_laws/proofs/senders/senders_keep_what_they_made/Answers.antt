@@ -8,6 +8,7 @@ use Rattle.history_laws.proofs.senders.senders_keep_what_they_made.Goals as goal
 pub returns : goal.returns
 returns c = record {
   made = pending-as_made;
-  on_row = λ shape history name. All-from_recursion (IsMadeOn history name) (row_of shape (run_of shape history) name).pending ((pending-on shape history).each name);
+  on_row = λ shape history name. All-from_recursion (IsMadeOn history name) (row_of shape (run_of shape history) name).pending
+      ((pending-on shape history).each name);
   one_sender = one_sender;
 }

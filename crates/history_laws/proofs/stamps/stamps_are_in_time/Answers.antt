@@ -13,6 +13,7 @@ returns c = record {
       let in_time = legal-in_time case history runs legal in
       let run = run_of case.topology history in record {
         made = All-from_recursion (λ (d : Delivery). d.item.stamp ≤ MAX_STAMP) run.made in_time.made;
-        timers = λ name. All-from_recursion (λ (t : Timer). t.time ≤ MAX_STAMP) (row_of case.topology run name).timers (row_of-in_time case.topology run name in_time);
+        timers = λ name. All-from_recursion (λ (t : Timer). t.time ≤ MAX_STAMP) (row_of case.topology run name).timers
+            (row_of-in_time case.topology run name in_time);
       };
 }

@@ -10,7 +10,9 @@ pub returns : goal.returns
 returns c = record {
   written = λ case history entry name written.
       subst (λ (r : Run). unfinished case r + work_in case name (row_of case.topology (run_of case.topology history) name)
-      ≡ unfinished case (run_of case.topology history) + work_in case name (row_of case.topology r name)) (sym (run_of-push case.topology history entry))
+      ≡ unfinished case (run_of case.topology history) + work_in case name (row_of case.topology r name))
+      (sym (run_of-push case.topology history entry))
       (unfinished-followed case (run_of case.topology history) entry name (rows-in_order case.topology history) written);
-  claimed = λ case history entry none. ap (unfinished case) (run_of-push case.topology history entry) ∙ unfinished-kept case (run_of case.topology history) entry none;
+  claimed = λ case history entry none. ap (unfinished case) (run_of-push case.topology history entry)
+      ∙ unfinished-kept case (run_of case.topology history) entry none;
 }
