@@ -54,7 +54,7 @@ abbrev pub unfinished : CaseShape → Run → ℕ
 unfinished case run =
     length (all_pending run) + length (all_timers run) + length (injectors_left case run)
 
--- no work is left: nothing that was made waits for an acknowledgement, no timer is set, and each line is injected
+-- no work is left: nothing that was made waits for an acknowledgement, no timer is set, and no line is left
 abbrev pub IsFinished : CaseShape → Run → Type 0
 IsFinished case run = unfinished case run ≡ 0
 

@@ -1,9 +1,9 @@
 //! Histories: which are legal, what stands after one, and what is written of it.
 //!
 //! Stands on `topology`, `injector`, `computations` and `row_parts`. Public contract: `make`,
-//! `emissions`, `first_row` and `result_text` answer what the definitions say. Definitions: `specs/Lib.antt` names
-//! them in the order of reading; `specs/Legal.antt` says which histories are legal, and
-//! `specs/Printing.antt` which can be printed.
+//! `emissions`, `first_row` and `result_text` answer what the definitions say. Definitions:
+//! `specs/Lib.antt` names them in the order of reading; `specs/Legal.antt` says which histories are
+//! legal, and `specs/Printing.antt` which can be printed.
 #![tactic(auto)]
 
 mod case;

@@ -1,5 +1,5 @@
 //! What no clause says: that ample memory is enough. The texts are tested at the top.
-use crate::{Case, History, emissions, make, result_text};
+use crate::{Case, History, emissions, first_row, make, result_text};
 use injector::{Items, ItemsList};
 use mw_types::{Entry, Key, KeyRefusal, Production, Record};
 use std::alloc::Global;
@@ -64,6 +64,32 @@ fn empty_case(alloc: Global) -> Result<Case, Fail> {
     let mut all = ItemsList::new(alloc);
     all.push(Items::new(alloc))?;
     Ok(Case::of(alloc, topology, all)?)
+}
+
+#[test]
+fn a_row_begins_fresh(rt: HostRuntime) -> Result<(), Fail> {
+    let alloc = rt.alloc();
+    let case = empty_case(alloc)?;
+    let row = first_row(alloc, &case, 1);
+    assert!(rt; row.timers.is_empty());
+    assert!(rt; row.pending.is_empty());
+    assert!(rt; row.seen.is_empty());
+    Ok(())
+}
+
+#[test]
+fn an_injected_record_is_produced_as_it_is(rt: HostRuntime) -> Result<(), Fail> {
+    let alloc = rt.alloc();
+    let item = Record {
+        key: Key::of(alloc, "a")?,
+        stamp: 10,
+        value: 3,
+        late: false,
+    };
+    let production = crate::production(alloc, &item)?;
+    assert_eq!(rt; production.stamp, 10);
+    assert_eq!(rt; production.value, 3);
+    Ok(())
 }
 
 #[test]
