@@ -1,3 +1,4 @@
 pub mod OrderLaws
-pub mod Pairs
-pub mod Sides
+pub mod CauseLaws
+mod Pairs
+mod Sides

@@ -12,9 +12,9 @@ pub enum Kind {
     },
     /// Tells where a total is far above the ones before it.
     Spike {
-        /// How many totals before it are compared, from 1 to 64.
+        /// With how many totals before it a total is compared, from 1 to 64.
         last: u32,
-        /// How many times their mean is far above it, from 1 to 1,000.
+        /// Above how many times their mean a total is a spike, from 1 to 1,000.
         times: u32,
     },
     /// Produces each record again.
