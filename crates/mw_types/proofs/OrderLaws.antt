@@ -1,12 +1,10 @@
 -- The orders of keys, ids, rows and timers are total, and tell all of their things apart.
-use Rattle.std.proofs.Common.{◌≡◌, ℕ, List}
 use Rattle.std.specs.Cmp.{IsTotalOrder}
 use Rattle.std.specs.Cmp.{then_total, on_total, nat_cmp_total}
 use Rattle.std.specs.Cmp.Lexicographic.{nat_list_cmp_total}
-use Rattle.std.proofs.lemmas.Map.Lookups.{CmpEqualImpliesEq, exact_unsigned, exact_bytes}
 use Rattle.mw_types.specs.declared.identity.RecordId.{RecordId}
 use Rattle.mw_types.specs.declared.identity.RowName.{RowName}
-use Rattle.mw_types.specs.Orders.{key_cmp, id_cmp, row_cmp, timer_cmp}
+use Rattle.mw_types.specs.Orders.{key_cmp, id_cmp, row_cmp}
 
 -- keys are in a total order
 pub key_cmp-total : IsTotalOrder key_cmp

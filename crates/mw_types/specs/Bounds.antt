@@ -1,5 +1,5 @@
 -- What the numbers and lists of a state may be. Own.
-use Rattle.std.specs.Prelude.{ℕ, List, length, map, All, ◌<◌, ◌≤◌, ◌^◌}
+use Rattle.std.specs.Prelude.{List, length, map, All, ◌<◌, ◌≤◌, ◌^◌}
 use Rattle.std.specs.Ordering.{nat_cmp}
 use Rattle.std.specs.List.Sorted.{IsStrictlySortedBy}
 use Rattle.mw_types.specs.declared.TheConstants.{MAX_STAMP}

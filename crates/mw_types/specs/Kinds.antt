@@ -1,5 +1,5 @@
 -- Which numbers a kind of computation may have. Own.
-use Rattle.std.specs.Prelude.{ℕ, ◌≤◌, ◌^◌, ⊤}
+use Rattle.std.specs.Prelude.{◌≤◌, ◌^◌, ⊤}
 use Rattle.mw_types.specs.declared.kind.Kind.{Kind}
 use Rattle.mw_types.specs.declared.kind.Kind.TheVariants.{Count, Spike, Pass}
 

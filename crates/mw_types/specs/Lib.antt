@@ -6,3 +6,4 @@ pub mod Causes
 pub mod Trees
 pub mod Lists
 pub mod Texts
+pub mod PrintedIds

@@ -1,5 +1,5 @@
 -- What a handler leaves. Own.
-use Rattle.std.specs.Prelude.{ℕ, List, All, ◌≤◌}
+use Rattle.std.specs.Prelude.{List, All, ◌≤◌}
 use Rattle.mw_types.specs.declared.TheConstants.{MAX_STAMP}
 use Rattle.mw_types.specs.declared.state.State.{State}
 use Rattle.mw_types.specs.declared.timer.Timer.{Timer}

@@ -1,8 +1,13 @@
 //! The names of records and rows.
+ghost use Rattle.std.specs.Prelude.{◌≡◌, ◌<◌, ◌^◌, IfOk};
+ghost use Rattle.mw_types.specs.PrintedIds.{printed_id};
+
 use crate::key::Key;
 use crate::memory::{Duplicate, NoMemory};
 use crate::seq::Seq;
+use crate::text::Name;
 use std::alloc::Global;
+use uuid::Uuid;
 
 /// The id that a record gets when it is produced: the commit number of the entry that made it, and
 /// its place among what that entry made.
@@ -14,12 +19,36 @@ pub struct RecordId {
     pub index: u32,
 }
 
+impl RecordId {
+    /// The id as it is printed: a UUID of version 8, whose first free bits are the place and whose last
+    /// are the commit number.
+    pub fn uuid(&self, alloc: Global) -> Result<Name, NoMemory>
+        requires commit { self.now.commit < 2 ^ 32 }
+        requires index { self.now.index < 512 }
+        ensures printed { IfOk result (λ text. text ≡ printed_id self.now) }
+    {
+        let id = Uuid::from_u64_pair(VERSION_8 + u64::from(self.index), VARIANT + self.commit);
+        let mut room = Uuid::encode_buffer();
+        Name::of(alloc, id.hyphenated().encode_lower(&mut room))
+    }
+}
+
+// The version of a UUID whose content is its maker's own, in its upper half.
+const VERSION_8: u64 = 0x8000;
+
+// The variant of the UUIDs of RFC 9562, in the lower half.
+const VARIANT: u64 = 1 << 63;
+
 /// A list of ids.
 pub type IdList = Seq<RecordId>;
 
 impl Duplicate for RecordId {
     fn copy(&self, _alloc: Global) -> Result<RecordId, NoMemory> {
         Ok(*self)
+    }
+
+    fn copy_all(items: &[RecordId], alloc: Global) -> Result<Vec<RecordId>, NoMemory> {
+        Ok(Vec::from_slice(alloc, items)?)
     }
 }
 

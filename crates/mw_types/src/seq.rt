@@ -164,17 +164,8 @@ impl<X: Eq> Eq for Seq<X> {
 
 impl<X: Duplicate> Duplicate for Seq<X> {
     fn copy(&self, alloc: Global) -> Result<Seq<X>, NoMemory> {
-        copied(alloc, &self.items)
+        Ok(Seq {
+            items: X::copy_all(&self.items, alloc)?,
+        })
     }
-}
-
-// The elements again, each copied.
-fn copied<X: Duplicate>(alloc: Global, items: &[X]) -> Result<Seq<X>, NoMemory>
-    ensures { IfOk result (λ copy. copy ≡ items.now) }
-{
-    let mut all = Vec::with_capacity(alloc, items.len())?;
-    for item in items {
-        all.push(item.copy(alloc)?)?;
-    }
-    Ok(Seq { items: all })
 }

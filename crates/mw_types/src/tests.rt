@@ -124,6 +124,19 @@ fn ids_and_rows_stand_in_order(rt: HostRuntime) -> Result<(), KeyRefusal> {
 }
 
 #[test]
+fn printed_ids(rt: HostRuntime) -> Result<(), NoMemory> {
+    let alloc = rt.alloc();
+    for (commit, index, text) in [
+        (11, 0, "00000000-0000-8000-8000-00000000000b"),
+        (3, 1, "00000000-0000-8001-8000-000000000003"),
+    ] {
+        let id = RecordId { commit, index };
+        assert_eq!(rt; id.uuid(alloc)?.text(), text);
+    }
+    Ok(())
+}
+
+#[test]
 fn copies_are_equal(rt: HostRuntime) -> Result<(), KeyRefusal> {
     let alloc = rt.alloc();
     let id = RecordId {

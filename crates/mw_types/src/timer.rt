@@ -22,4 +22,8 @@ impl Duplicate for Timer {
     fn copy(&self, _alloc: Global) -> Result<Timer, NoMemory> {
         Ok(*self)
     }
+
+    fn copy_all(items: &[Timer], alloc: Global) -> Result<Vec<Timer>, NoMemory> {
+        Ok(Vec::from_slice(alloc, items)?)
+    }
 }

@@ -1,5 +1,5 @@
 use Rattle.std.proofs.Common.{◌≡◌, take}
-use Rattle.mw_types.proofs.seq.copied.Given as goal
+use Rattle.mw_types.proofs.memory.Duplicate.copy_all.Given as goal
 
 -- the copies so far are the elements so far
 abbrev pub invariant-loop-item : goal.invariant-loop-item
