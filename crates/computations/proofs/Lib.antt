@@ -1,3 +1,4 @@
 pub mod Searching
 pub mod Windows
 pub mod Fresh
+pub mod Totals

@@ -1,13 +1,12 @@
 -- What a search in an ascending list finds, and what an edit at that place does.
-use Rattle.std.proofs.Common.{◌≡◌, ℕ, zero, suc, ◌+◌, ◌<◌, ◌≤◌, ◌==◌, not, List, [], ◌∷◌, length, get_or, set, Some, None, Result, Ok, Err, IfOk, IfErr, slice_get, map, filter, find, refl, sym, ap, ◌∙◌, arith}
+use Rattle.std.proofs.Common.{◌≡◌, ℕ, zero, suc, ◌+◌, ◌<◌, ◌≤◌, ◌==◌, not, List, [], ◌∷◌, length, get_or, set, Some, None, slice_get, map, filter, find, refl, sym, ap, ◌∙◌, arith}
 use Rattle.std.specs.List.{insert, remove}
 use Rattle.std.specs.List.Sorted.{IsStrictlySortedBy}
-use Rattle.std.specs.Ordering.{nat_cmp, ordering_index}
-use Rattle.std.proofs.lemmas.Cmp.{ranked}
+use Rattle.std.specs.Ordering.{nat_cmp}
 use Rattle.std.proofs.lemmas.Map.Keys.{below_from_sorted}
 use Rattle.std.proofs.lemmas.Bool.Decides.{nat_tests}
 use Rattle.std.proofs.lemmas.List.{get_or-map, length-map}
-use Rattle.std.proofs.lemmas.Option.{get_or_from_slice_get}
+use Rattle.std.proofs.lemmas.Option.{get_or_from_slice_get, slice_get_within}
 use Rattle.computations.specs.Handlers.{entered}
 use Rattle.computations.specs.Places.{IsPlace, IsGap, IsBetween}
 
@@ -71,7 +70,7 @@ module _ {X : Type 0} (number : X → ℕ) where
 
 module _ {X : Type 0} (number : X → ℕ) (xs : List X) (n : ℕ) (up : IsStrictlySortedBy nat_cmp (map number xs)) where
   -- of two elements the later has the greater number
-  rises : (i j : ℕ) (d : X) → i < j → j < length xs → number (get_or xs i d) < number (get_or xs j d)
+  pub rises : (i j : ℕ) (d : X) → i < j → j < length xs → number (get_or xs i d) < number (get_or xs j d)
   rises i j d lt within =
       let below = below_from_sorted (map number xs) i j (number d) up lt (omega (arith, length-map xs number)) in
       let at_i = get_or-map number xs i d (number d) (omega arith) in
@@ -126,3 +125,20 @@ module _ {X : Type 0} (number : X → ℕ) (xs : List X) (n : ℕ) (up : IsStric
       here = λ d. number-middle d ∙ same;
       after = λ j d lt inside. omega (arith, rises middle j d lt inside, number-middle d, same);
     }
+
+module _ {X : Type 0} (number : X → ℕ) (xs : List X) (up : IsStrictlySortedBy nat_cmp (map number xs)) where
+  -- the element that is read at a place has its number there
+  pub IsPlace-read : (at : ℕ) (y : X) → slice_get xs at ≡ Some y → IsPlace number xs (number y) at
+  IsPlace-read at y read =
+      let within = slice_get_within xs at y read in
+      let here : (d : X) → number (get_or xs at d) ≡ number y = λ d. ap number (get_or_from_slice_get xs at y d read) in
+      record {
+        in_range = within;
+        before = λ j d lt. omega (arith, rises number xs 0 up j at d lt within, here d);
+        here = here;
+        after = λ j d lt inside. omega (arith, rises number xs 0 up at j d lt inside, here d);
+      }
+
+  -- without it the others are left
+  pub remove-read : (at : ℕ) (y : X) → slice_get xs at ≡ Some y → remove xs at ≡ filter (λ x. not (number x == number y)) xs
+  remove-read at y read = sym (filter-place number xs (number y) at (IsPlace-read at y read))

@@ -31,7 +31,7 @@ All-one : {X : Type 0} (P : X → Type 0) (x : X) → P x → All P (x ∷ [])
 All-one P x px = All-cons P x [] px (All-nil P)
 
 -- what a search finds passes the test
-find-passes : {X : Type 0} (number : X → ℕ) (n : ℕ) (xs : List X) →
+pub find-passes : {X : Type 0} (number : X → ℕ) (n : ℕ) (xs : List X) →
     IfSome (find (λ x. number x == n) xs) (λ x. number x ≡ n)
 find-passes number n [] = tt
 find-passes number n (x ∷ xs) =

@@ -1,9 +1,8 @@
 -- Which part of a topology has which kind of computation. Own.
-use Rattle.std.specs.Prelude.{◌≡◌, ℕ, ◌-◌, true, nat_lt, if◌then◌else◌, ⊤}
+use Rattle.std.specs.Prelude.{◌≡◌, ℕ, ◌-◌, true, nat_lt, if◌then◌else◌}
 use Rattle.std.specs.Prelude.{List, slice_get, Option, None, Some}
 use Rattle.std.specs.Option.{option_map_or}
 use Rattle.mw_types.specs.declared.kind.Kind.{Kind}
-use Rattle.mw_types.specs.declared.kind.Kind.TheVariants as kinds
 use Rattle.mw_types.specs.declared.state.State.{State}
 use Rattle.mw_types.specs.declared.record.Record.{Record}
 use Rattle.mw_types.specs.declared.timer.Timer.{Timer}
@@ -35,8 +34,3 @@ part_record parts part key state item =
 abbrev pub part_timer : Parts → ℕ → List ℕ → State → Timer → Outcome
 part_timer parts part key state timer =
     option_map_or (λ kind. effects_of_timer kind key state timer) (kind_at parts part) (unchanged state)
-
--- the kind counts records
-abbrev pub IsCount : Kind → Type 0
-IsCount (kinds.Count size) = ⊤
-IsCount _ = ⊥

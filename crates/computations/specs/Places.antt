@@ -22,3 +22,8 @@ pub record IsBetween {X : Type 0} (number : X → ℕ) (xs : List X) (n low high
   pub in_range : high ≤ length xs
   pub before : (j : ℕ) (d : X) → j < low → number (slice_index_or xs j d) < n
   pub after : (j : ℕ) (d : X) → high ≤ j → j < length xs → n < number (slice_index_or xs j d)
+
+-- the elements before this place are smaller than the number, and those from there on are not
+pub record IsFirstFrom {X : Type 0} (number : X → ℕ) (xs : List X) (n at : ℕ) : Type 0 where
+  pub before : (j : ℕ) (d : X) → j < at → number (slice_index_or xs j d) < n
+  pub after : (j : ℕ) (d : X) → at ≤ j → j < length xs → n ≤ number (slice_index_or xs j d)

@@ -142,6 +142,21 @@ impl Context {
         self.productions.push(Production { key, stamp, value })
     }
 
+    /// Produces a record under the row's key, which is as late as the cause.
+    pub fn produce_for_row(&mut self, alloc: Global, stamp: u64, value: i64) -> Result<(), NoMemory>
+        requires not_before { self.old.stamp ≤ stamp }
+        requires in_time { stamp ≤ MAX_STAMP }
+        requires room { length self.old.productions < 8 }
+        ensures produced { OnOk result (self.new ≡ record self.old {
+          productions = self.old.productions
+              ++ record { key = self.old.key; stamp = stamp; value = value } ∷ [];
+        }) }
+        ensures unchanged { OnErr result (self.new ≡ self.old) }
+    {
+        let key = self.key.copy(alloc)?;
+        self.productions.push(Production { key, stamp, value })
+    }
+
     /// What the handler leaves.
     pub fn into_effects(self) -> Effects
         requires { IsWithin self.state }

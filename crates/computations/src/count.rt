@@ -10,11 +10,29 @@ ghost use Rattle.computations.specs.Handlings.{begun_by_record, begun_by_timer, 
 ghost use Rattle.computations.specs.Places.{IsPlace, IsGap, IsBetween};
 
 use crate::context::Context;
-use mw_types::{Duplicate, MAX_STAMP, NoMemory, Record, State, Timer, Window, WindowList};
+use crate::places::{Numbered, enter, place_of, take};
+use crate::tally::one_more;
+use mw_types::{MAX_STAMP, NoMemory, Record, State, Timer, Window, WindowList};
 use std::alloc::Global;
 
-// How many windows a state may have.
-const WINDOWS_MAX: usize = (1 << 32) - 1;
+impl Numbered for Window {
+    ghost use Rattle.computations.specs.Handlers.{one_more};
+
+    ghost number = { λ w. w.end };
+
+    ghost joined = { λ w _. record w { count = one_more w.count } };
+
+    fn number(&self) -> u64 {
+        self.end
+    }
+
+    fn joined(self, _new: Window) -> Window {
+        Window {
+            end: self.end,
+            count: one_more(self.count),
+        }
+    }
+}
 
 // The handler of records of a count with windows of this size.
 pub(crate) fn on_record(context: &mut Context, size: u64, item: &Record) -> Result<(), NoMemory>
@@ -58,8 +76,7 @@ pub(crate) fn on_timer(alloc: Global, context: &mut Context, timer: &Timer) -> R
     let Some(window) = close(windows, timer.time)? else {
         return Ok(());
     };
-    let key = context.key().copy(alloc)?;
-    context.produce(alloc, &key, window.end, window.count as i64)
+    context.produce_for_row(alloc, window.end, window.count as i64)
 }
 
 // The end of the window in which a timestamp lies.
@@ -71,53 +88,6 @@ fn window_end(size: u64, stamp: u64) -> u64
     (stamp - stamp % size + size).min(MAX_STAMP)
 }
 
-// A count with one more.
-fn one_more(count: u64) -> u64
-    ensures { result ≡ one_more count }
-{
-    count.saturating_add(1).min(MAX_STAMP)
-}
-
-// A window with one more record.
-fn with_one_more(window: Window) -> Window
-    ensures { result ≡ record window { count = one_more window.count } }
-{
-    Window {
-        end: window.end,
-        count: one_more(window.count),
-    }
-}
-
-// The place of the window that ends here, or else the place where it belongs.
-fn place_of(windows: &WindowList, end: u64) -> Result<usize, usize>
-    requires { IsStrictlySortedBy nat_cmp (map (λ w. w.end) windows.now) }
-    ensures found { IfOk result (IsPlace (λ (w : Window). w.end) windows.now end) }
-    ensures absent { IfErr result (IsGap (λ (w : Window). w.end) windows.now end) }
-{
-    place_between(windows, end, 0, windows.len())
-}
-
-// The same, where the place is between two.
-fn place_between(windows: &WindowList, end: u64, low: usize, high: usize) -> Result<usize, usize>
-    requires ascending { IsStrictlySortedBy nat_cmp (map (λ w. w.end) windows.now) }
-    requires between { IsBetween (λ (w : Window). w.end) windows.now end low high }
-    ensures found { IfOk result (IsPlace (λ (w : Window). w.end) windows.now end) }
-    ensures absent { IfErr result (IsGap (λ (w : Window). w.end) windows.now end) }
-{
-    if low >= high {
-        return Err(low);
-    }
-    let middle = low + (high - low) / 2;
-    let window = window_at(windows, middle);
-    if window.end < end {
-        place_between(windows, end, middle + 1, high)
-    } else if end < window.end {
-        place_between(windows, end, low, middle)
-    } else {
-        Ok(middle)
-    }
-}
-
 // Counts one record in the window that ends here, which may be a new one.
 fn count(windows: &mut WindowList, end: u64) -> Result<(), NoMemory>
     requires in_time { end ≤ MAX_STAMP }
@@ -125,20 +95,8 @@ fn count(windows: &mut WindowList, end: u64) -> Result<(), NoMemory>
     ensures counted { OnOk result (windows.new ≡ counted windows.old end) }
     ensures within { OnOk result (AreWindows windows.new) }
 {
-    match place_of(windows, end) {
-        Ok(at) => {
-            let window = window_at(windows, at);
-            windows.set(at, with_one_more(window))?;
-            Ok(())
-        }
-        Err(at) => {
-            if windows.len() >= WINDOWS_MAX {
-                return Err(NoMemory);
-            }
-            windows.insert(at, Window { end, count: 1 })?;
-            Ok(())
-        }
-    }
+    enter(windows, Window { end, count: 1 })?;
+    Ok(())
 }
 
 // Takes the window that ends here away, if it is there.
@@ -153,22 +111,7 @@ fn close(windows: &mut WindowList, end: u64) -> Result<Option<Window>, NoMemory>
     ensures within { OnOk result (AreWindows windows.new) }
 {
     match place_of(windows, end) {
-        Ok(at) => {
-            let window = window_at(windows, at);
-            windows.remove(at)?;
-            Ok(Some(window))
-        }
+        Ok(at) => Ok(Some(take(windows, at)?)),
         Err(_) => Ok(None),
-    }
-}
-
-// The window at a place.
-fn window_at(windows: &WindowList, at: usize) -> Window
-    requires { at < length windows.now }
-    ensures { slice_get windows.now at ≡ Some result }
-{
-    match windows.get(at) {
-        Some(window) => *window,
-        None => unreachable!(),
     }
 }

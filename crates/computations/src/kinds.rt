@@ -1,11 +1,10 @@
 //! The computations of a topology, by the kinds of its parts.
 ghost use Rattle.std.specs.Prelude.{◌≡◌, All, IfOk, IsSome};
 ghost use Rattle.mw_types.specs.Kinds.{IsKind};
-ghost use Rattle.computations.specs.Parts.{IsCount};
 
 use crate::computation::Computation;
 use crate::context::Context;
-use crate::count;
+use crate::{count, pass, spike};
 use mw_types::{Kind, KindTable, NoMemory, Record, Seq, Timer};
 use std::alloc::Global;
 use std::marker::Model;
@@ -20,21 +19,20 @@ pub struct Kinds {
 impl Model for Kinds {
     ghost use Rattle.std.specs.Prelude.{All};
     ghost use Rattle.mw_types.specs.Kinds.{IsKind};
-    ghost use Rattle.computations.specs.Parts.{Parts, IsCount};
+    ghost use Rattle.computations.specs.Parts.{Parts};
 
     ghost Value = { Parts };
 
     ghost view = { λ k. record { injectors = k.injectors; kinds = k.kinds } };
 
-    ghost invariant = { λ k. All IsKind k.kinds × All IsCount k.kinds };
+    ghost invariant = { λ k. All IsKind k.kinds };
 }
 
 impl Kinds {
     ghost use Rattle.computations.specs.Parts.{kind_at};
 
-    /// The computations of a table, which are counts.
+    /// The computations of a table.
     pub fn of<T: KindTable>(alloc: Global, table: &T) -> Result<Kinds, NoMemory>
-        requires counts { All IsCount (T.kinds table.now) }
         ensures injectors { IfOk result (λ kinds. kinds.injectors ≡ T.injector_count table.now) }
         ensures kinds { IfOk result (λ kinds. kinds.kinds ≡ T.kinds table.now) }
         ensures within { IfOk result (λ kinds. All IsKind kinds.kinds) }
@@ -52,7 +50,6 @@ impl Kinds {
         requires { IsSome (kind_at self.now part) }
         ensures kind { kind_at self.now part ≡ Some result }
         ensures within { IsKind result }
-        ensures count { IsCount result }
     {
         let at = part - self.injectors;
         match self.kinds.get(at as usize) {
@@ -74,15 +71,15 @@ impl Computation for Kinds {
 
     fn on_record(
         &self,
-        _alloc: Global,
+        alloc: Global,
         part: u32,
         context: &mut Context,
         item: &Record,
     ) -> Result<(), NoMemory> {
         match self.kind(part) {
             Kind::Count { size } => count::on_record(context, size, item),
-            // A table that was taken has counts alone.
-            Kind::Spike { .. } | Kind::Pass => Ok(()),
+            Kind::Spike { .. } => spike::on_record(context, item),
+            Kind::Pass => pass::on_record(alloc, context, item),
         }
     }
 
@@ -95,8 +92,8 @@ impl Computation for Kinds {
     ) -> Result<(), NoMemory> {
         match self.kind(part) {
             Kind::Count { .. } => count::on_timer(alloc, context, timer),
-            // A table that was taken has counts alone.
-            Kind::Spike { .. } | Kind::Pass => Ok(()),
+            Kind::Spike { last, times } => spike::on_timer(alloc, context, last, times, timer),
+            Kind::Pass => Ok(()),
         }
     }
 

@@ -10,6 +10,10 @@ mod computation;
 mod context;
 mod count;
 mod kinds;
+mod pass;
+mod places;
+mod spike;
+mod tally;
 #[cfg(test)]
 mod tests;
 

@@ -13,8 +13,7 @@ use Rattle.topology.specs.declared.subscription.By.TheVariants.{Key, Head, Tail}
 use Rattle.topology.specs.declared.subscription.Subscription.{Subscription}
 use Rattle.topology.specs.Shapes.{Shape, InjectorShape, ComputationShape, Reading, injectors_of, parts_of, kind_of, cuts_of, consumers_of}
 use Rattle.topology.specs.Rules.{IsTopology, all_differ}
-use Rattle.computations.specs.Parts.{IsCount}
-use Rattle.plain_run.specs.Plain.{IsPlain, IsCounted}
+use Rattle.plain_run.specs.Plain.{IsCount, IsPlain, IsCounted}
 use Rattle.millwheel_cli.specs.Built.{is_count, is_by_key, reads_once, are_built, is_built, is_built_count}
 use Rattle.millwheel_cli.specs.Inside.{subscribes_once}
 
