@@ -3,10 +3,8 @@ use Rattle.std.proofs.Common.{◌≡◌, ◌==◌, ℕ, ℤ, ◌+◌, ◌<◌, �
 use Rattle.std.specs.Prelude.{filter, not, nat_lt, slice_get}
 use Rattle.std.specs.Option.{option_map, option_map_or}
 use Rattle.std.specs.List.{AllByRecursion}
-use Rattle.std.specs.List.Sorted.{IsStrictlySortedBy}
 use Rattle.std.specs.Ordering.{match_ordering, nat_cmp}
 use Rattle.std.specs.declared.cmp.Ordering.TheVariants.{Less, Equal, Greater}
-use Rattle.std.proofs.lemmas.List.Elements.{All-nil}
 use Rattle.mw_types.specs.declared.TheConstants.{MAX_STAMP}
 use Rattle.mw_types.specs.declared.identity.RowName.{RowName}
 use Rattle.mw_types.specs.declared.record.Record.{Record}

@@ -1,6 +1,6 @@
 -- Rows that fit their names, and stay so.
 use Rattle.std.proofs.Common.{◌≡◌, ℕ, ◌+◌, ◌<◌, ◌≤◌, Bool, true, false, cond, List, [], ◌∷◌, length, refl, sym, ◌∙◌, ap, subst, arith, ◌&&◌, suc, zero, ◌-◌}
-use Rattle.std.specs.Prelude.{Option, Some, None, not, slice_get, nat_lt, nat_le, filter}
+use Rattle.std.specs.Prelude.{Option, Some, None, slice_get, nat_lt, nat_le, filter}
 use Rattle.std.specs.Option.{option_map_or, option_map}
 use Rattle.std.specs.List.{AllByRecursion, list_all}
 use Rattle.std.proofs.lemmas.Bool.{ltb-true, lt-ltb, and_from, ltb-false, le-leb}
