@@ -3,10 +3,8 @@ use Rattle.std.proofs.Common.{◌≡◌, ◌==◌, ℕ, ℤ, ◌+◌, ◌<◌, �
 use Rattle.std.specs.Prelude.{filter, not, nat_lt, slice_get}
 use Rattle.std.specs.Option.{option_map, option_map_or}
 use Rattle.std.specs.List.{AllByRecursion}
-use Rattle.std.specs.List.Sorted.{IsStrictlySortedBy}
 use Rattle.std.specs.Ordering.{match_ordering, nat_cmp}
 use Rattle.std.specs.declared.cmp.Ordering.TheVariants.{Less, Equal, Greater}
-use Rattle.std.proofs.lemmas.List.Elements.{All-nil}
 use Rattle.mw_types.specs.declared.TheConstants.{MAX_STAMP}
 use Rattle.mw_types.specs.declared.identity.RowName.{RowName}
 use Rattle.mw_types.specs.declared.record.Record.{Record}
@@ -33,6 +31,7 @@ use Rattle.run_history.specs.Made.{row_written, deliveries_of}
 use Rattle.run_history.specs.Runs.{Run, run_of, row_of, followed, changed, advanced}
 use Rattle.run_history.specs.Legal.{MayFollow, IsLegal}
 use Rattle.run_history.specs.Inputs.{IsRunnable}
+use Rattle.run_history.proofs.Fitting.{IsWithin-fresh_state}
 use Rattle.run_history.proofs.Lists.{some_same, find-each}
 use Rattle.history_laws.proofs.Along.{along_history}
 use Rattle.history_laws.proofs.FeedLaws.{kind-ranged}
@@ -277,13 +276,6 @@ AreBounded-followed case run entry runs are may = record {
         (λ row. are.states.within row (omega (arith, few)))
         (let old = are.states.sizes name in let more = changed-size case run entry sent name may written in omega (arith, old, more, few)))
 
--- a fresh state is within bounds
-fresh-within : (kind : Kind) → IsWithin (fresh_state kind)
-unfolding IsStrictlySortedBy
-fresh-within (kinds.Count size) = (omega arith, record { ascending = tt; ends = All-nil _; counts = All-nil _; few = omega arith })
-fresh-within (kinds.Spike last times) = (omega arith, record { ascending = tt; stamps = All-nil _; few = omega arith }, omega arith)
-fresh-within kinds.Pass = omega arith
-
 -- a fresh state has no elements
 fresh-size : (kind : Kind) → size_of (fresh_state kind) ≤ 0
 fresh-size (kinds.Count size) = omega arith
@@ -311,4 +303,4 @@ legal-bounded case history runs = along_history case (λ done run. AreBounded ca
 
     first_within : (o : Option Kind) → IsWithin (option_map_or fresh_state o (states.Injector 0))
     first_within None = omega arith
-    first_within (Some kind) = fresh-within kind
+    first_within (Some kind) = IsWithin-fresh_state kind

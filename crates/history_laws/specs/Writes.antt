@@ -11,8 +11,8 @@ pub record IsLegalAndFenced (case : CaseShape) (history : List Entry) : Type 0 w
   pub legal : IsLegal case history
   pub fenced : IsFenced case.topology history
 
--- an entry was worked out on a beginning of a legal and fenced history that has seen the last claim of an interval: it is a
--- write under that claim, and may follow the beginning
+-- an entry was worked out on a beginning of a legal and fenced history that has seen the last claim of an
+-- interval: it is a write under that claim, and may follow the beginning
 pub record IsSeenWrite (case : CaseShape) (front rest : List Entry) (interval seq : ℕ)
     (entry : Entry) : Type 0 where
   pub history : IsLegalAndFenced case (front ++ rest)

@@ -1,6 +1,6 @@
 -- Beginnings of a history.
 use Rattle.std.proofs.Common.{◌≡◌, ℕ, ◌+◌, ◌<◌, ◌≤◌, List, [], ◌∷◌, ◌++◌, length, take, drop, refl, sym, ◌∙◌, ap, subst, arith, append_assoc, length-append, inl, inr, suc, zero, get_or}
-use Rattle.std.specs.Prelude.{Some, ◌⊎◌, not, unwrap_or, slice_get}
+use Rattle.std.specs.Prelude.{Some, ◌⊎◌, unwrap_or, slice_get}
 use Rattle.std.proofs.lemmas.Option.{slice_get_within, get_or_from_slice_get, slice_get-get_or}
 use Rattle.std.specs.List.{AllByRecursion}
 use Rattle.std.proofs.lemmas.List.{append-nil, take-append-drop, take_more}

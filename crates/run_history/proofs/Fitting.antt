@@ -1,18 +1,20 @@
 -- Rows that fit their names, and stay so.
 use Rattle.std.proofs.Common.{◌≡◌, ℕ, ◌+◌, ◌<◌, ◌≤◌, Bool, true, false, cond, List, [], ◌∷◌, length, refl, sym, ◌∙◌, ap, subst, arith, ◌&&◌, suc, zero, ◌-◌}
-use Rattle.std.specs.Prelude.{Option, Some, None, not, slice_get, nat_lt, nat_le, filter}
+use Rattle.std.specs.Prelude.{Option, Some, None, slice_get, nat_lt, nat_le, filter}
 use Rattle.std.specs.Option.{option_map_or, option_map}
 use Rattle.std.specs.List.{AllByRecursion, list_all}
 use Rattle.std.proofs.lemmas.Bool.{ltb-true, lt-ltb, and_from, ltb-false, le-leb}
 use Rattle.mw_types.specs.declared.identity.RowName.{RowName}
 use Rattle.mw_types.specs.declared.delivery.Delivery.{Delivery}
 use Rattle.mw_types.specs.declared.kind.Kind.{Kind}
+use Rattle.mw_types.specs.Bounds.{IsWithin}
 use Rattle.topology.specs.Shapes.{Shape, injectors_of, parts_of, kind_of, ComputationShape}
 use Rattle.row_parts.specs.Contents.{fresh, Contents}
 use Rattle.run_history.specs.Cases.{fresh_of, CaseShape, is_injector, source_of}
 use Rattle.run_history.specs.Fits.{is_sent_before, suits_part, fits, is_cursor_within}
 use Rattle.run_history.proofs.Lists.{none_some}
 use Rattle.computations.specs.Handlers.{has_kind, fresh_state}
+use Rattle.computations.proofs.Fresh.{AreWindows-none, AreHeld-none}
 use Rattle.mw_types.specs.declared.kind.Kind.TheVariants as kinds
 use Rattle.mw_types.specs.declared.state.State.TheVariants as states
 
@@ -110,6 +112,12 @@ pub fresh_state-kind : (kind : Kind) → has_kind kind (fresh_state kind) ≡ tr
 fresh_state-kind (kinds.Count size) = refl
 fresh_state-kind (kinds.Spike last times) = refl
 fresh_state-kind kinds.Pass = refl
+
+-- a fresh state is within bounds
+pub IsWithin-fresh_state : (kind : Kind) → IsWithin (fresh_state kind)
+IsWithin-fresh_state (kinds.Count size) = (omega arith, AreWindows-none)
+IsWithin-fresh_state (kinds.Spike last times) = (omega arith, AreHeld-none, omega arith)
+IsWithin-fresh_state kinds.Pass = omega arith
 
 -- a place of a list has an element
 slice_get-some : {X : Type 0} (xs : List X) (n : ℕ) → n < length xs → (x : X) × (slice_get xs n ≡ Some x)

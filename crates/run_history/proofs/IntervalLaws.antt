@@ -7,7 +7,7 @@ use Rattle.std.proofs.lemmas.List.FromFn.{length-range_with_len}
 use Rattle.mw_types.specs.declared.identity.RowName.{RowName}
 use Rattle.key_intervals.specs.declared.bounds.Bounds.{Bounds}
 use Rattle.key_intervals.specs.Intervals.{covers, HasRow, AreIntervals}
-use Rattle.topology.specs.Shapes.{Shape, parts_of}
+use Rattle.topology.specs.Shapes.{Shape, parts_of, cuts_of}
 use Rattle.topology.specs.Rules.{IsTopology, part_cuts_of}
 use Rattle.run_history.specs.Fences.{interval_of}
 use Rattle.run_history.specs.Cases.{intervals_of}

@@ -1,5 +1,5 @@
 -- Look-ups in lists of entries that stand in the order of their keys.
-use Rattle.std.proofs.Common.{◌≡◌, Bool, true, false, cond, List, [], ◌∷◌, filter, refl, sym, ◌∙◌, ap, subst}
+use Rattle.std.proofs.Common.{◌≡◌, Bool, true, false, cond, List, [], ◌∷◌, filter, refl, sym, ◌∙◌, ap}
 use Rattle.std.specs.Prelude.{Some, None}
 use Rattle.std.specs.declared.cmp.Ordering.{Ordering}
 use Rattle.std.specs.declared.cmp.Ordering.TheVariants.{Less, Equal, Greater}
@@ -129,7 +129,8 @@ module _ {K X : Type 0} {R : K → K → Ordering} (o : IsTotalOrder R) where
   same_entries tie [] [] one other same = refl
   same_entries tie [] (f ∷ fs) one other same = absurd (none_some f.1 (same f.0 ∙ lookup-first f fs))
   same_entries tie (e ∷ es) [] one other same = absurd (none_some e.1 (sym (same e.0) ∙ lookup-first e es))
-  same_entries tie (e ∷ es) (f ∷ fs) one other same = by_order (R e.0 f.0) refl
+  same_entries tie (e ∷ es) (f ∷ fs) one other same =
+      by_order (R e.0 f.0) refl (λ at. same_entries tie es fs one.1 other.1 (λ q. behind at q (is_eq (R q e.0)) refl))
     where
       -- behind equal first entries each look-up finds the same too
       behind : R e.0 f.0 ≡ Equal → (q : K) → (b : Bool) → is_eq (R q e.0) ≡ b → lookup (is_at (R q)) es ≡ lookup (is_at (R q)) fs
@@ -145,15 +146,15 @@ module _ {K X : Type 0} {R : K → K → Ordering} (o : IsTotalOrder R) where
       value at = some_same e.1 f.1
           (sym (lookup-first e es) ∙ same e.0 ∙ ap (λ r. cond (is_eq r) (Some f.1) (lookup (is_at (R e.0)) fs)) at)
 
-      by_order : (r : Ordering) → R e.0 f.0 ≡ r → e ∷ es ≡ f ∷ fs
-      by_order Less at = absurd (none_some e.1 (sym (lookup-before e.0 f fs other at) ∙ sym (same e.0) ∙ lookup-first e es))
-      by_order Greater at = absurd (none_some f.1
+      by_order : (r : Ordering) → R e.0 f.0 ≡ r → (R e.0 f.0 ≡ Equal → es ≡ fs) → e ∷ es ≡ f ∷ fs
+      by_order Less at rest = absurd (none_some e.1 (sym (lookup-before e.0 f fs other at) ∙ sym (same e.0) ∙ lookup-first e es))
+      by_order Greater at rest = absurd (none_some f.1
           (sym (lookup-before f.0 e es one (o.antisymm f.0 e.0 ∙ ap ordering_reverse at)) ∙ same f.0 ∙ lookup-first f fs))
-      by_order Equal at =
+      by_order Equal at rest =
           let keys = tie e.0 f.0 at in
           let values = value at in
-          let rest = same_entries tie es fs one.1 other.1 (λ q. behind at q (is_eq (R q e.0)) refl) in
-          λ i. (keys i, values i) ∷ rest i
+          let others = rest at in
+          λ i. (keys i, values i) ∷ others i
 
   -- a filter keeps entries in the order of their keys
   sorted-filter : (p : K → Bool) (es : List (K × X)) → IsStrictlySortedBy R (keys_of es)

@@ -1,6 +1,6 @@
 -- What is handled and acknowledged in a history, and how much work is left after it.
 -- Akidau et al., VLDB 2013, section 6.1, for what a worker does on receipt of a record. Own: what counts as work.
-use Rattle.std.specs.Prelude.{◌≡◌, ℕ, ◌+◌, Bool, true, false, ◌&&◌, ◌==◌, if◌then◌else◌, nat_lt, List, [], ◌∷◌, length, filter}
+use Rattle.std.specs.Prelude.{◌≡◌, ℕ, ◌+◌, Bool, false, ◌&&◌, ◌==◌, if◌then◌else◌, nat_lt, List, length, filter}
 use Rattle.std.specs.List.{flat_map, list_any, range_with_len}
 use Rattle.mw_types.specs.declared.identity.RecordId.{RecordId}
 use Rattle.mw_types.specs.declared.identity.RowName.{RowName}

@@ -1,5 +1,5 @@
 -- Which rows fit which names. Own.
-use Rattle.std.specs.Prelude.{ℕ, length, ◌==◌, Bool, true, false, ◌&&◌, if◌then◌else◌, nat_lt, nat_le}
+use Rattle.std.specs.Prelude.{ℕ, length, ◌==◌, Bool, false, ◌&&◌, if◌then◌else◌, nat_lt, nat_le}
 use Rattle.std.specs.List.{list_all}
 use Rattle.std.specs.Option.{option_map_or}
 use Rattle.mw_types.specs.declared.identity.RowName.{RowName}
