@@ -1,6 +1,6 @@
 -- A record that is handled is finished in the row that handled it, so a record that was made and is not finished waits.
 use Rattle.std.proofs.Common.{◌≡◌, ℕ, ◌≤◌, Bool, true, false, cond, List, [], ◌∷◌, ◌++◌, refl, sym, ◌∙◌, ap, subst, arith}
-use Rattle.std.specs.Prelude.{⊤, Some, None, IsSome, filter, not, nat_lt, nat_le, ◌||◌}
+use Rattle.std.specs.Prelude.{⊤, Option, Some, None, IsSome, filter, not, nat_lt, nat_le, ◌||◌}
 use Rattle.std.specs.List.{AllByRecursion, list_any}
 use Rattle.std.specs.Ordering.{match_ordering}
 use Rattle.std.specs.declared.cmp.Ordering.TheVariants.{Less, Equal, Greater}
@@ -389,16 +389,17 @@ unmade-unfinished case history id name legal unmade above = by_test (is_finished
     kept : AreFloorsKept case history (run_of case.topology history)
     kept = legal-floors case history legal
 
+    none : (o : Option Delivery) → IsSome o → o ≡ None → ⊥
+    none None is e = absurd (cc)
+    none (Some d) is e = cc
+
     by_seen : (b : Bool) → nat_lt id.commit row.floor ≡ b → (b || list_any (same_id id) row.seen) ≡ true → ⊥
     by_seen true below done =
         let less = ltb-true id.commit row.floor below in
         let under = kept.floors name in absurd (omega (arith, less, under, above))
     by_seen false below done =
         let handled = seen-each (λ (i : RecordId). is_handled i history ≡ true) id row.seen (kept.seen name) done in
-        absurd (none (subst IsSome unmade ((legal-tells case history legal).handled id handled)))
-      where
-        none : IsSome {X = Delivery} None → ⊥
-        none is = cc
+        none (found_delivery id (run_of case.topology history).made) ((legal-tells case history legal).handled id handled) unmade
 
     by_test : (b : Bool) → is_finished id row ≡ b → b ≡ false
     by_test true done = absurd (by_seen (nat_lt id.commit row.floor) refl done)

@@ -1,9 +1,9 @@
 -- How much work is left: what one more entry makes of it, and that a finished run is done.
-use Rattle.std.proofs.Common.{◌≡◌, ◌≢◌, ℕ, zero, suc, ◌+◌, ◌<◌, ◌≤◌, Bool, true, false, cond, ◌&&◌, List, [], ◌∷◌, ◌++◌, length, refl, sym, ◌∙◌, ap, subst, arith, inl, inr}
+use Rattle.std.proofs.Common.{◌≡◌, ◌≢◌, ℕ, zero, suc, ◌+◌, ◌<◌, ◌≤◌, Bool, true, false, cond, ◌&&◌, ◌==◌, List, [], ◌∷◌, ◌++◌, length, refl, sym, ◌∙◌, ap, subst, arith, inl, inr}
 use Rattle.std.specs.Prelude.{Option, Some, None, filter, nat_lt}
 use Rattle.std.specs.Option.{option_map, option_map_or}
 use Rattle.std.specs.List.{AllByRecursion, flat_map, range_with_len}
-use Rattle.std.proofs.lemmas.Bool.{ltb-true, ltb-false, lt-ltb, cases_lt}
+use Rattle.std.proofs.lemmas.Bool.{ltb-true, ltb-false, lt-ltb, cases_lt, ne_eqb}
 use Rattle.std.proofs.lemmas.Option.{slice_get_within}
 use Rattle.mw_types.specs.declared.identity.RowName.{RowName}
 use Rattle.mw_types.specs.declared.record.Record.{Record}
@@ -257,9 +257,13 @@ lines-followed case run entry name written = by_key name.key name.part written
         (some_same (record { part = m; key = [] }) (record { part = part; key = [] }) (sym e ∙ on)) in
         omega (arith, one, less, past)) in omega (arith, same)
 
-    none : (b : Bool) (c : Bool) → (b && false && c) ≡ false
-    none true c = refl
-    none false c = refl
+    none : (b t c : Bool) → t ≡ false → (b && t && c) ≡ false
+    none false t c is = refl
+    none true false c is = refl
+    none true true c is = cc
+
+    some_key : (b : ℕ) (bs : List ℕ) → (length (b ∷ bs) == 0) ≡ false
+    some_key b bs = ne_eqb (length (b ∷ bs)) 0 (λ e. omega (arith, e))
 
     other_key : (m part b : ℕ) (bs : List ℕ) → Some (at_key m []) ≡ Some (at_key part (b ∷ bs)) → ⊥
     other_key m part b bs e = unlike (ap (λ (n : RowName). length n.key) (some_same (at_key m []) (at_key part (b ∷ bs)) e))
@@ -277,10 +281,10 @@ lines-followed case run entry name written = by_key name.key name.part written
         let same = same_lines (λ m less e. other_key m part b bs (sym e ∙ on)) in
         let old : one_if (row_has_line case (record { part = part; key = b ∷ bs })
         (row_of case.topology run (record { part = part; key = b ∷ bs }))) ≡ 0 =
-        ap one_if (none (is_injector case.topology part) _) in
+        ap one_if (none (is_injector case.topology part) (length (b ∷ bs) == 0) _ (some_key b bs)) in
         let new : one_if (row_has_line case (record { part = part; key = b ∷ bs })
         (row_of case.topology after (record { part = part; key = b ∷ bs }))) ≡ 0 =
-        ap one_if (none (is_injector case.topology part) _) in
+        ap one_if (none (is_injector case.topology part) (length (b ∷ bs) == 0) _ (some_key b bs)) in
         omega (arith, same, old, new)
 
 -- an entry changes how much work is left by what it changes in its row

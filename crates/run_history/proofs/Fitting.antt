@@ -138,7 +138,7 @@ kind-some shape part no_injector there =
     )
 
 -- an injector has no kind
-kind-none : (shape : Shape) (part : ℕ) → is_injector shape part ≡ true → kind_of shape part ≡ None
+pub kind-none : (shape : Shape) (part : ℕ) → is_injector shape part ≡ true → kind_of shape part ≡ None
 kind-none shape part is =
     ap (λ b. option_map (λ (c : ComputationShape). c.kind) (cond b None (slice_get shape.computations (part - injectors_of shape)))) is
 
