@@ -1,5 +1,5 @@
 -- The rows of an interval as a list, by a beginning of a history and by the whole.
-use Rattle.std.proofs.Common.{◌≡◌, ℕ, List, ◌++◌, true, refl, sym, ◌∙◌, ap}
+use Rattle.std.proofs.Common.{◌≡◌, ℕ, List, ◌++◌, true, sym, ◌∙◌, ap}
 use Rattle.std.specs.Prelude.{Some, slice_get}
 use Rattle.std.specs.Ordering.{is_eq}
 use Rattle.mw_types.specs.declared.identity.RowName.{RowName}
