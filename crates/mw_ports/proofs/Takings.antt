@@ -1,12 +1,11 @@
 -- What was taken from a reader, and what it says of all that the reader had.
-use Rattle.std.proofs.Common.{◌≡◌, ◌<◌, ◌+◌, ◌++◌, ◌∙◌, ℕ, List, [], Option, Some, None, Result, Ok, IsErr, IsErrOf, IfSome, sym, ap, subst, length, append_assoc, append-nil, arith}
+use Rattle.std.proofs.Common.{◌≡◌, ◌<◌, ◌+◌, ◌++◌, ◌∙◌, ℕ, List, [], Option, Some, None, Result, Ok, IsErr, IsErrOf, sym, ap, subst, length, append_assoc, append-nil, arith}
 use Rattle.std.proofs.lemmas.List.{length-append}
 use Rattle.std.proofs.lemmas.Result.{IfOk-from_err}
 use Rattle.std.specs.Io.KnownBytes.{Consumes, Keeps, IsAtEnd}
 use Rattle.mw_ports.specs.declared.shelf.ShelfFault.{ShelfFault}
 use Rattle.mw_ports.specs.declared.shelf.ShelfFault.TheVariants.{Missing, TooLong}
-use Rattle.mw_ports.specs.Shelves.{ReadsFile}
-use Rattle.mw_ports.specs.Readers.{Moves, TakesMoreThan, TakesAtMost}
+use Rattle.mw_ports.specs.Readers.{Moves, ReadsAll, TakesMoreThan, TakesAtMost}
 
 -- one thing taken behind another
 pub Consumes-append : (a b c : Option (List ℕ)) (xs ys : List ℕ) → Consumes a b xs → Consumes b c ys → Consumes a c (xs ++ ys)
@@ -24,7 +23,7 @@ Keeps-consumes (Some l) (Some m) kept = sym kept
 
 -- what was taken up to the end is all
 pub ReadsFile-all : (a b : Option (List ℕ)) (xs : List ℕ) (limit : ℕ) → Consumes a b xs → IsAtEnd b
-    → IfSome a (λ left. ReadsFile (Some left) limit (Ok xs))
+    → ReadsAll a limit (Ok xs)
 ReadsFile-all None b xs limit took ended = tt
 ReadsFile-all (Some l) None xs limit took ended = absurd took
 ReadsFile-all (Some l) (Some m) xs limit took ended = record {
@@ -41,7 +40,7 @@ longer l (Some m) limit over = omega (arith, ap length over.2 ∙ length-append 
 -- a refusal that is no lack, or of a reader that has too much
 pub ReadsFile-refused : (a b : Option (List ℕ)) (limit : ℕ) (result : Result (List ℕ) ShelfFault) → IsErr result
     → (IsErrOf result Missing → ⊥) → (IsErrOf result TooLong → TakesMoreThan limit a b)
-    → IfSome a (λ left. ReadsFile (Some left) limit result)
+    → ReadsAll a limit result
 ReadsFile-refused None b limit result refused here over = tt
 ReadsFile-refused (Some l) b limit result refused here over = record {
   bytes = IfOk-from_err result (λ bytes. Some l ≡ Some bytes) refused;

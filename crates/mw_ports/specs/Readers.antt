@@ -1,6 +1,12 @@
 -- What is taken from an open file, where its reader tells what it has left. No public clause cites this module. Own.
-use Rattle.std.specs.Prelude.{◌≡◌, ◌<◌, ◌≤◌, ◌++◌, ℕ, List, Option, length}
+use Rattle.std.specs.Prelude.{◌≡◌, ◌<◌, ◌≤◌, ◌++◌, ℕ, List, Option, Some, IfSome, Result, length}
 use Rattle.std.specs.Io.KnownBytes.{Consumes}
+use Rattle.mw_ports.specs.declared.shelf.ShelfFault.{ShelfFault}
+use Rattle.mw_ports.specs.Shelves.{ReadsFile}
+
+-- the answer is that of a file which has what the reader has left
+abbrev pub ReadsAll : Option (List ℕ) → ℕ → Result (List ℕ) ShelfFault → Type 0
+ReadsAll left limit result = IfSome left (λ bytes. ReadsFile (Some bytes) limit result)
 
 -- so many bytes were taken, and stand behind those that were there
 abbrev pub Moves : Option (List ℕ) → Option (List ℕ) → List ℕ → List ℕ → ℕ → Type 0

@@ -11,9 +11,11 @@
 mod file_shelf;
 mod mem_shelf;
 mod mem_sink;
+mod opened;
 mod out_sink;
 mod shelf;
 mod sink;
+mod tally;
 #[cfg(test)]
 mod tests;
 

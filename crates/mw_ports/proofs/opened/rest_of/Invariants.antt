@@ -1,6 +1,6 @@
 use Rattle.std.proofs.Common.{◌≡◌, ◌+◌, length}
 use Rattle.std.specs.Io.KnownBytes.{Consumes}
-use Rattle.mw_ports.proofs.file_shelf.rest_of.Given as goal
+use Rattle.mw_ports.proofs.opened.rest_of.Given as goal
 
 -- what may still come is the limit without what is there, and what is there was taken
 abbrev pub invariant-loop-left : goal.invariant-loop-left

@@ -1,6 +1,6 @@
 use Rattle.std.proofs.Common.{rules}
 use Rattle.mw_ports.proofs.Takings.{ReadsFile-all, ReadsFile-refused, Consumes-moves, TakesMoreThan-all, TakesAtMost-all}
-use Rattle.mw_ports.proofs.file_shelf.rest_of.Goals as goal
+use Rattle.mw_ports.proofs.opened.rest_of.Goals as goal
 
 pub returns-in_err-count-clause-told : goal.returns-in_err-count-clause-told
 returns-in_err-count-clause-told g c =

@@ -1,5 +1,5 @@
 use Rattle.std.proofs.Common.{◌≡◌, ◌++◌, take}
-use Rattle.mw_ports.proofs.file_shelf.append.Given as goal
+use Rattle.mw_ports.proofs.opened.append.Given as goal
 
 -- what was there, and behind it what is done
 abbrev pub invariant-loop-byte : goal.invariant-loop-byte
