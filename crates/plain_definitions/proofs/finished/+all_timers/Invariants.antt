@@ -1,5 +1,5 @@
 use Rattle.std.proofs.Common.{length}
-use Rattle.plain_fences.proofs.finished.+all_timers.Given as goal
+use Rattle.plain_definitions.proofs.finished.+all_timers.Given as goal
 
 -- the list gets shorter
 abbrev pub decreases-all_timers : goal.decreases-all_timers

@@ -4,9 +4,9 @@ use Rattle.std.specs.List.{range_with_len}
 use Rattle.topology.specs.Shapes.{injectors_of}
 use Rattle.run_history.specs.Cases.{CaseShape}
 use Rattle.run_history.specs.Finished.{has_line}
-use Rattle.plain_fences.proofs.Walks.{range_with, range_without}
-use Rattle.plain_fences.proofs.finished.injectors_left.Goals as goal
-use Rattle.plain_fences.proofs.finished.injectors_left.Goals.{then-branch+in_ok-push, else-branch}
+use Rattle.plain_definitions.proofs.Walks.{range_with, range_without}
+use Rattle.plain_definitions.proofs.finished.injectors_left.Goals as goal
+use Rattle.plain_definitions.proofs.finished.injectors_left.Goals.{then-branch+in_ok-push, else-branch}
 
 pub loop-part-preserved : goal.loop-part-preserved
 loop-part-preserved c =

@@ -1,5 +1,5 @@
 use Rattle.std.proofs.Common.{length}
-use Rattle.plain_fences.proofs.stored.+all_stored.Given as goal
+use Rattle.plain_definitions.proofs.stored.+all_stored.Given as goal
 
 -- the list gets shorter
 abbrev pub decreases-all_stored : goal.decreases-all_stored

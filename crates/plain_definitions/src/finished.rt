@@ -1,27 +1,17 @@
 //! How much work is left after a history.
-ghost use Rattle.std.specs.Prelude.{◌≡◌, ◌↔◌, ◌+◌, ◌++◌, length, IsTrue, IfOk};
+ghost use Rattle.std.specs.Prelude.{◌≡◌, ◌↔◌, ◌+◌, length, IsTrue, IfOk};
 ghost use Rattle.std.specs.List.{flat_map};
 ghost use Rattle.mw_types.specs.declared.identity.RowName.{RowName as Name};
 ghost use Rattle.row_parts.specs.Contents.{Contents as Kept};
 ghost use Rattle.run_history.specs.Cases.{source_of};
-ghost use Rattle.run_history.specs.Watermarks.{cursor_in, cursor_of};
 ghost use Rattle.run_history.specs.Finished.{has_line, injectors_left, unfinished, IsFinished};
 
-use mw_types::{DeliveryList, Duplicate, Key, NoMemory, RowName, Seq, State, TimerList};
-use plain_definitions::{NamedRow, Run, plain_row_of};
+use crate::lists::joined;
+use crate::low::cursor_of;
+use crate::run::{NamedRow, Run};
+use mw_types::{DeliveryList, NoMemory, Seq, TimerList};
 use run_history::Case;
 use std::alloc::Global;
-
-// A list, and then another.
-fn joined<X: Duplicate>(alloc: Global, front: &Seq<X>, back: &Seq<X>) -> Result<Seq<X>, NoMemory>
-    ensures { IfOk result (λ all. all ≡ front.now ++ back.now) }
-{
-    let mut all = front.copy(alloc)?;
-    for x in back.as_slice() {
-        all.push(x.copy(alloc)?)?;
-    }
-    Ok(all)
-}
 
 // The deliveries of these rows that are not acknowledged.
 fn all_pending(alloc: Global, rows: &[NamedRow]) -> Result<DeliveryList, NoMemory>
@@ -43,28 +33,6 @@ fn all_timers(alloc: Global, rows: &[NamedRow]) -> Result<TimerList, NoMemory>
     };
     let others = all_timers(alloc, rest)?;
     joined(alloc, &first.contents.timers, &others)
-}
-
-// How many lines a state says were injected.
-fn cursor_in(state: &State) -> u32
-    ensures { result ≡ cursor_in state.now }
-{
-    match state {
-        State::Injector { cursor } => *cursor,
-        _ => 0,
-    }
-}
-
-// How many lines of an injector were injected.
-fn cursor_of(alloc: Global, case: &Case, run: &Run, part: u32) -> Result<u32, NoMemory>
-    ensures { IfOk result (λ cursor. cursor ≡ cursor_of case.now run.now part) }
-{
-    let name = RowName {
-        part,
-        key: Key::none(alloc),
-    };
-    let row = plain_row_of(alloc, &case.topology, run, &name)?;
-    Ok(cursor_in(&row.state))
 }
 
 // How many lines an injector has.
@@ -113,7 +81,7 @@ fn sum_of(deliveries: usize, timers: usize, injectors: usize) -> Result<u64, NoM
 }
 
 /// How much work is left, as a count: the deliveries that are not acknowledged, the timers that are
-/// set, and the injectors that have a line left. `unfinished` of `history_laws`,
+/// set, and the injectors that have a line left. `unfinished` of `run_history`,
 /// `specs/Finished.antt`.
 pub fn plain_unfinished(alloc: Global, case: &Case, run: &Run) -> Result<u64, NoMemory>
     ensures unfinished { IfOk result (λ left. left ≡ unfinished case.now run.now) }

@@ -3,7 +3,7 @@ use Rattle.std.specs.Prelude.{filter}
 use Rattle.std.specs.List.{range_with_len}
 use Rattle.topology.specs.Shapes.{injectors_of}
 use Rattle.run_history.specs.Finished.{has_line, injectors_left}
-use Rattle.plain_fences.proofs.finished.injectors_left.Given as goal
+use Rattle.plain_definitions.proofs.finished.injectors_left.Given as goal
 
 -- with those that follow, all injectors that have a line left
 abbrev pub invariant-loop-part : goal.invariant-loop-part

@@ -7,8 +7,8 @@ ghost use Rattle.row_parts.specs.Contents.{Contents as Kept};
 ghost use Rattle.row_parts.specs.Spelling.{list_spelling, state_spelling, spelling_of};
 ghost use Rattle.run_history.specs.Stored.{stored_rows};
 
+use crate::run::{Contents, NamedRow, Run};
 use mw_types::{Bytes, Duplicate, HeldTotal, NoMemory, Seq, State};
-use plain_definitions::{Contents, NamedRow, Run};
 use row_keeper::{KeptRow, KeptRowList};
 use row_parts::{Spelled, put_list};
 use std::alloc::Global;
@@ -109,7 +109,7 @@ fn all_stored(alloc: Global, rows: &[NamedRow]) -> Result<KeptRowList, NoMemory>
 }
 
 /// What a keeper has to hold: each row that an entry is on, with its bytes, in the order of the
-/// names. `stored_rows` of `history_laws`, `specs/Stored.antt`.
+/// names. `stored_rows` of `run_history`, `specs/Stored.antt`.
 pub fn plain_stored_rows(alloc: Global, run: &Run) -> Result<KeptRowList, NoMemory>
     ensures stored { IfOk result (λ rows. map entry_of rows ≡ stored_rows run.now) }
 {
