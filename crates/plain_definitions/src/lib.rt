@@ -7,8 +7,7 @@
 //! so is a history that can't be printed. The definitions are `specs/Handlers.antt` of
 //! `computations`, `specs/Contents.antt` of `row_parts`, and of `run_history` `specs/Made.antt`,
 //! `specs/Runs.antt`, `specs/Watermarks.antt`, `specs/Legal.antt`, `specs/Finished.antt` and
-//! `specs/Stored.antt`; there is none here. `plain_fences`, which stands above, runs these functions
-//! on the worked examples in its tests.
+//! `specs/Stored.antt`; there is none here. `plain_fences`, which stands above, adds fences.
 #![tactic(auto)]
 
 mod finished;
