@@ -41,7 +41,8 @@ fn record_outcome(
     row: &RowName,
     item: &Record,
 ) -> Result<Option<Outcome>, NoMemory>
-    ensures { IfOk result (λ left. left ≡ record_outcome case.now run.now row.now item.now) }
+    ensures { IfOk result (λ left. left ≡ record_outcome case.now row.now
+        (row_of case.now.topology run.now row.now) item.now) }
 {
     let Some(kind) = kind_of(&case.topology, row.part) else {
         return Ok(None);
@@ -59,7 +60,8 @@ fn timer_outcome(
     row: &RowName,
     timer: &Timer,
 ) -> Result<Option<Outcome>, NoMemory>
-    ensures { IfOk result (λ left. left ≡ timer_outcome case.now run.now row.now timer.now) }
+    ensures { IfOk result (λ left. left ≡ timer_outcome case.now row.now
+        (row_of case.now.topology run.now row.now) timer.now) }
 {
     let Some(kind) = kind_of(&case.topology, row.part) else {
         return Ok(None);
