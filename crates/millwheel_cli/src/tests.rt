@@ -1,5 +1,7 @@
 //! The first run, from its words to its text, and refusals by their values.
-use crate::{FirstDone, Status, millwheel_alone};
+mod many_lines;
+
+use crate::{FirstDone, Status, millwheel_alone, tell};
 use injector::LineWhy;
 use mw_ports::{FileList, MemShelf, MemSink, NamedFile};
 use mw_types::{Bytes, CallList, Name, NoMemory, Seq};
@@ -357,7 +359,7 @@ fn an_unread_stream_is_written(rt: HostRuntime) -> Result<(), Fail> {
 }
 
 #[test]
-fn each_status_has_its_text_and_number(rt: HostRuntime) -> Result<(), Fail> {
+fn each_status_is_told_with_its_number(rt: HostRuntime) -> Result<(), Fail> {
     let alloc = rt.alloc();
     says(&rt, alloc, &Status::Ok, 0, "")?;
     says(&rt, alloc, &Status::Usage, 2, "usage: millwheel MODE ARGS")?;
@@ -393,7 +395,7 @@ fn each_status_has_its_text_and_number(rt: HostRuntime) -> Result<(), Fail> {
     says(&rt, alloc, &Status::NotBuilt, 16, "not built yet")
 }
 
-// Looks at the text and the number of a status.
+// Tells a status, and looks at the line and at the number.
 fn says(
     rt: &impl Abort,
     alloc: Global,
@@ -401,8 +403,21 @@ fn says(
     number: u8,
     text: &str,
 ) -> Result<(), Fail> {
-    assert_eq!(rt; status.number(), number);
-    let said = format!(in alloc; "{status}")?;
-    assert_eq!(rt; said.as_str(), text);
+    let mut err = sink(alloc);
+    assert_eq!(rt; tell(alloc, status, &mut err), number);
+    let line = match status {
+        Status::Ok => String::new(alloc),
+        _ => format!(in alloc; "millwheel: {text}\n")?,
+    };
+    assert_eq!(rt; err.text(), line.as_bytes());
+    Ok(())
+}
+
+#[test]
+fn a_status_that_is_not_told_has_its_number(rt: HostRuntime) -> Result<(), Fail> {
+    let alloc = rt.alloc();
+    let mut err = MemSink::of(alloc, 8, call(alloc, 1)?, CallList::new(alloc));
+    assert_eq!(rt; tell(alloc, &Status::NotBuilt, &mut err), 16);
+    assert_eq!(rt; err.text(), b"millwhee".as_slice());
     Ok(())
 }

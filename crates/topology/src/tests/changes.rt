@@ -32,25 +32,15 @@ pub(crate) fn refusal(alloc: Global, bytes: &[u8]) -> Option<TopologyRefusal> {
     read(alloc, bytes).err()
 }
 
-// Why the file with this change is refused, if it is, where memory for it was to be had.
-fn refused(alloc: Global, old: &str, new: &str) -> Option<TopologyRefusal> {
+/// Why the file with this change is refused, if it is, where there was memory for it.
+pub(crate) fn refused(alloc: Global, old: &str, new: &str) -> Option<TopologyRefusal> {
     match changed(alloc, old, new) {
         Ok(text) => refusal(alloc, text.as_bytes()),
         Err(_) => Some(TopologyRefusal::NoMemory),
     }
 }
 
-/// Compares why the file with this change is refused, if it is.
-pub(crate) fn change_gives(
-    rt: &impl Abort,
-    alloc: Global,
-    [old, new]: [&str; 2],
-    why: Option<TopologyRefusal>,
-) {
-    assert!(rt; refused(alloc, old, new) == why, "{new}");
-}
-
-/// Compares it at each line of a table, `old=>new`.
+/// Compares why the file with a change is refused, if it is, at each line of a table, `old=>new`.
 pub(crate) fn changes_give(
     rt: &impl Abort,
     alloc: Global,
@@ -59,6 +49,6 @@ pub(crate) fn changes_give(
 ) {
     for line in table.split('\n') {
         let (old, new) = sides(line);
-        change_gives(rt, alloc, [old, new], why);
+        assert!(rt; refused(alloc, old, new) == why, "{line}");
     }
 }

@@ -1,9 +1,8 @@
 //! What is refused, by which rule.
-use super::changes::{change_gives, changes_give, refusal};
+use super::changes::{changes_give, refusal, refused};
 use crate::TopologyRefusal;
 use mw_types::NoMemory;
 use std::alloc::Global;
-use std::process::Abort;
 
 #[test]
 fn bytes_that_are_no_json_are_refused(rt: HostRuntime) {
@@ -20,21 +19,25 @@ fn bytes_that_are_no_json_are_refused(rt: HostRuntime) {
     }
 }
 
-// So many times the one text, and then so many times the other.
-fn repeated(alloc: Global, depth: u32, [open, close]: [&str; 2]) -> Result<String, NoMemory> {
+// Appends so many times the same.
+fn push_times(text: &mut String, part: &str, count: u32) -> Result<(), NoMemory> {
+    for _ in 0..count {
+        text.push_str(part)?;
+    }
+    Ok(())
+}
+
+// So many arrays, one in another.
+fn nested(alloc: Global, depth: u32) -> Result<String, NoMemory> {
     let mut text = String::new(alloc);
-    for _ in 0..depth {
-        text.push_str(open)?;
-    }
-    for _ in 0..depth {
-        text.push_str(close)?;
-    }
+    push_times(&mut text, "[", depth)?;
+    push_times(&mut text, "]", depth)?;
     Ok(text)
 }
 
 // Why so many arrays, one in another, are refused, if they are.
 fn nested_refusal(alloc: Global, depth: u32) -> Option<TopologyRefusal> {
-    match repeated(alloc, depth, ["[", "]"]) {
+    match nested(alloc, depth) {
         Ok(text) => refusal(alloc, text.as_bytes()),
         Err(_) => Some(TopologyRefusal::NoMemory),
     }
@@ -128,21 +131,26 @@ fn numbers_and_cuts_have_ranges(rt: HostRuntime) {
     changes_give(&rt, alloc, BAD_CUTS, Some(TopologyRefusal::BadCuts));
 }
 
-// Compares why the file with this many readings more is refused, if it is.
-fn more_readings(rt: &impl Abort, alloc: Global, count: u32, why: Option<TopologyRefusal>) {
-    let reading = "{\"stream\":\"raw\",\"by\":\"tail\"},";
-    let old = "{\"stream\":\"raw\",\"by\":\"tail\"}";
-    if let Ok(mut text) = repeated(alloc, count, [reading, ""]) {
-        if text.push_str(old).is_ok() {
-            change_gives(rt, alloc, [old, text.as_str()], why);
-        }
+// The end of a reading, and so many readings more.
+fn more_readings(alloc: Global, count: u32) -> Result<String, NoMemory> {
+    let mut text = String::from_str(alloc, "\"tail\"}")?;
+    push_times(&mut text, ",{\"stream\":\"raw\",\"by\":\"tail\"}", count)?;
+    Ok(text)
+}
+
+// Why the file with so many readings more is refused, if it is.
+fn readings_refusal(alloc: Global, count: u32) -> Option<TopologyRefusal> {
+    match more_readings(alloc, count) {
+        Ok(text) => refused(alloc, "\"tail\"}", text.as_str()),
+        Err(_) => Some(TopologyRefusal::NoMemory),
     }
 }
 
 #[test]
 fn at_most_64_readings_are_read(rt: HostRuntime) {
-    more_readings(&rt, rt.alloc(), 60, None);
-    more_readings(&rt, rt.alloc(), 61, Some(TopologyRefusal::TooMany));
+    let alloc = rt.alloc();
+    assert!(rt; readings_refusal(alloc, 60).is_none());
+    assert!(rt; readings_refusal(alloc, 61) == Some(TopologyRefusal::TooMany));
 }
 
 // No JSON text, and a stream that is no text.
