@@ -4,3 +4,4 @@ pub mod Telling
 pub mod Plainness
 pub mod Lines
 pub mod Writing
+pub mod Said

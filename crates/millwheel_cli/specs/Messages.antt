@@ -1,5 +1,5 @@
 -- What the program says of each status. Own.
-use Rattle.std.specs.Prelude.{ℕ, List, [], ◌++◌, codes, decimal}
+use Rattle.std.specs.Prelude.{ℕ, Bool, true, false, if◌then◌else◌, List, [], ◌++◌, codes, decimal}
 use Rattle.topology.specs.declared.refusal.TopologyRefusal.{TopologyRefusal}
 use Rattle.topology.specs.declared.refusal.TopologyRefusal.TheVariants as topologies
 use Rattle.injector.specs.declared.refusal.LineWhy.{LineWhy}
@@ -44,3 +44,12 @@ message_of (TooLong name) = codes "too long: " ++ name
 message_of (FileCount files injectors) =
     decimal files ++ codes " event files for " ++ decimal injectors ++ codes " injectors"
 message_of NotBuilt = codes "not built yet"
+
+-- whether the run came to its end
+abbrev pub is_ok : Status → Bool
+is_ok Ok = true
+is_ok _ = false
+
+-- the line that is said of a status on standard error, and nothing with Ok
+abbrev pub told_line : Status → List ℕ
+told_line status = if is_ok status then [] else codes "millwheel: " ++ (message_of status ++ codes "\n")

@@ -14,10 +14,12 @@ mod form;
 mod reading;
 mod refusal;
 mod run;
+mod saying;
 mod status;
 #[cfg(test)]
 mod tests;
 mod words;
 
 pub use alone::{FirstDone, millwheel_alone};
+pub use saying::{say, tell};
 pub use status::Status;

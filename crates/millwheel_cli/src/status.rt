@@ -1,7 +1,7 @@
 //! How a call of the program ended.
 ghost use Rattle.std.specs.Prelude.{◌≡◌};
 ghost use Rattle.millwheel_cli.specs.Numbers.{number_of};
-ghost use Rattle.millwheel_cli.specs.Messages.{topology_rule, line_rule};
+ghost use Rattle.millwheel_cli.specs.Messages.{is_ok, topology_rule, line_rule};
 
 use injector::LineWhy;
 use mw_types::Name;
@@ -60,6 +60,16 @@ pub enum Status {
 }
 
 impl Status {
+    /// Whether the run came to its end.
+    pub fn is_ok(&self) -> bool
+        ensures { result ≡ is_ok self.now }
+    {
+        match self {
+            Status::Ok => true,
+            _ => false,
+        }
+    }
+
     /// The number with which the program ends.
     pub fn number(&self) -> u8
         ensures { result ≡ number_of self.now }
