@@ -1,6 +1,6 @@
 -- Why a file was refused is why the call was.
-use Rattle.std.proofs.Common.{◌≡◌, ◌≤◌, ℕ, List, Option, Some, Result, Err, subst, inl, inr, arith}
-use Rattle.mw_types.specs.Causes.{Rose}
+use Rattle.std.proofs.Common.{◌≡◌, ◌≤◌, ℕ, List, Option, Some, Result, Err, subst, inl, inr}
+use Rattle.mw_types.proofs.CauseLaws.{Rose-before}
 use Rattle.mw_ports.specs.Shelves.{Files}
 use Rattle.topology.specs.Shapes.{Shape}
 use Rattle.topology.specs.FileRules.{topology_of}
@@ -14,10 +14,6 @@ use Rattle.millwheel_cli.specs.Files.{HoldsTopology, source_taken}
 use Rattle.millwheel_cli.specs.Reasons.{ShelfSeen, IsUnread, IsFileRefused, IsTopologyRefused, IsRefused, HasReason}
 use Rattle.millwheel_cli.specs.Inside.{status_of, UnlessWant}
 use Rattle.millwheel_cli.proofs.Refusals.{unless_map, built_of-usage, unstated_of-usage}
-
--- what rose later rose over the whole
-Rose-before : (a b c : ℕ) → a ≤ b → Rose b c → Rose a c
-Rose-before a b c le rose = omega (arith, le, rose)
 
 -- `Usage` is no reason why a file is refused
 file-usage : {T : Type 0} (seen : ShelfSeen) (name : List ℕ) (limit : ℕ) (taken : List ℕ → Result T Status)
