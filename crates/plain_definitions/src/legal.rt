@@ -142,6 +142,22 @@ fn may_inject(
     Ok(part < case.topology.injectors() && line == cursor && is_of_line(case, part, line, item))
 }
 
+// Whether a row's handler leaves this of a record.
+fn handles(
+    alloc: Global,
+    case: &Case,
+    run: &Run,
+    row: &RowName,
+    item: &Record,
+    effects: &Effects,
+) -> Result<bool, NoMemory>
+    ensures { IfOk result (λ does. IsTrue does ↔ (record_outcome case.now row.now
+        (row_of case.now.topology run.now row.now) item.now ≡ Some effects.now)) }
+{
+    let left = record_outcome(alloc, case, run, row, item)?;
+    Ok(leaves(&left, effects))
+}
+
 // Whether a row may handle a delivery.
 fn may_handle(
     alloc: Global,
@@ -157,8 +173,8 @@ fn may_handle(
     let Some(delivery) = found_delivery(id, run.unhandled.as_slice()) else {
         return Ok(false);
     };
-    let left = record_outcome(alloc, case, run, row, &delivery.item)?;
-    Ok(delivery.to.same(row) && leaves(&left, effects))
+    let does = handles(alloc, case, run, row, &delivery.item, effects)?;
+    Ok(delivery.to.same(row) && does)
 }
 
 // Whether the first of these timers is this one.
