@@ -11,14 +11,13 @@ use Rattle.mw_types.specs.declared.identity.RowName.{RowName}
 use Rattle.mw_types.specs.declared.entry.Entry.{Entry}
 use Rattle.mw_types.specs.declared.entry.Entry.TheVariants.{Claim, Inject, Handle, Fire, Ack, Purge}
 use Rattle.run_history.specs.Made.{row_written}
-use Rattle.run_history.specs.Fences.{is_claim, later_claim, last_claim}
+use Rattle.run_history.specs.Fences.{IsClaimed, is_claim, later_claim, last_claim}
 use Rattle.run_history.proofs.Lists.{none_some, some_same}
 use Rattle.run_history.proofs.Claims.{last_claim-push}
 use Rattle.book.specs.Books.{BookView, LeaseView}
 use Rattle.book.specs.Answers.{IsStaleWhere, IsFullWhere}
 use Rattle.book.specs.declared.refusals.WriteRefusal.{WriteRefusal}
 use Rattle.book.specs.declared.refusals.WriteRefusal.TheVariants as refusals
-use Rattle.book.specs.Conditions.{IsClaimed}
 use Rattle.book.specs.Appending.{KnowsClaims, later_than}
 
 -- an entry on a row is no claim
@@ -35,7 +34,8 @@ pub KnowsClaims-row : (newest : ℕ → Option ℕ) (old new : List Entry) (entr
     → row_written entry ≡ Some name → new ≡ old ++ entry ∷ [] → KnowsClaims newest new
 KnowsClaims-row newest old new entry name knows written appended interval =
     knows interval
-    ∙ sym (last_claim-push interval old entry ∙ ap (λ b. cond b (Some (length old)) (last_claim interval old)) (row-no_claim interval entry name written))
+    ∙ sym (last_claim-push interval old entry ∙ ap (λ b. cond b (Some (length old)) (last_claim interval old))
+    (row-no_claim interval entry name written))
     ∙ ap (last_claim interval) (sym appended)
 
 -- ---- the last claim, where there is one
@@ -46,7 +46,8 @@ last-from : (interval n s : ℕ) (entries : List Entry) → s ≤ n
 last-from interval n s [] before = (s, refl, omega arith)
 last-from interval n s (e ∷ es) before = elim (is_claim interval e)
     as (λ b. (t : ℕ) × (fold (later_claim interval) (cond b (Some n) (Some s)) (enumerate_from (n + 1) es) ≡ Some t) × (s ≤ t)) [
-      | true ↦ let later = last-from interval (n + 1) n es (omega arith) in let after = later.2 in (later.0, later.1, omega (arith, before, after))
+      | true ↦ let later = last-from interval (n + 1) n es (omega arith) in let after = later.2 in
+          (later.0, later.1, omega (arith, before, after))
       | false ↦ last-from interval (n + 1) s es (omega (arith, before))
     ]
 
@@ -65,7 +66,7 @@ claimed-from interval worker n (suc i) last (e ∷ es) at =
     (later.0, later.1, omega (arith, after))
 
 -- the interval of a lease has a last claim, which is the lease's or a later one
-pub last-claimed : (history : List Entry) (lease : LeaseView) → IsClaimed history lease
+pub last-claimed : (history : List Entry) (lease : LeaseView) → IsClaimed lease.interval lease.seq history
     → (t : ℕ) × (last_claim lease.interval history ≡ Some t) × (lease.seq ≤ t)
 last-claimed history lease claimed =
     let found = claimed-from lease.interval claimed.0 0 lease.seq None history claimed.1 in
@@ -73,21 +74,23 @@ last-claimed history lease claimed =
 
 -- a later claim than the lease's is the last of its interval
 pub later-exact : (history : List Entry) (lease : LeaseView) (newer : ℕ)
-    → (later_than lease.seq (last_claim lease.interval history) ≡ Some newer) ↔ ((last_claim lease.interval history ≡ Some newer) × (lease.seq < newer))
+    → (later_than lease.seq (last_claim lease.interval history) ≡ Some newer) ↔
+    ((last_claim lease.interval history ≡ Some newer) × (lease.seq < newer))
 later-exact history lease newer = (forth (last_claim lease.interval history), back (last_claim lease.interval history))
   where
     forth : (o : Option ℕ) → later_than lease.seq o ≡ Some newer → (o ≡ Some newer) × (lease.seq < newer)
     forth None later = absurd (none_some newer later)
-    forth (Some t) later = elim (nat_lt lease.seq t) as (λ b. nat_lt lease.seq t ≡ b → cond b (Some t) None ≡ Some newer → (Some t ≡ Some newer) × (lease.seq < newer)) [
-      | true ↦ λ less same. (same, subst (λ n. lease.seq < n) (some_same t newer same) (ltb-true lease.seq t less))
-      | false ↦ λ _ none. absurd (none_some newer none)
-    ] refl later
+    forth (Some t) later = elim (nat_lt lease.seq t) as
+        (λ b. nat_lt lease.seq t ≡ b → cond b (Some t) None ≡ Some newer → (Some t ≡ Some newer) × (lease.seq < newer)) [
+          | true ↦ λ less same. (same, subst (λ n. lease.seq < n) (some_same t newer same) (ltb-true lease.seq t less))
+          | false ↦ λ _ none. absurd (none_some newer none)
+        ] refl later
 
     back : (o : Option ℕ) → (o ≡ Some newer) × (lease.seq < newer) → later_than lease.seq o ≡ Some newer
     back o is = ap (later_than lease.seq) is.0 ∙ ap (λ b. cond b (Some newer) None) (lt-ltb lease.seq newer is.1)
 
 -- where no later claim is there, the lease's is the last of its interval
-pub later-own : (history : List Entry) (lease : LeaseView) → IsClaimed history lease
+pub later-own : (history : List Entry) (lease : LeaseView) → IsClaimed lease.interval lease.seq history
     → later_than lease.seq (last_claim lease.interval history) ≡ None → last_claim lease.interval history ≡ Some lease.seq
 later-own history lease claimed none =
     let found = last-claimed history lease claimed in
@@ -135,7 +138,7 @@ stale-some history lease n later newer = (
 -- and then the history is not said to be full
 pub full-some : {T : Type 0} (book : BookView) (lease : LeaseView) (n : ℕ)
     → ((newer : ℕ) → (Some n ≡ Some newer) ↔ ((last_claim lease.interval book.history ≡ Some newer) × (lease.seq < newer)))
-    → IsFullWhere {T = T} book lease (Err (refusals.Stale n))
+    → IsFullWhere {T = T} book.limit book.history lease (Err (refusals.Stale n))
 full-some book lease n later =
     let is = (later n).0 refl in
     let less = is.1 in (

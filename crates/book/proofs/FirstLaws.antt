@@ -60,7 +60,8 @@ one-small true = omega arith
 one-small false = omega arith
 
 -- all injectors
-pub unfinished-first : (case : CaseShape) (part : ℕ) → part ≡ injectors_of case.topology → lines_before case part ≡ unfinished case empty_run
+pub unfinished-first : (case : CaseShape) (part : ℕ) → part ≡ injectors_of case.topology
+    → lines_before case part ≡ unfinished case empty_run
 unfinished-first case part all = ap (lines_before case) all ∙ added (lines_before case (injectors_of case.topology))
   where
     added : (n : ℕ) → n ≡ 0 + 0 + n

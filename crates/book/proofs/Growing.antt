@@ -25,7 +25,8 @@ each-behind P (x ∷ xs) ys each = each-behind P xs ys each.1
 
 module _ {X : Type 0} (R : X → X → Ordering) where
   -- in a list in order each before a place is below what stands there
-  below-place : (ys : List X) (i : ℕ) (d : X) → IsStrictlySortedBy R ys → i < length ys → d ≡ get_or ys i d → AllByRecursion (λ y. R y d ≡ Less) (take i ys)
+  below-place : (ys : List X) (i : ℕ) (d : X) → IsStrictlySortedBy R ys → i < length ys → d ≡ get_or ys i d
+      → AllByRecursion (λ y. R y d ≡ Less) (take i ys)
   unfolding IsStrictlySortedBy
   below-place [] i d sorted within at = absurd (omega (arith, within))
   below-place (y ∷ ys) zero d sorted within at = tt
@@ -37,15 +38,21 @@ module _ {X : Type 0} (R : X → X → Ordering) where
       → AllByRecursion (λ y. R y d ≡ Less) (xs ++ take i ys)
   unfolding IsStrictlySortedBy
   below-place_behind [] ys i d sorted within at = below-place ys i d sorted within at
-  below-place_behind (x ∷ xs) ys i d sorted within at =
-      (each-get (λ z. R x z ≡ Less) ys i d (each-behind (λ z. R x z ≡ Less) xs ys sorted.0) within at, below-place_behind xs ys i d sorted.1 within at)
+  below-place_behind (x ∷ xs) ys i d sorted within at = (
+    each-get (λ z. R x z ≡ Less) ys i d (each-behind (λ z. R x z ≡ Less) xs ys sorted.0) within at,
+    below-place_behind xs ys i d
+        sorted.1 within at,
+  )
 
   -- said of all
-  pub all_below : (xs ys : List X) (i : ℕ) (d : X) → IsStrictlySortedBy R (xs ++ ys) → i < length ys → d ≡ get_or ys i d → All (λ y. R y d ≡ Less) (xs ++ take i ys)
-  all_below xs ys i d sorted within at = All-from_recursion (λ y. R y d ≡ Less) (xs ++ take i ys) (below-place_behind xs ys i d sorted within at)
+  pub all_below : (xs ys : List X) (i : ℕ) (d : X) → IsStrictlySortedBy R (xs ++ ys) → i < length ys → d ≡ get_or ys i d
+      → All (λ y. R y d ≡ Less) (xs ++ take i ys)
+  all_below xs ys i d sorted within at = All-from_recursion (λ y. R y d ≡ Less) (xs ++ take i ys)
+      (below-place_behind xs ys i d sorted within at)
 
 -- one more element of the other list
-pub grown-more : {X : Type 0} (xs ys : List X) (i : ℕ) (d : X) → i < length ys → d ≡ get_or ys i d → (xs ++ take i ys) ++ d ∷ [] ≡ xs ++ take (i + 1) ys
+pub grown-more : {X : Type 0} (xs ys : List X) (i : ℕ) (d : X) → i < length ys → d ≡ get_or ys i d
+    → (xs ++ take i ys) ++ d ∷ [] ≡ xs ++ take (i + 1) ys
 grown-more xs ys i d within at =
     append_assoc xs (take i ys) (d ∷ []) ∙ ap (λ e. xs ++ (take i ys ++ e ∷ [])) at ∙ sym (ap (λ l. xs ++ l) (take_more ys i d within))
 

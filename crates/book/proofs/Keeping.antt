@@ -35,8 +35,8 @@ use Rattle.book.specs.Books.{CoreView}
 use Rattle.book.specs.Lawful.{IsKept, IsHeld, AreClaimsThere, IsLawful}
 use Rattle.book.specs.Appending.{IsNext}
 use Rattle.book.specs.Marks.{AreSafe}
-use Rattle.book.specs.Senders.{AreSenders}
-use Rattle.book.specs.Sending.{sender_of, KnowsSame}
+use Rattle.book.specs.Senders.{AreSenders, sender_of}
+use Rattle.book.specs.Sending.{KnowsSame}
 use Rattle.book.proofs.SenderSteps.{senders-claim, senders-same}
 use Rattle.book.proofs.MarkSteps.{claims-next, claims-claim, AreSafe-appended, AreSafe-same, told-stored}
 use Rattle.run_history.proofs.Fitting.{fits-later}
@@ -46,7 +46,8 @@ each-put : (P : RowName × Contents → Type 0) (es : List (RowName × Contents)
     → AllByRecursion P es → P (k, v) → AllByRecursion P (insert_entry row_cmp es k v)
 each-put P [] k v each new = (new, tt)
 each-put P (e ∷ es) k v each new =
-    elim (row_cmp k e.0) as (λ r. row_cmp k e.0 ≡ r → AllByRecursion P (match_ordering r ((k, v) ∷ e ∷ es) ((e.0, v) ∷ es) (e ∷ insert_entry row_cmp es k v))) [
+    elim (row_cmp k e.0) as (λ r. row_cmp k e.0 ≡ r
+    → AllByRecursion P (match_ordering r ((k, v) ∷ e ∷ es) ((e.0, v) ∷ es) (e ∷ insert_entry row_cmp es k v))) [
       | Less ↦ λ _. (new, each)
       | Equal ↦ λ p. (subst (λ (n : RowName). P (n, v)) (same_row k e.0 (ap is_eq p)) new, each.1)
       | Greater ↦ λ _. (each.0, each-put P es k v each.1 new)
@@ -71,7 +72,8 @@ kept-later : (case : CaseShape) (n : ℕ) (r : RowName × Contents) → IsKept c
 kept-later case n r kept = record { spelled = kept.spelled; fit = fits-later case n r.0 r.1 kept.fit }
 
 -- what is held after a legal history is held after an entry on a row
-IsHeld-next : (case : CaseShape) (history : List Entry) (rows : Rows) (name : RowName) (entry : Entry) (row : Contents) → IsHeld case history rows
+IsHeld-next : (case : CaseShape) (history : List Entry) (rows : Rows) (name : RowName) (entry : Entry) (row : Contents)
+    → IsHeld case history rows
     → row_written entry ≡ Some name → MayFollow case (run_of case.topology history) entry
     → row ≡ row_of case.topology (run_of case.topology (history ++ entry ∷ [])) name
     → IsKept case (length history + 1) (name, row)
@@ -87,18 +89,21 @@ IsHeld-next case history rows name entry row held written may is kept =
     let made : row ≡ made_row shape run entry name =
     is ∙ ap (λ (r : Run). row_of shape r name) push ∙ row_of-here shape run entry name written in record {
       legal = IsLegal-push case history entry held.legal may;
-      stored = ap (with_row name (spelling_of row)) held.stored ∙ ap (λ (c : Contents). with_row name (spelling_of c) (stored_rows run)) is ∙ sym stored;
+      stored = ap (with_row name (spelling_of row)) held.stored
+          ∙ ap (λ (c : Contents). with_row name (spelling_of c) (stored_rows run)) is ∙ sym stored;
       kept = subst (λ n. AllByRecursion (IsKept case n) (run_of shape (history ++ entry ∷ [])).rows) (sym (length-push history entry))
           (subst (λ (r : Run). AllByRecursion (IsKept case (length history + 1)) r.rows) (sym push)
           (subst (λ w. AllByRecursion (IsKept case (length history + 1))
           (option_map_or (λ (n : RowName). insert_entry row_cmp run.rows n (made_row shape run entry n)) w run.rows)) (sym written)
           (each-put (IsKept case (length history + 1)) run.rows name (made_row shape run entry name)
-          (each-weaker (IsKept case (length history)) (IsKept case (length history + 1)) (kept-later case (length history)) run.rows held.kept)
+          (each-weaker (IsKept case (length history)) (IsKept case (length history + 1))
+          (kept-later case (length history)) run.rows held.kept)
           (subst (λ (c : Contents). IsKept case (length history + 1) (name, c)) made kept))));
     }
 
 -- how much work is left after an entry on a row
-unfinished-next : (case : CaseShape) (history : List Entry) (name : RowName) (entry : Entry) (before row : Contents) (old new : ℕ) → row_written entry ≡ Some name
+unfinished-next : (case : CaseShape) (history : List Entry) (name : RowName) (entry : Entry) (before row : Contents) (old new : ℕ)
+    → row_written entry ≡ Some name
     → old ≡ unfinished case (run_of case.topology history) → before ≡ row_of case.topology (run_of case.topology history) name
     → row ≡ row_of case.topology (run_of case.topology (history ++ entry ∷ [])) name
     → new ≡ (old + work_in case name row) - work_in case name before
@@ -127,29 +132,35 @@ IsLawful-next case old new name entry before row lawful next spelled was work ap
   few = omega (arith, ap length appended, length-push old.history entry, next.room, limit);
   fenced = subst (IsFenced case.topology) (sym appended) (IsFenced-push case.topology old.history entry lawful.fenced next.under);
   printable = subst (IsPrintable case.topology) (sym appended) (IsPrintable-push case.topology old.history entry lawful.printable
-      (omega (arith, next.room, lawful.limit)) (subst (λ w. IfSome w (λ (r : RowName). r.part < parts_of case.topology)) (sym next.on_row) next.part) next.few);
+      (omega (arith, next.room, lawful.limit)) (subst (λ w. IfSome w (λ (r : RowName). r.part < parts_of case.topology))
+      (sym next.on_row) next.part) next.few);
   held = held;
   left = subst (λ (h : List Entry). IfSome new.rows (λ _. new.work ≡ unfinished case (run_of case.topology h))) (sym appended)
-      (subst (λ o. IfSome o (λ _. new.work ≡ unfinished case (run_of case.topology (old.history ++ entry ∷ [])))) (sym stored) (told-left old.rows lawful.left was next.of_history));
+      (subst (λ o. IfSome o (λ _. new.work ≡ unfinished case (run_of case.topology (old.history ++ entry ∷ [])))) (sym stored)
+      (told-left old.rows lawful.left was next.of_history));
   senders = senders;
   claims = subst (AreClaimsThere case.topology) (sym appended) (claims-next case.topology old.history entry name next.on_row lawful.claims);
   marks = ap length same_marks ∙ lawful.marks;
   safe = AreSafe-appended case old new entry lawful.runnable appended same_marks held
-      (subst (λ o. IfSome o (λ _. AreSafe case (run_of case.topology old.history) old.marks)) (sym stored) (told-stored (AreSafe case (run_of case.topology old.history) old.marks) (with_row name (spelling_of row)) old.rows lawful.safe));
+      (subst (λ o. IfSome o (λ _. AreSafe case (run_of case.topology old.history) old.marks)) (sym stored)
+      (told-stored (AreSafe case (run_of case.topology old.history) old.marks) (with_row name (spelling_of row)) old.rows lawful.safe));
 }
   where
     told-left : (o : Option Rows) → IfSome o (λ _. old.work ≡ unfinished case (run_of case.topology old.history))
         → IfSome o (λ _. before ≡ row_of case.topology (run_of case.topology old.history) name)
         → IfSome o (λ _. row ≡ row_of case.topology (run_of case.topology (old.history ++ entry ∷ [])) name)
-        → IfSome (option_map (with_row name (spelling_of row)) o) (λ _. new.work ≡ unfinished case (run_of case.topology (old.history ++ entry ∷ [])))
+        → IfSome (option_map (with_row name (spelling_of row)) o)
+        (λ _. new.work ≡ unfinished case (run_of case.topology (old.history ++ entry ∷ [])))
     told-left None left was is = tt
-    told-left (Some rows) left was is = unfinished-next case old.history name entry before row old.work new.work next.on_row left was is work
+    told-left (Some rows) left was is = unfinished-next case old.history name entry before row old.work new.work next.on_row left was is
+        work
 
     told : (o : Option Rows) → IfSome o (IsHeld case old.history) → IfSome o (λ _. MayFollow case (run_of case.topology old.history) entry)
         → IfSome o (λ _. row ≡ row_of case.topology (run_of case.topology (old.history ++ entry ∷ [])) name)
         → IfSome (option_map (with_row name (spelling_of row)) o) (IsHeld case (old.history ++ entry ∷ []))
     told None held may is = tt
-    told (Some rows) held may is = IsHeld-next case old.history rows name entry row held next.on_row may is (record { spelled = spelled; fit = next.fit })
+    told (Some rows) held may is = IsHeld-next case old.history rows name entry row held next.on_row may is
+        (record { spelled = spelled; fit = next.fit })
 
     held : IfSome new.rows (IsHeld case new.history)
     held = subst (λ (h : List Entry). IfSome new.rows (IsHeld case h)) (sym appended)
@@ -167,7 +178,8 @@ IsHeld-claim case history rows worker interval held may =
       stored = held.stored ∙ sym (stored_rows-kept shape run entry refl) ∙ sym (ap stored_rows push);
       kept = subst (λ n. AllByRecursion (IsKept case n) (run_of shape (history ++ entry ∷ [])).rows) (sym (length-push history entry))
           (subst (λ (r : Run). AllByRecursion (IsKept case (length history + 1)) r.rows) (sym push)
-          (each-weaker (IsKept case (length history)) (IsKept case (length history + 1)) (kept-later case (length history)) run.rows held.kept));
+          (each-weaker (IsKept case (length history)) (IsKept case (length history + 1))
+          (kept-later case (length history)) run.rows held.kept));
     }
 
 -- a book stays lawful, once a claim that may come next is appended
@@ -180,12 +192,15 @@ IsLawful-claimed case old new worker interval lawful room may appended rows limi
   limit = subst (λ n. n ≤ 2 ^ 32) (sym limit) lawful.limit;
   few = omega (arith, ap length appended, length-push old.history (Claim worker interval), room, limit);
   fenced = subst (IsFenced case.topology) (sym appended)
-      (IsFenced-push case.topology old.history (Claim worker interval) lawful.fenced (claim-under case.topology old.history worker interval));
-  printable = subst (IsPrintable case.topology) (sym appended) (IsPrintable-push case.topology old.history (Claim worker interval) lawful.printable
+      (IsFenced-push case.topology old.history (Claim worker interval) lawful.fenced
+      (claim-under case.topology old.history worker interval));
+  printable = subst (IsPrintable case.topology) (sym appended)
+      (IsPrintable-push case.topology old.history (Claim worker interval) lawful.printable
       (omega (arith, room, lawful.limit)) tt (omega arith));
   held = held;
   left = subst (λ (h : List Entry). IfSome new.rows (λ _. new.work ≡ unfinished case (run_of case.topology h))) (sym appended)
-      (subst (λ o. IfSome o (λ _. new.work ≡ unfinished case (run_of case.topology (old.history ++ Claim worker interval ∷ [])))) (sym rows) (told-left old.rows lawful.left));
+      (subst (λ o. IfSome o (λ _. new.work ≡ unfinished case (run_of case.topology (old.history ++ Claim worker interval ∷ []))))
+      (sym rows) (told-left old.rows lawful.left));
   senders = subst (λ (h : List Entry). AreSenders case.topology (run_of case.topology h) new.unacknowledged) (sym appended)
       (subst (AreSenders case.topology (run_of case.topology (old.history ++ Claim worker interval ∷ []))) (sym same_senders)
       (senders-claim case.topology old.history worker interval old.unacknowledged lawful.senders));
@@ -220,7 +235,8 @@ IsLawful-stays case old new lawful history rows limit work same_senders same_mar
   few = omega (arith, ap length history, lawful.few, limit);
   fenced = subst (IsFenced case.topology) (sym history) lawful.fenced;
   printable = subst (IsPrintable case.topology) (sym history) lawful.printable;
-  held = subst (λ (h : List Entry). IfSome new.rows (IsHeld case h)) (sym history) (subst (λ o. IfSome o (IsHeld case old.history)) (sym rows) lawful.held);
+  held = subst (λ (h : List Entry). IfSome new.rows (IsHeld case h)) (sym history)
+      (subst (λ o. IfSome o (IsHeld case old.history)) (sym rows) lawful.held);
   left = subst (λ (h : List Entry). IfSome new.rows (λ _. new.work ≡ unfinished case (run_of case.topology h))) (sym history)
       (subst (λ o. IfSome o (λ _. new.work ≡ unfinished case (run_of case.topology old.history))) (sym rows)
       (subst (λ n. IfSome old.rows (λ _. n ≡ unfinished case (run_of case.topology old.history))) (sym work) lawful.left));
@@ -232,11 +248,14 @@ IsLawful-stays case old new lawful history rows limit work same_senders same_mar
 }
 
 -- a book stays lawful, whether a claim was appended or not
-pub IsLawful-claiming : {T E : Type 0} (case : CaseShape) (old new : CoreView) (worker interval : ℕ) (result : Result T E) → IsLawful case old
+pub IsLawful-claiming : {T E : Type 0} (case : CaseShape) (old new : CoreView) (worker interval : ℕ) (result : Result T E)
+    → IsLawful case old
     → length old.history < old.limit → MayClaim case worker interval
     → OnOk result (new.history ≡ old.history ++ Claim worker interval ∷ []) → OnErr result (new.history ≡ old.history)
-    → new.rows ≡ old.rows → new.limit ≡ old.limit → new.work ≡ old.work → new.unacknowledged ≡ old.unacknowledged → new.marks ≡ old.marks → IsLawful case new
+    → new.rows ≡ old.rows → new.limit ≡ old.limit → new.work ≡ old.work → new.unacknowledged ≡ old.unacknowledged → new.marks ≡ old.marks
+    → IsLawful case new
 IsLawful-claiming case old new worker interval (Ok x) lawful room may appended history rows limit work same_senders same_marks =
     IsLawful-claimed case old new worker interval lawful room may appended rows limit work same_senders same_marks
 IsLawful-claiming case old new worker interval (Err why) lawful room may appended history rows limit work same_senders same_marks =
-    IsLawful-stays case old new lawful history rows limit work (λ id. ap (λ (l : List (RecordId × RowName)). sender_of l id) same_senders) same_marks
+    IsLawful-stays case old new lawful history rows limit work (λ id. ap (λ (l : List (RecordId × RowName)). sender_of l id) same_senders)
+    same_marks

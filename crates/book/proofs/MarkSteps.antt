@@ -29,8 +29,10 @@ use Rattle.book.specs.Marks.{IsSafeAt, AreSafe, with_mark}
 -- ---- claims
 
 -- the last claim of an interval, after an entry that is no claim of it, or a claim of one that is there
-claims-by : (shape : Shape) (history : List Entry) (entry : Entry) (interval seq : ℕ) (test : Bool) → (test ≡ true → interval < length (intervals_of shape))
-    → AreClaimsThere shape history → cond test (Some (length history)) (last_claim interval history) ≡ Some seq → interval < length (intervals_of shape)
+claims-by : (shape : Shape) (history : List Entry) (entry : Entry) (interval seq : ℕ) (test : Bool)
+    → (test ≡ true → interval < length (intervals_of shape))
+    → AreClaimsThere shape history → cond test (Some (length history)) (last_claim interval history) ≡ Some seq
+    → interval < length (intervals_of shape)
 claims-by shape history entry interval seq true here there last = here refl
 claims-by shape history entry interval seq false here there last = there interval seq last
 
@@ -69,20 +71,24 @@ pub AreSafe-next : (case : CaseShape) (history : List Entry) (entry : Entry) (ma
     → IfSome told (λ _. AreSafe case (run_of case.topology (history ++ entry ∷ [])) marks)
 AreSafe-next case history entry marks None runs held safe = tt
 AreSafe-next case history entry marks (Some rows) runs held safe =
-    λ interval bounds at. IsSafe-stays case history (entry ∷ []) interval bounds (mark_of marks interval) runs held.legal at (safe interval bounds at)
+    λ interval bounds at. IsSafe-stays case history (entry ∷ []) interval bounds (mark_of marks interval) runs held.legal at
+    (safe interval bounds at)
 
 -- and so over all of a book, where the marks stay
-pub AreSafe-appended : (case : CaseShape) (old new : CoreView) (entry : Entry) → IsRunnable case → new.history ≡ old.history ++ entry ∷ [] → new.marks ≡ old.marks
+pub AreSafe-appended : (case : CaseShape) (old new : CoreView) (entry : Entry) → IsRunnable case → new.history ≡ old.history ++ entry ∷ []
+    → new.marks ≡ old.marks
     → IfSome new.rows (IsHeld case new.history) → IfSome new.rows (λ _. AreSafe case (run_of case.topology old.history) old.marks)
     → IfSome new.rows (λ _. AreSafe case (run_of case.topology new.history) new.marks)
 AreSafe-appended case old new entry runs appended same held safe =
     subst (λ (l : List ℕ). IfSome new.rows (λ _. AreSafe case (run_of case.topology new.history) l)) (sym same)
     (subst (λ (h : List Entry). IfSome new.rows (λ _. AreSafe case (run_of case.topology h) old.marks)) (sym appended)
-    (AreSafe-next case old.history entry old.marks new.rows runs (subst (λ (h : List Entry). IfSome new.rows (IsHeld case h)) appended held) safe))
+    (AreSafe-next case old.history entry old.marks new.rows runs
+    (subst (λ (h : List Entry). IfSome new.rows (IsHeld case h)) appended held) safe))
 
 -- marks are safe where nothing was appended
 pub AreSafe-same : (case : CaseShape) (old new : CoreView) → new.history ≡ old.history → new.rows ≡ old.rows → new.marks ≡ old.marks
-    → IfSome old.rows (λ _. AreSafe case (run_of case.topology old.history) old.marks) → IfSome new.rows (λ _. AreSafe case (run_of case.topology new.history) new.marks)
+    → IfSome old.rows (λ _. AreSafe case (run_of case.topology old.history) old.marks)
+    → IfSome new.rows (λ _. AreSafe case (run_of case.topology new.history) new.marks)
 AreSafe-same case old new history rows same safe =
     subst (λ (l : List ℕ). IfSome new.rows (λ _. AreSafe case (run_of case.topology new.history) l)) (sym same)
     (subst (λ (h : List Entry). IfSome new.rows (λ _. AreSafe case (run_of case.topology h) old.marks)) (sym history)
@@ -99,7 +105,8 @@ mark-here marks interval mark within =
     unwrap_or-slice_get (with_mark interval mark marks) interval 0 ∙ get_or-set_same marks interval mark 0 within
 
 -- and all others are as they were
-mark-other : (marks : List ℕ) (interval other mark : ℕ) → other ≢ interval → mark_of (with_mark interval mark marks) other ≡ mark_of marks other
+mark-other : (marks : List ℕ) (interval other mark : ℕ) → other ≢ interval
+    → mark_of (with_mark interval mark marks) other ≡ mark_of marks other
 mark-other marks interval other mark differs =
     unwrap_or-slice_get (with_mark interval mark marks) other 0 ∙ get_or-set_other marks interval other mark 0 differs
     ∙ sym (unwrap_or-slice_get marks other 0)
@@ -116,7 +123,8 @@ AreSafe-raised case run marks interval mark within safe new other bounds at =
     by_test : (b : Bool) → (other == interval) ≡ b → IsSafe case run bounds (mark_of (with_mark interval raised marks) other)
     by_test true same =
         let is : other ≡ interval = eqb-true other interval same in
-        let here : slice_get (intervals_of case.topology) interval ≡ Some bounds = ap (slice_get (intervals_of case.topology)) (sym is) ∙ at in
+        let here : slice_get (intervals_of case.topology) interval ≡ Some bounds = ap (slice_get (intervals_of case.topology)) (sym is)
+        ∙ at in
         subst (IsSafe case run bounds)
         (sym (mark-here marks interval raised within) ∙ ap (mark_of (with_mark interval raised marks)) (sym is))
         (IsSafe-greater case run bounds (mark_of marks interval) mark (safe interval bounds here) (new bounds here))
@@ -130,7 +138,8 @@ pub length-with_mark : (interval mark : ℕ) (marks : List ℕ) → length (with
 length-with_mark interval mark marks = length-set marks interval mark
 
 -- a book stays lawful, once the mark of an interval is raised to a safe one
-pub IsLawful-raised : (case : CaseShape) (old : CoreView) (interval mark : ℕ) → IsLawful case old → interval < length (intervals_of case.topology)
+pub IsLawful-raised : (case : CaseShape) (old : CoreView) (interval mark : ℕ) → IsLawful case old
+    → interval < length (intervals_of case.topology)
     → IfSome old.rows (λ _. IsSafeAt case (run_of case.topology old.history) interval mark)
     → IsLawful case (record old { marks = with_mark interval (max (mark_of old.marks interval) mark) old.marks })
 IsLawful-raised case old interval mark lawful there new = record {
@@ -151,6 +160,8 @@ IsLawful-raised case old interval mark lawful there new = record {
     raised = with_mark interval (max (mark_of old.marks interval) mark) old.marks
 
     by_told : (told : Option Rows) → IfSome told (λ _. AreSafe case (run_of case.topology old.history) old.marks)
-        → IfSome told (λ _. IsSafeAt case (run_of case.topology old.history) interval mark) → IfSome told (λ _. AreSafe case (run_of case.topology old.history) raised)
+        → IfSome told (λ _. IsSafeAt case (run_of case.topology old.history) interval mark)
+        → IfSome told (λ _. AreSafe case (run_of case.topology old.history) raised)
     by_told None safe new = tt
-    by_told (Some rows) safe new = AreSafe-raised case (run_of case.topology old.history) old.marks interval mark (omega (arith, there, lawful.marks)) safe new
+    by_told (Some rows) safe new = AreSafe-raised case (run_of case.topology old.history) old.marks interval mark
+        (omega (arith, there, lawful.marks)) safe new

@@ -37,7 +37,7 @@ use Rattle.history_laws.proofs.SeenLaws.{found-more, IsLegalAndFenced-front}
 use Rattle.book.specs.Books.{BookView, LeaseView, core_of}
 use Rattle.run_history.specs.Fits.{fits, suits_part, is_cursor_within, is_sent_before}
 use Rattle.book.specs.Lawful.{IsHeld, IsLawful}
-use Rattle.book.specs.Conditions.{MayUse, IsRowSeen}
+use Rattle.book.specs.Conditions.{MayUseAt, IsRowSeenAt}
 use Rattle.book.specs.Answers.{IsWritten}
 use Rattle.book.specs.declared.answers.Written.{Written}
 use Rattle.book.specs.declared.refusals.WriteRefusal.{WriteRefusal}
@@ -54,7 +54,8 @@ abbrev Suits : Kind → Outcome → Type 0
 Suits kind o = (has_kind kind o.state ≡ true) × (length o.productions ≤ 8)
 
 -- what a handler leaves of a record
-pub record-suits : (kind : Kind) (key : List ℕ) (state : State) (item : Record) → has_kind kind state ≡ true → Suits kind (effects_of_record kind key state item)
+pub record-suits : (kind : Kind) (key : List ℕ) (state : State) (item : Record) → has_kind kind state ≡ true
+    → Suits kind (effects_of_record kind key state item)
 record-suits (kinds.Count size) key (states.Count late windows) item is =
     elim item.late as (λ b. Suits (kinds.Count size) (cond b (unchanged (states.Count (one_more late) windows))
     (let end = window_end size item.stamp in outcome_with_timer (states.Count late (counted windows end)) end item))) [
@@ -79,7 +80,8 @@ record-suits kinds.Pass key (states.Count late windows) item is = absurd cc
 record-suits kinds.Pass key (states.Spike late held known) item is = absurd cc
 
 -- what a handler leaves of a timer
-pub timer-suits : (kind : Kind) (key : List ℕ) (state : State) (timer : Timer) → has_kind kind state ≡ true → Suits kind (effects_of_timer kind key state timer)
+pub timer-suits : (kind : Kind) (key : List ℕ) (state : State) (timer : Timer) → has_kind kind state ≡ true
+    → Suits kind (effects_of_timer kind key state timer)
 timer-suits (kinds.Count size) key (states.Count late windows) timer is =
     elim (window_due windows timer) as (λ o. Suits (kinds.Count size) (count_timer key late windows o)) [
       | None ↦ (refl, omega arith)
@@ -94,12 +96,15 @@ timer-suits (kinds.Spike last times) key (states.Spike late held known) timer is
       | Some due ↦ by_spike due (is_spike last times known due.value) refl
     ]
   where
-    by_spike : (due : HeldTotal) (b : Bool) → is_spike last times known due.value ≡ b → Suits (kinds.Spike last times) (spike_timer last times key late held known (Some due))
-    by_spike due true is = subst (λ b. Suits (kinds.Spike last times) (cond b (outcome_with_record (left due) key (due_time due.stamp) due.value) (unchanged (left due)))) (sym is) (refl, omega arith)
+    by_spike : (due : HeldTotal) (b : Bool) → is_spike last times known due.value ≡ b
+        → Suits (kinds.Spike last times) (spike_timer last times key late held known (Some due))
+    by_spike due true is = subst (λ b. Suits (kinds.Spike last times)
+        (cond b (outcome_with_record (left due) key (due_time due.stamp) due.value) (unchanged (left due)))) (sym is) (refl, omega arith)
       where
         left : HeldTotal → State
         left due = states.Spike late (filter (λ (h : HeldTotal). not (h.stamp == due.stamp)) held) (known_with last known due.value)
-    by_spike due false is = subst (λ b. Suits (kinds.Spike last times) (cond b (outcome_with_record (left due) key (due_time due.stamp) due.value) (unchanged (left due)))) (sym is) (refl, omega arith)
+    by_spike due false is = subst (λ b. Suits (kinds.Spike last times)
+        (cond b (outcome_with_record (left due) key (due_time due.stamp) due.value) (unchanged (left due)))) (sym is) (refl, omega arith)
       where
         left : HeldTotal → State
         left due = states.Spike late (filter (λ (h : HeldTotal). not (h.stamp == due.stamp)) held) (known_with last known due.value)
@@ -133,45 +138,54 @@ suits-computation case part row kind is = by_part (is_injector case.topology par
         ∙ ap (λ o. option_map_or (λ (k : Kind). has_kind k row.state) o false) is
 
 -- an injector's state, once it has injected a line that is there
-cursor-moves : (lines : ℕ) (state : State) → is_cursor_within lines state ≡ true → cursor_in state < lines → is_cursor_within lines (advanced state) ≡ true
+cursor-moves : (lines : ℕ) (state : State) → is_cursor_within lines state ≡ true → cursor_in state < lines
+    → is_cursor_within lines (advanced state) ≡ true
 cursor-moves lines (states.Injector cursor) within less = le-leb (cursor + 1) lines (omega (arith, less))
 cursor-moves lines (states.Count late windows) within less = absurd cc
 cursor-moves lines (states.Spike late held known) within less = absurd cc
 cursor-moves lines (states.Pass late) within less = absurd cc
 
 -- what such an injector's state is
-pub advanced-is : (lines : ℕ) (state : State) (line : ℕ) → is_cursor_within lines state ≡ true → line ≡ cursor_in state → states.Injector (line + 1) ≡ advanced state
+pub advanced-is : (lines : ℕ) (state : State) (line : ℕ) → is_cursor_within lines state ≡ true → line ≡ cursor_in state
+    → states.Injector (line + 1) ≡ advanced state
 advanced-is lines (states.Injector cursor) line within same = ap (λ n. states.Injector (n + 1)) same
 advanced-is lines (states.Count late windows) line within same = absurd cc
 advanced-is lines (states.Spike late held known) line within same = absurd cc
 advanced-is lines (states.Pass late) line within same = absurd cc
 
 -- what is pending with what was sent
-pending-fits : (shape : Shape) (n part : ℕ) (productions : List Production) (late : Bool) (pending : List Delivery) → list_all (is_sent_before shape n) pending ≡ true
+pending-fits : (shape : Shape) (n part : ℕ) (productions : List Production) (late : Bool) (pending : List Delivery)
+    → list_all (is_sent_before shape n) pending ≡ true
     → list_all (is_sent_before shape (n + 1)) (pending ++ deliveries_made shape part productions late n) ≡ true
 pending-fits shape n part productions late pending before =
     list_all-append (is_sent_before shape (n + 1)) pending (deliveries_made shape part productions late n)
-    ∙ and_from (list_all (is_sent_before shape (n + 1)) pending) (list_all (is_sent_before shape (n + 1)) (deliveries_made shape part productions late n))
+    ∙ and_from (list_all (is_sent_before shape (n + 1)) pending)
+    (list_all (is_sent_before shape (n + 1)) (deliveries_made shape part productions late n))
     (sent_each-later shape n pending before) (sent-before shape part productions late n)
 
 -- an injector's row still fits, once a line is injected
-fits-injected : (case : CaseShape) (n : ℕ) (name : RowName) (row left : Contents) (productions : List Production) (late : Bool) → fits case n name row ≡ true
+fits-injected : (case : CaseShape) (n : ℕ) (name : RowName) (row left : Contents) (productions : List Production) (late : Bool)
+    → fits case n name row ≡ true
     → is_injector case.topology name.part ≡ true → cursor_in row.state < length (source_of case name.part)
-    → left.state ≡ advanced row.state → left.timers ≡ row.timers → left.pending ≡ row.pending ++ deliveries_made case.topology name.part productions late n
+    → left.state ≡ advanced row.state → left.timers ≡ row.timers
+    → left.pending ≡ row.pending ++ deliveries_made case.topology name.part productions late n
     → fits case (n + 1) name left ≡ true
 fits-injected case n name row left productions late fit injector there state timers pending =
     let parts = fits-parts case n name row fit in
     let lines = length (source_of case name.part) in
-    let old = both (is_cursor_within lines row.state) (length row.timers == 0) (sym (suits-injector case name.part row injector) ∙ parts.0) in
+    let old = both (is_cursor_within lines row.state) (length row.timers == 0)
+    (sym (suits-injector case name.part row injector) ∙ parts.0) in
     and_from (suits_part case name.part left) (list_all (is_sent_before case.topology (n + 1)) left.pending)
     (suits-injector case name.part left injector
     ∙ and_from (is_cursor_within lines left.state) (length left.timers == 0)
     (ap (is_cursor_within lines) state ∙ cursor-moves lines row.state old.0 there)
     (ap (λ (l : List Timer). length l == 0) timers ∙ old.1))
-    (ap (list_all (is_sent_before case.topology (n + 1))) pending ∙ pending-fits case.topology n name.part productions late row.pending parts.1)
+    (ap (list_all (is_sent_before case.topology (n + 1))) pending
+    ∙ pending-fits case.topology n name.part productions late row.pending parts.1)
 
 -- a computation's row still fits, once its handler has left a state of its kind
-fits-computed : (case : CaseShape) (n : ℕ) (name : RowName) (row left : Contents) (productions : List Production) (late : Bool) (kind : Kind) → fits case n name row ≡ true
+fits-computed : (case : CaseShape) (n : ℕ) (name : RowName) (row left : Contents) (productions : List Production) (late : Bool)
+    (kind : Kind) → fits case n name row ≡ true
     → kind_of case.topology name.part ≡ Some kind → has_kind kind left.state ≡ true
     → left.pending ≡ row.pending ++ deliveries_made case.topology name.part productions late n
     → fits case (n + 1) name left ≡ true
@@ -179,32 +193,42 @@ fits-computed case n name row left productions late kind fit is state pending =
     let parts = fits-parts case n name row fit in
     and_from (suits_part case name.part left) (list_all (is_sent_before case.topology (n + 1)) left.pending)
     (suits-computation case name.part left kind is ∙ state)
-    (ap (list_all (is_sent_before case.topology (n + 1))) pending ∙ pending-fits case.topology n name.part productions late row.pending parts.1)
+    (ap (list_all (is_sent_before case.topology (n + 1))) pending
+    ∙ pending-fits case.topology n name.part productions late row.pending parts.1)
 
 -- what a proposal's handler leaves suits its kind
-pub handling-suits : (case : CaseShape) (n : ℕ) (name : RowName) (row : Contents) (delivery : Delivery) (effects : Outcome) → fits case n name row ≡ true
-    → IsHandling case name row delivery effects → (kind : Kind) × ((kind_of case.topology name.part ≡ Some kind) × ((has_kind kind effects.state ≡ true) × (length effects.productions ≤ 8)))
+pub handling-suits : (case : CaseShape) (n : ℕ) (name : RowName) (row : Contents) (delivery : Delivery) (effects : Outcome)
+    → fits case n name row ≡ true
+    → IsHandling case name row delivery effects → (kind : Kind) ×
+    ((kind_of case.topology name.part ≡ Some kind) × ((has_kind kind effects.state ≡ true) × (length effects.productions ≤ 8)))
 handling-suits case n name row delivery effects fit handling =
-    let of = was_some (λ (kind : Kind). effects_of_record kind name.key row.state delivery.item) (kind_of case.topology name.part) effects handling.does in
-    let suits = record-suits of.0 name.key row.state delivery.item (sym (suits-computation case name.part row of.0 of.1) ∙ (fits-parts case n name row fit).0) in
+    let of = was_some (λ (kind : Kind). effects_of_record kind name.key row.state delivery.item)
+    (kind_of case.topology name.part) effects handling.does in
+    let suits = record-suits of.0 name.key row.state delivery.item
+    (sym (suits-computation case name.part row of.0 of.1) ∙ (fits-parts case n name row fit).0) in
     (of.0, (of.1, subst (λ (o : Outcome). (has_kind of.0 o.state ≡ true) × (length o.productions ≤ 8)) of.2 suits))
 
 -- and so of a timer
-pub firing-suits : (case : CaseShape) (n : ℕ) (name : RowName) (row : Contents) (timer : Timer) (effects : Outcome) → fits case n name row ≡ true
-    → IsFiring case name row timer effects → (kind : Kind) × ((kind_of case.topology name.part ≡ Some kind) × ((has_kind kind effects.state ≡ true) × (length effects.productions ≤ 8)))
+pub firing-suits : (case : CaseShape) (n : ℕ) (name : RowName) (row : Contents) (timer : Timer) (effects : Outcome)
+    → fits case n name row ≡ true
+    → IsFiring case name row timer effects → (kind : Kind) ×
+    ((kind_of case.topology name.part ≡ Some kind) × ((has_kind kind effects.state ≡ true) × (length effects.productions ≤ 8)))
 firing-suits case n name row timer effects fit firing =
-    let of = was_some (λ (kind : Kind). effects_of_timer kind name.key row.state timer) (kind_of case.topology name.part) effects firing.does in
-    let suits = timer-suits of.0 name.key row.state timer (sym (suits-computation case name.part row of.0 of.1) ∙ (fits-parts case n name row fit).0) in
+    let of = was_some (λ (kind : Kind). effects_of_timer kind name.key row.state timer)
+    (kind_of case.topology name.part) effects firing.does in
+    let suits = timer-suits of.0 name.key row.state timer
+    (sym (suits-computation case name.part row of.0 of.1) ∙ (fits-parts case n name row fit).0) in
     (of.0, (of.1, subst (λ (o : Outcome). (has_kind of.0 o.state ≡ true) × (length o.productions ≤ 8)) of.2 suits))
 
 -- ---- the entry of a proposal may come next
 
 -- an injected line
 next-injected : (book : BookView) (lease : LeaseView) (front : ℕ) (name : RowName) (row left : Contents) (line : ℕ) (item : Record)
-    → IsLawful book.case (core_of book) → MayUse book lease front name → IsRowSeen book lease front name row
+    → IsLawful book.case (core_of book) → MayUseAt book lease front name → IsRowSeenAt book lease front name row
     → last_claim lease.interval book.history ≡ Some lease.seq → length book.history < book.limit
     → IsNextLine book.case name row line → option_map record_of (item_at (source_of book.case name.part) line) ≡ Some item
-    → left ≡ left_by book.case.topology name (proposals.Inject line) (length book.history) (entries.Inject lease.seq name.part line item) row
+    → left ≡ left_by book.case.topology name (proposals.Inject line) (length book.history)
+    (entries.Inject lease.seq name.part line item) row
     → IsNext book.case (core_of book) name (entries.Inject lease.seq name.part line item) left
 next-injected book lease front name row left line item lawful uses seen last room next of_line leaves =
     let shape = book.case.topology in
@@ -218,7 +242,8 @@ next-injected book lease front name row left line item lawful uses seen last roo
     (subst (λ (c : Contents). fits book.case (number + 1) name c ≡ true) (sym leaves)
     (fits-injected book.case number name row (written_row number entry sent row) (productions_of entry) item.late seen.fit next.injector
     (omega (arith, cursor, there)) refl refl refl))
-    (told-then book.rows (λ _. row ≡ row_of shape (run_of shape (known lease.interval lease.seq (take front book.history))) name) _ seen.known
+    (told-then book.rows (λ _. row ≡ row_of shape (run_of shape (known lease.interval lease.seq (take front book.history))) name) _
+    seen.known
     (λ r is. record {
       injector = next.injector;
       next_line = next.next ∙ ap (λ (c : Contents). cursor_in c.state) (is ∙ row-front book lease front name uses last)
@@ -229,12 +254,14 @@ next-injected book lease front name row left line item lawful uses seen last roo
     (λ r _. ap (λ n. deliveries_made shape name.part (productions_of entry) item.late n) (sym (next-length shape book.history))))
 
 -- a handled record
-next-handled : (book : BookView) (lease : LeaseView) (front : ℕ) (name : RowName) (row left : Contents) (delivery : Delivery) (effects : Outcome)
-    → IsLawful book.case (core_of book) → MayUse book lease front name → IsRowSeen book lease front name row
+next-handled : (book : BookView) (lease : LeaseView) (front : ℕ) (name : RowName) (row left : Contents) (delivery : Delivery)
+    (effects : Outcome)
+    → IsLawful book.case (core_of book) → MayUseAt book lease front name → IsRowSeenAt book lease front name row
     → last_claim lease.interval book.history ≡ Some lease.seq → length book.history < book.limit
     → IsHandling book.case name row delivery effects
     → IfSome book.rows (λ _. found_delivery delivery.id (run_of book.case.topology (take front book.history)).made ≡ Some delivery)
-    → left ≡ left_by book.case.topology name (proposals.Handle delivery effects) (length book.history) (entries.Handle lease.seq name delivery.id effects) row
+    → left ≡ left_by book.case.topology name (proposals.Handle delivery effects) (length book.history)
+    (entries.Handle lease.seq name delivery.id effects) row
     → IsNext book.case (core_of book) name (entries.Handle lease.seq name delivery.id effects) left
 next-handled book lease front name row left delivery effects lawful uses seen last room handling made leaves =
     let shape = book.case.topology in
@@ -246,9 +273,11 @@ next-handled book lease front name row left delivery effects lawful uses seen la
     let suits = handling-suits book.case number name row delivery effects seen.fit handling in
     IsNext-seen book lease front name entry row left sent lawful uses seen last room refl refl suits.1.1.1 leaves
     (subst (λ (c : Contents). fits book.case (number + 1) name c ≡ true) (sym leaves)
-    (fits-computed book.case number name row (written_row number entry sent row) effects.productions delivery.item.late suits.0 seen.fit suits.1.0 suits.1.1.0 refl))
+    (fits-computed book.case number name row (written_row number entry sent row) effects.productions delivery.item.late suits.0 seen.fit
+    suits.1.0 suits.1.1.0 refl))
     (told-then book.rows
-    (λ r. IsHeld book.case book.history r × ((row ≡ row_of shape (run_of shape (known lease.interval lease.seq first)) name) × (found_delivery delivery.id (run_of shape first).made ≡ Some delivery))) _
+    (λ r. IsHeld book.case book.history r × ((row ≡ row_of shape (run_of shape (known lease.interval lease.seq first)) name) ×
+    (found_delivery delivery.id (run_of shape first).made ≡ Some delivery))) _
     (told-both book.rows _ _ lawful.held (told-both book.rows _ _ seen.known made))
     (λ r p.
     let legal = IsLegalAndFenced-front book.case first (drop front book.history)
@@ -256,23 +285,29 @@ next-handled book lease front name row left delivery effects lawful uses seen la
     let row-is : row ≡ row_of shape (run_of shape first) name = p.1.0 ∙ row-front book lease front name uses last in record {
       delivery = delivery;
       waits = waits-unless_finished book.case first delivery legal.legal p.1.1
-          (sym (λ i. is_finished delivery.id (row_of shape (run_of shape first) (sym handling.to_row i))) ∙ sym (ap (is_finished delivery.id) row-is) ∙ handling.new);
+          (sym (λ i. is_finished delivery.id (row_of shape (run_of shape first) (sym handling.to_row i)))
+          ∙ sym (ap (is_finished delivery.id) row-is) ∙ handling.new);
       to_row = handling.to_row;
-      does = sym (ap (λ (c : Contents). option_map (λ (kind : Kind). effects_of_record kind name.key c.state delivery.item) (kind_of shape name.part)) row-is) ∙ handling.does;
+      does = sym (ap (λ (c : Contents). option_map (λ (kind : Kind). effects_of_record kind name.key c.state delivery.item)
+          (kind_of shape name.part)) row-is) ∙ handling.does;
     }))
     (told-then book.rows (λ _. found_delivery delivery.id (run_of shape first).made ≡ Some delivery) _ made
     (λ r found.
     let there : found_delivery delivery.id (run_of shape book.history).made ≡ Some delivery =
-    subst (λ (h : List Entry). found_delivery delivery.id (run_of shape h).made ≡ Some delivery) split (found-more shape first (drop front book.history) delivery.id delivery found) in
-    λ i. deliveries_made shape name.part effects.productions (option_map_or (λ (d : Delivery). d.item.late) (sym there i) false) (sym (next-length shape book.history) i)))
+    subst (λ (h : List Entry). found_delivery delivery.id (run_of shape h).made ≡ Some delivery) split
+    (found-more shape first (drop front book.history) delivery.id delivery found) in
+    λ i. deliveries_made shape name.part effects.productions (option_map_or (λ (d : Delivery). d.item.late) (sym there i) false)
+    (sym (next-length shape book.history) i)))
 
 -- a fired timer
-next-fired : (book : BookView) (lease : LeaseView) (front : ℕ) (name : RowName) (row left : Contents) (timer : Timer) (mark : ℕ) (effects : Outcome)
-    → IsLawful book.case (core_of book) → MayUse book lease front name → IsRowSeen book lease front name row
+next-fired : (book : BookView) (lease : LeaseView) (front : ℕ) (name : RowName) (row left : Contents) (timer : Timer) (mark : ℕ)
+    (effects : Outcome)
+    → IsLawful book.case (core_of book) → MayUseAt book lease front name → IsRowSeenAt book lease front name row
     → last_claim lease.interval book.history ≡ Some lease.seq → length book.history < book.limit
     → IsFiring book.case name row timer effects
     → IfSome book.rows (λ _. IsDueUnder book.case (run_of book.case.topology (take front book.history)) name.part mark timer)
-    → left ≡ left_by book.case.topology name (proposals.Fire timer mark effects) (length book.history) (entries.Fire lease.seq name timer mark effects) row
+    → left ≡ left_by book.case.topology name (proposals.Fire timer mark effects) (length book.history)
+    (entries.Fire lease.seq name timer mark effects) row
     → IsNext book.case (core_of book) name (entries.Fire lease.seq name timer mark effects) left
 next-fired book lease front name row left timer mark effects lawful uses seen last room firing under leaves =
     let shape = book.case.topology in
@@ -283,23 +318,27 @@ next-fired book lease front name row left timer mark effects lawful uses seen la
     let suits = firing-suits book.case number name row timer effects seen.fit firing in
     IsNext-seen book lease front name entry row left sent lawful uses seen last room refl refl suits.1.1.1 leaves
     (subst (λ (c : Contents). fits book.case (number + 1) name c ≡ true) (sym leaves)
-    (fits-computed book.case number name row (written_row number entry sent row) effects.productions timer.late suits.0 seen.fit suits.1.0 suits.1.1.0 refl))
+    (fits-computed book.case number name row (written_row number entry sent row) effects.productions timer.late suits.0 seen.fit suits.1.0
+    suits.1.1.0 refl))
     (told-then book.rows
-    (λ r. (row ≡ row_of shape (run_of shape (known lease.interval lease.seq first)) name) × IsDueUnder book.case (run_of shape first) name.part mark timer) _
+    (λ r. (row ≡ row_of shape (run_of shape (known lease.interval lease.seq first)) name) × IsDueUnder book.case
+    (run_of shape first) name.part mark timer) _
     (told-both book.rows _ _ seen.known under)
     (λ r p.
     let row-is : row ≡ row_of shape (run_of shape first) name = p.0 ∙ row-front book lease front name uses last in record {
       least_timer = sym (ap (λ (c : Contents). slice_get c.timers 0) row-is) ∙ firing.least;
       due = p.1.due;
       under_watermark = p.1.under_watermark;
-      does = sym (ap (λ (c : Contents). option_map (λ (kind : Kind). effects_of_timer kind name.key c.state timer) (kind_of shape name.part)) row-is) ∙ firing.does;
+      does = sym (ap (λ (c : Contents). option_map (λ (kind : Kind). effects_of_timer kind name.key c.state timer)
+          (kind_of shape name.part)) row-is) ∙ firing.does;
     }))
     (told-then book.rows (IsHeld book.case book.history) _ lawful.held
     (λ r _. ap (λ n. deliveries_made shape name.part effects.productions timer.late n) (sym (next-length shape book.history))))
 
 -- the entry of a proposal may come next
-pub IsNext-proposed : (book : BookView) (lease : LeaseView) (front : ℕ) (name : RowName) (row left : Contents) (proposal : Proposal) (entry : Entry)
-    → IsLawful book.case (core_of book) → MayUse book lease front name → IsRowSeen book lease front name row
+pub IsNext-proposed : (book : BookView) (lease : LeaseView) (front : ℕ) (name : RowName) (row left : Contents) (proposal : Proposal)
+    (entry : Entry)
+    → IsLawful book.case (core_of book) → MayUseAt book lease front name → IsRowSeenAt book lease front name row
     → last_claim lease.interval book.history ≡ Some lease.seq → length book.history < book.limit
     → IsProposable book.case name row proposal
     → IfSome book.rows (λ _. IsProposedOf book.case name proposal (run_of book.case.topology (take front book.history)))
@@ -320,14 +359,17 @@ IsNext-proposed book lease front name row left (proposals.Fire timer mark effect
     (leaves ∙ ap (λ (e : Entry). left_by book.case.topology name (proposals.Fire timer mark effects) (length book.history) e row) is))
 
 -- an accepted proposal, by what appending answered
-pub IsWrittenBy-result : (old new : BookView) (lease : LeaseView) (name : RowName) (proposal : Proposal) (row left : Contents) (entry : Entry) (result : Result Written WriteRefusal)
+pub IsWrittenBy-result : (old new : BookView) (lease : LeaseView) (name : RowName) (proposal : Proposal) (row left : Contents)
+    (entry : Entry) (result : Result Written WriteRefusal)
     → IsNext old.case (core_of old) name entry left → last_claim lease.interval old.history ≡ Some lease.seq
     → IsEntryOf old.case lease.seq name proposal entry → left ≡ left_by old.case.topology name proposal (length old.history) entry row
-    → OnOk result (new.history ≡ old.history ++ entry ∷ []) → IfOk result (λ w. w.commit ≡ length old.history) → IfOk result (λ w. w.row ≡ left)
-    → IfOk result (IsWrittenBy old new lease name proposal row)
+    → OnOk result (new.history ≡ old.history ++ entry ∷ []) → IfOk result (λ w. w.commit ≡ length old.history)
+    → IfOk result (λ w. w.row ≡ left)
+    → IfOk result (IsWrittenBy old.case old.rows old.history new.history lease name proposal row)
 IsWrittenBy-result old new lease name proposal row left entry (Err why) next last of leaves appended commit is = tt
 IsWrittenBy-result old new lease name proposal row left entry (Ok answer) next last of leaves appended commit is = record {
   entry = entry;
   of_proposal = of;
-  written = subst (λ (c : Contents). IsWritten old new lease name entry c answer) leaves (IsWritten-next old new lease name entry left answer next last appended commit is);
+  written = subst (λ (c : Contents). IsWritten old.case old.rows old.history new.history lease name entry c answer) leaves
+      (IsWritten-next old new lease name entry left answer next last appended commit is);
 }

@@ -20,7 +20,7 @@ use Rattle.run_history.specs.Inputs.{IsRunnable}
 use Rattle.run_history.specs.Marks.{own_work, IsUnderMarks}
 use Rattle.run_history.proofs.Lists.{none_some, some_same}
 use Rattle.history_laws.proofs.Along.{run_of-append, AreLegal-apart, along_entries}
-use Rattle.history_laws.proofs.FenceLaws.{row_of-seen}
+use Rattle.history_laws.proofs.FenceLaws.{claim-within, row_of-seen}
 use Rattle.run_history.proofs.Known.{known-last}
 use Rattle.run_history.proofs.Claims.{last_claim-front}
 use Rattle.run_history.proofs.IntervalLaws.{has-interval_of, are-intervals}
@@ -33,7 +33,7 @@ use Rattle.history_laws.proofs.WorkLaws.{source_mark-followed}
 use Rattle.watermark.specs.Marks.{mark_of, marks_in, marks_of, numbers_in, feeding_marks}
 use Rattle.book.specs.Books.{BookView, LeaseView, core_of}
 use Rattle.book.specs.Lawful.{IsHeld, IsLawful}
-use Rattle.book.specs.Conditions.{HasSeenAll, IsOwnWork}
+use Rattle.book.specs.Conditions.{HasSeenAllAt, IsOwnWorkAt}
 use Rattle.book.specs.Answers.{IsStaleReport}
 use Rattle.book.specs.declared.refusals.Stale.{Stale}
 use Rattle.book.specs.Marks.{IsSafeAt, AreSafe, AreUnderLow}
@@ -43,7 +43,8 @@ use Rattle.book.proofs.SeenRows.{told-both, told-then}
 -- ---- own work
 
 -- the watermark that an injector states never falls
-pub source_mark-rises : (case : CaseShape) (front rest : List Entry) (part : ℕ) → IsRunnable case → IsLegal case (front ++ rest) → is_injector case.topology part ≡ true
+pub source_mark-rises : (case : CaseShape) (front rest : List Entry) (part : ℕ) → IsRunnable case → IsLegal case (front ++ rest)
+    → is_injector case.topology part ≡ true
     → source_mark case (run_of case.topology front) part ≤ source_mark case (run_of case.topology (front ++ rest)) part
 source_mark-rises case front rest part runs legal is =
     subst (λ (r : Run). stated ≤ source_mark case r part) (sym (run_of-append case.topology front rest))
@@ -55,7 +56,8 @@ source_mark-rises case front rest part runs legal is =
     stated = source_mark case (run_of case.topology front) part
 
 -- the own work of an interval, by what has seen its last claim, is at most that by the whole history
-pub own_work-seen : (case : CaseShape) (front rest : List Entry) (interval seq : ℕ) (b : Bounds) → IsRunnable case → IsLegal case (front ++ rest)
+pub own_work-seen : (case : CaseShape) (front rest : List Entry) (interval seq : ℕ) (b : Bounds) → IsRunnable case
+    → IsLegal case (front ++ rest)
     → IsFenced case.topology (front ++ rest) → HasSeen interval seq front rest → slice_get (intervals_of case.topology) interval ≡ Some b
     → own_work case (run_of case.topology front) b ≤ own_work case (run_of case.topology (front ++ rest)) b
 own_work-seen case front rest interval seq b runs legal fenced seen at =
@@ -64,7 +66,8 @@ own_work-seen case front rest interval seq b runs legal fenced seen at =
     let from = own-from case (run_of shape front) own b (omega arith) in
     from-own case (run_of shape (front ++ rest)) own b (rows-in_order shape (front ++ rest)) (own-end case (run_of shape front) b) (record {
       rows = λ name has. subst (IsRowFrom own)
-          (sym (row_of-seen shape interval seq front rest fenced seen name (has-interval_of shape interval name (are-intervals shape runs.topology) (b, at, has))))
+          (sym (row_of-seen shape interval seq front rest fenced seen name
+          (has-interval_of shape interval name (are-intervals shape runs.topology) (b, at, has))))
           (from.rows name has);
       mark = λ is.
           let stated = from.mark is in
@@ -72,17 +75,20 @@ own_work-seen case front rest interval seq b runs legal fenced seen at =
     })
 
 -- what is reported as own work is at most the work of the interval by the whole history
-own-whole : (book : BookView) (lease : LeaseView) (front own : ℕ) (b : Bounds) → IsLawful book.case (core_of book) → IsLegal book.case book.history
-    → HasSeenAll book lease front → last_claim lease.interval book.history ≡ Some lease.seq → slice_get (intervals_of book.case.topology) lease.interval ≡ Some b
+own-whole : (book : BookView) (lease : LeaseView) (front own : ℕ) (b : Bounds) → IsLawful book.case (core_of book)
+    → IsLegal book.case book.history
+    → HasSeenAllAt book lease front → last_claim lease.interval book.history ≡ Some lease.seq
+    → slice_get (intervals_of book.case.topology) lease.interval ≡ Some b
     → own ≡ own_work book.case (run_of book.case.topology (known lease.interval lease.seq (take front book.history))) b
     → own ≤ own_work book.case (run_of book.case.topology book.history) b
 own-whole book lease front own b lawful legal saw last at is =
     let case = book.case in
     let shape = case.topology in
     let split = take-append-drop front book.history in
-    let seen = HasSeen-take lease.interval lease.seq front book.history last saw.seen saw.there saw.own in
+    let seen = HasSeen-take lease.interval lease.seq front book.history last saw in
     let whole = known-last lease.interval lease.seq (take front book.history)
-    (last_claim-front lease.interval lease.seq (take front book.history) (drop front book.history) seen.last seen.claim) in
+    (last_claim-front lease.interval lease.seq (take front book.history) (drop front book.history) seen.last
+    (claim-within lease.interval lease.seq (take front book.history) (drop front book.history) seen.all)) in
     let below = own_work-seen case (take front book.history) (drop front book.history) lease.interval lease.seq b lawful.runnable
     (subst (IsLegal case) (sym split) legal) (subst (IsFenced shape) (sym split) lawful.fenced) seen at in
     let as_seen = ap (λ (h : List Entry). own_work case (run_of shape h) b) whole in
@@ -93,16 +99,20 @@ own-whole book lease front own b lawful legal saw last at is =
 
 -- each of some parts is among them
 any-here : (parts : List ℕ) (k d : ℕ) → k < length parts → list_any (λ part. part == get_or parts k d) parts ≡ true
-any-here parts k d within = list_any_at (λ part. part == get_or parts k d) parts k d within (eq-eqb (get_or parts k d) (get_or parts k d) refl)
+any-here parts k d within = list_any_at (λ part. part == get_or parts k d) parts k d within
+    (eq-eqb (get_or parts k d) (get_or parts k d) refl)
 
 -- a bound of the marks of the intervals of some parts is one of the mark of each of these intervals
-among-bound : (x : ℕ) (f : ℕ → ℕ) (parts : List ℕ) (n : ℕ) (all : List Bounds) (k : ℕ) (b : Bounds) → AllByRecursion (λ m. x ≤ m) (map f (numbers_in parts n all))
+among-bound : (x : ℕ) (f : ℕ → ℕ) (parts : List ℕ) (n : ℕ) (all : List Bounds) (k : ℕ) (b : Bounds)
+    → AllByRecursion (λ m. x ≤ m) (map f (numbers_in parts n all))
     → slice_get all k ≡ Some b → list_any (λ part. part == b.part) parts ≡ true → x ≤ f (n + k)
 among-bound x f parts n [] k b each at among = absurd (none_some b at)
 among-bound x f parts n (c ∷ cs) zero b each at among =
     let same : c ≡ b = some_same c b at in
-    let passes : list_any (λ part. part == c.part) parts ≡ true = subst (λ (d : Bounds). list_any (λ part. part == d.part) parts ≡ true) (sym same) among in
-    let first = (subst (λ t. AllByRecursion (λ m. x ≤ m) (map f (cons_option (cond t (Some n) None) (numbers_in parts (n + 1) cs)))) passes each).0 in
+    let passes : list_any (λ part. part == c.part) parts ≡ true = subst (λ (d : Bounds). list_any (λ part. part == d.part) parts ≡ true)
+    (sym same) among in
+    let first = (subst (λ t. AllByRecursion (λ m. x ≤ m) (map f (cons_option (cond t (Some n) None) (numbers_in parts (n + 1) cs))))
+    passes each).0 in
     let zero_more : n + 0 ≡ n = omega arith in
     subst (λ i. x ≤ f i) (sym zero_more) first
 among-bound x f parts n (c ∷ cs) (suc k) b each at among =
@@ -125,17 +135,21 @@ under-feeding case run marks interval x b safe at below k d within other c there
     let among : list_any (λ part. part == c.part) feeds ≡ true
     = subst (λ n. list_any (λ part. part == n) feeds ≡ true) (sym of) (any-here feeds k d within) in
     let least_of : x ≤ least (map (mark_of marks) (numbers_in feeds 0 all))
-    = subst (λ (o : Option Bounds). x ≤ least (map (mark_of marks) (option_map_or (λ (e : Bounds). numbers_in (feeds_of shape e.part) 0 all) o []))) at below in
-    let bound = among-bound x (mark_of marks) feeds 0 all other c (bound-each x (map (mark_of marks) (numbers_in feeds 0 all)) least_of) there among in
+    = subst (λ (o : Option Bounds). x ≤ least (map (mark_of marks)
+    (option_map_or (λ (e : Bounds). numbers_in (feeds_of shape e.part) 0 all) o []))) at below in
+    let bound = among-bound x (mark_of marks) feeds 0 all other c (bound-each x (map (mark_of marks) (numbers_in feeds 0 all)) least_of)
+    there among in
     let none_before : 0 + other ≡ other = omega arith in
     (mark_of marks other, subst (λ n. x ≤ mark_of marks n) none_before bound, safe other c there)
 
 -- ---- a report
 
 -- what is reported is a safe mark, as far as the marks that feed the interval allow
-pub IsSafeAt-reported : (book : BookView) (lease : LeaseView) (front own : ℕ) → IsLawful book.case (core_of book) → HasSeenAll book lease front
-    → IsOwnWork book lease front own → last_claim lease.interval book.history ≡ Some lease.seq
-    → IfSome book.rows (λ _. IsSafeAt book.case (run_of book.case.topology book.history) lease.interval (min own (least (feeding_marks book.case.topology lease.interval book.marks))))
+pub IsSafeAt-reported : (book : BookView) (lease : LeaseView) (front own : ℕ) → IsLawful book.case (core_of book)
+    → HasSeenAllAt book lease front
+    → IsOwnWorkAt book lease front own → last_claim lease.interval book.history ≡ Some lease.seq
+    → IfSome book.rows (λ _. IsSafeAt book.case (run_of book.case.topology book.history) lease.interval
+    (min own (least (feeding_marks book.case.topology lease.interval book.marks))))
 IsSafeAt-reported book lease front own lawful saw is last = by_told book.rows lawful.held lawful.safe is
   where
     run : Run
@@ -146,7 +160,8 @@ IsSafeAt-reported book lease front own lawful saw is last = by_told book.rows la
 
     by_told : (told : Option Rows) → IfSome told (IsHeld book.case book.history) → IfSome told (λ _. AreSafe book.case run book.marks)
         → ((b : Bounds) → slice_get (intervals_of book.case.topology) lease.interval ≡ Some b
-        → IfSome told (λ _. own ≡ own_work book.case (run_of book.case.topology (known lease.interval lease.seq (take front book.history))) b))
+        → IfSome told (λ _. own ≡ own_work book.case
+        (run_of book.case.topology (known lease.interval lease.seq (take front book.history))) b))
         → IfSome told (λ _. IsSafeAt book.case run lease.interval (min own inputs))
     by_told None held safe is = tt
     by_told (Some rows) held safe is = λ b at.
@@ -169,7 +184,8 @@ stale-report history lease n later newer = (
 -- ---- under the low watermark
 
 -- a bound of the marks of a part is one of the mark of each of its intervals
-part-bound : (x part : ℕ) (all : List Bounds) (marks : List ℕ) (k : ℕ) (b : Bounds) → length marks ≡ length all → AllByRecursion (λ m. x ≤ m) (marks_in all part marks)
+part-bound : (x part : ℕ) (all : List Bounds) (marks : List ℕ) (k : ℕ) (b : Bounds) → length marks ≡ length all
+    → AllByRecursion (λ m. x ≤ m) (marks_in all part marks)
     → slice_get all k ≡ Some b → b.part ≡ part → x ≤ mark_of marks k
 part-bound x part [] marks k b long each at of = absurd (none_some b at)
 part-bound x part (c ∷ cs) [] k b long each at of = absurd (omega (arith, long))
@@ -179,7 +195,8 @@ part-bound x part (c ∷ cs) (m ∷ ms) zero b long each at of =
 part-bound x part (c ∷ cs) (m ∷ ms) (suc k) b long each at of =
     part-bound x part cs ms k b (omega (arith, long)) (later (c.part == part) each) at of
   where
-    later : (t : Bool) → AllByRecursion (λ n. x ≤ n) (cons_option (cond t (Some m) None) (marks_in cs part ms)) → AllByRecursion (λ n. x ≤ n) (marks_in cs part ms)
+    later : (t : Bool) → AllByRecursion (λ n. x ≤ n) (cons_option (cond t (Some m) None) (marks_in cs part ms))
+        → AllByRecursion (λ n. x ≤ n) (marks_in cs part ms)
     later true each = each.1
     later false each = each
 

@@ -1,6 +1,6 @@
 -- What a holder of a lease has seen is as it is in the whole history, where the lease is the last of its interval.
-use Rattle.std.proofs.Common.{◌≡◌, ◌<◌, ◌≤◌, ◌+◌, ℕ, Bool, true, false, ◌&&◌, cond, List, [], ◌∷◌, ◌++◌, length, take, drop, refl, sym, ◌∙◌, ap, subst, arith, length-append}
-use Rattle.std.specs.Prelude.{Option, Some, None, Result, Ok, Err, IfOk, OnOk, IfSome, IsSome, not, ◌==◌}
+use Rattle.std.proofs.Common.{◌≡◌, ◌<◌, ◌≤◌, ◌+◌, ℕ, zero, suc, Bool, true, false, ◌&&◌, cond, List, [], ◌∷◌, ◌++◌, length, take, drop, refl, sym, ◌∙◌, ap, subst, arith, length-append}
+use Rattle.std.specs.Prelude.{Option, Some, None, Result, Ok, Err, IfOk, OnOk, IfSome, IsSome, not, ◌==◌, slice_get}
 use Rattle.std.specs.Option.{is_some, option_map_or}
 use Rattle.std.proofs.lemmas.Bool.{ltb-true}
 use Rattle.std.proofs.lemmas.List.{take-append-drop}
@@ -9,7 +9,7 @@ use Rattle.mw_types.specs.declared.identity.RowName.{RowName}
 use Rattle.mw_types.specs.declared.delivery.Delivery.{Delivery}
 use Rattle.mw_types.specs.declared.kind.Kind.{Kind}
 use Rattle.mw_types.specs.declared.entry.Entry.{Entry}
-use Rattle.mw_types.specs.declared.entry.Entry.TheVariants.{Ack, Purge}
+use Rattle.mw_types.specs.declared.entry.Entry.TheVariants.{Ack, Claim, Purge}
 use Rattle.topology.specs.Shapes.{Shape, injectors_of, parts_of, kind_of}
 use Rattle.row_parts.specs.Contents.{Contents, same_id}
 use Rattle.run_history.specs.Cases.{CaseShape, is_injector, source_of}
@@ -17,9 +17,10 @@ use Rattle.run_history.specs.Made.{row_written, productions_of, deliveries_of, f
 use Rattle.run_history.specs.Runs.{Run, run_of, row_of, row_in, written_row}
 use Rattle.run_history.specs.Legal.{MayFollow, IsLegal, floor_of}
 use Rattle.run_history.proofs.RunLaws.{run_of-push}
-use Rattle.run_history.specs.Fences.{IsFenced, HasSeen, last_claim, sequencer_of, known}
+use Rattle.run_history.specs.Fences.{IsClaimed, IsFenced, HasSeen, last_claim, sequencer_of, known}
 use Rattle.run_history.specs.Finished.{is_handled}
-use Rattle.history_laws.proofs.FenceLaws.{row_of-seen}
+use Rattle.run_history.proofs.Lists.{none_some}
+use Rattle.history_laws.proofs.FenceLaws.{claim-within, row_of-seen}
 use Rattle.run_history.proofs.Known.{known-last}
 use Rattle.run_history.proofs.Claims.{last_claim-front}
 use Rattle.run_history.proofs.Fenced.{entry-under}
@@ -32,7 +33,7 @@ use Rattle.book.specs.Books.{BookView, LeaseView, core_of}
 use Rattle.run_history.specs.Fits.{fits, suits_part, is_cursor_within}
 use Rattle.computations.specs.Handlers.{has_kind}
 use Rattle.book.specs.Lawful.{IsHeld, IsLawful}
-use Rattle.book.specs.Conditions.{MayUse, IsRowSeen, MaySettle, MayRaise}
+use Rattle.book.specs.Conditions.{MayUseAt, IsRowSeenAt, MaySettleAt, MayForgetAt}
 use Rattle.book.specs.Answers.{IsWritten}
 use Rattle.book.specs.declared.answers.Written.{Written}
 use Rattle.book.specs.declared.refusals.WriteRefusal.{WriteRefusal}
@@ -53,53 +54,61 @@ told-then (Some x) P Q one then = then x one
 pub part-there : (case : CaseShape) (part : ℕ) (row : Contents) → suits_part case part row ≡ true → part < parts_of case.topology
 part-there case part row suits = by_part (is_injector case.topology part) refl suits
   where
-    by_kind : (o : Option Kind) → kind_of case.topology part ≡ o → option_map_or (λ (kind : Kind). has_kind kind row.state) o false ≡ true → part < parts_of case.topology
+    by_kind : (o : Option Kind) → kind_of case.topology part ≡ o → option_map_or (λ (kind : Kind). has_kind kind row.state) o false ≡ true
+        → part < parts_of case.topology
     by_kind None is suits = absurd cc
     by_kind (Some kind) is suits = kind-there case.topology part kind is
 
     by_part : (b : Bool) → is_injector case.topology part ≡ b
-        → cond b (is_cursor_within (length (source_of case part)) row.state && (length row.timers == 0)) (option_map_or (λ (kind : Kind). has_kind kind row.state) (kind_of case.topology part) false) ≡ true
+        → cond b (is_cursor_within (length (source_of case part)) row.state && (length row.timers == 0))
+        (option_map_or (λ (kind : Kind). has_kind kind row.state) (kind_of case.topology part) false) ≡ true
         → part < parts_of case.topology
     by_part true is suits = let less = ltb-true part (injectors_of case.topology) is in omega (arith, less)
     by_part false is suits = by_kind (kind_of case.topology part) refl suits
 
 -- what was seen under the last claim
-pub seen-front : (book : BookView) (lease : LeaseView) (front : ℕ) (name : RowName) → MayUse book lease front name
-    → last_claim lease.interval book.history ≡ Some lease.seq → HasSeen lease.interval lease.seq (take front book.history) (drop front book.history)
-seen-front book lease front name uses last = HasSeen-take lease.interval lease.seq front book.history last uses.seen_all.seen uses.seen_all.there uses.seen_all.own
+pub seen-front : (book : BookView) (lease : LeaseView) (front : ℕ) (name : RowName) → MayUseAt book lease front name
+    → last_claim lease.interval book.history ≡ Some lease.seq → HasSeen lease.interval lease.seq (take front book.history)
+    (drop front book.history)
+seen-front book lease front name uses last = HasSeen-take lease.interval lease.seq front book.history last uses.seen_all
 
 -- the row as it is known under the lease is the row of what was seen
-pub row-front : (book : BookView) (lease : LeaseView) (front : ℕ) (name : RowName) → MayUse book lease front name
+pub row-front : (book : BookView) (lease : LeaseView) (front : ℕ) (name : RowName) → MayUseAt book lease front name
     → last_claim lease.interval book.history ≡ Some lease.seq → let shape = book.case.topology in
-    row_of shape (run_of shape (known lease.interval lease.seq (take front book.history))) name ≡ row_of shape (run_of shape (take front book.history)) name
+    row_of shape (run_of shape (known lease.interval lease.seq (take front book.history))) name ≡ row_of shape
+    (run_of shape (take front book.history)) name
 row-front book lease front name uses last =
     let shape = book.case.topology in
     let seen = seen-front book lease front name uses last in
     ap (λ (h : List Entry). row_of shape (run_of shape h) name) (known-last lease.interval lease.seq (take front book.history)
-    (last_claim-front lease.interval lease.seq (take front book.history) (drop front book.history) seen.last seen.claim))
+    (last_claim-front lease.interval lease.seq (take front book.history) (drop front book.history) seen.last
+    (claim-within lease.interval lease.seq (take front book.history) (drop front book.history) seen.all)))
 
 -- and is the row of the whole history
 pub row-whole : (book : BookView) (lease : LeaseView) (front : ℕ) (name : RowName) → IsFenced book.case.topology book.history
-    → MayUse book lease front name → last_claim lease.interval book.history ≡ Some lease.seq → let shape = book.case.topology in
+    → MayUseAt book lease front name → last_claim lease.interval book.history ≡ Some lease.seq → let shape = book.case.topology in
     row_of shape (run_of shape (take front book.history)) name ≡ row_of shape (run_of shape book.history) name
 row-whole book lease front name fenced uses last =
     let shape = book.case.topology in
     let split = take-append-drop front book.history in
-    sym (row_of-seen shape lease.interval lease.seq (take front book.history) (drop front book.history) (subst (IsFenced shape) (sym split) fenced)
+    sym (row_of-seen shape lease.interval lease.seq (take front book.history) (drop front book.history)
+    (subst (IsFenced shape) (sym split) fenced)
     (seen-front book lease front name uses last) name uses.covers)
     ∙ ap (λ (h : List Entry). row_of shape (run_of shape h) name) split
 
 -- an entry that may follow what was seen may follow the whole history
 may-whole : (book : BookView) (lease : LeaseView) (front : ℕ) (name : RowName) (entry : Entry) → IsLawful book.case (core_of book)
-    → MayUse book lease front name → last_claim lease.interval book.history ≡ Some lease.seq
-    → row_written entry ≡ Some name → sequencer_of entry ≡ Some lease.seq → IsLegal book.case book.history → let shape = book.case.topology in
+    → MayUseAt book lease front name → last_claim lease.interval book.history ≡ Some lease.seq
+    → row_written entry ≡ Some name → sequencer_of entry ≡ Some lease.seq → IsLegal book.case book.history
+    → let shape = book.case.topology in
     MayFollow book.case (run_of shape (take front book.history)) entry → MayFollow book.case (run_of shape book.history) entry
 may-whole book lease front name entry lawful uses last written carries legal may =
     let shape = book.case.topology in
     let split = take-append-drop front book.history in
     subst (λ (h : List Entry). MayFollow book.case (run_of shape h) entry) split
     (MayFollow-seen book.case (take front book.history) (drop front book.history) lease.interval lease.seq entry lawful.runnable
-    (subst (IsLegal book.case) (sym split) legal) (subst (IsFenced shape) (sym split) lawful.fenced) (seen-front book lease front name uses last)
+    (subst (IsLegal book.case) (sym split) legal) (subst (IsFenced shape) (sym split) lawful.fenced)
+    (seen-front book lease front name uses last)
     (record { name = name; on_row = written; of_interval = uses.covers; carries = carries }) may)
 
 -- the row that an entry leaves is that of the history with the entry
@@ -118,13 +127,15 @@ left-whole shape history name entry row left sent written is made leaves =
     ∙ sym (ap (λ (r : Run). row_of shape r name) (run_of-push shape history entry))
 
 -- a write that was worked out on what was seen may come next
-pub IsNext-seen : (book : BookView) (lease : LeaseView) (front : ℕ) (name : RowName) (entry : Entry) (row left : Contents) (sent : List Delivery)
-    → IsLawful book.case (core_of book) → MayUse book lease front name → IsRowSeen book lease front name row
+pub IsNext-seen : (book : BookView) (lease : LeaseView) (front : ℕ) (name : RowName) (entry : Entry) (row left : Contents)
+    (sent : List Delivery)
+    → IsLawful book.case (core_of book) → MayUseAt book lease front name → IsRowSeenAt book lease front name row
     → last_claim lease.interval book.history ≡ Some lease.seq → length book.history < book.limit
     → row_written entry ≡ Some name → sequencer_of entry ≡ Some lease.seq → length (productions_of entry) ≤ 8
     → left ≡ written_row (length book.history) entry sent row → fits book.case (length book.history + 1) name left ≡ true
     → IfSome book.rows (λ _. MayFollow book.case (run_of book.case.topology (take front book.history)) entry)
-    → IfSome book.rows (λ _. let run = run_of book.case.topology book.history in sent ≡ deliveries_of book.case.topology run.made run.next entry)
+    → IfSome book.rows (λ _. let run = run_of book.case.topology book.history in sent ≡ deliveries_of book.case.topology run.made run.next
+    entry)
     → IsNext book.case (core_of book) name entry left
 IsNext-seen book lease front name entry row left sent lawful uses seen last room written carries few leaves fit may made =
     let shape = book.case.topology in record {
@@ -134,7 +145,8 @@ IsNext-seen book lease front name entry row left sent lawful uses seen last room
       part = part-there book.case name.part row (fits-parts book.case (length book.history) name row seen.fit).0;
       few = few;
       fit = fit;
-      may = told-then book.rows (λ r. IsHeld book.case book.history r × MayFollow book.case (run_of shape (take front book.history)) entry) _
+      may = told-then book.rows (λ r. IsHeld book.case book.history r × MayFollow book.case
+          (run_of shape (take front book.history)) entry) _
           (told-both book.rows (IsHeld book.case book.history) _ lawful.held may)
           (λ r p. may-whole book lease front name entry lawful uses last written carries p.0.legal p.1);
       of_history = told-then book.rows
@@ -148,25 +160,31 @@ IsNext-seen book lease front name entry row left sent lawful uses seen last room
 -- ---- settling
 
 -- an id may be settled
-may-settle : (book : BookView) (lease : LeaseView) (front : ℕ) (name : RowName) (row : Contents) (id : RecordId) → IsLawful book.case (core_of book)
-    → MayUse book lease front name → IsRowSeen book lease front name row → MaySettle book front row id → last_claim lease.interval book.history ≡ Some lease.seq
+may-settle : (book : BookView) (lease : LeaseView) (front : ℕ) (name : RowName) (row : Contents) (id : RecordId)
+    → IsLawful book.case (core_of book)
+    → MayUseAt book lease front name → IsRowSeenAt book lease front name row → MaySettleAt book front row id
+    → last_claim lease.interval book.history ≡ Some lease.seq
     → IfSome book.rows (λ _. MayFollow book.case (run_of book.case.topology (take front book.history)) (Ack lease.seq name id))
 may-settle book lease front name row id lawful uses seen settles last =
     let shape = book.case.topology in
     let split = take-append-drop front book.history in
     told-then book.rows
-    (λ r. IsHeld book.case book.history r × ((row ≡ row_of shape (run_of shape (known lease.interval lease.seq (take front book.history))) name) × (is_handled id (take front book.history) ≡ true))) _
+    (λ r. IsHeld book.case book.history r × ((row ≡ row_of shape (run_of shape (known lease.interval lease.seq (take front book.history)))
+    name) × (is_handled id (take front book.history) ≡ true))) _
     (told-both book.rows _ _ lawful.held (told-both book.rows _ _ seen.known settles.handled))
     (λ r p.
     let legal = IsLegalAndFenced-front book.case (take front book.history) (drop front book.history)
-    (record { legal = subst (IsLegal book.case) (sym split) p.0.legal; fenced = subst (IsFenced shape) (sym split) lawful.fenced }) in record {
-      pending = subst (λ (c : Contents). IsSome (found_delivery id c.pending)) (p.1.0 ∙ row-front book lease front name uses last) settles.pending;
+    (record { legal = subst (IsLegal book.case) (sym split) p.0.legal; fenced = subst (IsFenced shape) (sym split) lawful.fenced }) in
+    record {
+      pending = subst (λ (c : Contents). IsSome (found_delivery id c.pending))
+          (p.1.0 ∙ row-front book lease front name uses last) settles.pending;
       handled = ap is_some (handled-waits_not book.case (take front book.history) id legal.legal p.1.1);
     })
 
 -- a settled row comes next
-pub IsNext-settled : (book : BookView) (lease : LeaseView) (front : ℕ) (name : RowName) (row left : Contents) (id : RecordId) → IsLawful book.case (core_of book)
-    → MayUse book lease front name → IsRowSeen book lease front name row → MaySettle book front row id
+pub IsNext-settled : (book : BookView) (lease : LeaseView) (front : ℕ) (name : RowName) (row left : Contents) (id : RecordId)
+    → IsLawful book.case (core_of book)
+    → MayUseAt book lease front name → IsRowSeenAt book lease front name row → MaySettleAt book front row id
     → last_claim lease.interval book.history ≡ Some lease.seq → length book.history < book.limit
     → left ≡ written_row (length book.history) (Ack lease.seq name id) [] row
     → IsNext book.case (core_of book) name (Ack lease.seq name id) left
@@ -181,14 +199,16 @@ IsNext-settled book lease front name row left id lawful uses seen settles last r
 -- ---- purging
 
 -- a floor may be raised
-may-raise : (book : BookView) (lease : LeaseView) (front : ℕ) (name : RowName) (row : Contents) (floor : ℕ) → MayUse book lease front name
-    → IsRowSeen book lease front name row → MayRaise book front name row floor → last_claim lease.interval book.history ≡ Some lease.seq
+may-raise : (book : BookView) (lease : LeaseView) (front : ℕ) (name : RowName) (row : Contents) (floor : ℕ) → MayUseAt book lease front name
+    → IsRowSeenAt book lease front name row → MayForgetAt book front name row floor
+    → last_claim lease.interval book.history ≡ Some lease.seq
     → IfSome book.rows (λ _. MayFollow book.case (run_of book.case.topology (take front book.history)) (Purge lease.seq name floor))
 may-raise book lease front name row floor uses seen raises last =
     let shape = book.case.topology in
     let run = run_of shape (take front book.history) in
     told-then book.rows
-    (λ r. (row ≡ row_of shape (run_of shape (known lease.interval lease.seq (take front book.history))) name) × (IsSome (row_in run name) × (floor ≤ floor_of run))) _
+    (λ r. (row ≡ row_of shape (run_of shape (known lease.interval lease.seq (take front book.history))) name) ×
+    (IsSome (row_in run name) × (floor ≤ floor_of run))) _
     (told-both book.rows _ _ seen.known (told-both book.rows _ _ raises.there raises.finished))
     (λ r p. record {
       there = p.1.0;
@@ -197,8 +217,9 @@ may-raise book lease front name row floor uses seen raises last =
     })
 
 -- a purged row comes next
-pub IsNext-purged : (book : BookView) (lease : LeaseView) (front : ℕ) (name : RowName) (row left : Contents) (floor : ℕ) → IsLawful book.case (core_of book)
-    → MayUse book lease front name → IsRowSeen book lease front name row → MayRaise book front name row floor
+pub IsNext-purged : (book : BookView) (lease : LeaseView) (front : ℕ) (name : RowName) (row left : Contents) (floor : ℕ)
+    → IsLawful book.case (core_of book)
+    → MayUseAt book lease front name → IsRowSeenAt book lease front name row → MayForgetAt book front name row floor
     → last_claim lease.interval book.history ≡ Some lease.seq → length book.history < book.limit
     → left ≡ written_row (length book.history) (Purge lease.seq name floor) [] row
     → IsNext book.case (core_of book) name (Purge lease.seq name floor) left
@@ -215,7 +236,7 @@ IsNext-purged book lease front name row left floor lawful uses seen raises last 
 pub IsWritten-next : (old new : BookView) (lease : LeaseView) (name : RowName) (entry : Entry) (left : Contents) (answer : Written)
     → IsNext old.case (core_of old) name entry left → last_claim lease.interval old.history ≡ Some lease.seq
     → new.history ≡ old.history ++ entry ∷ [] → answer.commit ≡ length old.history → answer.row ≡ left
-    → IsWritten old new lease name entry left answer
+    → IsWritten old.case old.rows old.history new.history lease name entry left answer
 IsWritten-next old new lease name entry left answer next last appended commit row =
     let shape = old.case.topology in record {
       appended = appended;
@@ -229,24 +250,44 @@ IsWritten-next old new lease name entry left answer next last appended commit ro
     }
 
 -- an accepted write, by what appending answered
-pub IsWritten-result : (old new : BookView) (lease : LeaseView) (name : RowName) (entry given : Entry) (left : Contents) (result : Result Written WriteRefusal)
+pub IsWritten-result : (old new : BookView) (lease : LeaseView) (name : RowName) (entry given : Entry) (left : Contents)
+    (result : Result Written WriteRefusal)
     → IsNext old.case (core_of old) name entry left → last_claim lease.interval old.history ≡ Some lease.seq → given ≡ entry
-    → OnOk result (new.history ≡ old.history ++ given ∷ []) → IfOk result (λ w. w.commit ≡ length old.history) → IfOk result (λ w. w.row ≡ left)
-    → IfOk result (IsWritten old new lease name entry left)
+    → OnOk result (new.history ≡ old.history ++ given ∷ []) → IfOk result (λ w. w.commit ≡ length old.history)
+    → IfOk result (λ w. w.row ≡ left)
+    → IfOk result (IsWritten old.case old.rows old.history new.history lease name entry left)
 IsWritten-result old new lease name entry given left (Err why) next last same appended commit row = tt
 IsWritten-result old new lease name entry given left (Ok answer) next last same appended commit row =
     IsWritten-next old new lease name entry left answer next last (appended ∙ ap (λ (e : Entry). old.history ++ e ∷ []) same) commit row
 
 -- a row that was answered, under another name
-pub IfOk-row : {one other : Contents} → one ≡ other → (result : Result Written WriteRefusal) → IfOk result (λ w. w.row ≡ one) → IfOk result (λ w. w.row ≡ other)
+pub IfOk-row : {one other : Contents} → one ≡ other → (result : Result Written WriteRefusal) → IfOk result (λ w. w.row ≡ one)
+    → IfOk result (λ w. w.row ≡ other)
 IfOk-row same (Err why) row = tt
 IfOk-row same (Ok answer) row = row ∙ same
 
 -- the row that is handed in is that of the history, where the keeper tells
 pub row-was : (book : BookView) (lease : LeaseView) (front : ℕ) (name : RowName) (row : Contents) → IsLawful book.case (core_of book)
-    → MayUse book lease front name → IsRowSeen book lease front name row → last_claim lease.interval book.history ≡ Some lease.seq
+    → MayUseAt book lease front name → IsRowSeenAt book lease front name row → last_claim lease.interval book.history ≡ Some lease.seq
     → IfSome book.rows (λ _. row ≡ row_of book.case.topology (run_of book.case.topology book.history) name)
 row-was book lease front name row lawful uses seen last =
     let shape = book.case.topology in
-    told-then book.rows (λ _. row ≡ row_of shape (run_of shape (known lease.interval lease.seq (take front book.history))) name) _ seen.known
+    told-then book.rows (λ _. row ≡ row_of shape (run_of shape (known lease.interval lease.seq (take front book.history))) name) _
+    seen.known
     (λ r is. is ∙ row-front book lease front name uses last ∙ row-whole book lease front name lawful.fenced uses last)
+
+-- what holds of an accepted write, where it holds anyway
+pub when-written : {A : Type 0} (result : Result Written WriteRefusal) → A → OnOk result A
+when-written (Ok written) holds = holds
+when-written (Err why) holds = tt
+
+-- what stands in a beginning stands in the whole
+take-at : {X : Type 0} (n i : ℕ) (xs : List X) (x : X) → slice_get (take n xs) i ≡ Some x → slice_get xs i ≡ Some x
+take-at zero i xs x at = absurd (none_some x at)
+take-at (suc n) i [] x at = at
+take-at (suc n) zero (y ∷ ys) x at = at
+take-at (suc n) (suc i) (y ∷ ys) x at = take-at n i ys x at
+
+-- a claim that was seen stands in the history
+pub claimed-whole : (interval seq n : ℕ) (history : List Entry) → IsClaimed interval seq (take n history) → IsClaimed interval seq history
+claimed-whole interval seq n history claimed = (claimed.0, take-at n seq history (Claim claimed.0 interval) claimed.1)

@@ -26,15 +26,17 @@ use Rattle.run_history.proofs.Lists.{none_some, each-weaker, each-flat_map, flat
 use Rattle.history_laws.proofs.LowLaws.{AreRowsInOrder, rows-in_order}
 use Rattle.history_laws.proofs.FloorLaws.{floor_of-bound, row_of-above}
 use Rattle.history_laws.proofs.IdLaws.{next-length}
-use Rattle.book.specs.Senders.{IsPendingIn, AreSenders, IsLeastSent}
-use Rattle.book.specs.Sending.{sender_of, IsLeastKnown}
+use Rattle.book.specs.Senders.{IsPendingIn, AreSenders, IsLeastSent, sender_of}
+use Rattle.book.specs.Sending.{IsLeastKnown}
 use Rattle.book.proofs.SenderSteps.{found-each, each-found, pending-before}
 
 -- what holds of each id that is pending in a row holds of each delivery in each row
-pending-rows : (shape : Shape) (run : Run) (P : RecordId → Type 0) → AreRowsInOrder run → ((id : RecordId) (name : RowName) → IsPendingIn shape run id name → P id)
+pending-rows : (shape : Shape) (run : Run) (P : RecordId → Type 0) → AreRowsInOrder run
+    → ((id : RecordId) (name : RowName) → IsPendingIn shape run id name → P id)
     → AllByRecursion (λ (r : RowName × Contents). AllByRecursion (λ (d : Delivery). P d.id) r.1.pending) run.rows
 pending-rows shape run P order all =
-    each-weaker (λ (r : RowName × Contents). row_in run r.0 ≡ Some r.1) (λ (r : RowName × Contents). AllByRecursion (λ (d : Delivery). P d.id) r.1.pending)
+    each-weaker (λ (r : RowName × Contents). row_in run r.0 ≡ Some r.1)
+    (λ (r : RowName × Contents). AllByRecursion (λ (d : Delivery). P d.id) r.1.pending)
     (λ r there. each-found P r.1.pending (λ id found. all id r.0
     (subst (λ o. is_some (found_delivery id (unwrap_or o (fresh (fresh_of shape r.0.part))).pending) ≡ true) (sym there) found)))
     run.rows (each_found row_cmp-total run.rows order.sorted)
@@ -44,11 +46,13 @@ pending-each : (shape : Shape) (run : Run) (P : RecordId → Type 0) (id : Recor
     → AllByRecursion (λ (d : Delivery). P d.id) (all_pending run) → IsPendingIn shape run id name → P id
 pending-each shape run P id name each pending =
     found-each P id (row_of shape run name).pending
-    (found_of_each (λ (c : Contents). AllByRecursion (λ (d : Delivery). P d.id) c.pending) (is_at (row_cmp name)) run.rows (fresh (fresh_of shape name.part))
+    (found_of_each (λ (c : Contents). AllByRecursion (λ (d : Delivery). P d.id) c.pending) (is_at (row_cmp name)) run.rows
+    (fresh (fresh_of shape name.part))
     (flat_map-each (λ (d : Delivery). P d.id) (λ (r : RowName × Contents). r.1.pending) run.rows each) tt) pending
 
 -- what is known first and least of senders is the least that is pending
-pub least-first : (shape : Shape) (run : Run) (sent : List (RecordId × RowName)) (id : RecordId) (name : RowName) → AreSenders shape run sent
+pub least-first : (shape : Shape) (run : Run) (sent : List (RecordId × RowName)) (id : RecordId) (name : RowName)
+    → AreSenders shape run sent
     → sender_of sent id ≡ Some name → IsLeastKnown sent id → IsLeastSent shape run id name
 least-first shape run sent id name are first least = record {
   pending = (are id name).0 first;
@@ -102,12 +106,15 @@ floor-least shape history id name first =
     omega (arith, above, below)
 
 -- the floor is the number of the next entry where nothing is pending
-pub floor-none : (shape : Shape) (history : List Entry) → all_pending (run_of shape history) ≡ [] → length history ≡ floor_of (run_of shape history)
+pub floor-none : (shape : Shape) (history : List Entry) → all_pending (run_of shape history) ≡ []
+    → length history ≡ floor_of (run_of shape history)
 floor-none shape history none =
-    sym (next-length shape history) ∙ sym (ap (λ (ds : List Delivery). fold min (run_of shape history).next (map (λ (d : Delivery). d.id.commit) ds)) none)
+    sym (next-length shape history) ∙ sym (ap (λ (ds : List Delivery). fold min (run_of shape history).next
+    (map (λ (d : Delivery). d.id.commit) ds)) none)
 
 -- what is first known of senders, as a caller of a book sees it
-pub least-found : {N : Type 0} (shape : Shape) (run : Run) (sent : List (RecordId × RowName)) (found : Option (RecordId × N)) (named : N → RowName) → AreSenders shape run sent
+pub least-found : {N : Type 0} (shape : Shape) (run : Run) (sent : List (RecordId × RowName)) (found : Option (RecordId × N))
+    (named : N → RowName) → AreSenders shape run sent
     → IfSome found (λ p. sender_of sent p.0 ≡ Some (named p.1)) → IfSome found (λ p. IsLeastKnown sent p.0)
     → IfSome found (λ p. IsLeastSent shape run p.0 (named p.1))
 least-found shape run sent None named are sender least = tt

@@ -14,7 +14,8 @@ use Rattle.row_parts.specs.Contents.{same_id}
 use Rattle.run_history.proofs.Lookups.{lookup-insert_entry}
 use Rattle.history_laws.proofs.IdLaws.{same_id-itself, same_id-true}
 use Rattle.history_laws.proofs.RowSteps.{both_Equal, from_tie}
-use Rattle.book.specs.Sending.{sender_of, is_among_sent, HasSent, HasForgotten}
+use Rattle.book.specs.Senders.{sender_of}
+use Rattle.book.specs.Sending.{is_among_sent, HasSent, HasForgotten}
 
 -- tests of which each follows from the other are the same
 pub same_test : (a b : Bool) → (a ≡ true → b ≡ true) → (b ≡ true → a ≡ true) → a ≡ b
@@ -48,7 +49,8 @@ or_true false = refl
 
 -- below the next number are a number and those below it
 below-next : (i n : ℕ) → nat_lt i (n + 1) ≡ ((i == n) || nat_lt i n)
-below-next i n = same_test (nat_lt i (n + 1)) ((i == n) || nat_lt i n) (λ less. forth (ltb-true i (n + 1) less) (cases_lt i n)) (back (i == n) refl)
+below-next i n = same_test (nat_lt i (n + 1)) ((i == n) || nat_lt i n) (λ less. forth (ltb-true i (n + 1) less) (cases_lt i n))
+    (back (i == n) refl)
   where
     forth : i < n + 1 → (i < n) ⊎ (n ≤ i) → ((i == n) || nat_lt i n) ≡ true
     forth less (inl below) = ap (λ b. (i == n) || b) (lt-ltb i n below) ∙ or_true (i == n)

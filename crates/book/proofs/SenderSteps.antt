@@ -24,8 +24,8 @@ use Rattle.run_history.proofs.RunLaws.{run_of-push}
 use Rattle.run_history.proofs.Lists.{none_some, some_same, each-weaker}
 use Rattle.history_laws.proofs.IdLaws.{same_id-itself, same_id-true, next-length}
 use Rattle.history_laws.proofs.RowSteps.{same_row, on_row_or_not, row_of-here, row_of-elsewhere, row_of-in_order, pending-in_order}
-use Rattle.book.specs.Senders.{IsPendingIn, AreSenders}
-use Rattle.book.specs.Sending.{sender_of, sender_more, sender_less, settled_by, is_among_sent, is_sender, IsUnsent, KnowsSame, IsAfterEntry}
+use Rattle.book.specs.Senders.{IsPendingIn, AreSenders, sender_of}
+use Rattle.book.specs.Sending.{sender_more, sender_less, settled_by, is_among_sent, is_sender, IsUnsent, KnowsSame, IsAfterEntry}
 use Rattle.book.specs.Appending.{sent_by}
 use Rattle.book.proofs.SenderMaps.{same_test, among-commit}
 
@@ -36,16 +36,19 @@ abbrev is_found : RecordId → List Delivery → Bool
 is_found id ds = is_some (found_delivery id ds)
 
 -- what holds of the id of each delivery holds of an id that is found
-pub found-each : (P : RecordId → Type 0) (id : RecordId) (ds : List Delivery) → AllByRecursion (λ (d : Delivery). P d.id) ds → is_found id ds ≡ true → P id
+pub found-each : (P : RecordId → Type 0) (id : RecordId) (ds : List Delivery) → AllByRecursion (λ (d : Delivery). P d.id) ds
+    → is_found id ds ≡ true → P id
 found-each P id [] each found = absurd (cc)
 found-each P id (d ∷ ds) each found = by_case (found-each P id ds each.1) (same_id d.id id) refl found
   where
-    by_case : (is_found id ds ≡ true → P id) → (b : Bool) → same_id d.id id ≡ b → is_some (cond b (Some d) (found_delivery id ds)) ≡ true → P id
+    by_case : (is_found id ds ≡ true → P id) → (b : Bool) → same_id d.id id ≡ b → is_some (cond b (Some d) (found_delivery id ds)) ≡ true
+        → P id
     by_case rest true same found = subst P (same_id-true d.id id same) each.0
     by_case rest false same found = rest found
 
 -- what holds of each id that is found holds of the id of each delivery
-pub each-found : (P : RecordId → Type 0) (ds : List Delivery) → ((id : RecordId) → is_found id ds ≡ true → P id) → AllByRecursion (λ (d : Delivery). P d.id) ds
+pub each-found : (P : RecordId → Type 0) (ds : List Delivery) → ((id : RecordId) → is_found id ds ≡ true → P id)
+    → AllByRecursion (λ (d : Delivery). P d.id) ds
 each-found P [] found = tt
 each-found P (d ∷ ds) found = (
   found d.id (ap (λ b. is_some (cond b (Some d) (found_delivery d.id ds))) (same_id-itself d.id)),
@@ -65,7 +68,8 @@ found-append id xs ys = ap is_some (find-append (λ (d : Delivery). same_id d.id
     by_case (Some d) = refl
 
 -- without the deliveries of one id, every other is still found
-found-without : (settled id : RecordId) (ds : List Delivery) → is_found id (without_delivery settled ds) ≡ (not (same_id settled id) && is_found id ds)
+found-without : (settled id : RecordId) (ds : List Delivery)
+    → is_found id (without_delivery settled ds) ≡ (not (same_id settled id) && is_found id ds)
 found-without settled id [] = by_case (same_id settled id)
   where
     by_case : (b : Bool) → false ≡ (not b && false)
@@ -81,21 +85,25 @@ found-without settled id (d ∷ ds) = by_kept (found-without settled id ds) (sam
 
     by_found : is_found id (without_delivery settled ds) ≡ (not (same_id settled id) && is_found id ds)
         → (b c : Bool) → same_id d.id id ≡ b → same_id settled id ≡ c → same_id d.id settled ≡ false
-        → is_some (cond b (Some d) (found_delivery id (without_delivery settled ds))) ≡ (not c && is_some (cond b (Some d) (found_delivery id ds)))
+        → is_some (cond b (Some d) (found_delivery id (without_delivery settled ds))) ≡
+        (not c && is_some (cond b (Some d) (found_delivery id ds)))
     by_found rest true true here there apart =
         absurd (cc (same_id-true settled id there, apart))
     by_found rest true false here there apart = refl
     by_found rest false c here there apart = rest ∙ ap (λ t. not t && is_found id ds) there
 
     by_kept : is_found id (without_delivery settled ds) ≡ (not (same_id settled id) && is_found id ds)
-        → (b : Bool) → same_id d.id settled ≡ b → is_found id (cond (not b) (d ∷ without_delivery settled ds) (without_delivery settled ds)) ≡ (not (same_id settled id) && is_found id (d ∷ ds))
+        → (b : Bool) → same_id d.id settled ≡ b → is_found id
+        (cond (not b) (d ∷ without_delivery settled ds) (without_delivery settled ds)) ≡
+        (not (same_id settled id) && is_found id (d ∷ ds))
     by_kept rest true kept = rest ∙ both (same_id d.id id) (same_id settled id) refl refl kept
     by_kept rest false apart = by_found rest (same_id d.id id) (same_id settled id) refl refl apart
 
 -- ---- what an entry sends
 
 -- of sends that are numbered from n on those within the count are found
-found-numbered : (commit n : ℕ) (id : RecordId) (sends : List (RowName × Record)) → id.commit ≡ commit → n ≤ id.index → id.index < n + length sends
+found-numbered : (commit n : ℕ) (id : RecordId) (sends : List (RowName × Record)) → id.commit ≡ commit → n ≤ id.index
+    → id.index < n + length sends
     → is_found id (map (delivery_at commit) (enumerate_from n sends)) ≡ true
 found-numbered commit n id [] is from below = absurd (omega (arith, from, below))
 found-numbered commit n id (s ∷ ss) is from below =
@@ -104,17 +112,24 @@ found-numbered commit n id (s ∷ ss) is from below =
     this : RecordId
     this = record { commit = commit; index = n }
 
-    by_case : (n + 1 ≤ id.index → is_found id (map (delivery_at commit) (enumerate_from (n + 1) ss)) ≡ true) → (b : Bool) → same_id this id ≡ b
-        → is_some (cond b (Some (delivery_at commit (n, s))) (found_delivery id (map (delivery_at commit) (enumerate_from (n + 1) ss)))) ≡ true
+    by_case : (n + 1 ≤ id.index → is_found id (map (delivery_at commit) (enumerate_from (n + 1) ss)) ≡ true) → (b : Bool)
+        → same_id this id ≡ b
+        → is_some (cond b (Some (delivery_at commit (n, s))) (found_delivery id (map (delivery_at commit) (enumerate_from (n + 1) ss)))) ≡
+        true
     by_case rest true same = refl
     by_case rest false apart = rest (omega (arith, from, other))
       where
         other : id.index ≡ n → ⊥
-        other index = absurd (cc (apart, and_from (commit == id.commit) (n == id.index) (eq-eqb commit id.commit (sym is)) (eq-eqb n id.index (sym index))))
+        other index = absurd (cc (
+          apart,
+          and_from (commit == id.commit) (n == id.index) (eq-eqb commit id.commit (sym is))
+              (eq-eqb n id.index (sym index)),
+        ))
 
 -- of sends that are numbered from n on those that are found are within the count
 numbered-each : (commit n : ℕ) (sends : List (RowName × Record))
-    → AllByRecursion (λ (d : Delivery). (d.id.commit ≡ commit) × (d.id.index < n + length sends)) (map (delivery_at commit) (enumerate_from n sends))
+    → AllByRecursion (λ (d : Delivery). (d.id.commit ≡ commit) × (d.id.index < n + length sends))
+    (map (delivery_at commit) (enumerate_from n sends))
 numbered-each commit n [] = tt
 numbered-each commit n (s ∷ ss) = (
   (refl, omega arith),
@@ -125,16 +140,20 @@ numbered-each commit n (s ∷ ss) = (
 
 -- of numbered sends those are found that are among them
 found-sends : (commit : ℕ) (id : RecordId) (sends : List (RowName × Record))
-    → is_found id (map (delivery_at commit) (enumerate_from 0 sends)) ≡ is_among_sent commit (length (map (delivery_at commit) (enumerate_from 0 sends))) id
+    → is_found id (map (delivery_at commit) (enumerate_from 0 sends)) ≡ is_among_sent commit
+    (length (map (delivery_at commit) (enumerate_from 0 sends))) id
 found-sends commit id sends =
     let sent = map (delivery_at commit) (enumerate_from 0 sends) in
     let many : length sent ≡ length sends = length-map (enumerate_from 0 sends) (delivery_at commit) ∙ length-enumerate_from 0 sends in
     same_test (is_found id sent) (is_among_sent commit (length sent) id)
-    (λ found. let within = found-each (λ (i : RecordId). (i.commit ≡ commit) × (i.index < 0 + length sends)) id sent (numbered-each commit 0 sends) found in
+    (λ found. let within = found-each (λ (i : RecordId). (i.commit ≡ commit) × (i.index < 0 + length sends)) id sent
+    (numbered-each commit 0 sends) found in
     let index = within.1 in
-    and_from (id.commit == commit) (nat_lt id.index (length sent)) (eq-eqb id.commit commit within.0) (lt-ltb id.index (length sent) (omega (arith, index, many))))
+    and_from (id.commit == commit) (nat_lt id.index (length sent)) (eq-eqb id.commit commit within.0)
+    (lt-ltb id.index (length sent) (omega (arith, index, many))))
     (λ among. let less = ltb-true id.index (length sent) (second_so (id.commit == commit) (nat_lt id.index (length sent)) among) in
-    found-numbered commit 0 id sends (eqb-true id.commit commit (first_so (id.commit == commit) (nat_lt id.index (length sent)) among)) (omega arith) (omega (arith, less, many)))
+    found-numbered commit 0 id sends (eqb-true id.commit commit (first_so (id.commit == commit) (nat_lt id.index (length sent)) among))
+    (omega arith) (omega (arith, less, many)))
 
 -- of what an entry sends those are found that are among them
 found-sent : (shape : Shape) (made : List Delivery) (commit : ℕ) (entry : Entry) (id : RecordId)
@@ -156,13 +175,18 @@ module _ (n : ℕ) (name : RowName) (id : RecordId) (sender : Option RowName) wh
   own-more : (pending sent : List Delivery) (among : Bool) → is_found id sent ≡ among → (among ≡ true → sender ≡ None)
       → (sender ≡ Some name) ↔ (is_found id pending ≡ true)
       → (cond among (Some name) sender ≡ Some name) ↔ (is_found id (pending ++ sent) ≡ true)
-  own-more pending sent true found new was = (λ _. found-append id pending sent ∙ ap (λ b. is_found id pending || b) found ∙ either (is_found id pending), λ _. refl)
+  own-more pending sent true found new was = (
+    λ _. found-append id pending sent ∙ ap (λ b. is_found id pending || b) found
+        ∙ either (is_found id pending),
+    λ _. refl,
+  )
     where
       either : (b : Bool) → (b || true) ≡ true
       either true = refl
       either false = refl
   own-more pending sent false found new was =
-      subst (λ b. (sender ≡ Some name) ↔ (b ≡ true)) (sym (found-append id pending sent ∙ ap (λ b. is_found id pending || b) found ∙ either (is_found id pending))) was
+      subst (λ b. (sender ≡ Some name) ↔ (b ≡ true))
+      (sym (found-append id pending sent ∙ ap (λ b. is_found id pending || b) found ∙ either (is_found id pending))) was
     where
       either : (b : Bool) → (b || false) ≡ b
       either true = refl
@@ -170,9 +194,11 @@ module _ (n : ℕ) (name : RowName) (id : RecordId) (sender : Option RowName) wh
 
   -- an id that is settled is the row's no more, and every other as it was
   own-less : (pending : List Delivery) (settled : RecordId) → (sender ≡ Some name) ↔ (is_found id pending ≡ true)
-      → (cond (same_id settled id && is_sender name sender) None sender ≡ Some name) ↔ (is_found id (without_delivery settled pending) ≡ true)
+      → (cond (same_id settled id && is_sender name sender) None sender ≡ Some name) ↔
+      (is_found id (without_delivery settled pending) ≡ true)
   own-less pending settled was =
-      subst (λ b. (cond (same_id settled id && is_sender name sender) None sender ≡ Some name) ↔ (b ≡ true)) (sym (found-without settled id pending))
+      subst (λ b. (cond (same_id settled id && is_sender name sender) None sender ≡ Some name) ↔ (b ≡ true))
+      (sym (found-without settled id pending))
       (by_case (same_id settled id) sender was)
     where
       tie : is_sender name (Some name) ≡ true
@@ -212,7 +238,8 @@ both : {A B C : Type 0} → A ↔ B → B ↔ C → A ↔ C
 both one other = (λ a. other.0 (one.0 a), λ c. one.1 (other.1 c))
 
 -- what is known of senders after an entry on a row is what is pending then
-pub AreSenders-followed : (shape : Shape) (run : Run) (entry : Entry) (name : RowName) (old new : List (RecordId × RowName)) → row_written entry ≡ Some name
+pub AreSenders-followed : (shape : Shape) (run : Run) (entry : Entry) (name : RowName) (old new : List (RecordId × RowName))
+    → row_written entry ≡ Some name
     → AreSenders shape run old → IsUnsent run.next old
     → IsAfterEntry run.next entry name (length (deliveries_of shape run.made run.next entry)) old new
     → AreSenders shape (followed shape run entry) new
@@ -228,20 +255,25 @@ AreSenders-followed shape run entry name old new written are unsent after id row
     new-one : is_among_sent run.next count id ≡ true → sender_of old id ≡ None
     new-one among = let is = among-commit run.next count id among in unsent id (omega (arith, is))
 
-    here : (e : Entry) → (c : Contents) → is_found id (deliveries_of shape run.made run.next e) ≡ is_among_sent run.next (length (deliveries_of shape run.made run.next e)) id
+    here : (e : Entry) → (c : Contents) → is_found id (deliveries_of shape run.made run.next e) ≡ is_among_sent run.next
+        (length (deliveries_of shape run.made run.next e)) id
         → (is_among_sent run.next (length (deliveries_of shape run.made run.next e)) id ≡ true → sender_of old id ≡ None)
         → (sender_of old id ≡ Some name) ↔ (is_found id c.pending ≡ true)
-        → (sender_less (settled_by e) name id (sender_more run.next name (length (deliveries_of shape run.made run.next e)) id (sender_of old id)) ≡ Some name)
+        → (sender_less (settled_by e) name id (sender_more run.next name (length (deliveries_of shape run.made run.next e)) id
+        (sender_of old id)) ≡ Some name)
         ↔ (is_found id (changed e (deliveries_of shape run.made run.next e) c).pending ≡ true)
-    here (Claim worker interval) c found new was = subst (λ b. (cond b (Some name) (sender_of old id) ≡ Some name) ↔ (is_found id c.pending ≡ true)) found was
+    here (Claim worker interval) c found new was = subst
+        (λ b. (cond b (Some name) (sender_of old id) ≡ Some name) ↔ (is_found id c.pending ≡ true)) found was
     here (Inject seq part line item) c found new was = own-more run.next name id (sender_of old id) c.pending _ _ found new was
     here (Handle seq row_name settled effects) c found new was = own-more run.next name id (sender_of old id) c.pending _ _ found new was
     here (Fire seq row_name timer mark effects) c found new was = own-more run.next name id (sender_of old id) c.pending _ _ found new was
     here (Ack seq row_name settled) c found new was =
-        subst (λ b. (cond (same_id settled id && is_sender name (cond b (Some name) (sender_of old id))) None (cond b (Some name) (sender_of old id)) ≡ Some name)
+        subst (λ b. (cond (same_id settled id && is_sender name (cond b (Some name) (sender_of old id))) None
+        (cond b (Some name) (sender_of old id)) ≡ Some name)
         ↔ (is_found id (without_delivery settled c.pending) ≡ true)) found
         (own-less run.next name id (sender_of old id) c.pending settled was)
-    here (Purge seq row_name floor) c found new was = subst (λ b. (cond b (Some name) (sender_of old id) ≡ Some name) ↔ (is_found id c.pending ≡ true)) found was
+    here (Purge seq row_name floor) c found new was = subst
+        (λ b. (cond b (Some name) (sender_of old id) ≡ Some name) ↔ (is_found id c.pending ≡ true)) found was
 
     other : (name ≡ row → ⊥) → (settled : Option RecordId)
         → (sender_less settled name id (sender_more run.next name count id (sender_of old id)) ≡ Some row) ↔ (sender_of old id ≡ Some row)
@@ -251,16 +283,19 @@ AreSenders-followed shape run entry name old new written are unsent after id row
         (other-more name row apart (sender_of old id) (is_among_sent run.next count id) new-one)
 
     by_row : (row_written entry ≡ Some row) ⊎ (row_written entry ≡ Some row → ⊥)
-        → (sender_less (settled_by entry) name id (sender_more run.next name count id (sender_of old id)) ≡ Some row) ↔ IsPendingIn shape (followed shape run entry) id row
+        → (sender_less (settled_by entry) name id (sender_more run.next name count id (sender_of old id)) ≡ Some row) ↔ IsPendingIn shape
+        (followed shape run entry) id row
     by_row (inl on) =
         subst (λ (r : RowName). (sender_less (settled_by entry) name id (sender_more run.next name count id (sender_of old id)) ≡ Some r)
         ↔ IsPendingIn shape (followed shape run entry) id r) (some_same name row (sym written ∙ on))
-        (subst (λ (c : Contents). (sender_less (settled_by entry) name id (sender_more run.next name count id (sender_of old id)) ≡ Some name) ↔ (is_found id c.pending ≡ true))
+        (subst (λ (c : Contents). (sender_less (settled_by entry) name id
+        (sender_more run.next name count id (sender_of old id)) ≡ Some name) ↔ (is_found id c.pending ≡ true))
         (sym (row_of-here shape run entry name written))
         (here entry (row_of shape run name) (found-sent shape run.made run.next entry id) new-one (are id name)))
     by_row (inr off) =
         both (other (λ same. off (written ∙ ap Some same)) (settled_by entry))
-        (subst (λ (c : Contents). (sender_of old id ≡ Some row) ↔ (is_found id c.pending ≡ true)) (sym (row_of-elsewhere shape run entry row off)) (are id row))
+        (subst (λ (c : Contents). (sender_of old id ≡ Some row) ↔ (is_found id c.pending ≡ true))
+        (sym (row_of-elsewhere shape run entry row off)) (are id row))
 
 -- what is known of senders stays so where no row is written
 pub AreSenders-kept : (shape : Shape) (run : Run) (entry : Entry) (sent : List (RecordId × RowName)) → row_written entry ≡ None
@@ -272,27 +307,33 @@ AreSenders-kept shape run entry sent written are id row =
 -- ---- after a history
 
 -- what is pending in a row was made by an entry of the history
-pub pending-before : (shape : Shape) (history : List Entry) (id : RecordId) (name : RowName) → IsPendingIn shape (run_of shape history) id name → id.commit < length history
+pub pending-before : (shape : Shape) (history : List Entry) (id : RecordId) (name : RowName)
+    → IsPendingIn shape (run_of shape history) id name → id.commit < length history
 pending-before shape history id name pending =
     let order = row_of-in_order shape (run_of shape history) name (pending-in_order shape history) in
     subst (λ n. id.commit < n) (next-length shape history)
-    (found-each (λ (i : RecordId). i.commit < (run_of shape history).next) id (row_of shape (run_of shape history) name).pending order.below pending)
+    (found-each (λ (i : RecordId). i.commit < (run_of shape history).next) id
+    (row_of shape (run_of shape history) name).pending order.below pending)
 
 -- nothing is known yet of the next entry, nor of a later one
-pub senders-unsent : (shape : Shape) (history : List Entry) (sent : List (RecordId × RowName)) → AreSenders shape (run_of shape history) sent → IsUnsent (length history) sent
+pub senders-unsent : (shape : Shape) (history : List Entry) (sent : List (RecordId × RowName))
+    → AreSenders shape (run_of shape history) sent → IsUnsent (length history) sent
 senders-unsent shape history sent are id late = by_sender (sender_of sent id) refl
   where
     by_sender : (o : Option RowName) → sender_of sent id ≡ o → o ≡ None
     by_sender None is = refl
-    by_sender (Some name) is = absurd (let before = pending-before shape history id name ((are id name).0 is) in omega (arith, before, late))
+    by_sender (Some name) is = absurd (let before = pending-before shape history id name ((are id name).0 is) in omega
+        (arith, before, late))
 
 -- what is known of senders after an entry on a row of a history
-pub senders-next : (shape : Shape) (history : List Entry) (entry : Entry) (name : RowName) (count : ℕ) (old new : List (RecordId × RowName)) → row_written entry ≡ Some name
+pub senders-next : (shape : Shape) (history : List Entry) (entry : Entry) (name : RowName) (count : ℕ)
+    (old new : List (RecordId × RowName)) → row_written entry ≡ Some name
     → count ≡ sent_by shape history entry → AreSenders shape (run_of shape history) old
     → IsAfterEntry (length history) entry name count old new → AreSenders shape (run_of shape (history ++ entry ∷ [])) new
 senders-next shape history entry name count old new written many are after =
     let run = run_of shape history in
-    let counted : count ≡ length (deliveries_of shape run.made run.next entry) = many ∙ ap (λ n. length (deliveries_of shape run.made n entry)) (sym (next-length shape history)) in
+    let counted : count ≡ length (deliveries_of shape run.made run.next entry) = many
+    ∙ ap (λ n. length (deliveries_of shape run.made n entry)) (sym (next-length shape history)) in
     subst (λ (r : Run). AreSenders shape r new) (sym (run_of-push shape history entry))
     (AreSenders-followed shape run entry name old new written are
     (subst (λ n. IsUnsent n old) (sym (next-length shape history)) (senders-unsent shape history old are))
@@ -300,12 +341,14 @@ senders-next shape history entry name count old new written many are after =
     (subst (λ n. IsAfterEntry n entry name count old new) (sym (next-length shape history)) after)))
 
 -- what is known of senders after a claim
-pub senders-claim : (shape : Shape) (history : List Entry) (worker interval : ℕ) (sent : List (RecordId × RowName)) → AreSenders shape (run_of shape history) sent
+pub senders-claim : (shape : Shape) (history : List Entry) (worker interval : ℕ) (sent : List (RecordId × RowName))
+    → AreSenders shape (run_of shape history) sent
     → AreSenders shape (run_of shape (history ++ Claim worker interval ∷ [])) sent
 senders-claim shape history worker interval sent are =
     subst (λ (r : Run). AreSenders shape r sent) (sym (run_of-push shape history (Claim worker interval)))
     (AreSenders-kept shape (run_of shape history) (Claim worker interval) sent refl are)
 
 -- what is known of senders stays where the same is known
-pub senders-same : (shape : Shape) (run : Run) (old new : List (RecordId × RowName)) → AreSenders shape run old → KnowsSame old new → AreSenders shape run new
+pub senders-same : (shape : Shape) (run : Run) (old new : List (RecordId × RowName)) → AreSenders shape run old → KnowsSame old new
+    → AreSenders shape run new
 senders-same shape run old new are same id row = subst (λ o. (o ≡ Some row) ↔ IsPendingIn shape run id row) (sym (same id)) (are id row)

@@ -26,7 +26,8 @@ use Rattle.run_history.proofs.Fitting.{both, each-passes, passes-each}
 -- ---- ids
 
 -- each number is below the end of the count
-each-index : (commit n : ℕ) (xs : List (RowName × Record)) → AllByRecursion (λ (d : Delivery). d.id.index < n + length xs) (map (delivery_at commit) (enumerate_from n xs))
+each-index : (commit n : ℕ) (xs : List (RowName × Record)) → AllByRecursion (λ (d : Delivery). d.id.index < n + length xs)
+    (map (delivery_at commit) (enumerate_from n xs))
 each-index commit n [] = tt
 each-index commit n (x ∷ xs) = (
   omega arith,
@@ -54,18 +55,26 @@ pub sent-ids : (shape : Shape) (part : ℕ) (productions : List Production) (lat
 sent-ids shape part productions late commit consumers few small =
     let items = map (produced late) productions in
     let sends = flat_map (sends_of (consumers_of shape part)) items in
-    let bound : length sends ≤ 512 = omega (arith, sends-few (consumers_of shape part) items consumers, length-map productions (produced late), few) in
+    let bound : length sends ≤ 512 = omega (
+      arith,
+      sends-few (consumers_of shape part) items consumers,
+      length-map productions
+          (produced late),
+      few,
+    ) in
     All-from_recursion (λ (d : Delivery). IsId d.id) (deliveries_made shape part productions late commit)
     (each-weaker (λ (d : Delivery). (d.id.index < 0 + length sends) × (d.id.commit ≡ commit)) (λ (d : Delivery). IsId d.id)
     (λ d is. let first = is.0 in let second = is.1 in record { commit = omega (arith, second, small); index = omega (arith, first, bound) })
     (deliveries_made shape part productions late commit)
-    (each-both (λ (d : Delivery). d.id.index < 0 + length sends) (λ (d : Delivery). d.id.commit ≡ commit) (deliveries_made shape part productions late commit)
+    (each-both (λ (d : Delivery). d.id.index < 0 + length sends) (λ (d : Delivery). d.id.commit ≡ commit)
+    (deliveries_made shape part productions late commit)
     (each-index commit 0 sends) (sent-commits shape part productions late commit)))
   where
     sent-commits : (shape : Shape) (part : ℕ) (productions : List Production) (late : Bool) (commit : ℕ)
         → AllByRecursion (λ (d : Delivery). d.id.commit ≡ commit) (deliveries_made shape part productions late commit)
     sent-commits shape part productions late commit = each_of_commit shape [] commit
-        (Fire 0 (record { part = part; key = [] }) (record { tag = 0; time = 0; late = late }) 0 (record { state = Injector 0; timers = []; productions = productions }))
+        (Fire 0 (record { part = part; key = [] }) (record { tag = 0; time = 0; late = late }) 0
+        (record { state = Injector 0; timers = []; productions = productions }))
 
 -- ---- order
 
@@ -74,11 +83,13 @@ pub pending-sent : (shape : Shape) (part : ℕ) (productions : List Production) 
     → IsStrictlySortedBy delivery_cmp pending → list_all (is_sent_before shape commit) pending ≡ true
     → IsStrictlySortedBy delivery_cmp (pending ++ deliveries_made shape part productions late commit)
 pending-sent shape part productions late commit pending sorted before =
-    let entry = Fire 0 (record { part = part; key = [] }) (record { tag = 0; time = 0; late = late }) 0 (record { state = Injector 0; timers = []; productions = productions }) in
+    let entry = Fire 0 (record { part = part; key = [] }) (record { tag = 0; time = 0; late = late }) 0
+    (record { state = Injector 0; timers = []; productions = productions }) in
     sorted-append delivery_cmp pending (deliveries_made shape part productions late commit) sorted (made-ascend shape [] commit entry)
     (across commit pending (deliveries_made shape part productions late commit)
     (each-weaker (λ (d : Delivery). is_sent_before shape commit d ≡ true) (λ (d : Delivery). d.id.commit < commit)
-    (λ d is. ltb-true d.id.commit commit (both (nat_lt d.id.commit commit) (nat_le (injectors_of shape) d.to.part) (both (nat_lt d.id.commit commit && nat_le (injectors_of shape) d.to.part) (nat_lt d.to.part (parts_of shape)) is).0).0)
+    (λ d is. ltb-true d.id.commit commit (both (nat_lt d.id.commit commit) (nat_le (injectors_of shape) d.to.part)
+    (both (nat_lt d.id.commit commit && nat_le (injectors_of shape) d.to.part) (nat_lt d.to.part (parts_of shape)) is).0).0)
     pending (each-passes (is_sent_before shape commit) pending before))
     (each_of_commit shape [] commit entry))
 
@@ -86,11 +97,14 @@ pending-sent shape part productions late commit pending sorted before =
 
 -- what an entry sends has the timestamps of what it produced
 pub sent-stamps : (shape : Shape) (part : ℕ) (productions : List Production) (late : Bool) (commit : ℕ)
-    → All (λ (p : Production). p.stamp ≤ MAX_STAMP) productions → All (λ (d : Delivery). d.item.stamp ≤ MAX_STAMP) (deliveries_made shape part productions late commit)
+    → All (λ (p : Production). p.stamp ≤ MAX_STAMP) productions → All (λ (d : Delivery). d.item.stamp ≤ MAX_STAMP)
+    (deliveries_made shape part productions late commit)
 sent-stamps shape part productions late commit stamps =
     All-from_recursion (λ (d : Delivery). d.item.stamp ≤ MAX_STAMP) (deliveries_made shape part productions late commit)
-    (deliveries_made-each shape part productions late commit (λ s. Unit {0}) (λ (p : Production). p.stamp ≤ MAX_STAMP) (λ to (item : Record). item.stamp ≤ MAX_STAMP)
-    (λ s p r q. q) (each-all (λ (s : Subscription). Unit {0}) (λ s. tt) (consumers_of shape part)) (recursion_from_All (λ (p : Production). p.stamp ≤ MAX_STAMP) productions stamps))
+    (deliveries_made-each shape part productions late commit (λ s. Unit {0}) (λ (p : Production). p.stamp ≤ MAX_STAMP)
+    (λ to (item : Record). item.stamp ≤ MAX_STAMP)
+    (λ s p r q. q) (each-all (λ (s : Subscription). Unit {0}) (λ s. tt) (consumers_of shape part))
+    (recursion_from_All (λ (p : Production). p.stamp ≤ MAX_STAMP) productions stamps))
 
 -- ---- where it goes
 
@@ -104,7 +118,8 @@ consumers-range : (stream : List ℕ) (n : ℕ) (cs : List ComputationShape)
 consumers-range stream n [] = tt
 consumers-range stream n (c ∷ cs) =
     Rattle.run_history.proofs.Lists.each-append (IsConsumer n (n + length (c ∷ cs))) (subscriptions_to stream (n, c)) _
-    (each-map (IsConsumer n (n + length (c ∷ cs))) (λ (r : Reading). record { to = n; by = r.by }) _ (each-all _ (λ r. (omega arith, omega arith)) _))
+    (each-map (IsConsumer n (n + length (c ∷ cs))) (λ (r : Reading). record { to = n; by = r.by }) _
+    (each-all _ (λ r. (omega arith, omega arith)) _))
     (each-weaker (IsConsumer (n + 1) ((n + 1) + length cs)) (IsConsumer n (n + length (c ∷ cs)))
     (λ s is. let low = is.0 in let high = is.1 in (omega (arith, low), omega (arith, high))) _ (consumers-range stream (n + 1) cs))
 
@@ -118,9 +133,13 @@ sent-before shape part productions late commit =
     (each-weaker (λ (d : Delivery). (d.id.commit ≡ commit) × Goes d.to) (λ d. is_sent_before shape (commit + 1) d ≡ true)
     (λ d is. let number = is.0 in
     and_from (nat_lt d.id.commit (commit + 1) && nat_le (injectors_of shape) d.to.part) (nat_lt d.to.part (parts_of shape))
-    (and_from (nat_lt d.id.commit (commit + 1)) (nat_le (injectors_of shape) d.to.part) (lt-ltb d.id.commit (commit + 1) (omega (arith, number))) (le-leb (injectors_of shape) d.to.part is.1.0))
+    (and_from (nat_lt d.id.commit (commit + 1)) (nat_le (injectors_of shape) d.to.part)
+    (lt-ltb d.id.commit (commit + 1) (omega (arith, number))) (le-leb (injectors_of shape) d.to.part is.1.0))
     (lt-ltb d.to.part (parts_of shape) is.1.1)) sent
     (each-both (λ (d : Delivery). d.id.commit ≡ commit) (λ (d : Delivery). Goes d.to) sent
-    (each_of_commit shape [] commit (Fire 0 (record { part = part; key = [] }) (record { tag = 0; time = 0; late = late }) 0 (record { state = Injector 0; timers = []; productions = productions })))
-    (deliveries_made-each shape part productions late commit (IsConsumer (injectors_of shape) (injectors_of shape + length shape.computations)) (λ p. Unit {0}) (λ to item. Goes to)
-    (λ s p r q. r) (consumers-range (stream_of shape part) (injectors_of shape) shape.computations) (each-all (λ (p : Production). Unit {0}) (λ p. tt) productions))))
+    (each_of_commit shape [] commit (Fire 0 (record { part = part; key = [] }) (record { tag = 0; time = 0; late = late }) 0
+    (record { state = Injector 0; timers = []; productions = productions })))
+    (deliveries_made-each shape part productions late commit
+    (IsConsumer (injectors_of shape) (injectors_of shape + length shape.computations)) (λ p. Unit {0}) (λ to item. Goes to)
+    (λ s p r q. r) (consumers-range (stream_of shape part) (injectors_of shape) shape.computations)
+    (each-all (λ (p : Production). Unit {0}) (λ p. tt) productions))))

@@ -11,7 +11,8 @@ use Rattle.run_history.proofs.Lists.{none_some}
 pub All-more : {X : Type 0} (P : X → Type 0) (xs : List X) (i : ℕ) (d : X) → i < length xs → All P (take i xs)
     → P (get_or xs i d) → All P (take (i + 1) xs)
 All-more P xs i d within done next =
-    subst (All P) (sym (take_more xs i d within)) (All-append P (take i xs) (get_or xs i d ∷ []) done (All-from_recursion P (get_or xs i d ∷ []) (next, tt)))
+    subst (All P) (sym (take_more xs i d within)) (All-append P (take i xs) (get_or xs i d ∷ []) done
+    (All-from_recursion P (get_or xs i d ∷ []) (next, tt)))
 
 -- a keeper whose first row is none has no row, where it tells
 pub first-none : (old new : Option Rows) (found : Option KeptRow) → new ≡ old → found ≡ None

@@ -1,16 +1,18 @@
 -- What the calls of a book answer.
 -- Akidau et al., VLDB 2013, section 6.2: a write under an older sequencer is refused. Own: the
 -- other refusals.
-use Rattle.std.specs.Prelude.{◌≡◌, ◌<◌, ◌↔◌, ◌++◌, ◌∷◌, [], ℕ, List, length, Option, Some, Result, IsErrOf, IsSome, IfSome, slice_get, ⊤, true}
+use Rattle.std.specs.Prelude.{◌≡◌, ◌↔◌, ◌++◌, ◌∷◌, [], ℕ, List, length, Option, Some, Result, IsErrOf, IfSome, slice_get, ⊤, true}
+use Rattle.std.specs.Option.{is_some}
 use Rattle.mw_types.specs.declared.identity.RowName.{RowName}
 use Rattle.mw_types.specs.declared.delivery.Delivery.{Delivery}
 use Rattle.mw_types.specs.declared.entry.Entry.{Entry}
 use Rattle.row_parts.specs.Contents.{Contents}
 use Rattle.row_keeper.specs.Rows.{Rows}
-use Rattle.run_history.specs.Runs.{run_of, row_of}
-use Rattle.run_history.specs.Fences.{last_claim}
+use Rattle.run_history.specs.Cases.{CaseShape}
+use Rattle.run_history.specs.Fences.{IsCurrent, IsOvertakenBy}
 use Rattle.book.specs.Books.{BookView, LeaseView}
 use Rattle.run_history.specs.Fits.{fits}
+use Rattle.book.specs.Conditions.{IsRowOf}
 use Rattle.book.specs.declared.answers.Written.{Written}
 use Rattle.book.specs.declared.refusals.StartWhy.{StartWhy}
 use Rattle.book.specs.declared.refusals.StartWhy.TheVariants as starts
@@ -18,41 +20,41 @@ use Rattle.book.specs.declared.refusals.Stale.{Stale}
 use Rattle.book.specs.declared.refusals.WriteRefusal.{WriteRefusal}
 use Rattle.book.specs.declared.refusals.WriteRefusal.TheVariants as refusals
 
--- a start is refused for a row exactly of a keeper that has one, with its least row, where the
--- keeper tells
+-- a start is refused for a row only of a keeper that has one: where the keeper tells, the row that is
+-- named is its least
 abbrev pub IsNotEmpty : Option Rows → StartWhy → Type 0
 IsNotEmpty rows (starts.NotEmpty name bytes) = IfSome rows (λ held. slice_get held 0 ≡ Some (name, bytes))
 IsNotEmpty rows _ = ⊤
 
 -- a write was accepted: its entry is the next of the history, and the answer has the entry's number
 -- and its row
-pub record IsWritten (old new : BookView) (lease : LeaseView) (name : RowName) (entry : Entry) (left : Contents) (answer : Written) : Type 0 where
-  pub appended : new.history ≡ old.history ++ entry ∷ []
-  pub commit : answer.commit ≡ length old.history
-  -- the row is what the entry leaves; where the keeper tells it is that of the history
+pub record IsWritten {X : Type 0} (case : CaseShape) (told : Option X) (before after : List Entry)
+    (lease : LeaseView) (name : RowName) (entry : Entry) (left : Contents) (answer : Written) : Type 0 where
+  pub appended : after ≡ before ++ entry ∷ []
+  pub commit : answer.commit ≡ length before
+  -- the row is what the entry leaves; where the rows are told it is that of the history
   pub changed_alone : answer.row ≡ left
-  pub of_history : let shape = old.case.topology in
-      IfSome old.rows (λ _. answer.row ≡ row_of shape (run_of shape new.history) name)
-  pub fit : fits old.case (length new.history) name answer.row ≡ true
+  pub of_history : IsRowOf case told after name answer.row
+  pub fit : fits case (length after) name answer.row ≡ true
   -- the lease was the last of its interval
-  pub last : last_claim lease.interval old.history ≡ Some lease.seq
+  pub last : IsCurrent lease.interval lease.seq before
 
 -- a write is stale exactly where a later claim of the lease's interval is there, whose number is
 -- then told
 abbrev pub IsStaleWhere : {T : Type 0} → List Entry → LeaseView → Result T WriteRefusal → Type 0
 IsStaleWhere history lease result = (newer : ℕ) →
-    IsErrOf result (refusals.Stale newer) ↔ (last_claim lease.interval history ≡ Some newer) × (lease.seq < newer)
+    IsErrOf result (refusals.Stale newer) ↔ IsOvertakenBy newer lease.interval lease.seq history
 
 -- a report is stale exactly where a write would be
 abbrev pub IsStaleReport : List Entry → LeaseView → Result ℕ Stale → Type 0
-IsStaleReport history lease result = (newer : ℕ) → IsErrOf result (record { newer = newer })
-    ↔ (last_claim lease.interval history ≡ Some newer) × (lease.seq < newer)
+IsStaleReport history lease result = (newer : ℕ) →
+    IsErrOf result (record { newer = newer }) ↔ IsOvertakenBy newer lease.interval lease.seq history
 
 -- the history is full exactly where it has as many entries as it may have, and the lease is not
 -- stale
-abbrev pub IsFullWhere : {T : Type 0} → BookView → LeaseView → Result T WriteRefusal → Type 0
-IsFullWhere book lease result = IsErrOf result refusals.HistoryFull
-    ↔ (length book.history ≡ book.limit) × (last_claim lease.interval book.history ≡ Some lease.seq)
+abbrev pub IsFullWhere : {T : Type 0} → ℕ → List Entry → LeaseView → Result T WriteRefusal → Type 0
+IsFullWhere limit history lease result = IsErrOf result refusals.HistoryFull
+    ↔ (length history ≡ limit) × IsCurrent lease.interval lease.seq history
 
 -- no call that uses the keeper changes the case, the limit, the marks, or whether the keeper tells
 -- its rows
@@ -60,7 +62,7 @@ pub record IsSameBook (old new : BookView) : Type 0 where
   pub case : new.case ≡ old.case
   pub limit : new.limit ≡ old.limit
   pub marks : new.marks ≡ old.marks
-  pub tells : IsSome new.rows ↔ IsSome old.rows
+  pub tells : is_some new.rows ≡ is_some old.rows
 
 -- the history and the rows have stayed as they were
 pub record HasStayed (old new : BookView) : Type 0 where

@@ -6,11 +6,12 @@ use Rattle.topology.specs.Shapes.{Shape, parts_of}
 use Rattle.row_parts.specs.Contents.{Contents}
 use Rattle.run_history.specs.Cases.{CaseShape}
 use Rattle.run_history.specs.Made.{row_written, productions_of, deliveries_of}
-use Rattle.run_history.specs.Runs.{run_of, row_of}
+use Rattle.run_history.specs.Runs.{run_of}
 use Rattle.run_history.specs.Legal.{MayFollow}
 use Rattle.run_history.specs.Fences.{IsUnderLastClaim, last_claim}
 use Rattle.book.specs.Books.{CoreView}
 use Rattle.run_history.specs.Fits.{fits}
+use Rattle.book.specs.Conditions.{IsRowOf}
 
 -- for each interval it is known which claim is its last
 abbrev pub KnowsClaims : (ℕ → Option ℕ) → List Entry → Type 0
@@ -22,7 +23,8 @@ sent_by shape history entry = length
     (deliveries_of shape (run_of shape history).made (length history) entry)
 
 -- an entry that writes this row under this name may be appended
-pub record IsNext (case : CaseShape) (core : CoreView) (name : RowName) (entry : Entry) (row : Contents) : Type 0 where
+pub record IsNext (case : CaseShape) (core : CoreView) (name : RowName) (entry : Entry)
+    (row : Contents) : Type 0 where
   pub room : length core.history < core.limit
   pub on_row : row_written entry ≡ Some name
   pub under : IsUnderLastClaim case.topology core.history entry
@@ -30,8 +32,7 @@ pub record IsNext (case : CaseShape) (core : CoreView) (name : RowName) (entry :
   pub few : length (productions_of entry) ≤ 8
   pub fit : fits case (length core.history + 1) name row ≡ true
   pub may : IfSome core.rows (λ _. MayFollow case (run_of case.topology core.history) entry)
-  pub of_history : IfSome core.rows (λ _.
-      row ≡ row_of case.topology (run_of case.topology (core.history ++ entry ∷ [])) name)
+  pub of_history : IsRowOf case core.rows (core.history ++ entry ∷ []) name row
 
 -- the last claim, where it is later than this one
 abbrev pub later_than : ℕ → Option ℕ → Option ℕ

@@ -9,4 +9,4 @@ pub mod Claims
 pub mod Appending
 pub mod Sending
 pub mod Refusing
-pub mod Rising
+pub mod TestBooks

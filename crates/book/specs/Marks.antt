@@ -1,7 +1,8 @@
 -- The marks of a book: one for each interval, below which no work of the interval is left, and none
 -- above it.
--- Akidau et al., VLDB 2013, section 4.5: each worker reports the oldest work of its intervals, and a
--- low watermark is the least of that and of the inputs' marks. Own: a mark never falls.
+-- Akidau et al., VLDB 2013, section 4.5: each worker reports on its intervals, and a low watermark is
+-- the least of the oldest work and of the inputs' marks. Own: what is reported
+-- is own work, and a mark never falls.
 use Rattle.std.specs.Prelude.{◌≡◌, ◌<◌, ◌≤◌, ℕ, min, max, List, slice_get, slice_set, Some}
 use Rattle.key_intervals.specs.declared.bounds.Bounds.{Bounds}
 use Rattle.topology.specs.Shapes.{Shape, parts_of}

@@ -1,4 +1,4 @@
--- What a keeper's refusal is to a caller of a book. No public clause cites this module.
+-- What a keeper's refusal is to a caller of a book. The conversions of refusals cite it.
 use Rattle.row_keeper.specs.declared.keeper.KeeperFault.{KeeperFault}
 use Rattle.row_keeper.specs.declared.keeper.KeeperFault.TheVariants as faults
 use Rattle.book.specs.declared.refusals.WriteRefusal.{WriteRefusal}

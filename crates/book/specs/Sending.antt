@@ -1,7 +1,5 @@
 -- How what is known of senders changes as entries come. No public clause cites this module.
 use Rattle.std.specs.Prelude.{◌≡◌, ◌≤◌, ℕ, Bool, false, List, Option, Some, None, IsSome, if◌then◌else◌, ◌&&◌, ◌==◌, nat_lt}
-use Rattle.std.specs.Map.{lookup}
-use Rattle.std.specs.BTreeMap.{is_at}
 use Rattle.std.specs.Ordering.{is_eq, is_gt}
 use Rattle.mw_types.specs.Orders.{id_cmp, row_cmp}
 use Rattle.mw_types.specs.declared.identity.RecordId.{RecordId}
@@ -9,10 +7,7 @@ use Rattle.mw_types.specs.declared.identity.RowName.{RowName}
 use Rattle.mw_types.specs.declared.entry.Entry.{Entry}
 use Rattle.mw_types.specs.declared.entry.Entry.TheVariants.{Ack}
 use Rattle.row_parts.specs.Contents.{same_id}
-
--- who sent an id
-abbrev pub sender_of : List (RecordId × RowName) → RecordId → Option RowName
-sender_of sent id = lookup (is_at (id_cmp id)) sent
+use Rattle.book.specs.Senders.{sender_of}
 
 -- nothing is known of an entry of this number, nor of a later one
 abbrev pub IsUnsent : ℕ → List (RecordId × RowName) → Type 0
@@ -62,12 +57,14 @@ sender_less (Some settled) name id sender =
     if same_id settled id && is_sender name sender then None else sender
 
 -- an id is acknowledged by a row, where the row sent it
-abbrev pub HasSettled : Option RecordId → RowName → List (RecordId × RowName) → List (RecordId × RowName) → Type 0
+abbrev pub HasSettled : Option RecordId → RowName → List (RecordId × RowName)
+    → List (RecordId × RowName) → Type 0
 HasSettled settled name old new = (id : RecordId) →
     sender_of new id ≡ sender_less settled name id (sender_of old id)
 
 -- what is known of senders after the entry of this number, which made so many deliveries in its row
-abbrev pub IsAfterEntry : ℕ → Entry → RowName → ℕ → List (RecordId × RowName) → List (RecordId × RowName) → Type 0
+abbrev pub IsAfterEntry : ℕ → Entry → RowName → ℕ → List (RecordId × RowName)
+    → List (RecordId × RowName) → Type 0
 IsAfterEntry commit entry name count old new = (id : RecordId) →
     sender_of new id
     ≡ sender_less (settled_by entry) name id (sender_more commit name count id (sender_of old id))

@@ -1,5 +1,5 @@
 //! A book, from its start to its end.
-ghost use Rattle.std.specs.Prelude.{◌≡◌, ◌↔◌, ◌≤◌, ◌^◌, ◌+◌, ◌<◌, ℕ, [], length, replicate, IfErr, IfOk, IfSome, None, cond, nat_lt};
+ghost use Rattle.std.specs.Prelude.{◌≡◌, ◌↔◌, ◌≤◌, ◌^◌, ◌+◌, ◌<◌, ℕ, [], length, replicate, IfErr, IfOk, IfSome, MatchResult, None, cond, nat_lt};
 ghost use Rattle.mw_types.specs.Causes.{Rose};
 ghost use Rattle.run_history.specs.Cases.{intervals_of};
 ghost use Rattle.run_history.specs.Legal.{floor_of};
@@ -14,8 +14,8 @@ ghost use Rattle.book.specs.Answers.{IsNotEmpty};
 ghost use Rattle.watermark.specs.Marks.{mark_of};
 ghost use Rattle.book.specs.Refusing.{start_why_of};
 
+use crate::book_core::Core;
 use crate::fitting::lines;
-use crate::inner::Core;
 use crate::refusals::{StartRefusal, StartWhy};
 use history_laws::case_is_runnable;
 use mw_types::{NoMemory, RecordId, RowName};
@@ -66,7 +66,8 @@ impl<'a, K: Keeper> Book<'a, K> {
         ensures empty { IfOk result (λ book. book.history ≡ []) }
         ensures limit { IfOk result (λ book. book.limit ≡ limit) }
         ensures rows { IfOk result (λ book. book.rows ≡ K.rows keeper) }
-        ensures faults { IfOk result (λ book. K.faults keeper ≤ book.faults) }
+        ensures faults { MatchResult result (λ book. K.faults keeper ≤ book.faults)
+            (λ refusal. K.faults keeper ≤ K.faults refusal.keeper) }
         ensures marks { IfOk result (λ book.
             book.marks ≡ replicate (length (intervals_of case.now.topology)) 0) }
 

@@ -7,12 +7,12 @@ ghost use Rattle.mw_types.specs.declared.identity.RowName.{RowName};
 ghost use Rattle.topology.specs.Rules.{interval_count};
 ghost use Rattle.row_parts.specs.Contents.{Contents};
 ghost use Rattle.row_parts.specs.Spelling.{spelling_of};
-ghost use Rattle.row_keeper.specs.Rows.{entry_of};
+ghost use Rattle.row_keeper.specs.Rows.{AreInOrder, entry_of};
 ghost use Rattle.run_history.specs.Legal.{MayClaim};
 ghost use Rattle.run_history.specs.Fits.{fits};
 ghost use Rattle.book.specs.Lawful.{IsKept};
 ghost use Rattle.book.specs.Answers.{HasStayed, IsSameBook};
-ghost use Rattle.book.specs.Claims.{AreRowsOf, IsDamaged, IsFoundWithin, named, spelled};
+ghost use Rattle.book.specs.Claims.{AreRowsOf, AreWithin, IsDamaged, IsFirstDamage, IsFoundWithin, bytes_named, named, spelled};
 ghost use Rattle.book.specs.declared.answers.NamedRow.{NamedRow};
 ghost use Rattle.book.specs.declared.refusals.ClaimRefusal.TheVariants as refusals;
 
@@ -42,11 +42,13 @@ impl<'a, K: Keeper> Book<'a, K> {
             (self.new.history ≡ self.old.history ++ Claim worker interval ∷ []) }
         ensures lease { IfOk result (λ claimed.
             claimed.lease ≡ record { interval = interval; seq = length self.old.history }) }
-        ensures rows { IfOk result (λ claimed. AreRowsOf self.old interval claimed.rows) }
+        ensures rows { let old = self.old in IfOk result
+            (λ claimed. AreRowsOf old.case old.rows old.history interval claimed.rows) }
 
         ensures full { IsErrOf result ClaimRefusal.HistoryFull ↔
             (length self.old.history ≡ self.old.limit) }
-        ensures damaged { IfErr result (IsDamaged self.old) }
+        ensures damaged { let old = self.old in
+            IfErr result (IsDamaged old.case old.rows (length old.history)) }
         ensures keeper_fault { HasCause self.old.faults self.new.faults result
             ClaimRefusal.KeeperFault }
         ensures unchanged { OnErr result (HasStayed self.old self.new) }
@@ -71,8 +73,10 @@ impl<'a, K: Keeper> Book<'a, K> {
     // The rows of an interval, as the keeper has them.
     fn rows_of(&mut self, alloc: Global, interval: u32) -> Result<NamedRowList, ClaimRefusal>
         requires there { interval < interval_count self.old.case.topology }
-        ensures rows { IfOk result (AreRowsOf self.old interval) }
-        ensures damaged { IfErr result (IsDamaged self.old) }
+        ensures rows { let old = self.old in
+            IfOk result (AreRowsOf old.case old.rows old.history interval) }
+        ensures damaged { let old = self.old in
+            IfErr result (IsDamaged old.case old.rows (length old.history)) }
         ensures not_full { IsErrOf result ClaimRefusal.HistoryFull → ⊥ }
         ensures keeper_fault { HasCause self.old.faults self.new.faults result
             ClaimRefusal.KeeperFault }
@@ -89,6 +93,8 @@ impl<'a, K: Keeper> Book<'a, K> {
         requires there { interval < interval_count self.old.case.topology }
         ensures within { IfOk result
             (λ found. IfSome self.old.rows (IsFoundWithin self.old.case interval found)) }
+        ensures covered { IfOk result (AreWithin self.old.case interval) }
+        ensures ascending { IfOk result (λ found. AreInOrder (map entry_of found)) }
         ensures stayed { HasStayed self.old self.new }
         ensures same { IsSameBook self.old self.new }
         ensures keeper_fault { HasCause self.old.faults self.new.faults result KeeperFault.Failed }
@@ -119,7 +125,9 @@ fn decoded(
     number: u64,
     found: &[KeptRow],
 ) -> Result<NamedRowList, ClaimRefusal>
-    ensures fit { IfOk result (All (λ (r : NamedRow). fits case.now number r.name r.row ≡ true)) }
+    ensures kept { IfOk result (λ rows. AllByRecursion (IsKept case.now number) (map named rows)) }
+    ensures spelled { IfOk result (λ rows. map bytes_named rows ≡ map entry_of found.now) }
+    ensures first { IfErr result (IsFirstDamage case.now number (map entry_of found.now)) }
     ensures only { (rows : List (RowName × Contents)) → AllByRecursion
         (IsKept case.now number) rows →
         map entry_of found.now ≡ map spelled rows →
@@ -148,7 +156,10 @@ fn row_named(
     number: u64,
     kept: &KeptRow,
 ) -> Result<NamedRow, ClaimRefusal>
-    ensures fit { IfOk result (λ r. fits case.now number r.name r.row ≡ true) }
+    ensures kept { IfOk result (λ r. IsKept case.now number (named r)) }
+    ensures spelled { IfOk result (λ r. bytes_named r ≡ entry_of kept.now) }
+    ensures this { IfErr result (λ why. why ≢ refusals.NoMemory →
+        why ≡ refusals.RowDamaged kept.now.name kept.now.bytes) }
     ensures only { (row : Contents) → IsKept case.now number (kept.now.name, row) → kept.now.bytes
         ≡ spelling_of row →
         MatchResult result (λ r. named r ≡ (kept.now.name, row)) (λ why. why ≡ refusals.NoMemory) }

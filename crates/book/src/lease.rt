@@ -4,8 +4,7 @@ ghost use Rattle.std.specs.Prelude.{◌≡◌};
 use std::marker::Model;
 
 /// A sequencer, Akidau et al., VLDB 2013, section 6.2: the right to write the rows of one interval,
-/// until the next
-/// claim of the interval. It is made by a claim alone.
+/// until the next claim of the interval. It is made by a claim alone.
 #[derive(Debug, Drop)]
 pub struct Lease {
     pub(crate) interval: u32,

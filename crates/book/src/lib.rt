@@ -10,26 +10,26 @@
 #![tactic(auto)]
 
 mod answers;
+mod book_core;
 mod books;
 mod claims;
+mod entries;
 mod fitting;
-mod inner;
 mod lease;
+mod pending;
 mod proposal;
 mod refusals;
 mod reports;
 mod rows;
-mod senders;
-mod sending;
-mod steps;
+mod sender_map;
 #[cfg(test)]
 mod tests;
-mod works;
+mod work_left;
 mod writes;
 
 pub use answers::{Claimed, NamedRow, NamedRowList, Written};
+pub use book_core::Core;
 pub use books::Book;
-pub use inner::Core;
 pub use lease::Lease;
 pub use proposal::Proposal;
 pub use refusals::{ClaimRefusal, Stale, StartRefusal, StartWhy, WriteRefusal};

@@ -2,9 +2,9 @@
 ghost use Rattle.std.specs.Prelude.{◌≡◌, ◌<◌, IfOk, IfSome, OnErr, OnOk, Some, length, max};
 ghost use Rattle.run_history.specs.Cases.{intervals_of};
 ghost use Rattle.run_history.specs.Runs.{run_of};
-ghost use Rattle.run_history.specs.Fences.{last_claim};
+ghost use Rattle.run_history.specs.Fences.{IsCurrent};
 ghost use Rattle.book.specs.Answers.{IsStaleReport};
-ghost use Rattle.book.specs.Conditions.{HasSeenAll, IsOwnWork};
+ghost use Rattle.book.specs.Conditions.{HasSeenAllAt, IsOwnWorkAt};
 ghost use Rattle.book.specs.Marks.{IsSafeAt, reported, with_mark};
 ghost use Rattle.watermark.specs.Marks.{mark_of};
 
@@ -19,8 +19,8 @@ impl<'a, K: Keeper> Book<'a, K> {
     /// interval's rows, in whole microseconds, or the end where there is none. The interval's mark
     /// rises to that, as far as the marks that feed the interval allow, and is answered.
     pub fn report(&mut self, lease: &Lease, front: u64, own: u64) -> Result<u64, Stale>
-        requires lease { HasSeenAll self.old lease.now front }
-        requires own { IsOwnWork self.old lease.now front own }
+        requires lease { HasSeenAllAt self.old lease.now front }
+        requires own { IsOwnWorkAt self.old lease.now front own }
 
         ensures answer { IfOk result (λ mark.
             mark ≡ reported self.old.case.topology lease.now.interval own self.old.marks) }
@@ -28,7 +28,7 @@ impl<'a, K: Keeper> Book<'a, K> {
           marks = with_mark lease.now.interval mark self.old.marks;
         }) }
         ensures last { OnOk result
-            (last_claim lease.now.interval self.old.history ≡ Some lease.now.seq) }
+            (IsCurrent lease.now.interval lease.now.seq self.old.history) }
 
         ensures stale { IsStaleReport self.old.history lease.now result }
         ensures unchanged { OnErr result (self.new ≡ self.old) }

@@ -2,10 +2,10 @@
 ghost use Rattle.std.specs.Prelude.{◌≡◌, ◌<◌, ◌^◌, ◌↔◌, ℕ, None, ◌++◌, ◌∷◌, ◌⊎◌, [], length, take, IfErr, IfOk, IfSome, IsErrOf, OnErr, OnOk, Some};
 ghost use Rattle.mw_types.specs.Causes.{HasCause};
 ghost use Rattle.mw_types.specs.declared.entry.Entry.TheVariants.{Ack, Purge};
-ghost use Rattle.run_history.specs.Runs.{run_of, row_of, written_row};
-ghost use Rattle.run_history.specs.Fences.{last_claim};
+ghost use Rattle.run_history.specs.Runs.{run_of, written_row};
+ghost use Rattle.run_history.specs.Fences.{IsClaimed, IsCurrent, IsOvertakenBy};
 ghost use Rattle.book.specs.Books.{core_of};
-ghost use Rattle.book.specs.Conditions.{IsClaimed, IsRowSeen, MayRaise, MaySettle, MayUse};
+ghost use Rattle.book.specs.Conditions.{IsRowOf, IsRowSeenAt, MayForgetAt, MaySettleAt, MayUseAt};
 ghost use Rattle.book.specs.Answers.{HasStayed, IsFullWhere, IsSameBook, IsStaleWhere, IsWritten};
 ghost use Rattle.book.specs.Lawful.{IsLawful};
 ghost use Rattle.book.specs.Proposals.{IsProposable, IsProposedOf, IsWrittenBy};
@@ -13,12 +13,12 @@ ghost use Rattle.book.specs.Appending.{IsNext, later_than, sent_by};
 
 use crate::answers::Written;
 use crate::books::Book;
+use crate::entries::{Step, step_of};
 use crate::lease::Lease;
 use crate::proposal::Proposal;
 use crate::refusals::WriteRefusal;
 use crate::rows::{purged, settled};
-use crate::steps::{Step, step_of};
-use crate::works::work_after;
+use crate::work_left::work_after;
 use mw_types::{Duplicate, Entry, RecordId, RowName};
 use record_codec::encode_row;
 use row_keeper::Keeper;
@@ -37,16 +37,19 @@ impl<'a, K: Keeper> Book<'a, K> {
         row: &Row,
         proposal: &Proposal,
     ) -> Result<Written, WriteRefusal>
-        requires lease { MayUse self.old lease.now front name.now }
-        requires row { IsRowSeen self.old lease.now front name.now row.now }
+        requires lease { MayUseAt self.old lease.now front name.now }
+        requires row { IsRowSeenAt self.old lease.now front name.now row.now }
         requires proposal { IsProposable self.old.case name.now row.now proposal.now }
         requires seen { let run = run_of self.old.case.topology (take front self.old.history) in
             IfSome self.old.rows (λ _. IsProposedOf self.old.case name.now proposal.now run) }
 
-        ensures written { IfOk result
-            (IsWrittenBy self.old self.new lease.now name.now proposal.now row.now) }
+        ensures written { let old = self.old in IfOk result
+            (IsWrittenBy old.case old.rows old.history self.new.history
+            lease.now name.now proposal.now row.now) }
+        ensures found { let old = self.old in
+            OnOk result (IsRowOf old.case old.rows old.history name.now row.now) }
         ensures stale { IsStaleWhere self.old.history lease.now result }
-        ensures full { IsFullWhere self.old lease.now result }
+        ensures full { IsFullWhere self.old.limit self.old.history lease.now result }
         ensures keeper_fault { HasCause self.old.faults self.new.faults result
             WriteRefusal.KeeperFault }
         ensures unchanged { OnErr result (HasStayed self.old self.new) }
@@ -73,15 +76,18 @@ impl<'a, K: Keeper> Book<'a, K> {
         row: &Row,
         id: RecordId,
     ) -> Result<Written, WriteRefusal>
-        requires lease { MayUse self.old lease.now front name.now }
-        requires row { IsRowSeen self.old lease.now front name.now row.now }
-        requires id { MaySettle self.old front row.now id }
+        requires lease { MayUseAt self.old lease.now front name.now }
+        requires row { IsRowSeenAt self.old lease.now front name.now row.now }
+        requires id { MaySettleAt self.old front row.now id }
 
         ensures written { let entry = Ack lease.now.seq name.now id in
             let left = written_row (length self.old.history) entry [] row.now in
-            IfOk result (IsWritten self.old self.new lease.now name.now entry left) }
+            let old = self.old in IfOk result
+            (IsWritten old.case old.rows old.history self.new.history lease.now name.now entry left) }
+        ensures found { let old = self.old in
+            OnOk result (IsRowOf old.case old.rows old.history name.now row.now) }
         ensures stale { IsStaleWhere self.old.history lease.now result }
-        ensures full { IsFullWhere self.old lease.now result }
+        ensures full { IsFullWhere self.old.limit self.old.history lease.now result }
         ensures keeper_fault { HasCause self.old.faults self.new.faults result
             WriteRefusal.KeeperFault }
         ensures unchanged { OnErr result (HasStayed self.old self.new) }
@@ -110,15 +116,18 @@ impl<'a, K: Keeper> Book<'a, K> {
         row: &Row,
         floor: u64,
     ) -> Result<Written, WriteRefusal>
-        requires lease { MayUse self.old lease.now front name.now }
-        requires row { IsRowSeen self.old lease.now front name.now row.now }
-        requires floor { MayRaise self.old front name.now row.now floor }
+        requires lease { MayUseAt self.old lease.now front name.now }
+        requires row { IsRowSeenAt self.old lease.now front name.now row.now }
+        requires floor { MayForgetAt self.old front name.now row.now floor }
 
         ensures written { let entry = Purge lease.now.seq name.now floor in
             let left = written_row (length self.old.history) entry [] row.now in
-            IfOk result (IsWritten self.old self.new lease.now name.now entry left) }
+            let old = self.old in IfOk result
+            (IsWritten old.case old.rows old.history self.new.history lease.now name.now entry left) }
+        ensures found { let old = self.old in
+            OnOk result (IsRowOf old.case old.rows old.history name.now row.now) }
         ensures stale { IsStaleWhere self.old.history lease.now result }
-        ensures full { IsFullWhere self.old lease.now result }
+        ensures full { IsFullWhere self.old.limit self.old.history lease.now result }
         ensures keeper_fault { HasCause self.old.faults self.new.faults result
             WriteRefusal.KeeperFault }
         ensures unchanged { OnErr result (HasStayed self.old self.new) }
@@ -140,15 +149,15 @@ impl<'a, K: Keeper> Book<'a, K> {
     // Tests the sequencer of a write, and then whether there is room for its entry, which will have
     // this number.
     fn admit(&self, lease: &Lease) -> Result<u64, WriteRefusal>
-        requires claimed { IsClaimed self.now.history lease.now }
+        requires claimed { IsClaimed lease.now.interval lease.now.seq self.now.history }
         ensures lawful { IsLawful self.now.case (core_of self.now) }
         ensures number { IfOk result (λ number. number ≡ length self.now.history) }
         ensures below { IfOk result (λ number. number < 2 ^ 32) }
         ensures last { OnOk result
-            (last_claim lease.now.interval self.now.history ≡ Some lease.now.seq) }
+            (IsCurrent lease.now.interval lease.now.seq self.now.history) }
         ensures room { OnOk result (length self.now.history < self.now.limit) }
         ensures stale { IsStaleWhere self.now.history lease.now result }
-        ensures full { IsFullWhere self.now lease.now result }
+        ensures full { IsFullWhere self.now.limit self.now.history lease.now result }
         ensures no_fault { IsErrOf result WriteRefusal.KeeperFault → ⊥ }
     {
         if let Some(newer) = self.newer(lease) {
@@ -163,13 +172,12 @@ impl<'a, K: Keeper> Book<'a, K> {
 
     // The last claim of a lease's interval, where it is later than the lease's.
     pub(crate) fn newer(&self, lease: &Lease) -> Option<u64>
-        requires claimed { IsClaimed self.now.history lease.now }
+        requires claimed { IsClaimed lease.now.interval lease.now.seq self.now.history }
         ensures lawful { IsLawful self.now.case (core_of self.now) }
         ensures later { (newer : ℕ) → (result ≡ Some newer)
-            ↔ (last_claim lease.now.interval self.now.history ≡ Some newer) ×
-            (lease.now.seq < newer) }
-        ensures own { result ≡ None → last_claim lease.now.interval self.now.history
-            ≡ Some lease.now.seq }
+            ↔ IsOvertakenBy newer lease.now.interval lease.now.seq self.now.history }
+        ensures own { result ≡ None →
+            IsCurrent lease.now.interval lease.now.seq self.now.history }
     {
         let newest = self.core.newest(lease.interval());
         later(lease.seq(), newest)
@@ -187,9 +195,8 @@ impl<'a, K: Keeper> Book<'a, K> {
     ) -> Result<Written, WriteRefusal>
         requires next { IsNext self.old.case (core_of self.old) name.now entry row }
         requires sent { sent ≡ sent_by self.old.case.topology self.old.history entry }
-        requires was { let shape = self.old.case.topology in
-            IfSome self.old.rows
-            (λ _. before.now ≡ row_of shape (run_of shape self.old.history) name.now) }
+        requires was { let old = self.old in
+            IsRowOf old.case old.rows old.history name.now before.now }
         ensures appended { OnOk result (self.new.history ≡ self.old.history ++ entry ∷ []) }
         ensures commit { IfOk result (λ written. written.commit ≡ length self.old.history) }
         ensures row { IfOk result (λ written. written.row ≡ row) }

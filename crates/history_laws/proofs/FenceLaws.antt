@@ -12,7 +12,7 @@ use Rattle.topology.specs.Shapes.{Shape}
 use Rattle.row_parts.specs.Contents.{fresh}
 use Rattle.run_history.specs.Cases.{fresh_of}
 use Rattle.run_history.specs.Runs.{Run, run_of, row_in, row_of}
-use Rattle.run_history.specs.Fences.{interval_of, sequencer_of, is_claim, last_claim, IsFenced, HasSeen, known}
+use Rattle.run_history.specs.Fences.{interval_of, sequencer_of, is_claim, last_claim, IsFenced, HasSeen, HasSeenAll, known}
 use Rattle.run_history.proofs.RunLaws.{run_of-push}
 use Rattle.run_history.proofs.Lists.{each-append, each-weaker}
 use Rattle.run_history.proofs.Beginnings.{each-begins}
@@ -42,14 +42,18 @@ rows_as_seen shape interval s name (e ∷ es) front lies fenced last within none
     (λ written. none.0 (carried shape front e name interval s (fenced front e (es, again)) written lies
     (last_claim-front interval s front (e ∷ es) last within)))
 
+-- a claim that was seen stands within what was seen
+pub claim-within : (interval seq : ℕ) (seen rest : List Entry) → HasSeenAll interval seq seen rest → seq < length seen
+claim-within interval seq seen rest all = slice_get_within seen seq (Claim all.claimed.0 interval) all.claimed.1
+
 -- a row of an interval is found by a beginning that has seen the interval's last claim as by the whole
 pub row_in-seen : (shape : Shape) (interval seq : ℕ) (front rest : List Entry) → IsFenced shape (front ++ rest)
     → HasSeen interval seq front rest
     → (name : RowName) → interval_of shape name ≡ Some interval
     → row_in (run_of shape (front ++ rest)) name ≡ row_in (run_of shape front) name
 row_in-seen shape interval seq front rest fenced seen name lies =
-    rows_as_seen shape interval seq name rest front lies fenced seen.last seen.claim
-    (recursion_from_All (λ (e : Entry). sequencer_of e ≢ Some seq) rest seen.written)
+    rows_as_seen shape interval seq name rest front lies fenced seen.last (claim-within interval seq front rest seen.all)
+    (recursion_from_All (λ (e : Entry). sequencer_of e ≢ Some seq) rest seen.all.own)
 
 -- and so is the row, there or fresh
 pub row_of-seen : (shape : Shape) (interval seq : ℕ) (front rest : List Entry) → IsFenced shape (front ++ rest)

@@ -3,7 +3,7 @@ use Rattle.std.proofs.Common.{◌≡◌, ◌≢◌, ℕ, ◌<◌, ◌≤◌, Boo
 use Rattle.std.specs.Prelude.{Option, Some, None, IsSome, IsNone, filter, not, ◌||◌, slice_get}
 use Rattle.std.specs.Option.{option_map}
 use Rattle.std.specs.List.{AllByRecursion, list_any}
-use Rattle.std.proofs.lemmas.List.{append-nil, take-append-drop, length-take}
+use Rattle.std.proofs.lemmas.List.{append-nil, take-append-drop}
 use Rattle.std.proofs.lemmas.List.Folds.{list_any-append}
 use Rattle.std.proofs.lemmas.List.Elements.{recursion_from_All}
 use Rattle.mw_types.specs.declared.identity.RecordId.{RecordId}
@@ -21,7 +21,7 @@ use Rattle.run_history.specs.Runs.{Run, run_of, row_in, row_of, followed}
 use Rattle.run_history.specs.Watermarks.{cursor_in}
 use Rattle.run_history.specs.Legal.{MayFollow, MayClaim, IsLegal}
 use Rattle.run_history.proofs.RunLaws.{IsLegal-push}
-use Rattle.run_history.specs.Fences.{interval_of, sequencer_of, last_claim, IsFenced, HasSeen, IsWriteUnder, CarryNot}
+use Rattle.run_history.specs.Fences.{interval_of, sequencer_of, last_claim, IsFenced, HasSeen, HasSeenAll, IsWriteUnder}
 use Rattle.run_history.specs.Finished.{handles, is_handled}
 use Rattle.history_laws.specs.Ids.{is_left}
 use Rattle.run_history.specs.Inputs.{IsRunnable}
@@ -32,7 +32,7 @@ use Rattle.history_laws.proofs.FloorLaws.{floor_of-rises}
 use Rattle.history_laws.proofs.IdLaws.{same_id-true, WasMade, legal-ids, waits_as_made}
 use Rattle.history_laws.proofs.FinishedLaws.{is_handled-more, handled-waits_not}
 use Rattle.history_laws.proofs.PendingLaws.{was_some, kind-there}
-use Rattle.history_laws.proofs.FenceLaws.{row_in-seen, row_of-seen}
+use Rattle.history_laws.proofs.FenceLaws.{claim-within, row_in-seen, row_of-seen}
 use Rattle.run_history.proofs.Claims.{last_claim-front}
 use Rattle.run_history.proofs.Fenced.{carried, IsFenced-push, IsFenced-begins, IsFenced-empty, claim-under, entry-under}
 use Rattle.history_laws.proofs.LowLaws.{low_watermark-rises}
@@ -80,8 +80,8 @@ pub spares-seen : (shape : Shape) (interval seq : ℕ) (front rest : List Entry)
     → HasSeen interval seq front rest
     → AllByRecursion (Spares shape interval) rest
 spares-seen shape interval seq front rest fenced seen =
-    spares-rest shape interval seq rest front fenced seen.last seen.claim
-    (recursion_from_All (λ (e : Entry). sequencer_of e ≢ Some seq) rest seen.written)
+    spares-rest shape interval seq rest front fenced seen.last (claim-within interval seq front rest seen.all)
+    (recursion_from_All (λ (e : Entry). sequencer_of e ≢ Some seq) rest seen.all.own)
 
 -- what holds of the entries of a history holds of those behind a beginning
 each-behind : {X : Type 0} (P : X → Type 0) (xs ys : List X) → AllByRecursion P (xs ++ ys) → AllByRecursion P ys
@@ -272,11 +272,10 @@ IsLegalAndFenced-front case front rest lawful = record {
   fenced = IsFenced-begins case.topology front (front ++ rest) (rest, refl) lawful.fenced;
 }
 
--- the history up to a number has seen the last claim, where nothing from that number on carries the claim's number
-pub HasSeen-take : (interval seq n : ℕ) (history : List Entry) → last_claim interval history ≡ Some seq → seq < n → n ≤ length history
-    → CarryNot seq (drop n history) → HasSeen interval seq (take n history) (drop n history)
-HasSeen-take interval seq n history last within short none = record {
+-- the history up to a number has seen the last claim, where it has seen all of a claim that is the last
+pub HasSeen-take : (interval seq n : ℕ) (history : List Entry) → last_claim interval history ≡ Some seq
+    → HasSeenAll interval seq (take n history) (drop n history) → HasSeen interval seq (take n history) (drop n history)
+HasSeen-take interval seq n history last all = record {
+  all = all;
   last = ap (last_claim interval) (take-append-drop n history) ∙ last;
-  claim = omega (arith, within, short, length-take n history);
-  written = none;
 }

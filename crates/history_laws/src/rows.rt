@@ -1,7 +1,6 @@
 //! The rows of a run, and who may change them.
 ghost use Rattle.std.specs.Prelude.{ℕ, List, Some, slice_get, ◌≡◌, ◌≢◌, ◌++◌, ◌∷◌, []};
 ghost use Rattle.mw_types.specs.declared.entry.Entry.{Entry};
-ghost use Rattle.mw_types.specs.declared.entry.Entry.TheVariants.{Claim};
 ghost use Rattle.mw_types.specs.declared.identity.RowName.{RowName};
 ghost use Rattle.key_intervals.specs.declared.bounds.Bounds.{Bounds};
 ghost use Rattle.key_intervals.specs.Intervals.{rows_covered};
@@ -10,7 +9,7 @@ ghost use Rattle.topology.specs.Rules.{IsTopology};
 ghost use Rattle.run_history.specs.Cases.{intervals_of};
 ghost use Rattle.run_history.specs.Made.{row_written};
 ghost use Rattle.run_history.specs.Runs.{run_of, row_in};
-ghost use Rattle.run_history.specs.Fences.{CarryNot, HasSeen, IsFenced, interval_of, known, last_claim};
+ghost use Rattle.run_history.specs.Fences.{HasSeen, HasSeenAll, IsFenced, interval_of, known, last_claim};
 
 /// An entry changes no row but the one that it is on, whether or not the history is legal.
 pub fn rows_change_by_their_entries()
@@ -39,18 +38,16 @@ pub fn rows_are_as_seen()
 /// history as by the whole, where the beginning has the claim and all that was written under it;
 /// later claims may have overtaken this one.
 pub fn rows_are_as_known()
-    ensures as_known { (shape : Shape) (front rest : List Entry) (interval seq worker : ℕ) →
-        IsFenced shape (front ++ rest) → slice_get front seq ≡ Some (Claim worker interval) →
-        CarryNot seq rest →
+    ensures as_known { (shape : Shape) (front rest : List Entry) (interval seq : ℕ) →
+        IsFenced shape (front ++ rest) → HasSeenAll interval seq front rest →
         (name : RowName) → interval_of shape name ≡ Some interval →
         row_in (run_of shape (known interval seq (front ++ rest))) name
         ≡ row_in (run_of shape (known interval seq front)) name }
 
     // And so the rows of the interval as a list.
-    ensures listed { (shape : Shape) (front rest : List Entry) (interval seq worker : ℕ)
-        (b : Bounds) → IsTopology shape → slice_get (intervals_of shape) interval ≡ Some b →
-        IsFenced shape (front ++ rest) → slice_get front seq ≡ Some (Claim worker interval) →
-        CarryNot seq rest →
+    ensures listed { (shape : Shape) (front rest : List Entry) (interval seq : ℕ) (b : Bounds) →
+        IsTopology shape → slice_get (intervals_of shape) interval ≡ Some b →
+        IsFenced shape (front ++ rest) → HasSeenAll interval seq front rest →
         rows_covered b (run_of shape (known interval seq (front ++ rest))).rows
         ≡ rows_covered b (run_of shape (known interval seq front)).rows }
 

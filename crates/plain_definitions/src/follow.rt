@@ -1,10 +1,8 @@
 //! What stands after a history, one entry after another.
-ghost use Rattle.std.specs.Prelude.{◌≡◌, ◌+◌, ◌<◌, ◌≤◌, ◌^◌, ◌++◌, length, IfOk};
+ghost use Rattle.std.specs.Prelude.{◌≡◌, ◌+◌, ◌++◌, IfOk};
 ghost use Rattle.row_parts.specs.Contents.{fresh, without_delivery, ids_from};
 ghost use Rattle.run_history.specs.Cases.{fresh_of};
-ghost use Rattle.run_history.specs.Made.{productions_of};
 ghost use Rattle.run_history.specs.Runs.{empty_run, row_of, advanced, noted, handled_in, fired_in, changed, row_after, rows_after, still_unhandled, followed, run_of};
-ghost use Rattle.run_history.specs.Printing.{IsOnPart, IsPrintable};
 
 use crate::handlers::plain_fresh_state;
 use crate::lists::{
@@ -143,50 +141,32 @@ fn fired_in(
 }
 
 // A row after an injected line.
-fn injected_in(alloc: Global, sent: &DeliveryList, row: Contents) -> Result<Contents, NoMemory>
+fn injected_in(alloc: Global, sent: &DeliveryList, mut row: Contents) -> Result<Contents, NoMemory>
     ensures { IfOk result (λ after.
         after ≡ record row { state = advanced row.state; pending = row.pending ++ sent.now }) }
 {
-    Ok(Contents {
-        state: advanced(row.state)?,
-        timers: row.timers,
-        pending: joined(alloc, &row.pending, sent)?,
-        seen: row.seen,
-        floor: row.floor,
-        last: row.last,
-    })
+    row.pending = joined(alloc, &row.pending, sent)?;
+    row.state = advanced(row.state)?;
+    Ok(row)
 }
 
 // A row after an acknowledgement.
-fn acknowledged_in(alloc: Global, id: RecordId, row: Contents) -> Result<Contents, NoMemory>
+fn acknowledged_in(alloc: Global, id: RecordId, mut row: Contents) -> Result<Contents, NoMemory>
     ensures { IfOk result (λ after.
         after ≡ record row { pending = without_delivery id row.pending }) }
 {
-    let pending = without_delivery(alloc, id, row.pending.as_slice())?;
-    Ok(Contents {
-        state: row.state,
-        timers: row.timers,
-        pending,
-        seen: row.seen,
-        floor: row.floor,
-        last: row.last,
-    })
+    row.pending = without_delivery(alloc, id, row.pending.as_slice())?;
+    Ok(row)
 }
 
 // A row after a purge.
-fn purged_in(alloc: Global, floor: u64, row: Contents) -> Result<Contents, NoMemory>
+fn purged_in(alloc: Global, floor: u64, mut row: Contents) -> Result<Contents, NoMemory>
     ensures { IfOk result (λ after.
         after ≡ record row { floor = floor; seen = ids_from floor row.seen }) }
 {
-    let seen = ids_from(alloc, floor, row.seen.as_slice())?;
-    Ok(Contents {
-        state: row.state,
-        timers: row.timers,
-        pending: row.pending,
-        seen,
-        floor,
-        last: row.last,
-    })
+    row.seen = ids_from(alloc, floor, row.seen.as_slice())?;
+    row.floor = floor;
+    Ok(row)
 }
 
 // What an entry that made these deliveries changes in its row, but for the row's last number.
@@ -221,15 +201,9 @@ fn row_after(
         row ≡ row_after topology.now run.now entry.now sent.now name.now) }
 {
     let row = plain_row_of(alloc, topology, run, name)?;
-    let row = changed(alloc, entry, sent, row)?;
-    Ok(Contents {
-        state: row.state,
-        timers: row.timers,
-        pending: row.pending,
-        seen: row.seen,
-        floor: row.floor,
-        last: run.next,
-    })
+    let mut row = changed(alloc, entry, sent, row)?;
+    row.last = run.next;
+    Ok(row)
 }
 
 // The rows after an entry: the one that it is on is changed.
@@ -284,7 +258,6 @@ fn with_made(
     unhandled: DeliveryList,
     made: &Made,
 ) -> Result<Run, NoMemory>
-    requires { run.now.next < 2 ^ 32 }
     ensures { IfOk result (λ after. after ≡ record {
       next = run.now.next + 1;
       rows = rows;
@@ -294,7 +267,7 @@ fn with_made(
     }) }
 {
     Ok(Run {
-        next: run.next + 1,
+        next: run.next.checked_add(1).ok_or(NoMemory)?,
         rows,
         made: joined(alloc, &run.made, &made.deliveries)?,
         unhandled,
@@ -309,10 +282,6 @@ pub fn plain_followed(
     run: &Run,
     entry: &Entry,
 ) -> Result<Run, NoMemory>
-    requires part { IsOnPart topology.now entry.now }
-    requires few { length (productions_of entry.now) ≤ 8 }
-    requires commit { run.now.next < 2 ^ 32 }
-
     ensures followed { IfOk result (λ after. after ≡ followed topology.now run.now entry.now) }
 {
     let made = plain_made(alloc, topology, run.made.as_slice(), run.next, entry)?;
@@ -337,8 +306,6 @@ pub fn plain_empty_run(alloc: Global) -> Run
 
 /// What stands after a history, legal or not: `run_of` of `run_history`, `specs/Runs.antt`.
 pub fn plain_run_of(alloc: Global, topology: &Topology, entries: &[Entry]) -> Result<Run, NoMemory>
-    requires printable { IsPrintable topology.now entries.now }
-
     ensures run { IfOk result (λ run. run ≡ run_of topology.now entries.now) }
 {
     let mut run = plain_empty_run(alloc);

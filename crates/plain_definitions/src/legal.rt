@@ -1,13 +1,11 @@
-//! Which entry may come next, which histories are legal, and when all is done, as truth values.
-ghost use Rattle.std.specs.Prelude.{◌≡◌, ◌↔◌, ◌+◌, ◌<◌, ◌≤◌, ◌^◌, All, IsTrue, Some, length, slice_get, option_copied, IfOk, IfSome};
+//! Which entry may come next, and which histories are legal, as truth values.
+ghost use Rattle.std.specs.Prelude.{◌≡◌, ◌↔◌, IsTrue, Some, slice_get, option_copied, IfOk, IfSome};
 ghost use Rattle.std.specs.Option.{option_map};
 ghost use Rattle.mw_types.specs.Kinds.{IsKind};
 ghost use Rattle.injector.specs.Sources.{item_at};
 ghost use Rattle.topology.specs.Shapes.{kind_of};
 ghost use Rattle.topology.specs.Rules.{interval_count};
 ghost use Rattle.run_history.specs.Cases.{source_of, record_of};
-ghost use Rattle.run_history.specs.Made.{productions_of};
-ghost use Rattle.run_history.specs.Printing.{IsOnPart, IsPrintable};
 ghost use Rattle.run_history.specs.Runs.{row_of, followed};
 ghost use Rattle.run_history.specs.Legal.{record_outcome, timer_outcome, MayClaim, MayInject, MayHandle, MayFire, MayAcknowledge, MayPurge, MayFollow, AreLegal, IsLegal};
 
@@ -43,7 +41,8 @@ fn record_outcome(
     row: &RowName,
     item: &Record,
 ) -> Result<Option<Outcome>, NoMemory>
-    ensures { IfOk result (λ left. left ≡ record_outcome case.now run.now row.now item.now) }
+    ensures { IfOk result (λ left. left ≡ record_outcome case.now row.now
+        (row_of case.now.topology run.now row.now) item.now) }
 {
     let Some(kind) = kind_of(&case.topology, row.part) else {
         return Ok(None);
@@ -61,7 +60,8 @@ fn timer_outcome(
     row: &RowName,
     timer: &Timer,
 ) -> Result<Option<Outcome>, NoMemory>
-    ensures { IfOk result (λ left. left ≡ timer_outcome case.now run.now row.now timer.now) }
+    ensures { IfOk result (λ left. left ≡ timer_outcome case.now row.now
+        (row_of case.now.topology run.now row.now) timer.now) }
 {
     let Some(kind) = kind_of(&case.topology, row.part) else {
         return Ok(None);
@@ -117,7 +117,7 @@ fn is_of_line(case: &Case, part: u32, line: u32, item: &Record) -> bool
 {
     match line_at(case, part, line) {
         Some(at) => {
-            at.record_key.same(&item.key)
+            at.record_key == item.key
                 && at.stamp == item.stamp
                 && at.value == item.value
                 && at.late == item.late
@@ -167,7 +167,7 @@ fn is_least(timers: &[Timer], timer: &Timer) -> bool
 {
     match timers {
         [] => false,
-        [first, ..] => first.same(timer),
+        [first, ..] => *first == *timer,
     }
 }
 
@@ -274,9 +274,6 @@ pub fn plain_may_follow(
 
 // What stands after one more entry of a case.
 fn followed_in(alloc: Global, case: &Case, run: &Run, entry: &Entry) -> Result<Run, NoMemory>
-    requires part { IsOnPart case.now.topology entry.now }
-    requires few { length (productions_of entry.now) ≤ 8 }
-    requires commit { run.now.next < 2 ^ 32 }
     ensures { IfOk result (λ after. after ≡ followed case.now.topology run.now entry.now) }
 {
     plain_followed(alloc, &case.topology, run, entry)
@@ -284,9 +281,6 @@ fn followed_in(alloc: Global, case: &Case, run: &Run, entry: &Entry) -> Result<R
 
 // Whether each of these entries may follow what stands before it.
 fn are_legal(alloc: Global, case: &Case, run: &Run, entries: &[Entry]) -> Result<bool, NoMemory>
-    requires parts { All (IsOnPart case.now.topology) entries.now }
-    requires productions { All (λ entry. length (productions_of entry) ≤ 8) entries.now }
-    requires few { run.now.next + length entries.now ≤ 2 ^ 32 }
     ensures { IfOk result (λ are. IsTrue are ↔ AreLegal case.now run.now entries.now) }
 {
     let [entry, rest @ ..] = entries else {
@@ -302,8 +296,6 @@ fn are_legal(alloc: Global, case: &Case, run: &Run, entries: &[Entry]) -> Result
 /// Whether a history is legal, each entry after those before it: `IsLegal` of `run_history`,
 /// `specs/Legal.antt`.
 pub fn plain_is_legal(alloc: Global, case: &Case, entries: &[Entry]) -> Result<bool, NoMemory>
-    requires printable { IsPrintable case.now.topology entries.now }
-
     ensures legal { IfOk result (λ is. IsTrue is ↔ IsLegal case.now entries.now) }
 {
     let before = plain_empty_run(alloc);

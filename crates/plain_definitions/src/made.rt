@@ -1,7 +1,6 @@
 //! What an entry makes, by the definition.
-ghost use Rattle.std.specs.Prelude.{◌≡◌, ◌<◌, ◌≤◌, ◌^◌, length, IfOk};
+ghost use Rattle.std.specs.Prelude.{◌≡◌, IfOk};
 ghost use Rattle.run_history.specs.Made.{row_written, productions_of, late_cause, deliveries_of, emissions_of};
-ghost use Rattle.run_history.specs.Printing.{IsOnPart};
 
 use crate::lists::found_delivery;
 use mw_types::{
@@ -65,7 +64,8 @@ fn late_cause(made: &[Delivery], entry: &Entry) -> bool
 }
 
 /// What an entry makes under its commit number, after the deliveries that were made before it:
-/// `deliveries_of` and `emissions_of` of `run_history`, `specs/Made.antt`.
+/// `deliveries_of` and `emissions_of` of `run_history`, `specs/Made.antt`. An entry on no part, one
+/// with more than 8 productions and one after 2^32 others are refused as want of memory.
 pub fn plain_made(
     alloc: Global,
     topology: &Topology,
@@ -73,10 +73,6 @@ pub fn plain_made(
     commit: u64,
     entry: &Entry,
 ) -> Result<Made, NoMemory>
-    requires part { IsOnPart topology.now entry.now }
-    requires few { length (productions_of entry.now) ≤ 8 }
-    requires commit { commit < 2 ^ 32 }
-
     ensures deliveries { IfOk result (λ all.
         all.deliveries ≡ deliveries_of topology.now made.now commit entry.now) }
     ensures emissions { IfOk result (λ all.
@@ -89,6 +85,9 @@ pub fn plain_made(
         });
     };
     let productions = productions_of(alloc, entry)?;
+    if topology.parts() <= row.part || productions.len() > 8 || commit >= 1 << 32 {
+        return Err(NoMemory);
+    }
     let late = late_cause(made, entry);
     make(
         alloc,

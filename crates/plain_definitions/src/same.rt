@@ -2,9 +2,7 @@
 ghost use Rattle.std.specs.Prelude.{◌≡◌, ◌↔◌, IsTrue, length, drop};
 
 use crate::outcome::Outcome;
-use mw_types::{
-    Effects, HeldTotal, Key, Production, Record, RowName, SharedList, State, Timer, Window,
-};
+use mw_types::{Effects, HeldTotal, Production, RowName, SharedList, State, Timer, Window};
 
 /// A value that tells whether another is the same, so that what a handler left can be compared with
 /// what an entry tells.
@@ -38,30 +36,15 @@ impl Same for HeldTotal {
     }
 }
 
-impl Same for Key {
-    fn same(&self, other: &Key) -> bool {
-        self == other
-    }
-}
-
 impl Same for RowName {
     fn same(&self, other: &RowName) -> bool {
-        self.part == other.part && self.key.same(&other.key)
-    }
-}
-
-impl Same for Record {
-    fn same(&self, other: &Record) -> bool {
-        self.key.same(&other.key)
-            && self.stamp == other.stamp
-            && self.value == other.value
-            && self.late == other.late
+        self.part == other.part && self.key == other.key
     }
 }
 
 impl Same for Production {
     fn same(&self, other: &Production) -> bool {
-        self.key.same(&other.key) && self.stamp == other.stamp && self.value == other.value
+        self.key == other.key && self.stamp == other.stamp && self.value == other.value
     }
 }
 

@@ -7,7 +7,7 @@ use mw_types::{Entry, RowName};
 use run_history::Case;
 
 /// The number of the interval that a row lies in, or none where its part is not there:
-/// `interval_of` of `history_laws`, `specs/Fences.antt`.
+/// `interval_of` of `run_history`, `specs/Fences.antt`.
 pub fn plain_interval_of(case: &Case, name: &RowName) -> Option<u32>
     ensures interval { result ≡ interval_of case.now.topology name.now }
 {
@@ -20,7 +20,7 @@ pub fn plain_interval_of(case: &Case, name: &RowName) -> Option<u32>
     None
 }
 
-/// Whether an entry is a claim of this interval: `is_claim` of `history_laws`, `specs/Fences.antt`.
+/// Whether an entry is a claim of this interval: `is_claim` of `run_history`, `specs/Fences.antt`.
 pub fn is_claim(interval: u32, entry: &Entry) -> bool
     ensures { result ≡ is_claim interval entry.now }
 {
@@ -50,7 +50,7 @@ fn last_claim_from(interval: u32, number: u64, last: Option<u64>, entries: &[Ent
 }
 
 /// The commit number of the last claim of an interval, or none where there is no claim of it:
-/// `last_claim` of `history_laws`, `specs/Fences.antt`.
+/// `last_claim` of `run_history`, `specs/Fences.antt`.
 pub fn plain_last_claim(interval: u32, entries: &[Entry]) -> Option<u64>
     ensures last { result ≡ last_claim interval entries.now }
 {

@@ -44,7 +44,7 @@ fn is_under_last_claim(alloc: Global, case: &Case, before: &[Entry], entry: &Ent
 }
 
 /// Whether a history is fenced: each entry that is on a row carries the number of the last claim of
-/// the row's interval. `IsFenced` of `history_laws`, `specs/Fences.antt`.
+/// the row's interval. `IsFenced` of `run_history`, `specs/Fences.antt`.
 pub fn plain_is_fenced(alloc: Global, case: &Case, entries: &[Entry]) -> bool
     ensures fenced { IsTrue result ↔ IsFenced case.now.topology entries.now }
 {

@@ -49,7 +49,7 @@ state-here shape counted run states timers row mirrors part = ap counted_state (
 -- what the computations give of a record is what the definition says
 pub record_done : (case : CaseShape) (parts : Parts) (counted : IsCounted case.topology) (run : Run) (states : RowName → Option State) (timers : Slot → Option Bool)
     (row : RowName) (item : Record) (effects : Outcome) → kind_at parts 1 ≡ kind_of case.topology 1 → Mirrors run states timers → row.part ≡ 1
-    → effects ≡ part_record parts 1 row.key (counted_state (states row)) item → record_outcome case run row item ≡ Some effects
+    → effects ≡ part_record parts 1 row.key (counted_state (states row)) item → record_outcome case row (row_of case.topology run row) item ≡ Some effects
 record_done case parts counted run states timers row item effects work mirrors part done =
     ap (option_map (λ kind. effects_of_record kind row.key (row_of case.topology run row).state item)) (kind-here case.topology counted row part)
     ∙ ap (λ s. Some (effects_of_record (Count counted.size) row.key s item)) (sym (state-here case.topology counted run states timers row mirrors part))
@@ -59,7 +59,7 @@ record_done case parts counted run states timers row item effects work mirrors p
 -- what the computations give of a timer is what the definition says
 pub timer_done : (case : CaseShape) (parts : Parts) (counted : IsCounted case.topology) (run : Run) (states : RowName → Option State) (timers : Slot → Option Bool)
     (row : RowName) (timer : Timer) (effects : Outcome) → kind_at parts 1 ≡ kind_of case.topology 1 → Mirrors run states timers → row.part ≡ 1
-    → effects ≡ part_timer parts 1 row.key (counted_state (states row)) timer → timer_outcome case run row timer ≡ Some effects
+    → effects ≡ part_timer parts 1 row.key (counted_state (states row)) timer → timer_outcome case row (row_of case.topology run row) timer ≡ Some effects
 timer_done case parts counted run states timers row timer effects work mirrors part done =
     ap (option_map (λ kind. effects_of_timer kind row.key (row_of case.topology run row).state timer)) (kind-here case.topology counted row part)
     ∙ ap (λ s. Some (effects_of_timer (Count counted.size) row.key s timer)) (sym (state-here case.topology counted run states timers row mirrors part))
@@ -104,7 +104,7 @@ pub may_fire : (case : CaseShape) (parts : Parts) (history : List Entry) (states
     → injectors_of case.topology ≡ 1
     → IsReady case parts (length (source_of case 0)) [] history states timers
     → timers (slot_at row tag time) ≡ Some late → IsFirst timers (slot_at row tag time) → time ≤ MAX_STAMP
-    → timer_outcome case (run_of case.topology history) row (record { tag = tag; time = time; late = late }) ≡ Some effects
+    → timer_outcome case row (row_of case.topology (run_of case.topology history) row) (record { tag = tag; time = time; late = late }) ≡ Some effects
     → MayFire case (run_of case.topology history) row (record { tag = tag; time = time; late = late }) time effects
 may_fire case parts history states timers row tag time late effects one ready here first in_time does = record {
   least_timer = least_of_first timers row (row_of case.topology run row).timers tag time late (sorted-row_of case.topology run row ready.at.sound)

@@ -232,7 +232,7 @@ pub ready-handle : (case : CaseShape) (parts : Parts) (line : ℕ) (history : Li
     → IsCounted case.topology → IsPrintable case.topology (history ++ Handle 0 delivery.to delivery.id effects ∷ [])
     → IsReady case parts line (delivery ∷ []) history states timers
     → delivery.to.part ≡ 1
-    → record_outcome case (run_of case.topology history) delivery.to delivery.item ≡ Some effects
+    → record_outcome case delivery.to (row_of case.topology (run_of case.topology history) delivery.to) delivery.item ≡ Some effects
     → IsWithin effects.state → HasState parts 1 effects.state → All (λ (t : Timer). t.time ≤ MAX_STAMP) effects.timers
     → ((row : RowName) → states' row ≡ cond (is_at (row_cmp row) delivery.to) (Some effects.state) (states row))
     → ((slot : Slot) → timers' slot ≡ slots_set timers delivery.to effects.timers slot)

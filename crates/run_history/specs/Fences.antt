@@ -1,7 +1,7 @@
 -- Which histories are fenced: each write is made under the last claim of its row's interval.
 -- Akidau et al., VLDB 2013, section 6.2, where a sequencer is checked at each write, and section 7.1 for the
 -- intervals. Own: a sequencer is the commit number of a claim, and what is known under a claim that was overtaken.
-use Rattle.std.specs.Prelude.{◌≡◌, ◌≢◌, ℕ, ◌+◌, ◌<◌, ◌==◌, not, if◌then◌else◌, Bool, false, List, [], ◌∷◌, ◌++◌, length, take, drop, fold, All, Option, Some, None}
+use Rattle.std.specs.Prelude.{◌≡◌, ◌≢◌, ℕ, ◌+◌, ◌<◌, ◌==◌, not, if◌then◌else◌, Bool, false, List, [], ◌∷◌, ◌++◌, length, slice_get, take, drop, fold, All, Option, Some, None}
 use Rattle.std.specs.Option.{option_and_then}
 use Rattle.std.specs.List.{enumerate_from, position_from, take_while}
 use Rattle.mw_types.specs.declared.identity.RowName.{RowName}
@@ -43,6 +43,14 @@ later_claim interval last (number, entry) = if is_claim interval entry then Some
 abbrev pub last_claim : ℕ → List Entry → Option ℕ
 last_claim interval history = fold (later_claim interval) None (enumerate_from 0 history)
 
+-- the claim of an interval that has this number is the last of the interval
+abbrev pub IsCurrent : ℕ → ℕ → List Entry → Type 0
+IsCurrent interval seq history = last_claim interval history ≡ Some seq
+
+-- a later claim of the interval, of the number `newer`, is its last
+abbrev pub IsOvertakenBy : ℕ → ℕ → ℕ → List Entry → Type 0
+IsOvertakenBy newer interval seq history = (last_claim interval history ≡ Some newer) × (seq < newer)
+
 -- an entry after these carries the number of the last claim of its row's interval; a claim may always come
 abbrev pub IsUnderLastClaim : Shape → List Entry → Entry → Type 0
 IsUnderLastClaim shape before entry = (name : RowName) → row_written entry ≡ Some name →
@@ -65,13 +73,19 @@ known interval seq history =
     take (seq + 1) history
     ++ take_while (λ (entry : Entry). not (is_claim interval entry)) (drop (seq + 1) history)
 
--- a beginning of a history has seen the last claim of an interval, and all that was written under it
-pub record HasSeen (interval seq : ℕ) (front rest : List Entry) : Type 0 where
-  -- the claim is the last of its interval in the whole history, and in the beginning
-  pub last : last_claim interval (front ++ rest) ≡ Some seq
-  pub claim : seq < length front
-  -- nothing after the beginning was written under the claim
-  pub written : CarryNot seq rest
+-- the entry of this number is a claim of the interval
+abbrev pub IsClaimed : ℕ → ℕ → List Entry → Type 0
+IsClaimed interval seq history = (worker : ℕ) × (slice_get history seq ≡ Some (Claim worker interval))
+
+-- what was seen has the claim of an interval that has this number, and nothing of the rest was written under it
+pub record HasSeenAll (interval seq : ℕ) (seen rest : List Entry) : Type 0 where
+  pub claimed : IsClaimed interval seq seen
+  pub own : CarryNot seq rest
+
+-- what was seen has all of a claim, which is the last of its interval in the whole history
+pub record HasSeen (interval seq : ℕ) (seen rest : List Entry) : Type 0 where
+  pub all : HasSeenAll interval seq seen rest
+  pub last : IsCurrent interval seq (seen ++ rest)
 
 -- an entry is a write under the claim of an interval that has this number: on a row of the interval, with the number
 pub record IsWriteUnder (shape : Shape) (interval seq : ℕ) (entry : Entry) : Type 0 where

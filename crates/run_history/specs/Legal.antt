@@ -22,15 +22,15 @@ use Rattle.run_history.specs.Made.{found_delivery}
 use Rattle.run_history.specs.Runs.{Run, row_in, row_of, followed, empty_run}
 use Rattle.run_history.specs.Watermarks.{cursor_of, low_watermark}
 
--- what a computation's handler leaves of a record, or none of an injector
-abbrev pub record_outcome : CaseShape → Run → RowName → Record → Option Outcome
-record_outcome case run row item = option_map
-    (λ kind. effects_of_record kind row.key (row_of case.topology run row).state item) (kind_of case.topology row.part)
+-- what a computation's handler leaves of a record in a row of this name, or none of an injector
+abbrev pub record_outcome : CaseShape → RowName → Contents → Record → Option Outcome
+record_outcome case name row item =
+    option_map (λ kind. effects_of_record kind name.key row.state item) (kind_of case.topology name.part)
 
--- what a computation's handler leaves of a timer, or none of an injector
-abbrev pub timer_outcome : CaseShape → Run → RowName → Timer → Option Outcome
-timer_outcome case run row timer = option_map
-    (λ kind. effects_of_timer kind row.key (row_of case.topology run row).state timer) (kind_of case.topology row.part)
+-- what a computation's handler leaves of a timer of a row of this name, or none of an injector
+abbrev pub timer_outcome : CaseShape → RowName → Contents → Timer → Option Outcome
+timer_outcome case name row timer =
+    option_map (λ kind. effects_of_timer kind name.key row.state timer) (kind_of case.topology name.part)
 
 -- the least commit number of a delivery that is pending in a row, or the next number where none is
 abbrev pub floor_of : Run → ℕ
@@ -53,7 +53,7 @@ pub record MayHandle (case : CaseShape) (run : Run) (row : RowName) (id : Record
   pub delivery : Delivery
   pub waits : found_delivery id run.unhandled ≡ Some delivery
   pub to_row : delivery.to ≡ row
-  pub does : record_outcome case run row delivery.item ≡ Some effects
+  pub does : record_outcome case row (row_of case.topology run row) delivery.item ≡ Some effects
 
 -- a row may fire the least of its timers, once it is due under a mark that is not above the low watermark of its part,
 -- and leaves what its computation's handler leaves
@@ -61,7 +61,7 @@ pub record MayFire (case : CaseShape) (run : Run) (row : RowName) (timer : Timer
   pub least_timer : slice_get (row_of case.topology run row).timers 0 ≡ Some timer
   pub due : timer.time ≤ mark
   pub under_watermark : mark ≤ low_watermark case run row.part
-  pub does : timer_outcome case run row timer ≡ Some effects
+  pub does : timer_outcome case row (row_of case.topology run row) timer ≡ Some effects
 
 -- a sender may learn that what it made was handled, once
 pub record MayAcknowledge (case : CaseShape) (run : Run) (row : RowName) (id : RecordId) : Type 0 where

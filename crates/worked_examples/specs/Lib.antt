@@ -4,3 +4,4 @@ pub mod Overtaken
 pub mod OwnWorks
 pub mod Wide
 pub mod Spikes
+pub mod Rising

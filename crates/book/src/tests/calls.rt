@@ -3,7 +3,8 @@ ghost use Rattle.std.specs.Prelude.{◌≡◌, ◌≤◌, ◌<◌, ◌+◌, ◌�
 ghost use Rattle.mw_types.specs.declared.entry.Entry.TheVariants.{Claim};
 ghost use Rattle.mw_types.specs.declared.state.State.TheVariants.{Count, Injector};
 ghost use Rattle.row_parts.specs.Contents.{fresh};
-ghost use Rattle.book.specs.Rising.{HasRisen, first_lease, own_after, rise_history, row_closed, row_counted, row_injected};
+ghost use Rattle.worked_examples.specs.Rising.{own_after, rise_history, row_closed, row_counted, row_injected};
+ghost use Rattle.book.specs.TestBooks.{HasRisen, first_lease};
 
 use super::example::hands;
 use super::hands::Hands;

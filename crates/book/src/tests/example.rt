@@ -6,7 +6,8 @@ ghost use Rattle.topology.specs.Samples.{one_count};
 ghost use Rattle.worked_examples.specs.First.{closes, counts, end_of, key_a, record_at, row_a, window};
 ghost use Rattle.worked_examples.specs.Drained.{injector_row};
 ghost use Rattle.book.specs.declared.proposal.Proposal.TheVariants as proposals;
-ghost use Rattle.book.specs.Rising.{first_lease, item_at_time, rise_case, rise_source, sent_delivery};
+ghost use Rattle.worked_examples.specs.Rising.{item_at_time, rise_case, rise_source, sent_delivery};
+ghost use Rattle.book.specs.TestBooks.{first_lease};
 
 use super::hands::Hands;
 use crate::{Lease, Proposal};

@@ -3,7 +3,8 @@ ghost use Rattle.std.specs.Prelude.{◌≡◌, ◌∷◌, []};
 ghost use Rattle.worked_examples.specs.First.{closes, counts, end_of, row_a, window};
 ghost use Rattle.worked_examples.specs.Drained.{injector_row};
 ghost use Rattle.book.specs.declared.proposal.Proposal.TheVariants as proposals;
-ghost use Rattle.book.specs.Rising.{first_lease, sent_delivery};
+ghost use Rattle.worked_examples.specs.Rising.{sent_delivery};
+ghost use Rattle.book.specs.TestBooks.{first_lease};
 
 use crate::{Lease, Proposal};
 use mw_types::RowName;

@@ -2,7 +2,8 @@
 ghost use Rattle.std.specs.Prelude.{◌≡◌, ◌∷◌, [], IfOk, OnErr, OnOk};
 ghost use Rattle.mw_types.specs.declared.state.State.TheVariants.{Count, Injector};
 ghost use Rattle.row_parts.specs.Contents.{fresh};
-ghost use Rattle.book.specs.Rising.{HasRisen, IsOvertaken, later_lease, rise_case};
+ghost use Rattle.worked_examples.specs.Rising.{rise_case};
+ghost use Rattle.book.specs.TestBooks.{HasRisen, IsOvertaken, later_lease};
 
 use super::calls::{claim_both, inject};
 use super::example::{none_open, two_line_case};
@@ -63,43 +64,48 @@ fn report_stale<K: Keeper>(book: &mut Book<'_, K>, hands: &Hands) -> Result<u64,
     book.report(&hands.count, 3, END)
 }
 
-// The second worker handles the record.
-fn try_later<K: Keeper>(
-    rt: &impl Abort,
-    alloc: Global,
-    book: &mut Book<'_, K>,
-    lease: &Lease,
-    hands: &Hands,
-)
-    requires overtaken { IsOvertaken book.old }
-    requires lease { lease.now ≡ later_lease }
+// Starts a book of the case.
+fn try_start<K: Keeper>(rt: &impl Abort, alloc: Global, case: &Case, keeper: K)
+    requires { case.now ≡ rise_case }
 {
-    let fresh = Row::new(alloc, none_open(alloc));
-    match handle_later(alloc, book, lease, hands, &fresh) {
-        Ok(Written { commit, row: _ }) => assert_eq!(rt; commit, 4),
+    match Book::start(alloc, case, keeper, 8) {
+        Ok(book) => try_both(rt, alloc, book),
         Err(_) => assert!(rt; false),
     }
 }
 
-// A report of the first worker is stale.
-fn try_report<K: Keeper>(
-    rt: &impl Abort,
-    alloc: Global,
-    book: &mut Book<'_, K>,
-    lease: &Lease,
-    hands: &Hands,
-)
-    requires overtaken { IsOvertaken book.old }
-    requires lease { lease.now ≡ later_lease }
+// The first worker claims both intervals.
+fn try_both<K: Keeper>(rt: &impl Abort, alloc: Global, book: Book<'_, K>)
+    requires risen { HasRisen 0 book }
 {
-    let before = sight(book);
-    match report_stale(book, hands) {
-        Err(Stale { newer }) => {
-            assert_eq!(rt; newer, 3);
-            assert!(rt; before == sight(book));
-            try_later(rt, alloc, book, lease, hands);
+    let mut book = book;
+    match claim_both(alloc, &mut book) {
+        Ok(hands) => try_inject(rt, alloc, &mut book, &hands),
+        Err(_) => assert!(rt; false),
+    }
+}
+
+// The first worker injects the first line.
+fn try_inject<K: Keeper>(rt: &impl Abort, alloc: Global, book: &mut Book<'_, K>, hands: &Hands)
+    requires risen { HasRisen 2 book.old }
+{
+    let fresh = Row::new(alloc, State::Injector { cursor: 0 });
+    match inject(alloc, book, hands, &fresh) {
+        Ok(_) => try_claim(rt, alloc, book, hands),
+        Err(_) => assert!(rt; false),
+    }
+}
+
+// The second worker claims.
+fn try_claim<K: Keeper>(rt: &impl Abort, alloc: Global, book: &mut Book<'_, K>, hands: &Hands)
+    requires risen { HasRisen 3 book.old }
+{
+    match claim_later(alloc, book) {
+        Ok(Claimed { lease, rows }) => {
+            assert!(rt; rows.is_empty());
+            try_stale(rt, alloc, book, &lease, hands);
         }
-        Ok(_) => assert!(rt; false),
+        Err(_) => assert!(rt; false),
     }
 }
 
@@ -126,47 +132,42 @@ fn try_stale<K: Keeper>(
     }
 }
 
-// The second worker claims.
-fn try_claim<K: Keeper>(rt: &impl Abort, alloc: Global, book: &mut Book<'_, K>, hands: &Hands)
-    requires risen { HasRisen 3 book.old }
+// A report of the first worker is stale.
+fn try_report<K: Keeper>(
+    rt: &impl Abort,
+    alloc: Global,
+    book: &mut Book<'_, K>,
+    lease: &Lease,
+    hands: &Hands,
+)
+    requires overtaken { IsOvertaken book.old }
+    requires lease { lease.now ≡ later_lease }
 {
-    match claim_later(alloc, book) {
-        Ok(Claimed { lease, rows }) => {
-            assert!(rt; rows.is_empty());
-            try_stale(rt, alloc, book, &lease, hands);
+    let before = sight(book);
+    match report_stale(book, hands) {
+        Err(Stale { newer }) => {
+            assert_eq!(rt; newer, 3);
+            assert!(rt; before == sight(book));
+            try_later(rt, alloc, book, lease, hands);
         }
-        Err(_) => assert!(rt; false),
+        Ok(_) => assert!(rt; false),
     }
 }
 
-// The first worker injects the first line.
-fn try_inject<K: Keeper>(rt: &impl Abort, alloc: Global, book: &mut Book<'_, K>, hands: &Hands)
-    requires risen { HasRisen 2 book.old }
+// The second worker handles the record.
+fn try_later<K: Keeper>(
+    rt: &impl Abort,
+    alloc: Global,
+    book: &mut Book<'_, K>,
+    lease: &Lease,
+    hands: &Hands,
+)
+    requires overtaken { IsOvertaken book.old }
+    requires lease { lease.now ≡ later_lease }
 {
-    let fresh = Row::new(alloc, State::Injector { cursor: 0 });
-    match inject(alloc, book, hands, &fresh) {
-        Ok(_) => try_claim(rt, alloc, book, hands),
-        Err(_) => assert!(rt; false),
-    }
-}
-
-// The first worker claims both intervals.
-fn try_both<K: Keeper>(rt: &impl Abort, alloc: Global, book: Book<'_, K>)
-    requires risen { HasRisen 0 book }
-{
-    let mut book = book;
-    match claim_both(alloc, &mut book) {
-        Ok(hands) => try_inject(rt, alloc, &mut book, &hands),
-        Err(_) => assert!(rt; false),
-    }
-}
-
-// Starts a book of the case.
-fn try_start<K: Keeper>(rt: &impl Abort, alloc: Global, case: &Case, keeper: K)
-    requires { case.now ≡ rise_case }
-{
-    match Book::start(alloc, case, keeper, 8) {
-        Ok(book) => try_both(rt, alloc, book),
+    let fresh = Row::new(alloc, none_open(alloc));
+    match handle_later(alloc, book, lease, hands, &fresh) {
+        Ok(Written { commit, row: _ }) => assert_eq!(rt; commit, 4),
         Err(_) => assert!(rt; false),
     }
 }

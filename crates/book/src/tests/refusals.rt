@@ -1,12 +1,14 @@
 //! Claims, writes and starts that are refused.
 ghost use Rattle.std.specs.Prelude.{◌≡◌, IfOk, OnErr};
-ghost use Rattle.book.specs.Rising.{HasRisen, rise_case};
+ghost use Rattle.worked_examples.specs.Rising.{rise_case};
+ghost use Rattle.book.specs.TestBooks.{HasRisen};
 
 use super::calls::{claim, claim_both, inject};
 use super::example::{key_a, two_line_case};
 use super::hands::Hands;
 use crate::{Book, ClaimRefusal, Claimed, StartRefusal, StartWhy, WriteRefusal};
-use mw_types::{Bytes, CallList, NoMemory, RowName, State};
+use mw_types::{Bytes, CallList, Key, NoMemory, RowName, State};
+use record_codec::encode_row;
 use row_keeper::{BlindKeeper, Keeper, KeeperFault, KeptRow, MemKeeper};
 use row_parts::Row;
 use run_history::Case;
@@ -22,14 +24,15 @@ fn claim_again<K: Keeper>(alloc: Global, book: &mut Book<'_, K>) -> Result<Claim
     book.claim(alloc, 2, 0)
 }
 
-// No line is injected into a full history.
-fn try_full_write<K: Keeper>(rt: &impl Abort, alloc: Global, book: &mut Book<'_, K>, hands: &Hands)
-    requires risen { HasRisen 2 book.old }
+// Claims both intervals, which fills the history.
+fn try_full<K: Keeper>(rt: &impl Abort, alloc: Global, book: Book<'_, K>)
+    requires risen { HasRisen 0 book }
 {
-    let fresh = Row::new(alloc, State::Injector { cursor: 0 });
-    let written = inject(alloc, book, hands, &fresh);
-    assert!(rt; matches!(written, Err(WriteRefusal::HistoryFull)));
-    assert_eq!(rt; book.history().len(), 2);
+    let mut book = book;
+    match claim_both(alloc, &mut book) {
+        Ok(hands) => try_full_claim(rt, alloc, &mut book, &hands),
+        Err(_) => assert!(rt; false),
+    }
 }
 
 // No interval is claimed in a full history.
@@ -42,15 +45,14 @@ fn try_full_claim<K: Keeper>(rt: &impl Abort, alloc: Global, book: &mut Book<'_,
     }
 }
 
-// Claims both intervals, which fills the history.
-fn try_full<K: Keeper>(rt: &impl Abort, alloc: Global, book: Book<'_, K>)
-    requires risen { HasRisen 0 book }
+// No line is injected into a full history.
+fn try_full_write<K: Keeper>(rt: &impl Abort, alloc: Global, book: &mut Book<'_, K>, hands: &Hands)
+    requires risen { HasRisen 2 book.old }
 {
-    let mut book = book;
-    match claim_both(alloc, &mut book) {
-        Ok(hands) => try_full_claim(rt, alloc, &mut book, &hands),
-        Err(_) => assert!(rt; false),
-    }
+    let fresh = Row::new(alloc, State::Injector { cursor: 0 });
+    let written = inject(alloc, book, hands, &fresh);
+    assert!(rt; matches!(written, Err(WriteRefusal::HistoryFull)));
+    assert_eq!(rt; book.history().len(), 2);
 }
 
 #[test]
@@ -105,6 +107,50 @@ fn a_damaged_row_is_named(rt: HostRuntime) -> Result<(), Fail> {
     let keeper = BlindKeeper::new(damaged(alloc)?);
     match Book::start(alloc, &case, keeper, 8) {
         Ok(book) => try_damaged(&rt, alloc, book),
+        Err(_) => assert!(rt; false),
+    }
+    Ok(())
+}
+
+// The injector's row before its first line, as a keeper has it.
+fn sound(alloc: Global) -> Result<KeptRow, NoMemory> {
+    let row = Row::new(alloc, State::Injector { cursor: 0 });
+    Ok(KeptRow {
+        name: RowName {
+            part: 0,
+            key: Key::none(alloc),
+        },
+        bytes: encode_row(alloc, &row)?,
+    })
+}
+
+// Whether a claim was answered with one row, of the injector.
+fn is_sound(claimed: Result<Claimed, ClaimRefusal>) -> bool {
+    match claimed {
+        Ok(Claimed { lease: _, rows }) => match rows.as_slice() {
+            [one] => one.name.part == 0 && matches!(one.row.state, State::Injector { cursor: 0 }),
+            _ => false,
+        },
+        Err(_) => false,
+    }
+}
+
+// Tries a claim of the interval of the sound row.
+fn try_sound<K: Keeper>(rt: &impl Abort, alloc: Global, book: Book<'_, K>)
+    requires risen { HasRisen 0 book }
+{
+    let mut book = book;
+    assert!(rt; is_sound(claim(alloc, &mut book, 0)));
+    assert_eq!(rt; book.history().len(), 1);
+}
+
+#[test]
+fn a_sound_row_is_claimed(rt: HostRuntime) -> Result<(), Fail> {
+    let alloc = rt.alloc();
+    let case = two_line_case(alloc)?;
+    let keeper = BlindKeeper::new(sound(alloc)?);
+    match Book::start(alloc, &case, keeper, 8) {
+        Ok(book) => try_sound(&rt, alloc, book),
         Err(_) => assert!(rt; false),
     }
     Ok(())

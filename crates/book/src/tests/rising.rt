@@ -1,7 +1,8 @@
 //! The marks rise while a line is worked off, over a keeper that tells its rows, one that does not,
 //! and one that fails at each of its calls in turn.
 ghost use Rattle.std.specs.Prelude.{◌≡◌, ◌∷◌, [], IfOk};
-ghost use Rattle.book.specs.Rising.{HasRisen, first_lease, rise_case, row_closed, row_counted, row_injected};
+ghost use Rattle.worked_examples.specs.Rising.{rise_case, row_closed, row_counted, row_injected};
+ghost use Rattle.book.specs.TestBooks.{HasRisen, first_lease};
 
 use super::calls::report;
 use super::example::{hands, none_open, two_line_case};
@@ -52,84 +53,87 @@ fn source_mark<K: Keeper>(book: &Book<'_, K>) -> u64
     book.mark(0)
 }
 
-// The row is purged.
-fn try_purge<K: Keeper>(
-    rt: &impl Abort,
-    trial: Trial,
-    book: &mut Book<'_, K>,
-    hands: &Hands,
-    closed: &Row,
-)
-    requires risen { HasRisen 6 book.old }
-    requires closed { closed.now ≡ row_closed }
+// Starts a book over a keeper whose first call does not fail.
+fn try_start<K: Keeper>(rt: &impl Abort, trial: Trial, case: &Case, keeper: K)
+    requires { case.now ≡ rise_case }
 {
-    match trials::purge(rt, trial, book, hands, closed) {
-        Ok(Written { commit, row }) => {
-            assert!(rt; commit == 6 && row.floor == 6 && row.seen.is_empty());
-            expect(rt, book, (7, 7, 1, 60, 60));
+    match Book::start(trial.alloc, case, keeper, 8) {
+        Ok(book) => try_rise(rt, trial, book),
+        Err(_) => assert!(rt; false),
+    }
+}
+
+// Starts a book over a keeper whose first call fails, and again over the keeper that comes back.
+fn try_start_again<K: Keeper>(rt: &impl Abort, trial: Trial, case: &Case, keeper: K)
+    requires { case.now ≡ rise_case }
+{
+    match Book::start(trial.alloc, case, keeper, 8) {
+        Ok(_) => assert!(rt; false),
+        Err(StartRefusal { why, keeper }) => {
+            assert!(rt; matches!(why, StartWhy::KeeperFault));
+            try_start(rt, trial, case, keeper);
+        }
+    }
+}
+
+// Worker 0 claims both intervals, and works off the first line.
+fn try_rise<K: Keeper>(rt: &impl Abort, trial: Trial, book: Book<'_, K>)
+    requires risen { HasRisen 0 book }
+{
+    let mut book = book;
+    match trials::claim(rt, trial, &mut book, 0) {
+        Ok(Claimed { lease, rows }) => {
+            assert!(rt; rows.is_empty());
+            try_second(rt, trial, &mut book, lease);
         }
         Err(_) => assert!(rt; false),
     }
 }
 
-// The interval of the count reports, and the timer of its window fires.
-fn try_fire<K: Keeper>(
-    rt: &impl Abort,
-    trial: Trial,
-    book: &mut Book<'_, K>,
-    hands: &Hands,
-    counted: &Row,
-)
-    requires risen { HasRisen 5 book.old }
-    requires counted { counted.now ≡ row_counted }
+// Worker 0 claims the interval of the count.
+fn try_second<K: Keeper>(rt: &impl Abort, trial: Trial, book: &mut Book<'_, K>, source: Lease)
+    requires risen { HasRisen 1 book.old }
+    requires source { source ≡ first_lease 0 }
 {
-    assert_eq!(rt; source_mark(book), 60);
-    expect_mark(rt, report(book, &hands.count, 1, 5, 60), 60);
-    match trials::fire(rt, trial, book, hands, counted) {
-        Ok(Written { commit, row }) => {
-            assert_eq!(rt; commit, 5);
-            expect(rt, book, (6, 6, 1, 60, 60));
-            try_purge(rt, trial, book, hands, &row);
+    match trials::claim(rt, trial, book, 1) {
+        Ok(Claimed { lease, rows }) => {
+            assert!(rt; rows.is_empty());
+            try_claimed(rt, trial, book, source, lease);
         }
         Err(_) => assert!(rt; false),
     }
 }
 
-// The injector's interval reports.
-fn try_source<K: Keeper>(
+// Worker 0 has claimed both intervals.
+fn try_claimed<K: Keeper>(
     rt: &impl Abort,
     trial: Trial,
     book: &mut Book<'_, K>,
-    hands: &Hands,
-    counted: &Row,
+    source: Lease,
+    count: Lease,
 )
-    requires risen { HasRisen 5 book.old }
-    requires counted { counted.now ≡ row_counted }
+    requires risen { HasRisen 2 book.old }
+    requires source { source ≡ first_lease 0 }
+    requires count { count ≡ first_lease 1 }
 {
-    expect_mark(rt, report(book, &hands.source, 0, 5, 60), 60);
-    try_fire(rt, trial, book, hands, counted);
+    match hands(trial.alloc, source, count) {
+        Ok(hands) => try_inject(rt, trial, book, &hands),
+        Err(_) => assert!(rt; false),
+    }
 }
 
-// The sender settles the record.
-fn try_settle<K: Keeper>(
-    rt: &impl Abort,
-    trial: Trial,
-    book: &mut Book<'_, K>,
-    hands: &Hands,
-    injected: &Row,
-    counted: &Row,
-)
-    requires risen { HasRisen 4 book.old }
-    requires injected { injected.now ≡ row_injected }
-    requires counted { counted.now ≡ row_counted }
+// The first line is injected.
+fn try_inject<K: Keeper>(rt: &impl Abort, trial: Trial, book: &mut Book<'_, K>, hands: &Hands)
+    requires risen { HasRisen 2 book.old }
 {
-    expect_mark(rt, report(book, &hands.count, 1, 4, 60), 10);
-    match trials::settle(rt, trial, book, hands, injected) {
+    expect(rt, book, (2, 2, 1, 0, 0));
+    let fresh = Row::new(trial.alloc, State::Injector { cursor: 0 });
+    match trials::inject(rt, trial, book, hands, &fresh) {
         Ok(Written { commit, row }) => {
-            assert!(rt; commit == 4 && row.pending.is_empty());
-            expect_no_sender(rt, book);
-            expect(rt, book, (5, 5, 2, 10, 10));
-            try_source(rt, trial, book, hands, counted);
+            assert_eq!(rt; commit, 2);
+            expect_sender(rt, book);
+            expect(rt, book, (3, 2, 2, 0, 0));
+            try_handle(rt, trial, book, hands, &row);
         }
         Err(_) => assert!(rt; false),
     }
@@ -158,89 +162,86 @@ fn try_handle<K: Keeper>(
     }
 }
 
-// The first line is injected.
-fn try_inject<K: Keeper>(rt: &impl Abort, trial: Trial, book: &mut Book<'_, K>, hands: &Hands)
-    requires risen { HasRisen 2 book.old }
-{
-    expect(rt, book, (2, 2, 1, 0, 0));
-    let fresh = Row::new(trial.alloc, State::Injector { cursor: 0 });
-    match trials::inject(rt, trial, book, hands, &fresh) {
-        Ok(Written { commit, row }) => {
-            assert_eq!(rt; commit, 2);
-            expect_sender(rt, book);
-            expect(rt, book, (3, 2, 2, 0, 0));
-            try_handle(rt, trial, book, hands, &row);
-        }
-        Err(_) => assert!(rt; false),
-    }
-}
-
-// Worker 0 has claimed both intervals.
-fn try_claimed<K: Keeper>(
+// The sender settles the record.
+fn try_settle<K: Keeper>(
     rt: &impl Abort,
     trial: Trial,
     book: &mut Book<'_, K>,
-    source: Lease,
-    count: Lease,
+    hands: &Hands,
+    injected: &Row,
+    counted: &Row,
 )
-    requires risen { HasRisen 2 book.old }
-    requires source { source ≡ first_lease 0 }
-    requires count { count ≡ first_lease 1 }
+    requires risen { HasRisen 4 book.old }
+    requires injected { injected.now ≡ row_injected }
+    requires counted { counted.now ≡ row_counted }
 {
-    match hands(trial.alloc, source, count) {
-        Ok(hands) => try_inject(rt, trial, book, &hands),
-        Err(_) => assert!(rt; false),
-    }
-}
-
-// Worker 0 claims the interval of the count.
-fn try_second<K: Keeper>(rt: &impl Abort, trial: Trial, book: &mut Book<'_, K>, source: Lease)
-    requires risen { HasRisen 1 book.old }
-    requires source { source ≡ first_lease 0 }
-{
-    match trials::claim(rt, trial, book, 1) {
-        Ok(Claimed { lease, rows }) => {
-            assert!(rt; rows.is_empty());
-            try_claimed(rt, trial, book, source, lease);
+    expect_mark(rt, report(book, &hands.count, 1, 4, 60), 10);
+    match trials::settle(rt, trial, book, hands, injected) {
+        Ok(Written { commit, row }) => {
+            assert!(rt; commit == 4 && row.pending.is_empty());
+            expect_no_sender(rt, book);
+            expect(rt, book, (5, 5, 2, 10, 10));
+            try_source(rt, trial, book, hands, counted);
         }
         Err(_) => assert!(rt; false),
     }
 }
 
-// Worker 0 claims both intervals, and works off the first line.
-fn try_rise<K: Keeper>(rt: &impl Abort, trial: Trial, book: Book<'_, K>)
-    requires risen { HasRisen 0 book }
+// The injector's interval reports.
+fn try_source<K: Keeper>(
+    rt: &impl Abort,
+    trial: Trial,
+    book: &mut Book<'_, K>,
+    hands: &Hands,
+    counted: &Row,
+)
+    requires risen { HasRisen 5 book.old }
+    requires counted { counted.now ≡ row_counted }
 {
-    let mut book = book;
-    match trials::claim(rt, trial, &mut book, 0) {
-        Ok(Claimed { lease, rows }) => {
-            assert!(rt; rows.is_empty());
-            try_second(rt, trial, &mut book, lease);
+    expect_mark(rt, report(book, &hands.source, 0, 5, 60), 60);
+    try_fire(rt, trial, book, hands, counted);
+}
+
+// The interval of the count reports, and the timer of its window fires.
+fn try_fire<K: Keeper>(
+    rt: &impl Abort,
+    trial: Trial,
+    book: &mut Book<'_, K>,
+    hands: &Hands,
+    counted: &Row,
+)
+    requires risen { HasRisen 5 book.old }
+    requires counted { counted.now ≡ row_counted }
+{
+    assert_eq!(rt; source_mark(book), 60);
+    expect_mark(rt, report(book, &hands.count, 1, 5, 60), 60);
+    match trials::fire(rt, trial, book, hands, counted) {
+        Ok(Written { commit, row }) => {
+            assert_eq!(rt; commit, 5);
+            expect(rt, book, (6, 6, 1, 60, 60));
+            try_purge(rt, trial, book, hands, &row);
         }
         Err(_) => assert!(rt; false),
     }
 }
 
-// Starts a book over a keeper whose first call does not fail.
-fn try_start<K: Keeper>(rt: &impl Abort, trial: Trial, case: &Case, keeper: K)
-    requires { case.now ≡ rise_case }
+// The row is purged.
+fn try_purge<K: Keeper>(
+    rt: &impl Abort,
+    trial: Trial,
+    book: &mut Book<'_, K>,
+    hands: &Hands,
+    closed: &Row,
+)
+    requires risen { HasRisen 6 book.old }
+    requires closed { closed.now ≡ row_closed }
 {
-    match Book::start(trial.alloc, case, keeper, 8) {
-        Ok(book) => try_rise(rt, trial, book),
-        Err(_) => assert!(rt; false),
-    }
-}
-
-// Starts a book over a keeper whose first call fails, and again over the keeper that comes back.
-fn try_start_again<K: Keeper>(rt: &impl Abort, trial: Trial, case: &Case, keeper: K)
-    requires { case.now ≡ rise_case }
-{
-    match Book::start(trial.alloc, case, keeper, 8) {
-        Ok(_) => assert!(rt; false),
-        Err(StartRefusal { why, keeper }) => {
-            assert!(rt; matches!(why, StartWhy::KeeperFault));
-            try_start(rt, trial, case, keeper);
+    match trials::purge(rt, trial, book, hands, closed) {
+        Ok(Written { commit, row }) => {
+            assert!(rt; commit == 6 && row.floor == 6 && row.seen.is_empty());
+            expect(rt, book, (7, 7, 1, 60, 60));
         }
+        Err(_) => assert!(rt; false),
     }
 }
 

@@ -2,7 +2,8 @@
 ghost use Rattle.std.specs.Prelude.{◌≡◌, ◌<◌, ◌+◌, ◌∷◌, [], IfOk, OnErr, OnOk};
 ghost use Rattle.mw_types.specs.declared.state.State.TheVariants.{Count, Injector};
 ghost use Rattle.row_parts.specs.Contents.{fresh};
-ghost use Rattle.book.specs.Rising.{HasRisen, first_lease, row_closed, row_counted, row_injected};
+ghost use Rattle.worked_examples.specs.Rising.{row_closed, row_counted, row_injected};
+ghost use Rattle.book.specs.TestBooks.{HasRisen, first_lease};
 
 use super::calls;
 use super::hands::Hands;

@@ -10,8 +10,10 @@ use Rattle.book.proofs.books.Book.least_sent.Goals as goal
 -- the first that is known is the least that is pending
 pub returns-clause-least : goal.returns-clause-least
 returns-clause-least g c =
-    subst (λ (b : BookView). IfSome c.first_sent.result (λ sent. IsLeastSent b.case.topology (run_of b.case.topology b.history) sent.0 sent.1.now)) c.self.view_is
-    (least-found c.self.inside.case.now.topology (run_of c.self.inside.case.now.topology c.self.inside.core.history) c.self.inside.core.unacknowledged
+    subst (λ (b : BookView). IfSome c.first_sent.result
+    (λ sent. IsLeastSent b.case.topology (run_of b.case.topology b.history) sent.0 sent.1.now)) c.self.view_is
+    (least-found c.self.inside.case.now.topology (run_of c.self.inside.case.now.topology c.self.inside.core.history)
+    c.self.inside.core.unacknowledged
     c.first_sent.result (λ n. n.now) c.self.invariant.senders c.first_sent.ensures.sender c.first_sent.ensures.least)
 
 -- none is known where nothing is pending

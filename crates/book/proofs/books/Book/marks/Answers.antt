@@ -10,4 +10,5 @@ returns-clause-safe g c = (subst (λ (b : BookView). IsLawful b.case (core_of b)
 
 -- and so they are under the low watermarks
 pub returns-clause-under_low : goal.returns-clause-under_low
-returns-clause-under_low g c = are-under_low c.args.self.now (subst (λ (b : BookView). IsLawful b.case (core_of b)) c.self.view_is c.self.invariant)
+returns-clause-under_low g c = are-under_low c.args.self.now
+    (subst (λ (b : BookView). IsLawful b.case (core_of b)) c.self.view_is c.self.invariant)

@@ -5,7 +5,7 @@ use Rattle.book.specs.Books.{core_of}
 use Rattle.run_history.specs.Runs.{written_row}
 use Rattle.book.specs.Appending.{IsNext}
 use Rattle.book.proofs.ClaimLaws.{stale-again}
-use Rattle.book.proofs.SeenRows.{IsNext-purged, IsWritten-result, IfOk-row, row-was}
+use Rattle.book.proofs.SeenRows.{IsNext-purged, IsWritten-result, IfOk-row, row-was, when-written, claimed-whole}
 use Rattle.book.proofs.books.Book.purge.Goals as goal
 
 -- the refusal is that of the test of the sequencer
@@ -23,7 +23,8 @@ append_row-requires g c =
           c.admit.ensures.lawful c.requires.lease c.requires.row c.requires.floor c.in-Ok.ensures.last c.in-Ok.ensures.room
           (c.in_ok-left.ensures ∙ ap (λ n. written_row n entry [] c.args.row.now) c.in-Ok.ensures.number));
       sent = refl;
-      was = row-was c.args.self.now c.args.lease.now c.args.front c.args.name.now c.args.row.now c.admit.ensures.lawful c.requires.lease c.requires.row c.in-Ok.ensures.last;
+      was = row-was c.args.self.now c.args.lease.now c.args.front c.args.name.now c.args.row.now c.admit.ensures.lawful c.requires.lease
+          c.requires.row c.in-Ok.ensures.last;
     }
 
 -- what was appended is the entry
@@ -37,4 +38,17 @@ returns-clause-written g c =
     IsWritten-result c.args.self.now c.append_row.new.self c.args.lease.now c.args.name.now entry _ _ c.append_row.result
     (IsNext-purged c.args.self.now c.args.lease.now c.args.front c.args.name.now c.args.row.now _ c.args.floor
     c.admit.ensures.lawful c.requires.lease c.requires.row c.requires.floor c.in-Ok.ensures.last c.in-Ok.ensures.room refl)
-    c.in-Ok.ensures.last same c.append_row.ensures.appended c.append_row.ensures.commit (IfOk-row left c.append_row.result c.append_row.ensures.row)
+    c.in-Ok.ensures.last same c.append_row.ensures.appended c.append_row.ensures.commit
+    (IfOk-row left c.append_row.result c.append_row.ensures.row)
+
+-- the row that was handed in was the history's
+pub returns-clause-found : goal.returns-clause-found
+returns-clause-found g c = when-written c.append_row.result
+    (row-was c.args.self.now c.args.lease.now c.args.front c.args.name.now c.args.row.now c.admit.ensures.lawful
+    c.requires.lease c.requires.row c.in-Ok.ensures.last)
+
+-- the claim that was seen is there
+pub admit-requires : goal.admit-requires
+admit-requires g c = record {
+  claimed = claimed-whole c.args.lease.now.interval c.args.lease.now.seq c.args.front c.args.self.now.history c.requires.lease.seen_all.claimed;
+}

@@ -16,4 +16,5 @@ invariant_of-self g c =
     (sym (c.raise.ensures.raised ∙ ap (λ mark. record core { marks = with_mark c.args.interval mark core.marks }) c.raise.ensures.mark))
     (IsLawful-raised c.self.inside.case.now core c.args.interval c.args.mark c.self.invariant
     (subst (λ (b : BookView). c.args.interval < length (intervals_of b.case.topology)) (sym c.self.view_is) c.requires.there)
-    (subst (λ (b : BookView). IfSome b.rows (λ _. IsSafeAt b.case (run_of b.case.topology b.history) c.args.interval c.args.mark)) (sym c.self.view_is) c.requires.safe))
+    (subst (λ (b : BookView). IfSome b.rows (λ _. IsSafeAt b.case (run_of b.case.topology b.history) c.args.interval c.args.mark))
+    (sym c.self.view_is) c.requires.safe))

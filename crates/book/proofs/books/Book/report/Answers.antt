@@ -5,6 +5,7 @@ use Rattle.run_history.specs.Watermarks.{least}
 use Rattle.watermark.specs.Marks.{feeding_marks}
 use Rattle.book.specs.Books.{BookView}
 use Rattle.book.specs.Marks.{IsSafeAt}
+use Rattle.book.proofs.SeenRows.{claimed-whole}
 use Rattle.book.proofs.ReportSteps.{IsSafeAt-reported, stale-report}
 use Rattle.book.proofs.books.Book.report.Goals as goal
 
@@ -26,4 +27,11 @@ raise-requires-clause-safe g c =
     subst (λ n. IfSome book.rows (λ _. IsSafeAt book.case (run_of book.case.topology book.history) c.interval-interval.result n)) (sym mark)
     (subst (λ i. IfSome book.rows (λ _. IsSafeAt book.case (run_of book.case.topology book.history) i
     (min c.args.own (least (feeding_marks book.case.topology c.args.lease.now.interval book.marks))))) (sym c.interval-interval.ensures)
-    (IsSafeAt-reported book c.args.lease.now c.args.front c.args.own c.newer.ensures.lawful c.requires.lease c.requires.own (c.newer.ensures.own c.in_default.is)))
+    (IsSafeAt-reported book c.args.lease.now c.args.front c.args.own c.newer.ensures.lawful c.requires.lease c.requires.own
+    (c.newer.ensures.own c.in_default.is)))
+
+-- the claim that was seen is there
+pub newer-requires : goal.newer-requires
+newer-requires g c = record {
+  claimed = claimed-whole c.args.lease.now.interval c.args.lease.now.seq c.args.front c.args.self.now.history c.requires.lease.claimed;
+}

@@ -1,0 +1,255 @@
+//! What a proposal writes: its entry, and the row that the entry leaves.
+ghost use Rattle.std.specs.Prelude.{◌≡◌, ◌+◌, ◌<◌, ◌≤◌, ◌^◌, All, IfOk, OnOk, Some, false, length, option_map, true};
+ghost use Rattle.mw_types.specs.declared.TheConstants.{MAX_STAMP};
+ghost use Rattle.mw_types.specs.declared.state.State.TheVariants.{Injector};
+ghost use Rattle.injector.specs.Sources.{item_at};
+ghost use Rattle.topology.specs.Shapes.{injectors_of};
+ghost use Rattle.row_parts.specs.Contents.{IsId, is_finished, with_id, without_timer};
+ghost use Rattle.run_history.specs.Cases.{record_of, source_of};
+ghost use Rattle.run_history.specs.Runs.{with_timers};
+ghost use Rattle.run_history.specs.Fits.{fits};
+ghost use Rattle.book.specs.Proposals.{IsEntryOf, IsFiring, IsHandling, IsNextLine, IsProposable, left_by};
+
+use crate::pending::with_sent;
+use crate::proposal::Proposal;
+use injector::{Item, Items};
+use mw_types::{
+    Delivery, Duplicate, Effects, Entry, NoMemory, Production, Record, RecordId, RowName, State,
+    Timer,
+};
+use row_parts::Row;
+use run_history::Case;
+use std::alloc::Global;
+
+// An entry, and the row that it leaves.
+#[derive(Drop)]
+pub(crate) struct Step {
+    pub(crate) entry: Entry,
+    pub(crate) left: Row,
+}
+
+// What a proposal writes, under the number of its entry.
+pub(crate) fn step_of(
+    alloc: Global,
+    case: &Case,
+    seq: u64,
+    name: &RowName,
+    row: &Row,
+    proposal: &Proposal,
+    commit: u64,
+) -> Result<Step, NoMemory>
+    requires proposal { IsProposable case.now name.now row.now proposal.now }
+    requires fit { fits case.now commit name.now row.now ≡ true }
+    requires commit { commit < 2 ^ 32 }
+    ensures entry { IfOk result (λ step. IsEntryOf case.now seq name.now proposal.now step.entry) }
+    ensures left { IfOk result (λ step.
+        step.left ≡ left_by case.now.topology name.now proposal.now commit step.entry row.now) }
+{
+    match proposal {
+        Proposal::Inject { line } => injected(alloc, case, seq, name, row, *line, commit),
+        Proposal::Handle { delivery, effects } => {
+            handled(alloc, case, seq, name, row, delivery, effects, commit)
+        }
+        Proposal::Fire {
+            timer,
+            mark,
+            effects,
+        } => fired(alloc, case, seq, name, row, *timer, *mark, effects, commit),
+    }
+}
+
+// What an injected line writes.
+fn injected(
+    alloc: Global,
+    case: &Case,
+    seq: u64,
+    name: &RowName,
+    row: &Row,
+    line: u32,
+    commit: u64,
+) -> Result<Step, NoMemory>
+    requires line { IsNextLine case.now name.now row.now line }
+    requires fit { fits case.now commit name.now row.now ≡ true }
+    requires commit { commit < 2 ^ 32 }
+    ensures entry { IfOk result (λ step.
+        IsEntryOf case.now seq name.now (Proposal.Inject line) step.entry) }
+    ensures left { IfOk result (λ step.
+        step.left ≡ left_by case.now.topology name.now (Proposal.Inject line) commit
+        step.entry row.now) }
+{
+    let item = line_record(alloc, case, name.part, line)?;
+    let production = Production {
+        key: item.key.copy(alloc)?,
+        stamp: item.stamp,
+        value: item.value,
+    };
+    let moved = moved_on(alloc, row, line)?;
+    let left = with_sent(
+        alloc,
+        case,
+        moved,
+        name.part,
+        &[production],
+        item.late,
+        commit,
+    )?;
+    let entry = Entry::Inject {
+        seq,
+        part: name.part,
+        line,
+        item,
+    };
+    Ok(Step { entry, left })
+}
+
+// The record of an injector's line.
+fn line_record(alloc: Global, case: &Case, part: u32, line: u32) -> Result<Record, NoMemory>
+    requires injector { part < injectors_of case.now.topology }
+    requires there { line < length (source_of case.now part) }
+    ensures item { IfOk result
+        (λ item. option_map record_of (item_at (source_of case.now part) line) ≡ Some item) }
+    ensures stamp { IfOk result (λ item. item.stamp ≤ MAX_STAMP) }
+    ensures few { length (source_of case.now part) < 2 ^ 32 }
+{
+    let items = &case.items.as_slice()[part as usize];
+    let _lines = items.count();
+    let item = items.at(line);
+    Ok(Record {
+        key: item.record_key.copy(alloc)?,
+        stamp: item.stamp,
+        value: item.value,
+        late: item.late,
+    })
+}
+
+// An injector's row, once it has injected this line too.
+fn moved_on(alloc: Global, row: &Row, line: u32) -> Result<Row, NoMemory>
+    requires { line + 1 < 2 ^ 32 }
+    ensures { IfOk result (λ moved. moved ≡ record row.now { state = Injector (line + 1) }) }
+{
+    let mut moved = row.copy(alloc)?;
+    moved.state = State::Injector { cursor: line + 1 };
+    Ok(moved)
+}
+
+// What a handled record writes.
+fn handled(
+    alloc: Global,
+    case: &Case,
+    seq: u64,
+    name: &RowName,
+    row: &Row,
+    delivery: &Delivery,
+    effects: &Effects,
+    commit: u64,
+) -> Result<Step, NoMemory>
+    requires handling { IsHandling case.now name.now row.now delivery.now effects.now }
+    requires fit { fits case.now commit name.now row.now ≡ true }
+    requires commit { commit < 2 ^ 32 }
+    ensures entry { IfOk result (λ step.
+        IsEntryOf case.now seq name.now (Proposal.Handle delivery.now effects.now) step.entry) }
+    ensures left { IfOk result (λ step.
+        step.left ≡ left_by case.now.topology name.now (Proposal.Handle delivery.now effects.now)
+        commit step.entry row.now) }
+{
+    let noted = noted(alloc, row, delivery.id, effects)?;
+    let left = with_sent(
+        alloc,
+        case,
+        noted,
+        name.part,
+        effects.productions.as_slice(),
+        delivery.item.late,
+        commit,
+    )?;
+    let entry = Entry::Handle {
+        seq,
+        row: name.copy(alloc)?,
+        id: delivery.id,
+        effects: effects.copy(alloc)?,
+    };
+    Ok(Step { entry, left })
+}
+
+// A row once it has handled the record of this id, but for what it sends.
+fn noted(alloc: Global, row: &Row, id: RecordId, effects: &Effects) -> Result<Row, NoMemory>
+    requires id { IsId id }
+    requires new { is_finished id row.now ≡ false }
+    ensures { IfOk result (λ noted. noted ≡ record row.now {
+      state = effects.now.state;
+      timers = with_timers effects.now.timers row.now.timers;
+      seen = with_id id row.now.seen;
+    }) }
+{
+    let mut noted = row.copy(alloc)?;
+    noted.state = effects.state.copy(alloc)?;
+    set_timers(&mut noted, effects.timers.as_slice())?;
+    noted.note_handled(id)?;
+    Ok(noted)
+}
+
+// Sets timers of a row, one after another.
+fn set_timers(row: &mut Row, set: &[Timer]) -> Result<(), NoMemory>
+    requires { All (λ t. t.time ≤ MAX_STAMP) set.now }
+    ensures { OnOk result
+        (row.new ≡ record row.old { timers = with_timers set.now row.old.timers }) }
+{
+    for timer in set {
+        row.set_timer(*timer)?;
+    }
+    Ok(())
+}
+
+// What a fired timer writes.
+fn fired(
+    alloc: Global,
+    case: &Case,
+    seq: u64,
+    name: &RowName,
+    row: &Row,
+    timer: Timer,
+    mark: u64,
+    effects: &Effects,
+    commit: u64,
+) -> Result<Step, NoMemory>
+    requires firing { IsFiring case.now name.now row.now timer effects.now }
+    requires fit { fits case.now commit name.now row.now ≡ true }
+    requires commit { commit < 2 ^ 32 }
+    ensures entry { IfOk result (λ step.
+        IsEntryOf case.now seq name.now (Proposal.Fire timer mark effects.now) step.entry) }
+    ensures left { IfOk result (λ step.
+        step.left ≡ left_by case.now.topology name.now (Proposal.Fire timer mark effects.now)
+        commit step.entry row.now) }
+{
+    let taken = taken(alloc, row, timer, effects)?;
+    let left = with_sent(
+        alloc,
+        case,
+        taken,
+        name.part,
+        effects.productions.as_slice(),
+        timer.late,
+        commit,
+    )?;
+    let entry = Entry::Fire {
+        seq,
+        row: name.copy(alloc)?,
+        timer,
+        mark,
+        effects: effects.copy(alloc)?,
+    };
+    Ok(Step { entry, left })
+}
+
+// A row once this timer has fired, but for what it sends.
+fn taken(alloc: Global, row: &Row, timer: Timer, effects: &Effects) -> Result<Row, NoMemory>
+    ensures { IfOk result (λ taken. taken ≡ record row.now {
+      state = effects.now.state;
+      timers = without_timer timer.tag timer.time row.now.timers;
+    }) }
+{
+    let mut taken = row.copy(alloc)?;
+    taken.state = effects.state.copy(alloc)?;
+    taken.take_timer(timer.tag, timer.time);
+    Ok(taken)
+}
