@@ -1,10 +1,10 @@
 //! The program `millwheel`: the command line, the files and the output of its process.
 //!
 //! All that it does is `millwheel_alone` of `millwheel_cli`, over the files and the standard output of the
-//! runtime. A status but Ok is told on standard error, and its number is the exit status.
+//! runtime, and then `tell`, over its standard error, whose number is the exit status.
 #![tactic(auto)]
 
-use millwheel_cli::{FirstDone, Status, millwheel_alone};
+use millwheel_cli::{FirstDone, Status, millwheel_alone, tell};
 use mw_ports::{FileShelf, OutSink};
 use mw_types::{Name, NoMemory, Seq};
 use std::alloc::Global;
@@ -15,15 +15,8 @@ use std::process::ExitCode;
 
 fn main(rt: HostRuntime) -> ExitCode {
     let status = status(&rt);
-    if status != Status::Ok {
-        tell(&rt, &status);
-    }
-    ExitCode::from(status.number())
-}
-
-// Tells how the call ended. Where standard error fails, nobody is left to be told.
-fn tell(rt: &HostRuntime, status: &Status) {
-    let _told = eprintln!(rt; "millwheel: {status}");
+    let err = rt.stderr();
+    ExitCode::from(tell(rt.alloc(), &status, &mut OutSink::new(&err)))
 }
 
 // Does what the command line says.
