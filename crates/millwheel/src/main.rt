@@ -8,10 +8,9 @@ use millwheel_cli::{FirstDone, Status, millwheel_alone, tell};
 use mw_ports::{FileShelf, OutSink};
 use mw_types::{Name, NoMemory, Seq};
 use std::alloc::Global;
-use std::env;
 use std::io::{Error, ErrorKind};
-use std::mem;
 use std::process::ExitCode;
+use std::{env, mem};
 
 fn main(rt: HostRuntime) -> ExitCode {
     let status = status(&rt);
