@@ -107,7 +107,7 @@ fn of_timer<C: Computation>(
     Ok(context.into_effects())
 }
 
-// A record of the key `a`.
+// A record, whose key is of no matter here.
 fn record(alloc: Global, stamp: u64, late: bool) -> Result<Record, NoMemory>
     ensures { IfOk result (λ item. item.stamp ≡ stamp) }
 {
@@ -122,7 +122,7 @@ fn record(alloc: Global, stamp: u64, late: bool) -> Result<Record, NoMemory>
 #[test]
 fn a_handler_sets_and_produces(rt: HostRuntime) -> Result<(), Fail> {
     let alloc = rt.alloc();
-    let key = Key::of(alloc, "a")?;
+    let key = Key::none(alloc);
     let state = State::Pass { late: 2 };
     let item = record(alloc, 10, false)?;
     let mut context = Context::for_record(alloc, &key, &state, &item)?;

@@ -1,35 +1,49 @@
 //! What no clause says: that ample memory is enough. The texts are tested at the top.
-use crate::{Case, History, emissions, first_row, make, result_text};
+ghost use Rattle.std.specs.Prelude.{◌<◌};
+ghost use Rattle.topology.specs.Shapes.{parts_of};
+
+use crate::{Case, History, emissions, first_row, make, production, result_text};
 use injector::{Items, ItemsList};
-use mw_types::{Entry, Key, KeyRefusal, Production, Record};
+use mw_types::{Entry, Key, NoMemory, Production, Record};
 use std::alloc::Global;
 use std::test::Fail;
 use topology::Topology;
 
-// An injected record of the key a.
-fn injected(alloc: Global) -> Result<Entry, KeyRefusal> {
-    let item = Record {
-        key: Key::of(alloc, "a")?,
+// A record, whose key is of no matter here.
+fn record(alloc: Global) -> Record {
+    Record {
+        key: Key::none(alloc),
         stamp: 10,
-        value: 1,
+        value: 3,
         late: false,
-    };
-    Ok(Entry::Inject {
+    }
+}
+
+// The record, injected.
+fn injected(alloc: Global) -> Entry {
+    Entry::Inject {
         seq: 0,
         part: 0,
         line: 0,
-        item,
-    })
+        item: record(alloc),
+    }
 }
 
 // A record that the count produces.
-fn production(alloc: Global) -> Result<Production, KeyRefusal> {
-    let key = Key::of(alloc, "a")?;
-    Ok(Production {
-        key,
+fn counted(alloc: Global) -> Production {
+    Production {
+        key: Key::none(alloc),
         stamp: 60,
         value: 2,
-    })
+    }
+}
+
+// How many deliveries and emissions a part makes of a record that the count produces.
+fn sizes(alloc: Global, topology: &Topology, part: u32) -> Result<(usize, usize), NoMemory>
+    requires { part < parts_of topology.now }
+{
+    let made = make(alloc, topology, part, &[counted(alloc)], false, 7)?;
+    Ok((made.deliveries.len(), made.emissions.len()))
 }
 
 #[test]
@@ -37,7 +51,7 @@ fn a_history_takes_its_last_entry_back(rt: HostRuntime) -> Result<(), Fail> {
     let alloc = rt.alloc();
     let mut history = History::new(alloc);
     assert!(rt; history.is_empty());
-    history.push(injected(alloc)?)?;
+    history.push(injected(alloc))?;
     assert_eq!(rt; history.entries().len(), 1);
     assert!(rt; history.pop().is_some());
     assert!(rt; history.pop().is_none());
@@ -48,13 +62,8 @@ fn a_history_takes_its_last_entry_back(rt: HostRuntime) -> Result<(), Fail> {
 fn a_count_is_sent_to_and_emits(rt: HostRuntime) -> Result<(), Fail> {
     let alloc = rt.alloc();
     let topology = Topology::one_count(alloc, 60)?;
-    let productions = [production(alloc)?];
-    let made = make(alloc, &topology, 0, &productions, false, 7)?;
-    assert_eq!(rt; made.deliveries.len(), 1);
-    assert_eq!(rt; made.emissions.len(), 0);
-    let made = make(alloc, &topology, 1, &productions, false, 7)?;
-    assert_eq!(rt; made.deliveries.len(), 0);
-    assert_eq!(rt; made.emissions.len(), 1);
+    assert_eq!(rt; sizes(alloc, &topology, 0)?, (1, 0));
+    assert_eq!(rt; sizes(alloc, &topology, 1)?, (0, 1));
     Ok(())
 }
 
@@ -80,13 +89,7 @@ fn a_row_begins_fresh(rt: HostRuntime) -> Result<(), Fail> {
 #[test]
 fn an_injected_record_is_produced_as_it_is(rt: HostRuntime) -> Result<(), Fail> {
     let alloc = rt.alloc();
-    let item = Record {
-        key: Key::of(alloc, "a")?,
-        stamp: 10,
-        value: 3,
-        late: false,
-    };
-    let production = crate::production(alloc, &item)?;
+    let production = production(alloc, &record(alloc))?;
     assert_eq!(rt; production.stamp, 10);
     assert_eq!(rt; production.value, 3);
     Ok(())

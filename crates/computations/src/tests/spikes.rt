@@ -7,7 +7,7 @@ ghost use Rattle.computations.specs.Parts.{HasState, kind_at};
 use super::{fresh, of_record, of_timer, watched};
 use crate::Kinds;
 use mw_types::{
-    Effects, HeldList, Key, MAX_STAMP, NoMemory, Production, Record, State, Timer, ValueList,
+    Effects, HeldList, Key, KeyRefusal, MAX_STAMP, NoMemory, Record, State, Timer, ValueList,
 };
 use std::alloc::Global;
 use std::process::Abort;
@@ -260,25 +260,39 @@ fn of_two_totals_due_at_the_end_the_first_goes(rt: HostRuntime) -> Result<(), Fa
     Ok(())
 }
 
-// A record of the key `h/x` is passed on, in a row that has so many late ones after it.
-fn passes(rt: &impl Abort, alloc: Global, late: bool, after: u64) -> Result<(), Fail> {
-    let work = watched(alloc)?;
-    let state = nothing_passed(&work);
-    let item = Record {
-        key: Key::of(alloc, "h/x")?,
+// A record of the key `h/x`.
+fn slashed(alloc: Global, key: &str, late: bool) -> Result<Record, KeyRefusal>
+    ensures { IfOk result (λ item. item.stamp ≡ 5) }
+{
+    let key = Key::of(alloc, key)?;
+    Ok(Record {
+        key,
         stamp: 5,
         value: -3,
         late,
-    };
-    let effects = of_record(alloc, &work, 3, &Key::of(alloc, "x")?, &state, &item)?;
-    assert!(rt; effects.state == State::Pass { late: after });
+    })
+}
+
+// A handler produced the record of the key `h/x` again, and set no timer.
+fn expect_passed(rt: &impl Abort, effects: &Effects) {
     assert!(rt; effects.timers.is_empty());
-    let copy = Production {
-        key: Key::of(alloc, "h/x")?,
-        stamp: 5,
-        value: -3,
-    };
-    assert_eq!(rt; effects.productions.as_slice(), [copy].as_slice());
+    match effects.productions.get(0) {
+        Some(passed) => {
+            assert!(rt; passed.key.text() == "h/x" && passed.stamp == 5 && passed.value == -3);
+        }
+        None => assert!(rt; false, "nothing was produced"),
+    }
+    assert_eq!(rt; effects.productions.len(), 1);
+}
+
+// It is passed on in a row of another key, which has so many late ones after it.
+fn passes(rt: &impl Abort, alloc: Global, late: bool, after: u64) -> Result<(), Fail> {
+    let work = watched(alloc)?;
+    let state = nothing_passed(&work);
+    let item = slashed(alloc, "h/x", late)?;
+    let effects = of_record(alloc, &work, 3, &Key::none(alloc), &state, &item)?;
+    expect_passed(rt, &effects);
+    assert!(rt; effects.state == State::Pass { late: after });
     Ok(())
 }
 
