@@ -31,7 +31,8 @@ fn counts(alloc: Global, lines: u32) -> Result<Vec<u32>, NoMemory> {
     }
     for line in 0..lines {
         let (key, stamp) = line_at(line);
-        if let Some(count) = counts.get_mut((stamp / 60 * 100 + key) as usize) {
+        let cell = (stamp / 60).saturating_mul(100).saturating_add(key);
+        if let Some(count) = counts.get_mut(cell as usize) {
             *count = count.saturating_add(1);
         }
     }
