@@ -3,7 +3,7 @@
 # of the gate, since a program that is proved may not start another.
 set -u
 root="$(cd "$(dirname "$0")" && pwd)"
-"$root/run-example.sh" > /dev/null || exit 1
+"$root/build.sh" > /dev/null || exit 1
 program="$root/crates/millwheel/out/millwheel"
 room="$(mktemp -d)"
 trap 'rm -rf "$room"' EXIT
