@@ -6,6 +6,10 @@ pub mod Conditions
 pub mod Answers
 pub mod Proposals
 pub mod Claims
+pub mod Desks
+pub mod Desking
+pub mod DeskReasons
+pub mod OwnDesks
 pub mod Appending
 pub mod Sending
 pub mod Refusing

@@ -1,0 +1,175 @@
+//! What a worker needs of a history: a desk, over a book of its own or one that others share.
+ghost use Rattle.std.specs.Prelude.{◌≡◌, ◌<◌, ◌≤◌, ℕ, [], true, Option, IfErr, IfOk, IfSome, OnErr, length};
+ghost use Rattle.mw_types.specs.declared.entry.Entry.TheVariants.{Ack, Purge};
+ghost use Rattle.run_history.specs.Cases.{intervals_of};
+ghost use Rattle.run_history.specs.Legal.{MayClaim};
+ghost use Rattle.run_history.specs.Runs.{written_row};
+ghost use Rattle.watermark.specs.Marks.{mark_of};
+ghost use Rattle.book.specs.Conditions.{IsOwnWork, MaySettle};
+ghost use Rattle.book.specs.Desking.{HasClaimed, HasStored, HasWritten, IsKnownOf, IsReported, IsRowKnown, MayAsk, MayPurge};
+ghost use Rattle.book.specs.DeskReasons.{HasClaimReason, HasReason};
+ghost use Rattle.book.specs.Desks.{DeskView, HasLooked, HasMet, IsNoteOf, IsSound, KeepsMarks, Sight};
+ghost use Rattle.book.specs.Proposals.{IsProposable};
+
+use crate::answers::{Claimed, Written};
+use crate::desk_refusal::DeskRefusal;
+use crate::lease::Lease;
+use crate::proposal::Proposal;
+use mw_types::{RecordId, RowName};
+use row_parts::Row;
+use std::alloc::Global;
+
+/// What somebody has seen of a history, as a message carries it to another worker.
+pub trait Seen: Drop {
+    /// The case, and the beginning of the history that was seen, where it tells.
+    ghost sight: { Self → Option Sight };
+}
+
+/// What a worker may ask of a history. Each call sees at least what was seen before, and appends at
+/// most one entry of its own.
+pub trait Desk: Drop {
+    /// What it gives of what it has seen.
+    type Note: Seen;
+
+    /// What it knows.
+    ghost view: { Self → DeskView };
+
+    /// Whether a note is of the desk's own book.
+    ghost knows: { Self → Self.Note → Type 0 };
+
+    /// The borrow on which it rests.
+    ghost loan: { Self → ℕ };
+
+    /// What always holds of a desk. It does nothing when it runs.
+    fn sound(&self)
+        ensures sound { IsSound (view self.now) };
+
+    /// A worker takes an interval, which makes every earlier lease of it stale, and gets the rows that
+    /// lie there.
+    fn claim(&mut self, alloc: Global, worker: u32, interval: u32) -> Result<Claimed, DeskRefusal>
+        requires may { MayClaim (view self.old).case worker interval }
+
+        ensures claimed { IfOk result (HasClaimed (view self.old) (view self.new) worker interval) }
+        ensures looked { OnErr result (HasLooked (view self.old) (view self.new)) }
+        ensures reason { IfErr result (HasClaimReason (view self.old) (view self.new)) }
+        ensures marks { KeepsMarks (view self.old) (view self.new) }
+        ensures loan { loan self.new ≡ loan self.old };
+
+    /// A row is written anew: an injector's next line is injected, a record was handled, or a timer
+    /// fired.
+    fn write(
+        &mut self,
+        alloc: Global,
+        lease: &Lease,
+        name: &RowName,
+        row: &Row,
+        proposal: &Proposal,
+    ) -> Result<Written, DeskRefusal>
+        requires lease { MayAsk (view self.old) lease.now name.now }
+        requires row { IsRowKnown (view self.old) lease.now name.now row.now }
+        requires proposal { IsProposable (view self.old).case name.now row.now proposal.now }
+        requires known { IsKnownOf (view self.old) name.now proposal.now }
+
+        ensures written { IfOk result
+            (HasWritten (view self.old) (view self.new) lease.now name.now proposal.now row.now) }
+        ensures looked { OnErr result (HasLooked (view self.old) (view self.new)) }
+        ensures reason { IfErr result (HasReason (view self.old) (view self.new) lease.now) }
+        ensures marks { KeepsMarks (view self.old) (view self.new) }
+        ensures loan { loan self.new ≡ loan self.old };
+
+    /// A sender learns that what it made was handled: the row no longer waits for the id.
+    fn settle(
+        &mut self,
+        alloc: Global,
+        lease: &Lease,
+        name: &RowName,
+        row: &Row,
+        id: RecordId,
+    ) -> Result<Written, DeskRefusal>
+        requires lease { MayAsk (view self.old) lease.now name.now }
+        requires row { IsRowKnown (view self.old) lease.now name.now row.now }
+        requires id { MaySettle (view self.old).told (view self.old).seen row.now id }
+
+        ensures written { let entry = Ack lease.now.seq name.now id in
+            IfOk result (HasStored (view self.old) (view self.new) lease.now name.now entry row.now
+            (λ commit. written_row commit entry [] row.now)) }
+        ensures looked { OnErr result (HasLooked (view self.old) (view self.new)) }
+        ensures reason { IfErr result (HasReason (view self.old) (view self.new) lease.now) }
+        ensures marks { KeepsMarks (view self.old) (view self.new) }
+        ensures loan { loan self.new ≡ loan self.old };
+
+    /// A row forgets the ids of records that are finished: those below the floor.
+    fn purge(
+        &mut self,
+        alloc: Global,
+        lease: &Lease,
+        name: &RowName,
+        row: &Row,
+        floor: u64,
+    ) -> Result<Written, DeskRefusal>
+        requires lease { MayAsk (view self.old) lease.now name.now }
+        requires row { IsRowKnown (view self.old) lease.now name.now row.now }
+        requires floor { MayPurge (view self.old) name.now row.now floor }
+
+        ensures written { let entry = Purge lease.now.seq name.now floor in
+            IfOk result (HasStored (view self.old) (view self.new) lease.now name.now entry row.now
+            (λ commit. written_row commit entry [] row.now)) }
+        ensures looked { OnErr result (HasLooked (view self.old) (view self.new)) }
+        ensures reason { IfErr result (HasReason (view self.old) (view self.new) lease.now) }
+        ensures marks { KeepsMarks (view self.old) (view self.new) }
+        ensures loan { loan self.new ≡ loan self.old };
+
+    /// A worker reports the own work of an interval that it has, in whole microseconds: the oldest that
+    /// is left in the interval's rows, or the end where there is none. The interval's mark, which may
+    /// rise, is answered.
+    fn report(&mut self, lease: &Lease, own: u64) -> Result<u64, DeskRefusal>
+        requires lease { (view self.old).leases lease.now ≡ true }
+        requires own { IsOwnWork (view self.old).case (view self.old).told (view self.old).seen
+            lease.now own }
+
+        ensures answer { IfOk result (λ mark.
+            mark ≡ mark_of (view self.new).marks lease.now.interval) }
+        ensures rise { (interval : ℕ) →
+            mark_of (view self.old).marks interval ≤ mark_of (view self.new).marks interval }
+        ensures looked { HasLooked (view self.old) (view self.new) }
+        ensures reason { IfErr result (HasReason (view self.old) (view self.new) lease.now) }
+
+        // A desk that is alone sets this one mark, as its book does.
+        ensures raised { (view self.old).alone ≡ true → IfOk result
+            (λ mark. IsReported (view self.old) (view self.new) lease.now own mark) }
+        ensures unchanged { (view self.old).alone ≡ true →
+            OnErr result ((view self.new).marks ≡ (view self.old).marks) }
+        ensures loan { loan self.new ≡ loan self.old };
+
+    /// The known mark of an interval, in whole microseconds: no work that is left in it, and none above
+    /// it, is older.
+    fn mark(&mut self, interval: u32) -> u64
+        requires there { interval < length (intervals_of (view self.old).case.topology) }
+        ensures mark { result ≡ mark_of (view self.new).marks interval }
+        ensures looked { HasLooked (view self.old) (view self.new) }
+        ensures marks { KeepsMarks (view self.old) (view self.new) }
+        ensures loan { loan self.new ≡ loan self.old };
+
+    /// The known floor: ids of an entry with a lower commit number need not be kept.
+    fn floor(&mut self) -> u64
+        ensures floor { result ≡ (view self.new).floor }
+        ensures looked { HasLooked (view self.old) (view self.new) }
+        ensures marks { KeepsMarks (view self.old) (view self.new) }
+        ensures loan { loan self.new ≡ loan self.old };
+
+    /// What the desk has seen, for a message to carry.
+    fn note(&mut self) -> Self::Note
+        ensures note { IsNoteOf (view self.new) (Self.Note.sight result) }
+        ensures known { knows self.new result }
+        ensures looked { HasLooked (view self.old) (view self.new) }
+        ensures marks { KeepsMarks (view self.old) (view self.new) }
+        ensures loan { loan self.new ≡ loan self.old };
+
+    /// The desk comes to see at least what a note of its own book tells.
+    fn meet(&mut self, note: Self::Note)
+        requires known { knows self.old note }
+        ensures met { HasMet (Self.Note.sight note) (view self.new) }
+        ensures looked { HasLooked (view self.old) (view self.new) }
+        ensures marks { KeepsMarks (view self.old) (view self.new) }
+        ensures loan { loan self.new ≡ loan self.old };
+}
