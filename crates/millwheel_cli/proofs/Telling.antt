@@ -1,4 +1,4 @@
--- A shelf that tells its files decides the answer.
+-- A shelf whose files a contract can see decides the answer.
 use Rattle.std.proofs.Common.{◌≡◌, ◌≤◌, ◌<◌, ◌⊎◌, ◌∙◌, ℕ, nat_le, true, false, cond, List, Option, Some, None, IfSome, IsSomeAnd, Result, Ok, Err, length, refl, sym, ap, subst, inl, inr, arith}
 use Rattle.std.specs.Option.{option_map_or}
 use Rattle.mw_types.specs.Causes.{Rose}
