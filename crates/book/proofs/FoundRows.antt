@@ -1,4 +1,4 @@
--- What a keeper that tells has of an interval: the bytes of the rows of the history there.
+-- What a keeper whose rows a contract can see has of an interval: the bytes of the rows of the history there.
 use Rattle.std.proofs.Common.{◌≡◌, ◌<◌, ◌≤◌, ◌+◌, ℕ, zero, suc, true, List, [], ◌∷◌, ◌++◌, length, map, take, drop, refl, sym, ◌∙◌, ap, subst, arith, get_or}
 use Rattle.std.specs.Prelude.{◌≢◌, Some, Result, Ok, Err, IfOk, IfErr, IsErrOf, MatchResult, IfSome, All, slice_get}
 use Rattle.std.specs.List.{AllByRecursion}

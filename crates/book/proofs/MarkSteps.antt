@@ -65,7 +65,7 @@ claims-claim case history worker interval may there other seq last =
 
 -- ---- marks
 
--- marks that are safe after a legal history are so after one more entry, where the keeper tells
+-- marks that are safe after a legal history are so after one more entry, where a contract can see the keeper's rows
 pub AreSafe-next : (case : CaseShape) (history : List Entry) (entry : Entry) (marks : List ℕ) (told : Option Rows) → IsRunnable case
     → IfSome told (IsHeld case (history ++ entry ∷ [])) → IfSome told (λ _. AreSafe case (run_of case.topology history) marks)
     → IfSome told (λ _. AreSafe case (run_of case.topology (history ++ entry ∷ [])) marks)

@@ -200,7 +200,7 @@ part-bound x part (c ∷ cs) (m ∷ ms) (suc k) b long each at of =
     later true each = each.1
     later false each = each
 
--- the least mark of a part's intervals is at most the part's low watermark, where the keeper tells
+-- the least mark of a part's intervals is at most the part's low watermark, where a contract can see the keeper's rows
 pub are-under_low : (book : BookView) → IsLawful book.case (core_of book)
     → IfSome book.rows (λ _. AreUnderLow book.case (run_of book.case.topology book.history) book.marks)
 are-under_low book lawful =

@@ -266,7 +266,7 @@ pub IfOk-row : {one other : Contents} → one ≡ other → (result : Result Wri
 IfOk-row same (Err why) row = tt
 IfOk-row same (Ok answer) row = row ∙ same
 
--- the row that is handed in is that of the history, where the keeper tells
+-- the row that is handed in is that of the history, where a contract can see the keeper's rows
 pub row-was : (book : BookView) (lease : LeaseView) (front : ℕ) (name : RowName) (row : Contents) → IsLawful book.case (core_of book)
     → MayUseAt book lease front name → IsRowSeenAt book lease front name row → last_claim lease.interval book.history ≡ Some lease.seq
     → IfSome book.rows (λ _. row ≡ row_of book.case.topology (run_of book.case.topology book.history) name)

@@ -14,7 +14,7 @@ All-more P xs i d within done next =
     subst (All P) (sym (take_more xs i d within)) (All-append P (take i xs) (get_or xs i d ∷ []) done
     (All-from_recursion P (get_or xs i d ∷ []) (next, tt)))
 
--- a keeper whose first row is none has no row, where it tells
+-- a keeper whose first row is none has no row, where a contract can see its rows
 pub first-none : (old new : Option Rows) (found : Option KeptRow) → new ≡ old → found ≡ None
     → IfSome old (λ held. option_map entry_of found ≡ slice_get held 0) → IfSome new (λ rows. rows ≡ [])
 first-none old new found same none first = subst (λ o. IfSome o (λ rows. rows ≡ [])) (sym same) (by_told old first)

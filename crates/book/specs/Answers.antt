@@ -20,8 +20,8 @@ use Rattle.book.specs.declared.refusals.Stale.{Stale}
 use Rattle.book.specs.declared.refusals.WriteRefusal.{WriteRefusal}
 use Rattle.book.specs.declared.refusals.WriteRefusal.TheVariants as refusals
 
--- a start is refused for a row only of a keeper that has one: where the keeper tells, the row that is
--- named is its least
+-- a start is refused for a row only of a keeper that has one: where a contract can see its rows, the
+-- row that is named is the least of them
 abbrev pub IsNotEmpty : Option Rows → StartWhy → Type 0
 IsNotEmpty rows (starts.NotEmpty name bytes) = IfSome rows (λ held. slice_get held 0 ≡ Some (name, bytes))
 IsNotEmpty rows _ = ⊤
@@ -32,7 +32,7 @@ pub record IsWritten {X : Type 0} (case : CaseShape) (told : Option X) (before a
     (lease : LeaseView) (name : RowName) (entry : Entry) (left : Contents) (answer : Written) : Type 0 where
   pub appended : after ≡ before ++ entry ∷ []
   pub commit : answer.commit ≡ length before
-  -- the row is what the entry leaves; where the rows are told it is that of the history
+  -- the row is what the entry leaves; where a contract can see the keeper's rows it is that of the history
   pub changed_alone : answer.row ≡ left
   pub of_history : IsRowOf case told after name answer.row
   pub fit : fits case (length after) name answer.row ≡ true
@@ -40,7 +40,7 @@ pub record IsWritten {X : Type 0} (case : CaseShape) (told : Option X) (before a
   pub last : IsCurrent lease.interval lease.seq before
 
 -- a write is stale exactly where a later claim of the lease's interval is there, whose number is
--- then told
+-- then answered
 abbrev pub IsStaleWhere : {T : Type 0} → List Entry → LeaseView → Result T WriteRefusal → Type 0
 IsStaleWhere history lease result = (newer : ℕ) →
     IsErrOf result (refusals.Stale newer) ↔ IsOvertakenBy newer lease.interval lease.seq history
@@ -56,8 +56,8 @@ abbrev pub IsFullWhere : {T : Type 0} → ℕ → List Entry → LeaseView → R
 IsFullWhere limit history lease result = IsErrOf result refusals.HistoryFull
     ↔ (length history ≡ limit) × IsCurrent lease.interval lease.seq history
 
--- no call that uses the keeper changes the case, the limit, the marks, or whether the keeper tells
--- its rows
+-- no call that uses the keeper changes the case, the limit, the marks, or whether a contract can
+-- see the keeper's rows
 pub record IsSameBook (old new : BookView) : Type 0 where
   pub case : new.case ≡ old.case
   pub limit : new.limit ≡ old.limit

@@ -32,7 +32,7 @@ abbrev pub bytes_named : NamedRow → RowName × List ℕ
 bytes_named r = spelled (named r)
 
 -- the rows that a claim of an interval answers after a history fit their names, lie in the interval
--- and ascend by name; where the rows are told they are those of the history that lie there
+-- and ascend by name; where a contract can see the keeper's rows they are those of the history that lie there
 pub record AreRowsOf {X : Type 0} (case : CaseShape) (told : Option X) (history : List Entry) (interval : ℕ)
     (rows : List NamedRow) : Type 0 where
   pub fit : All (λ (r : NamedRow). fits case (length history) r.name r.row ≡ true) rows
@@ -44,7 +44,7 @@ pub record AreRowsOf {X : Type 0} (case : CaseShape) (told : Option X) (history 
       map named rows ≡ rows_covered bounds (run_of case.topology history).rows)
 
 -- bytes are damaged under a name after so many entries: they are those of no row that fits the name.
--- No row of a keeper that tells is damaged
+-- Where a contract can see the keeper's rows, none is damaged
 pub record IsDamagedRow {X : Type 0} (case : CaseShape) (told : Option X) (number : ℕ) (name : RowName)
     (bytes : List ℕ) : Type 0 where
   pub no_row : (row : Contents) → IsKept case number (name, row) → bytes ≢ spelling_of row

@@ -1,6 +1,7 @@
 -- What a caller of a book has to know before it writes or reports, by what it has seen of the history.
 -- Akidau et al., VLDB 2013, section 6.2 for the sequencer that each write carries. Own: what a
--- holder of a lease has seen of the history, and that all else is asked only where the rows are told.
+-- holder of a lease has seen of the history, and that all else is asked only where a contract can see
+-- the keeper's rows.
 use Rattle.std.specs.Prelude.{◌≡◌, ◌<◌, ◌≤◌, ◌^◌, ℕ, List, take, drop, length, slice_get, Option, Some, IsSome, IfSome, true}
 use Rattle.mw_types.specs.declared.identity.RecordId.{RecordId}
 use Rattle.mw_types.specs.declared.identity.RowName.{RowName}
@@ -18,7 +19,7 @@ use Rattle.run_history.specs.Marks.{own_work}
 use Rattle.book.specs.Books.{BookView, LeaseView}
 use Rattle.run_history.specs.Fits.{fits}
 
--- a row is that of a history under this name, where the rows are told
+-- a row is that of a history under this name, where a contract can see the keeper's rows
 abbrev pub IsRowOf : {X : Type 0} → CaseShape → Option X → List Entry → RowName → Contents → Type 0
 IsRowOf case told history name row =
     let shape = case.topology in IfSome told (λ _. row ≡ row_of shape (run_of shape history) name)

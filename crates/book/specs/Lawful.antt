@@ -1,7 +1,7 @@
 -- What always holds of a book.
 -- Akidau et al., VLDB 2013, section 6.1, where state is checkpointed with each record's handling,
--- section 6.2 for sequencers, and section 4.5 for watermarks. Own: what is known over a keeper that
--- does not tell its rows.
+-- section 6.2 for sequencers, and section 4.5 for watermarks. Own: what is known over a keeper whose
+-- rows no contract can see.
 use Rattle.std.specs.Prelude.{◌≡◌, ◌<◌, ◌≤◌, ◌^◌, ℕ, List, length, true, Some, IfSome}
 use Rattle.std.specs.List.{AllByRecursion}
 use Rattle.mw_types.specs.declared.identity.RowName.{RowName}
@@ -40,7 +40,7 @@ AreClaimsThere shape history = (interval seq : ℕ) →
     last_claim interval history ≡ Some seq → interval < length (intervals_of shape)
 
 -- a book is lawful: its history is fenced, no longer than its limit, and can be printed, and where
--- the keeper tells its rows they are those of the history, which is legal
+-- a contract can see the keeper's rows they are those of the history, which is legal
 pub record IsLawful (case : CaseShape) (core : CoreView) : Type 0 where
   pub runnable : IsRunnable case
   pub limit : core.limit ≤ 2 ^ 32

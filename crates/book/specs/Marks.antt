@@ -12,7 +12,7 @@ use Rattle.run_history.specs.Watermarks.{least, low_watermark}
 use Rattle.run_history.specs.Marks.{IsSafe}
 use Rattle.watermark.specs.Marks.{mark_of, marks_of, feeding_marks}
 
--- a mark of an interval is safe: no work of the interval, and none above it, is older
+-- a mark is safe for the interval of this number, where there is one
 abbrev pub IsSafeAt : CaseShape → Run → ℕ → ℕ → Type 0
 IsSafeAt case run interval mark = (bounds : Bounds) →
     slice_get (intervals_of case.topology) interval ≡ Some bounds → IsSafe case run bounds mark

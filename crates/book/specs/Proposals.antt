@@ -1,6 +1,6 @@
 -- What may be proposed, and what is written of it.
 -- Akidau et al., VLDB 2013, section 6.1, for what a worker does on receipt of a record, and section
--- 4.6 for timers. Own: what is asked over a keeper that does not tell its rows.
+-- 4.6 for timers. Own: what is asked over a keeper whose rows no contract can see.
 use Rattle.std.specs.Prelude.{◌≡◌, ◌<◌, ◌≤◌, ℕ, Bool, true, false, [], List, length, slice_get, Option, Some}
 use Rattle.std.specs.Option.{option_map}
 use Rattle.mw_types.specs.declared.identity.RowName.{RowName}
@@ -90,7 +90,8 @@ left_by shape name proposal commit entry row =
     let late = is_cause_late proposal entry in
     written_row commit entry (deliveries_made shape name.part (productions_of entry) late commit) row
 
--- a proposal was accepted: its entry is the next of the history, and its row is stored
+-- a proposal was accepted: its entry is the next of the history, and the row that it leaves is
+-- answered
 pub record IsWrittenBy {X : Type 0} (case : CaseShape) (told : Option X) (before after : List Entry)
     (lease : LeaseView) (name : RowName) (proposal : Proposal) (row : Contents)
     (answer : Written) : Type 0 where

@@ -104,8 +104,8 @@ impl<'a, K: Keeper> Book<'a, K> {
         self.case
     }
 
-    /// What has happened, and what always holds of a book: the history is fenced, and where the keeper
-    /// tells its rows it is legal, the rows are its rows, and no mark passes work that is left.
+    /// What has happened, and what always holds of a book: the history is fenced, and where a contract
+    /// can see the keeper's rows it is legal, they are its rows, and no mark passes work that is left.
     pub fn history(&self) -> &History
         ensures history { result.now ≡ self.now.history }
         ensures lawful { IsLawful self.now.case (core_of self.now) }
@@ -150,7 +150,8 @@ impl<'a, K: Keeper> Book<'a, K> {
         ensures marks { result.now ≡ self.now.marks }
         ensures one_each { length self.now.marks ≡ length (intervals_of self.now.case.topology) }
 
-        // Where the keeper tells, each mark is safe, and timers may fire under those of a part.
+        // Where a contract can see the keeper's rows, each mark is safe, and timers may fire under
+        // those of a part.
         ensures safe { IfSome self.now.rows (λ _. AreSafe self.now.case
             (run_of self.now.case.topology self.now.history) self.now.marks) }
         ensures under_low { IfSome self.now.rows (λ _. AreUnderLow self.now.case

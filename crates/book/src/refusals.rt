@@ -5,7 +5,8 @@ use row_keeper::KeeperFault;
 /// Why no book was made of a keeper.
 #[derive(Debug, Drop)]
 pub enum StartWhy {
-    /// The keeper holds a row already; where it tells, this is the one with the least name.
+    /// The keeper holds a row already; where a contract can see its rows, this is the one with the
+    /// least name.
     NotEmpty {
         /// The row's name.
         name: RowName,
@@ -14,7 +15,7 @@ pub enum StartWhy {
     },
     /// The keeper failed.
     KeeperFault,
-    /// Memory was wanted and not to be had.
+    /// Memory ran out.
     NoMemory,
 }
 
@@ -41,7 +42,7 @@ pub enum ClaimRefusal {
         /// The bytes.
         bytes: Bytes,
     },
-    /// Memory was wanted and not to be had.
+    /// Memory ran out.
     NoMemory,
 }
 
@@ -66,7 +67,7 @@ pub enum WriteRefusal {
     },
     /// The history has as many entries as it may have.
     HistoryFull,
-    /// Memory was wanted and not to be had.
+    /// Memory ran out.
     NoMemory,
     /// The keeper failed.
     KeeperFault,

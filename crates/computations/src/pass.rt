@@ -15,7 +15,8 @@ pub(crate) fn on_record(alloc: Global, context: &mut Context, item: &Record) -> 
     requires made { context.old ≡ begun_by_record context.old.key context.old.state item.now }
     requires within { IsWithin context.old.state }
     requires in_time { item.now.stamp ≤ MAX_STAMP }
-    ensures effects { let o = effects_of_record kinds.Pass context.old.key context.old.state item.now in
+    ensures effects { let kind = kinds.Pass in
+        let o = effects_of_record kind context.old.key context.old.state item.now in
         OnOk result (context.new ≡ ended_with context.old o) }
     ensures within { OnOk result (IsWithin context.new.state) }
 {

@@ -7,8 +7,9 @@
 //! ids tell what waits, what is finished and who sent it, and each record is handled once; a row
 //! that was read under the last claim of its interval is the row of the whole history, and a write
 //! that was worked out on it keeps the history lawful; marks that are safe stay safe. Definitions:
-//! `specs/Lib.antt` names them in the order of reading; `specs/Fences.antt` says which histories
-//! are fenced, and `specs/Marks.antt` which marks are safe.
+//! `specs/Writes.antt`, when a write may follow the whole history; `specs/Ids.antt`, what ids tell;
+//! `specs/Stamps.antt`, which timestamps stand. Which histories are fenced, and which marks are
+//! safe, say `specs/Fences.antt` and `specs/Marks.antt` of `run_history`.
 #![tactic(auto)]
 
 mod claims;

@@ -10,7 +10,7 @@ use Rattle.injector.specs.declared.refusal.LinesRefusal.{LinesRefusal}
 use Rattle.injector.specs.declared.refusal.LinesRefusal.TheVariants.{Line}
 use Rattle.injector.specs.declared.refusal.LinesRefusal.TheVariants as refusals
 
--- the answer is the reading, unless memory was wanting
+-- the answer is the reading, unless memory ran out
 abbrev pub Gives : {A : Type 0} → Result A LineRefusal → Result A LineWhy → Type 0
 Gives (Ok x) reading = reading ≡ Ok x
 Gives (Err (Breaks why)) reading = reading ≡ Err why

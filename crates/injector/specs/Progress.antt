@@ -28,7 +28,7 @@ abbrev pub followed_by : Source → Result Source LinesRefusal → Result Source
 followed_by lines (Ok rest) = Ok (lines ++ rest)
 followed_by lines (Err refusal) = Err refusal
 
--- the whole is refused for this line, unless memory was wanting
+-- the whole is refused for this line, unless memory ran out
 abbrev pub RefusedAt : ℕ → LineRefusal → Result Source LinesRefusal → Type 0
 RefusedAt n (Breaks why) whole = whole ≡ Err (Line n why)
 RefusedAt n NoMemory whole = ⊤

@@ -3,11 +3,11 @@
 //! An event file has record lines and watermark lines, each of which is one JSON object. A record
 //! is late where it is below a watermark line before it. Stands on `mw_types`, `json_reading` and
 //! `serde_json`, and finds and spells by `memchr` and `itoa`. Public contract: `read_lines` is Ok
-//! exactly where each line keeps the rules, with the source that the definition gives; else it names
-//! the first line that breaks a rule, and the first rule that it breaks. `Items` gives each record of
-//! a source, and the watermark that the file states before it. Definitions, in the order of reading:
-//! `specs/Sources.antt`, what is read; `specs/EventLines.antt`, what one line says;
-//! `specs/EventFiles.antt`, what a file holds.
+//! only where each line keeps the rules, with the source that the definition gives; it refuses only
+//! with the first line that breaks a rule, and the first rule that it breaks, unless memory ran out,
+//! which any call may answer. `Items` gives each record of a source, and the watermark that the file
+//! states before it. Definitions, in the order of reading: `specs/Sources.antt`, what is read;
+//! `specs/EventLines.antt`, what one line says; `specs/EventFiles.antt`, what a file holds.
 #![tactic(auto)]
 
 mod item;

@@ -28,7 +28,7 @@ pub enum LinesRefusal {
         /// The first rule that it breaks.
         why: LineWhy,
     },
-    /// Memory was wanted and not to be had.
+    /// Memory ran out.
     NoMemory,
 }
 
@@ -48,7 +48,7 @@ impl From<NoMemory> for LinesRefusal {
 pub enum LineRefusal {
     /// The first rule that the line breaks.
     Breaks(LineWhy),
-    /// Memory was wanted and not to be had.
+    /// Memory ran out.
     NoMemory,
 }
 

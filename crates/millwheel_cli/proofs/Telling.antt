@@ -1,4 +1,4 @@
--- A shelf that tells its files decides the answer.
+-- A shelf whose files a contract can see decides the answer.
 use Rattle.std.proofs.Common.{◌≡◌, ◌≤◌, ◌<◌, ◌⊎◌, ◌∙◌, ℕ, nat_le, true, false, cond, List, Option, Some, None, IfSome, IsSomeAnd, Result, Ok, Err, length, refl, sym, ap, subst, inl, inr, arith}
 use Rattle.std.specs.Option.{option_map_or}
 use Rattle.mw_types.specs.Causes.{Rose}
@@ -105,7 +105,7 @@ answer_read seen words held case told is = sym (answer_of-named held words is.na
 answer_usage : (words : List (List ℕ)) (held : Files) → files_named words ≡ None → Usage ≡ answer_of held words
 answer_usage words held none = sym (ap (λ (n : Option Names). option_map_or (answer_for held) n Usage) none)
 
--- over a shelf that tells its files, where nothing failed, the answer is that of the files, or memory was wanting
+-- over a shelf whose files a contract can see, where nothing failed, the answer is that of the files, or memory ran out
 pub told_answer : (seen : ShelfSeen) (words : List (List ℕ)) (history : List Entry) (before after : Option (List ℕ)) (f0 f1 : ℕ) (held : Files) (s : Status)
     → HasReason seen words s → HasWritten seen.files words history before after s → (s ≡ SinkFault → Rose f0 f1)
     → seen.files ≡ Some held → (Rose seen.faults.0 seen.faults.1 → ⊥) → (Rose f0 f1 → ⊥) → (s ≡ answer_of held words) ⊎ (s ≡ NoMemory)

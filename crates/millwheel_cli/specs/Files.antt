@@ -26,7 +26,7 @@ built_of (Ok shape) =
 abbrev pub topology_taken : List ℕ → Result Shape Status
 topology_taken bytes = built_of (topology_of bytes)
 
--- a source that is read is taken where no watermark stands before a line
+-- a source that is read is taken where no watermark above 0 stands before a line
 abbrev pub unstated_of : Result Source LinesRefusal → Result Source Status
 unstated_of (Err (Line line why)) = Err (EventsRefused 0 line why)
 unstated_of (Err lines.NoMemory) = Err NoMemory
@@ -36,7 +36,7 @@ unstated_of (Ok source) = if is_unstated source then Ok source else Err NotBuilt
 abbrev pub source_taken : List ℕ → Result Source Status
 source_taken bytes = unstated_of (source_in lines_limit bytes)
 
--- the bytes are those of the file of that name, where the shelf tells its files
+-- the bytes are those of the file of that name, where a contract can see the shelf's files
 abbrev pub IsContent : Option Files → List ℕ → List ℕ → Type 0
 IsContent files name bytes = IfSome files (λ held. held name ≡ Some bytes)
 

@@ -40,7 +40,7 @@ abbrev pub ending_of : {T : Type 0} → Result T Refusal → Status
 ending_of (Ok t) = status.Ok
 ending_of (Err refusal) = status_of refusal
 
--- it is so of the refusal's status, unless memory was wanting
+-- it is so of the refusal's status, unless memory ran out
 abbrev pub UnlessWant : (Status → Type 0) → Refusal → Type 0
 UnlessWant P NoMemory = ⊤
 UnlessWant P refusal = P (status_of refusal)

@@ -47,7 +47,7 @@ pub fn millwheel_alone<S: Shelf, O: Sink>(
     } in HasReason seen words.now result.status }
     ensures sink_fault { result.status ≡ Status.SinkFault →
         Rose (O.faults out.old) (O.faults out.new) }
-    // Over a shelf that tells its files they decide the answer, unless something fails.
+    // Where a contract can see the shelf's files they decide the answer, unless something fails.
     ensures answer { (held : Files) → S.files shelf.old ≡ Some held
         → (Rose (S.faults shelf.old) (S.faults shelf.new) → ⊥)
         → (Rose (O.faults out.old) (O.faults out.new) → ⊥)

@@ -22,7 +22,7 @@ pub enum Status {
     },
     /// The topology's file breaks a rule.
     TopologyRefused {
-        /// The first rule that it breaks, which is never want of memory.
+        /// The first rule that it breaks, which is never that memory ran out.
         why: TopologyRefusal,
     },
     /// A line of an event file breaks a rule.
@@ -36,7 +36,7 @@ pub enum Status {
     },
     /// The output failed.
     SinkFault,
-    /// Memory was wanted and not to be had.
+    /// Memory ran out.
     NoMemory,
     /// This file could not be read.
     ReadFault {

@@ -1,4 +1,5 @@
--- What is taken from an open file, where its reader tells what it has left. No public clause cites this module. Own.
+-- What is taken from an open file, where a contract can see what its reader has left. No public clause cites
+-- this module. Own.
 use Rattle.std.specs.Prelude.{◌≡◌, ◌<◌, ◌≤◌, ◌++◌, ℕ, List, Option, Some, IfSome, Result, length}
 use Rattle.std.specs.Io.KnownBytes.{Consumes}
 use Rattle.mw_ports.specs.declared.shelf.ShelfFault.{ShelfFault}

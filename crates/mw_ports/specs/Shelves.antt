@@ -7,7 +7,7 @@ use Rattle.mw_ports.specs.declared.shelf.ShelfFault.TheVariants.{Missing, TooLon
 abbrev pub Files : Type 0
 Files = List ℕ → Option (List ℕ)
 
--- what a read says of the file of that name, where the shelf tells its files
+-- what a read says of the file of that name, where a contract can see the shelf's files
 pub record ReadsFile (found : Option (List ℕ)) (limit : ℕ) (result : Result (List ℕ) ShelfFault) : Type 0 where
   pub bytes : IfOk result (λ bytes. found ≡ Some bytes)
   pub missing : IsErrOf result Missing → found ≡ None

@@ -1,4 +1,4 @@
-//! The runtime's files as a shelf, which tells nothing.
+//! The runtime's files as a shelf, whose files no contract can see.
 ghost use Rattle.std.specs.Prelude.{◌≡◌, ◌≤◌, None, length, IfOk, IsErrOf};
 ghost use Rattle.mw_types.specs.Causes.{Counts};
 ghost use Rattle.mw_ports.specs.Shelves.{IsLack};

@@ -1,11 +1,12 @@
 //! The outside world as traits: where files are read and where text is written.
 //!
-//! Each trait has an implementation in memory, which tells what it holds and fails at the calls
-//! that it is told, and a thin one over the runtime, which tells nothing. Stands on `mw_types`.
-//! Public contract: a fault or a lack is answered only where its count rose in that call; a read
-//! gives the file's bytes, and a write appends a beginning of the piece. Definitions:
-//! `specs/Shelves.antt` and `specs/Sinks.antt`, what a shelf and a sink hold; `specs/Fakes.antt`, what
-//! those in memory are; `specs/Causes.antt` of `mw_types`, what a count says of an answer.
+//! Each trait has an implementation in memory, of which a contract can see what it holds, and which
+//! fails at the calls that it is given; and a thin one over the runtime, of which a contract can see
+//! nothing. Stands on `mw_types`. Public contract: a fault or a lack is answered only where its count
+//! rose in that call; a read gives the file's bytes, and a write appends a beginning of the piece.
+//! Definitions: `specs/Shelves.antt` and `specs/Sinks.antt`, what a shelf and a sink hold;
+//! `specs/Fakes.antt`, what those in memory are; `specs/Causes.antt` of `mw_types`, what a count says
+//! of an answer.
 #![tactic(auto)]
 
 mod file_shelf;

@@ -1,4 +1,4 @@
-//! A shelf in memory, which tells its files and fails at named calls.
+//! A shelf in memory, whose files a contract can see, and which fails at named calls.
 ghost use Rattle.std.specs.Prelude.{◌≡◌, ◌≤◌, ◌↔◌, length, Some, IfOk, IsErrOf, Contains, option_copied};
 ghost use Rattle.mw_types.specs.Causes.{Counts, raised};
 ghost use Rattle.mw_ports.specs.Shelves.{IsLack, ReadsFile};

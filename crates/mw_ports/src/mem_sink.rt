@@ -1,4 +1,4 @@
-//! A sink in memory, which tells its text and fails at named calls.
+//! A sink in memory, whose text a contract can see, and which fails at named calls.
 ghost use Rattle.std.specs.Prelude.{◌≡◌, ◌≢◌, ◌≤◌, ◌<◌, ◌⊎◌, ◌↔◌, ◌++◌, [], length, min, take, Some, IfOk, OnErr, IsErrOf, Contains};
 ghost use Rattle.mw_types.specs.Causes.{Counts, raised};
 

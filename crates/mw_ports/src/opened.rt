@@ -68,7 +68,7 @@ fn rest_of<F: Read>(alloc: Global, file: &mut F, limit: u64) -> Result<Bytes, Sh
     }
 }
 
-// Appends what one read gives, which must be at most `left` bytes, and tells how many it gave.
+// Appends what one read gives, which must be at most `left` bytes, and answers how many it gave.
 fn take_portion<F: Read>(
     file: &mut F,
     portion: &mut [u8],

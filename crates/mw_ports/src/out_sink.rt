@@ -1,4 +1,4 @@
-//! Standard output as a sink, which tells nothing.
+//! Standard output as a sink, whose text no contract can see.
 ghost use Rattle.std.specs.Prelude.{◌≡◌, ◌≢◌, ◌≤◌, ◌<◌, [], None, length, IfOk, IsErrOf};
 ghost use Rattle.mw_types.specs.Causes.{Counts};
 

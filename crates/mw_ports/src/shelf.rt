@@ -15,7 +15,7 @@ pub enum ShelfFault {
     Failed,
     /// The file has more bytes than were allowed.
     TooLong,
-    /// Memory was wanted and not to be had.
+    /// Memory ran out.
     NoMemory,
 }
 
@@ -32,7 +32,7 @@ impl From<NoMemory> for ShelfFault {
 
 /// Named files that can be read.
 pub trait Shelf: Drop {
-    /// The files that it holds, where it tells them.
+    /// The files that it holds, where a contract can see them.
     ghost files: { Self → Option Files };
 
     /// How often the outside world failed.
@@ -47,7 +47,7 @@ pub trait Shelf: Drop {
         ensures within { IfOk result (λ bytes. length bytes ≤ limit) }
         ensures told { IfSome (files self.old) (λ held. ReadsFile (held name.now) limit result) }
 
-        // Each refusal but want of memory has its cause.
+        // Each refusal has its cause, but for that memory ran out.
         ensures failed { HasCause (faults self.old) (faults self.new) result ShelfFault.Failed }
         ensures missing { HasCause (lacks self.old) (lacks self.new) result ShelfFault.Missing }
         ensures too_long { HasCause (lacks self.old) (lacks self.new) result ShelfFault.TooLong };

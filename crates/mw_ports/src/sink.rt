@@ -12,7 +12,7 @@ use std::alloc::AllocError;
 pub enum SinkFault {
     /// The outside world failed.
     Failed,
-    /// Memory was wanted and not to be had.
+    /// Memory ran out.
     NoMemory,
 }
 
@@ -40,13 +40,13 @@ impl From<AllocError> for SinkFault {
 
 /// Where bytes are appended.
 pub trait Sink: Drop {
-    /// What was written so far, where it tells it.
+    /// What was written so far, where a contract can see it.
     ghost text: { Self → Option (List ℕ) };
 
     /// How often the outside world failed.
     ghost faults: { Self → ℕ };
 
-    /// Appends a beginning of the piece, of at least one byte if it has any, and tells its length.
+    /// Appends a beginning of the piece, of at least one byte if it has any, and answers its length.
     fn write(&mut self, piece: &[u8]) -> Result<usize, SinkFault>
         ensures within { IfOk result (λ count. count ≤ length piece.now) }
         ensures some { IfOk result (λ count. piece.now ≢ [] → 0 < count) }

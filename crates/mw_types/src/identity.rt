@@ -20,8 +20,9 @@ pub struct RecordId {
 }
 
 impl RecordId {
-    /// The id as it is printed: a UUID of version 8, whose first free bits are the place and whose last
-    /// are the commit number.
+    /// The id as it is printed: a UUID of version 8. Beside the fixed bits of the version and the
+    /// variant, its first 48 bits are 0, the next 12 hold the place (`index`), and the last 62 the
+    /// commit number.
     pub fn uuid(&self, alloc: Global) -> Result<Name, NoMemory>
         requires commit { self.now.commit < 2 ^ 32 }
         requires index { self.now.index < 512 }

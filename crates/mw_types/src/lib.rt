@@ -2,9 +2,10 @@
 //!
 //! Texts and lists keep their representation to themselves, and contracts see them as lists; a key is
 //! its bytes. A short text lies in the value itself, and copies of a long `SharedList` share memory.
-//! Stands on std alone. Public contract: each call says which value it gives, and each refusal leaves
-//! everything as it was. Definitions: `specs/Bounds.antt`, what a state may be; `specs/Outcomes.antt`,
-//! what a handler leaves; `specs/Orders.antt`, how names, ids and timers are ordered.
+//! Stands on std and `uuid`. Public contract: each call says which value it gives, and each refusal
+//! leaves everything as it was. Definitions: `specs/Bounds.antt`, what a state may be;
+//! `specs/Outcomes.antt`, what a handler leaves; `specs/Orders.antt`, how names, ids and timers are
+//! ordered.
 #![tactic(auto)]
 
 mod delivery;

@@ -1,9 +1,9 @@
-//! Want of memory, and copies that may meet it.
+//! The refusal where memory ran out, and copies that may meet it.
 ghost use Rattle.std.specs.Prelude.{◌≡◌, IfOk};
 
 use std::alloc::{AllocError, AllocFailed, Global};
 
-/// Memory was wanted and not to be had.
+/// Memory ran out.
 #[derive(Clone, Copy, Debug, PartialEq, Eq)]
 pub struct NoMemory;
 

@@ -6,7 +6,7 @@ use crate::memory::NoMemory;
 pub enum KeyRefusal {
     /// The text has no byte, or more than 256.
     BadLength,
-    /// Memory was wanted and not to be had.
+    /// Memory ran out.
     NoMemory,
 }
 
@@ -29,7 +29,7 @@ pub enum PlanRefusal {
         /// The line's number.
         line: u32,
     },
-    /// Memory was wanted and not to be had.
+    /// Memory ran out.
     NoMemory,
 }
 

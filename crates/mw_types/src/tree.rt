@@ -315,7 +315,8 @@ where
 
 // Two sides as one tree, turned where one side is much higher.
 fn join<X: Drop>(alloc: Global, left: &Shared<X>, right: &Shared<X>) -> Result<Shared<X>, NoMemory>
-    ensures { IfOk result (λ t. (arc_value t).0 ≡ (arc_value left.now).0 ++ (arc_value right.now).0) }
+    ensures { IfOk result (λ t. (arc_value t).0
+        ≡ (arc_value left.now).0 ++ (arc_value right.now).0) }
 {
     if left.height() > right.height() + 1 {
         lean_left(alloc, left, right)
@@ -332,7 +333,8 @@ fn lean_left<X: Drop>(
     left: &Shared<X>,
     right: &Shared<X>,
 ) -> Result<Shared<X>, NoMemory>
-    ensures { IfOk result (λ t. (arc_value t).0 ≡ (arc_value left.now).0 ++ (arc_value right.now).0) }
+    ensures { IfOk result (λ t. (arc_value t).0
+        ≡ (arc_value left.now).0 ++ (arc_value right.now).0) }
 {
     let Node::Fork {
         left: outer,
@@ -365,7 +367,8 @@ fn lean_right<X: Drop>(
     left: &Shared<X>,
     right: &Shared<X>,
 ) -> Result<Shared<X>, NoMemory>
-    ensures { IfOk result (λ t. (arc_value t).0 ≡ (arc_value left.now).0 ++ (arc_value right.now).0) }
+    ensures { IfOk result (λ t. (arc_value t).0
+        ≡ (arc_value left.now).0 ++ (arc_value right.now).0) }
 {
     let Node::Fork {
         left: inner,

@@ -93,7 +93,7 @@ pub fn plain_unfinished(alloc: Global, case: &Case, run: &Run) -> Result<u64, No
 }
 
 /// Whether no work is left, so that each record that was handled is acknowledged: `IsFinished` of
-/// `history_laws`, `specs/Finished.antt`.
+/// `run_history`, `specs/Finished.antt`.
 pub fn plain_is_finished(alloc: Global, case: &Case, run: &Run) -> Result<bool, NoMemory>
     ensures finished { IfOk result (λ is. IsTrue is ↔ IsFinished case.now run.now) }
 {

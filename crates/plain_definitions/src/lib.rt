@@ -3,8 +3,8 @@
 //! A test hands the history of a run to these functions, which go through lists alone, anew at each
 //! call, and keep nothing. Stands on `run_history`, on what that stands on, and on `row_keeper`.
 //! Public contract: what a call answers is what its definition gives, and a truth value says whether
-//! its definition holds. A number that is too great for its type is refused as want of memory, and
-//! so is a history that can't be printed. The definitions are `specs/Handlers.antt` of
+//! its definition holds. A number that is too great for its type is refused as if memory ran out,
+//! and so is a history that can't be printed. The definitions are `specs/Handlers.antt` of
 //! `computations`, `specs/Contents.antt` of `row_parts`, and of `run_history` `specs/Made.antt`,
 //! `specs/Runs.antt`, `specs/Watermarks.antt`, `specs/Legal.antt`, `specs/Finished.antt` and
 //! `specs/Stored.antt`; there is none here. `plain_fences`, which stands above, adds fences.

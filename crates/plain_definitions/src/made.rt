@@ -65,7 +65,7 @@ fn late_cause(made: &[Delivery], entry: &Entry) -> bool
 
 /// What an entry makes under its commit number, after the deliveries that were made before it:
 /// `deliveries_of` and `emissions_of` of `run_history`, `specs/Made.antt`. An entry on no part, one
-/// with more than 8 productions and one after 2^32 others are refused as want of memory.
+/// with more than 8 productions and one after 2^32 others are refused as if memory ran out.
 pub fn plain_made(
     alloc: Global,
     topology: &Topology,

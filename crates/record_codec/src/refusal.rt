@@ -5,6 +5,6 @@
 pub enum RowRefusal {
     /// The bytes are no row's spelling.
     Damaged,
-    /// Memory was wanted and not to be had.
+    /// Memory ran out.
     NoMemory,
 }

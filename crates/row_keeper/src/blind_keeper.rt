@@ -1,4 +1,4 @@
-//! A keeper that tells nothing of its rows, and shows one row whatever was put.
+//! A keeper whose rows no contract can see, and which shows one row whatever was put.
 ghost use Rattle.std.specs.Prelude.{◌≡◌, ◌∷◌, [], All, if◌then◌else◌, map, true, Ok, None, IfErr, IfOk, IsOk};
 ghost use Rattle.key_intervals.specs.Intervals.{covers};
 ghost use Rattle.row_keeper.specs.Rows.{AreInOrder, entry_of};

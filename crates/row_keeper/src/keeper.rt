@@ -13,7 +13,7 @@ use std::alloc::Global;
 pub enum KeeperFault {
     /// The keeper failed.
     Failed,
-    /// Memory was wanted and not to be had.
+    /// Memory ran out.
     NoMemory,
 }
 
@@ -51,7 +51,7 @@ pub type KeptRowList = Seq<KeptRow>;
 
 /// What holds rows by their names. After a refusal it holds what it held before.
 pub trait Keeper: Drop {
-    /// The rows that it holds, where it tells them.
+    /// The rows that it holds, where a contract can see them.
     ghost rows: { Self → Option Rows };
 
     /// How often it failed.
@@ -66,7 +66,7 @@ pub trait Keeper: Drop {
         ensures failed { HasCause (faults self.old) (faults self.new) result KeeperFault.Failed };
 
     /// The rows of an interval, ascending by name. Any keeper keeps to the interval and the order, also
-    /// one that does not tell its rows.
+    /// one whose rows no contract can see.
     fn scan(&mut self, alloc: Global, bounds: &Bounds) -> Result<KeptRowList, KeeperFault>
         ensures within { IfOk result (λ found. IfSome (rows self.old)
             (λ held. map entry_of found ≡ rows_covered bounds.now held)) }

@@ -1,4 +1,4 @@
-//! A keeper in memory, which tells its rows and fails at named calls.
+//! A keeper in memory, whose rows a contract can see, and which fails at named calls.
 ghost use Rattle.std.specs.Prelude.{◌≡◌, [], All, map, slice_get, option_map, true, IfOk, OnErr, OnOk};
 ghost use Rattle.mw_types.specs.Orders.{row_cmp};
 ghost use Rattle.row_keeper.specs.Rows.{AreInOrder, entry_of, with_row};

@@ -23,7 +23,7 @@ fn has_keys(delivery: &Delivery)
     is_key(&delivery.item.key);
 }
 
-/// Appends a delivery whose id is above all of these. Refuses where memory is wanting, or
+/// Appends a delivery whose id is above all of these. Refuses where memory ran out, or
 /// 2^32 - 1 are there, and leaves the deliveries as they were.
 pub fn add_delivery(deliveries: &mut DeliveryList, delivery: Delivery) -> Result<(), NoMemory>
     requires deliveries { ArePending deliveries.old }

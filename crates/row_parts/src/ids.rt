@@ -16,7 +16,7 @@ pub fn has_id(ids: &[RecordId], id: RecordId) -> bool
     id_place(ids, id).is_ok()
 }
 
-/// Adds an id to these, in order; one that is there already stays. Refuses where memory is wanting,
+/// Adds an id to these, in order; one that is there already stays. Refuses where memory ran out,
 /// or 2^32 - 1 are there, and leaves the ids as they were.
 pub fn add_id(ids: &mut IdList, floor: u64, id: RecordId) -> Result<(), NoMemory>
     requires ids { AreSeen floor ids.old }

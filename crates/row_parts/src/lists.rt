@@ -25,7 +25,7 @@ pub trait Ranked: Spelled {
     ghost total: { IsTotalOrder rank };
 }
 
-/// Appends the bytes of a list. Refuses for want of memory alone, and may then have appended some.
+/// Appends the bytes of a list. Refuses only where memory ran out, and may then have appended some.
 pub fn put_list<X: Spelled>(out: &mut Vec<u8>, xs: &[X]) -> Result<(), NoMemory>
     requires { length xs.now < 2 ^ 32 }
     ensures written { let spelt = list_spelling X.spelling xs.now in

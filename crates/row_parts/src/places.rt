@@ -10,7 +10,7 @@ use mw_types::{Delivery, NoMemory, RecordId, Timer};
 // A list is shorter than 2^32, which is as far as its length is written.
 const LIST_MAX: usize = u32::MAX as usize;
 
-/// Whether a list of this length may have one more element. Refuses, as for want of memory, where
+/// Whether a list of this length may have one more element. Refuses, as if memory ran out, where
 /// 2^32 - 1 are there already.
 pub fn room(len: usize) -> Result<(), NoMemory>
     ensures { OnOk result (len + 1 < 2 ^ 32) }

@@ -7,7 +7,7 @@ use std::alloc::{AllocError, AllocFailed};
 pub enum StateRefusal {
     /// The bytes are no state's spelling.
     Damaged,
-    /// Memory was wanted and not to be had.
+    /// Memory ran out.
     NoMemory,
 }
 

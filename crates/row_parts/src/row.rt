@@ -59,7 +59,7 @@ impl Row {
     }
 
     /// Sets a timer, whose time is in whole microseconds. A pair that is set already stays one timer,
-    /// which is late only where both are. Refuses where memory is wanting, or 2^32 - 1 are set.
+    /// which is late only where both are. Refuses where memory ran out, or 2^32 - 1 are set.
     pub fn set_timer(&mut self, timer: Timer) -> Result<(), NoMemory>
         requires { timer.time ≤ MAX_STAMP }
         ensures ok { let timers = with_timer timer self.old.timers in
@@ -93,7 +93,7 @@ impl Row {
         id.commit < self.floor || has_id(self.seen.as_slice(), id)
     }
 
-    /// Notes that the row handled an id, which is not finished yet. Refuses where memory is wanting, or
+    /// Notes that the row handled an id, which is not finished yet. Refuses where memory ran out, or
     /// 2^32 - 1 are noted.
     pub fn note_handled(&mut self, id: RecordId) -> Result<(), NoMemory>
         requires id { IsId id }
@@ -105,7 +105,7 @@ impl Row {
     }
 
     /// Adds a delivery that the row produced; its id is above those of all that are pending. Refuses
-    /// where memory is wanting, or 2^32 - 1 are pending.
+    /// where memory ran out, or 2^32 - 1 are pending.
     pub fn add_pending(&mut self, delivery: Delivery) -> Result<(), NoMemory>
         requires id { IsId delivery.id }
         requires stamp { delivery.item.stamp ≤ MAX_STAMP }

@@ -46,7 +46,7 @@ fn put_spike(
     Ok(())
 }
 
-/// Appends the bytes of a state. Refuses for want of memory alone, and may then have appended some.
+/// Appends the bytes of a state. Refuses only where memory ran out, and may then have appended some.
 pub fn put_state(out: &mut Vec<u8>, state: &State) -> Result<(), NoMemory>
     requires { IsWithin state.now }
     ensures written { OnOk result (out.new.items ≡ out.old.items ++ state_spelling state.now) }

@@ -17,7 +17,7 @@ fn again(new: Timer, old: Timer) -> Timer
 }
 
 /// Sets a timer among these, in order; its time is in whole microseconds. A pair that is set already
-/// stays one timer. Refuses where memory is wanting, or 2^32 - 1 are there, and leaves the timers as
+/// stays one timer. Refuses where memory ran out, or 2^32 - 1 are there, and leaves the timers as
 /// they were.
 pub fn set_timer(timers: &mut TimerList, timer: Timer) -> Result<(), NoMemory>
     requires timers { AreTimers timers.old }

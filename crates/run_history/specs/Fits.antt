@@ -17,20 +17,20 @@ abbrev pub is_cursor_within : ℕ → State → Bool
 is_cursor_within lines (states.Injector cursor) = nat_le cursor lines
 is_cursor_within lines _ = false
 
--- whether a delivery was made by an entry before this number, and goes to a computation
+-- whether a delivery's id has a lower commit number than this, and the delivery goes to a computation
 abbrev pub is_sent_before : Shape → ℕ → Delivery → Bool
 is_sent_before shape number d =
     nat_lt d.id.commit number && nat_le (injectors_of shape) d.to.part && nat_lt d.to.part (parts_of shape)
 
--- whether a row's state and timers are those of a part: an injector's has a cursor within its lines, and no
--- timer
+-- whether a row suits a part: an injector's has no timer, and for its state a cursor within the injector's
+-- lines; a computation's has a state of its kind; no row suits a number without a part
 abbrev pub suits_part : CaseShape → ℕ → Contents → Bool
 suits_part case part row = if is_injector case.topology part
     then is_cursor_within (length (source_of case part)) row.state && (length row.timers == 0)
     else option_map_or (λ (kind : Kind). has_kind kind row.state) (kind_of case.topology part) false
 
--- whether a row fits a name, after a history of this length: its state and timers are those of the part, and
--- what is pending was made in the history and goes to computations
+-- whether a row fits a name, after a history of this length: the row suits the part, and each delivery that is
+-- pending goes to a computation, under an id whose commit number is below the length
 abbrev pub fits : CaseShape → ℕ → RowName → Contents → Bool
 fits case number name row =
     suits_part case name.part row && list_all (is_sent_before case.topology number) row.pending

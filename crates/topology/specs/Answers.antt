@@ -4,7 +4,7 @@ use Rattle.topology.specs.Shapes.{Shape, ComputationShape}
 use Rattle.topology.specs.declared.refusal.ShapeRefusal.{ShapeRefusal}
 use Rattle.topology.specs.declared.refusal.ShapeRefusal.TheVariants.{BadShape, NoMemory}
 
--- the answer is what is found, or that there is nothing, unless memory was wanting
+-- the answer is what is found, or that there is nothing, unless memory ran out
 abbrev pub Gives : {X : Type 0} → Result X ShapeRefusal → Option X → Type 0
 Gives (Ok x) found = found ≡ Some x
 Gives (Err BadShape) found = found ≡ None

@@ -22,7 +22,7 @@ pub enum TopologyRefusal {
     BadNumber,
     /// A cut has not 1 to 256 bytes, or the cuts of a computation do not ascend.
     BadCuts,
-    /// Memory was wanted and not to be had.
+    /// Memory ran out.
     NoMemory,
 }
 
@@ -42,7 +42,7 @@ impl From<NoMemory> for TopologyRefusal {
 pub(crate) enum ShapeRefusal {
     /// The value has another shape.
     BadShape,
-    /// Memory was wanted and not to be had.
+    /// Memory ran out.
     NoMemory,
 }
 

@@ -1,6 +1,6 @@
--- An example of an owner that was overtaken, worked by hand: a worker claims both intervals of the first example, its line is
--- injected, and another worker claims the interval of the count. The number of the first claim of the interval is 1, that of
--- the second is 3.
+-- An example of an owner that was overtaken, worked by hand: a worker claims both intervals of the first
+-- example, its line is injected, and another worker claims the interval of the count. The number of the first
+-- claim of the interval is 1, that of the second is 3.
 use Rattle.std.specs.Prelude.{ℕ, List, [], ◌∷◌}
 use Rattle.mw_types.specs.declared.entry.Entry.{Entry}
 use Rattle.mw_types.specs.declared.entry.Entry.TheVariants.{Claim, Inject, Handle}

@@ -84,7 +84,7 @@ row_closed = record {
   last = 5;
 }
 
--- all keys of a part
+-- the one interval of a part without cuts: all its keys
 abbrev pub whole_part : ℕ → Bounds
 whole_part part = record { part = part; from = []; to = None }
 

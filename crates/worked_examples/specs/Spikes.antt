@@ -1,6 +1,7 @@
 -- The example of a spike, worked by hand, handler by handler. Nine records of the key a fill three windows of
 -- 60, with 1, 1 and 7 records; or five records, with 1, 1 and 3. A spike compares a total with the two before
--- it: it is told where it is above three times their mean, so where twice it is above three times their sum.
+-- it: it is produced where it is above three times their mean, so where twice it is above three times their
+-- sum.
 use Rattle.std.specs.Prelude.{ℕ, pos, false, ℤ, List, [], ◌∷◌, fold, drop, true}
 use Rattle.mw_types.specs.declared.kind.Kind.{Kind}
 use Rattle.mw_types.specs.declared.kind.Kind.TheVariants as kinds
@@ -10,17 +11,19 @@ use Rattle.mw_types.specs.Outcomes.{Outcome}
 use Rattle.computations.specs.Handlers.{fresh_state, effects_of_record, effects_of_timer}
 use Rattle.worked_examples.specs.First.{key_a, record_at, end_of, window}
 
--- the kinds of the two computations
+-- the kind of the count
 abbrev pub counts_kind : Kind
 counts_kind = kinds.Count 60
 
+-- the kind of the spike
 abbrev pub spikes_kind : Kind
 spikes_kind = kinds.Spike 2 3
 
--- the timestamps of the nine records, and of the five
+-- the timestamps of the nine records
 abbrev pub nine_stamps : List ℕ
 nine_stamps = 0 ∷ 60 ∷ 120 ∷ 121 ∷ 122 ∷ 123 ∷ 124 ∷ 125 ∷ 126 ∷ []
 
+-- the timestamps of the five records
 abbrev pub five_stamps : List ℕ
 five_stamps = 0 ∷ 60 ∷ 120 ∷ 121 ∷ 122 ∷ []
 

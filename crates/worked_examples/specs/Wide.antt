@@ -28,17 +28,19 @@ use Rattle.worked_examples.specs.Drained.{injector_row, id_of}
 
 -- ---- the case
 
--- the keys h and h/x
+-- the key h
 abbrev pub key_h : List ℕ
 key_h = codes "h"
 
+-- the key h/x
 abbrev pub key_h_x : List ℕ
 key_h_x = codes "h/x"
 
--- the two injectors
+-- the left injector
 abbrev pub left_shape : InjectorShape
 left_shape = record { name = codes "left"; stream = codes "lefts" }
 
+-- the right injector
 abbrev pub right_shape : InjectorShape
 right_shape = record { name = codes "right"; stream = codes "rights" }
 
@@ -52,7 +54,7 @@ count_shape = record {
   cuts = key_h ∷ [];
 }
 
--- the spike: a total is told where it is above the one before it
+-- the spike: a total is produced where it is above the one before it
 abbrev pub spike_shape : ComputationShape
 spike_shape = record {
   name = codes "spikes";
@@ -80,13 +82,15 @@ line_of stated item = record {
   stated = stated;
 }
 
--- the three lines; between the left ones a watermark of 30 is stated, so the second is late
+-- the record of the left injector's first line
 abbrev pub left_first : Record
 left_first = item_of key_a 10 (pos 5) false
 
+-- that of its second line, which is late: between the two a watermark of 30 is stated
 abbrev pub left_second : Record
 left_second = item_of key_a 20 (pos 1) true
 
+-- that of the right injector's only line
 abbrev pub right_only : Record
 right_only = item_of key_h_x 70 (pos 1) false
 
@@ -103,10 +107,11 @@ wide_case = record {
 abbrev pub right_row : RowName
 right_row = record { part = 1; key = [] }
 
--- a row of the count, and a row of the spike
+-- the row that the count keeps for a key
 abbrev pub count_row : List ℕ → RowName
 count_row key = record { part = 2; key = key }
 
+-- the row that the spike keeps for a key
 abbrev pub spike_row : List ℕ → RowName
 spike_row key = record { part = 3; key = key }
 

@@ -4,7 +4,8 @@
 //! the prover evaluates them. Stands on `run_history`. The examples are `specs/First.antt` (one
 //! thread), `specs/Drained.antt` (the same with claims, acknowledgements and a purge),
 //! `specs/Wide.antt` (two injectors, a cut, and a spike) and `specs/Spikes.antt` (handlers alone).
-//! `specs/Overtaken.antt` and `specs/OwnWorks.antt` are examples of the crates above.
+//! `specs/Overtaken.antt` (a second claim), `specs/Rising.antt` (marks that rise) and
+//! `specs/OwnWorks.antt` (own work of intervals) are examples of the crates above.
 #![tactic(auto)]
 
 mod counts;

@@ -5,7 +5,7 @@ ghost use Rattle.computations.specs.Handlers.{fresh_state};
 ghost use Rattle.worked_examples.specs.Spikes.{spikes_kind, nine_stamps, five_stamps, counted_at, open_from, closed_at, holding, knowing, held_at, late_at, due_at, sets, keeps, produces};
 
 /// Nine records fill three windows, which the count produces; the spike holds the total of each,
-/// and tells the third, since `7 * 2` is above `3 * (1 + 1)`.
+/// and produces the third, since `7 * 2` is above `3 * (1 + 1)`.
 pub fn spike_above_three_times()
     ensures counted { counted_at nine_stamps ≡ open_from 0 7 }
 
@@ -22,7 +22,7 @@ pub fn spike_above_three_times()
     ensures second_known { let one = pos 1 ∷ [] in
         due_at (holding 120 1 one) 121 ≡ keeps (knowing (pos 1 ∷ pos 1 ∷ [])) }
 
-    // The third is told, and of those that are known the last two stay.
+    // The third is produced, and of those that are known the last two stay.
     ensures third_held { let two = pos 1 ∷ pos 1 ∷ [] in
         held_at (knowing two) 180 7 ≡ sets (holding 180 7 two) 181 }
     ensures third_told { let two = pos 1 ∷ pos 1 ∷ [] in

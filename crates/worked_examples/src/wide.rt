@@ -42,7 +42,7 @@ pub fn wide_example_has_its_numbers()
     ensures one_handled { wide_numbers 13 ≡ (120, 60, 5, 7) }
     ensures both_handled { wide_numbers 14 ≡ (120, 61, 5, 7) }
 
-    // Three of the first four deliveries are acknowledged, and then all.
+    // Four of the first five deliveries are acknowledged, and at the end all are.
     ensures acknowledged { wide_numbers 18 ≡ (120, 61, 6, 3) }
     ensures total_known { wide_numbers 20 ≡ (120, 120, 6, 2) }
     ensures second_closed { wide_numbers 21 ≡ (END, 120, 6, 3) }
