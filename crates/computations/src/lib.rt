@@ -14,8 +14,6 @@ mod pass;
 mod places;
 mod spike;
 mod tally;
-#[cfg(test)]
-mod tests;
 
 pub use computation::Computation;
 pub use context::Context;

@@ -3,6 +3,8 @@ ghost use Rattle.std.specs.Prelude.{IfOk, ◌≤◌};
 ghost use Rattle.mw_types.specs.declared.TheConstants.{MAX_STAMP};
 ghost use Rattle.mw_types.specs.Bounds.{IsWithin};
 
+mod handlers;
+mod histories;
 mod steps;
 
 use crate::plain_is_fenced;

@@ -13,8 +13,6 @@ mod history;
 mod lateness;
 mod line;
 mod made;
-#[cfg(test)]
-mod tests;
 mod text;
 
 pub use case::Case;

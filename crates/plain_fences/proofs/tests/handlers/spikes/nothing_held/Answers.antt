@@ -1,7 +1,7 @@
 use Rattle.std.proofs.Common.{length, subst, sym, ap, arith}
 use Rattle.mw_types.specs.Bounds.{AreHeld}
 use Rattle.computations.proofs.Fresh.{AreHeld-none}
-use Rattle.computations.proofs.tests.spikes.nothing_held.Goals as goal
+use Rattle.plain_fences.proofs.tests.handlers.spikes.nothing_held.Goals as goal
 
 pub returns-clause-within : goal.returns-clause-within
 returns-clause-within c = (

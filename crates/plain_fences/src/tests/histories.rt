@@ -1,10 +1,10 @@
-//! What no clause says: that ample memory is enough. The texts are tested at the top.
+//! The calls of `run_history`, for what no clause says: that ample memory is enough.
 ghost use Rattle.std.specs.Prelude.{◌<◌};
 ghost use Rattle.topology.specs.Shapes.{parts_of};
 
-use crate::{Case, History, emissions, first_row, make, production, result_text};
 use injector::{Items, ItemsList};
 use mw_types::{Entry, Key, NoMemory, Production, Record};
+use run_history::{Case, History, emissions, first_row, make, production, result_text};
 use std::alloc::Global;
 use std::test::Fail;
 use topology::Topology;

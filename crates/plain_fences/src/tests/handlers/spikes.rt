@@ -5,7 +5,7 @@ ghost use Rattle.mw_types.specs.Bounds.{IsWithin};
 ghost use Rattle.computations.specs.Parts.{HasState, kind_at};
 
 use super::{fresh, of_record, of_timer, watched};
-use crate::Kinds;
+use computations::Kinds;
 use mw_types::{
     Effects, HeldList, Key, KeyRefusal, MAX_STAMP, NoMemory, Record, State, Timer, ValueList,
 };

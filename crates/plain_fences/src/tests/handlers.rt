@@ -1,4 +1,4 @@
-//! The handlers of each kind, over a table of all three.
+//! The handlers of `computations`, over a table of all three kinds.
 ghost use Rattle.std.specs.Prelude.{◌≡◌, ◌≤◌, ◌^◌, Some, IfOk};
 ghost use Rattle.mw_types.specs.declared.kind.Kind.TheVariants as kinds;
 ghost use Rattle.mw_types.specs.Bounds.{IsWithin};
@@ -6,7 +6,7 @@ ghost use Rattle.computations.specs.Parts.{HasState, kind_at};
 
 mod spikes;
 
-use crate::{Computation, Context, Kinds};
+use computations::{Computation, Context, Kinds};
 use mw_types::{
     Effects, Key, Kind, KindTable, MAX_STAMP, NoMemory, Record, State, Timer, WindowList,
 };

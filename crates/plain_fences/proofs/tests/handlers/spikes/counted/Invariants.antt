@@ -1,6 +1,6 @@
 use Rattle.mw_types.specs.Bounds.{IsWithin}
 use Rattle.computations.specs.Parts.{HasState}
-use Rattle.computations.proofs.tests.spikes.counted.Given as goal
+use Rattle.plain_fences.proofs.tests.handlers.spikes.counted.Given as goal
 
 -- the count may have the state so far
 abbrev pub invariant-loop-stamp : goal.invariant-loop-stamp
