@@ -69,9 +69,9 @@ pub record KeepsMarks (old new : DeskView) : Type 0 where
   pub rise : (interval : ℕ) → mark_of old.marks interval ≤ mark_of new.marks interval
   pub same : old.alone ≡ true → new.marks ≡ old.marks
 
--- a desk has come to see what a note tells
+-- a desk has come to see what a note of its own book tells
 abbrev pub HasMet : Option Sight → DeskView → Type 0
-HasMet sight desk = IfSome sight (λ told. Begins told.seen desk.seen)
+HasMet sight desk = IfSome sight (λ told. (told.case ≡ desk.case) × Begins told.seen desk.seen)
 
 -- a note tells what a desk has seen, where it tells anything
 abbrev pub IsNoteOf : DeskView → Option Sight → Type 0

@@ -53,12 +53,7 @@ impl<'b, 'a, K: Keeper> Desk for OwnDesk<'b, 'a, K> {
         self.book.marks();
     }
 
-    fn claim(
-        &mut self,
-        alloc: Global,
-        worker: u32,
-        interval: u32,
-    ) -> Result<Claimed, DeskRefusal> {
+    fn claim(&mut self, alloc: Global, worker: u32, interval: u32) -> Result<Claimed, DeskRefusal> {
         match self.book.claim(alloc, worker, interval) {
             Ok(claimed) => Ok(claimed),
             Err(why) => Err(of_claim(why)),
