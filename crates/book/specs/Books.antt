@@ -7,8 +7,8 @@ use Rattle.row_keeper.specs.Rows.{Rows}
 use Rattle.run_history.specs.Cases.{CaseShape}
 
 -- all of a book but its case: the history, how many entries it may have, the rows that the keeper
--- holds where a contract can see them, how often the keeper failed, how much work the book counts as left, the
--- ids that it has as unacknowledged, each with its sender's row, and a mark for each interval
+-- holds where a contract can see them, how often the keeper failed, how much work the book counts as
+-- left, the ids that it has as unacknowledged, each with its sender's row, and a mark for each interval
 pub record CoreView : Type 0 where
   pub history : List Entry
   pub limit : ℕ

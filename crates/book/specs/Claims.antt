@@ -32,7 +32,8 @@ abbrev pub bytes_named : NamedRow → RowName × List ℕ
 bytes_named r = spelled (named r)
 
 -- the rows that a claim of an interval answers after a history fit their names, lie in the interval
--- and ascend by name; where a contract can see the keeper's rows they are those of the history that lie there
+-- and ascend by name; where a contract can see the keeper's rows they are those of the history that
+-- lie there
 pub record AreRowsOf {X : Type 0} (case : CaseShape) (told : Option X) (history : List Entry) (interval : ℕ)
     (rows : List NamedRow) : Type 0 where
   pub fit : All (λ (r : NamedRow). fits case (length history) r.name r.row ≡ true) rows

@@ -12,7 +12,8 @@ use Rattle.millwheel_cli.specs.declared.status.Status.TheVariants as status
 use Rattle.millwheel_cli.specs.Words.{Names, topology_limit, events_limit, files_named}
 use Rattle.millwheel_cli.specs.Files.{topology_taken, source_taken, HoldsAs, HoldsTopology}
 
--- what a call saw of a shelf: its files, where a contract can see them, and how its counts stood before and after
+-- what a call saw of a shelf: its files, where a contract can see them, and how its counts stood before and
+-- after
 pub record ShelfSeen : Type 0 where
   pub files : Option Files
   pub faults : ℕ × ℕ
@@ -75,6 +76,7 @@ abbrev pub answer_for : Files → Names → Status
 answer_for held names = ended (and_then (file_as held names.0 topology_limit topology_taken)
     (λ shape. file_as held names.1 events_limit source_taken))
 
--- the answer to these words over a shelf that holds these files, where nothing fails and memory does not run out
+-- the answer to these words over a shelf that holds these files, where nothing fails and memory does not run
+-- out
 abbrev pub answer_of : Files → List (List ℕ) → Status
 answer_of held words = option_map_or (answer_for held) (files_named words) Usage

@@ -29,8 +29,8 @@ suits_part case part row = if is_injector case.topology part
     then is_cursor_within (length (source_of case part)) row.state && (length row.timers == 0)
     else option_map_or (λ (kind : Kind). has_kind kind row.state) (kind_of case.topology part) false
 
--- whether a row fits a name, after a history of this length: the row suits the part, and each delivery that is
--- pending goes to a computation, under an id whose commit number is below the length
+-- whether a row fits a name, after a history of this length: the row suits the part, and each delivery that
+-- is pending goes to a computation, under an id whose commit number is below the length
 abbrev pub fits : CaseShape → ℕ → RowName → Contents → Bool
 fits case number name row =
     suits_part case name.part row && list_all (is_sent_before case.topology number) row.pending
