@@ -9,4 +9,3 @@ pub mod Claims
 pub mod Appending
 pub mod Sending
 pub mod Refusing
-pub mod TestBooks
