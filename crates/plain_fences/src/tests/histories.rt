@@ -1,8 +1,5 @@
-//! The calls of `run_history`, for what no clause says: that ample memory is enough.
-ghost use Rattle.std.specs.Prelude.{◌≡◌, ◌<◌};
-ghost use Rattle.topology.specs.Shapes.{parts_of};
-ghost use Rattle.topology.specs.Samples.{one_count};
-
+//! The calls of `run_history`, for what no clause says: that ample memory is enough. No helper has a
+//! clause, so that no test carries what the calls before have told.
 use injector::{Items, ItemsList};
 use mw_types::{Bytes, Entry, Key, NoMemory, Production, Record};
 use run_history::{Case, History, emissions, first_row, make, production, result_text};
@@ -40,23 +37,21 @@ fn counted(alloc: Global) -> Production {
 }
 
 // How many deliveries and emissions a part makes of a record that the count produces.
-fn sizes(alloc: Global, topology: &Topology, part: u32) -> Result<(usize, usize), NoMemory>
-    requires { part < parts_of topology.now }
-{
+fn sizes(alloc: Global, topology: &Topology, part: u32) -> Result<(usize, usize), NoMemory> {
+    if topology.parts() <= part {
+        return Err(NoMemory);
+    }
     let made = make(alloc, topology, part, &[counted(alloc)], false, 7)?;
     Ok((made.deliveries.len(), made.emissions.len()))
 }
 
 // The same of the injector and of the count.
-fn both_sizes(
-    alloc: Global,
-    topology: &Topology,
-) -> Result<((usize, usize), (usize, usize)), NoMemory>
-    requires { topology.now ≡ one_count 60 }
-{
+type Both = ((usize, usize), (usize, usize));
+
+// What both make of it.
+fn both_sizes(alloc: Global, topology: &Topology) -> Result<Both, NoMemory> {
     let injected = sizes(alloc, topology, 0)?;
-    let counted = sizes(alloc, topology, 1)?;
-    Ok((injected, counted))
+    Ok((injected, sizes(alloc, topology, 1)?))
 }
 
 #[test]
