@@ -4,10 +4,12 @@ ghost use Rattle.std.specs.Prelude.{◌≡◌, ◌∷◌, [], IfOk};
 ghost use Rattle.worked_examples.specs.Rising.{rise_case, row_closed, row_counted, row_injected};
 ghost use Rattle.book_tests.specs.TestBooks.{HasRisen, first_lease};
 
-use super::calls::report;
+use super::calls::{claim, fire, handle, inject, purge, report, settle};
 use super::example::{hands, none_open, two_line_case};
 use super::hands::Hands;
-use super::trials::{self, Sight, Trial, sight};
+use super::trials::{
+    Sight, Trial, fail_claim, fail_fire, fail_handle, fail_inject, fail_purge, fail_settle, sight,
+};
 use book::{Book, Claimed, Lease, Stale, StartRefusal, StartWhy, Written};
 use mw_types::{Bytes, CallList, Key, RowName, State};
 use row_keeper::{BlindKeeper, Keeper, KeptRow, MemKeeper};
@@ -81,7 +83,8 @@ fn try_rise<K: Keeper>(rt: &impl Abort, trial: Trial, book: Book<'_, K>)
     requires risen { HasRisen 0 book }
 {
     let mut book = book;
-    match trials::claim(rt, trial, &mut book, 0) {
+    fail_claim(rt, trial, &mut book, 0);
+    match claim(trial.alloc, &mut book, 0) {
         Ok(Claimed { lease, rows }) => {
             assert!(rt; rows.is_empty());
             try_second(rt, trial, &mut book, lease);
@@ -95,7 +98,8 @@ fn try_second<K: Keeper>(rt: &impl Abort, trial: Trial, book: &mut Book<'_, K>, 
     requires risen { HasRisen 1 book.old }
     requires source { source ≡ first_lease 0 }
 {
-    match trials::claim(rt, trial, book, 1) {
+    fail_claim(rt, trial, book, 1);
+    match claim(trial.alloc, book, 1) {
         Ok(Claimed { lease, rows }) => {
             assert!(rt; rows.is_empty());
             try_claimed(rt, trial, book, source, lease);
@@ -128,7 +132,8 @@ fn try_inject<K: Keeper>(rt: &impl Abort, trial: Trial, book: &mut Book<'_, K>, 
 {
     expect(rt, book, (2, 2, 1, 0, 0));
     let fresh = Row::new(trial.alloc, State::Injector { cursor: 0 });
-    match trials::inject(rt, trial, book, hands, &fresh) {
+    fail_inject(rt, trial, book, hands, &fresh);
+    match inject(trial.alloc, book, hands, &fresh) {
         Ok(Written { commit, row }) => {
             assert_eq!(rt; commit, 2);
             expect_sender(rt, book);
@@ -152,7 +157,8 @@ fn try_handle<K: Keeper>(
 {
     expect_mark(rt, report(book, &hands.source, 0, 3, 10), 10);
     let fresh = Row::new(trial.alloc, none_open(trial.alloc));
-    match trials::handle(rt, trial, book, hands, &fresh) {
+    fail_handle(rt, trial, book, hands, &fresh);
+    match handle(trial.alloc, book, hands, &fresh) {
         Ok(Written { commit, row }) => {
             assert_eq!(rt; commit, 3);
             expect(rt, book, (4, 2, 3, 10, 0));
@@ -176,7 +182,8 @@ fn try_settle<K: Keeper>(
     requires counted { counted.now ≡ row_counted }
 {
     expect_mark(rt, report(book, &hands.count, 1, 4, 60), 10);
-    match trials::settle(rt, trial, book, hands, injected) {
+    fail_settle(rt, trial, book, hands, injected);
+    match settle(trial.alloc, book, hands, injected) {
         Ok(Written { commit, row }) => {
             assert!(rt; commit == 4 && row.pending.is_empty());
             expect_no_sender(rt, book);
@@ -215,7 +222,8 @@ fn try_fire<K: Keeper>(
 {
     assert_eq!(rt; source_mark(book), 60);
     expect_mark(rt, report(book, &hands.count, 1, 5, 60), 60);
-    match trials::fire(rt, trial, book, hands, counted) {
+    fail_fire(rt, trial, book, hands, counted);
+    match fire(trial.alloc, book, hands, counted) {
         Ok(Written { commit, row }) => {
             assert_eq!(rt; commit, 5);
             expect(rt, book, (6, 6, 1, 60, 60));
@@ -236,7 +244,8 @@ fn try_purge<K: Keeper>(
     requires risen { HasRisen 6 book.old }
     requires closed { closed.now ≡ row_closed }
 {
-    match trials::purge(rt, trial, book, hands, closed) {
+    fail_purge(rt, trial, book, hands, closed);
+    match purge(trial.alloc, book, hands, closed) {
         Ok(Written { commit, row }) => {
             assert!(rt; commit == 6 && row.floor == 6 && row.seen.is_empty());
             expect(rt, book, (7, 7, 1, 60, 60));

@@ -1,19 +1,21 @@
-//! The calls of the example over a keeper that may fail: each is tried again where the keeper failed.
-ghost use Rattle.std.specs.Prelude.{◌≡◌, ◌<◌, ◌+◌, ◌∷◌, [], IfOk, OnErr, OnOk};
+//! The calls of the example over a keeper that fails at one of its calls: there the book stays as it was.
+//! The call is made again by the example, where it may not fail.
+ghost use Rattle.std.specs.Prelude.{◌≡◌, ◌<◌, ◌∷◌, []};
 ghost use Rattle.mw_types.specs.declared.state.State.TheVariants.{Count, Injector};
 ghost use Rattle.row_parts.specs.Contents.{fresh};
 ghost use Rattle.worked_examples.specs.Rising.{row_closed, row_counted, row_injected};
-ghost use Rattle.book_tests.specs.TestBooks.{HasRisen, first_lease};
+ghost use Rattle.book_tests.specs.TestBooks.{HasRisen};
 
-use super::calls;
+use super::calls::{claim, fire, handle, inject, purge, settle};
 use super::hands::Hands;
-use book::{Book, ClaimRefusal, Claimed, WriteRefusal, Written};
+use book::{Book, ClaimRefusal, WriteRefusal};
 use row_keeper::Keeper;
 use row_parts::Row;
 use std::alloc::Global;
 use std::process::Abort;
 
-// Where rows are allocated, and which call of the keeper fails, from 0.
+// Where rows are allocated, and which call of the keeper fails, from 0. Each call of the book uses the
+// keeper once.
 #[derive(Clone, Copy)]
 pub(crate) struct Trial {
     pub(crate) alloc: Global,
@@ -32,148 +34,151 @@ pub(crate) fn sight<K: Keeper>(book: &Book<'_, K>) -> Sight {
     (entries, book.floor(), book.unfinished(), source, count)
 }
 
-// Looks whether this call of the keeper failed exactly where it should, and then changed nothing.
-fn look(rt: &impl Abort, trial: Trial, call: u64, failed: bool, same: bool) {
-    assert!(rt; failed == (trial.failing == call), "at call {call}");
-    assert!(rt; same || !failed, "at call {call}");
-}
-
-// Whether a claim was refused since the keeper failed.
-fn claim_failed(claimed: &Result<Claimed, ClaimRefusal>) -> bool {
-    matches!(claimed, Err(ClaimRefusal::KeeperFault))
-}
-
-// Whether a write was refused since the keeper failed.
-fn write_failed(written: &Result<Written, WriteRefusal>) -> bool {
-    matches!(written, Err(WriteRefusal::KeeperFault))
-}
-
-// Claims an interval.
-pub(crate) fn claim<K: Keeper>(
+// Tries to claim an interval, where the keeper fails at that.
+pub(crate) fn fail_claim<K: Keeper>(
     rt: &impl Abort,
     trial: Trial,
     book: &mut Book<'_, K>,
     interval: u32,
-) -> Result<Claimed, ClaimRefusal>
+)
     requires risen { HasRisen interval book.old }
     requires interval { interval < 2 }
-    ensures claimed { OnOk result (HasRisen (interval + 1) book.new) }
-    ensures lease { IfOk result (λ claimed. claimed.lease ≡ first_lease interval) }
+    ensures stayed { HasRisen interval book.new }
 {
+    if trial.failing != u64::from(interval) + 1 {
+        return;
+    }
     let before = sight(book);
-    let first = calls::claim(trial.alloc, book, interval);
-    let call = u64::from(interval) + 1;
-    look(rt, trial, call, claim_failed(&first), before == sight(book));
-    match first {
-        Ok(claimed) => Ok(claimed),
-        Err(_why) => calls::claim(trial.alloc, book, interval),
+    match claim(trial.alloc, book, interval) {
+        Err(why) => {
+            assert!(rt; matches!(&why, ClaimRefusal::KeeperFault));
+            assert!(rt; before == sight(book));
+        }
+        Ok(_) => assert!(rt; false),
     }
 }
 
-// Injects the first line.
-pub(crate) fn inject<K: Keeper>(
+// Tries to inject the first line, where the keeper fails at that.
+pub(crate) fn fail_inject<K: Keeper>(
     rt: &impl Abort,
     trial: Trial,
     book: &mut Book<'_, K>,
     hands: &Hands,
     row: &Row,
-) -> Result<Written, WriteRefusal>
+)
     requires risen { HasRisen 2 book.old }
     requires row { row.now ≡ fresh (Injector 0) }
-    ensures written { OnOk result (HasRisen 3 book.new) }
-    ensures left { IfOk result (λ written. written.row ≡ row_injected) }
+    ensures stayed { HasRisen 2 book.new }
 {
+    if trial.failing != 3 {
+        return;
+    }
     let before = sight(book);
-    let first = calls::inject(trial.alloc, book, hands, row);
-    look(rt, trial, 3, write_failed(&first), before == sight(book));
-    match first {
-        Ok(written) => Ok(written),
-        Err(_) => calls::inject(trial.alloc, book, hands, row),
+    match inject(trial.alloc, book, hands, row) {
+        Err(why) => {
+            assert!(rt; why == WriteRefusal::KeeperFault);
+            assert!(rt; before == sight(book));
+        }
+        Ok(_) => assert!(rt; false),
     }
 }
 
-// Handles its record.
-pub(crate) fn handle<K: Keeper>(
+// Tries to handle its record, where the keeper fails at that.
+pub(crate) fn fail_handle<K: Keeper>(
     rt: &impl Abort,
     trial: Trial,
     book: &mut Book<'_, K>,
     hands: &Hands,
     row: &Row,
-) -> Result<Written, WriteRefusal>
+)
     requires risen { HasRisen 3 book.old }
     requires row { row.now ≡ fresh (Count 0 []) }
-    ensures written { OnOk result (HasRisen 4 book.new) }
-    ensures left { IfOk result (λ written. written.row ≡ row_counted) }
+    ensures stayed { HasRisen 3 book.new }
 {
+    if trial.failing != 4 {
+        return;
+    }
     let before = sight(book);
-    let first = calls::handle(trial.alloc, book, hands, row);
-    look(rt, trial, 4, write_failed(&first), before == sight(book));
-    match first {
-        Ok(written) => Ok(written),
-        Err(_) => calls::handle(trial.alloc, book, hands, row),
+    match handle(trial.alloc, book, hands, row) {
+        Err(why) => {
+            assert!(rt; why == WriteRefusal::KeeperFault);
+            assert!(rt; before == sight(book));
+        }
+        Ok(_) => assert!(rt; false),
     }
 }
 
-// Settles it.
-pub(crate) fn settle<K: Keeper>(
+// Tries to settle it, where the keeper fails at that.
+pub(crate) fn fail_settle<K: Keeper>(
     rt: &impl Abort,
     trial: Trial,
     book: &mut Book<'_, K>,
     hands: &Hands,
     row: &Row,
-) -> Result<Written, WriteRefusal>
+)
     requires risen { HasRisen 4 book.old }
     requires row { row.now ≡ row_injected }
-    ensures written { OnOk result (HasRisen 5 book.new) }
+    ensures stayed { HasRisen 4 book.new }
 {
+    if trial.failing != 5 {
+        return;
+    }
     let before = sight(book);
-    let first = calls::settle(trial.alloc, book, hands, row);
-    look(rt, trial, 5, write_failed(&first), before == sight(book));
-    match first {
-        Ok(written) => Ok(written),
-        Err(_) => calls::settle(trial.alloc, book, hands, row),
+    match settle(trial.alloc, book, hands, row) {
+        Err(why) => {
+            assert!(rt; why == WriteRefusal::KeeperFault);
+            assert!(rt; before == sight(book));
+        }
+        Ok(_) => assert!(rt; false),
     }
 }
 
-// Fires the timer of its window.
-pub(crate) fn fire<K: Keeper>(
+// Tries to fire the timer of its window, where the keeper fails at that.
+pub(crate) fn fail_fire<K: Keeper>(
     rt: &impl Abort,
     trial: Trial,
     book: &mut Book<'_, K>,
     hands: &Hands,
     row: &Row,
-) -> Result<Written, WriteRefusal>
+)
     requires risen { HasRisen 5 book.old }
     requires row { row.now ≡ row_counted }
-    ensures written { OnOk result (HasRisen 6 book.new) }
-    ensures left { IfOk result (λ written. written.row ≡ row_closed) }
+    ensures stayed { HasRisen 5 book.new }
 {
+    if trial.failing != 6 {
+        return;
+    }
     let before = sight(book);
-    let first = calls::fire(trial.alloc, book, hands, row);
-    look(rt, trial, 6, write_failed(&first), before == sight(book));
-    match first {
-        Ok(written) => Ok(written),
-        Err(_) => calls::fire(trial.alloc, book, hands, row),
+    match fire(trial.alloc, book, hands, row) {
+        Err(why) => {
+            assert!(rt; why == WriteRefusal::KeeperFault);
+            assert!(rt; before == sight(book));
+        }
+        Ok(_) => assert!(rt; false),
     }
 }
 
-// Purges its row.
-pub(crate) fn purge<K: Keeper>(
+// Tries to purge its row, where the keeper fails at that.
+pub(crate) fn fail_purge<K: Keeper>(
     rt: &impl Abort,
     trial: Trial,
     book: &mut Book<'_, K>,
     hands: &Hands,
     row: &Row,
-) -> Result<Written, WriteRefusal>
+)
     requires risen { HasRisen 6 book.old }
     requires row { row.now ≡ row_closed }
-    ensures written { OnOk result (HasRisen 7 book.new) }
+    ensures stayed { HasRisen 6 book.new }
 {
+    if trial.failing != 7 {
+        return;
+    }
     let before = sight(book);
-    let first = calls::purge(trial.alloc, book, hands, row);
-    look(rt, trial, 7, write_failed(&first), before == sight(book));
-    match first {
-        Ok(written) => Ok(written),
-        Err(_) => calls::purge(trial.alloc, book, hands, row),
+    match purge(trial.alloc, book, hands, row) {
+        Err(why) => {
+            assert!(rt; why == WriteRefusal::KeeperFault);
+            assert!(rt; before == sight(book));
+        }
+        Ok(_) => assert!(rt; false),
     }
 }
