@@ -222,23 +222,45 @@ fn walked(
     Ok((state, produced))
 }
 
-#[test]
-fn a_handler_sets_and_produces(rt: HostRuntime) -> Result<(), Fail> {
-    let alloc = rt.alloc();
-    let key = Key::none(alloc);
-    let state = State::Pass { late: 2 };
-    let item = Record {
+// A record at 10 of no key.
+fn record_at_10(alloc: Global) -> Record
+    ensures { result.stamp ≡ 10 }
+{
+    Record {
         key: Key::none(alloc),
         stamp: 10,
         value: 7,
         late: false,
-    };
-    let mut context = Context::for_record(alloc, &key, &state, &item)?;
-    assert!(rt; *context.key() == key && *context.state() == state);
+    }
+}
+
+// What a handler leaves that sets a timer and produces a record.
+fn left(alloc: Global) -> Result<Effects, NoMemory> {
+    let key = Key::none(alloc);
+    let state = State::Pass { late: 2 };
+    let mut context = Context::for_record(alloc, &key, &state, &record_at_10(alloc))?;
     context.set_timer(7, 11)?;
     context.produce(alloc, &key, 10, -1)?;
-    let effects = context.into_effects();
-    assert!(rt; effects.state == state && effects.timers.len() == 1);
-    assert_eq!(rt; effects.productions.len(), 1);
+    Ok(context.into_effects())
+}
+
+#[test]
+fn a_handler_sets_and_produces(rt: HostRuntime) -> Result<(), Fail> {
+    let effects = left(rt.alloc())?;
+    assert!(rt; effects.state == State::Pass { late: 2 });
+    assert!(rt; effects.timers.len() == 1 && effects.productions.len() == 1);
+    Ok(())
+}
+
+// Whether a context shows this key and state.
+fn shows(alloc: Global, key: &Key, state: &State) -> Result<bool, NoMemory> {
+    let context = Context::for_record(alloc, key, state, &record_at_10(alloc))?;
+    Ok(*context.key() == *key && *context.state() == *state)
+}
+
+#[test]
+fn a_context_shows_the_row(rt: HostRuntime) -> Result<(), Fail> {
+    let key = Key::none(rt.alloc());
+    assert!(rt; shows(rt.alloc(), &key, &State::Pass { late: 2 })?);
     Ok(())
 }

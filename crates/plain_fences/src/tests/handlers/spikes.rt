@@ -1,12 +1,13 @@
 //! The handlers of a spike, over the counts of a count, and of a pass.
-ghost use Rattle.std.specs.Prelude.{◌≡◌, Some, IfOk};
+ghost use Rattle.std.specs.Prelude.{◌≡◌, Some};
 ghost use Rattle.mw_types.specs.declared.kind.Kind.TheVariants as kinds;
 ghost use Rattle.mw_types.specs.Bounds.{IsWithin};
 ghost use Rattle.computations.specs.Parts.{HasState, kind_at};
 
 use super::{Deed, Produced, fresh, of_record, walked, watched};
+use crate::tests::key_of;
 use computations::Kinds;
-use mw_types::{Effects, HeldList, Key, KeyRefusal, NoMemory, Record, Seq, State, ValueList};
+use mw_types::{Effects, HeldList, Key, NoMemory, Record, Seq, State, ValueList};
 use std::alloc::Global;
 use std::process::Abort;
 use std::test::Fail;
@@ -182,19 +183,6 @@ fn of_two_totals_due_at_the_end_the_first_goes(rt: HostRuntime) -> Result<(), Fa
     expect_spike(&rt, rt.alloc(), &AT_THE_END, 0, &[2, 1], &[])
 }
 
-// A record of the key `h/x`.
-fn slashed(alloc: Global, key: &str, late: bool) -> Result<Record, KeyRefusal>
-    ensures { IfOk result (λ item. item.stamp ≡ 5) }
-{
-    let key = Key::of(alloc, key)?;
-    Ok(Record {
-        key,
-        stamp: 5,
-        value: -3,
-        late,
-    })
-}
-
 // A handler produced the record of the key `h/x` again, and set no timer.
 fn expect_passed(rt: &impl Abort, effects: &Effects) {
     assert!(rt; effects.timers.is_empty());
@@ -211,7 +199,12 @@ fn expect_passed(rt: &impl Abort, effects: &Effects) {
 fn passes(rt: &impl Abort, alloc: Global, late: bool, after: u64) -> Result<(), Fail> {
     let work = watched(alloc)?;
     let state = nothing_passed(&work);
-    let item = slashed(alloc, "h/x", late)?;
+    let item = Record {
+        key: key_of(alloc, "h/x")?,
+        stamp: 5,
+        value: -3,
+        late,
+    };
     let effects = of_record(alloc, &work, 3, &Key::none(alloc), &state, &item)?;
     expect_passed(rt, &effects);
     assert!(rt; effects.state == State::Pass { late: after });
