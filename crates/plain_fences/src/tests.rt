@@ -5,7 +5,9 @@ ghost use Rattle.mw_types.specs.Bounds.{IsWithin};
 
 mod handlers;
 mod histories;
+mod rows;
 mod steps;
+mod topologies;
 
 use crate::plain_is_fenced;
 use injector::{Items, read_lines};

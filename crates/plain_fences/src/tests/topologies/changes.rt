@@ -1,8 +1,8 @@
 //! A file with a computation of each kind, and what reading it gives with one place changed.
-use crate::{TopologyRefusal, read};
 use mw_types::NoMemory;
 use std::alloc::Global;
 use std::process::Abort;
+use topology::{TopologyRefusal, read};
 
 /// One injector, and a computation of each kind.
 pub(crate) const FILE: &str =

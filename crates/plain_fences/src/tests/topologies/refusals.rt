@@ -1,8 +1,8 @@
 //! What is refused, by which rule.
 use super::changes::{changes_give, refusal, refused};
-use crate::TopologyRefusal;
 use mw_types::NoMemory;
 use std::alloc::Global;
+use topology::TopologyRefusal;
 
 #[test]
 fn bytes_that_are_no_json_are_refused(rt: HostRuntime) {

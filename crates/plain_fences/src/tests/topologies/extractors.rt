@@ -1,9 +1,9 @@
 //! The keys that the three extractors make.
 use super::changes::sides;
-use crate::{By, extract};
 use mw_types::{Key, KeyRefusal};
 use std::alloc::Global;
 use std::process::Abort;
+use topology::{By, extract};
 
 // What an extractor makes of a key.
 fn extracted(alloc: Global, by: By, text: &str) -> Result<Key, KeyRefusal> {

@@ -1,11 +1,11 @@
 //! What a topology tells of its parts. No helper has a clause, so that no test carries what the calls
 //! before have told.
 use super::changes::FILE;
-use crate::{By, Subscription, Topology, read};
 use mw_types::{Kind, KindTable};
 use std::alloc::Global;
 use std::process::Abort;
 use std::test::Fail;
+use topology::{By, Subscription, Topology, read};
 
 // Compares the kind of a computation.
 fn kind_is(rt: &impl Abort, topology: &Topology, part: u32, kind: Kind) {

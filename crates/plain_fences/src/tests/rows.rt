@@ -1,10 +1,10 @@
-use super::*;
+//! The row of one key, and the bytes of states. No helper has a clause, so that no test carries what the
+//! calls before have told.
 use mw_types::{Delivery, Duplicate, Key, NoMemory, Record, RecordId, RowName, State, Timer};
+use row_parts::{Row, StateRefusal, read_state, state_bytes};
 use std::alloc::Global;
 use std::process::Abort;
 use std::test::*;
-
-// The helpers have no clauses, so that no test carries what the calls before have told.
 
 // A row to which nothing has happened yet.
 fn fresh(alloc: Global) -> Row {
