@@ -13,4 +13,3 @@ pub mod SentLaws
 pub mod Growing
 pub mod ProposalLaws
 pub mod FirstLaws
-pub mod TestLaws

@@ -12,4 +12,3 @@ pub mod DeskReasons
 pub mod Appending
 pub mod Sending
 pub mod Refusing
-pub mod TestBooks

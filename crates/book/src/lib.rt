@@ -24,8 +24,6 @@ mod refusals;
 mod reports;
 mod rows;
 mod sender_map;
-#[cfg(test)]
-mod tests;
 mod work_left;
 mod writes;
 
