@@ -2,7 +2,7 @@
 -- Akidau et al., VLDB 2013, sections 4.5 and 4.6, for the low watermark under which timers fire. Own: the
 -- order, in which a rule applies only where the earlier ones have nothing to do. The sequencer and effects of
 -- an entry are not named here, since a fenced and legal history leaves no choice of them.
-use Rattle.std.specs.Prelude.{◌≡◌, ◌≢◌, ◌<◌, ◌≤◌, ◌+◌, ◌⊎◌, ◌++◌, ◌∷◌, [], ⊥, ℕ, Bool, true, false, ◌&&◌, nat_lt, nat_le, List, length, Some, Contains}
+use Rattle.std.specs.Prelude.{◌≡◌, ◌≢◌, ◌<◌, ◌≤◌, ◌+◌, ◌⊎◌, ◌++◌, ◌∷◌, [], ℕ, Bool, true, false, ◌&&◌, nat_lt, nat_le, List, length, Some, Contains}
 use Rattle.std.specs.Ordering.{is_gt, nat_cmp, ordering_then}
 use Rattle.mw_types.specs.Orders.{row_cmp, timer_cmp, key_cmp}
 use Rattle.mw_types.specs.declared.identity.RecordId.{RecordId}

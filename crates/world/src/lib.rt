@@ -1,6 +1,11 @@
 //! The order in which one thread works everything off, and the laws of that order.
 //!
 //! A drain claims each interval, and then writes the one entry that its rules name, until none is
-//! left to write. Stands on `book` and the crates below it. Definition: `specs/Drains.antt`, which is
-//! to be read from the top.
+//! left to write. Each law is the contract of a function with an empty body. Stands on `book` and the
+//! crates below it. Public contract: after a history a drain has one next entry at most, and none
+//! once it has ended. Definition: `specs/Drains.antt`, which is to be read from the top.
 #![tactic(auto)]
+
+mod drains;
+
+pub use drains::{ended_drains_have_no_next_entry, next_drain_entries_are_one};
