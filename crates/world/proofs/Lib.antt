@@ -1,2 +1,4 @@
 pub mod Firsts
 pub mod OneStep
+pub mod Marked
+pub mod PassLaws
