@@ -2,3 +2,4 @@ pub mod Firsts
 pub mod OneStep
 pub mod Marked
 pub mod PassLaws
+pub mod EndLaws

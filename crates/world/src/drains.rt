@@ -2,8 +2,12 @@
 ghost use Rattle.std.specs.Prelude.{ℕ, List, ◌≡◌, ◌++◌, ◌∷◌, []};
 ghost use Rattle.mw_types.specs.declared.entry.Entry.{Entry};
 ghost use Rattle.run_history.specs.Cases.{CaseShape};
+ghost use Rattle.run_history.specs.Runs.{run_of};
+ghost use Rattle.run_history.specs.Legal.{IsLegal};
+ghost use Rattle.run_history.specs.Finished.{IsFinished};
+ghost use Rattle.run_history.specs.Inputs.{IsRunnable};
 ghost use Rattle.history_laws.specs.Writes.{IsLegalAndFenced};
-ghost use Rattle.world.specs.Drains.{HasEnded, IsDrainStep};
+ghost use Rattle.world.specs.Drains.{HasEnded, HasInjected, IsDrainStep};
 
 /// Two entries that come next in a drain after one history are the same, where the history is legal
 /// and fenced with each.
@@ -18,4 +22,12 @@ pub fn next_drain_entries_are_one()
 pub fn ended_drains_have_no_next_entry()
     ensures none { (case : CaseShape) (from : ℕ) (history : List Entry) (entry : Entry) →
         HasEnded case from history → IsDrainStep case from history entry → ⊥ }
+{}
+
+/// No work is left once a drain has acknowledged, fired and injected all that it can, and so none
+/// is when it ends.
+pub fn drains_leave_no_work()
+    ensures finished { (case : CaseShape) (from : ℕ) (history : List Entry) →
+        IsRunnable case → IsLegal case history → HasInjected case from history →
+        IsFinished case (run_of case.topology history) }
 {}
