@@ -1,6 +1,6 @@
 -- Where nothing is unacknowledged, no timer is due and no line is left, no timer is set, and no work is left.
-use Rattle.std.proofs.Common.{◌≡◌, ℕ, zero, suc, ◌+◌, ◌<◌, ◌≤◌, Bool, true, false, cond, List, [], ◌∷◌, ◌++◌, length, refl, sym, ◌∙◌, ap, subst, arith, inl, inr}
-use Rattle.std.specs.Prelude.{◌⊎◌, Option, Some, None, Contains, MatchBool, filter, slice_get, unwrap_or}
+use Rattle.std.proofs.Common.{◌≡◌, ℕ, zero, suc, ◌+◌, ◌<◌, ◌≤◌, Bool, true, false, List, [], ◌∷◌, ◌++◌, length, refl, sym, ◌∙◌, ap, subst, arith, inl, inr}
+use Rattle.std.specs.Prelude.{◌⊎◌, Option, Some, Contains, MatchBool, unwrap_or}
 use Rattle.std.specs.List.{AllByRecursion, flat_map, range_with_len}
 use Rattle.std.specs.Option.{option_map_or}
 use Rattle.std.specs.BTreeMap.{is_at}
@@ -28,9 +28,8 @@ use Rattle.run_history.proofs.Lists.{none_some, each-weaker}
 use Rattle.run_history.proofs.Lookups.{each_found}
 use Rattle.history_laws.specs.Ids.{IsSentBy}
 use Rattle.history_laws.proofs.FeedLaws.{feeds-before}
-use Rattle.history_laws.proofs.FitLaws.{AreOfKind, legal-of_kind}
 use Rattle.history_laws.proofs.LowLaws.{AreRowsInOrder, rows-in_order, LowFrom, from-low}
-use Rattle.history_laws.proofs.PendingLaws.{AreSent, legal-sent}
+use Rattle.history_laws.proofs.PendingLaws.{legal-sent}
 use Rattle.history_laws.proofs.StampLaws.{AreInTime, InTime, legal-in_time, row_of-in_time}
 use Rattle.history_laws.proofs.UnfinishedLaws.{filter-nil}
 use Rattle.history_laws.proofs.WorkLaws.{DueFrom, WaitsFrom, IsWorkFrom, FeedsFrom}

@@ -1,25 +1,21 @@
 -- What is least in an order is one, and what is pending, where nothing is.
-use Rattle.std.proofs.Common.{◌≡◌, ℕ, ◌+◌, ◌≤◌, Bool, true, false, List, [], ◌∷◌, refl, sym, ◌∙◌, ap, subst, arith}
-use Rattle.std.specs.Prelude.{Some, None, IsSome, nat_lt}
+use Rattle.std.proofs.Common.{◌≡◌, ℕ, false, List, [], refl, sym, ◌∙◌, ap}
 use Rattle.std.specs.Cmp.{IsTotalOrder, then_total, on_total, nat_cmp_total}
 use Rattle.std.specs.Ordering.{is_gt, is_eq, nat_cmp, ordering_then, ordering_reverse}
 use Rattle.std.specs.declared.cmp.Ordering.{Ordering}
 use Rattle.std.specs.declared.cmp.Ordering.TheVariants.{Less, Equal, Greater}
-use Rattle.std.specs.List.{AllByRecursion}
 use Rattle.std.proofs.lemmas.Map.Lookups.{exact_unsigned, exact_bytes}
 use Rattle.mw_types.specs.Orders.{id_cmp, row_cmp, timer_cmp, key_cmp}
 use Rattle.mw_types.proofs.OrderLaws.{id_cmp-total, row_cmp-total, key_cmp-total}
 use Rattle.mw_types.specs.declared.identity.RecordId.{RecordId}
 use Rattle.mw_types.specs.declared.identity.RowName.{RowName}
-use Rattle.mw_types.specs.declared.delivery.Delivery.{Delivery}
 use Rattle.mw_types.specs.declared.timer.Timer.{Timer}
 use Rattle.topology.specs.Shapes.{Shape}
 use Rattle.row_parts.specs.Contents.{Contents, fresh}
 use Rattle.run_history.specs.Cases.{fresh_of}
-use Rattle.run_history.specs.Made.{found_delivery}
 use Rattle.run_history.specs.Runs.{Run, row_of}
 use Rattle.run_history.specs.Finished.{all_pending}
-use Rattle.run_history.proofs.Lists.{none_some, found_of_each}
+use Rattle.run_history.proofs.Lists.{found_of_each}
 use Rattle.history_laws.proofs.RowSteps.{both_Equal, same_row}
 use Rattle.history_laws.proofs.UnfinishedLaws.{flat_map-nil}
 

@@ -1,5 +1,5 @@
 -- Two entries that come next in a drain after one history are the same, where both may follow it and are fenced.
-use Rattle.std.proofs.Common.{◌≡◌, ◌≢◌, ℕ, ◌+◌, ◌<◌, ◌≤◌, Bool, true, false, List, [], ◌∷◌, ◌++◌, ◌⊎◌, length, refl, sym, ◌∙◌, ap, subst, arith, inl, inr}
+use Rattle.std.proofs.Common.{◌≡◌, ℕ, false, List, [], ◌∷◌, ◌++◌, ◌⊎◌, refl, sym, ◌∙◌, ap, subst, arith, inl, inr}
 use Rattle.std.specs.Prelude.{Some, None, IsSome, Contains, slice_get}
 use Rattle.std.specs.Option.{option_map, option_and_then}
 use Rattle.std.proofs.lemmas.Bool.{both_ways}
@@ -12,16 +12,14 @@ use Rattle.mw_types.specs.declared.entry.Entry.{Entry}
 use Rattle.mw_types.specs.declared.entry.Entry.TheVariants.{Claim, Inject, Handle, Fire, Ack, Purge}
 use Rattle.mw_types.specs.Outcomes.{Outcome}
 use Rattle.injector.specs.Sources.{item_at}
-use Rattle.topology.specs.Rules.{interval_count}
-use Rattle.topology.specs.Shapes.{Shape}
 use Rattle.run_history.specs.Cases.{CaseShape, source_of, record_of}
 use Rattle.run_history.specs.Made.{found_delivery, row_written}
 use Rattle.run_history.specs.Runs.{Run, run_of, row_of, empty_run}
 use Rattle.run_history.specs.Watermarks.{cursor_of, low_watermark}
-use Rattle.run_history.specs.Legal.{MayFollow, MayInject, MayHandle, MayFire, IsLegal, record_outcome, timer_outcome, floor_of}
+use Rattle.run_history.specs.Legal.{MayFollow, MayInject, MayHandle, MayFire, IsLegal, record_outcome, timer_outcome}
 use Rattle.run_history.specs.Fences.{IsFenced, IsUnderLastClaim, sequencer_of}
-use Rattle.run_history.specs.Finished.{all_pending, is_handled, injectors_left}
-use Rattle.run_history.proofs.Lists.{none_some, some_same}
+use Rattle.run_history.specs.Finished.{is_handled}
+use Rattle.run_history.proofs.Lists.{some_same}
 use Rattle.run_history.proofs.Beginnings.{Begins-itself}
 use Rattle.history_laws.proofs.Along.{AreLegal-apart}
 use Rattle.history_laws.proofs.SenderLaws.{one_sender}
@@ -308,8 +306,13 @@ module _ (case : CaseShape) (from : ℕ) (history : List Entry) where
   by_rule (Ack seq row id) x f = inr (x.earlier, inl (seq, row, id, refl, x, f))
   by_rule (Purge seq row floor) (inl x) f =
       inr (x.waits.earlier, inr (waits-unhandled x.id row x.waits, inl (seq, row, floor, refl, x, f)))
-  by_rule (Handle seq row id effects) x f = inr (x.waits.earlier, inr (waits-unhandled id row x.waits,
-      inr (waits-room id row x, inl (seq, row, id, effects, refl, x, f))))
+  by_rule (Handle seq row id effects) x f = inr (
+    x.waits.earlier,
+    inr (
+      waits-unhandled id row x.waits,
+      inr (waits-room id row x, inl (seq, row, id, effects, refl, x, f)),
+    ),
+  )
   by_rule (Fire seq row timer mark effects) x f =
       after (Fire seq row timer mark effects) x.earlier (inl (seq, row, timer, mark, effects, refl, x, f))
   by_rule (Inject seq part line item) x f =

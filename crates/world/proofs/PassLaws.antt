@@ -1,6 +1,6 @@
 -- After one pass of reports each mark is the greatest that is safe, and where nothing is pending the least of a computation's marks
 -- is its low watermark.
-use Rattle.std.proofs.Common.{◌≡◌, ℕ, zero, suc, ◌+◌, ◌<◌, ◌≤◌, ◌==◌, Bool, true, false, cond, List, [], ◌∷◌, ◌++◌, length, map, fold, max, min, refl, sym, ◌∙◌, ap, subst, arith, inl, inr}
+use Rattle.std.proofs.Common.{◌≡◌, ℕ, zero, suc, ◌+◌, ◌<◌, ◌≤◌, ◌==◌, Bool, true, false, cond, List, [], ◌∷◌, length, map, fold, min, refl, sym, ◌∙◌, ap, subst, arith, inl, inr}
 use Rattle.std.specs.Prelude.{Option, Some, None, MatchBool, slice_get, unwrap_or, ◌-◌, nat_eq}
 use Rattle.std.specs.Cmp.Lexicographic.{pointwise}
 use Rattle.std.specs.List.{AllByRecursion, enumerate_from, filter_map, list_any}
@@ -23,13 +23,13 @@ use Rattle.run_history.specs.Marks.{own_work, IsSafe}
 use Rattle.run_history.proofs.Lists.{some_same, each-weaker, each-map}
 use Rattle.history_laws.proofs.FeedLaws.{feeds-before}
 use Rattle.history_laws.proofs.FitLaws.{AreOfKind, legal-of_kind}
-use Rattle.history_laws.proofs.LowLaws.{AreRowsInOrder, rows-in_order, least-end, least-bound, bound-each, low-from, low_under-end, LowFrom, LowFrom-any_depth, each-every}
+use Rattle.history_laws.proofs.LowLaws.{AreRowsInOrder, rows-in_order, least-bound, bound-each, low-from, low_under-end, LowFrom, LowFrom-any_depth, each-every}
 use Rattle.history_laws.proofs.WorkLaws.{DueFrom, FeedsFrom}
-use Rattle.history_laws.proofs.OwnLaws.{PendsFrom, IsPartFrom, IsRowFrom}
-use Rattle.history_laws.proofs.MarkLaws.{interval-there, OfBounds, own-from, from-own, own-end, WorkFrom, IsAboveFrom, feeds-above, IsSafeFrom, safe-from}
+use Rattle.history_laws.proofs.OwnLaws.{PendsFrom, IsPartFrom}
+use Rattle.history_laws.proofs.MarkLaws.{interval-there, from-own, own-end, WorkFrom, IsAboveFrom, feeds-above, IsSafeFrom, safe-from}
 use Rattle.history_laws.proofs.ReportLaws.{IsSafe-reported, marks-low}
 use Rattle.watermark.specs.Marks.{mark_of, marks_of, numbers_in, feeding_marks}
-use Rattle.book.specs.Marks.{IsSafeAt, AreSafe, reported, with_mark}
+use Rattle.book.specs.Marks.{AreSafe, reported, with_mark}
 use Rattle.book.proofs.MarkSteps.{AreSafe-raised, length-with_mark}
 use Rattle.world.specs.Passes.{with_report, pass_of}
 use Rattle.world.proofs.Firsts.{none-row_of}
