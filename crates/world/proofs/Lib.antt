@@ -1,0 +1,6 @@
+pub mod Firsts
+pub mod OneStep
+pub mod WholeDrains
+pub mod Marked
+pub mod PassLaws
+pub mod EndLaws

@@ -1,0 +1,42 @@
+//! What comes next in a drain.
+ghost use Rattle.std.specs.Prelude.{ℕ, List, length, ◌≡◌, ◌++◌, ◌∷◌, []};
+ghost use Rattle.mw_types.specs.declared.entry.Entry.{Entry};
+ghost use Rattle.run_history.specs.Cases.{CaseShape};
+ghost use Rattle.run_history.specs.Runs.{run_of};
+ghost use Rattle.run_history.specs.Legal.{IsLegal};
+ghost use Rattle.run_history.specs.Finished.{IsFinished};
+ghost use Rattle.run_history.specs.Inputs.{IsRunnable};
+ghost use Rattle.history_laws.specs.Writes.{IsLegalAndFenced};
+ghost use Rattle.world.specs.Drains.{HasEnded, HasInjected, IsDrainStep, IsDrained};
+
+/// Two entries that come next in a drain after one history are the same, where the history is legal
+/// and fenced with each.
+pub fn next_drain_entries_are_one()
+    ensures same { (case : CaseShape) (from : ℕ) (history : List Entry) (one other : Entry) →
+        IsDrainStep case from history one → IsLegalAndFenced case (history ++ one ∷ []) →
+        IsDrainStep case from history other → IsLegalAndFenced case (history ++ other ∷ []) →
+        one ≡ other }
+{}
+
+/// Nothing comes next once a drain has ended.
+pub fn ended_drains_have_no_next_entry()
+    ensures none { (case : CaseShape) (from : ℕ) (history : List Entry) (entry : Entry) →
+        HasEnded case from history → IsDrainStep case from history entry → ⊥ }
+{}
+
+/// Two histories that are drained from one beginning on are the same, where both are legal and
+/// fenced.
+pub fn drained_histories_are_one()
+    ensures same { (case : CaseShape) (front one other : List Entry) →
+        IsDrained case (length front) (front ++ one) → IsLegalAndFenced case (front ++ one) →
+        IsDrained case (length front) (front ++ other) → IsLegalAndFenced case (front ++ other) →
+        one ≡ other }
+{}
+
+/// No work is left once a drain has acknowledged, fired and injected all that it can, and so none
+/// is when it ends.
+pub fn drains_leave_no_work()
+    ensures finished { (case : CaseShape) (from : ℕ) (history : List Entry) →
+        IsRunnable case → IsLegal case history → HasInjected case from history →
+        IsFinished case (run_of case.topology history) }
+{}
