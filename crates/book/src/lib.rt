@@ -18,14 +18,13 @@ mod desk_refusal;
 mod entries;
 mod fitting;
 mod lease;
+mod own_desk;
 mod pending;
 mod proposal;
 mod refusals;
 mod reports;
 mod rows;
 mod sender_map;
-#[cfg(test)]
-mod tests;
 mod work_left;
 mod writes;
 
@@ -35,5 +34,6 @@ pub use books::Book;
 pub use desk::{Desk, Seen};
 pub use desk_refusal::DeskRefusal;
 pub use lease::Lease;
+pub use own_desk::OwnDesk;
 pub use proposal::Proposal;
 pub use refusals::{ClaimRefusal, Stale, StartRefusal, StartWhy, WriteRefusal};

@@ -64,6 +64,18 @@ fn sink(alloc: Global) -> MemSink {
     MemSink::of(alloc, 65536, CallList::new(alloc), CallList::new(alloc))
 }
 
+// What a call with these words answers, and writes to a sink. No other function calls the program, since
+// each that does carries what its clauses tell.
+fn called(
+    alloc: Global,
+    text: &str,
+    shelf: &mut MemShelf,
+    out: &mut MemSink,
+) -> Result<FirstDone, NoMemory> {
+    let words = words(alloc, text)?;
+    Ok(millwheel_alone(alloc, words.as_slice(), shelf, out))
+}
+
 // What a call with these words and events answers and writes.
 fn answer(
     alloc: Global,
@@ -72,33 +84,49 @@ fn answer(
     out: &mut MemSink,
 ) -> Result<FirstDone, NoMemory> {
     let mut shelf = shelf(alloc, TOPOLOGY, events, CallList::new(alloc))?;
-    let words = words(alloc, text)?;
-    Ok(millwheel_alone(alloc, words.as_slice(), &mut shelf, out))
+    called(alloc, text, &mut shelf, out)
+}
+
+// What a call with these words answers over an ample sink.
+fn status(alloc: Global, text: &str) -> Result<Status, NoMemory> {
+    let done = answer(alloc, text, EVENTS, &mut sink(alloc))?;
+    Ok(done.status)
+}
+
+// What a call over these two files answers, how many entries it has, and how many bytes it writes.
+fn told(alloc: Global, topology: &str, events: &str) -> Result<(Status, usize, usize), NoMemory> {
+    let mut shelf = shelf(alloc, topology, events, CallList::new(alloc))?;
+    let mut out = sink(alloc);
+    let FirstDone { status, history } = called(alloc, "solo t.json e", &mut shelf, &mut out)?;
+    Ok((status, history.len(), out.text().len()))
 }
 
 // The status for these two files, which has to come before the run.
 fn refused(rt: &impl Abort, alloc: Global, topology: &str, events: &str) -> Result<Status, Fail> {
-    let mut shelf = shelf(alloc, topology, events, CallList::new(alloc))?;
-    let mut out = sink(alloc);
-    let words = words(alloc, "solo t.json e")?;
-    let FirstDone { status, history } = millwheel_alone(
-        alloc,
-        words.as_slice(),
-        &mut shelf,
-        &mut out,
-    );
-    assert_eq!(rt; history.len(), 0);
-    assert_eq!(rt; out.text().len(), 0);
+    let (status, entries, written) = told(alloc, topology, events)?;
+    assert!(rt; entries == 0 && written == 0);
     Ok(status)
 }
 
-// Runs these events to their end, and looks at what is written.
-fn writes(rt: &impl Abort, alloc: Global, events: &str, want: &[u8]) -> Result<(), Fail> {
+// Runs these two files to their end, and looks at what is written.
+fn writes_of(
+    rt: &impl Abort,
+    alloc: Global,
+    topology: &str,
+    events: &str,
+    want: &[u8],
+) -> Result<(), Fail> {
+    let mut shelf = shelf(alloc, topology, events, CallList::new(alloc))?;
     let mut out = sink(alloc);
-    let done = answer(alloc, "solo t.json e", events, &mut out)?;
-    assert_eq!(rt; done.status, Status::Ok);
+    let done = called(alloc, "solo t.json e", &mut shelf, &mut out)?;
+    assert!(rt; done.status == Status::Ok);
     assert_eq!(rt; out.text(), want);
     Ok(())
+}
+
+// The same with the topology of one count.
+fn writes(rt: &impl Abort, alloc: Global, events: &str, want: &[u8]) -> Result<(), Fail> {
+    writes_of(rt, alloc, TOPOLOGY, events, want)
 }
 
 #[test]
@@ -133,8 +161,6 @@ fn greatest_timestamp(rt: HostRuntime) -> Result<(), Fail> {
 
 #[test]
 fn usage(rt: HostRuntime) -> Result<(), Fail> {
-    let alloc = rt.alloc();
-    let mut out = sink(alloc);
     for text in [
         "",
         "solo",
@@ -145,20 +171,17 @@ fn usage(rt: HostRuntime) -> Result<(), Fail> {
         "solo t.json e e",
         "--history solo t.json e",
     ] {
-        let done = answer(alloc, text, EVENTS, &mut out)?;
-        assert_eq!(rt; done.status, Status::Usage, "{text}");
+        assert!(rt; status(rt.alloc(), text)? == Status::Usage, "{text}");
     }
     Ok(())
 }
 
 #[test]
 fn no_such_file(rt: HostRuntime) -> Result<(), Fail> {
-    let alloc = rt.alloc();
-    let mut out = sink(alloc);
     for (text, missing) in [("solo t e", "t"), ("solo t.json f", "f")] {
-        let done = answer(alloc, text, EVENTS, &mut out)?;
-        let name = Name::of(alloc, missing)?;
-        assert_eq!(rt; done.status, Status::NoFile { name }, "{text}");
+        let status = status(rt.alloc(), text)?;
+        let name = Name::of(rt.alloc(), missing)?;
+        assert!(rt; status == Status::NoFile { name }, "{text}");
     }
     Ok(())
 }
@@ -176,9 +199,8 @@ fn read_fault(rt: HostRuntime) -> Result<(), Fail> {
 // The status where the read of this number fails.
 fn read_fails(alloc: Global, number: u64) -> Result<Status, NoMemory> {
     let mut shelf = shelf(alloc, TOPOLOGY, EVENTS, call(alloc, number)?)?;
-    let mut out = sink(alloc);
-    let words = words(alloc, "solo t.json e")?;
-    Ok(millwheel_alone(alloc, words.as_slice(), &mut shelf, &mut out).status)
+    let done = called(alloc, "solo t.json e", &mut shelf, &mut sink(alloc))?;
+    Ok(done.status)
 }
 
 #[test]
@@ -330,87 +352,86 @@ fn other_names_and_spellings_are_taken(rt: HostRuntime) -> Result<(), Fail> {
     let topology =
         "{ \"computations\": [{\"stream\":\"sums\", \"cuts\":[], \"size\":60, \"kind\":\"count\", \"reads\":[{\"by\":\"key\",\"stream\":\"in_1\"}], \"name\":\"c\"}],\n \"injectors\": [{\"stream\":\"in_1\",\"name\":\"i\"}] }";
     let events = "\n{\"value\":-3,\"ts\":59,\"key\":\"b\",\"note\":null}\r\n{\"watermark\":60}\n";
-    let mut shelf = shelf(rt.alloc(), topology, events, CallList::new(rt.alloc()))?;
-    let mut out = sink(rt.alloc());
-    let words = words(rt.alloc(), "solo t.json e")?;
-    let done = millwheel_alone(rt.alloc(), words.as_slice(), &mut shelf, &mut out);
-    assert_eq!(rt; done.status, Status::Ok);
-    assert_eq!(rt;
-        out.text(),
-        b"{\"key\":\"b\",\"stream\":\"sums\",\"ts\":60,\"value\":1}\n{\"fired\":1,\"handled\":1,\"injected\":1,\"late\":0}\n".as_slice()
-    );
-    Ok(())
+    writes_of(
+        &rt,
+        rt.alloc(),
+        topology,
+        events,
+        b"{\"key\":\"b\",\"stream\":\"sums\",\"ts\":60,\"value\":1}\n{\"fired\":1,\"handled\":1,\"injected\":1,\"late\":0}\n",
+    )
 }
 
 #[test]
 fn an_unread_stream_is_written(rt: HostRuntime) -> Result<(), Fail> {
     let topology = "{\"injectors\":[{\"name\":\"clicks\",\"stream\":\"raw\"}],\"computations\":[]}";
     let events = "{\"key\":\"b\",\"ts\":7,\"value\":-3}";
-    let mut shelf = shelf(rt.alloc(), topology, events, CallList::new(rt.alloc()))?;
-    let mut out = sink(rt.alloc());
-    let words = words(rt.alloc(), "solo t.json e")?;
-    let done = millwheel_alone(rt.alloc(), words.as_slice(), &mut shelf, &mut out);
-    assert_eq!(rt; done.status, Status::Ok);
-    assert_eq!(rt;
-        out.text(),
-        b"{\"key\":\"b\",\"stream\":\"raw\",\"ts\":7,\"value\":-3}\n{\"fired\":0,\"handled\":0,\"injected\":1,\"late\":0}\n".as_slice()
-    );
-    Ok(())
+    writes_of(
+        &rt,
+        rt.alloc(),
+        topology,
+        events,
+        b"{\"key\":\"b\",\"stream\":\"raw\",\"ts\":7,\"value\":-3}\n{\"fired\":0,\"handled\":0,\"injected\":1,\"late\":0}\n",
+    )
+}
+
+// The status of a number, as the table below has it.
+fn numbered(alloc: Global, number: u8) -> Result<Status, NoMemory> {
+    Ok(match number {
+        0 => Status::Ok,
+        2 => Status::Usage,
+        3 => Status::NoFile {
+            name: Name::of(alloc, "t.json")?,
+        },
+        4 => Status::TopologyRefused {
+            why: TopologyRefusal::UnknownStream,
+        },
+        5 => Status::EventsRefused {
+            file: 0,
+            line: 2,
+            why: LineWhy::NotJson,
+        },
+        8 => Status::SinkFault,
+        9 => Status::NoMemory,
+        13 => Status::ReadFault {
+            name: Name::of(alloc, "e")?,
+        },
+        14 => Status::TooLong {
+            name: Name::of(alloc, "e")?,
+        },
+        15 => Status::FileCount {
+            files: 1,
+            injectors: 2,
+        },
+        _ => Status::NotBuilt,
+    })
 }
 
 #[test]
 fn each_status_is_told_with_its_number(rt: HostRuntime) -> Result<(), Fail> {
-    let alloc = rt.alloc();
-    says(&rt, alloc, &Status::Ok, 0, "")?;
-    says(&rt, alloc, &Status::Usage, 2, "usage: millwheel MODE ARGS")?;
-    let name = Name::of(alloc, "t.json")?;
-    says(&rt, alloc, &Status::NoFile { name }, 3, "no file t.json")?;
-    let why = TopologyRefusal::UnknownStream;
-    let refused = "topology refused: UnknownStream";
-    says(&rt, alloc, &Status::TopologyRefused { why }, 4, refused)?;
-    let (file, line, why) = (0, 2, LineWhy::NotJson);
-    let refused = "events refused: file 0 line 2: NotJson";
-    says(
-        &rt,
-        alloc,
-        &Status::EventsRefused { file, line, why },
-        5,
-        refused,
-    )?;
-    says(&rt, alloc, &Status::SinkFault, 8, "the output failed")?;
-    says(&rt, alloc, &Status::NoMemory, 9, "out of memory")?;
-    let name = Name::of(alloc, "e")?;
-    says(&rt, alloc, &Status::ReadFault { name }, 13, "can't read e")?;
-    let name = Name::of(alloc, "e")?;
-    says(&rt, alloc, &Status::TooLong { name }, 14, "too long: e")?;
-    let (files, injectors) = (1, 2);
-    let unlike = "1 event files for 2 injectors";
-    says(
-        &rt,
-        alloc,
-        &Status::FileCount { files, injectors },
-        15,
-        unlike,
-    )?;
-    says(&rt, alloc, &Status::NotBuilt, 16, "not built yet")
+    for (number, line) in [
+        (0, ""),
+        (2, "millwheel: usage: millwheel MODE ARGS\n"),
+        (3, "millwheel: no file t.json\n"),
+        (4, "millwheel: topology refused: UnknownStream\n"),
+        (5, "millwheel: events refused: file 0 line 2: NotJson\n"),
+        (8, "millwheel: the output failed\n"),
+        (9, "millwheel: out of memory\n"),
+        (13, "millwheel: can't read e\n"),
+        (14, "millwheel: too long: e\n"),
+        (15, "millwheel: 1 event files for 2 injectors\n"),
+        (16, "millwheel: not built yet\n"),
+    ] {
+        let status = numbered(rt.alloc(), number)?;
+        says(&rt, rt.alloc(), &status, number, line);
+    }
+    Ok(())
 }
 
 // Tells a status, and looks at the line and at the number.
-fn says(
-    rt: &impl Abort,
-    alloc: Global,
-    status: &Status,
-    number: u8,
-    text: &str,
-) -> Result<(), Fail> {
+fn says(rt: &impl Abort, alloc: Global, status: &Status, number: u8, line: &str) {
     let mut err = sink(alloc);
     assert_eq!(rt; tell(alloc, status, &mut err), number);
-    let line = match status {
-        Status::Ok => String::new(alloc),
-        _ => format!(in alloc; "millwheel: {text}\n")?,
-    };
     assert_eq!(rt; err.text(), line.as_bytes());
-    Ok(())
 }
 
 #[test]

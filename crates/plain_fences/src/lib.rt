@@ -3,8 +3,8 @@
 //! Beside `plain_definitions`, on which it stands: a history of a real run is legal and fenced where
 //! `plain_is_legal` and `plain_is_fenced` say so. Public contract: a truth value says whether the
 //! definition holds, which is `specs/Fences.antt` of `run_history`. The tests run the functions of
-//! both crates on the examples of `worked_examples`, and on three wrong ones; those of `computations`
-//! and `run_history` stand here too, above both.
+//! both crates on the examples of `worked_examples`, and on three wrong ones; those of `topology`,
+//! `row_parts`, `computations` and `run_history` stand here too, above all four.
 #![tactic(auto)]
 
 mod claims;

@@ -5,7 +5,9 @@ ghost use Rattle.mw_types.specs.Bounds.{IsWithin};
 
 mod handlers;
 mod histories;
+mod rows;
 mod steps;
+mod topologies;
 
 use crate::plain_is_fenced;
 use injector::{Items, read_lines};
@@ -21,6 +23,14 @@ use std::test::Fail;
 use steps::{DRAINED, FIRST, LEFT, LINES, NONE, ONE, ONE_60, RIGHT, Step, TWO, TWO_60, WIDE};
 use topology::read;
 
+// The key of this text. No other function makes one of a text, since each that does is slow to prove.
+fn key_of(alloc: Global, text: &str) -> Result<Key, NoMemory> {
+    match Key::of(alloc, text) {
+        Ok(key) => Ok(key),
+        Err(_) => Err(NoMemory),
+    }
+}
+
 // The row of a part whose key has this byte, or none.
 fn row_of(alloc: Global, part: u32, byte: u8) -> Result<RowName, NoMemory> {
     let text = match byte {
@@ -31,10 +41,10 @@ fn row_of(alloc: Global, part: u32, byte: u8) -> Result<RowName, NoMemory> {
             key: Key::none(alloc),
         }),
     };
-    let Ok(key) = Key::of(alloc, text) else {
-        return Err(NoMemory);
-    };
-    Ok(RowName { part, key })
+    Ok(RowName {
+        part,
+        key: key_of(alloc, text)?,
+    })
 }
 
 // The record of a line.

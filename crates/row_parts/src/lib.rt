@@ -17,8 +17,6 @@ mod refusal;
 mod row;
 mod spelled;
 mod states;
-#[cfg(test)]
-mod tests;
 mod timers;
 
 pub use lists::{Ranked, put_list, take_ascending, take_list};

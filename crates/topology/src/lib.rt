@@ -16,8 +16,6 @@ mod reader;
 mod refusal;
 mod sample;
 mod subscription;
-#[cfg(test)]
-mod tests;
 mod topology;
 mod wiring;
 

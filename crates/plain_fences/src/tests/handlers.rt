@@ -8,7 +8,7 @@ mod spikes;
 
 use computations::{Computation, Context, Kinds};
 use mw_types::{
-    Effects, Key, Kind, KindTable, MAX_STAMP, NoMemory, Record, State, Timer, WindowList,
+    Effects, Key, Kind, KindTable, MAX_STAMP, NoMemory, Record, Seq, State, Timer, WindowList,
 };
 use std::alloc::Global;
 use std::test::Fail;
@@ -75,8 +75,6 @@ fn of_record<C: Computation>(
     requires computation { C.has work.now part state.now }
     requires within { IsWithin state.now }
     requires in_time { item.now.stamp ≤ MAX_STAMP }
-    ensures effects { IfOk result (λ e.
-        e ≡ C.gives_record work.now part key.now state.now item.now) }
     ensures has { IfOk result (λ e. C.has work.now part e.state) }
     ensures within { IfOk result (λ e. IsWithin e.state) }
 {
@@ -97,8 +95,6 @@ fn of_timer<C: Computation>(
     requires computation { C.has work.now part state.now }
     requires within { IsWithin state.now }
     requires in_time { timer.now.time ≤ MAX_STAMP }
-    ensures effects { IfOk result (λ e.
-        e ≡ C.gives_timer work.now part key.now state.now timer.now) }
     ensures has { IfOk result (λ e. C.has work.now part e.state) }
     ensures within { IfOk result (λ e. IsWithin e.state) }
 {
@@ -107,30 +103,164 @@ fn of_timer<C: Computation>(
     Ok(context.into_effects())
 }
 
-// A record, whose key is of no matter here.
-fn record(alloc: Global, stamp: u64, late: bool) -> Result<Record, NoMemory>
-    ensures { IfOk result (λ item. item.stamp ≡ stamp) }
+// What is handed to a part: a record of this timestamp and value, or the timer of this time.
+#[derive(Clone, Copy)]
+enum Deed {
+    Record(u64, i64),
+    Timer(u64),
+}
+
+// What a part leaves of a record of no key that is in time.
+fn taken(
+    alloc: Global,
+    work: &Kinds,
+    part: u32,
+    state: &State,
+    stamp: u64,
+    value: i64,
+) -> Result<Effects, NoMemory>
+    requires has { HasState work.now part state.now }
+    requires within { IsWithin state.now }
+    ensures has { IfOk result (λ e. HasState work.now part e.state) }
+    ensures within { IfOk result (λ e. IsWithin e.state) }
 {
-    Ok(Record {
+    let key = Key::none(alloc);
+    let item = Record {
         key: Key::none(alloc),
-        stamp,
+        stamp: stamp.min(MAX_STAMP),
+        value,
+        late: false,
+    };
+    let effects = of_record(alloc, work, part, &key, state, &item)?;
+    Ok(effects)
+}
+
+// What a part leaves of a timer of no key.
+fn fired(
+    alloc: Global,
+    work: &Kinds,
+    part: u32,
+    state: &State,
+    time: u64,
+) -> Result<Effects, NoMemory>
+    requires has { HasState work.now part state.now }
+    requires within { IsWithin state.now }
+    ensures has { IfOk result (λ e. HasState work.now part e.state) }
+    ensures within { IfOk result (λ e. IsWithin e.state) }
+{
+    let key = Key::none(alloc);
+    let timer = Timer {
+        tag: 0,
+        time: time.min(MAX_STAMP),
+        late: false,
+    };
+    let effects = of_timer(alloc, work, part, &key, state, &timer)?;
+    Ok(effects)
+}
+
+// What a part leaves of one of both.
+fn done(
+    alloc: Global,
+    work: &Kinds,
+    part: u32,
+    state: &State,
+    deed: Deed,
+) -> Result<Effects, NoMemory>
+    requires has { HasState work.now part state.now }
+    requires within { IsWithin state.now }
+    ensures has { IfOk result (λ e. HasState work.now part e.state) }
+    ensures within { IfOk result (λ e. IsWithin e.state) }
+{
+    match deed {
+        Deed::Record(stamp, value) => taken(alloc, work, part, state, stamp, value),
+        Deed::Timer(time) => fired(alloc, work, part, state, time),
+    }
+}
+
+// The state of what a handler leaves.
+fn state_of(effects: Effects) -> State
+    ensures { result ≡ effects.state }
+{
+    let Effects {
+        state,
+        timers: _,
+        productions: _,
+    } = effects;
+    state
+}
+
+// The timestamps and values of records that were produced.
+type Produced = Seq<(u64, i64)>;
+
+// Notes what a handler produced.
+fn note(produced: &mut Produced, effects: &Effects) -> Result<(), NoMemory> {
+    for one in effects.productions.as_slice() {
+        produced.push((one.stamp, one.value))?;
+    }
+    Ok(())
+}
+
+// The state of a row after these, and what was produced on the way. The loop has the one call with
+// conditions, so that no test carries what each call before has told.
+fn walked(
+    alloc: Global,
+    work: &Kinds,
+    part: u32,
+    first: State,
+    deeds: &[Deed],
+) -> Result<(State, Produced), NoMemory>
+    requires has { HasState work.now part first }
+    requires within { IsWithin first }
+{
+    let mut state = first;
+    let mut produced = Seq::new(alloc);
+    for deed in deeds {
+        let effects = done(alloc, work, part, &state, *deed)?;
+        note(&mut produced, &effects)?;
+        state = state_of(effects);
+    }
+    Ok((state, produced))
+}
+
+// A record at 10 of no key.
+fn record_at_10(alloc: Global) -> Record
+    ensures { result.stamp ≡ 10 }
+{
+    Record {
+        key: Key::none(alloc),
+        stamp: 10,
         value: 7,
-        late,
-    })
+        late: false,
+    }
+}
+
+// What a handler leaves that sets a timer and produces a record.
+fn left(alloc: Global) -> Result<Effects, NoMemory> {
+    let key = Key::none(alloc);
+    let state = State::Pass { late: 2 };
+    let mut context = Context::for_record(alloc, &key, &state, &record_at_10(alloc))?;
+    context.set_timer(7, 11)?;
+    context.produce(alloc, &key, 10, -1)?;
+    Ok(context.into_effects())
 }
 
 #[test]
 fn a_handler_sets_and_produces(rt: HostRuntime) -> Result<(), Fail> {
-    let alloc = rt.alloc();
-    let key = Key::none(alloc);
-    let state = State::Pass { late: 2 };
-    let item = record(alloc, 10, false)?;
-    let mut context = Context::for_record(alloc, &key, &state, &item)?;
-    assert!(rt; *context.key() == key && *context.state() == state);
-    context.set_timer(7, 11)?;
-    context.produce(alloc, &key, 10, -1)?;
-    let effects = context.into_effects();
-    assert!(rt; effects.state == state && effects.timers.len() == 1);
-    assert_eq!(rt; effects.productions.len(), 1);
+    let effects = left(rt.alloc())?;
+    assert!(rt; effects.state == State::Pass { late: 2 });
+    assert!(rt; effects.timers.len() == 1 && effects.productions.len() == 1);
+    Ok(())
+}
+
+// Whether a context shows this key and state.
+fn shows(alloc: Global, key: &Key, state: &State) -> Result<bool, NoMemory> {
+    let context = Context::for_record(alloc, key, state, &record_at_10(alloc))?;
+    Ok(*context.key() == *key && *context.state() == *state)
+}
+
+#[test]
+fn a_context_shows_the_row(rt: HostRuntime) -> Result<(), Fail> {
+    let key = Key::none(rt.alloc());
+    assert!(rt; shows(rt.alloc(), &key, &State::Pass { late: 2 })?);
     Ok(())
 }

@@ -1,14 +1,13 @@
 //! The handlers of a spike, over the counts of a count, and of a pass.
-ghost use Rattle.std.specs.Prelude.{◌≡◌, ◌≤◌, Some, IfOk};
+ghost use Rattle.std.specs.Prelude.{◌≡◌, Some};
 ghost use Rattle.mw_types.specs.declared.kind.Kind.TheVariants as kinds;
 ghost use Rattle.mw_types.specs.Bounds.{IsWithin};
 ghost use Rattle.computations.specs.Parts.{HasState, kind_at};
 
-use super::{fresh, of_record, of_timer, watched};
+use super::{Deed, Produced, fresh, of_record, walked, watched};
+use crate::tests::key_of;
 use computations::Kinds;
-use mw_types::{
-    Effects, HeldList, Key, KeyRefusal, MAX_STAMP, NoMemory, Record, State, Timer, ValueList,
-};
+use mw_types::{Effects, HeldList, Key, NoMemory, Record, Seq, State, ValueList};
 use std::alloc::Global;
 use std::process::Abort;
 use std::test::Fail;
@@ -35,188 +34,44 @@ fn nothing_passed(work: &Kinds) -> State
     State::Pass { late: 0 }
 }
 
-// What a part leaves of a record of the key `a` that is in time.
-fn taken(
-    alloc: Global,
-    work: &Kinds,
-    part: u32,
-    state: &State,
-    stamp: u64,
-    value: i64,
-) -> Result<Effects, NoMemory>
-    requires has { HasState work.now part state.now }
-    requires within { IsWithin state.now }
-    ensures has { IfOk result (λ e. HasState work.now part e.state) }
-    ensures within { IfOk result (λ e. IsWithin e.state) }
-{
-    let key = Key::none(alloc);
-    let item = Record {
-        key: Key::none(alloc),
-        stamp: stamp.min(MAX_STAMP),
-        value,
-        late: false,
-    };
-    let effects = of_record(alloc, work, part, &key, state, &item)?;
-    Ok(effects)
-}
-
-// What a part leaves of a timer of the key `a`.
-fn fired(
-    alloc: Global,
-    work: &Kinds,
-    part: u32,
-    state: &State,
-    time: u64,
-) -> Result<Effects, NoMemory>
-    requires has { HasState work.now part state.now }
-    requires within { IsWithin state.now }
-    ensures has { IfOk result (λ e. HasState work.now part e.state) }
-    ensures within { IfOk result (λ e. IsWithin e.state) }
-{
-    let key = Key::none(alloc);
-    let timer = Timer {
-        tag: 0,
-        time: time.min(MAX_STAMP),
-        late: false,
-    };
-    let effects = of_timer(alloc, work, part, &key, state, &timer)?;
-    Ok(effects)
-}
-
-// The state of what a handler leaves.
-fn state_of(effects: Effects) -> State
-    ensures { result ≡ effects.state }
-{
-    let Effects {
-        state,
-        timers: _,
-        productions: _,
-    } = effects;
-    state
-}
-
-// The count after records at these timestamps.
-fn counted(alloc: Global, work: &Kinds, stamps: &[u64]) -> Result<State, NoMemory>
-    requires { kind_at work.now 1 ≡ Some (kinds.Count 60) }
-    ensures has { IfOk result (HasState work.now 1) }
-    ensures within { IfOk result IsWithin }
-{
-    let mut state = fresh(alloc, work);
-    for stamp in stamps {
-        state = state_of(taken(alloc, work, 1, &state, *stamp, 0)?);
-    }
-    Ok(state)
-}
-
-// The window that ends here is closed, and had so many records.
-fn closed(
-    rt: &impl Abort,
-    alloc: Global,
-    work: &Kinds,
-    state: &State,
-    end: u64,
-    count: i64,
-) -> Result<State, NoMemory>
-    requires has { HasState work.now 1 state.now }
-    requires within { IsWithin state.now }
-    ensures has { IfOk result (HasState work.now 1) }
-    ensures within { IfOk result IsWithin }
-{
-    let effects = fired(alloc, work, 1, state, end)?;
-    expect_produced(rt, &effects, end, count);
-    Ok(state_of(effects))
-}
-
-// A handler produced this alone.
-fn expect_produced(rt: &impl Abort, effects: &Effects, stamp: u64, value: i64) {
-    match effects.productions.get(0) {
-        Some(produced) => {
-            assert!(rt; produced.stamp == stamp && produced.value == value);
-        }
-        None => assert!(rt; false, "nothing was produced"),
-    }
-    assert_eq!(rt; effects.productions.len(), 1);
-}
-
-// What a spike leaves of the timer of this total, which it holds before.
-fn judged(
-    alloc: Global,
-    work: &Kinds,
-    state: &State,
-    stamp: u64,
-    value: i64,
-) -> Result<Effects, NoMemory>
-    requires has { HasState work.now 2 state.now }
-    requires within { IsWithin state.now }
-    ensures has { IfOk result (λ e. HasState work.now 2 e.state) }
-    ensures within { IfOk result (λ e. IsWithin e.state) }
-{
-    let held = state_of(taken(alloc, work, 2, state, stamp, value)?);
-    let effects = fired(alloc, work, 2, &held, stamp.saturating_add(1))?;
-    Ok(effects)
-}
-
-// The same, where nothing is produced.
-fn learned(
-    rt: &impl Abort,
-    alloc: Global,
-    work: &Kinds,
-    state: &State,
-    stamp: u64,
-    value: i64,
-) -> Result<State, NoMemory>
-    requires has { HasState work.now 2 state.now }
-    requires within { IsWithin state.now }
-    ensures has { IfOk result (HasState work.now 2) }
-    ensures within { IfOk result IsWithin }
-{
-    let effects = judged(alloc, work, state, stamp, value)?;
-    assert!(rt; effects.productions.is_empty());
-    Ok(state_of(effects))
-}
-
-#[test]
-fn spike_above_three_times(rt: HostRuntime) -> Result<(), Fail> {
-    let alloc = rt.alloc();
+// What the count produced of these.
+fn counted(alloc: Global, deeds: &[Deed]) -> Result<Produced, NoMemory> {
     let work = watched(alloc)?;
-    let windows = counted(alloc, &work, &[0, 60, 120, 121, 122, 123, 124, 125, 126])?;
-    let windows = closed(&rt, alloc, &work, &windows, 60, 1)?;
-    let windows = closed(&rt, alloc, &work, &windows, 120, 1)?;
-    let _ = closed(&rt, alloc, &work, &windows, 180, 7)?;
-    let totals = nothing_held(alloc, &work);
-    let totals = learned(&rt, alloc, &work, &totals, 60, 1)?;
-    let totals = learned(&rt, alloc, &work, &totals, 120, 1)?;
-    let effects = judged(alloc, &work, &totals, 180, 7)?;
-    expect_produced(&rt, &effects, 181, 7);
-    expect_held(&rt, &effects.state, 0, &[1, 7]);
+    let (_, produced) = walked(alloc, &work, 1, fresh(alloc, &work), deeds)?;
+    Ok(produced)
+}
+
+// The state of the spike after these, and what it produced.
+fn judged(alloc: Global, deeds: &[Deed]) -> Result<(State, Produced), NoMemory> {
+    let work = watched(alloc)?;
+    walked(alloc, &work, 2, nothing_held(alloc, &work), deeds)
+}
+
+// A count produced these, in this order.
+fn expect_counts(
+    rt: &impl Abort,
+    alloc: Global,
+    deeds: &[Deed],
+    want: &[(u64, i64)],
+) -> Result<(), Fail> {
+    let produced = counted(alloc, deeds)?;
+    assert!(rt; produced.as_slice() == want);
     Ok(())
 }
 
-#[test]
-fn no_spike_at_three_times(rt: HostRuntime) -> Result<(), Fail> {
-    let alloc = rt.alloc();
-    let work = watched(alloc)?;
-    let windows = counted(alloc, &work, &[0, 60, 120, 121, 122])?;
-    let _ = closed(&rt, alloc, &work, &windows, 180, 3)?;
-    let totals = nothing_held(alloc, &work);
-    let totals = learned(&rt, alloc, &work, &totals, 60, 1)?;
-    let totals = learned(&rt, alloc, &work, &totals, 120, 1)?;
-    let totals = learned(&rt, alloc, &work, &totals, 180, 3)?;
-    expect_held(&rt, &totals, 0, &[1, 3]);
+// A spike holds so many totals after these, and knows these; and it produced these.
+fn expect_spike(
+    rt: &impl Abort,
+    alloc: Global,
+    deeds: &[Deed],
+    many: usize,
+    totals: &[i64],
+    want: &[(u64, i64)],
+) -> Result<(), Fail> {
+    let (state, produced) = judged(alloc, deeds)?;
+    expect_held(rt, &state, many, totals);
+    assert!(rt; produced.as_slice() == want);
     Ok(())
-}
-
-// The spike after so many records, one in each ten microseconds.
-fn many_held(alloc: Global, work: &Kinds, many: u64) -> Result<State, NoMemory>
-    requires { kind_at work.now 2 ≡ Some (kinds.Spike 2 3) }
-    ensures has { IfOk result (HasState work.now 2) }
-    ensures within { IfOk result IsWithin }
-{
-    let mut state = nothing_held(alloc, work);
-    for at in 0..many {
-        state = state_of(taken(alloc, work, 2, &state, at.saturating_mul(10), 5)?);
-    }
-    Ok(state)
 }
 
 // A spike holds so many totals, and knows these.
@@ -234,43 +89,98 @@ fn expect_held(rt: &impl Abort, state: &State, many: usize, totals: &[i64]) {
     }
 }
 
+// One record in each of two windows, and seven in a third.
+const ONE_ONE_SEVEN: [Deed; 12] = [
+    Deed::Record(0, 0),
+    Deed::Record(60, 0),
+    Deed::Record(120, 0),
+    Deed::Record(121, 0),
+    Deed::Record(122, 0),
+    Deed::Record(123, 0),
+    Deed::Record(124, 0),
+    Deed::Record(125, 0),
+    Deed::Record(126, 0),
+    Deed::Timer(60),
+    Deed::Timer(120),
+    Deed::Timer(180),
+];
+
+// These totals, each of which is judged before the next comes.
+const ONE_ONE_SEVEN_JUDGED: [Deed; 6] = [
+    Deed::Record(60, 1),
+    Deed::Timer(61),
+    Deed::Record(120, 1),
+    Deed::Timer(121),
+    Deed::Record(180, 7),
+    Deed::Timer(181),
+];
+
+#[test]
+fn spike_above_three_times(rt: HostRuntime) -> Result<(), Fail> {
+    let alloc = rt.alloc();
+    let counts = [(60, 1), (120, 1), (180, 7)];
+    expect_counts(&rt, alloc, &ONE_ONE_SEVEN, &counts)?;
+    let deeds = &ONE_ONE_SEVEN_JUDGED;
+    expect_spike(&rt, alloc, deeds, 0, &[1, 7], &[(181, 7)])
+}
+
+// One record in each of two windows, and three in a third, which closes first.
+const ONE_ONE_THREE: [Deed; 6] = [
+    Deed::Record(0, 0),
+    Deed::Record(60, 0),
+    Deed::Record(120, 0),
+    Deed::Record(121, 0),
+    Deed::Record(122, 0),
+    Deed::Timer(180),
+];
+
+// These totals, each of which is judged before the next comes.
+const ONE_ONE_THREE_JUDGED: [Deed; 6] = [
+    Deed::Record(60, 1),
+    Deed::Timer(61),
+    Deed::Record(120, 1),
+    Deed::Timer(121),
+    Deed::Record(180, 3),
+    Deed::Timer(181),
+];
+
+#[test]
+fn no_spike_at_three_times(rt: HostRuntime) -> Result<(), Fail> {
+    let alloc = rt.alloc();
+    expect_counts(&rt, alloc, &ONE_ONE_THREE, &[(180, 3)])?;
+    expect_spike(&rt, alloc, &ONE_ONE_THREE_JUDGED, 0, &[1, 3], &[])
+}
+
+// Twenty totals, one in each ten microseconds, and then two more at the eighth, which is judged.
+fn twenty_totals(alloc: Global) -> Result<Seq<Deed>, NoMemory> {
+    let mut deeds = Seq::new(alloc);
+    for at in 0..20u64 {
+        deeds.push(Deed::Record(at.saturating_mul(10), 5))?;
+    }
+    // Of two records at one timestamp the greater value stays.
+    deeds.push(Deed::Record(70, 9))?;
+    deeds.push(Deed::Record(70, 3))?;
+    deeds.push(Deed::Timer(71))?;
+    Ok(deeds)
+}
+
 #[test]
 fn a_total_of_a_long_list_is_found(rt: HostRuntime) -> Result<(), Fail> {
-    let alloc = rt.alloc();
-    let work = watched(alloc)?;
-    let state = many_held(alloc, &work, 20)?;
-    // Of two records at one timestamp the greater value stays.
-    let state = state_of(taken(alloc, &work, 2, &state, 70, 9)?);
-    let state = state_of(taken(alloc, &work, 2, &state, 70, 3)?);
-    let state = state_of(fired(alloc, &work, 2, &state, 71)?);
-    expect_held(&rt, &state, 19, &[9]);
-    Ok(())
+    let deeds = twenty_totals(rt.alloc())?;
+    expect_spike(&rt, rt.alloc(), deeds.as_slice(), 19, &[9], &[])
 }
+
+// Two totals at the end of time, the later one first.
+const AT_THE_END: [Deed; 4] = [
+    Deed::Record(9223372036854775807, 1),
+    Deed::Record(9223372036854775806, 2),
+    Deed::Timer(9223372036854775807),
+    Deed::Timer(9223372036854775807),
+];
 
 #[test]
 fn of_two_totals_due_at_the_end_the_first_goes(rt: HostRuntime) -> Result<(), Fail> {
-    let alloc = rt.alloc();
-    let work = watched(alloc)?;
-    let state = nothing_held(alloc, &work);
-    let state = state_of(taken(alloc, &work, 2, &state, 9223372036854775807, 1)?);
-    let state = state_of(taken(alloc, &work, 2, &state, 9223372036854775806, 2)?);
-    let state = state_of(fired(alloc, &work, 2, &state, 9223372036854775807)?);
-    let state = state_of(fired(alloc, &work, 2, &state, 9223372036854775807)?);
-    expect_held(&rt, &state, 0, &[2, 1]);
-    Ok(())
-}
-
-// A record of the key `h/x`.
-fn slashed(alloc: Global, key: &str, late: bool) -> Result<Record, KeyRefusal>
-    ensures { IfOk result (λ item. item.stamp ≡ 5) }
-{
-    let key = Key::of(alloc, key)?;
-    Ok(Record {
-        key,
-        stamp: 5,
-        value: -3,
-        late,
-    })
+    expect_spike(&rt, rt.alloc(), &AT_THE_END, 0, &[2, 1], &[])
 }
 
 // A handler produced the record of the key `h/x` again, and set no timer.
@@ -289,7 +199,12 @@ fn expect_passed(rt: &impl Abort, effects: &Effects) {
 fn passes(rt: &impl Abort, alloc: Global, late: bool, after: u64) -> Result<(), Fail> {
     let work = watched(alloc)?;
     let state = nothing_passed(&work);
-    let item = slashed(alloc, "h/x", late)?;
+    let item = Record {
+        key: key_of(alloc, "h/x")?,
+        stamp: 5,
+        value: -3,
+        late,
+    };
     let effects = of_record(alloc, &work, 3, &Key::none(alloc), &state, &item)?;
     expect_passed(rt, &effects);
     assert!(rt; effects.state == State::Pass { late: after });

@@ -1,0 +1,11 @@
+use Rattle.std.proofs.Common.{subst, sym, ◌∙◌, ap, ◌++◌, ◌∷◌, [], arith}
+use Rattle.mw_types.specs.Bounds.{AreWindows}
+use Rattle.computations.proofs.Fresh.{AreWindows-one}
+use Rattle.worked_examples.specs.First.{window}
+use Rattle.book_tests.proofs.tests.example.one_open.Goals as goal
+
+-- one window is open
+pub returns-clause-within : goal.returns-clause-within
+returns-clause-within c =
+    let pushed = c.in_ok-push.ensures.appended ∙ ap (λ l. l ++ window 60 1 ∷ []) c.new-windows.ensures.empty in
+    (omega arith, subst AreWindows (sym pushed) (AreWindows-one (window 60 1) (omega arith) (omega arith)))

@@ -1,0 +1,10 @@
+use Rattle.std.proofs.Common.{refl}
+use Rattle.book_tests.proofs.tests.rising.try_fire.Goals as goal
+
+-- the interval was claimed
+pub report-requires-clause-claimed : goal.report-requires-clause-claimed
+report-requires-clause-claimed g c = refl
+
+-- the timer is its own work
+pub report-requires-clause-own : goal.report-requires-clause-own
+report-requires-clause-own g c = refl

@@ -1,0 +1,254 @@
+-- What is held fits its desk after each call.
+use Rattle.std.proofs.Common.{◌≡◌, ◌≢◌, ◌<◌, ℕ, true, List, [], ◌∷◌, ◌++◌, length, map, refl, sym, ◌∙◌, ap, subst, arith, length-append, append_assoc, inl, inr}
+use Rattle.std.specs.Prelude.{Err, IfOk, IfSome, IsSome, MatchResult, None, Ok, OnErr, Option, Result, Some, slice_set, unwrap_or}
+use Rattle.std.specs.Option.{is_some}
+use Rattle.std.specs.BTreeMap.{insert_entry}
+use Rattle.std.specs.Ordering.{match_ordering}
+use Rattle.std.specs.Cmp.{tied_itself}
+use Rattle.std.specs.declared.cmp.Ordering.{Ordering}
+use Rattle.std.specs.declared.cmp.Ordering.TheVariants.{Less, Equal, Greater}
+use Rattle.std.proofs.lemmas.List.{length-set}
+use Rattle.mw_types.specs.Orders.{row_cmp}
+use Rattle.mw_types.specs.declared.identity.RowName.{RowName}
+use Rattle.mw_types.proofs.OrderLaws.{row_cmp-total}
+use Rattle.topology.specs.Shapes.{parts_of}
+use Rattle.row_parts.specs.Contents.{Contents, fresh}
+use Rattle.run_history.specs.Cases.{CaseShape, fresh_of}
+use Rattle.run_history.specs.Runs.{cached, row_in}
+use Rattle.run_history.specs.Fences.{IsFenced, interval_of}
+use Rattle.run_history.proofs.Lists.{none_some, some_same}
+use Rattle.book.specs.Books.{LeaseView}
+use Rattle.book.specs.Desking.{IsRowKnown, MayAsk}
+use Rattle.book.specs.Desks.{DeskView, HasLooked, IsSound}
+use Rattle.book.specs.declared.answers.Written.{Written}
+use Rattle.book.specs.declared.desk_refusal.DeskRefusal.{DeskRefusal}
+use Rattle.holdings.specs.Holding.{AreHeld, HasSeenOthers, HeldView, HoldsEntry, IsHeld, KeepsHeld, KeepsOthers, held_at, row_held, with_row}
+use Rattle.holdings.specs.Steps.{IsReady, KeepsAll}
+use Rattle.holdings.proofs.HeldRows.{AreRowsHeld-cached, AreRowsHeld-elsewhere, AreRowsHeld-entered, AreRowsHeld-looked, AreRowsHeld-more, HasEntered, found-here, held-known, row_held-same}
+use Rattle.holdings.proofs.HeldPlaces.{held-here, held-others, held-within, number_or_not}
+
+-- ---- one row put twice
+
+-- a value that is put again replaces the one before
+insert-again : (es : List (RowName × Contents)) (name : RowName) (one two : Contents)
+    → insert_entry row_cmp (insert_entry row_cmp es name one) name two ≡ insert_entry row_cmp es name two
+insert-again [] name one two = rw (tied_itself row_cmp-total name) refl
+insert-again (e ∷ es) name one two =
+    elim (row_cmp name e.0) as (λ o. row_cmp name e.0 ≡ o
+    → insert_entry row_cmp (match_ordering o ((name, one) ∷ e ∷ es) ((e.0, one) ∷ es) (e ∷ insert_entry row_cmp es name one)) name two
+    ≡ match_ordering o ((name, two) ∷ e ∷ es) ((e.0, two) ∷ es) (e ∷ insert_entry row_cmp es name two)) [
+      | Less ↦ λ _. rw (tied_itself row_cmp-total name) refl
+      | Equal ↦ λ at. rw at refl
+      | Greater ↦ λ at. rw at (ap (λ (l : List (RowName × Contents)). e ∷ l) (insert-again es name one two))
+    ] refl
+
+-- a row that is put again replaces the one before
+pub with_row-again : (name : RowName) (one two : Contents) (held : HeldView) → with_row name two (with_row name one held) ≡ with_row name two held
+with_row-again name one two held = λ i. record { lease = held.lease; rows = insert-again held.rows name one two i }
+
+-- ---- without an entry of its own
+
+-- all that is held still fits after a call without an entry of its own
+pub AreHeld-looked : (case : CaseShape) (old new : DeskView) (all after : List (Option HeldView)) → old.case ≡ case → IsSound old
+    → IsSound new → HasLooked old new → KeepsAll all after → AreHeld case old all → AreHeld case new after
+AreHeld-looked case old new all after same sound now looked stay are = record {
+  each = λ i held is.
+      let before = are.each i held (sym (stay i) ∙ is) in record {
+        of_interval = before.of_interval;
+        may_use = looked.leases held.lease before.may_use;
+        rows = AreRowsHeld-looked case old new held same sound now before.may_use looked before.rows;
+      };
+}
+
+-- all that is held fits beside a worker that acts
+pub AreHeld-beside : (case : CaseShape) (old new : DeskView) (all : List (Option HeldView)) → IsSound old → IsSound new → old.case ≡ case
+    → HasSeenOthers old new all → AreHeld case old all → AreHeld case new all
+AreHeld-beside case old new all sound now same others are = record {
+  each = λ i held is.
+      let before = are.each i held is in record {
+        of_interval = before.of_interval;
+        may_use = others.leases i held is;
+        rows = AreRowsHeld-more case old new held others.rest
+            (subst (λ (c : CaseShape). IsFenced c.topology new.seen) (others.case ∙ same) now.fenced)
+            (sound.claimed held.lease before.may_use) others.more (others.foreign i held is) others.told before.rows;
+      };
+}
+
+-- what is held of fewer intervals fits
+pub AreHeld-fewer : (case : CaseShape) (desk : DeskView) (all after : List (Option HeldView)) (i : ℕ) → held_at after i ≡ None
+    → KeepsOthers i all after → AreHeld case desk all → AreHeld case desk after
+AreHeld-fewer case desk all after i gone others are = record {
+  each = λ j held is. elim (number_or_not i j) [
+    | inl same ↦ absurd (none_some held (sym gone ∙ sym (ap (held_at after) same) ∙ is))
+    | inr apart ↦ are.each j held (sym (others j apart) ∙ is)
+  ];
+}
+
+-- what is held fits where nothing is
+pub AreHeld-none : (case : CaseShape) (desk : DeskView) → AreHeld case desk []
+AreHeld-none case desk = record { each = λ i held is. absurd (none_some held is) }
+
+-- ---- an entry on a row
+
+-- what is held of one interval fits, and what else is held fits
+pub AreHeld-here : (case : CaseShape) (desk : DeskView) (after : List (Option HeldView)) (i : ℕ) (left : HeldView) → held_at after i ≡ Some left
+    → IsHeld case desk i left → ((j : ℕ) (held : HeldView) → j ≢ i → held_at after j ≡ Some held → IsHeld case desk j held) → AreHeld case desk after
+AreHeld-here case desk after i left here fits others = record {
+  each = λ j held is. elim (number_or_not i j) [
+    | inl same ↦ subst (λ n. IsHeld case desk n held) (sym same)
+        (subst (IsHeld case desk i) (some_same left held (sym here ∙ sym (ap (held_at after) same) ∙ is)) fits)
+    | inr apart ↦ others j held apart is
+  ];
+}
+
+-- what follows from each acceptance follows from an accepted one
+pub ok-so : {T E : Type 0} (P Q : T → Type 0) (result : Result T E) → ((x : T) → P x → Q x) → IfOk result P → IfOk result Q
+ok-so P Q (Ok x) so is = so x is
+ok-so P Q (Err e) so is = tt
+
+module _ (case : CaseShape) (desk : DeskView) (all gone : List (Option HeldView)) (i : ℕ) (name : RowName) (left : HeldView)
+    (lies : interval_of case.topology name ≡ Some i) (ready : IsReady case.topology i name all gone left) (are : AreHeld case desk all) where
+  -- what is taken out fits, with the row cached
+  pub IsHeld-ready : IsHeld case desk i left
+  IsHeld-ready =
+      let was = are.each i ready.held ready.was in
+      subst (IsHeld case desk i) (sym ready.is) (record {
+        of_interval = was.of_interval;
+        may_use = was.may_use;
+        rows = AreRowsHeld-cached case desk name ready.held (lies ∙ ap Some (sym was.of_interval)) was.rows;
+      })
+
+  -- the row lies in the interval of the lease
+  pub lies-ready : interval_of case.topology name ≡ Some left.lease.interval
+  lies-ready = lies ∙ ap Some (sym IsHeld-ready.of_interval)
+
+  -- the row is held as before
+  pub row-ready : row_held case.topology left name ≡ row_held case.topology ready.held name
+  row-ready = ap (λ (h : HeldView). row_held case.topology h name) ready.is ∙ row_held-same case.topology name name ready.held
+
+  -- the lease is as before
+  pub lease-ready : left.lease ≡ ready.held.lease
+  lease-ready = ap (λ (h : HeldView). h.lease) ready.is
+
+  -- the row is cached
+  pub there-ready : IsSome (row_in (cached left.rows) name)
+  there-ready = subst (λ (h : HeldView). IsSome (row_in (cached h.rows) name)) (sym ready.is)
+      (ap is_some (found-here name (row_held case.topology ready.held name) ready.held))
+
+  -- the place is there
+  pub room-ready : i < length gone
+  room-ready =
+      let within = held-within all i ready.held ready.was in
+      let whole = ap length ready.gone in
+      let same = length-set all i None in omega (arith, within, whole, same)
+
+  -- the row that is read is the one that is held
+  pub read-ready : (row : Contents) → row_in (cached left.rows) name ≡ Some row → row ≡ row_held case.topology left name
+  read-ready row found = sym (ap (λ o. unwrap_or o (fresh (fresh_of case.topology name.part))) found)
+
+  -- what is said of the row that was held is true of the row that is read
+  pub said-ready : (P : Contents → Type 0) (row : Contents) → row_in (cached left.rows) name ≡ Some row
+      → IfSome (held_at all i) (λ held. P (row_held case.topology held name)) → P row
+  said-ready P row found said = subst P (sym (read-ready row found ∙ row-ready))
+      (subst (λ (o : Option HeldView). IfSome o (λ held. P (row_held case.topology held name))) ready.was said)
+
+  -- the lease may be used on the row
+  pub may-ready : (lease : LeaseView) → lease ≡ left.lease → desk.case ≡ case → MayAsk desk lease name
+  may-ready lease is same = subst (λ (l : LeaseView). MayAsk desk l name) (sym is) (record {
+    may_use = IsHeld-ready.may_use;
+    covers = subst (λ (c : CaseShape). interval_of c.topology name ≡ Some left.lease.interval) (sym same) lies-ready;
+  })
+
+  -- the row that is read is the row as it is known
+  pub known-ready : (lease : LeaseView) (row : Contents) → lease ≡ left.lease → desk.case ≡ case → name.part < parts_of case.topology
+      → row_in (cached left.rows) name ≡ Some row → IsRowKnown desk lease name row
+  known-ready lease row is same part found = subst (λ (l : LeaseView). IsRowKnown desk l name row) (sym is)
+      (held-known case desk name left row same IsHeld-ready.rows lies-ready part (read-ready row found))
+
+module _ (case : CaseShape) (old new : DeskView) (all gone after : List (Option HeldView)) (i : ℕ) (name : RowName) (left : HeldView)
+    (lies : interval_of case.topology name ≡ Some i) (ready : IsReady case.topology i name all gone left) (are : AreHeld case old all)
+    (others : KeepsOthers i gone after) (lease : LeaseView) (lease_is : lease ≡ left.lease) where
+  -- what is held of the interval fits before the entry
+  fits : IsHeld case old i left
+  fits = IsHeld-ready case old all gone i name left lies ready are
+
+  -- what is held of other intervals is as before
+  kept-others : KeepsOthers i all after
+  kept-others j apart = others j apart ∙ ap (λ l. held_at l j) ready.gone ∙ held-others all i None j apart
+
+  -- all that is held fits after an entry on the row
+  AreHeld-entered : old.case ≡ case → IsSound old → IsSound new → (answer : Written) → held_at after i ≡ Some (with_row name answer.row left)
+      → HasEntered old new left.lease name answer → AreHeld case new after
+  AreHeld-entered same sound now answer here by = AreHeld-here case new after i (with_row name answer.row left) here
+      (record {
+        of_interval = fits.of_interval;
+        may_use = by.moved.leases left.lease fits.may_use;
+        rows = AreRowsHeld-entered case old new same sound now name answer left fits.may_use
+            (lies ∙ ap Some (sym fits.of_interval)) by fits.rows;
+      })
+      (λ j held apart is.
+      let before = are.each j held (sym (kept-others j apart) ∙ is) in record {
+        of_interval = before.of_interval;
+        may_use = by.moved.leases held.lease before.may_use;
+        rows = AreRowsHeld-elsewhere case old new same sound now left.lease name answer held fits.may_use before.may_use
+            (λ e. apart (sym before.of_interval ∙ e ∙ fits.of_interval)) by before.rows;
+      })
+
+  -- all that is held fits after a refusal
+  AreHeld-refused : old.case ≡ case → IsSound old → IsSound new → held_at after i ≡ Some left → HasLooked old new → AreHeld case new after
+  AreHeld-refused same sound now here looked = AreHeld-looked case old new after after same sound now looked (λ j. refl)
+      (AreHeld-here case old after i left here fits (λ j held apart is. are.each j held (sym (kept-others j apart) ∙ is)))
+
+  -- all that is held fits after a write, whatever was answered
+  pub AreHeld-kept : old.case ≡ case → IsSound old → IsSound new → (written : Result Written DeskRefusal)
+      → MatchResult written (λ (w : Written). held_at after i ≡ Some (with_row name w.row left)) (λ _. held_at after i ≡ Some left)
+      → IfOk written (HasEntered old new lease name) → OnErr written (HasLooked old new) → AreHeld case new after
+  AreHeld-kept same sound now (Ok answer) here by looked = AreHeld-entered same sound now answer here
+      (subst (λ (l : LeaseView). HasEntered old new l name answer) lease_is by)
+  AreHeld-kept same sound now (Err why) here by looked = AreHeld-refused same sound now here looked
+
+  -- a refused write keeps what is held
+  pub KeepsHeld-refused : (written : Result Written DeskRefusal) (result : Result ℕ DeskRefusal)
+      → MatchResult written (λ (w : Written). result ≡ Ok w.commit) (λ why. result ≡ Err why)
+      → MatchResult written (λ (w : Written). held_at after i ≡ Some (with_row name w.row left)) (λ _. held_at after i ≡ Some left)
+      → OnErr result (KeepsHeld case.topology all after)
+  KeepsHeld-refused (Ok answer) result is here = subst (λ (r : Result ℕ DeskRefusal). OnErr r (KeepsHeld case.topology all after)) (sym is) tt
+  KeepsHeld-refused (Err why) result is here = subst (λ (r : Result ℕ DeskRefusal). OnErr r (KeepsHeld case.topology all after)) (sym is) (record {
+    there = λ j held at. elim (number_or_not i j) [
+      | inl equal ↦
+          let held_is : ready.held ≡ held = some_same ready.held held (sym ready.was ∙ sym (ap (held_at all) equal) ∙ at) in (
+            left,
+            ap (held_at after) equal ∙ here,
+            ap (λ (h : HeldView). h.lease) ready.is ∙ ap (λ (h : HeldView). h.lease) held_is,
+            λ other. ap (λ (h : HeldView). row_held case.topology h other) ready.is ∙ row_held-same case.topology name other ready.held
+                ∙ ap (λ (h : HeldView). row_held case.topology h other) held_is,
+          )
+      | inr apart ↦ (held, kept-others j apart ∙ at, refl, λ other. refl)
+    ];
+    none = λ j at. elim (number_or_not i j) [
+      | inl equal ↦ absurd (none_some ready.held (sym at ∙ ap (held_at all) equal ∙ ready.was))
+      | inr apart ↦ kept-others j apart ∙ at
+    ];
+  })
+
+  -- an accepted write is held
+  pub HoldsEntry-written : (IsEntry : LeaseView → Contents → Written → Type 0) (row : Contents) (written : Result Written DeskRefusal)
+      (result : Result ℕ DeskRefusal) → MatchResult written (λ (w : Written). result ≡ Ok w.commit) (λ why. result ≡ Err why)
+      → MatchResult written (λ (w : Written). held_at after i ≡ Some (with_row name w.row left)) (λ _. held_at after i ≡ Some left)
+      → row ≡ row_held case.topology left name → IfOk written (IsEntry lease row)
+      → IfOk result (λ commit. HoldsEntry case.topology i name commit IsEntry all after)
+  HoldsEntry-written IsEntry row (Err why) result is here row_is by =
+      subst (λ (r : Result ℕ DeskRefusal). IfOk r (λ commit. HoldsEntry case.topology i name commit IsEntry all after)) (sym is) tt
+  HoldsEntry-written IsEntry row (Ok answer) result is here row_is by =
+      subst (λ (r : Result ℕ DeskRefusal). IfOk r (λ commit. HoldsEntry case.topology i name commit IsEntry all after)) (sym is) (record {
+        held = ready.held;
+        answer = answer;
+        was = ready.was;
+        entry = subst (λ (l : LeaseView). IsEntry l (row_held case.topology ready.held name) answer)
+            (lease_is ∙ ap (λ (h : HeldView). h.lease) ready.is)
+            (subst (λ (r : Contents). IsEntry lease r answer) (row_is ∙ row-ready case old all gone i name left lies ready are) by);
+        number = refl;
+        is = here ∙ ap (λ (h : HeldView). Some (with_row name answer.row h)) ready.is
+            ∙ ap Some (with_row-again name (row_held case.topology ready.held name) answer.row ready.held);
+        others = kept-others;
+      })
