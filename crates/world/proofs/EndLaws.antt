@@ -1,10 +1,8 @@
 -- Where nothing is unacknowledged, no timer is due and no line is left, no timer is set, and no work is left.
-use Rattle.std.proofs.Common.{◌≡◌, ℕ, zero, suc, ◌+◌, ◌<◌, ◌≤◌, Bool, true, false, List, [], ◌∷◌, ◌++◌, length, refl, sym, ◌∙◌, ap, subst, arith, inl, inr}
-use Rattle.std.specs.Prelude.{◌⊎◌, Option, Some, Contains, MatchBool, unwrap_or}
-use Rattle.std.specs.List.{AllByRecursion, flat_map, range_with_len}
+use Rattle.std.proofs.Common.{◌≡◌, ℕ, zero, suc, ◌+◌, ◌<◌, ◌≤◌, Bool, true, false, List, [], ◌∷◌, length, refl, sym, ◌∙◌, ap, subst, arith, inl, inr}
+use Rattle.std.specs.Prelude.{◌⊎◌, Contains, MatchBool}
+use Rattle.std.specs.List.{AllByRecursion, range_with_len}
 use Rattle.std.specs.Option.{option_map_or}
-use Rattle.std.specs.BTreeMap.{is_at}
-use Rattle.std.specs.Map.{lookup}
 use Rattle.std.proofs.lemmas.Bool.{ltb-true, ltb-false, cases_lt}
 use Rattle.std.proofs.lemmas.Option.{slice_get_past}
 use Rattle.mw_types.specs.declared.TheConstants.{MAX_STAMP, END}
@@ -12,12 +10,10 @@ use Rattle.mw_types.specs.declared.identity.RowName.{RowName}
 use Rattle.mw_types.specs.declared.timer.Timer.{Timer}
 use Rattle.mw_types.specs.declared.delivery.Delivery.{Delivery}
 use Rattle.mw_types.specs.declared.entry.Entry.{Entry}
-use Rattle.mw_types.specs.Orders.{row_cmp}
-use Rattle.mw_types.proofs.OrderLaws.{row_cmp-total}
 use Rattle.injector.specs.Sources.{SourceLine}
 use Rattle.topology.specs.Shapes.{Shape, parts_of, injectors_of, feeds_of}
-use Rattle.row_parts.specs.Contents.{Contents, fresh}
-use Rattle.run_history.specs.Cases.{CaseShape, is_injector, source_of, fresh_of}
+use Rattle.row_parts.specs.Contents.{Contents}
+use Rattle.run_history.specs.Cases.{CaseShape, is_injector, source_of}
 use Rattle.run_history.specs.Made.{found_delivery}
 use Rattle.run_history.specs.Runs.{Run, run_of, row_of}
 use Rattle.run_history.specs.Watermarks.{cursor_of, source_mark, low_watermark}
@@ -25,7 +21,6 @@ use Rattle.run_history.specs.Legal.{IsLegal}
 use Rattle.run_history.specs.Finished.{all_pending, all_timers, has_line, injectors_left, IsFinished}
 use Rattle.run_history.specs.Inputs.{IsRunnable}
 use Rattle.run_history.proofs.Lists.{none_some, each-weaker}
-use Rattle.run_history.proofs.Lookups.{each_found}
 use Rattle.history_laws.specs.Ids.{IsSentBy}
 use Rattle.history_laws.proofs.FeedLaws.{feeds-before}
 use Rattle.history_laws.proofs.LowLaws.{AreRowsInOrder, rows-in_order, LowFrom, from-low}

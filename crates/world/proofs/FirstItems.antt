@@ -1,5 +1,5 @@
 -- Of all that the rows of a run hold of one kind there is nothing, or a first in an order.
-use Rattle.std.proofs.Common.{◌≡◌, ◌⊎◌, ℕ, Bool, true, false, cond, List, [], ◌∷◌, ◌++◌, map, refl, sym, ◌∙◌, ap, subst, arith, inl, inr}
+use Rattle.std.proofs.Common.{◌≡◌, ◌⊎◌, Bool, true, false, cond, List, [], ◌∷◌, map, refl, sym, ◌∙◌, ap, subst, inl, inr}
 use Rattle.std.specs.Prelude.{Some, Contains, filter, unwrap_or}
 use Rattle.std.specs.List.{AllByRecursion, flat_map}
 use Rattle.std.specs.BTreeMap.{is_at}
@@ -39,9 +39,15 @@ first_of R total P x [] here each = (x, here, (ap is_gt (tied_itself total x), t
 first_of {X} R total P x (y ∷ ys) here each =
     let rest = first_of R total P y ys each.0 each.1 in
     elim (one_way R total x rest.0) [
-      | inl first ↦
-          (x, here, (ap is_gt (tied_itself total x), each-weaker (λ z. is_gt (R rest.0 z) ≡ false) (λ z. is_gt (R x z) ≡ false)
-          (λ z le. upto total x rest.0 z first le) (y ∷ ys) rest.2))
+      | inl first ↦ (
+        x,
+        here,
+        (
+          ap is_gt (tied_itself total x),
+          each-weaker (λ z. is_gt (R rest.0 z) ≡ false) (λ z. is_gt (R x z) ≡ false)
+              (λ z le. upto total x rest.0 z first le) (y ∷ ys) rest.2,
+        ),
+      )
       | inr later ↦ (rest.0, rest.1, (later, rest.2))
     ]
 
@@ -152,8 +158,12 @@ module _ {X : Type 0} (items : Contents → List X) (keep : RowName → X → Bo
           (held_in run.rows) (each-held order)) in
           let first = first_of R total (λ (h : RowName × X). Contains (items (row_of shape run h.0)) h.1 × (keep h.0 h.1 ≡ true)) h hs
           each.0 each.1 in
-          inr (first.0.0, first.0.1, record {
-            holds = record { has = first.1.0; kept = first.1.1 };
-            first = held-each (λ y. is_gt (R first.0 y) ≡ false) none
-                (subst (AllByRecursion (λ y. is_gt (R first.0 y) ≡ false)) (sym is) first.2);
-          })
+          inr (
+            first.0.0,
+            first.0.1,
+            record {
+              holds = record { has = first.1.0; kept = first.1.1 };
+              first = held-each (λ y. is_gt (R first.0 y) ≡ false) none
+                  (subst (AllByRecursion (λ y. is_gt (R first.0 y) ≡ false)) (sym is) first.2);
+            },
+          )

@@ -1,12 +1,11 @@
 -- A drain that has not ended has a next entry.
-use Rattle.std.proofs.Common.{◌≡◌, ◌≢◌, ◌⊎◌, ℕ, ◌+◌, ◌<◌, ◌≤◌, ◌-◌, Bool, true, false, cond, List, [], ◌∷◌, ◌++◌, length, refl, sym, ◌∙◌, ap, subst, arith, inl, inr, suc}
+use Rattle.std.proofs.Common.{◌≡◌, ◌≢◌, ◌⊎◌, ℕ, ◌+◌, ◌≤◌, ◌-◌, Bool, true, false, cond, List, [], ◌∷◌, length, refl, sym, subst, arith, inl, inr, suc}
 use Rattle.std.specs.Prelude.{Option, Some, None, IsSome, Contains, find, nat_le, pos}
-use Rattle.std.specs.List.{AllByRecursion, flat_map}
+use Rattle.std.specs.List.{AllByRecursion}
 use Rattle.std.specs.Cmp.{IsTotalOrder, then_total, on_total, nat_cmp_total, tied_itself}
 use Rattle.std.specs.Ordering.{is_gt, nat_cmp, ordering_then}
 use Rattle.std.specs.declared.cmp.Ordering.{Ordering}
 use Rattle.std.specs.declared.cmp.Ordering.TheVariants.{Less, Equal, Greater}
-use Rattle.std.specs.Option.{is_some}
 use Rattle.std.proofs.lemmas.Bool.{cases_lt, leb-true, le-leb}
 use Rattle.std.proofs.lemmas.Map.Keys.{le_from_not_gt}
 use Rattle.std.proofs.lemmas.List.Elements.{All-contains, All-from_recursion, All-contains_itself, recursion_from_All}
@@ -16,13 +15,11 @@ use Rattle.mw_types.specs.declared.identity.RecordId.{RecordId}
 use Rattle.mw_types.specs.declared.identity.RowName.{RowName}
 use Rattle.mw_types.specs.declared.delivery.Delivery.{Delivery}
 use Rattle.mw_types.specs.declared.timer.Timer.{Timer}
-use Rattle.mw_types.specs.declared.record.Record.{Record}
 use Rattle.mw_types.specs.declared.state.State.TheVariants as states
 use Rattle.mw_types.specs.declared.entry.Entry.{Entry}
 use Rattle.mw_types.specs.declared.entry.Entry.TheVariants.{Claim, Inject, Handle, Fire, Ack, Purge}
 use Rattle.mw_types.specs.Outcomes.{Outcome}
 use Rattle.topology.specs.Rules.{interval_count}
-use Rattle.topology.specs.Shapes.{Shape}
 use Rattle.row_parts.specs.Contents.{Contents, same_id}
 use Rattle.run_history.specs.Cases.{CaseShape}
 use Rattle.run_history.specs.Made.{found_delivery}
@@ -33,7 +30,7 @@ use Rattle.run_history.specs.Finished.{all_pending, is_handled, injectors_left}
 use Rattle.run_history.proofs.Lists.{none_some, some_same, each-weaker, find-passes}
 use Rattle.history_laws.proofs.IdLaws.{same_id-itself, same_id-true}
 use Rattle.history_laws.proofs.LowLaws.{AreRowsInOrder, rows-in_order}
-use Rattle.book.specs.Senders.{IsPendingIn, IsLeastSent}
+use Rattle.book.specs.Senders.{IsLeastSent}
 use Rattle.world.specs.Drains.{is_full, IsDue, HasClaimed, HasAcknowledged, HasFired, HasInjected, HasEnded, IsToHandle, IsDrainStep}
 use Rattle.world.proofs.Firsts.{timer_cmp-total, nil-rows}
 use Rattle.world.proofs.FirstItems.{first_of, Holds, IsFirst, none_or_first}
@@ -58,8 +55,11 @@ find-some test [] = tt
 find-some test (x ∷ xs) =
     elim (test x) as (λ b. test x ≡ b
     → AllByRecursion (λ y. test y ≡ true → IsSome (cond b (Some x) (find test xs))) (x ∷ xs)) [
-      | true ↦ λ e. ((λ _. refl), each-weaker (λ y. test y ≡ true → IsSome (find test xs)) (λ y. test y ≡ true → IsSome (Some x))
-          (λ y some passes. refl) xs (find-some test xs))
+      | true ↦ λ e. (
+        (λ _. refl),
+        each-weaker (λ y. test y ≡ true → IsSome (find test xs)) (λ y. test y ≡ true → IsSome (Some x))
+            (λ y some passes. refl) xs (find-some test xs),
+      )
       | false ↦ λ e. ((λ passes. absurd (cc)), find-some test xs)
     ] refl
 
@@ -212,9 +212,15 @@ module _ (case : CaseShape) (run : Run) (order : AreRowsInOrder run) where
           let each = subst (AllByRecursion (Contains left)) is (recursion_from_All (Contains left) left (All-contains_itself left)) in
           let first = first_of lines_cmp (then_total (on_total (cursor_of case run) nat_cmp_total) nat_cmp_total) (Contains left) p ps
           each.0 each.1 in
-          inr (first.0, (first.1, λ other has. All-contains (λ y. is_gt (lines_cmp first.0 y) ≡ false) left other
-          (All-from_recursion (λ y. is_gt (lines_cmp first.0 y) ≡ false) left
-          (subst (AllByRecursion (λ y. is_gt (lines_cmp first.0 y) ≡ false)) (sym is) first.2)) has))
+          inr (
+            first.0,
+            (
+              first.1,
+              λ other has. All-contains (λ y. is_gt (lines_cmp first.0 y) ≡ false) left other
+                  (All-from_recursion (λ y. is_gt (lines_cmp first.0 y) ≡ false) left
+                  (subst (AllByRecursion (λ y. is_gt (lines_cmp first.0 y) ≡ false)) (sym is) first.2)) has,
+            ),
+          )
 
   -- ---- seen ids
 
@@ -250,10 +256,13 @@ module _ (case : CaseShape) (run : Run) (order : AreRowsInOrder run) where
       by_case : ((name : RowName) (id : RecordId) → HasSeenId name id → ⊥) ⊎ ((name : RowName) × (id : RecordId) × IsFirstSeen name id)
           → ((row : RowName) → (row_of case.topology run row).seen ≡ []) ⊎ ((row : RowName) × IsFirstRow row)
       by_case (inl none) = inl (λ row. by_row row (none row) (empty_or_not (row_of case.topology run row).seen))
-      by_case (inr (row, id, first)) = inr (row, (
-        (λ is. let has = subst (λ l. Contains l id) is first.holds.has in let within = has.1 in omega (arith, within)),
-        (λ other some. by_other row other id first some (empty_or_not (row_of case.topology run other).seen)),
-      ))
+      by_case (inr (row, id, first)) = inr (
+        row,
+        (
+          (λ is. let has = subst (λ l. Contains l id) is first.holds.has in let within = has.1 in omega (arith, within)),
+          (λ other some. by_other row other id first some (empty_or_not (row_of case.topology run other).seen)),
+        ),
+      )
 
 -- ---- the next entry
 
@@ -309,12 +318,15 @@ module _ (case : CaseShape) (from : ℕ) (history : List Entry) where
       by_case : ((row : RowName) → (row_of case.topology run row).seen ≡ []) ⊎ ((row : RowName) × IsFirstRow case run order row)
           → HasEnded case from history ⊎ HasNext
       by_case (inl none) = inl (record { earlier = done; none_seen = none })
-      by_case (inr (row, first)) = inr (Purge 0 row (floor_of run), inr (record {
-        earlier = done;
-        has = first.0;
-        least = first.1;
-        to_floor = refl;
-      }))
+      by_case (inr (row, first)) = inr (
+        Purge 0 row (floor_of run),
+        inr (record {
+          earlier = done;
+          has = first.0;
+          least = first.1;
+          to_floor = refl;
+        }),
+      )
 
   -- a line, or what comes after the last
   next-line : HasFired case from history → HasEnded case from history ⊎ HasNext
@@ -334,13 +346,16 @@ module _ (case : CaseShape) (from : ℕ) (history : List Entry) where
       by_case : ((row : RowName) (timer : Timer) → IsDue case run row timer → ⊥)
           ⊎ ((row : RowName) × (timer : Timer) × IsLeastDue case run order row timer) → HasEnded case from history ⊎ HasNext
       by_case (inl none) = next-line (record { earlier = done; none_due = none })
-      by_case (inr (row, timer, is)) = inr (Fire 0 row timer (low_watermark case run row.part) some_effects, record {
-        earlier = done;
-        due = is.due;
-        first = is.first;
-        least = is.least;
-        exact = refl;
-      })
+      by_case (inr (row, timer, is)) = inr (
+        Fire 0 row timer (low_watermark case run row.part) some_effects,
+        record {
+          earlier = done;
+          due = is.due;
+          first = is.first;
+          least = is.least;
+          exact = refl;
+        },
+      )
 
   -- a record, or what comes after the last
   next-claimed : HasClaimed case from history → HasEnded case from history ⊎ HasNext
@@ -354,10 +369,13 @@ module _ (case : CaseShape) (from : ℕ) (history : List Entry) where
   -- a drain has ended, or some entry comes next
   pub ended_or_next : from ≤ length history → HasEnded case from history ⊎ HasNext
   ended_or_next after = elim (cases_lt (length history) (from + interval_count case.topology)) [
-    | inl less ↦ inr (Claim 0 (length history - from), record {
+    | inl less ↦ inr (
+      Claim 0 (length history - from),
+      record {
         first_worker = refl;
         there = omega (arith, less, after);
         next = omega (arith, after);
-      })
+      },
+    )
     | inr claimed ↦ next-claimed claimed
   ]

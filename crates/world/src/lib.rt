@@ -2,10 +2,10 @@
 //!
 //! A drain claims each interval, and then writes the one entry that its rules name, until none is
 //! left to write. Each law is the contract of a function with an empty body. Stands on `book` and
-//! the crates below it. Public contract: after a history a drain has one next entry at most, and
-//! none once it has ended; then no work is left; one pass of reports finds exactly the low
-//! watermarks where nothing is pending. Definitions: `specs/Drains.antt`, what a drain writes;
-//! `specs/Passes.antt`, a pass of reports.
+//! the crates below it. Public contract: until it ends a drain has a next entry, and one alone, so
+//! that the drain of a history is one list; when it ends no work is left; one pass of reports finds
+//! exactly the low watermarks where nothing is pending. Definitions: `specs/Drains.antt`, what a
+//! drain writes; `specs/Passes.antt`, a pass of reports.
 #![tactic(auto)]
 
 mod drains;
