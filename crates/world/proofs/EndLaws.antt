@@ -1,10 +1,8 @@
 -- Where nothing is unacknowledged, no timer is due and no line is left, no timer is set, and no work is left.
-use Rattle.std.proofs.Common.{◌≡◌, ℕ, zero, suc, ◌+◌, ◌<◌, ◌≤◌, Bool, true, false, List, [], ◌∷◌, ◌++◌, length, refl, sym, ◌∙◌, ap, subst, arith, inl, inr}
-use Rattle.std.specs.Prelude.{◌⊎◌, Option, Some, Contains, MatchBool, unwrap_or}
-use Rattle.std.specs.List.{AllByRecursion, flat_map, range_with_len}
+use Rattle.std.proofs.Common.{◌≡◌, ℕ, zero, suc, ◌+◌, ◌<◌, ◌≤◌, Bool, true, false, List, [], ◌∷◌, length, refl, sym, ◌∙◌, ap, subst, arith, inl, inr}
+use Rattle.std.specs.Prelude.{◌⊎◌, Contains, MatchBool}
+use Rattle.std.specs.List.{AllByRecursion, range_with_len}
 use Rattle.std.specs.Option.{option_map_or}
-use Rattle.std.specs.BTreeMap.{is_at}
-use Rattle.std.specs.Map.{lookup}
 use Rattle.std.proofs.lemmas.Bool.{ltb-true, ltb-false, cases_lt}
 use Rattle.std.proofs.lemmas.Option.{slice_get_past}
 use Rattle.mw_types.specs.declared.TheConstants.{MAX_STAMP, END}
@@ -12,12 +10,10 @@ use Rattle.mw_types.specs.declared.identity.RowName.{RowName}
 use Rattle.mw_types.specs.declared.timer.Timer.{Timer}
 use Rattle.mw_types.specs.declared.delivery.Delivery.{Delivery}
 use Rattle.mw_types.specs.declared.entry.Entry.{Entry}
-use Rattle.mw_types.specs.Orders.{row_cmp}
-use Rattle.mw_types.proofs.OrderLaws.{row_cmp-total}
 use Rattle.injector.specs.Sources.{SourceLine}
 use Rattle.topology.specs.Shapes.{Shape, parts_of, injectors_of, feeds_of}
-use Rattle.row_parts.specs.Contents.{Contents, fresh}
-use Rattle.run_history.specs.Cases.{CaseShape, is_injector, source_of, fresh_of}
+use Rattle.row_parts.specs.Contents.{Contents}
+use Rattle.run_history.specs.Cases.{CaseShape, is_injector, source_of}
 use Rattle.run_history.specs.Made.{found_delivery}
 use Rattle.run_history.specs.Runs.{Run, run_of, row_of}
 use Rattle.run_history.specs.Watermarks.{cursor_of, source_mark, low_watermark}
@@ -25,7 +21,6 @@ use Rattle.run_history.specs.Legal.{IsLegal}
 use Rattle.run_history.specs.Finished.{all_pending, all_timers, has_line, injectors_left, IsFinished}
 use Rattle.run_history.specs.Inputs.{IsRunnable}
 use Rattle.run_history.proofs.Lists.{none_some, each-weaker}
-use Rattle.run_history.proofs.Lookups.{each_found}
 use Rattle.history_laws.specs.Ids.{IsSentBy}
 use Rattle.history_laws.proofs.FeedLaws.{feeds-before}
 use Rattle.history_laws.proofs.LowLaws.{AreRowsInOrder, rows-in_order, LowFrom, from-low}
@@ -34,7 +29,7 @@ use Rattle.history_laws.proofs.StampLaws.{AreInTime, InTime, legal-in_time, row_
 use Rattle.history_laws.proofs.UnfinishedLaws.{filter-nil}
 use Rattle.history_laws.proofs.WorkLaws.{DueFrom, WaitsFrom, IsWorkFrom, FeedsFrom}
 use Rattle.world.specs.Drains.{IsDue, HasInjected}
-use Rattle.world.proofs.Firsts.{none-row_of}
+use Rattle.world.proofs.Firsts.{none-row_of, nil-rows}
 
 -- what holds of each number of a range holds of a number within it
 range-each : (P : ℕ → Type 0) (a n k : ℕ) → AllByRecursion P (range_with_len a n) → a ≤ k → k < a + n → P k
@@ -43,11 +38,6 @@ range-each P a (suc n) k each from to = elim (cases_lt a k) [
   | inl less ↦ range-each P (a + 1) n k each.1 (omega (arith, less)) (omega (arith, to))
   | inr le ↦ let same : a ≡ k = omega (arith, from, le) in subst P same each.0
 ]
-
--- nothing comes of elements of which nothing comes
-nil-flat_map : {A X : Type 0} (f : A → List X) (xs : List A) → AllByRecursion (λ x. f x ≡ []) xs → flat_map f xs ≡ []
-nil-flat_map f [] none = refl
-nil-flat_map f (x ∷ xs) none = ap (λ l. l ++ flat_map f xs) none.0 ∙ nil-flat_map f xs none.1
 
 -- nothing waits where nothing is pending
 none-waits : (shape : Shape) (run : Run) → all_pending run ≡ [] → (ds : List Delivery) → AllByRecursion (IsSentBy shape run) ds → ds ≡ []
@@ -148,16 +138,6 @@ module _ (case : CaseShape) (run : Run) (rules : IsRunnable case) (none : run.un
   quiet-below (suc n) order in_time none_due part less = quiet-part part order in_time none_due
       (λ f before. quiet-below n order in_time none_due f (omega (arith, before, less)))
 
--- no timer is set where each row of each part has none
-quiet-timers : (shape : Shape) (run : Run) → AreRowsInOrder run → ((part : ℕ) → IsQuiet shape run part) → all_timers run ≡ []
-quiet-timers shape run order quiet =
-    nil-flat_map (λ (r : RowName × Contents). r.1.timers) run.rows
-    (each-weaker (λ (r : RowName × Contents). lookup (is_at (row_cmp r.0)) run.rows ≡ Some r.1)
-    (λ (r : RowName × Contents). r.1.timers ≡ [])
-    (λ r found. subst (λ (o : Option Contents). (unwrap_or o (fresh (fresh_of shape r.0.part))).timers ≡ []) found
-    (quiet r.0.part r.0 refl))
-    run.rows (each_found row_cmp-total run.rows order.sorted))
-
 -- no work is left once a drain has nothing more to settle, to fire and to inject
 pub injected-finished : (case : CaseShape) (from : ℕ) (history : List Entry) → IsRunnable case → IsLegal case history
     → HasInjected case from history → IsFinished case (run_of case.topology history)
@@ -173,6 +153,6 @@ injected-finished case from history runs legal done =
     none_set : all_timers run ≡ []
     none_set =
         let order = rows-in_order case.topology history in
-        quiet-timers case.topology run order (λ part. quiet-below case run runs
+        nil-rows (λ (c : Contents). c.timers) case.topology run order (λ name. quiet-below case run runs
         (none-waits case.topology run none_pending run.unhandled (legal-sent case history legal).each) done.none_left
-        (suc part) order (legal-in_time case history runs legal) done.earlier.none_due part (omega arith))
+        (suc name.part) order (legal-in_time case history runs legal) done.earlier.none_due name.part (omega arith) name refl)

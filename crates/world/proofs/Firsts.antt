@@ -1,5 +1,9 @@
--- What is least in an order is one, and what is pending, where nothing is.
-use Rattle.std.proofs.Common.{◌≡◌, ℕ, false, List, [], refl, sym, ◌∙◌, ap}
+-- What is least in an order is one, and what the rows of a run hold, where they hold nothing of a kind.
+use Rattle.std.proofs.Common.{◌≡◌, ℕ, false, List, [], ◌∷◌, ◌++◌, refl, sym, ◌∙◌, ap, subst}
+use Rattle.std.specs.Prelude.{Option, Some, unwrap_or}
+use Rattle.std.specs.List.{AllByRecursion, flat_map}
+use Rattle.std.specs.BTreeMap.{is_at}
+use Rattle.std.specs.Map.{lookup}
 use Rattle.std.specs.Cmp.{IsTotalOrder, then_total, on_total, nat_cmp_total}
 use Rattle.std.specs.Ordering.{is_gt, is_eq, nat_cmp, ordering_then, ordering_reverse}
 use Rattle.std.specs.declared.cmp.Ordering.{Ordering}
@@ -15,7 +19,9 @@ use Rattle.row_parts.specs.Contents.{Contents, fresh}
 use Rattle.run_history.specs.Cases.{fresh_of}
 use Rattle.run_history.specs.Runs.{Run, row_of}
 use Rattle.run_history.specs.Finished.{all_pending}
-use Rattle.run_history.proofs.Lists.{found_of_each}
+use Rattle.run_history.proofs.Lists.{found_of_each, each-weaker}
+use Rattle.run_history.proofs.Lookups.{each_found}
+use Rattle.history_laws.proofs.LowLaws.{AreRowsInOrder}
 use Rattle.history_laws.proofs.RowSteps.{both_Equal, same_row}
 use Rattle.history_laws.proofs.UnfinishedLaws.{flat_map-nil}
 
@@ -64,3 +70,18 @@ pub none-row_of : (shape : Shape) (run : Run) (name : RowName) → all_pending r
 none-row_of shape run name none =
     found_of_each (λ (c : Contents). c.pending ≡ []) _ run.rows (fresh (fresh_of shape name.part))
     (flat_map-nil (λ (r : RowName × Contents). r.1.pending) run.rows none) refl
+
+-- nothing comes of elements of which nothing comes
+nil-flat_map : {A X : Type 0} (f : A → List X) (xs : List A) → AllByRecursion (λ x. f x ≡ []) xs → flat_map f xs ≡ []
+nil-flat_map f [] none = refl
+nil-flat_map f (x ∷ xs) none = ap (λ l. l ++ flat_map f xs) none.0 ∙ nil-flat_map f xs none.1
+
+-- the rows of a run hold nothing of a kind where the row of each name holds nothing of it
+pub nil-rows : {X : Type 0} (items : Contents → List X) (shape : Shape) (run : Run) → AreRowsInOrder run
+    → ((name : RowName) → items (row_of shape run name) ≡ []) → flat_map (λ (r : RowName × Contents). items r.1) run.rows ≡ []
+nil-rows items shape run order none =
+    nil-flat_map (λ (r : RowName × Contents). items r.1) run.rows
+    (each-weaker (λ (r : RowName × Contents). lookup (is_at (row_cmp r.0)) run.rows ≡ Some r.1)
+    (λ (r : RowName × Contents). items r.1 ≡ [])
+    (λ r found. subst (λ (o : Option Contents). items (unwrap_or o (fresh (fresh_of shape r.0.part))) ≡ []) found (none r.0))
+    run.rows (each_found row_cmp-total run.rows order.sorted))

@@ -1,5 +1,5 @@
 //! What comes next in a drain.
-ghost use Rattle.std.specs.Prelude.{ℕ, List, length, ◌≡◌, ◌++◌, ◌∷◌, []};
+ghost use Rattle.std.specs.Prelude.{ℕ, List, length, ◌≡◌, ◌≤◌, ◌⊎◌, ◌++◌, ◌∷◌, []};
 ghost use Rattle.mw_types.specs.declared.entry.Entry.{Entry};
 ghost use Rattle.run_history.specs.Cases.{CaseShape};
 ghost use Rattle.run_history.specs.Runs.{run_of};
@@ -22,6 +22,12 @@ pub fn next_drain_entries_are_one()
 pub fn ended_drains_have_no_next_entry()
     ensures none { (case : CaseShape) (from : ℕ) (history : List Entry) (entry : Entry) →
         HasEnded case from history → IsDrainStep case from history entry → ⊥ }
+{}
+
+/// A drain that has not ended has a next entry.
+pub fn drains_go_on_until_they_end()
+    ensures next { (case : CaseShape) (from : ℕ) (history : List Entry) → from ≤ length history →
+        HasEnded case from history ⊎ ((entry : Entry) × IsDrainStep case from history entry) }
 {}
 
 /// Two histories that are drained from one beginning on are the same, where both are legal and

@@ -2,17 +2,17 @@
 //!
 //! A drain claims each interval, and then writes the one entry that its rules name, until none is
 //! left to write. Each law is the contract of a function with an empty body. Stands on `book` and
-//! the crates below it. Public contract: after a history a drain has one next entry at most, and
-//! none once it has ended; then no work is left; one pass of reports finds exactly the low
-//! watermarks where nothing is pending. Definitions: `specs/Drains.antt`, what a drain writes;
-//! `specs/Passes.antt`, a pass of reports.
+//! the crates below it. Public contract: until it ends a drain has a next entry, and one alone, so
+//! that the drain of a history is one list; when it ends no work is left; one pass of reports finds
+//! exactly the low watermarks where nothing is pending. Definitions: `specs/Drains.antt`, what a
+//! drain writes; `specs/Passes.antt`, a pass of reports.
 #![tactic(auto)]
 
 mod drains;
 mod passes;
 
 pub use drains::{
-    drained_histories_are_one, drains_leave_no_work, ended_drains_have_no_next_entry,
-    next_drain_entries_are_one,
+    drained_histories_are_one, drains_go_on_until_they_end, drains_leave_no_work,
+    ended_drains_have_no_next_entry, next_drain_entries_are_one,
 };
 pub use passes::{a_pass_finds_low_watermarks, a_pass_leaves_the_greatest_safe_marks};
