@@ -1,6 +1,6 @@
 -- The lines of a history: for each entry one JSON object, as `serde_json` prints it, and LF. Own.
--- Each says what the entry does and its commit number. An id is printed as a UUID, and a state as its bytes in
--- lower-case hexadecimal.
+-- Each says what the entry does and its commit number. An id is printed as a UUID, and a state as its bytes
+-- in lower-case hexadecimal.
 use Rattle.std.specs.Prelude.{ℕ, List, map, codes, ⊤}
 use Rattle.std.specs.List.{flat_map, enumerate_from}
 use Rattle.mw_types.specs.declared.identity.RecordId.{RecordId}
@@ -71,8 +71,8 @@ inject_data n seq part line item = object
     (member (codes "ts") (number (unsigned item.stamp))
     (member (codes "value") (number (of_integer item.value)) no_members)))))))))
 
--- a row handled a record; its id, what the handler produced, the state that it left and the timers that it set are
--- given as they are printed
+-- a row handled a record; its id, what the handler produced, the state that it left and the timers that it
+-- set are given as they are printed
 abbrev pub handled_data : ℕ → ℕ → RowName → Data → Data → Data → Data → Data
 handled_data n seq row id out state timers = object
     (member (codes "do") (string (codes "handle"))
@@ -88,11 +88,11 @@ handled_data n seq row id out state timers = object
 -- a row handled a record
 abbrev pub handle_data : ℕ → ℕ → RowName → RecordId → Outcome → Data
 handle_data n seq row id effects =
-    handled_data n seq row (id_data id) (array_data production_data effects.productions) (state_data effects.state)
-    (array_data timer_data effects.timers)
+    handled_data n seq row (id_data id) (array_data production_data effects.productions)
+    (state_data effects.state) (array_data timer_data effects.timers)
 
--- a row fired a timer under a watermark; what the handler produced and the state that it left are given as they are
--- printed
+-- a row fired a timer under a watermark; what the handler produced and the state that it left are given as
+-- they are printed
 abbrev pub fired_data : ℕ → ℕ → RowName → Timer → ℕ → Data → Data → Data
 fired_data n seq row timer mark out state = object
     (member (codes "do") (string (codes "fire"))
@@ -110,7 +110,8 @@ fired_data n seq row timer mark out state = object
 -- a row fired a timer under a watermark
 abbrev pub fire_data : ℕ → ℕ → RowName → Timer → ℕ → Outcome → Data
 fire_data n seq row timer mark effects =
-    fired_data n seq row timer mark (array_data production_data effects.productions) (state_data effects.state)
+    fired_data n seq row timer mark (array_data production_data effects.productions)
+    (state_data effects.state)
 
 -- a sender's row learnt that a record was handled
 abbrev pub ack_data : ℕ → ℕ → RowName → RecordId → Data
