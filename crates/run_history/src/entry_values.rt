@@ -1,18 +1,16 @@
 //! Entries as JSON objects.
-ghost use Rattle.std.specs.Prelude.{◌≡◌, IfOk, string_bytes};
+ghost use Rattle.std.specs.Prelude.{◌≡◌, codes, IfOk, OnOk, string_bytes};
 ghost use Rattle.mw_types.specs.Bounds.{IsWithin};
 ghost use Rattle.row_parts.specs.Contents.{IsId};
 ghost use Rattle.row_parts.specs.Spelling.{state_spelling};
 ghost use Rattle.hex.specs.Hex.{encode_lower};
 ghost use Rattle.run_history.specs.HistoryLines.{array_data, production_data, timer_data, claim_data, inject_data, handle_data, handled_data, fire_data, fired_data, ack_data, purge_data, entry_data, HasLine};
-ghost use Rattle.serde_json.specs.Data.{string};
-ghost use Rattle.serde_json.specs.View.{view};
+ghost use Rattle.serde_json.specs.Data.{boolean, number, put, string, unsigned};
+ghost use Rattle.serde_json.specs.View.{members_view, view};
 
-use mw_types::{
-    Effects, Entry, NoMemory, Production, Record, RecordId, RowName, State, Timer,
-};
+use mw_types::{Effects, Entry, NoMemory, Production, Record, RecordId, RowName, State, Timer};
 use row_parts::state_bytes;
-use serde_json::{Value, json};
+use serde_json::{Map, Value, json};
 use std::alloc::Global;
 
 // An entry under its commit number.
@@ -50,8 +48,7 @@ pub(crate) fn entry_value(alloc: Global, entry: &Entry, n: u64) -> Result<Value,
 fn claim_value(alloc: Global, n: u64, worker: u32, interval: u32) -> Result<Value, NoMemory>
     ensures { IfOk result (λ value. view value ≡ claim_data n worker interval) }
 {
-    let value =
-        json!(in alloc; {"do": "claim", "interval": interval, "n": n, "worker": worker})?;
+    let value = json!(in alloc; {"do": "claim", "interval": interval, "n": n, "worker": worker})?;
     Ok(value)
 }
 
@@ -97,16 +94,7 @@ fn handle_value(
     let out = productions_value(alloc, effects.productions.as_slice())?;
     let state = state_text(alloc, &effects.state)?;
     let timers = timers_value(alloc, effects.timers.as_slice())?;
-    handled_value(
-        alloc,
-        n,
-        seq,
-        row,
-        id.text(),
-        &out,
-        state.as_str(),
-        &timers,
-    )
+    handled_value(alloc, n, seq, row, id.text(), &out, state.as_str(), &timers)
 }
 
 // A handled record, by what is printed of it.
@@ -170,21 +158,78 @@ fn fired_value(
     ensures { let state = string state.now in IfOk result (λ value.
         view value ≡ fired_data n seq row.now timer mark (view out.now) state) }
 {
-    let key = row.key.text();
-    let value = json!(in alloc; {
-        "do": "fire",
-        "late": timer.late,
-        "mark": mark,
-        "n": n,
-        "out": out,
-        "part": row.part,
-        "row": key,
-        "seq": seq,
-        "state": state,
-        "tag": timer.tag,
-        "time": timer.time
-    })?;
-    Ok(value)
+    let mut map = Map::new(alloc);
+    put_firing(alloc, &mut map, n, seq, mark)?;
+    put_row(alloc, &mut map, row)?;
+    put_timer(alloc, &mut map, timer)?;
+    put_outcome(alloc, &mut map, out, state)?;
+    Ok(Value::Object(map))
+}
+
+// Adds that a timer was fired, and under what.
+fn put_firing(
+    alloc: Global,
+    map: &mut Map<String, Value>,
+    n: u64,
+    seq: u64,
+    mark: u64,
+) -> Result<(), NoMemory>
+    ensures { OnOk result (members_view map.new.entries
+        ≡ put (codes "seq") (number (unsigned seq))
+        (put (codes "n") (number (unsigned n))
+        (put (codes "mark") (number (unsigned mark))
+        (put (codes "do") (string (codes "fire")) (members_view map.old.entries))))) }
+{
+    serde_json::put(map, alloc, "do", Value::try_from_str(alloc, "fire")?)?;
+    serde_json::put(map, alloc, "mark", Value::from(mark))?;
+    serde_json::put(map, alloc, "n", Value::from(n))?;
+    serde_json::put(map, alloc, "seq", Value::from(seq))?;
+    Ok(())
+}
+
+// Adds the name of a row.
+fn put_row(alloc: Global, map: &mut Map<String, Value>, row: &RowName) -> Result<(), NoMemory>
+    ensures { OnOk result (members_view map.new.entries
+        ≡ put (codes "row") (string row.now.key)
+        (put (codes "part") (number (unsigned row.now.part)) (members_view map.old.entries))) }
+{
+    serde_json::put(map, alloc, "part", Value::from(row.part))?;
+    serde_json::put(
+        map,
+        alloc,
+        "row",
+        Value::try_from_str(alloc, row.key.text())?,
+    )?;
+    Ok(())
+}
+
+// Adds a timer.
+fn put_timer(alloc: Global, map: &mut Map<String, Value>, timer: Timer) -> Result<(), NoMemory>
+    ensures { OnOk result (members_view map.new.entries
+        ≡ put (codes "time") (number (unsigned timer.time))
+        (put (codes "tag") (number (unsigned timer.tag))
+        (put (codes "late") (boolean timer.late) (members_view map.old.entries)))) }
+{
+    serde_json::put(map, alloc, "late", Value::from(timer.late))?;
+    serde_json::put(map, alloc, "tag", Value::from(timer.tag))?;
+    serde_json::put(map, alloc, "time", Value::from(timer.time))?;
+    Ok(())
+}
+
+// Adds what a handler produced and the state that it left.
+fn put_outcome(
+    alloc: Global,
+    map: &mut Map<String, Value>,
+    out: &Value,
+    state: &str,
+) -> Result<(), NoMemory>
+    ensures { OnOk result (members_view map.new.entries
+        ≡ put (codes "state") (string state.now)
+        (put (codes "out") (view out.now) (members_view map.old.entries))) }
+{
+    serde_json::put(map, alloc, "out", out.clone()?)?;
+    serde_json::put(map, alloc, "state", Value::try_from_str(alloc, state)?)?;
+    Ok(())
 }
 
 // An acknowledgement.
@@ -259,8 +304,7 @@ fn production_value(alloc: Global, production: &Production) -> Result<Value, NoM
     ensures { IfOk result (λ value. view value ≡ production_data production.now) }
 {
     let key = production.key.text();
-    let value =
-        json!(in alloc; {"key": key, "ts": production.stamp, "value": production.value})?;
+    let value = json!(in alloc; {"key": key, "ts": production.stamp, "value": production.value})?;
     Ok(value)
 }
 
