@@ -1,5 +1,5 @@
 -- The lines of the entries so far, with those of the entries that are left, are all lines.
-use Rattle.std.proofs.Common.{◌≡◌, ℕ, ◌+◌, ◌<◌, ◌≤◌, List, ◌∷◌, ◌++◌, length, get_or, drop, sym, ◌∙◌, ap, append_assoc}
+use Rattle.std.proofs.Common.{◌≡◌, ℕ, ◌+◌, ◌<◌, ◌≤◌, List, ◌++◌, length, get_or, drop, sym, ◌∙◌, ap, append_assoc}
 use Rattle.std.proofs.lemmas.List.{at_drop_more, at_drop_all, append-nil}
 use Rattle.mw_types.specs.declared.entry.Entry.{Entry}
 use Rattle.run_history.specs.HistoryLines.{line_of_entry, lines_from, lines_of_history}
