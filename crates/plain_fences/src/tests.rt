@@ -5,6 +5,7 @@ ghost use Rattle.mw_types.specs.Bounds.{IsWithin};
 
 mod handlers;
 mod histories;
+mod history_lines;
 mod rows;
 mod steps;
 mod topologies;

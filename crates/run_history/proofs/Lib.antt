@@ -11,3 +11,5 @@ pub mod Known
 pub mod CaseIntervals
 pub mod IntervalLaws
 pub mod Fitting
+pub mod EntryTexts
+pub mod LineSteps

@@ -11,3 +11,4 @@ pub mod Marks
 pub mod Stored
 pub mod Texts
 pub mod Printing
+pub mod HistoryLines

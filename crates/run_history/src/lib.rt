@@ -1,13 +1,15 @@
 //! Histories: which are legal, what stands after one, and what is written of it.
 //!
 //! Stands on `topology`, `injector`, `computations` and `row_parts`. Public contract: `make`,
-//! `emissions`, `first_row` and `result_text` answer what the definitions say. Definitions:
-//! `specs/Lib.antt` names them in the order of reading; `specs/Legal.antt` says which histories are
-//! legal, and `specs/Printing.antt` which can be printed.
+//! `emissions`, `first_row`, `result_text`, `entry_line` and `history_lines` answer what the
+//! definitions say. Definitions: `specs/Lib.antt` names them in the order of reading;
+//! `specs/Legal.antt` says which histories are legal, and `specs/Printing.antt` which can be printed.
 #![tactic(auto)]
 
 mod case;
 mod emitted;
+mod entry_lines;
+mod entry_values;
 mod first;
 mod history;
 mod lateness;
@@ -17,6 +19,7 @@ mod text;
 
 pub use case::Case;
 pub use emitted::emissions;
+pub use entry_lines::{entry_line, history_lines};
 pub use first::first_row;
 pub use history::History;
 pub use made::{Made, make, production};

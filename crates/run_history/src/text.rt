@@ -87,7 +87,7 @@ fn write_lines(alloc: Global, text: &mut Bytes, lines: &[ResultLine]) -> Result<
 }
 
 // Appends bytes.
-fn append(text: &mut Bytes, more: &[u8]) -> Result<(), NoMemory>
+pub(crate) fn append(text: &mut Bytes, more: &[u8]) -> Result<(), NoMemory>
     ensures { OnOk result (text.new ≡ text.old ++ more.now) }
 {
     for byte in more {

@@ -1,0 +1,52 @@
+//! The lines of a history, one for each entry.
+ghost use Rattle.std.specs.Prelude.{◌≡◌, ◌++◌, ◌<◌, ◌^◌, All, IfOk, OnOk, string_bytes};
+ghost use Rattle.run_history.specs.HistoryLines.{line_of_entry, lines_of_history, HasLine};
+
+use crate::entry_values::entry_value;
+use crate::history::History;
+use crate::text::append;
+use mw_types::{Bytes, Entry, NoMemory, Seq};
+use std::alloc::Global;
+
+/// The line of an entry under its commit number, with its LF.
+pub fn entry_line(alloc: Global, entry: &Entry, n: u64) -> Result<Bytes, NoMemory>
+    requires printable { HasLine entry.now }
+
+    ensures written { IfOk result (λ line. line ≡ line_of_entry n entry.now) }
+{
+    let mut line = Seq::new(alloc);
+    write_entry(alloc, &mut line, entry, n)?;
+    Ok(line)
+}
+
+/// The lines of a history, in the order of its entries, which count from 0.
+pub fn history_lines(alloc: Global, history: &History) -> Result<Bytes, NoMemory>
+    requires printable { All HasLine history.now }
+
+    ensures written { IfOk result (λ lines. lines ≡ lines_of_history history.now) }
+{
+    let mut lines = Seq::new(alloc);
+    for (n, entry) in history.entries().iter().enumerate() {
+        write_entry(alloc, &mut lines, entry, n as u64)?;
+    }
+    Ok(lines)
+}
+
+// Appends the line of an entry.
+fn write_entry(alloc: Global, lines: &mut Bytes, entry: &Entry, n: u64) -> Result<(), NoMemory>
+    requires { HasLine entry.now }
+    ensures { OnOk result (lines.new ≡ lines.old ++ line_of_entry n entry.now) }
+{
+    append(lines, entry_text(alloc, entry, n)?.as_bytes())
+}
+
+// The line of an entry, as a text.
+#[tactic(auto, using(crate::proofs::EntryTexts::entry_has_no_float))]
+fn entry_text(alloc: Global, entry: &Entry, n: u64) -> Result<String, NoMemory>
+    requires { HasLine entry.now }
+    ensures { IfOk result (λ text. string_bytes text ≡ line_of_entry n entry.now) }
+{
+    let mut text = entry_value(alloc, entry, n)?.to_string(alloc)?;
+    text.push('\n')?;
+    Ok(text)
+}
