@@ -20,6 +20,7 @@ use Rattle.mw_types.specs.declared.entry.Entry.{Entry}
 use Rattle.mw_types.specs.declared.entry.Entry.TheVariants.{Claim, Inject, Handle, Fire, Ack, Purge}
 use Rattle.mw_types.specs.Outcomes.{Outcome}
 use Rattle.topology.specs.Rules.{interval_count}
+use Rattle.row_parts.specs.Orders.{timer_cmp-total}
 use Rattle.row_parts.specs.Contents.{Contents, same_id}
 use Rattle.run_history.specs.Cases.{CaseShape}
 use Rattle.run_history.specs.Made.{found_delivery}
@@ -32,7 +33,7 @@ use Rattle.history_laws.proofs.IdLaws.{same_id-itself, same_id-true}
 use Rattle.history_laws.proofs.LowLaws.{AreRowsInOrder, rows-in_order}
 use Rattle.book.specs.Senders.{IsLeastSent}
 use Rattle.world.specs.Drains.{is_full, IsDue, HasClaimed, HasAcknowledged, HasFired, HasInjected, HasEnded, IsToHandle, IsDrainStep}
-use Rattle.world.proofs.Firsts.{timer_cmp-total, nil-rows}
+use Rattle.world.proofs.Firsts.{nil-rows}
 use Rattle.world.proofs.FirstItems.{first_of, Holds, IsFirst, none_or_first}
 
 -- a list has no element, or begins with one
