@@ -6,7 +6,8 @@
 //! append one entry that may follow the history, and the keeper holds the rows of the history and no
 //! others; a refusal changes neither; no mark passes work that is left in its interval or above it.
 //! Definitions: `specs/Lawful.antt`, what always holds of a book; `specs/Conditions.antt`, what a
-//! caller has to know; `specs/Answers.antt`, what the calls answer; `specs/Marks.antt`, the marks.
+//! caller has to know; `specs/Answers.antt`, what the calls answer; `specs/Marks.antt`, the marks;
+//! `specs/Desks.antt`, what a worker knows of a history through a desk, over a book of its own or not.
 #![tactic(auto)]
 
 mod answers;

@@ -3,3 +3,5 @@ pub mod HeldRows
 pub mod HeldPlaces
 pub mod HeldSteps
 pub mod ClaimSteps
+pub mod WorkLaws
+pub mod OwnLaws

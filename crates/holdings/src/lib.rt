@@ -11,6 +11,8 @@ mod cache;
 mod claims;
 mod held;
 mod holdings;
+mod own_work;
+mod row_work;
 mod writes;
 
 pub use claims::fits_beside;

@@ -35,7 +35,8 @@ returns-in-Ok-clause-raised g c alone = is-reported c.args.self.now.book.now c.r
 
 -- nothing has changed
 pub returns-in-Err-clause-looked : goal.returns-in-Err-clause-looked
-returns-in-Err-clause-looked g c = marked c.args.self.now.book.now c.report.new.self c.args.self.now.book.now.marks c.in-Err.ensures.unchanged
+returns-in-Err-clause-looked g c = marked c.args.self.now.book.now c.report.new.self c.args.self.now.book.now.marks
+    c.in-Err.ensures.unchanged
 
 -- the refusal is the book's
 pub returns-in-Err-clause-reason : goal.returns-in-Err-clause-reason
