@@ -78,7 +78,7 @@ to_filter P test (x ∷ xs) each =
     ] refl
 
 -- what holds of each row under its name holds of the row of each name, where it does of a fresh one
-row_of-named : (shape : Shape) (P : RowName → Contents → Type 0) (name : RowName) (rows : List (RowName × Contents))
+pub row_of-named : (shape : Shape) (P : RowName → Contents → Type 0) (name : RowName) (rows : List (RowName × Contents))
     → AllByRecursion (λ (r : RowName × Contents). P r.0 r.1) rows → P name (fresh (fresh_of shape name.part))
     → P name (unwrap_or (lookup (is_at (row_cmp name)) rows) (fresh (fresh_of shape name.part)))
 row_of-named shape P name [] each new = new

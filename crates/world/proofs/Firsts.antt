@@ -15,6 +15,7 @@ use Rattle.mw_types.specs.declared.identity.RecordId.{RecordId}
 use Rattle.mw_types.specs.declared.identity.RowName.{RowName}
 use Rattle.mw_types.specs.declared.timer.Timer.{Timer}
 use Rattle.topology.specs.Shapes.{Shape}
+use Rattle.row_parts.specs.Orders.{timer_cmp-total}
 use Rattle.row_parts.specs.Contents.{Contents, fresh}
 use Rattle.run_history.specs.Cases.{fresh_of}
 use Rattle.run_history.specs.Runs.{Run, row_of}
@@ -46,10 +47,6 @@ one_id a b one other =
 -- two rows of which neither is after the other are one
 pub one_row : (a b : RowName) → is_gt (row_cmp a b) ≡ false → is_gt (row_cmp b a) ≡ false → a ≡ b
 one_row a b one other = same_row a b (ap is_eq (tied_both_ways row_cmp-total a b one other))
-
--- the timers of a part stand in a total order
-pub timer_cmp-total : IsTotalOrder timer_cmp
-timer_cmp-total = then_total (on_total (λ (t : Timer). t.time) nat_cmp_total) (on_total (λ (t : Timer). t.tag) nat_cmp_total)
 
 -- two set timers of which neither is after the other are of one key
 pub one_key : (t u : Timer) (k l : List ℕ) → is_gt (ordering_then (timer_cmp t u) (key_cmp k l)) ≡ false

@@ -3,6 +3,9 @@ pub mod OneStep
 pub mod WholeDrains
 pub mod FirstItems
 pub mod NextLaws
+pub mod ThereLaws
 pub mod Marked
 pub mod PassLaws
 pub mod EndLaws
+pub mod Tried
+pub mod DrainedExample

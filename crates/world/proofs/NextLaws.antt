@@ -20,6 +20,7 @@ use Rattle.mw_types.specs.declared.entry.Entry.{Entry}
 use Rattle.mw_types.specs.declared.entry.Entry.TheVariants.{Claim, Inject, Handle, Fire, Ack, Purge}
 use Rattle.mw_types.specs.Outcomes.{Outcome}
 use Rattle.topology.specs.Rules.{interval_count}
+use Rattle.row_parts.specs.Orders.{timer_cmp-total}
 use Rattle.row_parts.specs.Contents.{Contents, same_id}
 use Rattle.run_history.specs.Cases.{CaseShape}
 use Rattle.run_history.specs.Made.{found_delivery}
@@ -32,7 +33,7 @@ use Rattle.history_laws.proofs.IdLaws.{same_id-itself, same_id-true}
 use Rattle.history_laws.proofs.LowLaws.{AreRowsInOrder, rows-in_order}
 use Rattle.book.specs.Senders.{IsLeastSent}
 use Rattle.world.specs.Drains.{is_full, IsDue, HasClaimed, HasAcknowledged, HasFired, HasInjected, HasEnded, IsToHandle, IsDrainStep}
-use Rattle.world.proofs.Firsts.{timer_cmp-total, nil-rows}
+use Rattle.world.proofs.Firsts.{nil-rows}
 use Rattle.world.proofs.FirstItems.{first_of, Holds, IsFirst, none_or_first}
 
 -- a list has no element, or begins with one
@@ -155,16 +156,18 @@ module _ (case : CaseShape) (run : Run) (order : AreRowsInOrder run) where
   is-due : (name : RowName) (t : Timer) → HasDue name t → IsDue case run name t
   is-due name t has = record { set = has.has; due = leb-true t.time (low_watermark case run name.part) has.kept }
 
+  -- and so the other way round
   has-due : (name : RowName) (t : Timer) → IsDue case run name t → HasDue name t
   has-due name t is = record { has = is.set; kept = le-leb t.time (low_watermark case run name.part) is.due }
 
-  -- a due timer that is the first is so by its part, and in its part
+  -- a due timer is of the first part that has one, and the least there
   pub record IsLeastDue (row : RowName) (timer : Timer) : Type 0 where
     pub due : IsDue case run row timer
     pub first : (other : RowName) (another : Timer) → IsDue case run other another → row.part ≤ other.part
     pub least : (other : RowName) (another : Timer) → IsDue case run other another → other.part ≡ row.part
         → is_gt (ordering_then (timer_cmp timer another) (key_cmp row.key other.key)) ≡ false
 
+  -- a due timer that is the first is so by its part, and in its part
   first-due : (name : RowName) (t : Timer) → IsFirstDue name t → IsLeastDue name t
   first-due name t first = record {
     due = is-due name t first.holds;

@@ -35,26 +35,26 @@ pub record IsDue (case : CaseShape) (run : Run) (row : RowName) (timer : Timer) 
 
 -- ---- how far a drain has come that began when the history had this length
 
--- it has claimed each interval: the history is longer by as many entries
+-- it has claimed each interval: the history is longer by at least as many entries
 abbrev pub HasClaimed : CaseShape → ℕ → List Entry → Type 0
 HasClaimed case from history = from + interval_count case.topology ≤ length history
 
--- and nothing that was made is unacknowledged
+-- it has claimed each interval, and nothing that was made is unacknowledged
 pub record HasAcknowledged (case : CaseShape) (from : ℕ) (history : List Entry) : Type 0 where
   pub claimed : HasClaimed case from history
   pub none_pending : all_pending (run_of case.topology history) ≡ []
 
--- and no timer is due
+-- nothing is unacknowledged, and no timer is due
 pub record HasFired (case : CaseShape) (from : ℕ) (history : List Entry) : Type 0 where
   pub earlier : HasAcknowledged case from history
   pub none_due : (row : RowName) (timer : Timer) → IsDue case (run_of case.topology history) row timer → ⊥
 
--- and no injector has a line left
+-- no timer is due, and no injector has a line left
 pub record HasInjected (case : CaseShape) (from : ℕ) (history : List Entry) : Type 0 where
   pub earlier : HasFired case from history
   pub none_left : injectors_left case (run_of case.topology history) ≡ []
 
--- and no row has a seen id: it has come to its end
+-- it has come to its end: no line is left, and no row has seen ids
 pub record HasEnded (case : CaseShape) (from : ℕ) (history : List Entry) : Type 0 where
   pub earlier : HasInjected case from history
   pub none_seen : (row : RowName) → (row_of case.topology (run_of case.topology history) row).seen ≡ []
