@@ -5,3 +5,4 @@ pub mod HeldSteps
 pub mod ClaimSteps
 pub mod WorkLaws
 pub mod OwnLaws
+pub mod TimerLaws

@@ -1,3 +1,4 @@
 pub mod Holding
 pub mod Caching
 pub mod Steps
+pub mod Timers

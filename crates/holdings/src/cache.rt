@@ -1,5 +1,5 @@
 //! The rows of one interval that are cached.
-ghost use Rattle.std.specs.Prelude.{◌≡◌, IsSome, None, OnErr, OnOk, map, min, option_copied};
+ghost use Rattle.std.specs.Prelude.{◌≡◌, IsSome, None, OnErr, OnOk, fold, map, min, option_copied};
 ghost use Rattle.std.specs.List.{flat_map};
 ghost use Rattle.std.specs.List.Sorted.{IsStrictlySortedBy};
 ghost use Rattle.std.specs.Map.{lookup, set_value};
@@ -13,10 +13,12 @@ ghost use Rattle.run_history.specs.Runs.{cached, row_in};
 ghost use Rattle.run_history.specs.Watermarks.{least};
 ghost use Rattle.book.specs.Claims.{named};
 ghost use Rattle.book.specs.declared.answers.NamedRow.{NamedRow};
+ghost use Rattle.holdings.specs.Timers.{IsFirstSeen, earlier, seen_of};
 
+use crate::first_timer::earlier;
 use crate::row_work::row_work;
 use book::{NamedRow, NamedRowList};
-use mw_types::{END, NoMemory, RowName};
+use mw_types::{END, NoMemory, RowName, Timer};
 use row_parts::Row;
 use std::alloc::Global;
 use std::collections::BTreeMap;
@@ -92,6 +94,38 @@ impl Cache {
     {
         oldest_beside(&self.others, oldest_in(&self.answered))
     }
+
+    // The first timer of all rows, with the name of its row, or none where no row has a timer.
+    pub(crate) fn first_timer(&self) -> Option<(&RowName, Timer)>
+        ensures { IsFirstSeen self.now (seen_of result) }
+    {
+        first_beside(&self.others, first_in(&self.answered))
+    }
+}
+
+// The first timer of the rows of a list.
+fn first_in(rows: &[NamedRow]) -> Option<(&RowName, Timer)>
+    ensures { seen_of result ≡ fold earlier None (map named rows.now) }
+{
+    let mut best = None;
+    for row in rows {
+        best = earlier(best, &row.name, &row.row);
+    }
+    best
+}
+
+// The earlier of a timer and the first of the rows of a map.
+fn first_beside<'a>(
+    rows: &'a BTreeMap<RowName, Row>,
+    first: Option<(&'a RowName, Timer)>,
+) -> Option<(&'a RowName, Timer)>
+    ensures { seen_of result ≡ fold earlier (seen_of first.entry) rows.now.entries }
+{
+    let mut best = first;
+    for (name, row) in rows {
+        best = earlier(best, name, row);
+    }
+    best
 }
 
 // The oldest work of the rows of a list.
