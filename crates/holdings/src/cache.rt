@@ -13,7 +13,8 @@ ghost use Rattle.run_history.specs.Runs.{cached, row_in};
 ghost use Rattle.run_history.specs.Watermarks.{least};
 ghost use Rattle.book.specs.Claims.{named};
 ghost use Rattle.book.specs.declared.answers.NamedRow.{NamedRow};
-ghost use Rattle.holdings.specs.Timers.{IsFirstSeen, earlier, seen_of};
+ghost use Rattle.holdings.specs.Firsts.{earlier};
+ghost use Rattle.holdings.specs.Timers.{IsFirstSeen, due_cmp, seen_of, timer_of};
 
 use crate::first_timer::earlier;
 use crate::row_work::row_work;
@@ -105,7 +106,7 @@ impl Cache {
 
 // The first timer of the rows of a list.
 fn first_in(rows: &[NamedRow]) -> Option<(&RowName, Timer)>
-    ensures { seen_of result ≡ fold earlier None (map named rows.now) }
+    ensures { seen_of result ≡ fold (earlier timer_of due_cmp) None (map named rows.now) }
 {
     let mut best = None;
     for row in rows {
@@ -119,7 +120,7 @@ fn first_beside<'a>(
     rows: &'a BTreeMap<RowName, Row>,
     first: Option<(&'a RowName, Timer)>,
 ) -> Option<(&'a RowName, Timer)>
-    ensures { seen_of result ≡ fold earlier (seen_of first.entry) rows.now.entries }
+    ensures { seen_of result ≡ fold (earlier timer_of due_cmp) (seen_of first.entry) rows.now.entries }
 {
     let mut best = first;
     for (name, row) in rows {

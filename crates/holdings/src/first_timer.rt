@@ -3,7 +3,8 @@ ghost use Rattle.std.specs.Prelude.{◌≡◌, IfOk, IfSome, IsSome, Some};
 ghost use Rattle.std.specs.Option.{option_map};
 ghost use Rattle.std.specs.Ordering.{is_lt};
 ghost use Rattle.holdings.specs.Holding.{held_at};
-ghost use Rattle.holdings.specs.Timers.{IsFirstOf, due_cmp, earlier, earlier_of, named_timer, seen_of};
+ghost use Rattle.holdings.specs.Firsts.{earlier, earlier_of};
+ghost use Rattle.holdings.specs.Timers.{IsFirstTimer, due_cmp, named_timer, seen_of, timer_of};
 
 use crate::holdings::Holdings;
 use mw_types::{Duplicate, NoMemory, RowName, Timer};
@@ -29,7 +30,7 @@ impl Holdings {
     ) -> Result<Option<RowTimer>, NoMemory>
         requires there { IsSome (held_at self.old interval) }
         ensures first { IfOk result (λ found.
-            IfSome (held_at self.old interval) (λ held. IsFirstOf held.rows found)) }
+            IfSome (held_at self.old interval) (λ held. IsFirstTimer held.rows found)) }
         ensures same { self.new ≡ self.old }
     {
         let held = self.get(interval).unwrap();
@@ -59,7 +60,7 @@ pub(crate) fn earlier<'a>(
     name: &'a RowName,
     row: &Row,
 ) -> Option<(&'a RowName, Timer)>
-    ensures { seen_of result ≡ earlier (seen_of best.entry) (name.now, row.now) }
+    ensures { seen_of result ≡ earlier timer_of due_cmp (seen_of best.entry) (name.now, row.now) }
 {
     match row.least_timer() {
         Some(timer) => earlier_of(best, name, timer),
@@ -73,7 +74,7 @@ fn earlier_of<'a>(
     name: &'a RowName,
     timer: Timer,
 ) -> Option<(&'a RowName, Timer)>
-    ensures { seen_of result ≡ earlier_of (seen_of best.entry) name.now (Some timer) }
+    ensures { seen_of result ≡ earlier_of due_cmp (seen_of best.entry) name.now (Some timer) }
 {
     match best {
         None => Some((name, timer)),
@@ -88,7 +89,7 @@ fn lesser<'a>(
     other: &'a RowName,
     held: Timer,
 ) -> Option<(&'a RowName, Timer)>
-    ensures { seen_of result ≡ earlier_of (Some (other.now, held)) name.now (Some timer) }
+    ensures { seen_of result ≡ earlier_of due_cmp (Some (other.now, held)) name.now (Some timer) }
 {
     if is_before(name, &timer, other, &held) {
         Some((name, timer))
