@@ -5,3 +5,5 @@ pub mod HeldSteps
 pub mod ClaimSteps
 pub mod WorkLaws
 pub mod OwnLaws
+pub mod FirstLaws
+pub mod TimerLaws
