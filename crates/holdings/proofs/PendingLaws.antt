@@ -1,9 +1,10 @@
 -- What is pending in rows, gone through one after another.
-use Rattle.std.proofs.Common.{◌≡◌, ◌<◌, ℕ, zero, suc, true, false, cond, List, [], ◌∷◌, ◌++◌, length, map, refl, sym, ◌∙◌, ap, subst, arith, append_assoc}
+use Rattle.std.proofs.Common.{◌≡◌, ◌<◌, ℕ, zero, suc, true, false, cond, List, [], ◌∷◌, ◌++◌, length, map, refl, sym, ◌∙◌, ap, subst, arith}
 use Rattle.std.specs.Prelude.{All, Contains, Option, Some}
 use Rattle.std.specs.List.{AllByRecursion, flat_map}
 use Rattle.std.specs.Map.{lookup}
 use Rattle.std.specs.BTreeMap.{is_at}
+use Rattle.std.proofs.lemmas.List.Concat.{flat_map-append}
 use Rattle.std.proofs.lemmas.List.Elements.{All-contains_itself, All-from_recursion, Contains-append_left, Contains-append_right, recursion_from_All}
 use Rattle.mw_types.specs.Orders.{row_cmp}
 use Rattle.mw_types.specs.declared.identity.RowName.{RowName}
@@ -51,11 +52,6 @@ sent-all (e ∷ es) one row found has =
           (contains-map (sent_of one.sender) row.pending one.delivery has)))
       | false ↦ λ _ rest. Contains-append_right (sent_in e) (flat_map sent_in es) one (sent-all es one row rest has)
     ] refl found
-
--- what is made of two lists together is what is made of each
-flat_map-append : {X Y : Type 0} (f : X → List Y) (xs ys : List X) → flat_map f (xs ++ ys) ≡ flat_map f xs ++ flat_map f ys
-flat_map-append f [] ys = refl
-flat_map-append f (x ∷ xs) ys = ap (λ l. f x ++ l) (flat_map-append f xs ys) ∙ sym (append_assoc (f x) (flat_map f xs) (flat_map f ys))
 
 -- all that is pending in the rows of a list and in those beside it
 pub pending-merged : (answered : List NamedRow) (others : List (RowName × Contents)) (sent : List Sent) → AreOrdered answered others

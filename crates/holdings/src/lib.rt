@@ -3,8 +3,10 @@
 //!
 //! A call asks a desk for one entry, and keeps the row that the entry leaves; a refusal leaves all
 //! as it was. Stands on `book` and the crates below it. Public contract: what is held fits the desk
-//! after each call (`AreHeld`), an accepted write is the desk's, and each other row stays.
-//! Definition: `specs/Holding.antt`.
+//! after each call (`AreHeld`), an accepted write is the desk's, and each other row stays; the first
+//! timer and the own work of an interval are exact. Each of these goes over all rows of the interval.
+//! Definitions: `specs/Holding.antt`; `specs/Timers.antt`, `specs/Purges.antt` and
+//! `specs/Pendings.antt` for what is found among the rows.
 #![tactic(auto)]
 
 mod cache;
