@@ -46,7 +46,8 @@ pub purge-written-requires-clause-floor : goal.purge-written-requires-clause-flo
 purge-written-requires-clause-floor g c =
     (said-ready c.args.case.now (g.D.Desk.view c.args.desk.now) c.args.self.now c.ready.new.self c.args.interval c.args.name.now
     c.in_ok-held.held c.requires.covers c.in_ok-held.ensures.ready c.requires.fits
-    (λ (r : Contents). MayPurge (g.D.Desk.view c.args.desk.now) c.args.name.now r c.args.floor) c.cached.result.now c.cached.ensures.row c.requires.floor)
+    (λ (r : Contents). MayPurge (g.D.Desk.view c.args.desk.now) c.args.name.now r c.args.floor)
+    c.cached.result.now c.cached.ensures.row c.requires.floor)
 
 -- the place is there
 pub keep-requires-clause-room : goal.keep-requires-clause-room

@@ -47,7 +47,8 @@ pub settle-written-requires-clause-id : goal.settle-written-requires-clause-id
 settle-written-requires-clause-id g c =
     (said-ready c.args.case.now (g.D.Desk.view c.args.desk.now) c.args.self.now c.ready.new.self c.args.interval c.args.name.now
     c.in_ok-held.held c.requires.covers c.in_ok-held.ensures.ready c.requires.fits
-    (λ (r : Contents). MaySettle (g.D.Desk.view c.args.desk.now).told (g.D.Desk.view c.args.desk.now).seen r c.args.id) c.cached.result.now c.cached.ensures.row c.requires.id)
+    (λ (r : Contents). MaySettle (g.D.Desk.view c.args.desk.now).told (g.D.Desk.view c.args.desk.now).seen r c.args.id)
+    c.cached.result.now c.cached.ensures.row c.requires.id)
 
 -- the place is there
 pub keep-requires-clause-room : goal.keep-requires-clause-room
