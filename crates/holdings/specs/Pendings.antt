@@ -1,7 +1,7 @@
 -- What is pending in the rows of an interval.
 -- Akidau et al., VLDB 2013, section 6.1: what was sent and not acknowledged is sent again. Own: the list
 -- of it.
-use Rattle.std.specs.Prelude.{◌≡◌, List, Option, Some, All, Contains, map}
+use Rattle.std.specs.Prelude.{◌≡◌, List, Some, All, Contains, map}
 use Rattle.mw_types.specs.declared.identity.RowName.{RowName}
 use Rattle.mw_types.specs.declared.delivery.Delivery.{Delivery}
 use Rattle.row_parts.specs.Contents.{Contents}

@@ -1,4 +1,4 @@
-use Rattle.std.proofs.Common.{◌≡◌, ◌∙◌, arith}
+use Rattle.std.proofs.Common.{◌∙◌, arith}
 use Rattle.mw_types.specs.declared.delivery.Delivery.{Delivery}
 use Rattle.holdings.proofs.WorkLaws.{least-past, least-past_all}
 use Rattle.holdings.proofs.row_work.oldest_pending.Goals as goal

@@ -1,6 +1,5 @@
-use Rattle.std.proofs.Common.{◌≡◌, ◌∙◌, arith, refl, map, filter, not, false, get_or}
+use Rattle.std.proofs.Common.{◌∙◌, arith, refl, map, filter, not, false, get_or}
 use Rattle.mw_types.specs.declared.timer.Timer.{Timer}
-use Rattle.run_history.specs.Watermarks.{least}
 use Rattle.history_laws.proofs.LowLaws.{least-end}
 use Rattle.holdings.proofs.WorkLaws.{least-past, least-past_all}
 use Rattle.holdings.proofs.row_work.oldest_timer.Goals as goal
