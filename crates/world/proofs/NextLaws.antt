@@ -155,16 +155,18 @@ module _ (case : CaseShape) (run : Run) (order : AreRowsInOrder run) where
   is-due : (name : RowName) (t : Timer) → HasDue name t → IsDue case run name t
   is-due name t has = record { set = has.has; due = leb-true t.time (low_watermark case run name.part) has.kept }
 
+  -- and so the other way round
   has-due : (name : RowName) (t : Timer) → IsDue case run name t → HasDue name t
   has-due name t is = record { has = is.set; kept = le-leb t.time (low_watermark case run name.part) is.due }
 
-  -- a due timer that is the first is so by its part, and in its part
+  -- a due timer is of the first part that has one, and the least there
   pub record IsLeastDue (row : RowName) (timer : Timer) : Type 0 where
     pub due : IsDue case run row timer
     pub first : (other : RowName) (another : Timer) → IsDue case run other another → row.part ≤ other.part
     pub least : (other : RowName) (another : Timer) → IsDue case run other another → other.part ≡ row.part
         → is_gt (ordering_then (timer_cmp timer another) (key_cmp row.key other.key)) ≡ false
 
+  -- a due timer that is the first is so by its part, and in its part
   first-due : (name : RowName) (t : Timer) → IsFirstDue name t → IsLeastDue name t
   first-due name t first = record {
     due = is-due name t first.holds;

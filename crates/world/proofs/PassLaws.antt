@@ -1,11 +1,13 @@
 -- After one pass of reports each mark is the greatest that is safe, and where nothing is pending the least of a computation's marks
 -- is its low watermark.
-use Rattle.std.proofs.Common.{◌≡◌, ℕ, zero, suc, ◌+◌, ◌<◌, ◌≤◌, ◌==◌, Bool, true, false, cond, List, [], ◌∷◌, length, map, fold, min, refl, sym, ◌∙◌, ap, subst, arith, inl, inr}
+use Rattle.std.proofs.Common.{◌≡◌, ℕ, zero, suc, ◌+◌, ◌<◌, ◌≤◌, ◌==◌, Bool, true, false, cond, List, [], ◌∷◌, length, map, take, fold, min, refl, sym, ◌∙◌, ap, subst, arith, inl, inr}
 use Rattle.std.specs.Prelude.{Option, Some, None, MatchBool, slice_get, unwrap_or, ◌-◌, nat_eq}
 use Rattle.std.specs.Cmp.Lexicographic.{pointwise}
 use Rattle.std.specs.List.{AllByRecursion, enumerate_from, filter_map, list_any}
 use Rattle.std.specs.Option.{option_map, option_map_or}
 use Rattle.std.proofs.lemmas.Bool.{both_ways, cases_lt}
+use Rattle.std.proofs.lemmas.List.{take_all}
+use Rattle.std.proofs.lemmas.List.FromFn.{length-enumerate_from}
 use Rattle.std.proofs.lemmas.Option.{slice_get_within}
 use Rattle.mw_types.specs.declared.TheConstants.{END}
 use Rattle.mw_types.specs.declared.identity.RowName.{RowName}
@@ -20,7 +22,7 @@ use Rattle.run_history.specs.Legal.{IsLegal}
 use Rattle.run_history.specs.Finished.{all_pending}
 use Rattle.run_history.specs.Inputs.{IsRunnable}
 use Rattle.run_history.specs.Marks.{own_work, IsSafe}
-use Rattle.run_history.proofs.Lists.{some_same, each-weaker, each-map}
+use Rattle.run_history.proofs.Lists.{none_some, some_same, each-weaker, each-map}
 use Rattle.history_laws.proofs.FeedLaws.{feeds-before}
 use Rattle.history_laws.proofs.FitLaws.{AreOfKind, legal-of_kind}
 use Rattle.history_laws.proofs.LowLaws.{AreRowsInOrder, rows-in_order, least-bound, bound-each, low-from, low_under-end, LowFrom, LowFrom-any_depth, each-every}
@@ -55,6 +57,37 @@ length-reports case run n [] marks = refl
 length-reports case run n (b ∷ bs) marks =
     length-reports case run (n + 1) bs (with_report case run marks (n, b))
     ∙ length-with_mark n (reported case.topology n (own_work case run b) marks) marks
+
+-- the marks once the first so many intervals are reported
+abbrev pub passed : CaseShape → Run → List ℕ → ℕ → List ℕ
+passed case run marks n = fold (with_report case run) marks (take n (enumerate_from 0 (intervals_of case.topology)))
+
+-- one interval more
+one_more : {X Y : Type 0} (f : Y → ℕ × X → Y) (n k : ℕ) (xs : List X) (x : X) (start : Y) → slice_get xs k ≡ Some x
+    → fold f start (take (suc k) (enumerate_from n xs)) ≡ f (fold f start (take k (enumerate_from n xs))) (n + k, x)
+one_more f n k [] x start at = absurd (none_some x at)
+one_more f n zero (y ∷ ys) x start at =
+    let zero_more : n ≡ n + 0 = omega arith in let same = some_same y x at in λ i. f start (zero_more i, same i)
+one_more f n (suc k) (y ∷ ys) x start at =
+    let next : n + 1 + k ≡ n + suc k = omega arith in
+    one_more f (n + 1) k ys x (f start (n, y)) at
+    ∙ ap (λ m. f (fold f (f start (n, y)) (take k (enumerate_from (n + 1) ys))) (m, x)) next
+
+-- a report of the next interval takes the marks one further
+pub passed-next : (case : CaseShape) (run : Run) (marks : List ℕ) (n : ℕ) (b : Bounds) → slice_get (intervals_of case.topology) n ≡ Some b
+    → with_report case run (passed case run marks n) (n, b) ≡ passed case run marks (n + 1)
+passed-next case run marks n b at =
+    let none_before : n ≡ 0 + n = omega arith in let next : suc n ≡ n + 1 = omega arith in
+    ap (λ m. with_report case run (passed case run marks n) (m, b)) none_before
+    ∙ sym (one_more (with_report case run) 0 n (intervals_of case.topology) b marks at) ∙ ap (passed case run marks) next
+
+-- and those of all make the pass
+pub passed-all : (case : CaseShape) (run : Run) (marks : List ℕ)
+    → passed case run marks (length (intervals_of case.topology)) ≡ pass_of case run marks
+passed-all case run marks =
+    ap (fold (with_report case run) marks)
+    (take_all (length (intervals_of case.topology)) (enumerate_from 0 (intervals_of case.topology))
+    (let long = length-enumerate_from 0 (intervals_of case.topology) in omega (arith, long)))
 
 -- the intervals from the n-th on
 abbrev AreFrom : Shape → ℕ → List Bounds → Type 0

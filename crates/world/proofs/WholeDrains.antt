@@ -1,14 +1,37 @@
--- Two histories that are drained from one beginning on are the same.
-use Rattle.std.proofs.Common.{◌≡◌, ℕ, ◌≤◌, List, [], ◌∷◌, ◌++◌, length, refl, sym, ◌∙◌, subst, arith, append_assoc}
+-- A drain grows by its next entries, and two histories that are drained from one beginning on are the same.
+use Rattle.std.proofs.Common.{◌≡◌, ◌⊎◌, inl, inr, ℕ, ◌≤◌, List, [], ◌∷◌, ◌++◌, length, refl, sym, ◌∙◌, subst, arith, append_assoc}
 use Rattle.std.proofs.lemmas.List.{append-nil, length_push}
 use Rattle.mw_types.specs.declared.entry.Entry.{Entry}
 use Rattle.run_history.specs.Cases.{CaseShape}
 use Rattle.run_history.specs.Runs.{empty_run}
 use Rattle.run_history.specs.Fences.{Begins}
+use Rattle.run_history.proofs.Beginnings.{Begins-length, Begins-push, push_same}
 use Rattle.history_laws.specs.Writes.{IsLegalAndFenced}
 use Rattle.history_laws.proofs.Along.{AreLegal-apart}
-use Rattle.world.specs.Drains.{HasEnded, IsDrainStep, IsDrained}
+use Rattle.world.specs.Drains.{HasEnded, IsDrainStep, IsDraining, IsDrained}
 use Rattle.world.proofs.OneStep.{Follows, one_step, ended-none}
+
+-- ---- growing
+
+-- a history drains from its own length on, as nothing comes after it
+pub draining-first : (case : CaseShape) (history : List Entry) → IsDraining case (length history) history
+draining-first case history before entry begins after =
+    let short = Begins-length (before ++ entry ∷ []) history begins in
+    let longer = length_push before entry in absurd (omega (arith, short, longer, after))
+
+-- a history that drains does so with the next entry too
+pub draining-push : (case : CaseShape) (from : ℕ) (history : List Entry) (entry : Entry) → IsDraining case from history
+    → IsDrainStep case from history entry → IsDraining case from (history ++ entry ∷ [])
+draining-push case from history entry draining step before other begins after =
+    by_case (Begins-push (before ++ other ∷ []) history entry begins)
+  where
+    by_case : (before ++ other ∷ [] ≡ history ++ entry ∷ []) ⊎ Begins (before ++ other ∷ []) history → IsDrainStep case from before other
+    by_case (inl whole) =
+        let same = push_same before history other entry whole in
+        subst (λ h. IsDrainStep case from h other) (sym same.0) (subst (IsDrainStep case from history) (sym same.1) step)
+    by_case (inr begins) = draining before other begins after
+
+-- ---- one list
 
 -- the entries before the rest are a beginning of all
 next-begins : (done : List Entry) (entry : Entry) (rest : List Entry) → Begins (done ++ entry ∷ []) (done ++ entry ∷ rest)

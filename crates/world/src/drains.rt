@@ -7,7 +7,7 @@ ghost use Rattle.run_history.specs.Legal.{IsLegal};
 ghost use Rattle.run_history.specs.Finished.{IsFinished};
 ghost use Rattle.run_history.specs.Inputs.{IsRunnable};
 ghost use Rattle.history_laws.specs.Writes.{IsLegalAndFenced};
-ghost use Rattle.world.specs.Drains.{HasEnded, HasInjected, IsDrainStep, IsDrained};
+ghost use Rattle.world.specs.Drains.{HasEnded, HasInjected, IsDrainStep, IsDraining, IsDrained};
 
 /// Two entries that come next in a drain after one history are the same, where the history is legal
 /// and fenced with each.
@@ -28,6 +28,15 @@ pub fn ended_drains_have_no_next_entry()
 pub fn drains_go_on_until_they_end()
     ensures next { (case : CaseShape) (from : ℕ) (history : List Entry) → from ≤ length history →
         HasEnded case from history ⊎ ((entry : Entry) × IsDrainStep case from history entry) }
+{}
+
+/// A drain grows by its next entries, from a history to which nothing was added.
+pub fn drains_grow_by_their_next_entries()
+    ensures first { (case : CaseShape) (history : List Entry) →
+        IsDraining case (length history) history }
+    ensures grown { (case : CaseShape) (from : ℕ) (history : List Entry) (entry : Entry) →
+        IsDraining case from history → IsDrainStep case from history entry →
+        IsDraining case from (history ++ entry ∷ []) }
 {}
 
 /// Two histories that are drained from one beginning on are the same, where both are legal and

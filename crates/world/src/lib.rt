@@ -12,7 +12,7 @@ mod drains;
 mod passes;
 
 pub use drains::{
-    drained_histories_are_one, drains_go_on_until_they_end, drains_leave_no_work,
-    ended_drains_have_no_next_entry, next_drain_entries_are_one,
+    drained_histories_are_one, drains_go_on_until_they_end, drains_grow_by_their_next_entries,
+    drains_leave_no_work, ended_drains_have_no_next_entry, next_drain_entries_are_one,
 };
 pub use passes::{a_pass_finds_low_watermarks, a_pass_leaves_the_greatest_safe_marks};
