@@ -6,3 +6,5 @@ pub mod NextLaws
 pub mod Marked
 pub mod PassLaws
 pub mod EndLaws
+pub mod Digits
+pub mod Words
