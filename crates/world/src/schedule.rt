@@ -38,7 +38,8 @@ impl Schedule {
 // Takes in the next line, which has this number.
 fn take_line(case: &Case, steps: &mut Seq<Step>, line: u32, text: &[u8]) -> Result<(), PlanRefusal>
     ensures takes { OnOk result (TakesIn case.now.topology line text.now steps.old steps.new) }
-    ensures there { All (IsStep case.now.topology) steps.old → All (IsStep case.now.topology) steps.new }
+    ensures there { All (IsStep case.now.topology) steps.old →
+        All (IsStep case.now.topology) steps.new }
     ensures refuses { IfErr result (Refuses case.now.topology line text.now) }
 {
     if is_skipped(text) {

@@ -1,4 +1,4 @@
-use Rattle.std.proofs.Common.{◌≡◌, ◌∙◌, ◌+◌, ap, sym, subst}
+use Rattle.std.proofs.Common.{◌+◌}
 use Rattle.injector.specs.EventFiles.{lines_of}
 use Rattle.world.specs.Schedules.{schedule_of, steps_from}
 use Rattle.world.proofs.Words.{refused_behind}

@@ -1,4 +1,4 @@
-use Rattle.std.proofs.Common.{◌≡◌, ◌<◌, ◌≤◌, ◌+◌, ◌^◌, ◌*◌, ◌∙◌, length, get_or, arith, rules}
+use Rattle.std.proofs.Common.{◌∙◌, get_or, arith, rules}
 use Rattle.world.proofs.Digits.{one_more_digit, few_digits, digit_range, made_more}
 use Rattle.world.proofs.schedule_lines.number_in.Goals as goal
 

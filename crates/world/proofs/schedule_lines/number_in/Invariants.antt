@@ -1,7 +1,7 @@
-use Rattle.std.proofs.Common.{◌≡◌, ◌<◌, ◌≤◌, ◌^◌, ◌*◌, length, drop, true}
-use Rattle.std.specs.Prelude.{if◌then◌else◌, Option, Some, None, ℕ}
+use Rattle.std.proofs.Common.{◌≡◌, ◌<◌, ◌^◌, ◌*◌, drop}
+use Rattle.std.specs.Prelude.{if◌then◌else◌, Some, None}
 use Rattle.std.specs.Str.{all_ascii_digits}
-use Rattle.std.specs.Str.Parse.{digits_value, digits_value_after}
+use Rattle.std.specs.Str.Parse.{digits_value_after}
 use Rattle.world.specs.Schedules.{number_in}
 use Rattle.world.proofs.schedule_lines.number_in.Given as goal
 

@@ -1,4 +1,3 @@
-use Rattle.std.proofs.lemmas.List.{take_rest}
 use Rattle.world.proofs.Words.{words_of_first, words_of_last}
 use Rattle.world.proofs.schedule_lines.space_in.Goals as goal
 

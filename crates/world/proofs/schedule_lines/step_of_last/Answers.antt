@@ -1,4 +1,4 @@
-use Rattle.std.proofs.Common.{◌≡◌, ◌∙◌, ◌+◌, ◌∷◌, take, drop, ap, sym}
+use Rattle.std.proofs.Common.{◌∙◌, ◌+◌, ◌∷◌, take, drop, ap, sym}
 use Rattle.world.specs.Schedules.{step_of, words_of}
 use Rattle.world.proofs.Words.{step_of_many, words_some}
 use Rattle.world.proofs.schedule_lines.step_of_last.Goals as goal
