@@ -1,5 +1,5 @@
 -- Schedules that were read by hand, over one injector, one count and their two intervals.
-use Rattle.std.specs.Prelude.{ℕ, List, [], ◌∷◌, codes, Result, Ok, Err}
+use Rattle.std.specs.Prelude.{ℕ, List, [], ◌∷◌, ◌++◌, codes, Result, Ok, Err}
 use Rattle.topology.specs.Samples.{one_count}
 use Rattle.mw_types.specs.declared.refusal.PlanRefusal.{PlanRefusal}
 use Rattle.mw_types.specs.declared.refusal.PlanRefusal.TheVariants.{Line}
@@ -15,7 +15,7 @@ said_by bytes = schedule_of (one_count 60) bytes
 abbrev pub refused_at : ℕ → Result (List Step) PlanRefusal
 refused_at line = Err (Line line)
 
--- numbers with leading zeros, a line that ends with a carriage return, an empty line, a comment, and a last line without a line feed
+-- leading zeros, carriage returns, an empty line, a comment, and a last line without a line feed
 abbrev pub uneven_schedule : List ℕ
 uneven_schedule = codes "claim 00 0000000001\r\n\r\n# any\ncrash 3"
 
@@ -25,7 +25,8 @@ uneven_steps = Ok (steps.Claim 0 1 ∷ steps.Crash 3 ∷ [])
 
 -- a schedule with each step once
 abbrev pub full_schedule : List ℕ
-full_schedule = codes "claim 15 1\ninject 0 0\nsend 1\ntake 2 4294967295\nwrite 3\nfire 4 1\nreport 5 0\nresend 6\npurge 7 1\ncopy 8\nlose 9\ncrash 10\n"
+full_schedule = codes "claim 15 1\ninject 0 0\nsend 1\ntake 2 4294967295\nwrite 3\nfire 4 1\n"
+    ++ codes "report 5 0\nresend 6\npurge 7 1\ncopy 8\nlose 9\ncrash 10\n"
 
 -- the steps of that schedule
 abbrev pub full_steps : Result (List Step) PlanRefusal

@@ -31,6 +31,18 @@ worker_in word = between 0 16 word
 abbrev pub message_in : List ℕ → Option ℕ
 message_in word = between 0 (2 ^ 32) word
 
+-- the interval that a word names
+abbrev pub interval_in : Shape → List ℕ → Option ℕ
+interval_in shape word = between 0 (interval_count shape) word
+
+-- the injector that a word names
+abbrev pub injector_in : Shape → List ℕ → Option ℕ
+injector_in shape word = between 0 (injectors_of shape) word
+
+-- the computation that a word names: they come after the injectors
+abbrev pub computation_in : Shape → List ℕ → Option ℕ
+computation_in shape word = between (injectors_of shape) (parts_of shape) word
+
 -- whether a word is this one
 abbrev pub is_word : List ℕ → List ℕ → Bool
 is_word = pointwise nat_eq
@@ -51,13 +63,13 @@ step_of_one verb a = if is_word verb (codes "send") then option_map steps.Send (
 
 -- the steps of a worker with an interval, an injector, a computation or a message
 abbrev pub step_of_two : Shape → List ℕ → List ℕ → List ℕ → Option Step
-step_of_two shape verb a b = let worker = worker_in a in let interval = between 0 (interval_count shape) b in
-    if is_word verb (codes "claim") then both steps.Claim worker interval
-    else if is_word verb (codes "report") then both steps.Report worker interval
-    else if is_word verb (codes "purge") then both steps.Purge worker interval
-    else if is_word verb (codes "inject") then both steps.Inject worker (between 0 (injectors_of shape) b)
-    else if is_word verb (codes "fire") then both steps.Fire worker (between (injectors_of shape) (parts_of shape) b)
-    else if is_word verb (codes "take") then both steps.Take worker (message_in b)
+step_of_two shape verb a b =
+    if is_word verb (codes "claim") then both steps.Claim (worker_in a) (interval_in shape b)
+    else if is_word verb (codes "report") then both steps.Report (worker_in a) (interval_in shape b)
+    else if is_word verb (codes "purge") then both steps.Purge (worker_in a) (interval_in shape b)
+    else if is_word verb (codes "inject") then both steps.Inject (worker_in a) (injector_in shape b)
+    else if is_word verb (codes "fire") then both steps.Fire (worker_in a) (computation_in shape b)
+    else if is_word verb (codes "take") then both steps.Take (worker_in a) (message_in b)
     else None
 
 -- the words of a line, which single spaces part

@@ -2,7 +2,8 @@
 ghost use Rattle.std.specs.Prelude.{◌≡◌, ◌≤◌, ◌<◌, ◌+◌, ◌^◌, ◌∷◌, [], length, take, drop, IfSome, IfNone};
 ghost use Rattle.injector.specs.EventFiles.{lines_of, without_return};
 ghost use Rattle.topology.specs.Rules.{interval_count};
-ghost use Rattle.world.specs.Schedules.{number_in, between, worker_in, message_in, step_of_one, step_of_two, step_of, words_of, is_skipped, IsStep};
+ghost use Rattle.topology.specs.Shapes.{injectors_of, parts_of};
+ghost use Rattle.world.specs.Schedules.{number_in, between, worker_in, message_in, interval_in, injector_in, computation_in, step_of_one, step_of_two, step_of, words_of, is_skipped, IsStep};
 
 use crate::step::Step;
 use memchr::memchr;
@@ -88,10 +89,28 @@ fn message_in(word: &[u8]) -> Option<u32>
 
 // The interval that a word names.
 fn interval_in(case: &Case, word: &[u8]) -> Option<u32>
-    ensures number { result ≡ between 0 (interval_count case.now.topology) word.now }
+    ensures number { result ≡ interval_in case.now.topology word.now }
     ensures range { IfSome result (λ n. n < interval_count case.now.topology) }
 {
     between(0, u64::from(case.intervals().count()), word)
+}
+
+// The injector that a word names.
+fn injector_in(case: &Case, word: &[u8]) -> Option<u32>
+    ensures number { result ≡ injector_in case.now.topology word.now }
+    ensures range { IfSome result (λ n. n < injectors_of case.now.topology) }
+{
+    between(0, u64::from(case.topology.injectors()), word)
+}
+
+// The computation that a word names.
+fn computation_in(case: &Case, word: &[u8]) -> Option<u32>
+    ensures number { result ≡ computation_in case.now.topology word.now }
+    ensures range { IfSome result
+        (λ n. (injectors_of case.now.topology ≤ n) × (n < parts_of case.now.topology)) }
+{
+    let injectors = u64::from(case.topology.injectors());
+    between(injectors, u64::from(case.topology.parts()), word)
 }
 
 // The step of a verb and its one number.
@@ -121,8 +140,6 @@ fn step_of_two(case: &Case, verb: &[u8], a: &[u8], b: &[u8]) -> Option<Step>
     ensures step { result ≡ step_of_two case.now.topology verb.now a.now b.now }
     ensures there { IfSome result (IsStep case.now.topology) }
 {
-    let injectors = u64::from(case.topology.injectors());
-    let parts = u64::from(case.topology.parts());
     if verb == b"claim".as_slice() {
         let worker = worker_in(a)?;
         let interval = interval_in(case, b)?;
@@ -137,11 +154,11 @@ fn step_of_two(case: &Case, verb: &[u8], a: &[u8], b: &[u8]) -> Option<Step>
         Some(Step::Purge { worker, interval })
     } else if verb == b"inject".as_slice() {
         let worker = worker_in(a)?;
-        let part = between(0, injectors, b)?;
+        let part = injector_in(case, b)?;
         Some(Step::Inject { worker, part })
     } else if verb == b"fire".as_slice() {
         let worker = worker_in(a)?;
-        let part = between(injectors, parts, b)?;
+        let part = computation_in(case, b)?;
         Some(Step::Fire { worker, part })
     } else if verb == b"take".as_slice() {
         let worker = worker_in(a)?;
