@@ -9,3 +9,5 @@ pub mod PassLaws
 pub mod EndLaws
 pub mod Tried
 pub mod DrainedExample
+pub mod Digits
+pub mod Words

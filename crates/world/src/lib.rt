@@ -11,11 +11,16 @@
 mod drains;
 mod examples;
 mod passes;
+mod schedule;
+mod schedule_lines;
+mod step;
 
 pub use drains::{
     drained_histories_are_one, drains_go_on_until_they_end, drains_grow_by_their_next_entries,
     drains_leave_no_work, drains_look_at_parts_that_are_there, ended_drains_have_no_next_entry,
     next_drain_entries_are_one,
 };
-pub use examples::drained_example_is_drained;
+pub use examples::{drained_example_is_drained, schedule_examples};
 pub use passes::{a_pass_finds_low_watermarks, a_pass_leaves_the_greatest_safe_marks};
+pub use schedule::{Schedule, read_schedule};
+pub use step::Step;
