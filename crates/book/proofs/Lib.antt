@@ -12,5 +12,8 @@ pub mod SenderFloors
 pub mod SentLaws
 pub mod Growing
 pub mod ProposalLaws
+pub mod DeskLaws
+pub mod OwnLaws
+pub mod OwnReasons
 pub mod FirstLaws
 pub mod TestLaws

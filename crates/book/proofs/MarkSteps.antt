@@ -100,12 +100,12 @@ told-stored P store None is = tt
 told-stored P store (Some rows) is = is
 
 -- the mark of an interval is the one that was put there
-mark-here : (marks : List ℕ) (interval mark : ℕ) → interval < length marks → mark_of (with_mark interval mark marks) interval ≡ mark
+pub mark-here : (marks : List ℕ) (interval mark : ℕ) → interval < length marks → mark_of (with_mark interval mark marks) interval ≡ mark
 mark-here marks interval mark within =
     unwrap_or-slice_get (with_mark interval mark marks) interval 0 ∙ get_or-set_same marks interval mark 0 within
 
 -- and all others are as they were
-mark-other : (marks : List ℕ) (interval other mark : ℕ) → other ≢ interval
+pub mark-other : (marks : List ℕ) (interval other mark : ℕ) → other ≢ interval
     → mark_of (with_mark interval mark marks) other ≡ mark_of marks other
 mark-other marks interval other mark differs =
     unwrap_or-slice_get (with_mark interval mark marks) other 0 ∙ get_or-set_other marks interval other mark 0 differs

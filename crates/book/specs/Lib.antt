@@ -9,6 +9,7 @@ pub mod Claims
 pub mod Desks
 pub mod Desking
 pub mod DeskReasons
+pub mod OwnDesks
 pub mod Appending
 pub mod Sending
 pub mod Refusing

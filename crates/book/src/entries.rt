@@ -1,21 +1,16 @@
 //! What a proposal writes: its entry, and the row that the entry leaves.
-ghost use Rattle.std.specs.Prelude.{◌≡◌, ◌+◌, ◌<◌, ◌≤◌, ◌^◌, All, IfOk, OnOk, Some, false, length, option_map, true};
+ghost use Rattle.std.specs.Prelude.{◌≡◌, ◌+◌, ◌<◌, ◌≤◌, ◌^◌, All, IfOk, OnOk, false, true};
 ghost use Rattle.mw_types.specs.declared.TheConstants.{MAX_STAMP};
 ghost use Rattle.mw_types.specs.declared.state.State.TheVariants.{Injector};
-ghost use Rattle.injector.specs.Sources.{item_at};
-ghost use Rattle.topology.specs.Shapes.{injectors_of};
 ghost use Rattle.row_parts.specs.Contents.{IsId, is_finished, with_id, without_timer};
-ghost use Rattle.run_history.specs.Cases.{record_of, source_of};
 ghost use Rattle.run_history.specs.Runs.{with_timers};
 ghost use Rattle.run_history.specs.Fits.{fits};
 ghost use Rattle.book.specs.Proposals.{IsEntryOf, IsFiring, IsHandling, IsNextLine, IsProposable, left_by};
 
 use crate::pending::with_sent;
 use crate::proposal::Proposal;
-use injector::{Item, Items};
 use mw_types::{
-    Delivery, Duplicate, Effects, Entry, NoMemory, Production, Record, RecordId, RowName, State,
-    Timer,
+    Delivery, Duplicate, Effects, Entry, NoMemory, Production, RecordId, RowName, State, Timer,
 };
 use row_parts::Row;
 use run_history::Case;
@@ -77,7 +72,7 @@ fn injected(
         step.left ≡ left_by case.now.topology name.now (Proposal.Inject line) commit
         step.entry row.now) }
 {
-    let item = line_record(alloc, case, name.part, line)?;
+    let item = case.line_record(alloc, name.part, line)?;
     let production = Production {
         key: item.key.copy(alloc)?,
         stamp: item.stamp,
@@ -100,26 +95,6 @@ fn injected(
         item,
     };
     Ok(Step { entry, left })
-}
-
-// The record of an injector's line.
-fn line_record(alloc: Global, case: &Case, part: u32, line: u32) -> Result<Record, NoMemory>
-    requires injector { part < injectors_of case.now.topology }
-    requires there { line < length (source_of case.now part) }
-    ensures item { IfOk result
-        (λ item. option_map record_of (item_at (source_of case.now part) line) ≡ Some item) }
-    ensures stamp { IfOk result (λ item. item.stamp ≤ MAX_STAMP) }
-    ensures few { length (source_of case.now part) < 2 ^ 32 }
-{
-    let items = &case.items.as_slice()[part as usize];
-    let _lines = items.count();
-    let item = items.at(line);
-    Ok(Record {
-        key: item.record_key.copy(alloc)?,
-        stamp: item.stamp,
-        value: item.value,
-        late: item.late,
-    })
 }
 
 // An injector's row, once it has injected this line too.

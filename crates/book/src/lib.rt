@@ -6,7 +6,8 @@
 //! append one entry that may follow the history, and the keeper holds the rows of the history and no
 //! others; a refusal changes neither; no mark passes work that is left in its interval or above it.
 //! Definitions: `specs/Lawful.antt`, what always holds of a book; `specs/Conditions.antt`, what a
-//! caller has to know; `specs/Answers.antt`, what the calls answer; `specs/Marks.antt`, the marks.
+//! caller has to know; `specs/Answers.antt`, what the calls answer; `specs/Marks.antt`, the marks;
+//! `specs/Desks.antt`, what a worker knows of a history through a desk, over a book of its own or not.
 #![tactic(auto)]
 
 mod answers;
@@ -18,6 +19,7 @@ mod desk_refusal;
 mod entries;
 mod fitting;
 mod lease;
+mod own_desk;
 mod pending;
 mod proposal;
 mod refusals;
@@ -35,5 +37,6 @@ pub use books::Book;
 pub use desk::{Desk, Seen};
 pub use desk_refusal::DeskRefusal;
 pub use lease::Lease;
+pub use own_desk::OwnDesk;
 pub use proposal::Proposal;
 pub use refusals::{ClaimRefusal, Stale, StartRefusal, StartWhy, WriteRefusal};

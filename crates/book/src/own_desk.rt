@@ -1,0 +1,130 @@
+//! A desk that has a book to itself.
+ghost use Rattle.std.specs.Prelude.{◌≡◌};
+ghost use Rattle.book.specs.OwnDesks.{own_view};
+
+use crate::answers::{Claimed, Written};
+use crate::books::Book;
+use crate::desk::{Desk, Seen};
+use crate::desk_refusal::{DeskRefusal, of_claim, of_write};
+use crate::lease::Lease;
+use crate::proposal::Proposal;
+use mw_types::{RecordId, RowName};
+use row_keeper::Keeper;
+use row_parts::Row;
+use std::alloc::Global;
+
+impl Seen for u64 {
+    ghost use Rattle.std.specs.Prelude.{None};
+
+    ghost sight = { λ _. None };
+}
+
+/// A desk over a book that nobody else writes while the desk is there. Its notes are lengths of the
+/// history, and tell nothing.
+#[derive(Drop)]
+pub struct OwnDesk<'b, 'a, K: Keeper> {
+    /// The book.
+    pub book: &'b mut Book<'a, K>,
+}
+
+impl<'b, 'a, K: Keeper> OwnDesk<'b, 'a, K> {
+    /// The desk of this book.
+    pub fn on(book: &'b mut Book<'a, K>) -> OwnDesk<'b, 'a, K>
+        ensures book { result.book ≡ book.entry }
+    {
+        OwnDesk { book }
+    }
+}
+
+impl<'b, 'a, K: Keeper> Desk for OwnDesk<'b, 'a, K> {
+    ghost use Rattle.std.specs.Prelude.{⊤};
+    ghost use Rattle.book.specs.OwnDesks.{own_view};
+
+    type Note = u64;
+
+    ghost view = { λ desk. own_view desk.book.now };
+
+    ghost knows = { λ _ _. ⊤ };
+
+    ghost loan = { λ desk. desk.book.ghost_name };
+
+    fn sound(&self) {
+        self.book.history();
+        self.book.marks();
+    }
+
+    fn claim(&mut self, alloc: Global, worker: u32, interval: u32) -> Result<Claimed, DeskRefusal> {
+        match self.book.claim(alloc, worker, interval) {
+            Ok(claimed) => Ok(claimed),
+            Err(why) => Err(of_claim(why)),
+        }
+    }
+
+    fn write(
+        &mut self,
+        alloc: Global,
+        lease: &Lease,
+        name: &RowName,
+        row: &Row,
+        proposal: &Proposal,
+    ) -> Result<Written, DeskRefusal> {
+        self.book.marks();
+        let front = self.book.history().len() as u64;
+        match self.book.write(alloc, lease, front, name, row, proposal) {
+            Ok(written) => Ok(written),
+            Err(why) => Err(of_write(why)),
+        }
+    }
+
+    fn settle(
+        &mut self,
+        alloc: Global,
+        lease: &Lease,
+        name: &RowName,
+        row: &Row,
+        id: RecordId,
+    ) -> Result<Written, DeskRefusal> {
+        let front = self.book.history().len() as u64;
+        match self.book.settle(alloc, lease, front, name, row, id) {
+            Ok(written) => Ok(written),
+            Err(why) => Err(of_write(why)),
+        }
+    }
+
+    fn purge(
+        &mut self,
+        alloc: Global,
+        lease: &Lease,
+        name: &RowName,
+        row: &Row,
+        floor: u64,
+    ) -> Result<Written, DeskRefusal> {
+        let front = self.book.history().len() as u64;
+        match self.book.purge(alloc, lease, front, name, row, floor) {
+            Ok(written) => Ok(written),
+            Err(why) => Err(of_write(why)),
+        }
+    }
+
+    fn report(&mut self, lease: &Lease, own: u64) -> Result<u64, DeskRefusal> {
+        let front = self.book.history().len() as u64;
+        match self.book.report(lease, front, own) {
+            Ok(mark) => Ok(mark),
+            Err(why) => Err(DeskRefusal::Stale { newer: why.newer }),
+        }
+    }
+
+    fn mark(&mut self, interval: u32) -> u64 {
+        self.book.mark(interval)
+    }
+
+    fn floor(&mut self) -> u64 {
+        self.book.floor()
+    }
+
+    fn note(&mut self) -> u64 {
+        self.book.history().len() as u64
+    }
+
+    fn meet(&mut self, _note: u64) {}
+}
