@@ -1,6 +1,6 @@
 -- One more entry keeps a book lawful.
 use Rattle.std.proofs.Common.{◌≡◌, ◌<◌, ◌≤◌, ◌+◌, ◌-◌, ◌^◌, ℕ, List, [], ◌∷◌, ◌++◌, length, refl, sym, ◌∙◌, ap, subst, arith, length-append}
-use Rattle.std.specs.Prelude.{Option, Some, None, Result, Ok, Err, OnOk, OnErr, IfSome, option_map}
+use Rattle.std.specs.Prelude.{Option, Some, None, Result, Ok, Err, OnOk, OnErr, All, IfSome, option_map}
 use Rattle.std.specs.Option.{option_map_or}
 use Rattle.std.specs.List.{AllByRecursion}
 use Rattle.std.specs.BTreeMap.{insert_entry}
@@ -23,6 +23,7 @@ use Rattle.run_history.specs.Legal.{MayClaim, MayFollow}
 use Rattle.run_history.specs.Printing.{IsPrintable, IsOnPart}
 use Rattle.run_history.proofs.RunLaws.{run_of-push, IsLegal-push}
 use Rattle.run_history.specs.Fences.{IsFenced}
+use Rattle.run_history.specs.HistoryLines.{HasLine}
 use Rattle.run_history.specs.Finished.{unfinished, work_in}
 use Rattle.run_history.specs.Stored.{stored_rows}
 use Rattle.run_history.proofs.Lists.{each-weaker}
@@ -37,6 +38,7 @@ use Rattle.book.specs.Appending.{IsNext}
 use Rattle.book.specs.Marks.{AreSafe}
 use Rattle.book.specs.Senders.{AreSenders, sender_of}
 use Rattle.book.specs.Sending.{KnowsSame}
+use Rattle.book.proofs.LineLaws.{lines-push}
 use Rattle.book.proofs.SenderSteps.{senders-claim, senders-same}
 use Rattle.book.proofs.MarkSteps.{claims-next, claims-claim, AreSafe-appended, AreSafe-same, told-stored}
 use Rattle.run_history.proofs.Fitting.{fits-later}
@@ -134,6 +136,7 @@ IsLawful-next case old new name entry before row lawful next spelled was work ap
   printable = subst (IsPrintable case.topology) (sym appended) (IsPrintable-push case.topology old.history entry lawful.printable
       (omega (arith, next.room, lawful.limit)) (subst (λ w. IfSome w (λ (r : RowName). r.part < parts_of case.topology))
       (sym next.on_row) next.part) next.few);
+  lines = subst (All HasLine) (sym appended) (lines-push old.history entry lawful.lines next.line);
   held = held;
   left = subst (λ (h : List Entry). IfSome new.rows (λ _. new.work ≡ unfinished case (run_of case.topology h))) (sym appended)
       (subst (λ o. IfSome o (λ _. new.work ≡ unfinished case (run_of case.topology (old.history ++ entry ∷ [])))) (sym stored)
@@ -197,6 +200,7 @@ IsLawful-claimed case old new worker interval lawful room may appended rows limi
   printable = subst (IsPrintable case.topology) (sym appended)
       (IsPrintable-push case.topology old.history (Claim worker interval) lawful.printable
       (omega (arith, room, lawful.limit)) tt (omega arith));
+  lines = subst (All HasLine) (sym appended) (lines-push old.history (Claim worker interval) lawful.lines tt);
   held = held;
   left = subst (λ (h : List Entry). IfSome new.rows (λ _. new.work ≡ unfinished case (run_of case.topology h))) (sym appended)
       (subst (λ o. IfSome o (λ _. new.work ≡ unfinished case (run_of case.topology (old.history ++ Claim worker interval ∷ []))))
@@ -235,6 +239,7 @@ IsLawful-stays case old new lawful history rows limit work same_senders same_mar
   few = omega (arith, ap length history, lawful.few, limit);
   fenced = subst (IsFenced case.topology) (sym history) lawful.fenced;
   printable = subst (IsPrintable case.topology) (sym history) lawful.printable;
+  lines = subst (All HasLine) (sym history) lawful.lines;
   held = subst (λ (h : List Entry). IfSome new.rows (IsHeld case h)) (sym history)
       (subst (λ o. IfSome o (IsHeld case old.history)) (sym rows) lawful.held);
   left = subst (λ (h : List Entry). IfSome new.rows (λ _. new.work ≡ unfinished case (run_of case.topology h))) (sym history)

@@ -1,5 +1,6 @@
 pub mod StartLaws
 pub mod MarkSteps
+pub mod LineLaws
 pub mod Keeping
 pub mod ClaimLaws
 pub mod SeenRows

@@ -149,6 +149,7 @@ IsLawful-raised case old interval mark lawful there new = record {
   fenced = lawful.fenced;
   claims = lawful.claims;
   printable = lawful.printable;
+  lines = lawful.lines;
   held = lawful.held;
   left = lawful.left;
   senders = lawful.senders;

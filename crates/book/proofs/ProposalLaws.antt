@@ -238,7 +238,7 @@ next-injected book lease front name row left line item lawful uses seen last roo
     let whole : record { part = name.part; key = [] } ≡ name = λ i. record { part = name.part; key = sym next.no_key i } in
     let cursor = next.next in
     let there = next.there in
-    IsNext-seen book lease front name entry row left sent lawful uses seen last room (ap Some whole) refl (omega arith) leaves
+    IsNext-seen book lease front name entry row left sent lawful uses seen last room (ap Some whole) refl (omega arith) tt leaves
     (subst (λ (c : Contents). fits book.case (number + 1) name c ≡ true) (sym leaves)
     (fits-injected book.case number name row (written_row number entry sent row) (productions_of entry) item.late seen.fit next.injector
     (omega (arith, cursor, there)) refl refl refl))
@@ -271,7 +271,7 @@ next-handled book lease front name row left delivery effects lawful uses seen la
     let split = take-append-drop front book.history in
     let sent = deliveries_made shape name.part effects.productions delivery.item.late number in
     let suits = handling-suits book.case number name row delivery effects seen.fit handling in
-    IsNext-seen book lease front name entry row left sent lawful uses seen last room refl refl suits.1.1.1 leaves
+    IsNext-seen book lease front name entry row left sent lawful uses seen last room refl refl suits.1.1.1 handling.id leaves
     (subst (λ (c : Contents). fits book.case (number + 1) name c ≡ true) (sym leaves)
     (fits-computed book.case number name row (written_row number entry sent row) effects.productions delivery.item.late suits.0 seen.fit
     suits.1.0 suits.1.1.0 refl))
@@ -316,7 +316,7 @@ next-fired book lease front name row left timer mark effects lawful uses seen la
     let first = take front book.history in
     let sent = deliveries_made shape name.part effects.productions timer.late number in
     let suits = firing-suits book.case number name row timer effects seen.fit firing in
-    IsNext-seen book lease front name entry row left sent lawful uses seen last room refl refl suits.1.1.1 leaves
+    IsNext-seen book lease front name entry row left sent lawful uses seen last room refl refl suits.1.1.1 tt leaves
     (subst (λ (c : Contents). fits book.case (number + 1) name c ≡ true) (sym leaves)
     (fits-computed book.case number name row (written_row number entry sent row) effects.productions timer.late suits.0 seen.fit suits.1.0
     suits.1.1.0 refl))

@@ -11,13 +11,14 @@ use Rattle.mw_types.specs.declared.kind.Kind.{Kind}
 use Rattle.mw_types.specs.declared.entry.Entry.{Entry}
 use Rattle.mw_types.specs.declared.entry.Entry.TheVariants.{Ack, Claim, Purge}
 use Rattle.topology.specs.Shapes.{Shape, injectors_of, parts_of, kind_of}
-use Rattle.row_parts.specs.Contents.{Contents, same_id}
+use Rattle.row_parts.specs.Contents.{Contents, IsId, same_id}
 use Rattle.run_history.specs.Cases.{CaseShape, is_injector, source_of}
 use Rattle.run_history.specs.Made.{row_written, productions_of, deliveries_of, found_delivery}
 use Rattle.run_history.specs.Runs.{Run, run_of, row_of, row_in, written_row}
 use Rattle.run_history.specs.Legal.{MayFollow, IsLegal, floor_of}
 use Rattle.run_history.proofs.RunLaws.{run_of-push}
 use Rattle.run_history.specs.Fences.{IsClaimed, IsFenced, HasSeen, last_claim, sequencer_of, known}
+use Rattle.run_history.specs.HistoryLines.{HasLine}
 use Rattle.run_history.specs.Finished.{is_handled}
 use Rattle.run_history.proofs.Lists.{none_some}
 use Rattle.history_laws.proofs.FenceLaws.{claim-within, row_of-seen}
@@ -131,19 +132,20 @@ pub IsNext-seen : (book : BookView) (lease : LeaseView) (front : ℕ) (name : Ro
     (sent : List Delivery)
     → IsLawful book.case (core_of book) → MayUseAt book lease front name → IsRowSeenAt book lease front name row
     → last_claim lease.interval book.history ≡ Some lease.seq → length book.history < book.limit
-    → row_written entry ≡ Some name → sequencer_of entry ≡ Some lease.seq → length (productions_of entry) ≤ 8
+    → row_written entry ≡ Some name → sequencer_of entry ≡ Some lease.seq → length (productions_of entry) ≤ 8 → HasLine entry
     → left ≡ written_row (length book.history) entry sent row → fits book.case (length book.history + 1) name left ≡ true
     → IfSome book.rows (λ _. MayFollow book.case (run_of book.case.topology (take front book.history)) entry)
     → IfSome book.rows (λ _. let run = run_of book.case.topology book.history in sent ≡ deliveries_of book.case.topology run.made run.next
     entry)
     → IsNext book.case (core_of book) name entry left
-IsNext-seen book lease front name entry row left sent lawful uses seen last room written carries few leaves fit may made =
+IsNext-seen book lease front name entry row left sent lawful uses seen last room written carries few line leaves fit may made =
     let shape = book.case.topology in record {
       room = room;
       on_row = written;
       under = entry-under shape book.history entry name lease.interval lease.seq written uses.covers last carries;
       part = part-there book.case name.part row (fits-parts book.case (length book.history) name row seen.fit).0;
       few = few;
+      line = line;
       fit = fit;
       may = told-then book.rows (λ r. IsHeld book.case book.history r × MayFollow book.case
           (run_of shape (take front book.history)) entry) _
@@ -185,11 +187,11 @@ may-settle book lease front name row id lawful uses seen settles last =
 pub IsNext-settled : (book : BookView) (lease : LeaseView) (front : ℕ) (name : RowName) (row left : Contents) (id : RecordId)
     → IsLawful book.case (core_of book)
     → MayUseAt book lease front name → IsRowSeenAt book lease front name row → MaySettleAt book front row id
-    → last_claim lease.interval book.history ≡ Some lease.seq → length book.history < book.limit
+    → last_claim lease.interval book.history ≡ Some lease.seq → length book.history < book.limit → IsId id
     → left ≡ written_row (length book.history) (Ack lease.seq name id) [] row
     → IsNext book.case (core_of book) name (Ack lease.seq name id) left
-IsNext-settled book lease front name row left id lawful uses seen settles last room leaves =
-    IsNext-seen book lease front name (Ack lease.seq name id) row left [] lawful uses seen last room refl refl (omega arith) leaves
+IsNext-settled book lease front name row left id lawful uses seen settles last room is leaves =
+    IsNext-seen book lease front name (Ack lease.seq name id) row left [] lawful uses seen last room refl refl (omega arith) is leaves
     (subst (λ (c : Contents). fits book.case (length book.history + 1) name c ≡ true) (sym leaves)
     (fits-less book.case (length book.history) name row (written_row (length book.history) (Ack lease.seq name id) [] row)
     (λ (d : Delivery). not (same_id d.id id)) seen.fit refl refl refl))
@@ -224,7 +226,7 @@ pub IsNext-purged : (book : BookView) (lease : LeaseView) (front : ℕ) (name : 
     → left ≡ written_row (length book.history) (Purge lease.seq name floor) [] row
     → IsNext book.case (core_of book) name (Purge lease.seq name floor) left
 IsNext-purged book lease front name row left floor lawful uses seen raises last room leaves =
-    IsNext-seen book lease front name (Purge lease.seq name floor) row left [] lawful uses seen last room refl refl (omega arith) leaves
+    IsNext-seen book lease front name (Purge lease.seq name floor) row left [] lawful uses seen last room refl refl (omega arith) tt leaves
     (subst (λ (c : Contents). fits book.case (length book.history + 1) name c ≡ true) (sym leaves)
     (fits-later book.case (length book.history) name row seen.fit))
     (may-raise book lease front name row floor uses seen raises last)

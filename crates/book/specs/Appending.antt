@@ -9,6 +9,7 @@ use Rattle.run_history.specs.Made.{row_written, productions_of, deliveries_of}
 use Rattle.run_history.specs.Runs.{run_of}
 use Rattle.run_history.specs.Legal.{MayFollow}
 use Rattle.run_history.specs.Fences.{IsUnderLastClaim, last_claim}
+use Rattle.run_history.specs.HistoryLines.{HasLine}
 use Rattle.book.specs.Books.{CoreView}
 use Rattle.run_history.specs.Fits.{fits}
 use Rattle.book.specs.Conditions.{IsRowOf}
@@ -30,6 +31,7 @@ pub record IsNext (case : CaseShape) (core : CoreView) (name : RowName) (entry :
   pub under : IsUnderLastClaim case.topology core.history entry
   pub part : name.part < parts_of case.topology
   pub few : length (productions_of entry) ≤ 8
+  pub line : HasLine entry
   pub fit : fits case (length core.history + 1) name row ≡ true
   pub may : IfSome core.rows (λ _. MayFollow case (run_of case.topology core.history) entry)
   pub of_history : IsRowOf case core.rows (core.history ++ entry ∷ []) name row

@@ -2,7 +2,7 @@
 -- Akidau et al., VLDB 2013, section 6.1, where state is checkpointed with each record's handling,
 -- section 6.2 for sequencers, and section 4.5 for watermarks. Own: what is known over a keeper whose
 -- rows no contract can see.
-use Rattle.std.specs.Prelude.{◌≡◌, ◌<◌, ◌≤◌, ◌^◌, ℕ, List, length, true, Some, IfSome}
+use Rattle.std.specs.Prelude.{◌≡◌, ◌<◌, ◌≤◌, ◌^◌, ℕ, List, length, true, All, Some, IfSome}
 use Rattle.std.specs.List.{AllByRecursion}
 use Rattle.mw_types.specs.declared.identity.RowName.{RowName}
 use Rattle.mw_types.specs.declared.entry.Entry.{Entry}
@@ -14,6 +14,7 @@ use Rattle.run_history.specs.Cases.{CaseShape, intervals_of}
 use Rattle.run_history.specs.Runs.{run_of}
 use Rattle.run_history.specs.Legal.{IsLegal}
 use Rattle.run_history.specs.Printing.{IsPrintable}
+use Rattle.run_history.specs.HistoryLines.{HasLine}
 use Rattle.run_history.specs.Fences.{IsFenced, last_claim}
 use Rattle.run_history.specs.Finished.{unfinished}
 use Rattle.run_history.specs.Inputs.{IsRunnable}
@@ -39,8 +40,9 @@ abbrev pub AreClaimsThere : Shape → List Entry → Type 0
 AreClaimsThere shape history = (interval seq : ℕ) →
     last_claim interval history ≡ Some seq → interval < length (intervals_of shape)
 
--- a book is lawful: its history is fenced, no longer than its limit, and can be printed, and where
--- a contract can see the keeper's rows they are those of the history, which is legal
+-- a book is lawful: its history is fenced and no longer than its limit, its result and its lines can
+-- be printed, and where a contract can see the keeper's rows they are those of the history, which is
+-- legal
 pub record IsLawful (case : CaseShape) (core : CoreView) : Type 0 where
   pub runnable : IsRunnable case
   pub limit : core.limit ≤ 2 ^ 32
@@ -48,6 +50,7 @@ pub record IsLawful (case : CaseShape) (core : CoreView) : Type 0 where
   pub fenced : IsFenced case.topology core.history
   pub claims : AreClaimsThere case.topology core.history
   pub printable : IsPrintable case.topology core.history
+  pub lines : All HasLine core.history
   pub held : IfSome core.rows (IsHeld case core.history)
   -- what the book counts as left is the work that is left
   pub left : IfSome core.rows (λ _. core.work ≡ unfinished case (run_of case.topology core.history))

@@ -97,6 +97,8 @@ impl<'a, K: Keeper> Book<'a, K> {
             Ok(number) => number,
             Err(why) => return Err(why),
         };
+        // That the id can be printed is known of what is pending in a row.
+        let _pending = row.pending.len();
         let left = settled(alloc, row, id, number)?;
         let entry = Entry::Ack {
             seq: lease.seq,

@@ -1,10 +1,13 @@
 use Rattle.std.proofs.Common.{◌≡◌, [], length, ap, refl, subst, sym, ◌∙◌}
 use Rattle.mw_types.specs.declared.entry.Entry.{Entry}
 use Rattle.mw_types.specs.declared.entry.Entry.TheVariants.{Ack}
+use Rattle.std.specs.Prelude.{All}
+use Rattle.row_parts.specs.Contents.{Contents, IsId, IsDelivery}
 use Rattle.book.specs.Books.{core_of}
 use Rattle.run_history.specs.Runs.{written_row}
 use Rattle.book.specs.Appending.{IsNext}
 use Rattle.book.proofs.ClaimLaws.{stale-again}
+use Rattle.book.proofs.LineLaws.{found-id}
 use Rattle.book.proofs.SeenRows.{IsNext-settled, IsWritten-result, IfOk-row, row-was, when-written, claimed-whole}
 use Rattle.book.proofs.books.Book.settle.Goals as goal
 
@@ -16,11 +19,13 @@ returns-in-Err-clause-stale g c = stale-again c.args.self.now.history c.args.lea
 pub append_row-requires : goal.append_row-requires
 append_row-requires g c =
     let entry = Ack c.args.lease.now.seq c.args.name.now c.args.id in
+    let is : IsId c.args.id = found-id c.args.id c.args.row.now.pending
+    (subst (λ (r : Contents). All IsDelivery r.pending) c.row.view_is c.row.invariant.pending.each) c.requires.id.pending in
     let same : Ack c.lease.inside.seq c.in_ok-copy.field-0 c.args.id ≡ entry
     = λ i. Ack (c.lease.view_is i).seq (c.in_ok-copy.ensures.copied i) c.args.id in record {
       next = subst (λ (e : Entry). IsNext c.args.self.now.case (core_of c.args.self.now) c.args.name.now e c.in_ok-left.left) (sym same)
           (IsNext-settled c.args.self.now c.args.lease.now c.args.front c.args.name.now c.args.row.now c.in_ok-left.left c.args.id
-          c.admit.ensures.lawful c.requires.lease c.requires.row c.requires.id c.in-Ok.ensures.last c.in-Ok.ensures.room
+          c.admit.ensures.lawful c.requires.lease c.requires.row c.requires.id c.in-Ok.ensures.last c.in-Ok.ensures.room is
           (c.in_ok-left.ensures ∙ ap (λ n. written_row n entry [] c.args.row.now) c.in-Ok.ensures.number));
       sent = refl;
       was = row-was c.args.self.now c.args.lease.now c.args.front c.args.name.now c.args.row.now c.admit.ensures.lawful c.requires.lease
@@ -31,13 +36,15 @@ append_row-requires g c =
 pub returns-clause-written : goal.returns-clause-written
 returns-clause-written g c =
     let entry = Ack c.args.lease.now.seq c.args.name.now c.args.id in
+    let is : IsId c.args.id = found-id c.args.id c.args.row.now.pending
+    (subst (λ (r : Contents). All IsDelivery r.pending) c.row.view_is c.row.invariant.pending.each) c.requires.id.pending in
     let same : Ack c.lease.inside.seq c.in_ok-copy.field-0 c.args.id ≡ entry
     = λ i. Ack (c.lease.view_is i).seq (c.in_ok-copy.ensures.copied i) c.args.id in
     let left : c.in_ok-left.left ≡ written_row (length c.args.self.now.history) entry [] c.args.row.now
     = c.in_ok-left.ensures ∙ ap (λ n. written_row n entry [] c.args.row.now) c.in-Ok.ensures.number in
     IsWritten-result c.args.self.now c.append_row.new.self c.args.lease.now c.args.name.now entry _ _ c.append_row.result
     (IsNext-settled c.args.self.now c.args.lease.now c.args.front c.args.name.now c.args.row.now _ c.args.id
-    c.admit.ensures.lawful c.requires.lease c.requires.row c.requires.id c.in-Ok.ensures.last c.in-Ok.ensures.room refl)
+    c.admit.ensures.lawful c.requires.lease c.requires.row c.requires.id c.in-Ok.ensures.last c.in-Ok.ensures.room is refl)
     c.in-Ok.ensures.last same c.append_row.ensures.appended c.append_row.ensures.commit
     (IfOk-row left c.append_row.result c.append_row.ensures.row)
 
