@@ -1,0 +1,7 @@
+pub mod Messages
+pub mod Received
+pub mod Workers
+pub mod Fits
+pub mod Works
+pub mod Asking
+pub mod Answers
