@@ -3,7 +3,16 @@
 //!
 //! A call asks a desk for one entry, and keeps the row that the entry leaves; a refusal leaves all
 //! as it was. Stands on `book` and the crates below it. Public contract: what is held fits the desk
-//! after each call (`AreHeld`), an accepted write is the desk's, and each other row stays. The least
-//! timer and the own work of an interval are found without a look at each row. Definition:
-//! `specs/Holding.antt`.
+//! after each call (`AreHeld`), an accepted write is the desk's, and each other row stays.
+//! Definition: `specs/Holding.antt`.
 #![tactic(auto)]
+
+mod cache;
+mod claims;
+mod held;
+mod holdings;
+mod writes;
+
+pub use claims::fits_beside;
+pub use held::Held;
+pub use holdings::Holdings;

@@ -1,0 +1,4 @@
+pub mod CacheLaws
+pub mod HeldRows
+pub mod HeldPlaces
+pub mod HeldSteps

@@ -1,0 +1,114 @@
+//! The rows of one interval that are cached.
+ghost use Rattle.std.specs.Prelude.{◌≡◌, ◌<◌, IsSome, None, OnErr, OnOk, length, map, option_copied, slice_get, slice_set, IfSome};
+ghost use Rattle.std.specs.List.Sorted.{IsStrictlySortedBy};
+ghost use Rattle.std.specs.Map.{lookup, set_value};
+ghost use Rattle.std.specs.BTreeMap.{insert_entry, is_at};
+ghost use Rattle.mw_types.specs.Orders.{row_cmp};
+ghost use Rattle.row_parts.specs.Places.{IsHitOrGap};
+ghost use Rattle.run_history.specs.Runs.{cached, row_in};
+ghost use Rattle.book.specs.Claims.{named};
+ghost use Rattle.book.specs.declared.answers.NamedRow.{NamedRow};
+
+use book::{NamedRow, NamedRowList};
+use mw_types::{NoMemory, RowName};
+use row_parts::Row;
+use std::alloc::Global;
+use std::collections::BTreeMap;
+use std::marker::Model;
+
+// Rows by their names: the list that a claim answered, as it is, so that a claim takes no memory
+// after its answer; and those that are not in it.
+#[derive(Drop)]
+pub(crate) struct Cache {
+    answered: Vec<NamedRow>,
+    others: BTreeMap<RowName, Row>,
+}
+
+impl Model for Cache {
+    ghost use Rattle.std.specs.Prelude.{List};
+    ghost use Rattle.mw_types.specs.declared.identity.RowName.{RowName};
+    ghost use Rattle.row_parts.specs.Contents.{Contents};
+    ghost use Rattle.holdings.specs.Caching.{AreOrdered, merged};
+
+    ghost Value = { List (RowName × Contents) };
+
+    ghost view = { λ cache. merged cache.answered.items cache.others.entries };
+
+    ghost invariant = { λ cache. AreOrdered cache.answered.items cache.others.entries };
+}
+
+impl Cache {
+    // The rows that a claim answered, which ascend by name.
+    pub(crate) fn of(alloc: Global, rows: NamedRowList) -> Cache
+        requires { IsStrictlySortedBy row_cmp (map (λ (r : NamedRow). r.name) rows) }
+        ensures { result ≡ map named rows }
+    {
+        Cache {
+            answered: rows.into_vec(),
+            others: BTreeMap::new(alloc),
+        }
+    }
+
+    // The row of this name, or none where none is cached.
+    pub(crate) fn get(&self, name: &RowName) -> Option<&Row>
+        ensures { option_copied result ≡ row_in (cached self.now) name.now }
+    {
+        match place_of(&self.answered, name) {
+            Ok(at) => Some(&self.answered[at].row),
+            Err(_) => self.others.get(name),
+        }
+    }
+
+    // Puts a row that is not cached yet.
+    pub(crate) fn add(&mut self, name: RowName, row: Row) -> Result<(), NoMemory>
+        requires new { row_in (cached self.old) name ≡ None }
+        ensures added { OnOk result (self.new ≡ insert_entry row_cmp self.old name row) }
+        ensures unchanged { OnErr result (self.new ≡ self.old) }
+    {
+        self.others.insert(name, row)?;
+        Ok(())
+    }
+
+    // Puts another row in the place of one that is cached.
+    pub(crate) fn set(&mut self, name: &RowName, row: Row)
+        requires there { IsSome (row_in (cached self.old) name.now) }
+        ensures { self.new ≡ insert_entry row_cmp self.old name.now row }
+    {
+        match place_of(&self.answered, name) {
+            Ok(at) => set_at(&mut self.answered[at], row),
+            Err(_) => set_in(&mut self.others, name, row),
+        }
+    }
+}
+
+// The place of a name's row among rows that ascend by name; `Err` has the place where it would stand.
+fn place_of(rows: &[NamedRow], name: &RowName) -> Result<usize, usize>
+    requires { IsStrictlySortedBy row_cmp (map (λ (r : NamedRow). r.name) rows.now) }
+    ensures { IsHitOrGap (λ (r : NamedRow). row_cmp r.name name.now) rows.now result }
+{
+    rows.binary_search_by(|row| row.name.cmp(name))
+}
+
+// Another row under the same name.
+fn set_at(place: &mut NamedRow, row: Row)
+    ensures { place.new ≡ record place.old { row = row } }
+{
+    place.row = row;
+}
+
+// Another row in the place of one that a map has.
+fn set_in(rows: &mut BTreeMap<RowName, Row>, name: &RowName, row: Row)
+    requires { IsSome (lookup (is_at (row_cmp name.now)) rows.old.entries) }
+    ensures { rows.new.entries ≡ set_value (is_at (row_cmp name.now)) rows.old.entries row }
+{
+    if let Some(place) = rows.get_mut(name) {
+        put(place, row);
+    }
+}
+
+// Another row in a place.
+fn put(place: &mut Row, row: Row)
+    ensures { place.new ≡ row }
+{
+    *place = row;
+}

@@ -1,0 +1,83 @@
+//! What is held of one interval.
+ghost use Rattle.std.specs.Prelude.{◌≡◌, ◌<◌, IsSome, OnErr, OnOk, Some, option_copied};
+ghost use Rattle.std.specs.List.Sorted.{IsStrictlySortedBy};
+ghost use Rattle.std.specs.Map.{keys_of};
+ghost use Rattle.mw_types.specs.Orders.{row_cmp};
+ghost use Rattle.run_history.specs.Runs.{cached, row_in};
+ghost use Rattle.holdings.specs.Holding.{row_held, with_row};
+
+use crate::cache::Cache;
+use book::Lease;
+use mw_types::{Duplicate, NoMemory, RowName};
+use row_parts::Row;
+use run_history::{Case, first_row};
+use std::alloc::Global;
+use std::marker::Model;
+
+/// What is held of one interval: the lease, and the rows that are cached.
+#[derive(Drop)]
+pub struct Held {
+    pub(crate) lease: Lease,
+    pub(crate) rows: Cache,
+}
+
+impl Model for Held {
+    ghost use Rattle.holdings.specs.Holding.{HeldView};
+
+    ghost Value = { HeldView };
+
+    ghost view = { λ held. record { lease = held.lease; rows = held.rows } };
+}
+
+impl Held {
+    /// The lease.
+    pub fn lease(&self) -> &Lease
+        ensures lease { result.now ≡ self.now.lease }
+    {
+        &self.lease
+    }
+
+    /// The row of this name, or none where none is cached: the row is fresh then.
+    pub fn row(&self, name: &RowName) -> Option<&Row>
+        ensures row { option_copied result ≡ row_in (cached self.now.rows) name.now }
+    {
+        self.rows.get(name)
+    }
+
+    // The row of this name, which is cached.
+    pub(crate) fn cached(&self, name: &RowName) -> &Row
+        requires there { IsSome (row_in (cached self.now.rows) name.now) }
+        ensures row { row_in (cached self.now.rows) name.now ≡ Some result.now }
+    {
+        self.rows.get(name).unwrap()
+    }
+
+    // Sees to it that a row is cached, which changes no row.
+    pub(crate) fn cache(
+        &mut self,
+        alloc: Global,
+        case: &Case,
+        name: &RowName,
+    ) -> Result<(), NoMemory>
+        requires ordered { IsStrictlySortedBy row_cmp (keys_of self.old.rows) }
+        ensures there { OnOk result
+            (self.new ≡ with_row name.now (row_held case.now.topology self.old name.now) self.old) }
+        ensures unchanged { OnErr result (self.new ≡ self.old) }
+    {
+        if let Some(_) = self.rows.get(name) {
+            return Ok(());
+        }
+        let key = name.copy(alloc)?;
+        let row = first_row(alloc, case, name.part);
+        self.rows.add(key, row)?;
+        Ok(())
+    }
+
+    // Puts another row in the place of one that is cached.
+    pub(crate) fn set(&mut self, name: &RowName, row: Row)
+        requires there { IsSome (row_in (cached self.old.rows) name.now) }
+        ensures { self.new ≡ with_row name.now row self.old }
+    {
+        self.rows.set(name, row);
+    }
+}

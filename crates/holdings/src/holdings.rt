@@ -1,0 +1,183 @@
+//! What a worker holds of each interval.
+ghost use Rattle.std.specs.Prelude.{◌≡◌, ◌<◌, ℕ, [], IfOk, IfSome, IsSome, MatchResult, None, Ok, Err, OnErr, OnOk, Some, length, option_copied, slice_set};
+ghost use Rattle.std.specs.List.Sorted.{IsStrictlySortedBy};
+ghost use Rattle.std.specs.Map.{keys_of};
+ghost use Rattle.mw_types.specs.Orders.{row_cmp};
+ghost use Rattle.run_history.specs.Cases.{CaseShape};
+ghost use Rattle.run_history.specs.Runs.{cached, row_in};
+ghost use Rattle.book.specs.Desks.{DeskView};
+ghost use Rattle.book.specs.declared.answers.Written.{Written};
+ghost use Rattle.holdings.specs.Holding.{AreHeld, HeldView, KeepsOthers, held_at, with_row};
+ghost use Rattle.holdings.specs.Steps.{IsReady, KeepsAll};
+
+use crate::held::Held;
+use book::{DeskRefusal, Written};
+use mw_types::{NoMemory, RowName};
+use run_history::Case;
+use std::alloc::Global;
+use std::marker::Model;
+use std::mem::replace;
+
+/// What a worker holds of each interval, by the interval's number.
+#[derive(Drop)]
+pub struct Holdings {
+    all: Vec<Option<Held>>,
+}
+
+impl Model for Holdings {
+    ghost use Rattle.std.specs.Prelude.{List, Option};
+    ghost use Rattle.holdings.specs.Holding.{HeldView};
+
+    ghost Value = { List (Option HeldView) };
+
+    ghost view = { λ holdings. holdings.all.items };
+}
+
+impl Holdings {
+    /// Nothing is held, which takes no memory.
+    pub fn new(alloc: Global) -> Holdings
+        ensures none { result ≡ [] }
+        ensures fits { (case : CaseShape) (desk : DeskView) → AreHeld case desk result }
+    {
+        Holdings {
+            all: Vec::new(alloc),
+        }
+    }
+
+    /// What is held of an interval.
+    pub fn get(&self, interval: u32) -> Option<&Held>
+        ensures held { option_copied result ≡ held_at self.now interval }
+    {
+        match self.all.get(interval as usize) {
+            Some(Some(held)) => Some(held),
+            _ => None,
+        }
+    }
+
+    /// Lets go of all that is held, as in a crash.
+    pub fn clear(&mut self)
+        ensures none { self.new ≡ [] }
+        ensures fits { (case : CaseShape) (desk : DeskView) → AreHeld case desk self.new }
+    {
+        self.all.clear();
+    }
+
+    /// Lets go of what is held of an interval, as after a claim that has overtaken its lease.
+    pub fn drop_lease(&mut self, interval: u32)
+        ensures gone { held_at self.new interval ≡ None }
+        ensures others { KeepsOthers interval self.old self.new }
+        ensures fits { (case : CaseShape) (desk : DeskView) → AreHeld case desk self.old →
+            AreHeld case desk self.new }
+    {
+        take_in(&mut self.all, interval as usize);
+    }
+
+    // Sees to it that there is a place for an interval.
+    pub(crate) fn make_room(&mut self, interval: u32) -> Result<(), NoMemory>
+        ensures room { OnOk result (interval < length self.new) }
+        ensures same { KeepsAll self.old self.new }
+    {
+        for _ in self.all.len()..(interval as usize + 1) {
+            self.all.push(None)?;
+        }
+        Ok(())
+    }
+
+    // Takes what is held of an interval out of its place.
+    fn take(&mut self, interval: u32) -> Held
+        requires there { IsSome (held_at self.old interval) }
+        ensures taken { held_at self.old interval ≡ Some result }
+        ensures gone { self.new ≡ slice_set self.old interval None }
+    {
+        take_in(&mut self.all, interval as usize).unwrap()
+    }
+
+    // Puts what is held of an interval in its place.
+    pub(crate) fn put(&mut self, interval: u32, held: Held)
+        ensures { self.new ≡ slice_set self.old interval (Some held) }
+    {
+        if let Some(place) = self.all.get_mut(interval as usize) {
+            put_at(place, held);
+        }
+    }
+
+    // Takes what is held of an interval out of its place for a write, with the row cached.
+    pub(crate) fn ready(
+        &mut self,
+        alloc: Global,
+        case: &Case,
+        interval: u32,
+        name: &RowName,
+    ) -> Result<Held, NoMemory>
+        requires there { IsSome (held_at self.old interval) }
+        requires ordered { (held : HeldView) → held_at self.old interval ≡ Some held →
+            IsStrictlySortedBy row_cmp (keys_of held.rows) }
+        ensures ready { IfOk result
+            (IsReady case.now.topology interval name.now self.old self.new) }
+        ensures same { OnErr result (KeepsAll self.old self.new) }
+    {
+        let mut held = self.take(interval);
+        if let Err(want) = held.cache(alloc, case, name) {
+            self.put(interval, held);
+            return Err(want);
+        }
+        Ok(held)
+    }
+
+    // Puts what is held of an interval back after a write, with the row that the write left.
+    pub(crate) fn keep(
+        &mut self,
+        interval: u32,
+        name: &RowName,
+        held: Held,
+        written: Result<Written, DeskRefusal>,
+    ) -> Result<u64, DeskRefusal>
+        requires room { interval < length self.old }
+        requires there { IsSome (row_in (cached held.rows) name.now) }
+        ensures result { MatchResult written (λ w. result ≡ Ok w.commit) (λ why. result ≡ Err why) }
+        ensures here { MatchResult written
+            (λ w. held_at self.new interval ≡ Some (with_row name.now w.row held))
+            (λ _. held_at self.new interval ≡ Some held) }
+        ensures others { KeepsOthers interval self.old self.new }
+    {
+        match written {
+            Ok(written) => Ok(self.keep_written(interval, name, held, written)),
+            Err(why) => {
+                self.put(interval, held);
+                Err(why)
+            }
+        }
+    }
+
+    // The same where the write was accepted.
+    fn keep_written(&mut self, interval: u32, name: &RowName, held: Held, written: Written) -> u64
+        requires there { IsSome (row_in (cached held.rows) name.now) }
+        ensures number { result ≡ written.commit }
+        ensures put { self.new
+            ≡ slice_set self.old interval (Some (with_row name.now written.row held)) }
+    {
+        let mut held = held;
+        let Written { commit, row } = written;
+        held.set(name, row);
+        self.put(interval, held);
+        commit
+    }
+}
+
+// Takes the value out of a place.
+fn take_in(all: &mut Vec<Option<Held>>, at: usize) -> Option<Held>
+    ensures taken { result ≡ held_at all.old.items at }
+    ensures gone { all.new.items ≡ slice_set all.old.items at None }
+{
+    match all.get_mut(at) {
+        Some(place) => replace(place, None),
+        None => None,
+    }
+}
+
+// Puts a value in a place.
+fn put_at(place: &mut Option<Held>, held: Held)
+    ensures { place.new ≡ Some held }
+{
+    *place = Some(held);
+}
