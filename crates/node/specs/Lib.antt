@@ -5,3 +5,4 @@ pub mod Fits
 pub mod Works
 pub mod Asking
 pub mod Answers
+pub mod Outboxes

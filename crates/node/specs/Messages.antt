@@ -1,12 +1,13 @@
 -- What workers send each other: a record to the row that handles it, and word that it was handled to the row that sent it.
 -- Akidau et al., VLDB 2013, section 6.1. Own: what a message says is so in what its sender had seen of the history.
 use Rattle.std.specs.Prelude.{◌≡◌, ◌<◌, ◌≤◌, ℕ, true, List, Option, Some, None, IfSome, ⊤}
+use Rattle.mw_types.specs.declared.TheConstants.{MAX_STAMP}
 use Rattle.mw_types.specs.declared.identity.RecordId.{RecordId}
 use Rattle.mw_types.specs.declared.identity.RowName.{RowName}
 use Rattle.mw_types.specs.declared.delivery.Delivery.{Delivery}
 use Rattle.mw_types.specs.declared.entry.Entry.{Entry}
 use Rattle.topology.specs.Shapes.{Shape, injectors_of, parts_of}
-use Rattle.row_parts.specs.Contents.{IsDelivery}
+use Rattle.row_parts.specs.Contents.{IsId}
 use Rattle.run_history.specs.Cases.{CaseShape}
 use Rattle.run_history.specs.Finished.{is_handled}
 use Rattle.run_history.specs.Made.{found_delivery}
@@ -33,9 +34,11 @@ pub record IsComputation (shape : Shape) (part : ℕ) : Type 0 where
   pub no_injector : injectors_of shape ≤ part
   pub there : part < parts_of shape
 
--- a record that is sent can be kept in a row, goes to a computation's row and comes from a row of a part
+-- a record that is sent has an id and a timestamp that can be kept, goes to a computation's row and comes from a row
+-- of a part
 pub record IsDeliverable (shape : Shape) (delivery : Delivery) (sender : RowName) : Type 0 where
-  pub kept : IsDelivery delivery
+  pub id : IsId delivery.id
+  pub stamp : delivery.item.stamp ≤ MAX_STAMP
   pub to : IsComputation shape delivery.to.part
   pub from : sender.part < parts_of shape
 

@@ -17,3 +17,7 @@ pub record IsWorkOf (shape : Shape) (has : ℕ → State → Type 0) (gives_reco
       kind_of shape part ≡ Some kind → gives_record part key state item ≡ effects_of_record kind key state item
   pub timers : (part : ℕ) (kind : Kind) (key : List ℕ) (state : State) (timer : Timer) →
       kind_of shape part ≡ Some kind → gives_timer part key state timer ≡ effects_of_timer kind key state timer
+
+-- a part is a computation, and its rows may have the state
+abbrev pub IsStateThere : Shape → ℕ → State → Type 0
+IsStateThere shape part state = (kind : Kind) × (kind_of shape part ≡ Some kind) × (has_kind kind state ≡ true)

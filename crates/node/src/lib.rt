@@ -9,10 +9,13 @@
 //! `specs/Messages.antt`, what workers send each other; `specs/Fits.antt`.
 #![tactic(auto)]
 
+mod handling;
 mod message;
 mod node;
+mod outbox;
 mod outcome;
 mod outgoing;
+mod sends;
 mod work;
 
 pub use message::{Message, Parcel, Receipt};

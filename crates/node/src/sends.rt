@@ -1,0 +1,47 @@
+//! What an entry makes, as messages that are there before the entry has its number.
+ghost use Rattle.std.specs.Prelude.{◌≡◌, ◌<◌, ◌≤◌, length, IfOk};
+ghost use Rattle.topology.specs.Shapes.{parts_of};
+ghost use Rattle.run_history.specs.Made.{deliveries_made};
+ghost use Rattle.node.specs.Workers.{messages_from};
+
+use crate::outgoing::Outgoing;
+use mw_types::{Delivery, DeliveryList, Duplicate, NoMemory, Production, RowName};
+use run_history::{Made, make};
+use std::alloc::Global;
+use topology::Topology;
+
+// What productions of a row become, under the commit number 0.
+pub(crate) fn made(
+    alloc: Global,
+    topology: &Topology,
+    name: &RowName,
+    productions: &[Production],
+    late: bool,
+) -> Result<Vec<Outgoing>, NoMemory>
+    requires part { name.now.part < parts_of topology.now }
+    requires few { length productions.now ≤ 8 }
+    ensures made { IfOk result (λ made. made.items ≡ messages_from name.now
+        (deliveries_made topology.now name.now.part productions.now late 0)) }
+{
+    let Made {
+        deliveries,
+        emissions: _,
+    } = make(alloc, topology, name.part, productions, late, 0)?;
+    messages_from(alloc, name, deliveries)
+}
+
+// Deliveries as messages from a row.
+fn messages_from(
+    alloc: Global,
+    name: &RowName,
+    deliveries: DeliveryList,
+) -> Result<Vec<Outgoing>, NoMemory>
+    ensures { IfOk result (λ all. all.items ≡ messages_from name.now deliveries) }
+{
+    let mut all = Vec::new(alloc);
+    for delivery in deliveries.into_vec() {
+        let sender = name.copy(alloc)?;
+        all.push(Outgoing::Deliver { delivery, sender })?;
+    }
+    Ok(all)
+}
