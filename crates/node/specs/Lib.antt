@@ -6,3 +6,4 @@ pub mod Works
 pub mod Asking
 pub mod Answers
 pub mod Outboxes
+pub mod Steps

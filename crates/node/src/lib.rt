@@ -17,6 +17,7 @@ mod outcome;
 mod outgoing;
 mod sends;
 mod work;
+mod yields;
 
 pub use message::{Message, Parcel, Receipt};
 pub use node::Node;
