@@ -1,7 +1,7 @@
 -- Why a desk refuses.
 -- Akidau et al., VLDB 2013, section 6.2: a write under an older sequencer is refused. Own: the other refusals, and
 -- what shows each of them.
-use Rattle.std.specs.Prelude.{◌≡◌, ◌↔◌, ◌++◌, ◌∷◌, [], ℕ, ⊤, ⊥, length}
+use Rattle.std.specs.Prelude.{◌≡◌, ◌↔◌, ◌++◌, ◌∷◌, [], ℕ, ⊤, length}
 use Rattle.mw_types.specs.Causes.{Rose}
 use Rattle.run_history.specs.Fences.{IsCurrent, IsOvertakenBy}
 use Rattle.book.specs.Books.{LeaseView}

@@ -2,3 +2,4 @@ pub mod CacheLaws
 pub mod HeldRows
 pub mod HeldPlaces
 pub mod HeldSteps
+pub mod ClaimSteps
