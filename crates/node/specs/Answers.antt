@@ -171,6 +171,11 @@ taken_in shape node delivery sender = if is_some node.prepared then (outcomes.No
     option_map_or (received shape node delivery sender) (held_on shape node.held delivery.to)
         (outcomes.NotMine, worker_at node)
 
+-- what a node answers to a message that comes, and the worker that it is then; an acknowledgement is no record
+abbrev pub taken_from : Shape → NodeView → Outgoing → Outcome × Worker
+taken_from shape node (outgoing.Deliver delivery sender) = taken_in shape node delivery sender
+taken_from shape node (outgoing.Ack to id) = (outcomes.Nothing, worker_at node)
+
 -- what a node answers to an acknowledgement: it is another's where its row is not held, and else is written where its
 -- id is pending there
 abbrev pub AnswersAck : Shape → DeskView → DeskView → Option HeldView → RowName → RecordId → NodeView → NodeView → Outcome → Type 0

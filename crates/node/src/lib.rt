@@ -9,14 +9,17 @@
 //! `specs/Messages.antt`, what workers send each other; `specs/Fits.antt`.
 #![tactic(auto)]
 
+mod claims;
 mod handling;
 mod message;
 mod node;
 mod outbox;
 mod outcome;
 mod outgoing;
+mod receiving;
 mod sends;
 mod work;
+mod writes;
 mod yields;
 
 pub use message::{Message, Parcel, Receipt};

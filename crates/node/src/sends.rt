@@ -1,7 +1,10 @@
 //! What an entry makes, as messages that are there before the entry has its number.
-ghost use Rattle.std.specs.Prelude.{◌≡◌, ◌<◌, ◌≤◌, length, IfOk};
+ghost use Rattle.std.specs.Prelude.{◌≡◌, ◌<◌, ◌≤◌, ◌^◌, ℕ, All, IfOk, length, map};
+ghost use Rattle.mw_types.specs.declared.TheConstants.{MAX_STAMP};
 ghost use Rattle.topology.specs.Shapes.{parts_of};
 ghost use Rattle.run_history.specs.Made.{deliveries_made};
+ghost use Rattle.node.specs.Messages.{IsAddressed};
+ghost use Rattle.node.specs.Outboxes.{numbered};
 ghost use Rattle.node.specs.Workers.{messages_from};
 
 use crate::outgoing::Outgoing;
@@ -10,7 +13,7 @@ use run_history::{Made, make};
 use std::alloc::Global;
 use topology::Topology;
 
-// What productions of a row become, under the commit number 0.
+// What productions of a row become, under the commit number 0: the entry's comes later.
 pub(crate) fn made(
     alloc: Global,
     topology: &Topology,
@@ -20,9 +23,17 @@ pub(crate) fn made(
 ) -> Result<Vec<Outgoing>, NoMemory>
     requires part { name.now.part < parts_of topology.now }
     requires few { length productions.now ≤ 8 }
-    ensures made { IfOk result (λ made. made.items ≡ messages_from name.now
-        (deliveries_made topology.now name.now.part productions.now late 0)) }
+    requires stamps { All (λ p. p.stamp ≤ MAX_STAMP) productions.now }
+    ensures made { IfOk result (λ made. (commit : ℕ) → map (numbered commit) made.items
+        ≡ messages_from name.now
+        (deliveries_made topology.now name.now.part productions.now late commit)) }
+
+    // Each goes to a computation's row, whatever the number.
+    ensures addressed { (commit : ℕ) → commit < 2 ^ 32 → All (IsAddressed topology.now)
+        (messages_from name.now
+        (deliveries_made topology.now name.now.part productions.now late commit)) }
 {
+    let _parts = topology.parts();
     let Made {
         deliveries,
         emissions: _,
