@@ -15,7 +15,7 @@ use Rattle.mw_types.specs.declared.entry.Entry.TheVariants.{Claim}
 use Rattle.key_intervals.specs.declared.bounds.Bounds.{Bounds}
 use Rattle.key_intervals.specs.Intervals.{covers, rows_covered}
 use Rattle.topology.specs.Rules.{IsTopology}
-use Rattle.topology.specs.Shapes.{Shape, interval_count, parts_of}
+use Rattle.topology.specs.Shapes.{Shape, parts_of}
 use Rattle.row_parts.specs.Contents.{Contents, fresh}
 use Rattle.run_history.specs.Cases.{CaseShape, fresh_of, intervals_of}
 use Rattle.run_history.specs.Runs.{Run, cached, row_in, row_of, run_of}
@@ -69,7 +69,7 @@ names-named [] = refl
 names-named (r ∷ rows) = ap (λ (l : List RowName). r.name ∷ l) (names-named rows)
 
 -- what a claim answered
-abbrev claimed_view : Claimed → HeldView
+abbrev pub claimed_view : Claimed → HeldView
 claimed_view answer = record { lease = answer.lease; rows = map named answer.rows }
 
 module _ (case : CaseShape) (old new : DeskView) (worker interval : ℕ) (bounds : Bounds) (answer : Claimed)

@@ -28,7 +28,7 @@ use Rattle.run_history.proofs.Fenced.{IsFenced-begins}
 use Rattle.run_history.proofs.Fitting.{fits-more}
 use Rattle.run_history.proofs.Known.{known-last}
 use Rattle.run_history.proofs.Lists.{none_some, some_same}
-use Rattle.run_history.proofs.Lookups.{lookup-insert_entry, sorted-insert_entry}
+use Rattle.run_history.proofs.Lookups.{lookup-insert_entry, same_entries, sorted-insert_entry}
 use Rattle.run_history.proofs.RunLaws.{run_of-push}
 use Rattle.history_laws.proofs.FenceLaws.{row_in-known}
 use Rattle.history_laws.proofs.RowSteps.{row_in-elsewhere, same_row}
@@ -41,7 +41,7 @@ use Rattle.book.specs.declared.answers.Written.{Written}
 use Rattle.book.specs.declared.proposal.Proposal.{Proposal}
 use Rattle.book.specs.declared.proposal.Proposal.TheVariants as proposals
 use Rattle.holdings.specs.Holding.{AreRowsHeld, HeldView, row_held, with_row}
-use Rattle.holdings.proofs.CacheLaws.{apart-tied}
+use Rattle.holdings.proofs.CacheLaws.{apart-tied, tied_row}
 
 -- ---- what is told
 
@@ -100,6 +100,27 @@ row_held-same shape name other held = elim (name_or_not other name) [
       (row_held-here shape name (row_held shape held name) held)
   | inr apart ↦ row_held-other shape name other (row_held shape held name) held apart
 ]
+
+-- a value that is put where it is changes nothing
+insert-same : (es : List (RowName × Contents)) (name : RowName) (v : Contents) → IsStrictlySortedBy row_cmp (keys_of es)
+    → lookup (is_at (row_cmp name)) es ≡ Some v → insert_entry row_cmp es name v ≡ es
+insert-same es name v ordered found =
+    same_entries row_cmp-total tied_row (insert_entry row_cmp es name v) es (sorted-insert_entry row_cmp-total es name v ordered) ordered
+    (λ q. lookup-insert_entry row_cmp-total es name v q ∙ by_tie q (is_at (row_cmp q) name) refl)
+  where
+    by_tie : (q : RowName) (b : Bool) → is_at (row_cmp q) name ≡ b
+        → cond (is_at (row_cmp q) name) (Some v) (lookup (is_at (row_cmp q)) es) ≡ lookup (is_at (row_cmp q)) es
+    by_tie q true tie = ap (λ b. cond b (Some v) (lookup (is_at (row_cmp q)) es)) tie ∙ sym found
+        ∙ ap (λ (n : RowName). lookup (is_at (row_cmp n)) es) (sym (same_row q name tie))
+    by_tie q false tie = ap (λ b. cond b (Some v) (lookup (is_at (row_cmp q)) es)) tie
+
+-- a row that is cached already is cached as it is
+pub cached-already : (shape : Shape) (name : RowName) (row : Contents) (held : HeldView) → IsStrictlySortedBy row_cmp (keys_of held.rows)
+    → row_in (cached held.rows) name ≡ Some row → held ≡ with_row name (row_held shape held name) held
+cached-already shape name row held ordered found =
+    let same : row_held shape held name ≡ row = ap (λ o. unwrap_or o (fresh (fresh_of shape name.part))) found in
+    let rows = sym (ap (insert_entry row_cmp held.rows name) same ∙ insert-same held.rows name row ordered found) in
+    λ i. record { lease = held.lease; rows = rows i }
 
 -- ---- as entries come
 

@@ -1,50 +1,30 @@
 -- What is held fits its desk after each call.
 use Rattle.std.proofs.Common.{◌≡◌, ◌≢◌, ◌<◌, ℕ, true, List, [], ◌∷◌, ◌++◌, length, map, refl, sym, ◌∙◌, ap, subst, arith, length-append, append_assoc, inl, inr}
-use Rattle.std.specs.Prelude.{All, Err, IfErr, IfOk, IfSome, IsSome, MatchResult, None, Ok, OnErr, Option, Result, Some, slice_get, slice_set, unwrap_or, ◌⊎◌}
-use Rattle.std.specs.List.{AllByRecursion}
-use Rattle.std.specs.List.Sorted.{IsStrictlySortedBy}
-use Rattle.std.specs.Map.{keys_of, lookup}
-use Rattle.std.specs.BTreeMap.{insert_entry, is_at}
+use Rattle.std.specs.Prelude.{Err, IfOk, IfSome, IsSome, MatchResult, None, Ok, OnErr, Option, Result, Some, slice_set, unwrap_or}
+use Rattle.std.specs.Option.{is_some}
+use Rattle.std.specs.BTreeMap.{insert_entry}
 use Rattle.std.specs.Ordering.{match_ordering}
 use Rattle.std.specs.Cmp.{tied_itself}
 use Rattle.std.specs.declared.cmp.Ordering.{Ordering}
 use Rattle.std.specs.declared.cmp.Ordering.TheVariants.{Less, Equal, Greater}
-use Rattle.std.proofs.lemmas.Bool.{eq-eqb}
 use Rattle.std.proofs.lemmas.List.{length-set}
-use Rattle.std.proofs.lemmas.List.Elements.{All-append, All-from_recursion, recursion_from_All}
-use Rattle.std.proofs.lemmas.Map.Entries.{lookup-filter-keys}
 use Rattle.mw_types.specs.Orders.{row_cmp}
 use Rattle.mw_types.specs.declared.identity.RowName.{RowName}
-use Rattle.mw_types.specs.declared.entry.Entry.{Entry}
-use Rattle.mw_types.specs.declared.entry.Entry.TheVariants.{Claim}
 use Rattle.mw_types.proofs.OrderLaws.{row_cmp-total}
-use Rattle.key_intervals.specs.declared.bounds.Bounds.{Bounds}
-use Rattle.key_intervals.specs.Intervals.{covers}
-use Rattle.topology.specs.Shapes.{Shape, parts_of}
+use Rattle.topology.specs.Shapes.{parts_of}
 use Rattle.row_parts.specs.Contents.{Contents, fresh}
-use Rattle.run_history.specs.Cases.{CaseShape, fresh_of, intervals_of}
-use Rattle.run_history.specs.Runs.{Run, cached, row_in, row_of, run_of}
-use Rattle.run_history.specs.Fences.{CarryNot, IsFenced, interval_of, is_claim, known, last_claim, sequencer_of}
-use Rattle.run_history.specs.Fits.{fits}
-use Rattle.run_history.proofs.Claims.{last_claim-push}
-use Rattle.run_history.proofs.Fitting.{fits-fresh, fits-later}
-use Rattle.run_history.proofs.IntervalLaws.{are-intervals, has-interval_of, interval_of-has}
-use Rattle.run_history.proofs.Known.{known-last}
+use Rattle.run_history.specs.Cases.{CaseShape, fresh_of}
+use Rattle.run_history.specs.Runs.{cached, row_in}
+use Rattle.run_history.specs.Fences.{IsFenced, interval_of}
 use Rattle.run_history.proofs.Lists.{none_some, some_same}
-use Rattle.run_history.proofs.RunLaws.{run_of-push}
-use Rattle.history_laws.proofs.RowSteps.{row_in-elsewhere, same_row}
 use Rattle.book.specs.Books.{LeaseView}
-use Rattle.book.specs.Claims.{named}
-use Rattle.book.specs.Desking.{HasClaimed}
-use Rattle.book.specs.DeskReasons.{HasReason}
+use Rattle.book.specs.Desking.{IsRowKnown, MayAsk}
 use Rattle.book.specs.Desks.{DeskView, HasLooked, IsSound}
-use Rattle.book.specs.declared.answers.Claimed.{Claimed}
-use Rattle.book.specs.declared.answers.NamedRow.{NamedRow}
 use Rattle.book.specs.declared.answers.Written.{Written}
 use Rattle.book.specs.declared.desk_refusal.DeskRefusal.{DeskRefusal}
-use Rattle.holdings.specs.Holding.{AreHeld, AreRowsHeld, HasSeenOthers, HeldView, HoldsEntry, IsHeld, IsRefusedOf, KeepsHeld, KeepsOthers, held_at, row_held, with_row}
+use Rattle.holdings.specs.Holding.{AreHeld, HasSeenOthers, HeldView, HoldsEntry, IsHeld, KeepsHeld, KeepsOthers, held_at, row_held, with_row}
 use Rattle.holdings.specs.Steps.{IsReady, KeepsAll}
-use Rattle.holdings.proofs.HeldRows.{AreKnown, AreRowsHeld-cached, AreRowsHeld-elsewhere, AreRowsHeld-entered, AreRowsHeld-looked, AreRowsHeld-more, HasEntered, row_held-same, told-so}
+use Rattle.holdings.proofs.HeldRows.{AreRowsHeld-cached, AreRowsHeld-elsewhere, AreRowsHeld-entered, AreRowsHeld-looked, AreRowsHeld-more, HasEntered, found-here, held-known, row_held-same}
 use Rattle.holdings.proofs.HeldPlaces.{held-here, held-others, held-within, number_or_not}
 
 -- ---- one row put twice
@@ -71,32 +51,38 @@ with_row-again name one two held = λ i. record { lease = held.lease; rows = ins
 -- all that is held still fits after a call without an entry of its own
 pub AreHeld-looked : (case : CaseShape) (old new : DeskView) (all after : List (Option HeldView)) → old.case ≡ case → IsSound old
     → IsSound new → HasLooked old new → KeepsAll all after → AreHeld case old all → AreHeld case new after
-AreHeld-looked case old new all after same sound now looked stay are = record { each = λ i held is.
-    let before = are.each i held (sym (stay i) ∙ is) in record {
-      of_interval = before.of_interval;
-      may_use = looked.leases held.lease before.may_use;
-      rows = AreRowsHeld-looked case old new held same sound now before.may_use looked before.rows;
-    } }
+AreHeld-looked case old new all after same sound now looked stay are = record {
+  each = λ i held is.
+      let before = are.each i held (sym (stay i) ∙ is) in record {
+        of_interval = before.of_interval;
+        may_use = looked.leases held.lease before.may_use;
+        rows = AreRowsHeld-looked case old new held same sound now before.may_use looked before.rows;
+      };
+}
 
 -- all that is held fits beside a worker that acts
 pub AreHeld-beside : (case : CaseShape) (old new : DeskView) (all : List (Option HeldView)) → IsSound old → IsSound new → old.case ≡ case
     → HasSeenOthers old new all → AreHeld case old all → AreHeld case new all
-AreHeld-beside case old new all sound now same others are = record { each = λ i held is.
-    let before = are.each i held is in record {
-      of_interval = before.of_interval;
-      may_use = others.leases i held is;
-      rows = AreRowsHeld-more case old new held others.rest
-          (subst (λ (c : CaseShape). IsFenced c.topology new.seen) (others.case ∙ same) now.fenced)
-          (sound.claimed held.lease before.may_use) others.more (others.foreign i held is) others.told before.rows;
-    } }
+AreHeld-beside case old new all sound now same others are = record {
+  each = λ i held is.
+      let before = are.each i held is in record {
+        of_interval = before.of_interval;
+        may_use = others.leases i held is;
+        rows = AreRowsHeld-more case old new held others.rest
+            (subst (λ (c : CaseShape). IsFenced c.topology new.seen) (others.case ∙ same) now.fenced)
+            (sound.claimed held.lease before.may_use) others.more (others.foreign i held is) others.told before.rows;
+      };
+}
 
 -- what is held of fewer intervals fits
 pub AreHeld-fewer : (case : CaseShape) (desk : DeskView) (all after : List (Option HeldView)) (i : ℕ) → held_at after i ≡ None
     → KeepsOthers i all after → AreHeld case desk all → AreHeld case desk after
-AreHeld-fewer case desk all after i gone others are = record { each = λ j held is. elim (number_or_not i j) [
-  | inl same ↦ absurd (none_some held (sym gone ∙ sym (ap (held_at after) same) ∙ is))
-  | inr apart ↦ are.each j held (sym (others j apart) ∙ is)
-] }
+AreHeld-fewer case desk all after i gone others are = record {
+  each = λ j held is. elim (number_or_not i j) [
+    | inl same ↦ absurd (none_some held (sym gone ∙ sym (ap (held_at after) same) ∙ is))
+    | inr apart ↦ are.each j held (sym (others j apart) ∙ is)
+  ];
+}
 
 -- what is held fits where nothing is
 pub AreHeld-none : (case : CaseShape) (desk : DeskView) → AreHeld case desk []
@@ -107,34 +93,34 @@ AreHeld-none case desk = record { each = λ i held is. absurd (none_some held is
 -- what is held of one interval fits, and what else is held fits
 pub AreHeld-here : (case : CaseShape) (desk : DeskView) (after : List (Option HeldView)) (i : ℕ) (left : HeldView) → held_at after i ≡ Some left
     → IsHeld case desk i left → ((j : ℕ) (held : HeldView) → j ≢ i → held_at after j ≡ Some held → IsHeld case desk j held) → AreHeld case desk after
-AreHeld-here case desk after i left here fits others = record { each = λ j held is. elim (number_or_not i j) [
-  | inl same ↦ subst (λ n. IsHeld case desk n held) (sym same)
-      (subst (IsHeld case desk i) (some_same left held (sym here ∙ sym (ap (held_at after) same) ∙ is)) fits)
-  | inr apart ↦ others j held apart is
-] }
+AreHeld-here case desk after i left here fits others = record {
+  each = λ j held is. elim (number_or_not i j) [
+    | inl same ↦ subst (λ n. IsHeld case desk n held) (sym same)
+        (subst (IsHeld case desk i) (some_same left held (sym here ∙ sym (ap (held_at after) same) ∙ is)) fits)
+    | inr apart ↦ others j held apart is
+  ];
+}
 
-module _ (case : CaseShape) (old new : DeskView) (all gone after : List (Option HeldView)) (i : ℕ) (name : RowName) (left : HeldView)
-    (same : old.case ≡ case) (sound : IsSound old) (now : IsSound new) (lies : interval_of case.topology name ≡ Some i)
-    (ready : IsReady case.topology i name all gone left) (others : KeepsOthers i gone after) (are : AreHeld case old all) where
-  -- what was held fits
-  was : IsHeld case old i ready.held
-  was = are.each i ready.held ready.was
+-- what follows from each acceptance follows from an accepted one
+pub ok-so : {T E : Type 0} (P Q : T → Type 0) (result : Result T E) → ((x : T) → P x → Q x) → IfOk result P → IfOk result Q
+ok-so P Q (Ok x) so is = so x is
+ok-so P Q (Err e) so is = tt
 
-  -- the row lies in the lease's interval
-  lies_here : interval_of case.topology name ≡ Some ready.held.lease.interval
-  lies_here = lies ∙ ap Some (sym was.of_interval)
-
-  -- what is held of other intervals is as before
-  pub kept-others : KeepsOthers i all after
-  kept-others j apart = others j apart ∙ ap (λ l. held_at l j) ready.gone ∙ held-others all i None j apart
-
+module _ (case : CaseShape) (desk : DeskView) (all gone : List (Option HeldView)) (i : ℕ) (name : RowName) (left : HeldView)
+    (lies : interval_of case.topology name ≡ Some i) (ready : IsReady case.topology i name all gone left) (are : AreHeld case desk all) where
   -- what is taken out fits, with the row cached
-  pub IsHeld-ready : IsHeld case old i left
-  IsHeld-ready = subst (IsHeld case old i) (sym ready.is) (record {
-      of_interval = was.of_interval;
-      may_use = was.may_use;
-      rows = AreRowsHeld-cached case old name ready.held lies_here was.rows;
-    })
+  pub IsHeld-ready : IsHeld case desk i left
+  IsHeld-ready =
+      let was = are.each i ready.held ready.was in
+      subst (IsHeld case desk i) (sym ready.is) (record {
+        of_interval = was.of_interval;
+        may_use = was.may_use;
+        rows = AreRowsHeld-cached case desk name ready.held (lies ∙ ap Some (sym was.of_interval)) was.rows;
+      })
+
+  -- the row lies in the interval of the lease
+  pub lies-ready : interval_of case.topology name ≡ Some left.lease.interval
+  lies-ready = lies ∙ ap Some (sym IsHeld-ready.of_interval)
 
   -- the row is held as before
   pub row-ready : row_held case.topology left name ≡ row_held case.topology ready.held name
@@ -144,35 +130,82 @@ module _ (case : CaseShape) (old new : DeskView) (all gone after : List (Option 
   pub lease-ready : left.lease ≡ ready.held.lease
   lease-ready = ap (λ (h : HeldView). h.lease) ready.is
 
+  -- the row is cached
+  pub there-ready : IsSome (row_in (cached left.rows) name)
+  there-ready = subst (λ (h : HeldView). IsSome (row_in (cached h.rows) name)) (sym ready.is)
+      (ap is_some (found-here name (row_held case.topology ready.held name) ready.held))
+
+  -- the place is there
+  pub room-ready : i < length gone
+  room-ready =
+      let within = held-within all i ready.held ready.was in
+      let whole = ap length ready.gone in
+      let same = length-set all i None in omega (arith, within, whole, same)
+
+  -- the row that is read is the one that is held
+  pub read-ready : (row : Contents) → row_in (cached left.rows) name ≡ Some row → row ≡ row_held case.topology left name
+  read-ready row found = sym (ap (λ o. unwrap_or o (fresh (fresh_of case.topology name.part))) found)
+
+  -- what is said of the row that was held is true of the row that is read
+  pub said-ready : (P : Contents → Type 0) (row : Contents) → row_in (cached left.rows) name ≡ Some row
+      → IfSome (held_at all i) (λ held. P (row_held case.topology held name)) → P row
+  said-ready P row found said = subst P (sym (read-ready row found ∙ row-ready))
+      (subst (λ (o : Option HeldView). IfSome o (λ held. P (row_held case.topology held name))) ready.was said)
+
+  -- the lease may be used on the row
+  pub may-ready : (lease : LeaseView) → lease ≡ left.lease → desk.case ≡ case → MayAsk desk lease name
+  may-ready lease is same = subst (λ (l : LeaseView). MayAsk desk l name) (sym is) (record {
+    may_use = IsHeld-ready.may_use;
+    covers = subst (λ (c : CaseShape). interval_of c.topology name ≡ Some left.lease.interval) (sym same) lies-ready;
+  })
+
+  -- the row that is read is the row as it is known
+  pub known-ready : (lease : LeaseView) (row : Contents) → lease ≡ left.lease → desk.case ≡ case → name.part < parts_of case.topology
+      → row_in (cached left.rows) name ≡ Some row → IsRowKnown desk lease name row
+  known-ready lease row is same part found = subst (λ (l : LeaseView). IsRowKnown desk l name row) (sym is)
+      (held-known case desk name left row same IsHeld-ready.rows lies-ready part (read-ready row found))
+
+module _ (case : CaseShape) (old new : DeskView) (all gone after : List (Option HeldView)) (i : ℕ) (name : RowName) (left : HeldView)
+    (lies : interval_of case.topology name ≡ Some i) (ready : IsReady case.topology i name all gone left) (are : AreHeld case old all)
+    (others : KeepsOthers i gone after) (lease : LeaseView) (lease_is : lease ≡ left.lease) where
+  -- what is held of the interval fits before the entry
+  fits : IsHeld case old i left
+  fits = IsHeld-ready case old all gone i name left lies ready are
+
+  -- what is held of other intervals is as before
+  kept-others : KeepsOthers i all after
+  kept-others j apart = others j apart ∙ ap (λ l. held_at l j) ready.gone ∙ held-others all i None j apart
+
   -- all that is held fits after an entry on the row
-  AreHeld-entered : (answer : Written) → held_at after i ≡ Some (with_row name answer.row left) → HasEntered old new left.lease name answer
-      → AreHeld case new after
-  AreHeld-entered answer here by = AreHeld-here case new after i (with_row name answer.row left) here
+  AreHeld-entered : old.case ≡ case → IsSound old → IsSound new → (answer : Written) → held_at after i ≡ Some (with_row name answer.row left)
+      → HasEntered old new left.lease name answer → AreHeld case new after
+  AreHeld-entered same sound now answer here by = AreHeld-here case new after i (with_row name answer.row left) here
       (record {
-        of_interval = IsHeld-ready.of_interval;
-        may_use = by.moved.leases left.lease IsHeld-ready.may_use;
-        rows = AreRowsHeld-entered case old new same sound now name answer left IsHeld-ready.may_use
-            (lies ∙ ap Some (sym IsHeld-ready.of_interval)) by IsHeld-ready.rows;
+        of_interval = fits.of_interval;
+        may_use = by.moved.leases left.lease fits.may_use;
+        rows = AreRowsHeld-entered case old new same sound now name answer left fits.may_use
+            (lies ∙ ap Some (sym fits.of_interval)) by fits.rows;
       })
       (λ j held apart is.
       let before = are.each j held (sym (kept-others j apart) ∙ is) in record {
         of_interval = before.of_interval;
         may_use = by.moved.leases held.lease before.may_use;
-        rows = AreRowsHeld-elsewhere case old new same sound now left.lease name answer held IsHeld-ready.may_use before.may_use
-            (λ e. apart (sym before.of_interval ∙ e ∙ IsHeld-ready.of_interval)) by before.rows;
+        rows = AreRowsHeld-elsewhere case old new same sound now left.lease name answer held fits.may_use before.may_use
+            (λ e. apart (sym before.of_interval ∙ e ∙ fits.of_interval)) by before.rows;
       })
 
   -- all that is held fits after a refusal
-  AreHeld-refused : held_at after i ≡ Some left → HasLooked old new → AreHeld case new after
-  AreHeld-refused here looked = AreHeld-looked case old new after after same sound now looked (λ j. refl)
-      (AreHeld-here case old after i left here IsHeld-ready (λ j held apart is. are.each j held (sym (kept-others j apart) ∙ is)))
+  AreHeld-refused : old.case ≡ case → IsSound old → IsSound new → held_at after i ≡ Some left → HasLooked old new → AreHeld case new after
+  AreHeld-refused same sound now here looked = AreHeld-looked case old new after after same sound now looked (λ j. refl)
+      (AreHeld-here case old after i left here fits (λ j held apart is. are.each j held (sym (kept-others j apart) ∙ is)))
 
   -- all that is held fits after a write, whatever was answered
-  pub AreHeld-kept : (written : Result Written DeskRefusal)
+  pub AreHeld-kept : old.case ≡ case → IsSound old → IsSound new → (written : Result Written DeskRefusal)
       → MatchResult written (λ (w : Written). held_at after i ≡ Some (with_row name w.row left)) (λ _. held_at after i ≡ Some left)
-      → IfOk written (HasEntered old new left.lease name) → OnErr written (HasLooked old new) → AreHeld case new after
-  AreHeld-kept (Ok answer) here by looked = AreHeld-entered answer here by
-  AreHeld-kept (Err why) here by looked = AreHeld-refused here looked
+      → IfOk written (HasEntered old new lease name) → OnErr written (HasLooked old new) → AreHeld case new after
+  AreHeld-kept same sound now (Ok answer) here by looked = AreHeld-entered same sound now answer here
+      (subst (λ (l : LeaseView). HasEntered old new l name answer) lease_is by)
+  AreHeld-kept same sound now (Err why) here by looked = AreHeld-refused same sound now here looked
 
   -- a refused write keeps what is held
   pub KeepsHeld-refused : (written : Result Written DeskRefusal) (result : Result ℕ DeskRefusal)
@@ -181,25 +214,28 @@ module _ (case : CaseShape) (old new : DeskView) (all gone after : List (Option 
       → OnErr result (KeepsHeld case.topology all after)
   KeepsHeld-refused (Ok answer) result is here = subst (λ (r : Result ℕ DeskRefusal). OnErr r (KeepsHeld case.topology all after)) (sym is) tt
   KeepsHeld-refused (Err why) result is here = subst (λ (r : Result ℕ DeskRefusal). OnErr r (KeepsHeld case.topology all after)) (sym is) (record {
-      there = λ j held at. elim (number_or_not i j) [
-        | inl equal ↦
-            let held_is : ready.held ≡ held = some_same ready.held held (sym ready.was ∙ sym (ap (held_at all) equal) ∙ at) in
-            (left, ap (held_at after) equal ∙ here, lease-ready ∙ ap (λ (h : HeldView). h.lease) held_is,
+    there = λ j held at. elim (number_or_not i j) [
+      | inl equal ↦
+          let held_is : ready.held ≡ held = some_same ready.held held (sym ready.was ∙ sym (ap (held_at all) equal) ∙ at) in (
+            left,
+            ap (held_at after) equal ∙ here,
+            ap (λ (h : HeldView). h.lease) ready.is ∙ ap (λ (h : HeldView). h.lease) held_is,
             λ other. ap (λ (h : HeldView). row_held case.topology h other) ready.is ∙ row_held-same case.topology name other ready.held
-            ∙ ap (λ (h : HeldView). row_held case.topology h other) held_is)
-        | inr apart ↦ (held, kept-others j apart ∙ at, refl, λ other. refl)
-      ];
-      none = λ j at. elim (number_or_not i j) [
-        | inl equal ↦ absurd (none_some ready.held (sym at ∙ ap (held_at all) equal ∙ ready.was))
-        | inr apart ↦ kept-others j apart ∙ at
-      ];
-    })
+                ∙ ap (λ (h : HeldView). row_held case.topology h other) held_is,
+          )
+      | inr apart ↦ (held, kept-others j apart ∙ at, refl, λ other. refl)
+    ];
+    none = λ j at. elim (number_or_not i j) [
+      | inl equal ↦ absurd (none_some ready.held (sym at ∙ ap (held_at all) equal ∙ ready.was))
+      | inr apart ↦ kept-others j apart ∙ at
+    ];
+  })
 
   -- an accepted write is held
   pub HoldsEntry-written : (IsEntry : LeaseView → Contents → Written → Type 0) (row : Contents) (written : Result Written DeskRefusal)
       (result : Result ℕ DeskRefusal) → MatchResult written (λ (w : Written). result ≡ Ok w.commit) (λ why. result ≡ Err why)
       → MatchResult written (λ (w : Written). held_at after i ≡ Some (with_row name w.row left)) (λ _. held_at after i ≡ Some left)
-      → row ≡ row_held case.topology left name → IfOk written (IsEntry left.lease row)
+      → row ≡ row_held case.topology left name → IfOk written (IsEntry lease row)
       → IfOk result (λ commit. HoldsEntry case.topology i name commit IsEntry all after)
   HoldsEntry-written IsEntry row (Err why) result is here row_is by =
       subst (λ (r : Result ℕ DeskRefusal). IfOk r (λ commit. HoldsEntry case.topology i name commit IsEntry all after)) (sym is) tt
@@ -208,25 +244,11 @@ module _ (case : CaseShape) (old new : DeskView) (all gone after : List (Option 
         held = ready.held;
         answer = answer;
         was = ready.was;
-        entry = subst (λ (l : LeaseView). IsEntry l (row_held case.topology ready.held name) answer) lease-ready
-            (subst (λ (r : Contents). IsEntry left.lease r answer) (row_is ∙ row-ready) by);
+        entry = subst (λ (l : LeaseView). IsEntry l (row_held case.topology ready.held name) answer)
+            (lease_is ∙ ap (λ (h : HeldView). h.lease) ready.is)
+            (subst (λ (r : Contents). IsEntry lease r answer) (row_is ∙ row-ready case old all gone i name left lies ready are) by);
         number = refl;
         is = here ∙ ap (λ (h : HeldView). Some (with_row name answer.row h)) ready.is
             ∙ ap Some (with_row-again name (row_held case.topology ready.held name) answer.row ready.held);
         others = kept-others;
       })
-
-  -- a refusal has a reason that the desk has
-  pub IsRefusedOf-written : (written : Result Written DeskRefusal) (result : Result ℕ DeskRefusal)
-      → MatchResult written (λ (w : Written). result ≡ Ok w.commit) (λ why. result ≡ Err why)
-      → IfErr written (HasReason old new left.lease) → IfErr result (IsRefusedOf old new all i)
-  IsRefusedOf-written (Ok answer) result is reason = subst (λ (r : Result ℕ DeskRefusal). IfErr r (IsRefusedOf old new all i)) (sym is) tt
-  IsRefusedOf-written (Err why) result is reason = subst (λ (r : Result ℕ DeskRefusal). IfErr r (IsRefusedOf old new all i)) (sym is)
-      (subst (λ (o : Option HeldView). IfSome o (λ held. HasReason old new held.lease why)) (sym ready.was)
-      (subst (λ (l : LeaseView). HasReason old new l why) lease-ready reason))
-
--- what follows from a refusal of the desk follows from the refusal
-pub refused-too : (P : Type 0) (written : Result Written DeskRefusal) (result : Result ℕ DeskRefusal)
-    → MatchResult written (λ (w : Written). result ≡ Ok w.commit) (λ why. result ≡ Err why) → OnErr written P → OnErr result P
-refused-too P (Ok answer) result is on = subst (λ (r : Result ℕ DeskRefusal). OnErr r P) (sym is) tt
-refused-too P (Err why) result is on = subst (λ (r : Result ℕ DeskRefusal). OnErr r P) (sym is) on

@@ -1,0 +1,93 @@
+use Rattle.std.proofs.Common.{◌≡◌, ◌∙◌, ap, sym, List, [], ℕ, refl}
+use Rattle.std.specs.Prelude.{Option, Some}
+use Rattle.mw_types.specs.declared.entry.Entry.TheVariants.{Purge}
+use Rattle.row_parts.specs.Contents.{Contents}
+use Rattle.run_history.specs.Runs.{written_row}
+use Rattle.book.specs.Books.{LeaseView}
+use Rattle.book.specs.Desking.{HasStored, MayPurge}
+use Rattle.book.specs.declared.answers.Written.{Written}
+use Rattle.holdings.specs.Holding.{HeldView, held_at, row_held}
+use Rattle.holdings.proofs.HeldRows.{HasEntered, entered-stored}
+use Rattle.holdings.proofs.HeldSteps.{AreHeld-kept, AreHeld-looked, HoldsEntry-written, KeepsHeld-refused, known-ready, may-ready, ok-so, read-ready, room-ready, said-ready, there-ready}
+use Rattle.holdings.proofs.holdings.Holdings.purge.Goals as goal
+
+-- what is held stands in order
+pub ready-requires-clause-ordered : goal.ready-requires-clause-ordered
+ready-requires-clause-ordered g c = λ held is. (c.requires.fits.each c.args.interval held is).rows.ordered
+
+-- a row that could not be cached changes nothing
+pub returns-in_err-held-clause-fits : goal.returns-in_err-held-clause-fits
+returns-in_err-held-clause-fits g c =
+    record { each = λ i held is. c.requires.fits.each i held (sym (c.in_err-held.ensures.same i) ∙ is) }
+
+-- the row is cached
+pub cached-requires : goal.cached-requires
+cached-requires g c = record {
+  there =
+      there-ready c.args.case.now (g.D.Desk.view c.args.desk.now) c.args.self.now c.ready.new.self c.args.interval c.args.name.now
+      c.in_ok-held.held c.requires.covers c.in_ok-held.ensures.ready c.requires.fits;
+}
+
+-- the lease may be used on the row
+pub purge-written-requires-clause-lease : goal.purge-written-requires-clause-lease
+purge-written-requires-clause-lease g c =
+    may-ready c.args.case.now (g.D.Desk.view c.args.desk.now) c.args.self.now c.ready.new.self c.args.interval c.args.name.now
+    c.in_ok-held.held c.requires.covers c.in_ok-held.ensures.ready c.requires.fits c.lease.result.now c.lease.ensures.lease c.requires.case
+
+-- the row is the one that is known
+pub purge-written-requires-clause-row : goal.purge-written-requires-clause-row
+purge-written-requires-clause-row g c =
+    known-ready c.args.case.now (g.D.Desk.view c.args.desk.now) c.args.self.now c.ready.new.self c.args.interval c.args.name.now
+    c.in_ok-held.held c.requires.covers c.in_ok-held.ensures.ready c.requires.fits c.lease.result.now c.cached.result.now
+    c.lease.ensures.lease c.requires.case c.requires.part c.cached.ensures.row
+
+-- what is asked of the row is true of it
+pub purge-written-requires-clause-floor : goal.purge-written-requires-clause-floor
+purge-written-requires-clause-floor g c =
+    (said-ready c.args.case.now (g.D.Desk.view c.args.desk.now) c.args.self.now c.ready.new.self c.args.interval c.args.name.now
+    c.in_ok-held.held c.requires.covers c.in_ok-held.ensures.ready c.requires.fits
+    (λ (r : Contents). MayPurge (g.D.Desk.view c.args.desk.now) c.args.name.now r c.args.floor) c.cached.result.now c.cached.ensures.row c.requires.floor)
+
+-- the place is there
+pub keep-requires-clause-room : goal.keep-requires-clause-room
+keep-requires-clause-room g c =
+    room-ready c.args.case.now (g.D.Desk.view c.args.desk.now) c.args.self.now c.ready.new.self c.args.interval c.args.name.now
+    c.in_ok-held.held c.requires.covers c.in_ok-held.ensures.ready c.requires.fits
+
+-- all that is held fits
+pub returns-clause-fits : goal.returns-clause-fits
+returns-clause-fits g c =
+    let old = g.D.Desk.view c.args.desk.now in
+    let new = g.D.Desk.view c.purge-written.new.self in
+    let lease = c.lease.result.now in
+    AreHeld-kept c.args.case.now old new c.args.self.now c.ready.new.self c.keep.new.self c.args.interval c.args.name.now
+    c.in_ok-held.held c.requires.covers c.in_ok-held.ensures.ready c.requires.fits c.keep.ensures.others lease c.lease.ensures.lease
+    c.requires.case c.sound.ensures.sound c.sound-2.ensures.sound c.purge-written.result c.keep.ensures.here
+    (ok-so (HasStored old new lease c.args.name.now (Purge lease.seq c.args.name.now c.args.floor) c.cached.result.now
+    (λ number. written_row number (Purge lease.seq c.args.name.now c.args.floor) [] c.cached.result.now))
+    (HasEntered old new lease c.args.name.now) c.purge-written.result
+    (λ w. entered-stored old new lease c.args.name.now (Purge lease.seq c.args.name.now c.args.floor) c.cached.result.now
+    (λ number. written_row number (Purge lease.seq c.args.name.now c.args.floor) [] c.cached.result.now) w refl refl)
+    c.purge-written.ensures.written) c.purge-written.ensures.looked
+
+-- what was written is held
+pub returns-clause-purged : goal.returns-clause-purged
+returns-clause-purged g c =
+    let old = g.D.Desk.view c.args.desk.now in
+    let new = g.D.Desk.view c.purge-written.new.self in
+    HoldsEntry-written c.args.case.now old new c.args.self.now c.ready.new.self c.keep.new.self c.args.interval c.args.name.now
+    c.in_ok-held.held c.requires.covers c.in_ok-held.ensures.ready c.requires.fits c.keep.ensures.others c.lease.result.now c.lease.ensures.lease
+    (λ (l : LeaseView) (r : Contents) (w : Written). HasStored old new l c.args.name.now (Purge l.seq c.args.name.now c.args.floor) r
+    (λ number. written_row number (Purge l.seq c.args.name.now c.args.floor) [] r) w)
+    c.cached.result.now c.purge-written.result c.keep.result c.keep.ensures.result c.keep.ensures.here
+    (read-ready c.args.case.now old c.args.self.now c.ready.new.self c.args.interval c.args.name.now c.in_ok-held.held
+    c.requires.covers c.in_ok-held.ensures.ready c.requires.fits c.cached.result.now c.cached.ensures.row)
+    c.purge-written.ensures.written
+
+-- a refusal keeps what is held
+pub returns-clause-kept : goal.returns-clause-kept
+returns-clause-kept g c =
+    KeepsHeld-refused c.args.case.now (g.D.Desk.view c.args.desk.now) (g.D.Desk.view c.purge-written.new.self) c.args.self.now
+    c.ready.new.self c.keep.new.self c.args.interval c.args.name.now c.in_ok-held.held c.requires.covers c.in_ok-held.ensures.ready
+    c.requires.fits c.keep.ensures.others c.lease.result.now c.lease.ensures.lease c.purge-written.result c.keep.result
+    c.keep.ensures.result c.keep.ensures.here
