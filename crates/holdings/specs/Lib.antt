@@ -1,3 +1,5 @@
 pub mod Holding
 pub mod Caching
 pub mod Steps
+pub mod Firsts
+pub mod Timers
