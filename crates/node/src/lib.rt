@@ -12,6 +12,7 @@
 mod claims;
 mod handling;
 mod message;
+mod messages_out;
 mod node;
 mod outbox;
 mod outcome;

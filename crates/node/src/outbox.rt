@@ -1,5 +1,5 @@
 //! What a node has to send, with room that is made beforehand.
-ghost use Rattle.std.specs.Prelude.{◌≡◌, ◌<◌, ◌≤◌, ◌+◌, ◌++◌, ◌∷◌, [], length, map, OnOk, option_to_list};
+ghost use Rattle.std.specs.Prelude.{◌≡◌, ◌<◌, ◌≤◌, ◌↔◌, ◌+◌, ◌++◌, ◌∷◌, [], IsSome, length, map, OnOk, option_to_list};
 ghost use Rattle.node.specs.Outboxes.{numbered};
 
 use crate::outgoing::Outgoing;
@@ -68,6 +68,7 @@ impl Outbox {
     // Takes the first away.
     pub(crate) fn take_first(&mut self) -> Option<Outgoing>
         ensures first { self.old.messages ≡ option_to_list result ++ self.new.messages }
+        ensures some { IsSome result ↔ (0 < length self.old.messages) }
     {
         self.messages.pop_front()
     }
