@@ -3,3 +3,4 @@ pub mod Caching
 pub mod Steps
 pub mod Firsts
 pub mod Timers
+pub mod Purges

@@ -14,10 +14,12 @@ ghost use Rattle.run_history.specs.Watermarks.{least};
 ghost use Rattle.book.specs.Claims.{named};
 ghost use Rattle.book.specs.declared.answers.NamedRow.{NamedRow};
 ghost use Rattle.holdings.specs.Firsts.{earlier};
+ghost use Rattle.holdings.specs.Purges.{IsFirstToPurge, by_name, forgets, seen_name};
 ghost use Rattle.holdings.specs.Timers.{IsFirstSeen, due_cmp, seen_of, timer_of};
 
 use crate::first_timer::earlier;
 use crate::row_work::row_work;
+use crate::to_purge::earlier_name;
 use book::{NamedRow, NamedRowList};
 use mw_types::{END, NoMemory, RowName, Timer};
 use row_parts::Row;
@@ -102,6 +104,14 @@ impl Cache {
     {
         first_beside(&self.others, first_in(&self.answered))
     }
+
+    // The name of the first row that may forget ids, or none where none may.
+    pub(crate) fn to_purge(&self, floor: u64, least: u64) -> Option<&RowName>
+        ensures { IsFirstToPurge floor least self.now (option_copied result) }
+    {
+        let first = purge_in(&self.answered, floor, least);
+        purge_beside(&self.others, first, floor, least)
+    }
 }
 
 // The first timer of the rows of a list.
@@ -111,6 +121,35 @@ fn first_in(rows: &[NamedRow]) -> Option<(&RowName, Timer)>
     let mut best = None;
     for row in rows {
         best = earlier(best, &row.name, &row.row);
+    }
+    best
+}
+
+// The name of the first row of a list that may forget ids.
+fn purge_in(rows: &[NamedRow], floor: u64, least: u64) -> Option<&RowName>
+    ensures { seen_name result
+        ≡ fold (earlier (forgets floor least) by_name) None (map named rows.now) }
+{
+    let mut best = None;
+    for row in rows {
+        best = earlier_name(best, &row.name, &row.row, floor, least);
+    }
+    best
+}
+
+// The earlier of a name and that of the first row of a map that may forget ids.
+fn purge_beside<'a>(
+    rows: &'a BTreeMap<RowName, Row>,
+    first: Option<&'a RowName>,
+    floor: u64,
+    least: u64,
+) -> Option<&'a RowName>
+    ensures { seen_name result
+        ≡ fold (earlier (forgets floor least) by_name) (seen_name first.entry) rows.now.entries }
+{
+    let mut best = first;
+    for (name, row) in rows {
+        best = earlier_name(best, name, row, floor, least);
     }
     best
 }

@@ -5,6 +5,7 @@ ghost use Rattle.std.specs.Map.{keys_of};
 ghost use Rattle.mw_types.specs.Orders.{row_cmp};
 ghost use Rattle.run_history.specs.Runs.{cached, row_in};
 ghost use Rattle.holdings.specs.Holding.{row_held, with_row};
+ghost use Rattle.holdings.specs.Purges.{IsFirstToPurge};
 ghost use Rattle.holdings.specs.Timers.{IsFirstSeen, seen_of};
 
 use crate::cache::Cache;
@@ -58,6 +59,13 @@ impl Held {
         ensures { IsFirstSeen self.now.rows (seen_of result) }
     {
         self.rows.first_timer()
+    }
+
+    // The name of the first row that may forget ids, or none where none may.
+    pub(crate) fn to_purge(&self, floor: u64, least: u64) -> Option<&RowName>
+        ensures { IsFirstToPurge floor least self.now.rows (option_copied result) }
+    {
+        self.rows.to_purge(floor, least)
     }
 
     // Sees to it that a row is cached, which changes no row.

@@ -14,6 +14,7 @@ mod held;
 mod holdings;
 mod own_work;
 mod row_work;
+mod to_purge;
 mod writes;
 
 pub use claims::fits_beside;
