@@ -20,13 +20,14 @@ use Rattle.history_laws.proofs.SeenLaws.{found-more}
 use Rattle.history_laws.proofs.SenderLaws.{IsMadeOn-more}
 use Rattle.book.specs.Books.{LeaseView}
 use Rattle.book.specs.DeskReasons.{HasClaimReason, HasReason}
-use Rattle.book.specs.Desks.{DeskView, HasLooked, HasMoved}
+use Rattle.book.specs.Desks.{DeskView, HasLooked, HasMoved, IsSound}
 use Rattle.book.specs.Proposals.{IsHandling}
 use Rattle.book.specs.declared.desk_refusal.DeskRefusal.{DeskRefusal}
 use Rattle.book.specs.declared.desk_refusal.DeskRefusal.TheVariants as refusals
 use Rattle.book.specs.declared.proposal.Proposal.{Proposal}
 use Rattle.book.specs.declared.proposal.Proposal.TheVariants as proposals
-use Rattle.holdings.specs.Holding.{AreHeld, HeldView, HoldsClaim, IsHeld, KeepsHeld, KeepsOthers, held_at, held_on, row_held}
+use Rattle.holdings.specs.Holding.{AreHeld, HasSeenOthers, HeldView, HoldsClaim, IsHeld, KeepsHeld, KeepsOthers, held_at, held_on, row_held}
+use Rattle.holdings.proofs.HeldSteps.{AreHeld-beside}
 use Rattle.node.specs.Answers.{AnswersClaim, AnswersWrite, HasGrown, HasKept, IsRefused, refusal_of}
 use Rattle.node.specs.Asking.{Request}
 use Rattle.node.specs.Fits.{Fits, IsHandled, IsPrepared, IsWork}
@@ -99,7 +100,7 @@ looked-moved old mid new before one two = record {
 -- ---- what was sent and what is prepared
 
 -- what is told stays told
-step-told : {X : Type 0} (old new : Option X) (P Q : Type 0) → new ≡ old → (P → Q) → IfSome old (λ _. P) → IfSome new (λ _. Q)
+pub step-told : {X : Type 0} (old new : Option X) (P Q : Type 0) → new ≡ old → (P → Q) → IfSome old (λ _. P) → IfSome new (λ _. Q)
 step-told {X = X} None new P Q same step was = subst (λ (o : Option X). IfSome o (λ _. Q)) (sym same) tt
 step-told {X = X} (Some x) new P Q same step was = subst (λ (o : Option X). IfSome o (λ _. Q)) (sym same) (step was)
 
@@ -410,3 +411,13 @@ kept-any refusals.HistoryFull was node kept = kept
 kept-any refusals.KeeperFault was node kept = kept
 kept-any (refusals.RowDamaged name bytes) was node kept = kept
 kept-any refusals.NoMemory was node kept = kept
+
+-- ---- beside a worker that acts
+
+-- a node that fits still does where its desk has seen what others did
+pub Fits-beside : (case : CaseShape) (old new : DeskView) (node : NodeView) → IsSound old → IsSound new
+    → HasSeenOthers old new node.held → Fits case old node → Fits case new node
+Fits-beside case old new node was is others fits =
+    let more : HasMore old new = record { case = others.case; told = others.told; rest = others.rest; more = others.more } in
+    Fits-kept case old new node node more (AreHeld-beside case old new node.held was is fits.of_case others fits.held)
+    (keeps-same case.topology node.held) refl refl fits

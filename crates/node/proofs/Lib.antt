@@ -1,2 +1,5 @@
 pub mod FitLaws
 pub mod SendLaws
+pub mod StateLaws
+pub mod CommitLaws
+pub mod ReceiveLaws

@@ -25,6 +25,8 @@ use Rattle.book.specs.declared.proposal.Proposal.{Proposal}
 use Rattle.book.specs.declared.proposal.Proposal.TheVariants as proposals
 use Rattle.holdings.specs.Holding.{HeldView, held_at, held_on, row_held}
 use Rattle.node.specs.Workers.{NodeView, WorkView}
+use Rattle.node.specs.declared.outgoing.Outgoing.{Outgoing}
+use Rattle.node.specs.declared.outgoing.Outgoing.TheVariants as outgoing
 
 -- an entry that a node asks its desk to append: the lease, the row, the entry, and whether what it makes is late
 pub record Request : Type 0 where
@@ -83,6 +85,15 @@ settling shape to id held = option_map (λ (d : Delivery). record {
   entry = entries.Ack held.lease.seq to id;
   late = false;
 }) (found_delivery id (row_held shape held to).pending)
+
+-- what a node asks for where word comes that what a row sent was handled
+abbrev pub settle_asked : Shape → NodeView → RowName → RecordId → Option Request
+settle_asked shape node to id = option_and_then (settling shape to id) (held_on shape node.held to)
+
+-- what a node asks for where a message comes; a record asks for nothing yet
+abbrev pub ack_asked : Shape → NodeView → Outgoing → Option Request
+ack_asked shape node (outgoing.Deliver delivery sender) = None
+ack_asked shape node (outgoing.Ack to id) = settle_asked shape node to id
 
 -- ---- a timer
 
