@@ -245,3 +245,72 @@ pub names-set : (rows : List NamedRow) (at : ℕ) (row : Contents) (d : NamedRow
 names-set [] at row d within = absurd (omega (arith, within))
 names-set (r ∷ rows) zero row d within = refl
 names-set (r ∷ rows) (suc at) row d within = ap (λ (l : List RowName). r.name ∷ l) (names-set rows at row d (omega (arith, within)))
+
+-- ---- no name has a row in the list and beside it
+
+-- each row of a list in which a name is not found has another name
+none-each : (name : RowName) (answered : List NamedRow) → lookup (is_at (row_cmp name)) (map named answered) ≡ None
+    → AllByRecursion (λ (r : NamedRow). is_at (row_cmp name) r.name ≡ false) answered
+none-each name [] none = tt
+none-each name (r ∷ answered) none =
+    elim (is_at (row_cmp name) r.name) as (λ b. is_at (row_cmp name) r.name ≡ b
+    → cond b (Some r.row) (lookup (is_at (row_cmp name)) (map named answered)) ≡ None
+    → AllByRecursion (λ (x : NamedRow). is_at (row_cmp name) x.name ≡ false) (r ∷ answered)) [
+      | true ↦ λ _ some. absurd (none_some r.row (sym some))
+      | false ↦ λ other rest. (other, none-each name answered rest)
+    ] refl none
+
+-- two names tie in either order
+turned : (a b : RowName) → is_at (row_cmp a) b ≡ is_at (row_cmp b) a
+turned a b = ap is_eq (row_cmp-total.antisymm a b) ∙ reversed (row_cmp b a)
+  where
+    reversed : (o : Ordering) → is_eq (ordering_reverse o) ≡ is_eq o
+    reversed Less = refl
+    reversed Equal = refl
+    reversed Greater = refl
+
+-- a row beside the list whose name is not in the list
+pub apart-add : (answered : List NamedRow) (others : List (RowName × Contents)) (name : RowName) (row : Contents)
+    → lookup (is_at (row_cmp name)) (map named answered) ≡ None
+    → AllByRecursion (λ (r : NamedRow). lookup (is_at (row_cmp r.name)) others ≡ None) answered
+    → AllByRecursion (λ (r : NamedRow). lookup (is_at (row_cmp r.name)) (insert_entry row_cmp others name row) ≡ None) answered
+apart-add answered others name row none apart = both answered (none-each name answered none) apart
+  where
+    both : (xs : List NamedRow) → AllByRecursion (λ (r : NamedRow). is_at (row_cmp name) r.name ≡ false) xs
+        → AllByRecursion (λ (r : NamedRow). lookup (is_at (row_cmp r.name)) others ≡ None) xs
+        → AllByRecursion (λ (r : NamedRow). lookup (is_at (row_cmp r.name)) (insert_entry row_cmp others name row) ≡ None) xs
+    both [] other each = tt
+    both (x ∷ xs) other each = (
+      lookup-insert_entry row_cmp-total others name row x.name
+          ∙ ap (λ b. cond b (Some row) (lookup (is_at (row_cmp x.name)) others)) (turned x.name name ∙ other.0) ∙ each.0,
+      both xs other.1 each.1,
+    )
+
+-- another row beside the list, under the same name
+pub apart-set_value : (answered : List NamedRow) (others : List (RowName × Contents)) (test : RowName → Bool) (row : Contents)
+    → AllByRecursion (λ (r : NamedRow). lookup (is_at (row_cmp r.name)) others ≡ None) answered
+    → AllByRecursion (λ (r : NamedRow). lookup (is_at (row_cmp r.name)) (set_value test others row) ≡ None) answered
+apart-set_value answered others test row apart =
+    each-weaker (λ (r : NamedRow). lookup (is_at (row_cmp r.name)) others ≡ None)
+    (λ (r : NamedRow). lookup (is_at (row_cmp r.name)) (set_value test others row) ≡ None) (λ r none. still r.name others none) answered apart
+  where
+    still : (q : RowName) (es : List (RowName × Contents)) → lookup (is_at (row_cmp q)) es ≡ None
+        → lookup (is_at (row_cmp q)) (set_value test es row) ≡ None
+    still q [] none = refl
+    still q (e ∷ es) none =
+        elim (is_at (row_cmp q) e.0) as (λ b. is_at (row_cmp q) e.0 ≡ b → cond b (Some e.1) (lookup (is_at (row_cmp q)) es) ≡ None
+        → lookup (is_at (row_cmp q)) (cond (test e.0) ((e.0, row) ∷ es) (e ∷ set_value test es row)) ≡ None) [
+          | true ↦ λ _ some. absurd (none_some e.1 (sym some))
+          | false ↦ λ other rest. elim (test e.0) as (λ t. lookup (is_at (row_cmp q)) (cond t ((e.0, row) ∷ es) (e ∷ set_value test es row)) ≡ None) [
+            | true ↦ ap (λ b. cond b (Some row) (lookup (is_at (row_cmp q)) es)) other ∙ rest
+            | false ↦ ap (λ b. cond b (Some e.1) (lookup (is_at (row_cmp q)) (set_value test es row))) other ∙ still q es rest
+          ]
+        ] refl none
+
+-- what holds of each name of a list holds where another row stands at a place
+pub names-each_set : (P : RowName → Type 0) (rows : List NamedRow) (at : ℕ) (row : Contents) (d : NamedRow) → at < length rows
+    → AllByRecursion (λ (r : NamedRow). P r.name) rows
+    → AllByRecursion (λ (r : NamedRow). P r.name) (slice_set rows at (record (get_or rows at d) { row = row }))
+names-each_set P [] at row d within each = absurd (omega (arith, within))
+names-each_set P (r ∷ rows) zero row d within each = each
+names-each_set P (r ∷ rows) (suc at) row d within each = (each.0, names-each_set P rows at row d (omega (arith, within)) each.1)

@@ -64,7 +64,7 @@ found-name P name (r ∷ rows) each some =
     ] refl some
 
 -- the names of rows with their names
-names-named : (rows : List NamedRow) → keys_of (map named rows) ≡ map (λ (r : NamedRow). r.name) rows
+pub names-named : (rows : List NamedRow) → keys_of (map named rows) ≡ map (λ (r : NamedRow). r.name) rows
 names-named [] = refl
 names-named (r ∷ rows) = ap (λ (l : List RowName). r.name ∷ l) (names-named rows)
 

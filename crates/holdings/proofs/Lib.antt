@@ -3,3 +3,7 @@ pub mod HeldRows
 pub mod HeldPlaces
 pub mod HeldSteps
 pub mod ClaimSteps
+pub mod WorkLaws
+pub mod OwnLaws
+pub mod FirstLaws
+pub mod TimerLaws

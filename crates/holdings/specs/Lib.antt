@@ -1,3 +1,6 @@
 pub mod Holding
 pub mod Caching
 pub mod Steps
+pub mod Firsts
+pub mod Timers
+pub mod Purges

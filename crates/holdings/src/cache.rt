@@ -1,16 +1,27 @@
 //! The rows of one interval that are cached.
-ghost use Rattle.std.specs.Prelude.{◌≡◌, ◌<◌, IsSome, None, OnErr, OnOk, length, map, option_copied, slice_get, slice_set, IfSome};
+ghost use Rattle.std.specs.Prelude.{◌≡◌, IsSome, None, OnErr, OnOk, fold, map, min, option_copied};
+ghost use Rattle.std.specs.List.{flat_map};
 ghost use Rattle.std.specs.List.Sorted.{IsStrictlySortedBy};
 ghost use Rattle.std.specs.Map.{lookup, set_value};
 ghost use Rattle.std.specs.BTreeMap.{insert_entry, is_at};
 ghost use Rattle.mw_types.specs.Orders.{row_cmp};
+ghost use Rattle.mw_types.specs.declared.identity.RowName.{RowName};
+ghost use Rattle.row_parts.specs.Contents.{Contents};
 ghost use Rattle.row_parts.specs.Places.{IsHitOrGap};
+ghost use Rattle.run_history.specs.Marks.{row_marks};
 ghost use Rattle.run_history.specs.Runs.{cached, row_in};
+ghost use Rattle.run_history.specs.Watermarks.{least};
 ghost use Rattle.book.specs.Claims.{named};
 ghost use Rattle.book.specs.declared.answers.NamedRow.{NamedRow};
+ghost use Rattle.holdings.specs.Firsts.{earlier};
+ghost use Rattle.holdings.specs.Purges.{IsFirstToPurge, by_name, forgets, seen_name};
+ghost use Rattle.holdings.specs.Timers.{IsFirstSeen, due_cmp, seen_of, timer_of};
 
+use crate::first_timer::earlier;
+use crate::row_work::row_work;
+use crate::to_purge::earlier_name;
 use book::{NamedRow, NamedRowList};
-use mw_types::{NoMemory, RowName};
+use mw_types::{END, NoMemory, RowName, Timer};
 use row_parts::Row;
 use std::alloc::Global;
 use std::collections::BTreeMap;
@@ -79,6 +90,105 @@ impl Cache {
             Err(_) => set_in(&mut self.others, name, row),
         }
     }
+
+    // The oldest work of all rows, or the end where there is none.
+    pub(crate) fn oldest(&self) -> u64
+        ensures { result ≡ least (flat_map (λ (r : RowName × Contents). row_marks r.1) self.now) }
+    {
+        oldest_beside(&self.others, oldest_in(&self.answered))
+    }
+
+    // The first timer of all rows, with the name of its row, or none where no row has a timer.
+    pub(crate) fn first_timer(&self) -> Option<(&RowName, Timer)>
+        ensures { IsFirstSeen self.now (seen_of result) }
+    {
+        first_beside(&self.others, first_in(&self.answered))
+    }
+
+    // The name of the first row that may forget ids, or none where none may.
+    pub(crate) fn to_purge(&self, floor: u64, least: u64) -> Option<&RowName>
+        ensures { IsFirstToPurge floor least self.now (option_copied result) }
+    {
+        let first = purge_in(&self.answered, floor, least);
+        purge_beside(&self.others, first, floor, least)
+    }
+}
+
+// The first timer of the rows of a list.
+fn first_in(rows: &[NamedRow]) -> Option<(&RowName, Timer)>
+    ensures { seen_of result ≡ fold (earlier timer_of due_cmp) None (map named rows.now) }
+{
+    let mut best = None;
+    for row in rows {
+        best = earlier(best, &row.name, &row.row);
+    }
+    best
+}
+
+// The name of the first row of a list that may forget ids.
+fn purge_in(rows: &[NamedRow], floor: u64, least: u64) -> Option<&RowName>
+    ensures { seen_name result
+        ≡ fold (earlier (forgets floor least) by_name) None (map named rows.now) }
+{
+    let mut best = None;
+    for row in rows {
+        best = earlier_name(best, &row.name, &row.row, floor, least);
+    }
+    best
+}
+
+// The earlier of a name and that of the first row of a map that may forget ids.
+fn purge_beside<'a>(
+    rows: &'a BTreeMap<RowName, Row>,
+    first: Option<&'a RowName>,
+    floor: u64,
+    least: u64,
+) -> Option<&'a RowName>
+    ensures { seen_name result
+        ≡ fold (earlier (forgets floor least) by_name) (seen_name first.entry) rows.now.entries }
+{
+    let mut best = first;
+    for (name, row) in rows {
+        best = earlier_name(best, name, row, floor, least);
+    }
+    best
+}
+
+// The earlier of a timer and the first of the rows of a map.
+fn first_beside<'a>(
+    rows: &'a BTreeMap<RowName, Row>,
+    first: Option<(&'a RowName, Timer)>,
+) -> Option<(&'a RowName, Timer)>
+    ensures { seen_of result ≡ fold (earlier timer_of due_cmp) (seen_of first.entry) rows.now.entries }
+{
+    let mut best = first;
+    for (name, row) in rows {
+        best = earlier(best, name, row);
+    }
+    best
+}
+
+// The oldest work of the rows of a list.
+fn oldest_in(rows: &[NamedRow]) -> u64
+    ensures { result ≡ least (map (λ (r : NamedRow). least (row_marks r.row)) rows.now) }
+{
+    let mut oldest = END;
+    for row in rows {
+        oldest = oldest.min(row_work(&row.row));
+    }
+    oldest
+}
+
+// The lesser of a mark and the oldest work of the rows of a map.
+fn oldest_beside(rows: &BTreeMap<RowName, Row>, mark: u64) -> u64
+    ensures { result ≡ min mark (least
+        (map (λ (r : RowName × Contents). least (row_marks r.1)) rows.now.entries)) }
+{
+    let mut oldest = mark;
+    for (_, row) in rows {
+        oldest = oldest.min(row_work(row));
+    }
+    oldest
 }
 
 // The place of a name's row among rows that ascend by name; `Err` has the place where it would stand.

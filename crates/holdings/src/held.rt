@@ -5,10 +5,12 @@ ghost use Rattle.std.specs.Map.{keys_of};
 ghost use Rattle.mw_types.specs.Orders.{row_cmp};
 ghost use Rattle.run_history.specs.Runs.{cached, row_in};
 ghost use Rattle.holdings.specs.Holding.{row_held, with_row};
+ghost use Rattle.holdings.specs.Purges.{IsFirstToPurge};
+ghost use Rattle.holdings.specs.Timers.{IsFirstSeen, seen_of};
 
 use crate::cache::Cache;
 use book::Lease;
-use mw_types::{Duplicate, NoMemory, RowName};
+use mw_types::{Duplicate, NoMemory, RowName, Timer};
 use row_parts::Row;
 use run_history::{Case, first_row};
 use std::alloc::Global;
@@ -50,6 +52,20 @@ impl Held {
         ensures row { row_in (cached self.now.rows) name.now ≡ Some result.now }
     {
         self.rows.get(name).unwrap()
+    }
+
+    // The first timer of all rows, with the name of its row, or none where no row has a timer.
+    pub(crate) fn first_timer(&self) -> Option<(&RowName, Timer)>
+        ensures { IsFirstSeen self.now.rows (seen_of result) }
+    {
+        self.rows.first_timer()
+    }
+
+    // The name of the first row that may forget ids, or none where none may.
+    pub(crate) fn to_purge(&self, floor: u64, least: u64) -> Option<&RowName>
+        ensures { IsFirstToPurge floor least self.now.rows (option_copied result) }
+    {
+        self.rows.to_purge(floor, least)
     }
 
     // Sees to it that a row is cached, which changes no row.

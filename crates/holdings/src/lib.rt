@@ -9,10 +9,15 @@
 
 mod cache;
 mod claims;
+mod first_timer;
 mod held;
 mod holdings;
+mod own_work;
+mod row_work;
+mod to_purge;
 mod writes;
 
 pub use claims::fits_beside;
+pub use first_timer::RowTimer;
 pub use held::Held;
 pub use holdings::Holdings;

@@ -1,5 +1,6 @@
 use Rattle.std.proofs.Common.{◌≡◌, ◌∙◌, ap, sym, subst, List, map, get_or}
 use Rattle.std.specs.Prelude.{IsSome, None, slice_set}
+use Rattle.std.specs.List.{AllByRecursion}
 use Rattle.std.specs.List.Sorted.{IsStrictlySortedBy}
 use Rattle.std.specs.Map.{keys_of, lookup}
 use Rattle.std.specs.BTreeMap.{insert_entry, is_at}
@@ -11,7 +12,7 @@ use Rattle.row_parts.specs.Places.{IsGap, IsHit}
 use Rattle.book.specs.Claims.{named}
 use Rattle.book.specs.declared.answers.NamedRow.{NamedRow}
 use Rattle.holdings.specs.Caching.{AreOrdered, merged}
-use Rattle.holdings.proofs.CacheLaws.{lookup-behind, lookup-gap, lookup-merged, merged-insert, merged-set, names-set, set_value-insert}
+use Rattle.holdings.proofs.CacheLaws.{lookup-behind, lookup-gap, lookup-merged, merged-insert, merged-set, names-each_set, names-set, set_value-insert, apart-set_value}
 use Rattle.holdings.proofs.cache.Cache.set.Goals as goal
 
 -- another row at a place keeps the names
@@ -27,6 +28,10 @@ invariant_of-self c =
           (sym (ap (λ (r : NamedRow). map (λ (x : NamedRow). x.name) (slice_set answered c.in-Ok.at r)) put
           ∙ names-set answered c.in-Ok.at c.args.row c.index_mut.result.now hit.within)) c.self.invariant.answered_ordered;
       others_ordered = c.self.invariant.others_ordered;
+      apart = subst (λ (x : NamedRow). AllByRecursion (λ (r : NamedRow). lookup (is_at (row_cmp r.name)) c.self.inside.others.entries ≡ None)
+          (slice_set answered c.in-Ok.at x)) (sym put)
+          (names-each_set (λ n. lookup (is_at (row_cmp n)) c.self.inside.others.entries ≡ None) answered c.in-Ok.at c.args.row
+          c.index_mut.result.now hit.within c.self.invariant.apart);
     }
 
 -- another row at the place of its name is put among all
@@ -62,6 +67,10 @@ invariant_of-self-in-Err c = record {
   others_ordered = subst (λ (es : List (RowName × Contents)). IsStrictlySortedBy row_cmp (keys_of es)) (sym c.set_in.ensures)
       (subst (IsStrictlySortedBy row_cmp) (sym (keys-set_value (is_at (row_cmp c.args.name.now)) c.self.inside.others.entries c.args.row))
       c.self.invariant.others_ordered);
+  apart = subst (λ (es : List (RowName × Contents)). AllByRecursion (λ (r : NamedRow). lookup (is_at (row_cmp r.name)) es ≡ None)
+      c.self.inside.answered.items) (sym c.set_in.ensures)
+      (apart-set_value c.self.inside.answered.items c.self.inside.others.entries (is_at (row_cmp c.args.name.now)) c.args.row
+      c.self.invariant.apart);
 }
 
 -- another row beside the list is put among all

@@ -1,0 +1,9 @@
+use Rattle.std.proofs.Common.{◌≡◌, ◌≤◌, map, filter, min, not, drop}
+use Rattle.mw_types.specs.declared.TheConstants.{END}
+use Rattle.mw_types.specs.declared.timer.Timer.{Timer}
+use Rattle.run_history.specs.Watermarks.{least}
+use Rattle.holdings.proofs.row_work.oldest_timer.Given as goal
+
+-- the lesser of the oldest so far and of what is left is the oldest of all
+abbrev pub invariant-loop-timer : goal.invariant-loop-timer
+invariant-loop-timer l = (l.oldest ≤ END) × (min l.oldest (least (map (λ (t : Timer). t.time) (filter (λ (t : Timer). not t.late) (drop l.timer-index l.timers)))) ≡ least (map (λ (t : Timer). t.time) (filter (λ (t : Timer). not t.late) l.timers)))
