@@ -28,13 +28,14 @@ use Rattle.book.specs.declared.proposal.Proposal.{Proposal}
 use Rattle.book.specs.declared.proposal.Proposal.TheVariants as proposals
 use Rattle.holdings.specs.Holding.{AreHeld, HasSeenOthers, HeldView, HoldsClaim, IsHeld, KeepsHeld, KeepsOthers, held_at, held_on, row_held}
 use Rattle.holdings.proofs.HeldSteps.{AreHeld-beside}
-use Rattle.node.specs.Answers.{AnswersClaim, AnswersWrite, HasGrown, HasKept, IsRefused, refusal_of}
+use Rattle.node.specs.Answers.{AnswersClaim, AnswersWrite, FailsAsked, HasGrown, HasKept, IsRefused, refusal_of}
 use Rattle.node.specs.Asking.{Request}
 use Rattle.node.specs.Fits.{Fits, IsHandled, IsPrepared, IsWork}
 use Rattle.node.specs.Messages.{IsOutgoing, IsSoIn}
 use Rattle.node.specs.Steps.{HasLetGo, HasYielded, answered, is_work_in, work_beside}
 use Rattle.node.specs.Workers.{NodeView, Sending, Worker, WorkView, goes_into, leases_of, sending_in, sending_of, where_passes, with_lease, worker_at}
 use Rattle.node.specs.declared.outcome.NodeFault.{NodeFault}
+use Rattle.node.specs.declared.outcome.NodeFault.TheVariants as faults
 use Rattle.node.specs.declared.outcome.Outcome.{Outcome}
 use Rattle.node.specs.declared.outcome.Outcome.TheVariants as outcomes
 use Rattle.node.specs.declared.outgoing.Outgoing.{Outgoing}
@@ -421,3 +422,19 @@ Fits-beside case old new node was is others fits =
     let more : HasMore old new = record { case = others.case; told = others.told; rest = others.rest; more = others.more } in
     Fits-kept case old new node node more (AreHeld-beside case old new node.held was is fits.of_case others fits.held)
     (keeps-same case.topology node.held) refl refl fits
+
+-- ---- want of memory
+
+-- a want of memory has the reason that a desk may give for it
+reason-memory : (desk : DeskView) (lease : LeaseView) → HasReason desk desk lease refusals.NoMemory
+reason-memory desk lease = record {
+  stale = λ decided. absurd decided;
+  full = λ decided. absurd decided;
+  counts = record { keeper = λ is. absurd cc; busy = λ found is. absurd cc };
+  no_row = tt;
+}
+
+-- a call that has looked, and then wanted memory, has failed as it may
+pub fails_memory : (old new : DeskView) (asked : Option Request) → HasLooked old new → FailsAsked old new asked faults.NoMemory
+fails_memory old new None looked = refl
+fails_memory old new (Some asked) looked = record { asked = new; looked = looked; reason = reason-memory new asked.lease }

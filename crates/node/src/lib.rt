@@ -18,6 +18,7 @@ mod outbox;
 mod outcome;
 mod outgoing;
 mod receiving;
+mod reporting;
 mod sending;
 mod sends;
 mod settling;

@@ -25,7 +25,7 @@ use std::alloc::Global;
 impl<N: Seen> Node<N> {
     /// Takes in word that a record was handled: the row that sent it, which this worker has, no longer
     /// waits for it. The message is used up whatever the answer is.
-    #[tactic(auto, using(crate::proofs::FitLaws::looked_not, crate::proofs::FitLaws::grown_looked))]
+    #[tactic(auto, using(crate::proofs::FitLaws::looked_not, crate::proofs::FitLaws::grown_looked, crate::proofs::FitLaws::fails_memory))]
     pub fn take_ack<D: Desk<Note = N>>(
         &mut self,
         alloc: Global,
@@ -65,7 +65,7 @@ impl<N: Seen> Node<N> {
     }
 
     // Writes an acknowledgement of a record that was handled.
-    #[tactic(auto, using(crate::proofs::FitLaws::looked_not, crate::proofs::FitLaws::grown_looked))]
+    #[tactic(auto, using(crate::proofs::FitLaws::looked_not, crate::proofs::FitLaws::grown_looked, crate::proofs::FitLaws::fails_memory))]
     fn settle<D: Desk<Note = N>>(
         &mut self,
         alloc: Global,

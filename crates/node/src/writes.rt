@@ -27,7 +27,7 @@ use std::alloc::Global;
 impl<N: Seen> Node<N> {
     /// Writes what is prepared. Then word goes to the sender that its record was handled, and after that
     /// goes what the handler produced.
-    #[tactic(auto, using(crate::proofs::FitLaws::looked_not, crate::proofs::FitLaws::grown_looked))]
+    #[tactic(auto, using(crate::proofs::FitLaws::looked_not, crate::proofs::FitLaws::grown_looked, crate::proofs::FitLaws::fails_memory))]
     pub fn commit<D: Desk<Note = N>>(
         &mut self,
         alloc: Global,
@@ -78,7 +78,7 @@ impl<N: Seen> Node<N> {
     }
 
     /// Injects the next line of an injector.
-    #[tactic(auto, using(crate::proofs::FitLaws::looked_not, crate::proofs::FitLaws::grown_looked))]
+    #[tactic(auto, using(crate::proofs::FitLaws::looked_not, crate::proofs::FitLaws::grown_looked, crate::proofs::FitLaws::fails_memory))]
     pub fn inject<D: Desk<Note = N>>(
         &mut self,
         alloc: Global,
