@@ -20,20 +20,22 @@ use Rattle.history_laws.proofs.SeenLaws.{found-more}
 use Rattle.history_laws.proofs.SenderLaws.{IsMadeOn-more}
 use Rattle.book.specs.Books.{LeaseView}
 use Rattle.book.specs.DeskReasons.{HasClaimReason, HasReason}
-use Rattle.book.specs.Desks.{DeskView, HasLooked, HasMoved}
+use Rattle.book.specs.Desks.{DeskView, HasLooked, HasMoved, IsSound}
 use Rattle.book.specs.Proposals.{IsHandling}
 use Rattle.book.specs.declared.desk_refusal.DeskRefusal.{DeskRefusal}
 use Rattle.book.specs.declared.desk_refusal.DeskRefusal.TheVariants as refusals
 use Rattle.book.specs.declared.proposal.Proposal.{Proposal}
 use Rattle.book.specs.declared.proposal.Proposal.TheVariants as proposals
-use Rattle.holdings.specs.Holding.{AreHeld, HeldView, HoldsClaim, IsHeld, KeepsHeld, KeepsOthers, held_at, held_on, row_held}
-use Rattle.node.specs.Answers.{AnswersClaim, AnswersWrite, HasGrown, HasKept, IsRefused, refusal_of}
+use Rattle.holdings.specs.Holding.{AreHeld, HasSeenOthers, HeldView, HoldsClaim, IsHeld, KeepsHeld, KeepsOthers, held_at, held_on, row_held}
+use Rattle.holdings.proofs.HeldSteps.{AreHeld-beside}
+use Rattle.node.specs.Answers.{AnswersClaim, AnswersWrite, FailsAsked, HasGrown, HasKept, IsRefused, refusal_of}
 use Rattle.node.specs.Asking.{Request}
 use Rattle.node.specs.Fits.{Fits, IsHandled, IsPrepared, IsWork}
 use Rattle.node.specs.Messages.{IsOutgoing, IsSoIn}
 use Rattle.node.specs.Steps.{HasLetGo, HasYielded, answered, is_work_in, work_beside}
 use Rattle.node.specs.Workers.{NodeView, Sending, Worker, WorkView, goes_into, leases_of, sending_in, sending_of, where_passes, with_lease, worker_at}
 use Rattle.node.specs.declared.outcome.NodeFault.{NodeFault}
+use Rattle.node.specs.declared.outcome.NodeFault.TheVariants as faults
 use Rattle.node.specs.declared.outcome.Outcome.{Outcome}
 use Rattle.node.specs.declared.outcome.Outcome.TheVariants as outcomes
 use Rattle.node.specs.declared.outgoing.Outgoing.{Outgoing}
@@ -99,7 +101,7 @@ looked-moved old mid new before one two = record {
 -- ---- what was sent and what is prepared
 
 -- what is told stays told
-step-told : {X : Type 0} (old new : Option X) (P Q : Type 0) → new ≡ old → (P → Q) → IfSome old (λ _. P) → IfSome new (λ _. Q)
+pub step-told : {X : Type 0} (old new : Option X) (P Q : Type 0) → new ≡ old → (P → Q) → IfSome old (λ _. P) → IfSome new (λ _. Q)
 step-told {X = X} None new P Q same step was = subst (λ (o : Option X). IfSome o (λ _. Q)) (sym same) tt
 step-told {X = X} (Some x) new P Q same step was = subst (λ (o : Option X). IfSome o (λ _. Q)) (sym same) (step was)
 
@@ -410,3 +412,29 @@ kept-any refusals.HistoryFull was node kept = kept
 kept-any refusals.KeeperFault was node kept = kept
 kept-any (refusals.RowDamaged name bytes) was node kept = kept
 kept-any refusals.NoMemory was node kept = kept
+
+-- ---- beside a worker that acts
+
+-- a node that fits still does where its desk has seen what others did
+pub Fits-beside : (case : CaseShape) (old new : DeskView) (node : NodeView) → IsSound old → IsSound new
+    → HasSeenOthers old new node.held → Fits case old node → Fits case new node
+Fits-beside case old new node was is others fits =
+    let more : HasMore old new = record { case = others.case; told = others.told; rest = others.rest; more = others.more } in
+    Fits-kept case old new node node more (AreHeld-beside case old new node.held was is fits.of_case others fits.held)
+    (keeps-same case.topology node.held) refl refl fits
+
+-- ---- want of memory
+
+-- a want of memory has the reason that a desk may give for it
+reason-memory : (desk : DeskView) (lease : LeaseView) → HasReason desk desk lease refusals.NoMemory
+reason-memory desk lease = record {
+  stale = λ decided. absurd decided;
+  full = λ decided. absurd decided;
+  counts = record { keeper = λ is. absurd cc; busy = λ found is. absurd cc };
+  no_row = tt;
+}
+
+-- a call that has looked, and then wanted memory, has failed as it may
+pub fails_memory : (old new : DeskView) (asked : Option Request) → HasLooked old new → FailsAsked old new asked faults.NoMemory
+fails_memory old new None looked = refl
+fails_memory old new (Some asked) looked = record { asked = new; looked = looked; reason = reason-memory new asked.lease }

@@ -3,7 +3,7 @@ use Rattle.std.proofs.Common.{◌≡◌, ◌∙◌, ◌<◌, ◌≤◌, ◌+◌,
 use Rattle.std.specs.Prelude.{All, IfSome, Option, Some, None, nat_lt, nat_le, slice_get}
 use Rattle.std.specs.List.{AllByRecursion, enumerate_from, flat_map, list_all}
 use Rattle.std.specs.Option.{option_map_or}
-use Rattle.std.proofs.lemmas.Bool.{ltb-true}
+use Rattle.std.proofs.lemmas.Bool.{leb-true, ltb-true}
 use Rattle.std.proofs.lemmas.List.Elements.{All-from_recursion, recursion_from_All}
 use Rattle.mw_types.specs.declared.TheConstants.{MAX_STAMP}
 use Rattle.mw_types.specs.declared.delivery.Delivery.{Delivery}
@@ -57,12 +57,9 @@ goes-there : (shape : Shape) (number : ℕ) (d : Delivery) → is_sent_before sh
 goes-there shape number d is =
     let first = both (nat_lt d.id.commit number && nat_le (injectors_of shape) d.to.part) (nat_lt d.to.part (parts_of shape)) is in
     let second = both (nat_lt d.id.commit number) (nat_le (injectors_of shape) d.to.part) first.0 in record {
-      no_injector = leb-le (injectors_of shape) d.to.part second.1;
+      no_injector = leb-true (injectors_of shape) d.to.part second.1;
       there = ltb-true d.to.part (parts_of shape) first.1;
     }
-  where
-    leb-le : (a b : ℕ) → nat_le a b ≡ true → a ≤ b
-    leb-le a b is = grind (arith, is)
 
 -- each of some deliveries can be sent from a row
 deliverable-each : (shape : Shape) (name : RowName) (number : ℕ) (ds : List Delivery) → name.part < parts_of shape

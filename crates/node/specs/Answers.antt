@@ -1,9 +1,7 @@
 -- What the calls of a node answer, and what they leave of it. Each is said of the worker that the node is.
 -- Akidau et al., VLDB 2013, section 6.1 for what a worker does on receipt of a record and when it sends what it made,
 -- section 6.2 for a write under an older sequencer. Own: the other answers.
-use Rattle.std.specs.Prelude.{◌≡◌, ◌≤◌, ◌++◌, ◌∷◌, ◌⊎◌, [], ℕ, Bool, true, if◌then◌else◌, List, Option, Some, None, IsSome, IfSome, length, map, slice_get, All, ⊤}
-use Rattle.std.specs.List.{flat_map}
-use Rattle.std.specs.List.Sorted.{IsNonDecreasingBy}
+use Rattle.std.specs.Prelude.{◌≡◌, ◌≤◌, ◌++◌, ◌∷◌, ◌⊎◌, ◌↔◌, [], ℕ, true, if◌then◌else◌, List, Option, Some, None, IfSome, length, map, slice_get, Contains, IsSorted}
 use Rattle.std.specs.Option.{is_some, option_map_or, option_to_list}
 use Rattle.mw_types.specs.Orders.{id_cmp}
 use Rattle.mw_types.specs.declared.delivery.Delivery.{Delivery}
@@ -18,7 +16,7 @@ use Rattle.run_history.specs.Cases.{CaseShape, intervals_of}
 use Rattle.run_history.specs.Fences.{IsCurrent, IsOvertakenBy, sequencer_of}
 use Rattle.run_history.specs.Made.{deliveries_made, productions_of}
 use Rattle.run_history.specs.Marks.{own_work}
-use Rattle.run_history.specs.Runs.{cached}
+use Rattle.run_history.specs.Runs.{cached, row_in}
 use Rattle.run_history.specs.Watermarks.{least}
 use Rattle.watermark.specs.Marks.{mark_of, marks_of}
 use Rattle.book.specs.Books.{LeaseView}
@@ -183,6 +181,12 @@ AnswersAck shape old new None to id was node outcome = (outcome ≡ outcomes.Not
 AnswersAck shape old new (Some held) to id was node outcome =
     AnswersAsked shape old new (settling shape to id held) (worker_at was) was node outcome
 
+-- what a node answers to an acknowledgement that comes as a message; a record is none
+abbrev pub AnswersAckOf : Shape → DeskView → DeskView → Outgoing → NodeView → NodeView → Outcome → Type 0
+AnswersAckOf shape old new (outgoing.Deliver delivery sender) was node outcome = ⊥
+AnswersAckOf shape old new (outgoing.Ack to id) was node outcome =
+    AnswersAck shape old new (held_on shape was.held to) to id was node outcome
+
 -- ---- timers, purges and reports
 
 -- a mark is the least of a part that the desk knew, as it looked
@@ -225,18 +229,41 @@ pub record IsMarked (case : CaseShape) (old new : DeskView) (held : HeldView) (w
   pub alone : old.alone ≡ true → IsReported old new held.lease own mark
 
 -- what a report under a lease answers
-abbrev pub AnswersReport : CaseShape → DeskView → DeskView → HeldView → NodeView → NodeView → Outcome → Type 0
-AnswersReport case old new held was node (outcomes.Marked mark) = IsMarked case old new held was node mark
-AnswersReport case old new held was node (outcomes.Stale newer) = IsLost case.topology old new held.lease was node newer
-AnswersReport case old new held was node (outcomes.Busy found) = IsTurnedAway old new held.lease was node found
-AnswersReport case old new held was node _ = ⊥
+abbrev pub AnswersReportOf : CaseShape → DeskView → DeskView → HeldView → NodeView → NodeView → Outcome → Type 0
+AnswersReportOf case old new held was node (outcomes.Marked mark) = IsMarked case old new held was node mark
+AnswersReportOf case old new held was node (outcomes.Stale newer) = IsLost case.topology old new held.lease was node newer
+AnswersReportOf case old new held was node (outcomes.Busy found) = IsTurnedAway old new held.lease was node found
+AnswersReportOf case old new held was node _ = ⊥
+
+-- what a report answers: Nothing exactly where no lease of the interval is held
+abbrev pub AnswersReport : CaseShape → DeskView → DeskView → Option HeldView → NodeView → NodeView → Outcome → Type 0
+AnswersReport case old new None was node outcome = (outcome ≡ outcomes.Nothing) × IsIdle old new was node
+AnswersReport case old new (Some held) was node outcome = AnswersReportOf case old new held was node outcome
+
+-- why a report fails: for want of memory, or as its desk does under the lease that is held
+abbrev pub FailsReport : DeskView → DeskView → Option HeldView → NodeFault → Type 0
+FailsReport old new None why = why ≡ faults.NoMemory
+FailsReport old new (Some held) why = IsRefused old new held.lease (refusal_of why)
 
 -- ---- what is sent again
 
--- what is pending in rows, each with its row
-abbrev pub pending_in : List (RowName × Contents) → List Sending
-pending_in rows = flat_map (λ (r : RowName × Contents). map (λ (d : Delivery). record { delivery = d; sender = r.0 }) r.1.pending) rows
+-- a record is pending in a row that is held
+pub record IsPendingHeld (all : List (Option HeldView)) (sending : Sending) : Type 0 where
+  pub interval : ℕ
+  pub held : HeldView
+  pub there : held_at all interval ≡ Some held
+  pub row : Contents
+  pub row_there : row_in (cached held.rows) sending.sender ≡ Some row
+  pub pending : Contains row.pending sending.delivery
 
--- all that is pending in rows that are held
-abbrev pub pending_held : List (Option HeldView) → List Sending
-pending_held all = flat_map (λ (held : Option HeldView). option_map_or (λ (h : HeldView). pending_in h.rows) held []) all
+-- records are sent again in the order of their ids: all that is pending in rows that are held, and nothing else
+pub record IsSweep (all : List (Option HeldView)) (again : List Sending) : Type 0 where
+  pub order : IsSorted (λ (a b : Sending). id_cmp a.delivery.id b.delivery.id) again
+  pub each : (sending : Sending) → Contains again sending ↔ IsPendingHeld all sending
+
+-- what a sweep leaves of a worker: its messages are last in the outbox
+pub record IsSwept (was node : NodeView) (count : ℕ) : Type 0 where
+  pub again : List Sending
+  pub sweep : IsSweep was.held again
+  pub number : count ≡ length again
+  pub left : worker_at node ≡ with_outgoing (map (λ (s : Sending). outgoing.Deliver s.delivery s.sender) again) (worker_at was)

@@ -3,9 +3,8 @@
 -- Own: the order of the timers of a part, and which row forgets first.
 use Rattle.std.specs.Prelude.{◌≡◌, ◌<◌, ◌≤◌, ℕ, Bool, false, [], List, Option, Some, None, length, max, slice_get}
 use Rattle.std.specs.Option.{option_and_then, option_map}
-use Rattle.std.specs.Ordering.{is_lt, ordering_then}
-use Rattle.std.specs.declared.cmp.Ordering.{Ordering}
-use Rattle.mw_types.specs.Orders.{key_cmp, row_cmp, timer_cmp}
+use Rattle.std.specs.Ordering.{is_lt}
+use Rattle.mw_types.specs.Orders.{row_cmp}
 use Rattle.mw_types.specs.Outcomes.{Outcome}
 use Rattle.mw_types.specs.declared.delivery.Delivery.{Delivery}
 use Rattle.mw_types.specs.declared.entry.Entry.{Entry}
@@ -23,8 +22,11 @@ use Rattle.run_history.specs.Watermarks.{cursor_in}
 use Rattle.book.specs.Books.{LeaseView}
 use Rattle.book.specs.declared.proposal.Proposal.{Proposal}
 use Rattle.book.specs.declared.proposal.Proposal.TheVariants as proposals
-use Rattle.holdings.specs.Holding.{HeldView, held_at, held_on, row_held}
+use Rattle.holdings.specs.Holding.{HeldView, held_on, row_held}
+use Rattle.holdings.specs.Timers.{due_cmp}
 use Rattle.node.specs.Workers.{NodeView, WorkView}
+use Rattle.node.specs.declared.outgoing.Outgoing.{Outgoing}
+use Rattle.node.specs.declared.outgoing.Outgoing.TheVariants as outgoing
 
 -- an entry that a node asks its desk to append: the lease, the row, the entry, and whether what it makes is late
 pub record Request : Type 0 where
@@ -84,24 +86,29 @@ settling shape to id held = option_map (λ (d : Delivery). record {
   late = false;
 }) (found_delivery id (row_held shape held to).pending)
 
+-- what a node asks for where word comes that what a row sent was handled
+abbrev pub settle_asked : Shape → NodeView → RowName → RecordId → Option Request
+settle_asked shape node to id = option_and_then (settling shape to id) (held_on shape node.held to)
+
+-- what a node asks for where a message comes; a record asks for nothing yet
+abbrev pub ack_asked : Shape → NodeView → Outgoing → Option Request
+ack_asked shape node (outgoing.Deliver delivery sender) = None
+ack_asked shape node (outgoing.Ack to id) = settle_asked shape node to id
+
 -- ---- a timer
 
 -- a timer is the first of a row of a part that a node holds
-pub record IsFirstTimer (shape : Shape) (node : NodeView) (part : ℕ) (name : RowName) (timer : Timer) : Type 0 where
+pub record IsTimerHeld (shape : Shape) (node : NodeView) (part : ℕ) (name : RowName) (timer : Timer) : Type 0 where
   pub of_part : name.part ≡ part
   pub held : HeldView
   pub there : held_on shape node.held name ≡ Some held
   pub first : slice_get (row_held shape held name).timers 0 ≡ Some timer
 
--- the timers of a part stand by time, tag and key
-abbrev pub due_cmp : RowName × Timer → RowName × Timer → Ordering
-due_cmp a b = ordering_then (timer_cmp a.1 b.1) (key_cmp a.0.key b.0.key)
-
 -- a node may fire this timer under a mark: nothing is prepared, no timer of the part is less, and it is due
 pub record IsNextTimer (shape : Shape) (node : NodeView) (part mark : ℕ) (name : RowName) (timer : Timer) : Type 0 where
   pub free : node.prepared ≡ None
-  pub set : IsFirstTimer shape node part name timer
-  pub least : (other : RowName) (later : Timer) → IsFirstTimer shape node part other later →
+  pub set : IsTimerHeld shape node part name timer
+  pub least : (other : RowName) (later : Timer) → IsTimerHeld shape node part other later →
       is_lt (due_cmp (other, later) (name, timer)) ≡ false
   pub due : timer.time ≤ mark
 

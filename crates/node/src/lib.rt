@@ -9,6 +9,7 @@
 //! `specs/Messages.antt`, what workers send each other; `specs/Fits.antt`.
 #![tactic(auto)]
 
+mod beside;
 mod claims;
 mod handling;
 mod message;
@@ -18,11 +19,15 @@ mod outbox;
 mod outcome;
 mod outgoing;
 mod receiving;
+mod reporting;
+mod sending;
 mod sends;
+mod settling;
 mod work;
 mod writes;
 mod yields;
 
+pub use beside::node_fits_beside;
 pub use message::{Message, Parcel, Receipt};
 pub use node::Node;
 pub use outcome::{NodeFault, Outcome};

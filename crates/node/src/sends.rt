@@ -1,5 +1,5 @@
 //! What an entry makes, as messages that are there before the entry has its number.
-ghost use Rattle.std.specs.Prelude.{◌≡◌, ◌<◌, ◌≤◌, ◌^◌, ℕ, All, IfOk, length, map};
+ghost use Rattle.std.specs.Prelude.{◌≡◌, ◌<◌, ◌≤◌, ◌^◌, ℕ, All, IfOk, OnOk, length, map};
 ghost use Rattle.mw_types.specs.declared.TheConstants.{MAX_STAMP};
 ghost use Rattle.topology.specs.Shapes.{parts_of};
 ghost use Rattle.run_history.specs.Made.{deliveries_made};
@@ -29,16 +29,17 @@ pub(crate) fn made(
         (deliveries_made topology.now name.now.part productions.now late commit)) }
 
     // Each goes to a computation's row, whatever the number.
-    ensures addressed { (commit : ℕ) → commit < 2 ^ 32 → All (IsAddressed topology.now)
-        (messages_from name.now
-        (deliveries_made topology.now name.now.part productions.now late commit)) }
+    ensures addressed { OnOk result ((commit : ℕ) → commit < 2 ^ 32 →
+        All (IsAddressed topology.now) (messages_from name.now
+        (deliveries_made topology.now name.now.part productions.now late commit))) }
 {
     let _parts = topology.parts();
     let Made {
         deliveries,
         emissions: _,
     } = make(alloc, topology, name.part, productions, late, 0)?;
-    messages_from(alloc, name, deliveries)
+    let made = messages_from(alloc, name, deliveries)?;
+    Ok(made)
 }
 
 // Deliveries as messages from a row.
