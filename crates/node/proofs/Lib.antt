@@ -1,5 +1,9 @@
+pub mod FirstLaws
 pub mod FitLaws
+pub mod LookLaws
 pub mod OutLaws
+pub mod PurgeLaws
+pub mod RefusedLaws
 pub mod SendLaws
 pub mod StateLaws
 pub mod CommitLaws

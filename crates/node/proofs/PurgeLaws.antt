@@ -1,6 +1,7 @@
 -- What a node leaves when a row that it holds forgets ids.
 use Rattle.std.proofs.Common.{◌≡◌, ◌∙◌, ◌<◌, ◌≤◌, ℕ, Bool, true, false, fold, List, [], ◌∷◌, ◌++◌, length, refl, sym, ap, subst, arith, inl, inr}
-use Rattle.std.specs.Prelude.{IfErr, IfOk, IfSome, IsSome, Option, Some, None, Result, Ok, Err, max, unwrap_or}
+use Rattle.std.specs.Prelude.{IfOk, IfSome, IsSome, Option, Some, None, Result, Ok, Err, max, unwrap_or}
+use Rattle.std.specs.Option.{option_and_then}
 use Rattle.std.proofs.lemmas.List.{append-nil}
 use Rattle.mw_types.specs.declared.entry.Entry.{Entry}
 use Rattle.mw_types.specs.declared.entry.Entry.TheVariants as entries
@@ -9,29 +10,39 @@ use Rattle.topology.specs.Shapes.{Shape}
 use Rattle.row_parts.specs.Contents.{Contents, fresh}
 use Rattle.run_history.specs.Cases.{CaseShape, fresh_of}
 use Rattle.run_history.specs.Fences.{interval_of, known}
-use Rattle.run_history.specs.Made.{late_cause}
-use Rattle.run_history.specs.Runs.{Run, followed, row_in, row_of, run_of}
+use Rattle.run_history.specs.Legal.{floor_of}
+use Rattle.run_history.specs.Runs.{Run, followed, row_in, row_of, run_of, written_row}
 use Rattle.run_history.proofs.Known.{known-begins}
 use Rattle.history_laws.proofs.Along.{run_of-append}
 use Rattle.history_laws.proofs.RowSteps.{row_step}
 use Rattle.book.specs.Books.{LeaseView}
 use Rattle.book.specs.Desking.{HasStored, MayPurge}
-use Rattle.book.specs.Desks.{DeskView, HasLooked, HasMoved}
+use Rattle.book.specs.Desks.{DeskView, HasLooked, IsSound}
 use Rattle.book.specs.declared.answers.Written.{Written}
 use Rattle.book.proofs.SeenRows.{told-then}
 use Rattle.holdings.specs.Holding.{AreHeld, HeldView, HoldsEntry, held_at, held_on, row_held}
-use Rattle.node.specs.Answers.{AnswersSome, AnswersWrite, FailsHeld, IsCommitted, IsRefused, refusal_of}
+use Rattle.node.specs.Answers.{AnswersForget, AnswersSome, AnswersWrite, HasGrown, IsFloorKnown}
 use Rattle.node.specs.Asking.{HasToForget, MayAskForget, Request, forgetting}
 use Rattle.node.specs.Fits.{Fits, IsWork}
-use Rattle.node.specs.Workers.{NodeView, WorkView, Worker, leases_of, sending_of, with_outgoing, worker_at}
+use Rattle.node.specs.Workers.{NodeView, WorkView, worker_at}
 use Rattle.node.specs.declared.outcome.NodeFault.{NodeFault}
 use Rattle.node.specs.declared.outcome.Outcome.{Outcome}
 use Rattle.node.specs.declared.outcome.Outcome.TheVariants as outcomes
-use Rattle.node.specs.declared.outgoing.Outgoing.{Outgoing}
-use Rattle.node.proofs.CommitLaws.{IsAppended, committed, leases-written, more-by}
-use Rattle.node.proofs.FitLaws.{HasMore, outbox-more}
+use Rattle.node.specs.PurgeSteps.{MayForget}
+use Rattle.node.proofs.FitLaws.{HasMore, more-appended, outbox-more}
+use Rattle.node.proofs.LookLaws.{answers-later}
 
 -- ---- a row that is there
+
+-- what is held of an interval, by a row of it
+pub held-at-on : (shape : Shape) (all : List (Option HeldView)) (name : RowName) (interval : ℕ) (held : HeldView)
+    → held_on shape all name ≡ Some held → interval_of shape name ≡ Some interval → held_at all interval ≡ Some held
+held-at-on shape all name interval held there covers = sym (ap (option_and_then (held_at all)) covers) ∙ there
+
+-- what is held of the interval of a row
+pub held-on-at : (shape : Shape) (all : List (Option HeldView)) (name : RowName) (interval : ℕ) (held : HeldView)
+    → interval_of shape name ≡ Some interval → held_at all interval ≡ Some held → held_on shape all name ≡ Some held
+held-on-at shape all name interval held covers at = ap (option_and_then (held_at all)) covers ∙ at
 
 -- a row stays there after one more entry
 stays-next : (shape : Shape) (run : Run) (entry : Entry) (name : RowName) → IsSome (row_in run name)
@@ -92,17 +103,6 @@ may-purge case desk all interval held name least floor fit same at covers forget
 
 -- ---- a purge that stands
 
--- an entry that was stored stands
-pub appended-stored : (old new : DeskView) (lease : LeaseView) (name : RowName) (entry : Entry) (row : Contents) (left : ℕ → Contents)
-    (answer : Written) → HasStored old new lease name entry row left answer → IsAppended old new lease entry answer.commit
-appended-stored old new lease name entry row left answer s = record {
-  before = s.before;
-  moved = s.moved;
-  appended = s.written.appended;
-  number = s.written.commit;
-  last = s.written.last;
-}
-
 -- a node that holds this, and has prepared nothing
 abbrev pub holding : List (Option HeldView) → NodeView → NodeView
 holding held node = record { number = node.number; held = held; prepared = node.prepared; outbox = node.outbox }
@@ -117,20 +117,40 @@ Fits-holding case old new node held more fit free fits = record {
   outbox = outbox-more case old new node.outbox more fits.outbox;
 }
 
--- what is so is so where it is told
-told-any : {X : Type 0} (o : Option X) (P : Type 0) → P → IfSome o (λ _. P)
-told-any None P is = tt
-told-any (Some x) P is = is
+-- a purge of a row that is held, as the desk answered it
+abbrev pub HoldsPurge : Shape → DeskView → DeskView → ℕ → RowName → ℕ → ℕ → List (Option HeldView) → List (Option HeldView) → Type 0
+HoldsPurge shape old new interval name floor commit before after = HoldsEntry shape interval name commit
+    (λ (lease : LeaseView) (row : Contents) (answer : Written). HasStored old new lease name (entries.Purge lease.seq name floor) row
+    (λ (number : ℕ). written_row number (entries.Purge lease.seq name floor) [] row) answer) before after
 
--- what a purge answers
-pub answers-forgotten : (shape : Shape) (old new : DeskView) (node : NodeView) (held : List (Option HeldView)) (here : HeldView)
-    (name : RowName) (floor commit : ℕ) → IsAppended old new here.lease (entries.Purge here.lease.seq name floor) commit
-    → leases_of held ≡ leases_of node.held
-    → IsCommitted shape old new (forgetting here name floor) (worker_at node) (holding held node) commit
-answers-forgotten shape old new node held here name floor commit a leases =
-    committed shape old new (forgetting here name floor) (worker_at node) (holding held node) commit a refl
-    (told-any old.told (late_cause (run_of shape a.before).made (entries.Purge here.lease.seq name floor) ≡ false) refl)
-    (λ i. record { leases = leases i; prepared = sending_of node; outbox = sym (append-nil node.outbox) i })
+-- its entry is the node's own
+pub grown-purge : (shape : Shape) (old new : DeskView) (interval : ℕ) (name : RowName) (floor commit : ℕ)
+    (before after : List (Option HeldView)) → HoldsPurge shape old new interval name floor commit before after → HasGrown before old new
+grown-purge shape old new interval name floor commit before after h = record {
+  before = h.entry.before;
+  moved = h.entry.moved;
+  own = Some (entries.Purge h.held.lease.seq name floor);
+  appended = h.entry.written.appended;
+  under = inr (interval, h.held, h.was, refl);
+}
+
+-- the node fits
+pub Fits-purged : (case : CaseShape) (old new : DeskView) (node : NodeView) (interval : ℕ) (name : RowName) (floor commit : ℕ)
+    (held : List (Option HeldView)) → HoldsPurge case.topology old new interval name floor commit node.held held → AreHeld case new held
+    → node.prepared ≡ None → Fits case old node → Fits case new (holding held node)
+Fits-purged case old new node interval name floor commit held h fit free fits =
+    Fits-holding case old new node held
+    (more-appended old new h.entry.before (entries.Purge h.held.lease.seq name floor) h.entry.moved h.entry.written.appended) fit free fits
+
+-- a row that a node may have forget may be purged
+pub forget-floor : (case : CaseShape) (desk : DeskView) (node : NodeView) (interval : ℕ) (name : RowName) (floor : ℕ)
+    → Fits case desk node → MayForget case.topology node 0 floor name → interval_of case.topology name ≡ Some interval → floor ≤ desk.floor
+    → IfSome (held_at node.held interval) (λ held. MayPurge desk name (row_held case.topology held name) floor)
+forget-floor case desk node interval name floor fits may covers low =
+    let m = may.1 in
+    let at = held-at-on case.topology node.held name interval m.held m.there covers in
+    subst (λ (o : Option HeldView). IfSome o (λ held. MayPurge desk name (row_held case.topology held name) floor)) (sym at)
+    (may-purge case desk node.held interval m.held name 0 floor fits.held fits.of_case at covers m.forgets low)
 
 -- ---- a call that asks for some entry
 
@@ -153,9 +173,43 @@ answers-some shape old new MayAsk asked was node (outcomes.Marked mark) may is =
 answers-some shape old new MayAsk asked was node outcomes.Crashed may is = absurd is
 answers-some shape old new MayAsk asked was node outcomes.Nothing may is = absurd is
 
--- a fault under a lease that is held
-pub fails-held : (old new : DeskView) (all : List (Option HeldView)) (interval : ℕ) (held : HeldView)
-    (result : Result Outcome NodeFault) → held_at all interval ≡ Some held
-    → IfErr result (λ fault. IsRefused old new held.lease (refusal_of fault)) → IfErr result (FailsHeld old new all)
-fails-held old new all interval held (Ok outcome) at is = tt
-fails-held old new all interval held (Err fault) at is = inr (interval, held, at, is)
+-- ---- under the known floor
+
+-- a floor that the desk knew as it looked
+pub floor-known : (old mid new : DeskView) (floor : ℕ) → IsSound old → IsSound mid → HasLooked old mid → floor ≡ mid.floor
+    → mid.floor ≤ new.floor → IsFloorKnown old new floor
+floor-known old mid new floor was is looked at later = record {
+  at_least = omega (arith, at, looked.floor);
+  at_most = omega (arith, at, later);
+  same = λ alone. at ∙ is.own_floor (looked.alone ∙ alone)
+      ∙ ap (λ (c : CaseShape). floor_of (run_of c.topology mid.seen)) looked.case
+      ∙ ap (λ (h : List Entry). floor_of (run_of old.case.topology h))
+        (looked.more ∙ ap (λ (h : List Entry). old.seen ++ h) (looked.none alone) ∙ append-nil old.seen)
+      ∙ sym (was.own_floor alone);
+}
+
+-- of a result
+pub ok-answers : (result : Result Outcome NodeFault) (P Q : Outcome → Type 0) → ((outcome : Outcome) → P outcome → Q outcome)
+    → IfOk result P → IfOk result Q
+ok-answers (Ok outcome) P Q step is = step outcome is
+ok-answers (Err fault) P Q step is = tt
+
+-- what a row that forgets answers, once the desk was asked for its floor
+pub forget-answers : (case : CaseShape) (old mid new : DeskView) (was node : NodeView) (name : RowName) (least floor : ℕ)
+    (result : Result Outcome NodeFault) → IsSound old → IsSound mid → HasLooked old mid → floor ≡ mid.floor → Fits case old was
+    → HasGrown was.held mid new → MayForget case.topology was least floor name
+    → ((held : HeldView) → held_on case.topology was.held name ≡ Some held
+      → IfOk result (AnswersWrite case.topology mid new (forgetting held name floor) (worker_at was) was node))
+    → IfOk result (AnswersForget case.topology old new name least was node)
+forget-answers case old mid new was node name least floor result sound is looked at fits grown may answers =
+    let m = may.1 in
+    let asked = forgetting m.held name floor in
+    let shape = case.topology in
+    ok-answers result (AnswersWrite shape mid new asked (worker_at was) was node) (AnswersForget shape old new name least was node)
+    (λ outcome a. record {
+      floor = floor;
+      known = floor-known old mid new floor sound is looked at grown.moved.floor;
+      answers = answers-some shape old new (MayAskForget shape was least floor name) asked was node outcome
+          (subst (MayAskForget shape was least floor name) m.request m)
+          (answers-later shape old mid new asked (worker_at was) was node outcome looked a);
+    }) (answers m.held m.there)

@@ -7,3 +7,4 @@ pub mod Asking
 pub mod Answers
 pub mod Outboxes
 pub mod Steps
+pub mod PurgeSteps

@@ -2,18 +2,18 @@
 ghost use Rattle.std.specs.Prelude.{◌≡◌, ◌<◌, ◌≤◌, ◌↔◌, IfErr, IfOk, IsFalse, IsTrue, OnErr, Some, length, max};
 ghost use Rattle.topology.specs.Shapes.{Shape, parts_of};
 ghost use Rattle.book.specs.Desks.{HasLooked, KeepsMarks};
-ghost use Rattle.holdings.specs.Holding.{HeldView, held_on};
-ghost use Rattle.node.specs.Answers.{AnswersForget, AnswersWrite, FailsHeld, HasGrown, HasKept};
+ghost use Rattle.holdings.specs.Holding.{HeldView, held_at, held_on};
+ghost use Rattle.node.specs.Answers.{AnswersForget, AnswersPurge, AnswersWrite, FailsHeld, HasGrown, HasKept};
 ghost use Rattle.node.specs.Asking.{HasToForget, MayAskForget, Request, forgetting};
 ghost use Rattle.node.specs.Fits.{Fits};
-ghost use Rattle.node.specs.Steps.{MayForget};
+ghost use Rattle.node.specs.PurgeSteps.{AreRowsWithin, IsToPurge, MayForget};
 ghost use Rattle.node.specs.Workers.{worker_at};
 
 use crate::node::Node;
 use crate::outcome::{NodeFault, Outcome};
 use book::{Desk, Seen};
 use holdings::Held;
-use mw_types::RowName;
+use mw_types::{Duplicate, NoMemory, RowName};
 use row_parts::Row;
 use run_history::Case;
 use std::alloc::Global;
@@ -53,6 +53,67 @@ impl<N: Seen> Node<N> {
             self.forget(alloc, desk, case, name, floor)
         } else {
             Ok(Outcome::Nothing)
+        }
+    }
+
+    /// Has the first row of an interval, by key, that has so many ids to forget, and one at least,
+    /// forget them.
+    pub fn purge<D: Desk<Note = N>>(
+        &mut self,
+        alloc: Global,
+        desk: &mut D,
+        case: &Case,
+        interval: u32,
+        least: u32,
+    ) -> Result<Outcome, NodeFault>
+        requires fits { Fits case.now (D.view desk.old) self.old }
+
+        ensures fits { Fits case.now (D.view desk.new) self.new }
+        ensures answers { IfOk result (AnswersPurge case.now.topology
+            (D.view desk.old) (D.view desk.new) interval least self.old self.new) }
+        ensures number { self.new.number ≡ self.old.number }
+
+        ensures kept { OnErr result (HasKept self.old self.new) }
+        ensures looked { OnErr result (HasLooked (D.view desk.old) (D.view desk.new)) }
+        ensures fault { IfErr result
+            (FailsHeld (D.view desk.old) (D.view desk.new) self.old.held) }
+
+        ensures grown { HasGrown self.old.held (D.view desk.old) (D.view desk.new) }
+        ensures marks { KeepsMarks (D.view desk.old) (D.view desk.new) }
+        ensures loan { D.loan desk.new ≡ D.loan desk.old }
+    {
+        desk.sound();
+        let floor = desk.floor();
+        desk.sound();
+        match self.to_purge(alloc, case, interval, least, floor)? {
+            Some(name) => self.forget(alloc, desk, case, &name, floor),
+            None => Ok(Outcome::Nothing),
+        }
+    }
+
+    // The first row of an interval that has so many ids to forget, where nothing is prepared.
+    fn to_purge(
+        &self,
+        alloc: Global,
+        case: &Case,
+        interval: u32,
+        least: u32,
+        floor: u64,
+    ) -> Result<Option<RowName>, NoMemory>
+        requires within { AreRowsWithin case.now.topology interval
+            (held_at self.now.held interval) }
+        ensures found { IfOk result
+            (IsToPurge case.now.topology self.now interval least floor) }
+    {
+        if self.prepared.is_some() {
+            return Ok(None);
+        }
+        if self.held.get(interval).is_none() {
+            return Ok(None);
+        }
+        match self.held.to_purge(interval, floor, least as u64) {
+            Some(name) => Ok(Some(name.copy(alloc)?)),
+            None => Ok(None),
         }
     }
 
