@@ -1,6 +1,6 @@
 -- The rows that are cached, by their names.
 use Rattle.std.proofs.Common.{◌≡◌, ◌<◌, ℕ, zero, suc, Bool, true, false, cond, List, [], ◌∷◌, ◌++◌, length, map, take, drop, get_or, refl, sym, ◌∙◌, ap, subst, arith, Result}
-use Rattle.std.specs.Prelude.{Option, Some, None, IsSome, slice_set}
+use Rattle.std.specs.Prelude.{Some, None, IsSome, slice_set}
 use Rattle.std.specs.List.{AllByRecursion}
 use Rattle.std.specs.List.Sorted.{IsStrictlySortedBy, IsBinarySearchResult, IsSearchInRange}
 use Rattle.std.specs.Map.{lookup, keys_of, set_value}
@@ -22,7 +22,7 @@ use Rattle.row_parts.specs.Places.{IsGap, IsHit, IsHitOrGap}
 use Rattle.row_parts.proofs.PlaceLemmas.{is_place}
 use Rattle.run_history.proofs.Lists.{each-append, each-weaker, none_some}
 use Rattle.run_history.proofs.Lookups.{lookup-insert_entry, same_entries, shadowed, sorted-insert_entry, swapped}
-use Rattle.history_laws.proofs.RowSteps.{from_tie, same_row}
+use Rattle.history_laws.proofs.RowSteps.{same_row}
 use Rattle.book.specs.Claims.{named}
 use Rattle.book.specs.declared.answers.NamedRow.{NamedRow}
 use Rattle.holdings.specs.Caching.{merged}

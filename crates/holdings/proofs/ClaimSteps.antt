@@ -1,6 +1,6 @@
 -- What is held fits its desk after a claim.
-use Rattle.std.proofs.Common.{◌≡◌, ◌≢◌, ◌<◌, ◌+◌, ℕ, Bool, true, false, cond, zero, suc, List, [], ◌∷◌, ◌++◌, length, map, refl, sym, ◌∙◌, ap, subst, arith, length-append, append_assoc, inl, inr}
-use Rattle.std.specs.Prelude.{All, IfSome, IsSome, None, Option, Some, slice_get, unwrap_or, ◌⊎◌}
+use Rattle.std.proofs.Common.{◌≡◌, ◌≢◌, ℕ, true, false, cond, List, [], ◌∷◌, ◌++◌, length, map, refl, sym, ◌∙◌, ap, subst, length-append, append_assoc}
+use Rattle.std.specs.Prelude.{IsSome, Option, Some, slice_get, unwrap_or}
 use Rattle.std.specs.List.{AllByRecursion}
 use Rattle.std.specs.List.Sorted.{IsStrictlySortedBy}
 use Rattle.std.specs.Map.{keys_of, lookup}
@@ -15,11 +15,11 @@ use Rattle.mw_types.specs.declared.entry.Entry.TheVariants.{Claim}
 use Rattle.key_intervals.specs.declared.bounds.Bounds.{Bounds}
 use Rattle.key_intervals.specs.Intervals.{covers, rows_covered}
 use Rattle.topology.specs.Rules.{IsTopology}
-use Rattle.topology.specs.Shapes.{Shape, parts_of}
+use Rattle.topology.specs.Shapes.{Shape}
 use Rattle.row_parts.specs.Contents.{Contents, fresh}
 use Rattle.run_history.specs.Cases.{CaseShape, fresh_of, intervals_of}
-use Rattle.run_history.specs.Runs.{Run, cached, row_in, row_of, run_of}
-use Rattle.run_history.specs.Fences.{CarryNot, IsFenced, interval_of, is_claim, known, last_claim, sequencer_of}
+use Rattle.run_history.specs.Runs.{Run, row_in, row_of, run_of}
+use Rattle.run_history.specs.Fences.{IsFenced, interval_of, known, last_claim, sequencer_of}
 use Rattle.run_history.specs.Fits.{fits}
 use Rattle.run_history.proofs.Claims.{last_claim-push}
 use Rattle.run_history.proofs.Fitting.{fits-fresh, fits-later}
@@ -37,7 +37,6 @@ use Rattle.book.specs.declared.answers.NamedRow.{NamedRow}
 use Rattle.holdings.specs.Holding.{AreHeld, AreRowsHeld, HeldView, KeepsHeld, KeepsOthers, held_at, row_held}
 use Rattle.holdings.specs.Steps.{KeepsAll}
 use Rattle.holdings.proofs.HeldRows.{AreKnown, AreRowsHeld-more, told-so}
-use Rattle.holdings.proofs.HeldPlaces.{number_or_not}
 use Rattle.holdings.proofs.HeldSteps.{AreHeld-here}
 
 -- what holds of each row that was answered, and of a fresh one, holds of the one that is found under a name

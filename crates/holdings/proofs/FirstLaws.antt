@@ -1,10 +1,10 @@
 -- The first that is picked of rows, gone through one after another.
-use Rattle.std.proofs.Common.{◌≡◌, ℕ, Bool, true, false, cond, List, [], ◌∷◌, ◌++◌, map, fold, refl, sym, ◌∙◌, ap, subst}
+use Rattle.std.proofs.Common.{◌≡◌, true, false, cond, List, [], ◌∷◌, ◌++◌, map, fold, refl, sym, ◌∙◌, ap, subst}
 use Rattle.std.specs.Prelude.{IfSome, None, Option, Some}
 use Rattle.std.specs.Cmp.{IsTotalOrder, tied_itself}
 use Rattle.std.specs.List.{AllByRecursion}
 use Rattle.std.specs.List.Sorted.{IsStrictlySortedBy}
-use Rattle.std.specs.Map.{keys_of, lookup}
+use Rattle.std.specs.Map.{lookup}
 use Rattle.std.specs.BTreeMap.{is_at}
 use Rattle.std.specs.Ordering.{is_lt}
 use Rattle.std.specs.declared.cmp.Ordering.{Ordering}
@@ -55,6 +55,23 @@ found-front q v (x ∷ xs) ys found =
       | true ↦ λ here. here
       | false ↦ λ rest. found-front q v xs ys rest
     ] found
+
+-- each row of a list and beside it is found among the merged rows
+pub each-merged : (answered : List NamedRow) (others : List (RowName × Contents)) → AreOrdered answered others
+    → AllByRecursion (λ (e : RowName × Contents). lookup (is_at (row_cmp e.0)) (merged answered others) ≡ Some e.1)
+    (map named answered ++ others)
+each-merged answered others are = each-append (λ (e : RowName × Contents). lookup (is_at (row_cmp e.0)) (merged answered others) ≡ Some e.1)
+    (map named answered) others
+    (each-weaker (λ (e : RowName × Contents). lookup (is_at (row_cmp e.0)) (map named answered) ≡ Some e.1)
+    (λ (e : RowName × Contents). lookup (is_at (row_cmp e.0)) (merged answered others) ≡ Some e.1)
+    (λ e found. lookup-merged e.0 answered others ∙ found-front e.0 e.1 (map named answered) others found) (map named answered)
+    (each_found row_cmp-total (map named answered)
+    (subst (IsStrictlySortedBy row_cmp) (sym (names-named answered)) are.answered_ordered)))
+    (each-weaker (λ (e : RowName × Contents). lookup (is_at (row_cmp e.0)) others ≡ Some e.1)
+    (λ (e : RowName × Contents). lookup (is_at (row_cmp e.0)) (merged answered others) ≡ Some e.1)
+    (λ e found. lookup-merged e.0 answered others
+    ∙ lookup-behind e.0 (map named answered) others (not-both e.0 e.1 answered others are.apart found) ∙ found) others
+    (each_found row_cmp-total others are.others_ordered))
 
 module _ {X : Type 0} (pick : Contents → Option X) (cmp : RowName × X → RowName × X → Ordering) (total : IsTotalOrder cmp) where
   -- nothing is before itself
@@ -143,22 +160,6 @@ module _ {X : Type 0} (pick : Contents → Option X) (cmp : RowName × X → Row
       all-holds P es (earlier pick cmp best e) (step-holds P best e.0 (pick e.1) start each.0) each.1
 
   module _ (answered : List NamedRow) (others : List (RowName × Contents)) (are : AreOrdered answered others) where
-    -- each of them is found among the merged rows
-    each-merged : AllByRecursion (λ (e : RowName × Contents). lookup (is_at (row_cmp e.0)) (merged answered others) ≡ Some e.1)
-        (map named answered ++ others)
-    each-merged = each-append (λ (e : RowName × Contents). lookup (is_at (row_cmp e.0)) (merged answered others) ≡ Some e.1)
-        (map named answered) others
-        (each-weaker (λ (e : RowName × Contents). lookup (is_at (row_cmp e.0)) (map named answered) ≡ Some e.1)
-        (λ (e : RowName × Contents). lookup (is_at (row_cmp e.0)) (merged answered others) ≡ Some e.1)
-        (λ e found. lookup-merged e.0 answered others ∙ found-front e.0 e.1 (map named answered) others found) (map named answered)
-        (each_found row_cmp-total (map named answered)
-        (subst (IsStrictlySortedBy row_cmp) (sym (names-named answered)) are.answered_ordered)))
-        (each-weaker (λ (e : RowName × Contents). lookup (is_at (row_cmp e.0)) others ≡ Some e.1)
-        (λ (e : RowName × Contents). lookup (is_at (row_cmp e.0)) (merged answered others) ≡ Some e.1)
-        (λ e found. lookup-merged e.0 answered others
-        ∙ lookup-behind e.0 (map named answered) others (not-both e.0 e.1 answered others are.apart found) ∙ found) others
-        (each_found row_cmp-total others are.others_ordered))
-
     -- what was found is the first of all rows
     first-seen : (best : Option (RowName × X))
         → IfSome best (λ b. HasPicked pick (merged answered others) b)
@@ -185,5 +186,5 @@ module _ {X : Type 0} (pick : Contents → Option X) (cmp : RowName × X → Row
         (all-holds (λ (b : RowName × X). HasPicked pick (merged answered others) b) (map named answered ++ others) None tt
         (each-weaker (λ (e : RowName × Contents). lookup (is_at (row_cmp e.0)) (merged answered others) ≡ Some e.1)
         (λ (e : RowName × Contents). (x : X) → pick e.1 ≡ Some x → HasPicked pick (merged answered others) (e.0, x))
-        (λ e found x picked. record { row = e.1; there = found; picked = picked }) (map named answered ++ others) each-merged))
+        (λ e found x picked. record { row = e.1; there = found; picked = picked }) (map named answered ++ others) (each-merged answered others are)))
         (all-past (map named answered ++ others) None))

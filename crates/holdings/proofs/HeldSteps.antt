@@ -1,11 +1,10 @@
 -- What is held fits its desk after each call.
-use Rattle.std.proofs.Common.{◌≡◌, ◌≢◌, ◌<◌, ℕ, true, List, [], ◌∷◌, ◌++◌, length, map, refl, sym, ◌∙◌, ap, subst, arith, length-append, append_assoc, inl, inr}
-use Rattle.std.specs.Prelude.{Err, IfOk, IfSome, IsSome, MatchResult, None, Ok, OnErr, Option, Result, Some, slice_set, unwrap_or}
+use Rattle.std.proofs.Common.{◌≡◌, ◌≢◌, ◌<◌, ℕ, List, [], ◌∷◌, length, refl, sym, ◌∙◌, ap, subst, arith, inl, inr}
+use Rattle.std.specs.Prelude.{Err, IfOk, IfSome, IsSome, MatchResult, None, Ok, OnErr, Option, Result, Some, unwrap_or}
 use Rattle.std.specs.Option.{is_some}
 use Rattle.std.specs.BTreeMap.{insert_entry}
 use Rattle.std.specs.Ordering.{match_ordering}
 use Rattle.std.specs.Cmp.{tied_itself}
-use Rattle.std.specs.declared.cmp.Ordering.{Ordering}
 use Rattle.std.specs.declared.cmp.Ordering.TheVariants.{Less, Equal, Greater}
 use Rattle.std.proofs.lemmas.List.{length-set}
 use Rattle.mw_types.specs.Orders.{row_cmp}
@@ -25,7 +24,7 @@ use Rattle.book.specs.declared.desk_refusal.DeskRefusal.{DeskRefusal}
 use Rattle.holdings.specs.Holding.{AreHeld, HasSeenOthers, HeldView, HoldsEntry, IsHeld, KeepsHeld, KeepsOthers, held_at, row_held, with_row}
 use Rattle.holdings.specs.Steps.{IsReady, KeepsAll}
 use Rattle.holdings.proofs.HeldRows.{AreRowsHeld-cached, AreRowsHeld-elsewhere, AreRowsHeld-entered, AreRowsHeld-looked, AreRowsHeld-more, HasEntered, found-here, held-known, row_held-same}
-use Rattle.holdings.proofs.HeldPlaces.{held-here, held-others, held-within, number_or_not}
+use Rattle.holdings.proofs.HeldPlaces.{held-others, held-within, number_or_not}
 
 -- ---- one row put twice
 

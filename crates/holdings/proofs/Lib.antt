@@ -7,3 +7,4 @@ pub mod WorkLaws
 pub mod OwnLaws
 pub mod FirstLaws
 pub mod TimerLaws
+pub mod PendingLaws

@@ -1,13 +1,12 @@
 -- The own work of an interval, by the rows that are cached.
-use Rattle.std.proofs.Common.{◌≡◌, ◌<◌, ◌≤◌, ◌+◌, ◌&&◌, ◌==◌, ℕ, Bool, true, false, cond, zero, suc, List, [], ◌∷◌, ◌++◌, length, map, drop, get_or, refl, sym, ◌∙◌, ap, subst, arith, drop-cons, add-one}
-use Rattle.std.specs.Prelude.{filter, not, min, Option, Some, None, IfSome, IsSome, slice_get, unwrap_or}
-use Rattle.std.specs.Option.{is_some, option_map, option_map_or}
+use Rattle.std.proofs.Common.{◌≡◌, ◌<◌, ◌≤◌, ◌+◌, ℕ, Bool, true, false, cond, List, [], ◌∷◌, ◌++◌, length, map, drop, get_or, refl, sym, ◌∙◌, ap, subst, arith, drop-cons, add-one}
+use Rattle.std.specs.Prelude.{filter, not, min, Some, None, IsSome}
+use Rattle.std.specs.Option.{is_some}
 use Rattle.std.specs.List.{AllByRecursion, flat_map}
 use Rattle.std.specs.List.Sorted.{IsStrictlySortedBy}
 use Rattle.std.specs.Map.{keys_of, lookup}
 use Rattle.std.specs.BTreeMap.{insert_entry, is_at}
 use Rattle.std.specs.Ordering.{is_eq, match_ordering}
-use Rattle.std.specs.declared.cmp.Ordering.{Ordering}
 use Rattle.std.specs.declared.cmp.Ordering.TheVariants.{Less, Equal, Greater}
 use Rattle.std.proofs.lemmas.List.{drop_all}
 use Rattle.mw_types.specs.declared.TheConstants.{END}
@@ -19,7 +18,7 @@ use Rattle.key_intervals.specs.Intervals.{covers, rows_covered}
 use Rattle.injector.specs.Sources.{stated_at}
 use Rattle.row_parts.specs.Contents.{Contents}
 use Rattle.run_history.specs.Cases.{CaseShape, is_injector, source_of}
-use Rattle.run_history.specs.Marks.{own_work, row_marks, stated_marks}
+use Rattle.run_history.specs.Marks.{own_work}
 use Rattle.run_history.specs.Runs.{Run, cached, row_in, row_of}
 use Rattle.run_history.specs.Watermarks.{cursor_in, least}
 use Rattle.run_history.proofs.Lists.{each-weaker, filter-all, none_some}

@@ -1,6 +1,7 @@
 -- What a worker holds of each interval, and when it fits what its desk knows.
--- Akidau et al., VLDB 2013, section 6.2: a worker caches the state of the keys that it owns, which is safe while its
--- sequencer is the last. Own: the rows under a lease that was overtaken are those that it knew until then.
+-- Akidau et al., VLDB 2013, section 6.2: a worker caches the state of the keys that it owns, which is safe
+-- while its sequencer is the last. Own: the rows under a lease that was overtaken are those that it knew until
+-- then.
 use Rattle.std.specs.Prelude.{◌≡◌, ◌<◌, ◌++◌, ℕ, true, List, Option, Some, None, IsSome, IfSome, length, map, slice_get, unwrap_or}
 use Rattle.std.specs.Option.{option_and_then}
 use Rattle.std.specs.List.Sorted.{IsStrictlySortedBy}
@@ -47,13 +48,16 @@ with_row name row held = record held { rows = insert_entry row_cmp held.rows nam
 
 -- ---- when it fits a desk
 
--- the rows that are held are those of the lease by what the desk has seen, where that is told, and fit their names
+-- the rows that are held are those of the lease by what the desk has seen, where that is told, and fit their
+-- names
 pub record AreRowsHeld (case : CaseShape) (desk : DeskView) (held : HeldView) : Type 0 where
-  pub known : IfSome desk.told (λ _. (name : RowName) → interval_of case.topology name ≡ Some held.lease.interval →
+  pub known : IfSome desk.told (λ _. (name : RowName) →
+      interval_of case.topology name ≡ Some held.lease.interval →
       row_held case.topology held name
       ≡ row_of case.topology (run_of case.topology (known held.lease.interval held.lease.seq desk.seen)) name)
   pub fit : (name : RowName) → interval_of case.topology name ≡ Some held.lease.interval →
-      name.part < parts_of case.topology → fits case (length desk.seen) name (row_held case.topology held name) ≡ true
+      name.part < parts_of case.topology →
+      fits case (length desk.seen) name (row_held case.topology held name) ≡ true
   -- each row that is cached lies in the interval
   pub within : (name : RowName) → IsSome (row_in (cached held.rows) name) →
       interval_of case.topology name ≡ Some held.lease.interval
@@ -67,7 +71,8 @@ pub record IsHeld (case : CaseShape) (desk : DeskView) (interval : ℕ) (held : 
 
 -- all that is held fits a desk
 pub record AreHeld (case : CaseShape) (desk : DeskView) (all : List (Option HeldView)) : Type 0 where
-  pub each : (interval : ℕ) (held : HeldView) → held_at all interval ≡ Some held → IsHeld case desk interval held
+  pub each : (interval : ℕ) (held : HeldView) → held_at all interval ≡ Some held →
+      IsHeld case desk interval held
 
 -- the same rows and leases are held, but that fresh rows may be cached
 pub record KeepsHeld (shape : Shape) (old new : List (Option HeldView)) : Type 0 where
@@ -83,15 +88,16 @@ KeepsOthers interval old new = (other : ℕ) → (other ≡ interval → ⊥) �
 -- ---- what a call answers
 
 -- a claim was accepted, and what it answered is held of the interval: the lease, and the rows
-pub record HoldsClaim (old new : DeskView) (worker interval seq : ℕ) (before after : List (Option HeldView)) : Type 0 where
+pub record HoldsClaim (old new : DeskView) (worker interval seq : ℕ)
+    (before after : List (Option HeldView)) : Type 0 where
   pub answer : Claimed
   pub claimed : HasClaimed old new worker interval answer
   pub number : answer.lease.seq ≡ seq
   pub held : held_at after interval ≡ Some (record { lease = answer.lease; rows = map named answer.rows })
   pub others : KeepsOthers interval before after
 
--- a row of an interval was written, as is said of the lease and the row that were held and of what the desk answered: the
--- row that was answered is held now, and all else as before
+-- a row of an interval was written, as is said of the lease and the row that were held and of what the desk
+-- answered: the row that was answered is held now, and all else as before
 pub record HoldsEntry (shape : Shape) (interval : ℕ) (name : RowName) (commit : ℕ)
     (IsEntry : LeaseView → Contents → Written → Type 0) (before after : List (Option HeldView)) : Type 0 where
   pub held : HeldView
@@ -104,15 +110,19 @@ pub record HoldsEntry (shape : Shape) (interval : ℕ) (name : RowName) (commit 
 
 -- a call on a row of an interval was refused for a reason that the desk has, by the lease that is held
 abbrev pub IsRefusedOf : DeskView → DeskView → List (Option HeldView) → ℕ → DeskRefusal → Type 0
-IsRefusedOf old new all interval why = IfSome (held_at all interval) (λ held. HasReason old new held.lease why)
+IsRefusedOf old new all interval why =
+    IfSome (held_at all interval) (λ held. HasReason old new held.lease why)
 
 -- ---- beside a worker that acts
 
--- a desk came to see more, of which nothing was written under a lease that is held, and these leases may still be used
+-- a desk came to see more, of which nothing was written under a lease that is held, and these leases may
+-- still be used
 pub record HasSeenOthers (old new : DeskView) (all : List (Option HeldView)) : Type 0 where
   pub case : new.case ≡ old.case
   pub told : new.told ≡ old.told
   pub rest : List Entry
   pub more : new.seen ≡ old.seen ++ rest
-  pub foreign : (interval : ℕ) (held : HeldView) → held_at all interval ≡ Some held → CarryNot held.lease.seq rest
-  pub leases : (interval : ℕ) (held : HeldView) → held_at all interval ≡ Some held → new.leases held.lease ≡ true
+  pub foreign : (interval : ℕ) (held : HeldView) → held_at all interval ≡ Some held →
+      CarryNot held.lease.seq rest
+  pub leases : (interval : ℕ) (held : HeldView) → held_at all interval ≡ Some held →
+      new.leases held.lease ≡ true

@@ -4,3 +4,4 @@ pub mod Steps
 pub mod Firsts
 pub mod Timers
 pub mod Purges
+pub mod Pendings

@@ -10,7 +10,8 @@ use Rattle.holdings.specs.Firsts.{IsFirstOf}
 
 -- a row has a floor below this one, and at least so many seen ids, and one
 abbrev pub forgets : ℕ → ℕ → Contents → Option (Unit {0})
-forgets floor least row = if nat_lt row.floor floor && nat_le (max 1 least) (length row.seen) then Some tt else None
+forgets floor least row =
+    if nat_lt row.floor floor && nat_le (max 1 least) (length row.seen) then Some tt else None
 
 -- rows stand by their names
 abbrev pub by_name : RowName × Unit {0} → RowName × Unit {0} → Ordering
@@ -18,7 +19,8 @@ by_name a b = row_cmp a.0 b.0
 
 -- the first row, by its name, that may forget ids, or none where none may
 abbrev pub IsFirstToPurge : ℕ → ℕ → List (RowName × Contents) → Option RowName → Type 0
-IsFirstToPurge floor least rows found = IsFirstOf (forgets floor least) by_name rows (option_map (λ n. (n, tt)) found)
+IsFirstToPurge floor least rows found =
+    IsFirstOf (forgets floor least) by_name rows (option_map (λ n. (n, tt)) found)
 
 -- ---- what no public clause cites
 

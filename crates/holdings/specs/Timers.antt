@@ -1,7 +1,7 @@
--- Which timer is the first of the rows of an interval, and which row may be purged first.
--- Akidau et al., VLDB 2013, section 4.6: timers fire in the order of their times. Own: those of one time go by tag,
--- and those that tie by the names of their rows.
-use Rattle.std.specs.Prelude.{◌≡◌, ℕ, ◌&&◌, List, Option, Some, None, length, max, nat_le, nat_lt, slice_get, if◌then◌else◌}
+-- Which timer is the first of the rows of an interval.
+-- Akidau et al., VLDB 2013, section 4.6: timers fire in the order of their times. Own: those of one time go
+-- by tag, and those that tie by the names of their rows.
+use Rattle.std.specs.Prelude.{List, Option, slice_get}
 use Rattle.std.specs.Option.{option_map}
 use Rattle.std.specs.Ordering.{ordering_then}
 use Rattle.std.specs.declared.cmp.Ordering.{Ordering}

@@ -1,5 +1,5 @@
 //! The rows of one interval that are cached.
-ghost use Rattle.std.specs.Prelude.{◌≡◌, IsSome, None, OnErr, OnOk, fold, map, min, option_copied};
+ghost use Rattle.std.specs.Prelude.{◌≡◌, ◌++◌, IfOk, IsSome, None, OnErr, OnOk, fold, map, min, option_copied};
 ghost use Rattle.std.specs.List.{flat_map};
 ghost use Rattle.std.specs.List.Sorted.{IsStrictlySortedBy};
 ghost use Rattle.std.specs.Map.{lookup, set_value};
@@ -14,10 +14,12 @@ ghost use Rattle.run_history.specs.Watermarks.{least};
 ghost use Rattle.book.specs.Claims.{named};
 ghost use Rattle.book.specs.declared.answers.NamedRow.{NamedRow};
 ghost use Rattle.holdings.specs.Firsts.{earlier};
+ghost use Rattle.holdings.specs.Pendings.{ArePendingIn, sent_in};
 ghost use Rattle.holdings.specs.Purges.{IsFirstToPurge, by_name, forgets, seen_name};
 ghost use Rattle.holdings.specs.Timers.{IsFirstSeen, due_cmp, seen_of, timer_of};
 
 use crate::first_timer::earlier;
+use crate::pending::{SentList, push_row};
 use crate::row_work::row_work;
 use crate::to_purge::earlier_name;
 use book::{NamedRow, NamedRowList};
@@ -105,6 +107,16 @@ impl Cache {
         first_beside(&self.others, first_in(&self.answered))
     }
 
+    // All that is pending in the rows.
+    pub(crate) fn pending(&self, alloc: Global) -> Result<SentList, NoMemory>
+        ensures { IfOk result (ArePendingIn self.now) }
+    {
+        let mut sent = SentList::new(alloc);
+        push_in(alloc, &mut sent, &self.answered)?;
+        push_beside(alloc, &mut sent, &self.others)?;
+        Ok(sent)
+    }
+
     // The name of the first row that may forget ids, or none where none may.
     pub(crate) fn to_purge(&self, floor: u64, least: u64) -> Option<&RowName>
         ensures { IsFirstToPurge floor least self.now (option_copied result) }
@@ -123,6 +135,30 @@ fn first_in(rows: &[NamedRow]) -> Option<(&RowName, Timer)>
         best = earlier(best, &row.name, &row.row);
     }
     best
+}
+
+// Appends what is pending in the rows of a list.
+fn push_in(alloc: Global, sent: &mut SentList, rows: &[NamedRow]) -> Result<(), NoMemory>
+    ensures { OnOk result (sent.new ≡ sent.old ++ flat_map sent_in (map named rows.now)) }
+{
+    for row in rows {
+        push_row(alloc, sent, &row.name, &row.row)?;
+    }
+    Ok(())
+}
+
+// Appends what is pending in the rows of a map.
+fn push_beside(
+    alloc: Global,
+    sent: &mut SentList,
+    rows: &BTreeMap<RowName, Row>,
+) -> Result<(), NoMemory>
+    ensures { OnOk result (sent.new ≡ sent.old ++ flat_map sent_in rows.now.entries) }
+{
+    for (name, row) in rows {
+        push_row(alloc, sent, name, row)?;
+    }
+    Ok(())
 }
 
 // The name of the first row of a list that may forget ids.
@@ -159,7 +195,8 @@ fn first_beside<'a>(
     rows: &'a BTreeMap<RowName, Row>,
     first: Option<(&'a RowName, Timer)>,
 ) -> Option<(&'a RowName, Timer)>
-    ensures { seen_of result ≡ fold (earlier timer_of due_cmp) (seen_of first.entry) rows.now.entries }
+    ensures { seen_of result
+        ≡ fold (earlier timer_of due_cmp) (seen_of first.entry) rows.now.entries }
 {
     let mut best = first;
     for (name, row) in rows {
@@ -191,7 +228,8 @@ fn oldest_beside(rows: &BTreeMap<RowName, Row>, mark: u64) -> u64
     oldest
 }
 
-// The place of a name's row among rows that ascend by name; `Err` has the place where it would stand.
+// The place of a name's row among rows that ascend by name; `Err` has the place where it would
+// stand.
 fn place_of(rows: &[NamedRow], name: &RowName) -> Result<usize, usize>
     requires { IsStrictlySortedBy row_cmp (map (λ (r : NamedRow). r.name) rows.now) }
     ensures { IsHitOrGap (λ (r : NamedRow). row_cmp r.name name.now) rows.now result }

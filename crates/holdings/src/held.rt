@@ -1,14 +1,16 @@
 //! What is held of one interval.
-ghost use Rattle.std.specs.Prelude.{◌≡◌, ◌<◌, IsSome, OnErr, OnOk, Some, option_copied};
+ghost use Rattle.std.specs.Prelude.{◌≡◌, ◌<◌, IfOk, IsSome, OnErr, OnOk, Some, option_copied};
 ghost use Rattle.std.specs.List.Sorted.{IsStrictlySortedBy};
 ghost use Rattle.std.specs.Map.{keys_of};
 ghost use Rattle.mw_types.specs.Orders.{row_cmp};
 ghost use Rattle.run_history.specs.Runs.{cached, row_in};
 ghost use Rattle.holdings.specs.Holding.{row_held, with_row};
+ghost use Rattle.holdings.specs.Pendings.{ArePendingIn};
 ghost use Rattle.holdings.specs.Purges.{IsFirstToPurge};
 ghost use Rattle.holdings.specs.Timers.{IsFirstSeen, seen_of};
 
 use crate::cache::Cache;
+use crate::pending::SentList;
 use book::Lease;
 use mw_types::{Duplicate, NoMemory, RowName, Timer};
 use row_parts::Row;
@@ -59,6 +61,13 @@ impl Held {
         ensures { IsFirstSeen self.now.rows (seen_of result) }
     {
         self.rows.first_timer()
+    }
+
+    // All that is pending in the rows.
+    pub(crate) fn pending(&self, alloc: Global) -> Result<SentList, NoMemory>
+        ensures { IfOk result (ArePendingIn self.now.rows) }
+    {
+        self.rows.pending(alloc)
     }
 
     // The name of the first row that may forget ids, or none where none may.

@@ -1,10 +1,12 @@
-//! What a worker holds of each interval that it has claimed: its lease, and the rows of the interval
-//! as the lease knows them.
+//! What a worker holds of each interval that it has claimed: its lease, and the rows of the
+//! interval as the lease knows them.
 //!
 //! A call asks a desk for one entry, and keeps the row that the entry leaves; a refusal leaves all
 //! as it was. Stands on `book` and the crates below it. Public contract: what is held fits the desk
-//! after each call (`AreHeld`), an accepted write is the desk's, and each other row stays.
-//! Definition: `specs/Holding.antt`.
+//! after each call (`AreHeld`), an accepted write is the desk's, and each other row stays; the first
+//! timer and the own work of an interval are exact. Each of these goes over all rows of the interval.
+//! Definitions: `specs/Holding.antt`; `specs/Timers.antt`, `specs/Purges.antt` and
+//! `specs/Pendings.antt` for what is found among the rows.
 #![tactic(auto)]
 
 mod cache;
@@ -13,6 +15,7 @@ mod first_timer;
 mod held;
 mod holdings;
 mod own_work;
+mod pending;
 mod row_work;
 mod to_purge;
 mod writes;
@@ -21,3 +24,4 @@ pub use claims::fits_beside;
 pub use first_timer::RowTimer;
 pub use held::Held;
 pub use holdings::Holdings;
+pub use pending::{Sent, SentList};

@@ -38,7 +38,8 @@ impl Holdings {
         requires known { IsKnownOf (D.view desk.old) name.now proposal.now }
 
         ensures fits { AreHeld case.now (D.view desk.new) self.new }
-        ensures written { IfOk result (λ commit. HoldsEntry case.now.topology interval name.now commit
+        ensures written { IfOk result (λ commit.
+            HoldsEntry case.now.topology interval name.now commit
             (λ lease row answer. HasWritten (D.view desk.old) (D.view desk.new) lease name.now
             proposal.now row answer) self.old self.new) }
 
@@ -76,7 +77,8 @@ impl Holdings {
             (D.view desk.old).seen (row_held case.now.topology held name.now) id) }
 
         ensures fits { AreHeld case.now (D.view desk.new) self.new }
-        ensures settled { IfOk result (λ commit. HoldsEntry case.now.topology interval name.now commit
+        ensures settled { IfOk result (λ commit.
+            HoldsEntry case.now.topology interval name.now commit
             (λ lease row answer. HasStored (D.view desk.old) (D.view desk.new) lease name.now
             (Ack lease.seq name.now id) row
             (λ number. written_row number (Ack lease.seq name.now id) [] row) answer)
@@ -96,8 +98,8 @@ impl Holdings {
         self.keep(interval, name, held, written)
     }
 
-    /// A row forgets the ids of records that are finished: those below the floor. Answers the commit
-    /// number of the entry.
+    /// A row forgets the ids of records that are finished: those below the floor. Answers the
+    /// commit number of the entry.
     pub fn purge<D: Desk>(
         &mut self,
         alloc: Global,
@@ -116,7 +118,8 @@ impl Holdings {
             name.now (row_held case.now.topology held name.now) floor) }
 
         ensures fits { AreHeld case.now (D.view desk.new) self.new }
-        ensures purged { IfOk result (λ commit. HoldsEntry case.now.topology interval name.now commit
+        ensures purged { IfOk result (λ commit.
+            HoldsEntry case.now.topology interval name.now commit
             (λ lease row answer. HasStored (D.view desk.old) (D.view desk.new) lease name.now
             (Purge lease.seq name.now floor) row
             (λ number. written_row number (Purge lease.seq name.now floor) [] row) answer)

@@ -1,4 +1,4 @@
-use Rattle.std.proofs.Common.{◌≡◌, ◌≤◌, ◌∙◌, arith, rules, ap, sym, List, [], map, min, ℕ}
+use Rattle.std.proofs.Common.{◌≡◌, ◌∙◌, arith, rules, ap, sym, List, [], map, min}
 use Rattle.mw_types.specs.declared.TheConstants.{END}
 use Rattle.mw_types.specs.declared.identity.RowName.{RowName}
 use Rattle.row_parts.specs.Contents.{Contents}

@@ -1,9 +1,9 @@
-use Rattle.std.proofs.Common.{◌≡◌, ◌≤◌, ◌∙◌, arith, map, ap}
+use Rattle.std.proofs.Common.{arith, map}
 use Rattle.run_history.specs.Marks.{row_marks}
 use Rattle.run_history.specs.Watermarks.{least}
 use Rattle.history_laws.proofs.LowLaws.{least-end}
 use Rattle.book.specs.declared.answers.NamedRow.{NamedRow}
-use Rattle.holdings.proofs.WorkLaws.{least-gone, least-one}
+use Rattle.holdings.proofs.WorkLaws.{least-gone}
 use Rattle.holdings.proofs.cache.oldest_in.Goals as goal
 
 pub loop-row-init : goal.loop-row-init

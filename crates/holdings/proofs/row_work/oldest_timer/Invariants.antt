@@ -6,4 +6,6 @@ use Rattle.holdings.proofs.row_work.oldest_timer.Given as goal
 
 -- the lesser of the oldest so far and of what is left is the oldest of all
 abbrev pub invariant-loop-timer : goal.invariant-loop-timer
-invariant-loop-timer l = (l.oldest ≤ END) × (min l.oldest (least (map (λ (t : Timer). t.time) (filter (λ (t : Timer). not t.late) (drop l.timer-index l.timers)))) ≡ least (map (λ (t : Timer). t.time) (filter (λ (t : Timer). not t.late) l.timers)))
+invariant-loop-timer l = (l.oldest ≤ END)
+    × (min l.oldest (least (map (λ (t : Timer). t.time) (filter (λ (t : Timer). not t.late) (drop l.timer-index l.timers))))
+    ≡ least (map (λ (t : Timer). t.time) (filter (λ (t : Timer). not t.late) l.timers)))

@@ -1,4 +1,4 @@
-use Rattle.std.proofs.Common.{◌≡◌, ◌∙◌, ap, subst, List, fold, map}
+use Rattle.std.proofs.Common.{◌∙◌, ap, subst, List, fold, map}
 use Rattle.std.specs.Prelude.{None}
 use Rattle.mw_types.specs.declared.identity.RowName.{RowName}
 use Rattle.row_parts.specs.Contents.{Contents}

@@ -11,7 +11,7 @@ use Rattle.row_parts.specs.Contents.{Contents}
 use Rattle.row_parts.specs.Places.{IsGap, IsHit}
 use Rattle.book.specs.Claims.{named}
 use Rattle.book.specs.declared.answers.NamedRow.{NamedRow}
-use Rattle.holdings.specs.Caching.{AreOrdered, merged}
+use Rattle.holdings.specs.Caching.{merged}
 use Rattle.holdings.proofs.CacheLaws.{lookup-behind, lookup-gap, lookup-merged, merged-insert, merged-set, names-each_set, names-set, set_value-insert, apart-set_value}
 use Rattle.holdings.proofs.cache.Cache.set.Goals as goal
 

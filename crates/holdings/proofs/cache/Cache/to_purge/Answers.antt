@@ -1,4 +1,4 @@
-use Rattle.std.proofs.Common.{◌≡◌, ◌∙◌, ap, subst, List, fold, map}
+use Rattle.std.proofs.Common.{◌∙◌, ap, subst, List, fold, map}
 use Rattle.std.specs.Prelude.{None}
 use Rattle.std.specs.Cmp.{on_total}
 use Rattle.mw_types.specs.declared.identity.RowName.{RowName}

@@ -1,4 +1,4 @@
-use Rattle.std.proofs.Common.{◌≡◌, ◌∙◌, ap, rules, min, true, List}
+use Rattle.std.proofs.Common.{◌≡◌, ◌∙◌, ap, rules, min, true}
 use Rattle.std.specs.List.{flat_map}
 use Rattle.mw_types.specs.declared.identity.RowName.{RowName}
 use Rattle.row_parts.specs.Contents.{Contents}

@@ -1,11 +1,10 @@
-use Rattle.std.proofs.Common.{◌≡◌, ◌∙◌, ap, sym, subst, List}
+use Rattle.std.proofs.Common.{◌∙◌, ap, sym, List}
 use Rattle.std.specs.Prelude.{Option, Some, slice_get}
 use Rattle.key_intervals.specs.declared.bounds.Bounds.{Bounds}
 use Rattle.mw_types.specs.declared.identity.RowName.{RowName}
 use Rattle.row_parts.specs.Contents.{Contents}
-use Rattle.run_history.specs.Cases.{intervals_of}
-use Rattle.holdings.specs.Holding.{HeldView, KeepsOthers, held_at}
-use Rattle.holdings.proofs.ClaimSteps.{AreHeld-claimed, claimed_view}
+use Rattle.holdings.specs.Holding.{HeldView, held_at}
+use Rattle.holdings.proofs.ClaimSteps.{AreHeld-claimed}
 use Rattle.holdings.proofs.HeldPlaces.{held-here, held-others}
 use Rattle.holdings.proofs.HeldSteps.{AreHeld-looked}
 use Rattle.holdings.proofs.holdings.Holdings.claim.Goals as goal

@@ -1,14 +1,12 @@
-use Rattle.std.proofs.Common.{◌≡◌, ◌∙◌, ap, sym, List, [], ℕ, refl}
-use Rattle.std.specs.Prelude.{Option, Some}
+use Rattle.std.proofs.Common.{◌∙◌, sym, [], refl}
 use Rattle.mw_types.specs.declared.entry.Entry.TheVariants.{Purge}
 use Rattle.row_parts.specs.Contents.{Contents}
 use Rattle.run_history.specs.Runs.{written_row}
 use Rattle.book.specs.Books.{LeaseView}
 use Rattle.book.specs.Desking.{HasStored, MayPurge}
 use Rattle.book.specs.declared.answers.Written.{Written}
-use Rattle.holdings.specs.Holding.{HeldView, held_at, row_held}
 use Rattle.holdings.proofs.HeldRows.{HasEntered, entered-stored}
-use Rattle.holdings.proofs.HeldSteps.{AreHeld-kept, AreHeld-looked, HoldsEntry-written, KeepsHeld-refused, known-ready, may-ready, ok-so, read-ready, room-ready, said-ready, there-ready}
+use Rattle.holdings.proofs.HeldSteps.{AreHeld-kept, HoldsEntry-written, KeepsHeld-refused, known-ready, may-ready, ok-so, read-ready, room-ready, said-ready, there-ready}
 use Rattle.holdings.proofs.holdings.Holdings.purge.Goals as goal
 
 -- what is held stands in order
@@ -46,7 +44,8 @@ pub purge-written-requires-clause-floor : goal.purge-written-requires-clause-flo
 purge-written-requires-clause-floor g c =
     (said-ready c.args.case.now (g.D.Desk.view c.args.desk.now) c.args.self.now c.ready.new.self c.args.interval c.args.name.now
     c.in_ok-held.held c.requires.covers c.in_ok-held.ensures.ready c.requires.fits
-    (λ (r : Contents). MayPurge (g.D.Desk.view c.args.desk.now) c.args.name.now r c.args.floor) c.cached.result.now c.cached.ensures.row c.requires.floor)
+    (λ (r : Contents). MayPurge (g.D.Desk.view c.args.desk.now) c.args.name.now r c.args.floor)
+    c.cached.result.now c.cached.ensures.row c.requires.floor)
 
 -- the place is there
 pub keep-requires-clause-room : goal.keep-requires-clause-room

@@ -1,5 +1,4 @@
-use Rattle.std.proofs.Common.{◌≡◌, ◌∙◌, ap, sym, List, [], ℕ, refl}
-use Rattle.std.specs.Prelude.{Option, Some}
+use Rattle.std.proofs.Common.{◌∙◌, sym, [], refl}
 use Rattle.mw_types.specs.declared.entry.Entry.TheVariants.{Ack}
 use Rattle.row_parts.specs.Contents.{Contents}
 use Rattle.run_history.specs.Runs.{written_row}
@@ -7,9 +6,8 @@ use Rattle.book.specs.Books.{LeaseView}
 use Rattle.book.specs.Desking.{HasStored}
 use Rattle.book.specs.Conditions.{MaySettle}
 use Rattle.book.specs.declared.answers.Written.{Written}
-use Rattle.holdings.specs.Holding.{HeldView, held_at, row_held}
 use Rattle.holdings.proofs.HeldRows.{HasEntered, entered-stored}
-use Rattle.holdings.proofs.HeldSteps.{AreHeld-kept, AreHeld-looked, HoldsEntry-written, KeepsHeld-refused, known-ready, may-ready, ok-so, read-ready, room-ready, said-ready, there-ready}
+use Rattle.holdings.proofs.HeldSteps.{AreHeld-kept, HoldsEntry-written, KeepsHeld-refused, known-ready, may-ready, ok-so, read-ready, room-ready, said-ready, there-ready}
 use Rattle.holdings.proofs.holdings.Holdings.settle.Goals as goal
 
 -- what is held stands in order
@@ -47,7 +45,8 @@ pub settle-written-requires-clause-id : goal.settle-written-requires-clause-id
 settle-written-requires-clause-id g c =
     (said-ready c.args.case.now (g.D.Desk.view c.args.desk.now) c.args.self.now c.ready.new.self c.args.interval c.args.name.now
     c.in_ok-held.held c.requires.covers c.in_ok-held.ensures.ready c.requires.fits
-    (λ (r : Contents). MaySettle (g.D.Desk.view c.args.desk.now).told (g.D.Desk.view c.args.desk.now).seen r c.args.id) c.cached.result.now c.cached.ensures.row c.requires.id)
+    (λ (r : Contents). MaySettle (g.D.Desk.view c.args.desk.now).told (g.D.Desk.view c.args.desk.now).seen r c.args.id)
+    c.cached.result.now c.cached.ensures.row c.requires.id)
 
 -- the place is there
 pub keep-requires-clause-room : goal.keep-requires-clause-room

@@ -1,15 +1,12 @@
-use Rattle.std.proofs.Common.{◌≡◌, ◌∙◌, ap, sym, List, [], ℕ, subst}
-use Rattle.std.specs.Prelude.{Option, Some}
+use Rattle.std.proofs.Common.{◌∙◌, sym, subst}
 use Rattle.run_history.specs.Cases.{CaseShape}
 use Rattle.row_parts.specs.Contents.{Contents}
-use Rattle.run_history.specs.Runs.{written_row}
 use Rattle.book.specs.Books.{LeaseView}
 use Rattle.book.specs.Desking.{HasWritten}
 use Rattle.book.specs.Proposals.{IsProposable}
 use Rattle.book.specs.declared.answers.Written.{Written}
-use Rattle.holdings.specs.Holding.{HeldView, held_at, row_held}
 use Rattle.holdings.proofs.HeldRows.{HasEntered, entered-written}
-use Rattle.holdings.proofs.HeldSteps.{AreHeld-kept, AreHeld-looked, HoldsEntry-written, KeepsHeld-refused, known-ready, may-ready, ok-so, read-ready, room-ready, said-ready, there-ready}
+use Rattle.holdings.proofs.HeldSteps.{AreHeld-kept, HoldsEntry-written, KeepsHeld-refused, known-ready, may-ready, ok-so, read-ready, room-ready, said-ready, there-ready}
 use Rattle.holdings.proofs.holdings.Holdings.write.Goals as goal
 
 -- what is held stands in order
