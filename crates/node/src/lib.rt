@@ -17,13 +17,8 @@ mod node;
 mod outbox;
 mod outcome;
 mod outgoing;
-mod receiving;
-mod reporting;
-mod sending;
 mod sends;
-mod settling;
 mod work;
-mod writes;
 mod yields;
 
 pub use beside::node_fits_beside;
