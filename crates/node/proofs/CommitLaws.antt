@@ -61,7 +61,7 @@ pub appended-handled : (old new : DeskView) (lease : LeaseView) (name : RowName)
     → IsAppended old new lease (entries.Handle lease.seq name delivery.id effects) answer.commit
 appended-handled old new lease name delivery effects proposal row answer is w =
     let handled : HasWritten old new lease name (proposals.Handle delivery effects) row answer =
-        subst (λ (p : Proposal). HasWritten old new lease name p row answer) is w in record {
+    subst (λ (p : Proposal). HasWritten old new lease name p row answer) is w in record {
       before = handled.before;
       moved = handled.moved;
       appended = handled.written.written.appended ∙ ap (λ (e : Entry). handled.before ++ e ∷ []) handled.written.of_proposal;
@@ -134,7 +134,7 @@ pub Fits-written : (case : CaseShape) (old new : DeskView) (node : NodeView) (he
     → IsAppended old new lease (entries.Handle lease.seq delivery.to delivery.id effects) commit
     → AreHeld case new held → IsHandled case old node.held sender delivery effects
     → All (IsAddressed case.topology)
-      (messages_from delivery.to (deliveries_made case.topology delivery.to.part effects.productions delivery.item.late commit))
+    (messages_from delivery.to (deliveries_made case.topology delivery.to.part effects.productions delivery.item.late commit))
     → Fits case old node → Fits case new (written_by case.topology held sender delivery effects commit node)
 Fits-written case old new node held sender delivery effects lease commit a fit work addressed fits =
     let entry = entries.Handle lease.seq delivery.to delivery.id effects in
@@ -181,10 +181,10 @@ pub leases-written : (shape : Shape) (interval : ℕ) (name : RowName) (commit :
     (before after : List (Option HeldView)) → HoldsEntry shape interval name commit IsEntry before after
     → leases_of after ≡ leases_of before
 leases-written shape interval name commit IsEntry before after h = fun_ext (λ i. elim (cases_eq i interval) [
-    | inl same ↦ ap (leases_of after) same ∙ ap (option_map (λ (held : HeldView). held.lease.seq)) (h.is ∙ refl)
-        ∙ sym (ap (option_map (λ (held : HeldView). held.lease.seq)) h.was) ∙ sym (ap (leases_of before) same)
-    | inr other ↦ ap (option_map (λ (held : HeldView). held.lease.seq)) (h.others i other)
-  ])
+  | inl same ↦ ap (leases_of after) same ∙ ap (option_map (λ (held : HeldView). held.lease.seq)) (h.is ∙ refl)
+      ∙ sym (ap (option_map (λ (held : HeldView). held.lease.seq)) h.was) ∙ sym (ap (leases_of before) same)
+  | inr other ↦ ap (option_map (λ (held : HeldView). held.lease.seq)) (h.others i other)
+])
 
 -- what is held of the interval of a row
 pub held-on-at : (shape : Shape) (all : List (Option HeldView)) (name : RowName) (interval : ℕ) (held : HeldView)
@@ -196,20 +196,20 @@ pub answers-written : (case : CaseShape) (old new : DeskView) (node : NodeView) 
     (delivery : Delivery) (effects : Effects) (interval commit : ℕ) → node.prepared ≡ Some work
     → work.proposal ≡ proposals.Handle delivery effects → interval_of case.topology delivery.to ≡ Some interval
     → HoldsEntry case.topology interval delivery.to commit
-      (λ lease row answer. HasWritten old new lease delivery.to work.proposal row answer) node.held held
+    (λ lease row answer. HasWritten old new lease delivery.to work.proposal row answer) node.held held
     → IsOutgoing case old (outgoing.Deliver delivery work.sender)
     → AnswersAsked case.topology old new (work_asked case.topology node) (with_written (sending_of node) (worker_at node)) node
-      (written_by case.topology held work.sender delivery effects commit node) (outcomes.Committed commit)
+    (written_by case.topology held work.sender delivery effects commit node) (outcomes.Committed commit)
 answers-written case old new node held work delivery effects interval commit prepared is covers h sent =
     let shape = case.topology in
     let sending : Sending = record { delivery = delivery; sender = work.sender } in
     let asked = handled_as delivery effects h.held in
     let after = written_by shape held work.sender delivery effects commit node in
     let a : IsAppended old new h.held.lease asked.entry commit = subst (IsAppended old new h.held.lease asked.entry) h.number
-        (appended-handled old new h.held.lease delivery.to delivery effects work.proposal _ h.answer is h.entry) in
+    (appended-handled old new h.held.lease delivery.to delivery effects work.proposal _ h.answer is h.entry) in
     let left : worker_at after ≡ with_outgoing (made_of shape asked commit) (with_written (Some sending) (worker_at node)) =
-        ap (λ (l : ℕ → Option ℕ). record { leases = l; prepared = None; outbox = after.outbox })
-        (leases-written shape interval delivery.to commit _ node.held held h) in
+    ap (λ (l : ℕ → Option ℕ). record { leases = l; prepared = None; outbox = after.outbox })
+    (leases-written shape interval delivery.to commit _ node.held held h) in
     subst (λ (o : Option Sending). AnswersAsked shape old new (work_asked shape node) (with_written o (worker_at node)) node after (outcomes.Committed commit))
     (sym (work-sending node work delivery effects prepared is))
     (subst (λ (o : Option Request). AnswersAsked shape old new o (with_written (Some sending) (worker_at node)) node after (outcomes.Committed commit))

@@ -211,10 +211,10 @@ pub leases-changed : (before after : List (Option HeldView)) (interval : ℕ) (h
     → KeepsOthers interval before after
     → leases_of after ≡ (λ (i : ℕ). if i == interval then seq_of here else leases_of before i)
 leases-changed before after interval here at others = fun_ext (λ i. elim (cases_eq i interval) [
-    | inl same ↦ ap (leases_of after) same ∙ ap seq_of at
-        ∙ sym (ap (λ b. if b then seq_of here else leases_of before i) (eq-eqb i interval same))
-    | inr other ↦ ap seq_of (others i other) ∙ sym (ap (λ b. if b then seq_of here else leases_of before i) (ne_eqb i interval other))
-  ])
+  | inl same ↦ ap (leases_of after) same ∙ ap seq_of at
+      ∙ sym (ap (λ b. if b then seq_of here else leases_of before i) (eq-eqb i interval same))
+  | inr other ↦ ap seq_of (others i other) ∙ sym (ap (λ b. if b then seq_of here else leases_of before i) (ne_eqb i interval other))
+])
 
 -- whether a record goes elsewhere
 abbrev elsewhere : Shape → ℕ → Sending → Bool
@@ -290,9 +290,9 @@ AreHeld-let_go case desk before after interval gone others held = record { each 
   where
     each : (i : ℕ) (h : HeldView) → held_at after i ≡ Some h → IsHeld case desk i h
     each i h at = elim (cases_eq i interval) [
-        | inl same ↦ absurd (let none : held_at after i ≡ None = ap (held_at after) same ∙ gone in cc)
-        | inr other ↦ held.each i h (sym (others i other) ∙ at)
-      ]
+      | inl same ↦ absurd (let none : held_at after i ≡ None = ap (held_at after) same ∙ gone in cc)
+      | inr other ↦ held.each i h (sym (others i other) ∙ at)
+    ]
 
 -- a record that goes elsewhere stays right
 handled-beside : (case : CaseShape) (desk : DeskView) (before after : List (Option HeldView)) (interval : ℕ) (sender : RowName)
@@ -302,7 +302,7 @@ handled-beside : (case : CaseShape) (desk : DeskView) (before after : List (Opti
 handled-beside case desk before after interval sender delivery effects others passes is =
     let on = held-interval case.topology before delivery.to is.held is.there in
     let goes : (on.0 == interval) ≡ false =
-        sym (ap (λ (o : Option ℕ). option_map_or (λ (i : ℕ). i == interval) o false) on.1) ∙ passes in
+    sym (ap (λ (o : Option ℕ). option_map_or (λ (i : ℕ). i == interval) o false) on.1) ∙ passes in
     let other : on.0 ≢ interval = λ same. absurd (let yes_same = eq-eqb on.0 interval same in cc) in record {
       sent = is.sent;
       held = is.held;

@@ -35,7 +35,7 @@ so_met case old new None message same so vouched met looked =
     (λ was. subst (λ (h : List Entry). IsSoIn case h message) (sym looked.more) (so-more case old.seen looked.others message was)) vouched
 so_met case old new (Some sight) message same so vouched met looked =
     let here : IsSoIn case sight.seen message =
-        subst (λ (k : CaseShape). IsSoIn k sight.seen message) (met.0 ∙ looked.case ∙ same) so in
+    subst (λ (k : CaseShape). IsSoIn k sight.seen message) (met.0 ∙ looked.case ∙ same) so in
     told-any new.told (IsSoIn case new.seen message)
     (subst (λ (h : List Entry). IsSoIn case h message) met.1.1 (so-more case sight.seen met.1.0 message here))
 
@@ -76,7 +76,7 @@ taken-again shape node d sender held free there finished = sym (taken-free shape
 pub taken-new : (shape : Shape) (node : NodeView) (d : Delivery) (sender : RowName) (effects : Effects) (held : HeldView)
     → is_some node.prepared ≡ false → held_on shape node.held d.to ≡ Some held → is_finished d.id (row_held shape held d.to) ≡ false
     → (outcomes.Prepared, worker_at (record node { prepared = Some (record { sender = sender; proposal = proposals.Handle d effects }) }))
-      ≡ taken_in shape node d sender
+    ≡ taken_in shape node d sender
 taken-new shape node d sender effects held free there new = sym (taken-free shape node d sender (Some held) free there
     ∙ ap (λ b. if b then (outcomes.Duplicate, worker_at (record node { outbox = node.outbox ++ outgoing.Ack sender d.id ∷ [] }))
     else (outcomes.Prepared, record (worker_at node) { prepared = Some (record { delivery = d; sender = sender }) })) new)

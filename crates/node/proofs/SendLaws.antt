@@ -119,8 +119,8 @@ made-sent case before entry name on =
     let made = (run_of shape before).made in
     let sent = deliveries_of shape made (length before) entry in
     let whole : (run_of shape seen).made ≡ made ++ sent =
-        ap (λ (r : Run). r.made) (run_of-push shape before entry)
-        ∙ ap (λ n. made ++ deliveries_of shape made n entry) (next-length shape before) in
+    ap (λ (r : Run). r.made) (run_of-push shape before entry)
+    ∙ ap (λ n. made ++ deliveries_of shape made n entry) (next-length shape before) in
     let found = each_found_delivery (run_of shape seen).made (made-in_order shape seen).ascending in
     sent-each case seen name entry (length before) sent (slice_get-last before entry) on
     (each-behind (λ (d : Delivery). found_delivery d.id (run_of shape seen).made ≡ Some d) made sent

@@ -57,5 +57,5 @@ pub few-handled : (case : CaseShape) (name : RowName) (row : Contents) (item : R
 few-handled case name row item effects there does =
     let kind = there.0 in
     let same : effects_of_record kind name.key row.state item ≡ effects = some_same _ _
-        (sym (ap (option_map (λ (k : Kind). effects_of_record k name.key row.state item)) there.1) ∙ does) in
+    (sym (ap (option_map (λ (k : Kind). effects_of_record k name.key row.state item)) there.1) ∙ does) in
     subst (λ (o : Effects). length o.productions ≤ 8) same (record-suits kind name.key row.state item there.2).1

@@ -158,16 +158,19 @@ AnswersClaim shape old new interval was node _ = ⊥
 abbrev pub received : Shape → NodeView → Delivery → RowName → HeldView → Outcome × Worker
 received shape node delivery sender held = if is_finished delivery.id (row_held shape held delivery.to)
     then (outcomes.Duplicate, with_outgoing (outgoing.Ack sender delivery.id ∷ []) (worker_at node))
-    else (outcomes.Prepared, record (worker_at node) {
-      prepared = Some (record { delivery = delivery; sender = sender });
-    })
+    else (
+      outcomes.Prepared,
+      record (worker_at node) {
+        prepared = Some (record { delivery = delivery; sender = sender });
+      },
+    )
 
 -- what a node answers to a record that comes, and the worker that it is then: it waits where a work is prepared, is
 -- another's where its row is not held, is acknowledged again where it is finished there, and else is prepared
 abbrev pub taken_in : Shape → NodeView → Delivery → RowName → Outcome × Worker
 taken_in shape node delivery sender = if is_some node.prepared then (outcomes.Nothing, worker_at node) else
     option_map_or (received shape node delivery sender) (held_on shape node.held delivery.to)
-        (outcomes.NotMine, worker_at node)
+    (outcomes.NotMine, worker_at node)
 
 -- what a node answers to a message that comes, and the worker that it is then; an acknowledgement is no record
 abbrev pub taken_from : Shape → NodeView → Outgoing → Outcome × Worker

@@ -19,12 +19,8 @@ mod outbox;
 mod outcome;
 mod outgoing;
 mod purges;
-mod receiving;
-mod reporting;
 mod sends;
-mod settling;
 mod work;
-mod writes;
 mod yields;
 
 pub use beside::node_fits_beside;
