@@ -8,3 +8,4 @@ pub mod Answers
 pub mod Outboxes
 pub mod Steps
 pub mod PurgeSteps
+pub mod MarkSteps

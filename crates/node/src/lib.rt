@@ -12,6 +12,7 @@
 mod beside;
 mod claims;
 mod handling;
+mod known_marks;
 mod message;
 mod messages_out;
 mod node;
@@ -19,6 +20,7 @@ mod outbox;
 mod outcome;
 mod outgoing;
 mod purges;
+mod reports;
 mod sends;
 mod work;
 mod yields;
