@@ -1,13 +1,13 @@
 -- Which row of an interval a node may have forget ids first.
-use Rattle.std.proofs.Common.{◌≡◌, ◌∙◌, ◌<◌, ◌≤◌, ◌&&◌, ℕ, Bool, true, false, List, [], length, refl, sym, ap, subst, arith}
-use Rattle.std.specs.Prelude.{IfOk, IfSome, IsSome, Option, Some, None, Result, Ok, Err, ◌==◌, if◌then◌else◌, max, nat_le, nat_lt, unwrap_or}
+use Rattle.std.proofs.Common.{◌≡◌, ◌∙◌, ◌<◌, ◌≤◌, ◌&&◌, ℕ, Bool, true, false, length, refl, sym, ap, subst, arith}
+use Rattle.std.specs.Prelude.{IfOk, IfSome, IsSome, Option, Some, None, Result, ◌==◌, if◌then◌else◌, max, nat_le, nat_lt, unwrap_or}
 use Rattle.std.specs.Ordering.{is_le, is_lt}
 use Rattle.std.specs.declared.cmp.Ordering.{Ordering}
 use Rattle.std.specs.declared.cmp.Ordering.TheVariants.{Less, Equal, Greater}
 use Rattle.std.proofs.lemmas.Bool.{eqb-true, le-leb, leb-true, lt-ltb, ltb-true}
 use Rattle.mw_types.specs.Orders.{key_cmp, row_cmp}
 use Rattle.mw_types.specs.declared.identity.RowName.{RowName}
-use Rattle.key_intervals.specs.Intervals.{covers, ends_after}
+use Rattle.key_intervals.specs.Intervals.{ends_after}
 use Rattle.topology.specs.Shapes.{Shape, parts_of}
 use Rattle.row_parts.specs.Contents.{Contents, fresh}
 use Rattle.run_history.specs.Cases.{CaseShape, fresh_of}
@@ -18,11 +18,11 @@ use Rattle.run_history.proofs.IntervalLaws.{interval_of-has}
 use Rattle.run_history.proofs.Lists.{some_same}
 use Rattle.history_laws.proofs.MarkLaws.{interval-there}
 use Rattle.book.specs.Desks.{DeskView, HasLooked, IsSound}
-use Rattle.holdings.specs.Firsts.{HasPicked, IsFirstPicked}
-use Rattle.holdings.specs.Holding.{HeldView, held_at, held_on, row_held}
-use Rattle.holdings.specs.Purges.{IsFirstToPurge, by_name, forgets}
+use Rattle.holdings.specs.Firsts.{HasPicked}
+use Rattle.holdings.specs.Holding.{HeldView, held_at, held_on}
+use Rattle.holdings.specs.Purges.{IsFirstToPurge, forgets}
 use Rattle.node.specs.Answers.{AnswersPurge, AnswersWrite, HasGrown}
-use Rattle.node.specs.Asking.{HasToForget, MayAskForget, MayAskPurge, Request, forgetting}
+use Rattle.node.specs.Asking.{HasToForget, MayAskPurge, forgetting}
 use Rattle.node.specs.Fits.{Fits}
 use Rattle.node.specs.PurgeSteps.{AreRowsWithin, IsToPurge, MayForget}
 use Rattle.node.specs.Workers.{NodeView, worker_at}

@@ -1,13 +1,12 @@
 -- What a call answers that looks before it asks its desk.
-use Rattle.std.proofs.Common.{◌≡◌, ◌∙◌, ℕ, List, [], ◌∷◌, ◌++◌, refl, sym, ap, subst, inl, inr}
-use Rattle.std.specs.Prelude.{IfErr, IfOk, IfSome, Option, Some, None, OnErr, Result, Ok, Err}
-use Rattle.mw_types.specs.declared.entry.Entry.{Entry}
+use Rattle.std.proofs.Common.{◌≡◌, List, subst, inl, inr}
+use Rattle.std.specs.Prelude.{IfErr, IfSome, Option, OnErr, Result, Ok, Err}
 use Rattle.topology.specs.Shapes.{Shape}
 use Rattle.book.specs.Books.{LeaseView}
-use Rattle.book.specs.Desks.{DeskView, HasLooked, HasMoved, KeepsMarks}
+use Rattle.book.specs.Desks.{DeskView, HasLooked}
 use Rattle.book.specs.declared.desk_refusal.DeskRefusal.{DeskRefusal}
-use Rattle.holdings.specs.Holding.{HeldView, held_at}
-use Rattle.node.specs.Answers.{AnswersWrite, FailsHeld, HasGrown, IsCommitted, IsIdle, IsRefused, refusal_of}
+use Rattle.holdings.specs.Holding.{HeldView}
+use Rattle.node.specs.Answers.{AnswersWrite, FailsHeld, HasGrown, IsIdle, IsRefused, refusal_of}
 use Rattle.node.specs.Asking.{Request}
 use Rattle.node.specs.Workers.{NodeView, Worker}
 use Rattle.node.specs.declared.outcome.NodeFault.{NodeFault}

@@ -1,5 +1,5 @@
 -- What a node sends is so by what its desk has seen.
-use Rattle.std.proofs.Common.{◌≡◌, ◌∙◌, ℕ, List, [], ◌∷◌, ◌++◌, refl, sym, ap, subst}
+use Rattle.std.proofs.Common.{◌≡◌, ◌∙◌, List, ◌∷◌, ◌++◌, refl, sym, subst}
 use Rattle.std.specs.Prelude.{All, IfSome, IsSome, Option, Some, None, option_to_list}
 use Rattle.std.proofs.lemmas.List.Elements.{All-head, All-tail}
 use Rattle.mw_types.specs.declared.entry.Entry.{Entry}
@@ -12,7 +12,7 @@ use Rattle.node.specs.Fits.{Fits}
 use Rattle.node.specs.Messages.{IsOutgoing, IsSoBy, IsSoIn, IsVouchedFor}
 use Rattle.node.specs.Workers.{NodeView}
 use Rattle.node.specs.declared.outgoing.Outgoing.{Outgoing}
-use Rattle.node.proofs.FitLaws.{Fits-kept, more-looked, outgoing-more}
+use Rattle.node.proofs.FitLaws.{Fits-kept, more-looked}
 
 -- ---- a desk that looked
 

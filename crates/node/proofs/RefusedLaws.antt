@@ -1,7 +1,6 @@
 -- What a node answers where its desk refused a call on what it holds of an interval.
-use Rattle.std.proofs.Common.{◌≡◌, ◌∙◌, ℕ, List, [], ◌∷◌, ◌++◌, refl, sym, ap, subst, inl, inr}
-use Rattle.std.specs.Prelude.{IfErr, IfOk, IfSome, Option, Some, None, OnErr, Result, Ok, Err}
-use Rattle.topology.specs.Shapes.{Shape}
+use Rattle.std.proofs.Common.{◌≡◌, ◌∙◌, ℕ, List, sym, ap, subst, inr}
+use Rattle.std.specs.Prelude.{IfErr, IfOk, IfSome, Option, Some, Result, Ok, Err}
 use Rattle.run_history.specs.Cases.{CaseShape}
 use Rattle.book.specs.Books.{LeaseView}
 use Rattle.book.specs.DeskReasons.{HasReason}

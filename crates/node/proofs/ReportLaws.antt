@@ -1,6 +1,6 @@
 -- What a report answers, and what it leaves of a node.
 use Rattle.std.proofs.Common.{◌≡◌, ◌∙◌, ℕ, true, List, refl, sym, ap, subst}
-use Rattle.std.specs.Prelude.{IfErr, IfOk, Option, Some, None, Result, Ok, Err, slice_get}
+use Rattle.std.specs.Prelude.{IfErr, IfOk, Option, Some, Result, slice_get}
 use Rattle.key_intervals.specs.declared.bounds.Bounds.{Bounds}
 use Rattle.run_history.specs.Cases.{CaseShape, intervals_of}
 use Rattle.run_history.specs.Marks.{own_work}

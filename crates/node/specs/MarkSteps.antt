@@ -1,5 +1,5 @@
 -- The steps by which a node finds the least known mark of a part. No public clause cites this module.
-use Rattle.std.specs.Prelude.{◌≡◌, ◌<◌, ◌≤◌, ℕ, Bool, true, List, Option, Some, min, slice_get, if◌then◌else◌}
+use Rattle.std.specs.Prelude.{◌≡◌, ◌<◌, ◌≤◌, ℕ, Bool, List, Some, min, slice_get, if◌then◌else◌}
 use Rattle.mw_types.specs.declared.TheConstants.{END}
 use Rattle.key_intervals.specs.declared.bounds.Bounds.{Bounds}
 use Rattle.watermark.specs.Marks.{mark_of}

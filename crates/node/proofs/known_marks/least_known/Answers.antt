@@ -1,4 +1,4 @@
-use Rattle.std.proofs.Common.{rules, arith, ◌≡◌, ◌∙◌, ℕ, List, ap, subst, sym, refl, length}
+use Rattle.std.proofs.Common.{rules, arith, ◌≡◌, ◌∙◌, ℕ, List, ap, subst, length}
 use Rattle.key_intervals.specs.declared.bounds.Bounds.{Bounds}
 use Rattle.run_history.specs.Cases.{CaseShape, intervals_of}
 use Rattle.node.specs.MarkSteps.{IsLeastSoFar}

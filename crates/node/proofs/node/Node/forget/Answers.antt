@@ -1,4 +1,4 @@
-use Rattle.std.proofs.Common.{◌≡◌, ◌∙◌, ap, subst, sym, refl}
+use Rattle.std.proofs.Common.{◌∙◌, ap, subst, sym, refl}
 use Rattle.std.specs.Prelude.{IfErr, IfOk, IfSome, OnErr, Result}
 use Rattle.book.specs.Desking.{MayPurge}
 use Rattle.holdings.specs.Holding.{IsRefusedOf, held_at, row_held}

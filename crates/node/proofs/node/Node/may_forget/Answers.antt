@@ -1,6 +1,6 @@
-use Rattle.std.proofs.Common.{rules, ◌≡◌, ◌∙◌, ap, subst, sym, refl}
+use Rattle.std.proofs.Common.{rules, ◌≡◌, subst, refl}
 use Rattle.std.specs.Prelude.{None, Some}
-use Rattle.holdings.specs.Holding.{held_at, held_on}
+use Rattle.holdings.specs.Holding.{held_at}
 use Rattle.node.specs.Asking.{forgetting}
 use Rattle.node.specs.PurgeSteps.{MayForget}
 use Rattle.node.specs.Workers.{NodeView}

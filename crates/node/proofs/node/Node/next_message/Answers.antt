@@ -1,11 +1,10 @@
-use Rattle.std.proofs.Common.{◌≡◌, ◌∙◌, ap, subst, sym, refl}
+use Rattle.std.proofs.Common.{ap, subst, sym}
 use Rattle.std.specs.Prelude.{Option, Some}
 use Rattle.book.specs.Desks.{Sight}
 use Rattle.node.specs.Fits.{Fits}
 use Rattle.node.specs.Messages.{IsVouchedFor}
-use Rattle.node.specs.Received.{note_of, outgoing_of}
+use Rattle.node.specs.Received.{outgoing_of}
 use Rattle.node.specs.Workers.{NodeView}
-use Rattle.node.specs.declared.outgoing.Outgoing.{Outgoing}
 use Rattle.node.proofs.FitLaws.{more-looked, outgoing-more}
 use Rattle.node.proofs.OutLaws.{Fits-less, Fits-looked, first-outgoing, so-by-note, vouched-by}
 use Rattle.node.proofs.node.Node.next_message.Goals as goal

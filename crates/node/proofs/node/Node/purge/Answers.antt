@@ -1,4 +1,4 @@
-use Rattle.std.proofs.Common.{rules, ◌≡◌, ◌∙◌, ap, subst, sym, refl}
+use Rattle.std.proofs.Common.{rules}
 use Rattle.std.specs.Prelude.{Some}
 use Rattle.node.specs.PurgeSteps.{IsToPurge}
 use Rattle.node.proofs.FirstLaws.{purge-answers, rows-within}

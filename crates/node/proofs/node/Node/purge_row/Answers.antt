@@ -1,7 +1,3 @@
-use Rattle.std.proofs.Common.{◌≡◌, ◌∙◌, ap, subst, sym, refl}
-use Rattle.std.specs.Prelude.{IfOk, Result, Ok, Err}
-use Rattle.node.specs.declared.outcome.NodeFault.{NodeFault}
-use Rattle.node.specs.declared.outcome.Outcome.{Outcome}
 use Rattle.node.proofs.LookLaws.{grown-later, looked-later}
 use Rattle.node.proofs.OutLaws.{Fits-looked}
 use Rattle.node.proofs.PurgeLaws.{forget-answers}

@@ -1,5 +1,5 @@
 use Rattle.std.proofs.Common.{rules, ◌≡◌, ◌∙◌, ℕ, List, ap, subst, sym, refl}
-use Rattle.std.specs.Prelude.{IfErr, IfOk, Option, Some, Result, Ok, Err, slice_get}
+use Rattle.std.specs.Prelude.{IfErr, IfOk, Option, Some, Result, Ok, slice_get}
 use Rattle.key_intervals.specs.declared.bounds.Bounds.{Bounds}
 use Rattle.run_history.specs.Cases.{intervals_of}
 use Rattle.run_history.specs.Marks.{own_work}

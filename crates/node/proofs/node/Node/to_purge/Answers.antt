@@ -1,4 +1,4 @@
-use Rattle.std.proofs.Common.{rules, ◌≡◌, ◌∙◌, ap, subst, sym, refl}
+use Rattle.std.proofs.Common.{rules, ◌≡◌, subst, sym}
 use Rattle.std.specs.Prelude.{IsSome, None, Some}
 use Rattle.mw_types.specs.declared.identity.RowName.{RowName}
 use Rattle.holdings.specs.Holding.{held_at}
