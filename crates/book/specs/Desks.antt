@@ -1,7 +1,7 @@
 -- What a worker knows of a history through its desk, and what the calls of a desk do to that.
 -- Akidau et al., VLDB 2013, section 6.2 for sequencers and section 4.5 for marks. Own: a desk, which has
 -- seen a beginning of the history, and of which no other may append under its leases.
-use Rattle.std.specs.Prelude.{◌≡◌, ◌≤◌, ◌^◌, ◌++◌, [], ℕ, Bool, true, List, Option, IfSome, length}
+use Rattle.std.specs.Prelude.{◌≡◌, ◌≤◌, ◌^◌, ◌++◌, [], ℕ, Bool, true, List, Option, IsSome, IfSome, length}
 use Rattle.mw_types.specs.declared.entry.Entry.{Entry}
 use Rattle.run_history.specs.Cases.{CaseShape, intervals_of}
 use Rattle.run_history.specs.Runs.{run_of}
@@ -73,6 +73,8 @@ pub record KeepsMarks (old new : DeskView) : Type 0 where
 abbrev pub HasMet : Option Sight → DeskView → Type 0
 HasMet sight desk = IfSome sight (λ told. (told.case ≡ desk.case) × Begins told.seen desk.seen)
 
--- a note tells what a desk has seen, where it tells anything
+-- a note tells what a desk has seen, where it tells anything; it tells nothing where a contract cannot see the
+-- keeper's rows
 abbrev pub IsNoteOf : DeskView → Option Sight → Type 0
-IsNoteOf desk sight = IfSome sight (λ told. (told.case ≡ desk.case) × (told.seen ≡ desk.seen))
+IsNoteOf desk sight = IfSome sight (λ told.
+    (told.case ≡ desk.case) × (told.seen ≡ desk.seen) × IsSome desk.told)

@@ -1,0 +1,12 @@
+pub mod FirstLaws
+pub mod FitLaws
+pub mod LookLaws
+pub mod MarkLaws
+pub mod OutLaws
+pub mod PurgeLaws
+pub mod RefusedLaws
+pub mod ReportLaws
+pub mod SendLaws
+pub mod StateLaws
+pub mod CommitLaws
+pub mod ReceiveLaws

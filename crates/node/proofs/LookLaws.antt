@@ -1,0 +1,94 @@
+-- What a call answers that looks before it asks its desk.
+use Rattle.std.proofs.Common.{◌≡◌, List, subst, inl, inr}
+use Rattle.std.specs.Prelude.{IfErr, IfSome, Option, OnErr, Result, Ok, Err}
+use Rattle.topology.specs.Shapes.{Shape}
+use Rattle.book.specs.Books.{LeaseView}
+use Rattle.book.specs.Desks.{DeskView, HasLooked}
+use Rattle.book.specs.declared.desk_refusal.DeskRefusal.{DeskRefusal}
+use Rattle.holdings.specs.Holding.{HeldView}
+use Rattle.node.specs.Answers.{AnswersWrite, FailsHeld, HasGrown, IsIdle, IsRefused, refusal_of}
+use Rattle.node.specs.Asking.{Request}
+use Rattle.node.specs.Workers.{NodeView, Worker}
+use Rattle.node.specs.declared.outcome.NodeFault.{NodeFault}
+use Rattle.node.specs.declared.outcome.Outcome.{Outcome}
+use Rattle.node.specs.declared.outcome.Outcome.TheVariants as outcomes
+use Rattle.node.proofs.FitLaws.{looked-moved}
+
+-- what was told before a look
+told-before : {X : Type 0} (old mid : Option X) (P : Type 0) → mid ≡ old → IfSome mid (λ _. P) → IfSome old (λ _. P)
+told-before old mid P same is = subst (λ o. IfSome o (λ _. P)) same is
+
+-- a refusal after a look
+pub refused-later : (old mid new : DeskView) (lease : LeaseView) (why : DeskRefusal) → HasLooked old mid
+    → IsRefused mid new lease why → IsRefused old new lease why
+refused-later old mid new lease why looked is = record {
+  asked = is.asked;
+  looked = looked-moved old mid is.asked is.asked.seen looked is.looked;
+  reason = is.reason;
+}
+
+-- nothing was appended after a look
+idle-later : (old mid new : DeskView) (was node : NodeView) → HasLooked old mid → IsIdle mid new was node → IsIdle old new was node
+idle-later old mid new was node looked is = record { looked = looked-moved old mid new new.seen looked is.looked; kept = is.kept }
+
+-- an entry that was asked for after a look
+pub answers-later : (shape : Shape) (old mid new : DeskView) (asked : Request) (after : Worker) (was node : NodeView) (outcome : Outcome)
+    → HasLooked old mid → AnswersWrite shape mid new asked after was node outcome → AnswersWrite shape old new asked after was node outcome
+answers-later shape old mid new asked after was node (outcomes.Committed commit) looked is = record {
+  before = is.before;
+  moved = looked-moved old mid new is.before looked is.moved;
+  appended = is.appended;
+  number = is.number;
+  last = is.last;
+  left = is.left;
+  told = told-before old.told mid.told _ looked.told is.told;
+}
+answers-later shape old mid new asked after was node (outcomes.Stale newer) looked is = record {
+  looked = looked-moved old mid new new.seen looked is.looked;
+  claim = is.claim;
+  left = is.left;
+}
+answers-later shape old mid new asked after was node (outcomes.Busy found) looked is = record {
+  idle = idle-later old mid new was node looked is.idle;
+  refused = refused-later old mid new asked.lease _ looked is.refused;
+}
+answers-later shape old mid new asked after was node (outcomes.Claimed seq) looked is = absurd is
+answers-later shape old mid new asked after was node outcomes.Prepared looked is = absurd is
+answers-later shape old mid new asked after was node outcomes.Duplicate looked is = absurd is
+answers-later shape old mid new asked after was node outcomes.NotMine looked is = absurd is
+answers-later shape old mid new asked after was node (outcomes.Queued count) looked is = absurd is
+answers-later shape old mid new asked after was node (outcomes.Sent count) looked is = absurd is
+answers-later shape old mid new asked after was node (outcomes.Copied message) looked is = absurd is
+answers-later shape old mid new asked after was node outcomes.Lost looked is = absurd is
+answers-later shape old mid new asked after was node (outcomes.Marked mark) looked is = absurd is
+answers-later shape old mid new asked after was node outcomes.Crashed looked is = absurd is
+answers-later shape old mid new asked after was node outcomes.Nothing looked is = absurd is
+
+-- a fault after a look
+fault-later : (old mid new : DeskView) (all : List (Option HeldView)) (fault : NodeFault) → HasLooked old mid
+    → FailsHeld mid new all fault → FailsHeld old new all fault
+fault-later old mid new all fault looked (inl want) = inl want
+fault-later old mid new all fault looked (inr is) =
+    inr (is.0, is.1, is.2, refused-later old mid new is.1.lease (refusal_of fault) looked is.3)
+
+-- and of a result
+pub fails-later : (old mid new : DeskView) (all : List (Option HeldView)) (result : Result Outcome NodeFault) → HasLooked old mid
+    → IfErr result (FailsHeld mid new all) → IfErr result (FailsHeld old new all)
+fails-later old mid new all (Ok outcome) looked is = tt
+fails-later old mid new all (Err fault) looked is = fault-later old mid new all fault looked is
+
+-- a look and no entry after a look
+pub looked-later : (old mid new : DeskView) (result : Result Outcome NodeFault) → HasLooked old mid → OnErr result (HasLooked mid new)
+    → OnErr result (HasLooked old new)
+looked-later old mid new (Ok outcome) looked is = tt
+looked-later old mid new (Err fault) looked is = looked-moved old mid new new.seen looked is
+
+-- what a call appends after a look
+pub grown-later : (old mid new : DeskView) (all : List (Option HeldView)) → HasLooked old mid → HasGrown all mid new → HasGrown all old new
+grown-later old mid new all looked is = record {
+  before = is.before;
+  moved = looked-moved old mid new is.before looked is.moved;
+  own = is.own;
+  appended = is.appended;
+  under = is.under;
+}

@@ -1,0 +1,77 @@
+-- The least known mark of a part, while its desk looks.
+use Rattle.std.proofs.Common.{◌≡◌, ◌∙◌, ◌<◌, ◌≤◌, ℕ, Bool, true, false, List, [], ◌∷◌, length, refl, sym, ap, subst, arith, zero, suc}
+use Rattle.std.specs.Prelude.{Some, ◌==◌, slice_get}
+use Rattle.std.specs.List.{AllByRecursion}
+use Rattle.std.proofs.lemmas.Bool.{eq-eqb, eqb-true}
+use Rattle.key_intervals.specs.declared.bounds.Bounds.{Bounds}
+use Rattle.topology.specs.Shapes.{Shape}
+use Rattle.run_history.specs.Cases.{intervals_of}
+use Rattle.run_history.specs.Watermarks.{least}
+use Rattle.run_history.proofs.Lists.{some_same}
+use Rattle.history_laws.proofs.LowLaws.{bound-each, least-bound, least-end}
+use Rattle.watermark.specs.Marks.{mark_of, marks_in, marks_of}
+use Rattle.book.specs.Desks.{DeskView}
+use Rattle.node.specs.Answers.{IsLeastKnown}
+use Rattle.node.specs.MarkSteps.{IsLeastSoFar}
+
+-- ---- a bound of the marks of a part
+
+-- a mark that is taken or not, before others
+abbrev taken : Bool → ℕ → List ℕ → List ℕ
+taken true mark marks = mark ∷ marks
+taken false mark marks = marks
+
+-- the marks of a part of one interval more
+marks-more : (part : ℕ) (b : Bounds) (m : ℕ) (bs : List Bounds) (ms : List ℕ) (t : Bool) → (b.part == part) ≡ t
+    → marks_in (b ∷ bs) part (m ∷ ms) ≡ taken t m (marks_in bs part ms)
+marks-more part b m bs ms t is = elim t as (λ t. (b.part == part) ≡ t → marks_in (b ∷ bs) part (m ∷ ms) ≡ taken t m (marks_in bs part ms)) [
+  | true ↦ λ is. rw is refl
+  | false ↦ λ is. rw is refl
+] is
+
+-- a bound of the marks of a part is one of the mark of each of its intervals
+bound-part : (x part : ℕ) (all : List Bounds) (marks : List ℕ) (k : ℕ) (b : Bounds) → length marks ≡ length all
+    → AllByRecursion (λ m. x ≤ m) (marks_in all part marks) → slice_get all k ≡ Some b → b.part ≡ part → x ≤ mark_of marks k
+bound-part x part [] marks k b long each at of = absurd cc
+bound-part x part (c ∷ cs) [] k b long each at of = absurd (omega (arith, long))
+bound-part x part (c ∷ cs) (m ∷ ms) zero b long each at of =
+    let same : c.part ≡ part = ap (λ (d : Bounds). d.part) (some_same c b at) ∙ of in
+    (subst (AllByRecursion (λ n. x ≤ n)) (marks-more part c m cs ms true (eq-eqb c.part part same)) each).0
+bound-part x part (c ∷ cs) (m ∷ ms) (suc k) b long each at of =
+    bound-part x part cs ms k b (omega (arith, long))
+    (later (c.part == part) (subst (AllByRecursion (λ n. x ≤ n)) (marks-more part c m cs ms (c.part == part) refl) each)) at of
+  where
+    later : (t : Bool) → AllByRecursion (λ n. x ≤ n) (taken t m (marks_in cs part ms)) → AllByRecursion (λ n. x ≤ n) (marks_in cs part ms)
+    later true each = each.1
+    later false each = each
+
+-- and the other way
+part-bound : (x part : ℕ) (all : List Bounds) (marks : List ℕ) → length marks ≡ length all
+    → ((k : ℕ) (b : Bounds) → slice_get all k ≡ Some b → b.part ≡ part → x ≤ mark_of marks k)
+    → AllByRecursion (λ m. x ≤ m) (marks_in all part marks)
+part-bound x part [] marks long each = tt
+part-bound x part (c ∷ cs) [] long each = absurd (omega (arith, long))
+part-bound x part (c ∷ cs) (m ∷ ms) long each = subst (AllByRecursion (λ n. x ≤ n)) (sym (marks-more part c m cs ms (c.part == part) refl))
+    (by_test (c.part == part) refl (part-bound x part cs ms (omega (arith, long)) (λ k b at of. each (suc k) b at of)))
+  where
+    by_test : (t : Bool) → (c.part == part) ≡ t → AllByRecursion (λ n. x ≤ n) (marks_in cs part ms)
+        → AllByRecursion (λ n. x ≤ n) (taken t m (marks_in cs part ms))
+    by_test true is rest = (each 0 c refl (eqb-true c.part part is), rest)
+    by_test false is rest = rest
+
+-- after the last interval
+pub least-all : (shape : Shape) (part : ℕ) (old new : DeskView) (mark : ℕ) → length old.marks ≡ length (intervals_of shape)
+    → length new.marks ≡ length (intervals_of shape)
+    → IsLeastSoFar (intervals_of shape) part old.marks new.marks mark (length (intervals_of shape)) → IsLeastKnown shape part old new mark
+least-all shape part old new mark long longer so_far = record {
+  at_least = so_far.at_least (least (marks_of shape part old.marks)) (least-end (marks_of shape part old.marks))
+      (λ j b at of. bound-part (least (marks_of shape part old.marks)) part (intervals_of shape) old.marks j b long
+      (bound-each (least (marks_of shape part old.marks)) (marks_of shape part old.marks) (omega arith)) at of);
+  at_most = least-bound mark (marks_of shape part new.marks) so_far.end (part-bound mark part (intervals_of shape) new.marks longer
+      (λ k b at of. so_far.at_most k b (below (intervals_of shape) k b at) at of));
+}
+  where
+    below : (all : List Bounds) (k : ℕ) (b : Bounds) → slice_get all k ≡ Some b → k < length all
+    below [] k b at = absurd cc
+    below (c ∷ cs) zero b at = omega arith
+    below (c ∷ cs) (suc k) b at = let less = below cs k b at in omega (arith, less)

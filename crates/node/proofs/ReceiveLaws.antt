@@ -1,0 +1,102 @@
+-- What a node makes of a message that comes.
+use Rattle.std.proofs.Common.{◌≡◌, ◌∙◌, Bool, true, false, List, [], ◌∷◌, ◌++◌, refl, sym, ap, subst}
+use Rattle.std.specs.Prelude.{All, IfSome, Option, Some, None, if◌then◌else◌}
+use Rattle.std.specs.Option.{is_some, option_map_or}
+use Rattle.mw_types.specs.Outcomes.{Outcome as Effects}
+use Rattle.mw_types.specs.declared.delivery.Delivery.{Delivery}
+use Rattle.mw_types.specs.declared.entry.Entry.{Entry}
+use Rattle.mw_types.specs.declared.identity.RowName.{RowName}
+use Rattle.topology.specs.Shapes.{Shape}
+use Rattle.row_parts.specs.Contents.{is_finished}
+use Rattle.run_history.specs.Cases.{CaseShape}
+use Rattle.run_history.specs.Legal.{record_outcome}
+use Rattle.book.specs.Desks.{DeskView, HasLooked, HasMet, Sight}
+use Rattle.book.specs.declared.proposal.Proposal.TheVariants as proposals
+use Rattle.holdings.specs.Holding.{HeldView, held_on, row_held}
+use Rattle.node.specs.Answers.{received, taken_in}
+use Rattle.node.specs.Fits.{Fits, IsWork}
+use Rattle.node.specs.Messages.{IsDeliverable, IsOutgoing, IsSoBy, IsSoIn, IsVouchedFor}
+use Rattle.node.specs.Workers.{NodeView, Worker, WorkView, worker_at}
+use Rattle.node.specs.declared.outcome.Outcome.{Outcome}
+use Rattle.node.specs.declared.outcome.Outcome.TheVariants as outcomes
+use Rattle.node.specs.declared.outgoing.Outgoing.{Outgoing}
+use Rattle.node.specs.declared.outgoing.Outgoing.TheVariants as outgoing
+use Rattle.node.proofs.CommitLaws.{told-any}
+use Rattle.node.proofs.FitLaws.{so-more, step-told}
+
+-- ---- what a message says, once its note was met
+
+-- what a message says is so in what the reader has seen then
+pub so_met : (case : CaseShape) (old new : DeskView) (sight : Option Sight) (message : Outgoing) → old.case ≡ case
+    → IsSoBy sight message → IsVouchedFor case old sight message → HasMet sight new → HasLooked old new
+    → IfSome new.told (λ _. IsSoIn case new.seen message)
+so_met case old new None message same so vouched met looked =
+    step-told old.told new.told (IsSoIn case old.seen message) (IsSoIn case new.seen message) looked.told
+    (λ was. subst (λ (h : List Entry). IsSoIn case h message) (sym looked.more) (so-more case old.seen looked.others message was)) vouched
+so_met case old new (Some sight) message same so vouched met looked =
+    let here : IsSoIn case sight.seen message =
+    subst (λ (k : CaseShape). IsSoIn k sight.seen message) (met.0 ∙ looked.case ∙ same) so in
+    told-any new.told (IsSoIn case new.seen message)
+    (subst (λ (h : List Entry). IsSoIn case h message) met.1.1 (so-more case sight.seen met.1.0 message here))
+
+-- ---- what a node answers to a record
+
+-- what it answers where nothing is prepared
+abbrev where_free : Shape → NodeView → Delivery → RowName → Option HeldView → Outcome × Worker
+where_free shape node d sender here = option_map_or (received shape node d sender) here (outcomes.NotMine, worker_at node)
+
+-- it waits where a work is prepared
+pub taken-waits : (shape : Shape) (node : NodeView) (d : Delivery) (sender : RowName) → is_some node.prepared ≡ true
+    → (outcomes.Nothing, worker_at node) ≡ taken_in shape node d sender
+taken-waits shape node d sender some = sym (ap (λ b. if b then (outcomes.Nothing, worker_at node)
+    else where_free shape node d sender (held_on shape node.held d.to)) some)
+
+-- else it goes by what is held
+pub taken-free : (shape : Shape) (node : NodeView) (d : Delivery) (sender : RowName) (here : Option HeldView)
+    → is_some node.prepared ≡ false → held_on shape node.held d.to ≡ here
+    → taken_in shape node d sender ≡ where_free shape node d sender here
+taken-free shape node d sender here free there =
+    ap (λ b. if b then (outcomes.Nothing, worker_at node) else where_free shape node d sender (held_on shape node.held d.to)) free
+    ∙ ap (where_free shape node d sender) there
+
+-- a record of an interval that is not held is another's
+pub taken-not_mine : (shape : Shape) (node : NodeView) (d : Delivery) (sender : RowName) → is_some node.prepared ≡ false
+    → held_on shape node.held d.to ≡ None → (outcomes.NotMine, worker_at node) ≡ taken_in shape node d sender
+taken-not_mine shape node d sender free there = sym (taken-free shape node d sender None free there)
+
+-- a record that is finished is acknowledged
+pub taken-again : (shape : Shape) (node : NodeView) (d : Delivery) (sender : RowName) (held : HeldView) → is_some node.prepared ≡ false
+    → held_on shape node.held d.to ≡ Some held → is_finished d.id (row_held shape held d.to) ≡ true
+    → (outcomes.Duplicate, worker_at (record node { outbox = node.outbox ++ outgoing.Ack sender d.id ∷ [] })) ≡ taken_in shape node d sender
+taken-again shape node d sender held free there finished = sym (taken-free shape node d sender (Some held) free there
+    ∙ ap (λ b. if b then (outcomes.Duplicate, worker_at (record node { outbox = node.outbox ++ outgoing.Ack sender d.id ∷ [] }))
+    else (outcomes.Prepared, record (worker_at node) { prepared = Some (record { delivery = d; sender = sender }) })) finished)
+
+-- a record that is not is prepared
+pub taken-new : (shape : Shape) (node : NodeView) (d : Delivery) (sender : RowName) (effects : Effects) (held : HeldView)
+    → is_some node.prepared ≡ false → held_on shape node.held d.to ≡ Some held → is_finished d.id (row_held shape held d.to) ≡ false
+    → (outcomes.Prepared, worker_at (record node { prepared = Some (record { sender = sender; proposal = proposals.Handle d effects }) }))
+    ≡ taken_in shape node d sender
+taken-new shape node d sender effects held free there new = sym (taken-free shape node d sender (Some held) free there
+    ∙ ap (λ b. if b then (outcomes.Duplicate, worker_at (record node { outbox = node.outbox ++ outgoing.Ack sender d.id ∷ [] }))
+    else (outcomes.Prepared, record (worker_at node) { prepared = Some (record { delivery = d; sender = sender }) })) new)
+
+-- ---- and whether it fits then
+
+-- a node that has prepared a record fits
+pub Fits-new : (case : CaseShape) (desk : DeskView) (node : NodeView) (d : Delivery) (sender : RowName) (effects : Effects) (held : HeldView)
+    → held_on case.topology node.held d.to ≡ Some held → is_finished d.id (row_held case.topology held d.to) ≡ false
+    → record_outcome case d.to (row_held case.topology held d.to) d.item ≡ Some effects → IsDeliverable case.topology d sender
+    → Fits case desk node → IsOutgoing case desk (outgoing.Deliver d sender)
+    → Fits case desk (record node { prepared = Some (record { sender = sender; proposal = proposals.Handle d effects }) })
+Fits-new case desk node d sender effects held there new does is fits sent = record {
+  of_case = fits.of_case;
+  held = fits.held;
+  work = record {
+    sent = sent;
+    held = held;
+    there = there;
+    handling = record { id = is.id; to_row = refl; new = new; does = does };
+  };
+  outbox = fits.outbox;
+}

@@ -1,0 +1,19 @@
+use Rattle.std.proofs.Common.{rules, arith, ◌≡◌, ◌∙◌, ℕ, List, ap, subst, length}
+use Rattle.key_intervals.specs.declared.bounds.Bounds.{Bounds}
+use Rattle.run_history.specs.Cases.{CaseShape, intervals_of}
+use Rattle.node.specs.MarkSteps.{IsLeastSoFar}
+use Rattle.node.proofs.MarkLaws.{least-all}
+use Rattle.node.proofs.known_marks.least_known.Goals as goal
+
+-- after the last interval it is the least known mark
+pub returns-clause-known : goal.returns-clause-known
+returns-clause-known g c =
+    let shape = c.args.case.now.topology in
+    let old = g.D.Desk.view c.args.desk.now in
+    let new = g.D.Desk.view c.loop-interval.desk in
+    let last : c.loop-interval.interval ≡ length (intervals_of shape) = search (rules, arith) in
+    least-all shape c.args.part old new c.loop-interval.least (c.sound.ensures.sound.marks ∙ ap (λ (k : CaseShape). length (intervals_of k.topology)) c.requires.case)
+    (c.sound-2.ensures.sound.marks ∙ ap (λ (k : CaseShape). length (intervals_of k.topology)) (c.loop-interval.invariant.looked.case ∙ c.requires.case))
+    (subst (λ (n : ℕ). IsLeastSoFar (intervals_of shape) c.args.part old.marks new.marks c.loop-interval.least n) last
+    (subst (λ (all : List Bounds). IsLeastSoFar all c.args.part old.marks new.marks c.loop-interval.least c.loop-interval.interval)
+    c.intervals-intervals.ensures.all c.loop-interval.invariant.so_far))

@@ -1,0 +1,55 @@
+//! What a computation leaves of a record or of a timer.
+ghost use Rattle.std.specs.Prelude.{◌≡◌, ◌≤◌, IfOk, Some, length};
+ghost use Rattle.mw_types.specs.declared.TheConstants.{MAX_STAMP};
+ghost use Rattle.run_history.specs.Legal.{record_outcome, timer_outcome};
+ghost use Rattle.run_history.specs.Fits.{suits_part};
+ghost use Rattle.node.specs.Messages.{IsComputation};
+ghost use Rattle.node.specs.Works.{IsStateThere, IsWorkOf};
+
+use computations::{Computation, Context};
+use mw_types::{Effects, MAX_STAMP, NoMemory, Record, RowName, Timer};
+use row_parts::Row;
+use run_history::Case;
+use std::alloc::Global;
+
+// What a computation leaves of a record that goes to a row.
+pub(crate) fn handled<C: Computation>(
+    alloc: Global,
+    work: &C,
+    case: &Case,
+    name: &RowName,
+    row: &Row,
+    item: &Record,
+) -> Result<Effects, NoMemory>
+    requires work { IsWorkOf case.now.topology (C.has work.now)
+        (C.gives_record work.now) (C.gives_timer work.now) }
+    requires there { IsStateThere case.now.topology name.now.part row.now.state }
+    requires stamp { item.now.stamp ≤ MAX_STAMP }
+    ensures does { IfOk result (λ effects.
+        record_outcome case.now name.now row.now item.now ≡ Some effects) }
+{
+    let mut context = Context::for_record(alloc, &name.key, &row.state, item)?;
+    work.on_record(alloc, name.part, &mut context, item)?;
+    Ok(context.into_effects())
+}
+
+// What a computation leaves of a timer of a row.
+pub(crate) fn fired<C: Computation>(
+    alloc: Global,
+    work: &C,
+    case: &Case,
+    name: &RowName,
+    row: &Row,
+    timer: &Timer,
+) -> Result<Effects, NoMemory>
+    requires work { IsWorkOf case.now.topology (C.has work.now)
+        (C.gives_record work.now) (C.gives_timer work.now) }
+    requires there { IsStateThere case.now.topology name.now.part row.now.state }
+    requires time { timer.now.time ≤ MAX_STAMP }
+    ensures does { IfOk result (λ effects.
+        timer_outcome case.now name.now row.now timer.now ≡ Some effects) }
+{
+    let mut context = Context::for_timer(alloc, &name.key, &row.state, timer)?;
+    work.on_timer(alloc, name.part, &mut context, timer)?;
+    Ok(context.into_effects())
+}

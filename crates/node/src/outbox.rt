@@ -1,0 +1,96 @@
+//! What a node has to send, with room that is made beforehand.
+ghost use Rattle.std.specs.Prelude.{◌≡◌, ◌<◌, ◌≤◌, ◌↔◌, ◌+◌, ◌++◌, ◌∷◌, [], IsSome, length, map, OnOk, option_to_list};
+ghost use Rattle.node.specs.Outboxes.{numbered};
+
+use crate::outgoing::Outgoing;
+use mw_types::NoMemory;
+use std::alloc::Global;
+use std::collections::VecDeque;
+use std::marker::Model;
+
+// What is to be sent, first come first.
+#[derive(Drop)]
+pub(crate) struct Outbox {
+    messages: VecDeque<Outgoing>,
+}
+
+impl Model for Outbox {
+    ghost use Rattle.std.specs.Prelude.{◌-◌};
+    ghost use Rattle.std.specs.VecDeque.{deque_capacity, deque_len};
+    ghost use Rattle.node.specs.Outboxes.{OutboxView};
+
+    ghost Value = { OutboxView };
+
+    ghost view = { λ o. record {
+      messages = o.messages.items;
+      room = deque_capacity o.messages - deque_len o.messages;
+    } };
+}
+
+impl Outbox {
+    // Nothing is to be sent, which takes no memory.
+    pub(crate) fn new(alloc: Global) -> Outbox
+        ensures empty { result.messages ≡ [] }
+    {
+        Outbox {
+            messages: VecDeque::new(alloc),
+        }
+    }
+
+    // Makes room for so many more.
+    pub(crate) fn make_room(&mut self, more: usize) -> Result<(), NoMemory>
+        ensures room { OnOk result (more ≤ self.new.room) }
+        ensures same { self.new.messages ≡ self.old.messages }
+    {
+        self.messages.reserve(more)?;
+        Ok(())
+    }
+
+    // Puts one behind the others, where there is room.
+    pub(crate) fn put(&mut self, message: Outgoing)
+        requires room { 0 < self.old.room }
+        ensures put { self.new.messages ≡ self.old.messages ++ message ∷ [] }
+        ensures room { self.old.room ≡ self.new.room + 1 }
+    {
+        self.messages.push_back_reserved(message);
+    }
+
+    // Puts what an entry made behind the others, under the entry's number, where there is room.
+    pub(crate) fn put_all(&mut self, made: Vec<Outgoing>, commit: u64)
+        requires room { length made.items ≤ self.old.room }
+        ensures put { self.new.messages ≡ self.old.messages ++ map (numbered commit) made.items }
+    {
+        for message in made {
+            self.put(numbered(message, commit));
+        }
+    }
+
+    // Takes the first away.
+    pub(crate) fn take_first(&mut self) -> Option<Outgoing>
+        ensures first { self.old.messages ≡ option_to_list result ++ self.new.messages }
+        ensures some { IsSome result ↔ (0 < length self.old.messages) }
+    {
+        self.messages.pop_front()
+    }
+
+    // Forgets all.
+    pub(crate) fn clear(&mut self)
+        ensures empty { self.new.messages ≡ [] }
+    {
+        self.messages.clear();
+    }
+}
+
+// A message whose record is under another commit number.
+fn numbered(message: Outgoing, commit: u64) -> Outgoing
+    ensures { result ≡ numbered commit message }
+{
+    match message {
+        Outgoing::Deliver { delivery, sender } => {
+            let mut delivery = delivery;
+            delivery.id.commit = commit;
+            Outgoing::Deliver { delivery, sender }
+        }
+        Outgoing::Ack { to, id } => Outgoing::Ack { to, id },
+    }
+}
