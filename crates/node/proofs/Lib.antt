@@ -2,4 +2,5 @@ pub mod FitLaws
 pub mod SendLaws
 pub mod StateLaws
 pub mod CommitLaws
+pub mod CopyLaws
 pub mod ReceiveLaws

@@ -17,6 +17,7 @@ mod node;
 mod outbox;
 mod outcome;
 mod outgoing;
+mod receiving;
 mod sends;
 mod work;
 mod yields;
