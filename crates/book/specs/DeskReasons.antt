@@ -14,7 +14,7 @@ use Rattle.book.specs.declared.refusals.ClaimRefusal.TheVariants as claims
 use Rattle.book.specs.declared.desk_refusal.DeskRefusal.{DeskRefusal}
 use Rattle.book.specs.declared.desk_refusal.DeskRefusal.TheVariants as refusals
 
--- a refusal that the history decides: no taken turn and no want of memory came before
+-- a refusal that is neither for want of memory nor since another had the turn
 abbrev pub IsDecided : DeskRefusal → Type 0
 IsDecided (refusals.Busy found) = ⊥
 IsDecided refusals.NoMemory = ⊥
@@ -44,6 +44,13 @@ pub record HasReason (old new : DeskView) (lease : LeaseView) (why : DeskRefusal
       ↔ (length new.seen ≡ new.limit) × IsCurrent lease.interval lease.seq new.seen
   pub counts : HasCount old new why
   pub no_row : IsNoDamage why
+
+-- a report is refused for another's turn, as stale or for want of memory, and for nothing else: it appends nothing
+abbrev pub IsReportRefusal : DeskRefusal → Type 0
+IsReportRefusal (refusals.Busy found) = ⊤
+IsReportRefusal (refusals.Stale newer) = ⊤
+IsReportRefusal refusals.NoMemory = ⊤
+IsReportRefusal _ = ⊥
 
 -- why a claim was refused: where the history decides it is full exactly where the history is, it is never stale,
 -- and a damaged row is damaged

@@ -39,14 +39,16 @@ pub record IsDueKnown (desk : DeskView) (part time mark : ℕ) : Type 0 where
   pub due : time ≤ mark
   pub under_marks : mark ≤ least (marks_of desk.case.topology part desk.marks)
 
--- what is proposed was made in what was seen, or is due by the known marks
+-- a record that is handled was made in what was seen, where told; a timer that fires is due by the known marks, over
+-- every keeper; of a line nothing is asked
 abbrev pub IsKnownOf : DeskView → RowName → Proposal → Type 0
 IsKnownOf desk name (proposals.Inject line) = Unit {0}
 IsKnownOf desk name (proposals.Handle delivery effects) = IfSome desk.told (λ _.
     found_delivery delivery.id (run_of desk.case.topology desk.seen).made ≡ Some delivery)
 IsKnownOf desk name (proposals.Fire timer mark effects) = IsDueKnown desk name.part timer.time mark
 
--- a row, which is there, may forget the ids below a floor: the floor is above the row's, and at most the known one
+-- a row may forget the ids below a floor: the floor is above the row's, and at most the known one; where told the
+-- row is there
 pub record MayPurge (desk : DeskView) (name : RowName) (row : Contents) (floor : ℕ) : Type 0 where
   pub rises : row.floor < floor
   pub known : floor ≤ desk.floor
@@ -54,7 +56,8 @@ pub record MayPurge (desk : DeskView) (name : RowName) (row : Contents) (floor :
 
 -- ---- what a call answers
 
--- a claim was accepted: the lease may be used, and the rows are those of the interval before the claim
+-- a claim was accepted: its entry is appended, its lease has the entry's number and may be used, and the rows are
+-- those of the interval before it
 pub record HasClaimed (old new : DeskView) (worker interval : ℕ) (answer : Claimed) : Type 0 where
   pub before : List Entry
   pub moved : HasMoved old new before
@@ -64,8 +67,8 @@ pub record HasClaimed (old new : DeskView) (worker interval : ℕ) (answer : Cla
   pub rows : AreRowsOf old.case old.told before interval answer.rows
 
 -- an entry was appended, which found the row that was handed in, and what it leaves is the answer
-pub record HasStored (old new : DeskView) (lease : LeaseView) (name : RowName) (entry : Entry) (row : Contents)
-    (left : ℕ → Contents) (answer : Written) : Type 0 where
+pub record HasStored (old new : DeskView) (lease : LeaseView) (name : RowName) (entry : Entry)
+    (row : Contents) (left : ℕ → Contents) (answer : Written) : Type 0 where
   pub before : List Entry
   pub moved : HasMoved old new before
   pub found : IsRowOf old.case old.told before name row
@@ -79,7 +82,8 @@ pub record HasWritten (old new : DeskView) (lease : LeaseView) (name : RowName) 
   pub found : IsRowOf old.case old.told before name row
   pub written : IsWrittenBy old.case old.told before new.seen lease name proposal row answer
 
--- a report of a desk that is alone sets the mark of its interval as the book does, and no other; its lease is the last
+-- a report of a desk that is alone sets the mark of its interval as the book does, and no other; its lease is
+-- the last
 pub record IsReported (old new : DeskView) (lease : LeaseView) (own mark : ℕ) : Type 0 where
   pub answer : mark ≡ reported old.case.topology lease.interval own old.marks
   pub raised : new.marks ≡ with_mark lease.interval mark old.marks

@@ -31,7 +31,8 @@ pub record Sight : Type 0 where
   pub case : CaseShape
   pub seen : List Entry
 
--- what always holds of a desk: what it has seen is fenced, no longer than the limit, and legal where told
+-- what always holds of a desk: its case is runnable; what it has seen is fenced, no longer than the limit, and legal
+-- where told; each interval has a mark, and the floor is at most 2^32
 pub record IsSound (desk : DeskView) : Type 0 where
   pub runnable : IsRunnable desk.case
   pub limit : desk.limit ≤ 2 ^ 32
@@ -45,8 +46,9 @@ pub record IsSound (desk : DeskView) : Type 0 where
   -- the floor of a desk that is alone is that of what it has seen
   pub own_floor : desk.alone ≡ true → desk.floor ≡ floor_of (run_of desk.case.topology desk.seen)
 
--- a call came to see so much, but for its own entry: what others appended carries no sequencer of a lease that
--- the desk could use before, and a desk that is alone sees none of others
+-- a call came to see so much, but for its own entry. What others appended carries no sequencer of a lease that the
+-- desk could use before, and a desk that is alone sees none of it. Those leases may still be used, neither floor nor
+-- faults fall, and all else but marks and `missed` stays
 pub record HasMoved (old new : DeskView) (before : List Entry) : Type 0 where
   pub case : new.case ≡ old.case
   pub limit : new.limit ≡ old.limit

@@ -7,7 +7,7 @@ ghost use Rattle.run_history.specs.Runs.{written_row};
 ghost use Rattle.watermark.specs.Marks.{mark_of};
 ghost use Rattle.book.specs.Conditions.{IsOwnWork, MaySettle};
 ghost use Rattle.book.specs.Desking.{HasClaimed, HasStored, HasWritten, IsKnownOf, IsReported, IsRowKnown, MayAsk, MayPurge};
-ghost use Rattle.book.specs.DeskReasons.{HasClaimReason, HasReason};
+ghost use Rattle.book.specs.DeskReasons.{HasClaimReason, HasReason, IsReportRefusal};
 ghost use Rattle.book.specs.Desks.{DeskView, HasLooked, HasMet, IsNoteOf, IsSound, KeepsMarks, Sight};
 ghost use Rattle.book.specs.Proposals.{IsProposable};
 
@@ -133,6 +133,7 @@ pub trait Desk: Drop {
             mark_of (view self.old).marks interval ≤ mark_of (view self.new).marks interval }
         ensures looked { HasLooked (view self.old) (view self.new) }
         ensures reason { IfErr result (HasReason (view self.old) (view self.new) lease.now) }
+        ensures only { IfErr result IsReportRefusal }
 
         // A desk that is alone sets this one mark, as its book does.
         ensures raised { (view self.old).alone ≡ true → IfOk result
@@ -141,8 +142,7 @@ pub trait Desk: Drop {
             OnErr result ((view self.new).marks ≡ (view self.old).marks) }
         ensures loan { loan self.new ≡ loan self.old };
 
-    /// The known mark of an interval, in whole microseconds: no work that is left in it, and none above
-    /// it, is older.
+    /// The known mark of an interval, in whole microseconds. It never falls.
     fn mark(&mut self, interval: u32) -> u64
         requires there { interval < length (intervals_of (view self.old).case.topology) }
         ensures mark { result ≡ mark_of (view self.new).marks interval }
@@ -150,7 +150,7 @@ pub trait Desk: Drop {
         ensures marks { KeepsMarks (view self.old) (view self.new) }
         ensures loan { loan self.new ≡ loan self.old };
 
-    /// The known floor: ids of an entry with a lower commit number need not be kept.
+    /// The known floor, which never falls: of a desk that is alone that of what it has seen.
     fn floor(&mut self) -> u64
         ensures floor { result ≡ (view self.new).floor }
         ensures looked { HasLooked (view self.old) (view self.new) }

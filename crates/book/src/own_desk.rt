@@ -49,6 +49,7 @@ impl<'b, 'a, K: Keeper> Desk for OwnDesk<'b, 'a, K> {
     ghost loan = { λ desk. desk.book.ghost_name };
 
     fn sound(&self) {
+        // Their clauses say what always holds of the book.
         self.book.history();
         self.book.marks();
     }

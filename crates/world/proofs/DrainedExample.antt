@@ -13,7 +13,7 @@ use Rattle.run_history.specs.Finished.{all_pending, is_handled, injectors_left}
 use Rattle.worked_examples.specs.First.{first_case, row_a, record_at, window, counts, closes, end_of}
 use Rattle.worked_examples.specs.Drained.{drained_history, injector_row, id_of}
 use Rattle.book.specs.Senders.{IsPendingIn}
-use Rattle.world.specs.Drains.{is_full, IsDue, HasClaimed, HasAcknowledged, HasFired, IsNextAck, IsNextHandle, IsNextFire, IsNextInject, IsLastPurge, IsDrainStep, IsDraining, IsDrained}
+use Rattle.world.specs.Drains.{is_full, IsDue, HasClaimedAll, HasAcknowledged, HasFired, IsNextAck, IsNextHandle, IsNextFire, IsNextInject, IsLastPurge, IsNextEntry, IsDraining, IsDrained}
 use Rattle.world.proofs.Tried.{is_alone, alone-least, is_none_due, none-due, is_due_alone, due-alone, alone-first, seen-alone, none-seen}
 use Rattle.world.proofs.WholeDrains.{draining-first, draining-push}
 
@@ -26,16 +26,16 @@ abbrev after : ℕ → Run
 after n = run_of first_case.topology (before n)
 
 -- nothing is unacknowledged
-acknowledged : (n : ℕ) → HasClaimed first_case 0 (before n) → all_pending (after n) ≡ [] → HasAcknowledged first_case 0 (before n)
+acknowledged : (n : ℕ) → HasClaimedAll first_case 0 (before n) → all_pending (after n) ≡ [] → HasAcknowledged first_case 0 (before n)
 acknowledged n claimed none = record { claimed = claimed; none_pending = none }
 
 -- nor is a timer due
-fired : (n : ℕ) → HasClaimed first_case 0 (before n) → all_pending (after n) ≡ [] → is_none_due first_case (after n) ≡ true
+fired : (n : ℕ) → HasClaimedAll first_case 0 (before n) → all_pending (after n) ≡ [] → is_none_due first_case (after n) ≡ true
     → HasFired first_case 0 (before n)
 fired n claimed none quiet = record { earlier = acknowledged n claimed none; none_due = none-due first_case (after n) quiet }
 
 -- a line is next
-injects : (n : ℕ) → HasClaimed first_case 0 (before n) → all_pending (after n) ≡ [] → is_none_due first_case (after n) ≡ true
+injects : (n : ℕ) → HasClaimedAll first_case 0 (before n) → all_pending (after n) ≡ [] → is_none_due first_case (after n) ≡ true
     → injectors_left first_case (after n) ≡ 0 ∷ [] → IsNextInject first_case 0 (before n) 0
 injects n claimed none quiet left = record {
   earlier = fired n claimed none quiet;
@@ -53,7 +53,7 @@ injects n claimed none quiet left = record {
     by_place other (suc k, within, is) = absurd (omega (arith, within))
 
 -- a record is next
-handles : (n commit stamp : ℕ) → HasClaimed first_case 0 (before n) → is_alone (after n) (id_of commit) ≡ true
+handles : (n commit stamp : ℕ) → HasClaimedAll first_case 0 (before n) → is_alone (after n) (id_of commit) ≡ true
     → IsPendingIn first_case.topology (after n) (id_of commit) injector_row
     → found_delivery (id_of commit) (row_of first_case.topology (after n) injector_row).pending
     ≡ Some (record { id = id_of commit; to = row_a; item = record_at stamp })
@@ -73,7 +73,7 @@ handles n commit stamp claimed alone pending found new room = record {
 }
 
 -- an acknowledgement is next
-acks : (n commit : ℕ) → HasClaimed first_case 0 (before n) → is_alone (after n) (id_of commit) ≡ true
+acks : (n commit : ℕ) → HasClaimedAll first_case 0 (before n) → is_alone (after n) (id_of commit) ≡ true
     → IsPendingIn first_case.topology (after n) (id_of commit) injector_row → is_handled (id_of commit) (before n) ≡ true
     → IsNextAck first_case 0 (before n) injector_row (id_of commit)
 acks n commit claimed alone pending done = record {
@@ -83,7 +83,7 @@ acks n commit claimed alone pending done = record {
 }
 
 -- a timer is next
-fires : (n : ℕ) (timer : Timer) (mark : ℕ) → HasClaimed first_case 0 (before n) → all_pending (after n) ≡ []
+fires : (n : ℕ) (timer : Timer) (mark : ℕ) → HasClaimedAll first_case 0 (before n) → all_pending (after n) ≡ []
     → IsDue first_case (after n) row_a timer → is_due_alone first_case (after n) row_a timer ≡ true
     → mark ≡ low_watermark first_case (after n) 1 → IsNextFire first_case 0 (before n) row_a timer mark
 fires n timer mark claimed none due alone exact = record {
@@ -97,7 +97,7 @@ fires n timer mark claimed none due alone exact = record {
 }
 
 -- one entry more
-push : (n : ℕ) (entry : Entry) → IsDraining first_case 0 (before n) → IsDrainStep first_case 0 (before n) entry
+push : (n : ℕ) (entry : Entry) → IsDraining first_case 0 (before n) → IsNextEntry first_case 0 (before n) entry
     → IsDraining first_case 0 (before n ++ entry ∷ [])
 push n entry draining step = draining-push first_case 0 (before n) entry draining step
 

@@ -32,7 +32,7 @@ use Rattle.run_history.proofs.Lists.{none_some, some_same, each-weaker, find-pas
 use Rattle.history_laws.proofs.IdLaws.{same_id-itself, same_id-true}
 use Rattle.history_laws.proofs.LowLaws.{AreRowsInOrder, rows-in_order}
 use Rattle.book.specs.Senders.{IsLeastSent}
-use Rattle.world.specs.Drains.{is_full, IsDue, HasClaimed, HasAcknowledged, HasFired, HasInjected, HasEnded, IsToHandle, IsDrainStep}
+use Rattle.world.specs.Drains.{is_full, IsDue, HasClaimedAll, HasAcknowledged, HasFired, HasInjected, HasEnded, IsToHandle, IsNextEntry}
 use Rattle.world.proofs.Firsts.{nil-rows}
 use Rattle.world.proofs.FirstItems.{first_of, Holds, IsFirst, none_or_first}
 
@@ -280,7 +280,7 @@ module _ (case : CaseShape) (from : ℕ) (history : List Entry) where
 
   -- some entry comes next
   abbrev HasNext : Type 0
-  HasNext = (entry : Entry) × IsDrainStep case from history entry
+  HasNext = (entry : Entry) × IsNextEntry case from history entry
 
   -- some effects
   abbrev some_effects : Outcome
@@ -294,7 +294,7 @@ module _ (case : CaseShape) (from : ℕ) (history : List Entry) where
   next-handle row id waits false is = (Handle 0 row id some_effects, record { waits = waits; room = is })
 
   -- the least id that is unacknowledged, by whether its record is handled
-  next-sent : HasClaimed case from history → (id : RecordId) (sender : RowName) → IsLeastSent case.topology run id sender → HasNext
+  next-sent : HasClaimedAll case from history → (id : RecordId) (sender : RowName) → IsLeastSent case.topology run id sender → HasNext
   next-sent claimed id sender least = by_handled (is_handled id history) refl
     where
       by_found : is_handled id history ≡ false → (o : Option Delivery)
@@ -361,7 +361,7 @@ module _ (case : CaseShape) (from : ℕ) (history : List Entry) where
       )
 
   -- a record, or what comes after the last
-  next-claimed : HasClaimed case from history → HasEnded case from history ⊎ HasNext
+  next-claimed : HasClaimedAll case from history → HasEnded case from history ⊎ HasNext
   next-claimed claimed = by_case (none_or_sent case run order)
     where
       by_case : (all_pending run ≡ []) ⊎ ((id : RecordId) × (sender : RowName) × IsLeastSent case.topology run id sender)

@@ -24,7 +24,7 @@ use Rattle.run_history.proofs.Beginnings.{Begins-itself}
 use Rattle.history_laws.proofs.Along.{AreLegal-apart}
 use Rattle.history_laws.proofs.SenderLaws.{one_sender}
 use Rattle.book.specs.Senders.{IsLeastSent}
-use Rattle.world.specs.Drains.{is_full, HasClaimed, HasAcknowledged, HasFired, HasInjected, HasEnded, IsNextClaim, IsNextAck, IsToHandle, IsPurgeBefore, IsNextHandle, IsNextFire, IsNextInject, IsLastPurge, IsDrainStep}
+use Rattle.world.specs.Drains.{is_full, HasClaimedAll, HasAcknowledged, HasFired, HasInjected, HasEnded, IsNextClaim, IsNextAck, IsToHandle, IsPurgeBefore, IsNextHandle, IsNextFire, IsNextInject, IsLastPurge, IsNextEntry}
 use Rattle.world.proofs.Firsts.{one_id, one_row, one_key, one_part, none-row_of}
 
 -- ---- the sequencer and the effects of an entry that may follow a history
@@ -151,7 +151,7 @@ module _ (case : CaseShape) (from : ℕ) (history : List Entry) where
   AfterAck e = ByAck e ⊎ (NoneHandled × AfterPurge e)
 
   abbrev ByRule : Entry → Type 0
-  ByRule e = ByClaim e ⊎ (HasClaimed case from history × AfterAck e)
+  ByRule e = ByClaim e ⊎ (HasClaimedAll case from history × AfterAck e)
 
   -- ---- what is least is one
 
@@ -251,7 +251,7 @@ module _ (case : CaseShape) (from : ℕ) (history : List Entry) where
   -- ---- a rule that applies has something to do
 
   -- so it does not apply once it has not: claims
-  claim-over : (e : Entry) → ByClaim e → HasClaimed case from history → ⊥
+  claim-over : (e : Entry) → ByClaim e → HasClaimedAll case from history → ⊥
   claim-over e (w, i, is, x) done = let there = x.there in let next = x.next in omega (arith, there, next, done)
 
   -- acknowledgements
@@ -301,7 +301,7 @@ module _ (case : CaseShape) (from : ℕ) (history : List Entry) where
   after e done rest = inr (done.claimed, inr (none_handled done, inr (none_full done, inr (done, rest))))
 
   -- each step is by a rule
-  by_rule : (e : Entry) → IsDrainStep case from history e → Follows case history e → ByRule e
+  by_rule : (e : Entry) → IsNextEntry case from history e → Follows case history e → ByRule e
   by_rule (Claim worker interval) x f = inl (worker, interval, refl, x)
   by_rule (Ack seq row id) x f = inr (x.earlier, inl (seq, row, id, refl, x, f))
   by_rule (Purge seq row floor) (inl x) f =
@@ -323,7 +323,7 @@ module _ (case : CaseShape) (from : ℕ) (history : List Entry) where
   -- two entries that follow the history by rules are the same
   one_rule : (a b : Entry) → ByRule a → ByRule b → a ≡ b
   one_rule a b =
-      chained a b ByClaim AfterAck (HasClaimed case from history) claim-over (claims a b)
+      chained a b ByClaim AfterAck (HasClaimedAll case from history) claim-over (claims a b)
       (chained a b ByAck AfterPurge NoneHandled ack-over (acks a b)
       (chained a b ByPurge AfterHandle NoneFull purge-over (purges a b)
       (chained a b ByHandle AfterFire (HasAcknowledged case from history) handle-over (handles a b)
@@ -331,12 +331,12 @@ module _ (case : CaseShape) (from : ℕ) (history : List Entry) where
       (chained a b ByInject ByLast (HasInjected case from history) inject-over (injects a b) (lasts a b))))))
 
   -- two entries that come next in a drain after the history, and may follow it under the last claims, are the same
-  pub one_step : (a b : Entry) → IsDrainStep case from history a → IsDrainStep case from history b → Follows case history a
+  pub one_step : (a b : Entry) → IsNextEntry case from history a → IsNextEntry case from history b → Follows case history a
       → Follows case history b → a ≡ b
   one_step a b x y f g = one_rule a b (by_rule a x f) (by_rule b y g)
 
   -- nothing comes next once the drain has ended
-  pub ended-none : (e : Entry) → HasEnded case from history → IsDrainStep case from history e → ⊥
+  pub ended-none : (e : Entry) → HasEnded case from history → IsNextEntry case from history e → ⊥
   ended-none (Claim worker interval) done x = claim-over _ (worker, interval, refl, x) done.earlier.earlier.earlier.claimed
   ended-none (Ack seq row id) done x = none_least id row x.least done.earlier.earlier.earlier
   ended-none (Purge seq row floor) done (inl x) = none_least x.id x.waits.sender x.waits.least done.earlier.earlier.earlier

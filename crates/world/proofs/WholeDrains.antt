@@ -8,7 +8,7 @@ use Rattle.run_history.specs.Fences.{Begins}
 use Rattle.run_history.proofs.Beginnings.{Begins-length, Begins-push, push_same}
 use Rattle.history_laws.specs.Writes.{IsLegalAndFenced}
 use Rattle.history_laws.proofs.Along.{AreLegal-apart}
-use Rattle.world.specs.Drains.{HasEnded, IsDrainStep, IsDraining, IsDrained}
+use Rattle.world.specs.Drains.{HasEnded, IsNextEntry, IsDraining, IsDrained}
 use Rattle.world.proofs.OneStep.{Follows, one_step, ended-none}
 
 -- ---- growing
@@ -21,14 +21,14 @@ draining-first case history before entry begins after =
 
 -- a history that drains does so with the next entry too
 pub draining-push : (case : CaseShape) (from : ℕ) (history : List Entry) (entry : Entry) → IsDraining case from history
-    → IsDrainStep case from history entry → IsDraining case from (history ++ entry ∷ [])
+    → IsNextEntry case from history entry → IsDraining case from (history ++ entry ∷ [])
 draining-push case from history entry draining step before other begins after =
     by_case (Begins-push (before ++ other ∷ []) history entry begins)
   where
-    by_case : (before ++ other ∷ [] ≡ history ++ entry ∷ []) ⊎ Begins (before ++ other ∷ []) history → IsDrainStep case from before other
+    by_case : (before ++ other ∷ [] ≡ history ++ entry ∷ []) ⊎ Begins (before ++ other ∷ []) history → IsNextEntry case from before other
     by_case (inl whole) =
         let same = push_same before history other entry whole in
-        subst (λ h. IsDrainStep case from h other) (sym same.0) (subst (IsDrainStep case from history) (sym same.1) step)
+        subst (λ h. IsNextEntry case from h other) (sym same.0) (subst (IsNextEntry case from history) (sym same.1) step)
     by_case (inr begins) = draining before other begins after
 
 -- ---- one list
@@ -47,7 +47,7 @@ next-follows case done entry rest lawful = record {
 
 -- the next entry of a drained history is the next of a drain
 next-step : (case : CaseShape) (from : ℕ) (done : List Entry) (entry : Entry) (rest : List Entry) → from ≤ length done
-    → IsDrained case from (done ++ entry ∷ rest) → IsDrainStep case from done entry
+    → IsDrained case from (done ++ entry ∷ rest) → IsNextEntry case from done entry
 next-step case from done entry rest after drained = drained.draining done entry (next-begins done entry rest) after
 
 -- a history that is drained does not go on

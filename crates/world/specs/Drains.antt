@@ -1,7 +1,8 @@
 -- What one thread writes where it works all off: which entry of a drain comes next after a history.
 -- Akidau et al., VLDB 2013, sections 4.5 and 4.6, for the low watermark under which timers fire. Own: the
--- order, in which a rule applies only where the earlier ones have nothing to do. The sequencer and effects of
--- an entry are not named here, since a fenced and legal history leaves no choice of them.
+-- order, in which a rule applies only where the earlier ones have nothing to do. The sequencer, a handler's
+-- effects, and the line and record that are injected are not named here, since a fenced and legal history leaves
+-- no choice of them.
 use Rattle.std.specs.Prelude.{◌≡◌, ◌≢◌, ◌<◌, ◌≤◌, ◌+◌, ◌⊎◌, ◌++◌, ◌∷◌, [], ℕ, Bool, true, false, ◌&&◌, nat_lt, nat_le, List, length, Some, Contains}
 use Rattle.std.specs.Ordering.{is_gt, nat_cmp, ordering_then}
 use Rattle.mw_types.specs.Orders.{row_cmp, timer_cmp, key_cmp}
@@ -36,12 +37,12 @@ pub record IsDue (case : CaseShape) (run : Run) (row : RowName) (timer : Timer) 
 -- ---- how far a drain has come that began when the history had this length
 
 -- it has claimed each interval: the history is longer by at least as many entries
-abbrev pub HasClaimed : CaseShape → ℕ → List Entry → Type 0
-HasClaimed case from history = from + interval_count case.topology ≤ length history
+abbrev pub HasClaimedAll : CaseShape → ℕ → List Entry → Type 0
+HasClaimedAll case from history = from + interval_count case.topology ≤ length history
 
 -- it has claimed each interval, and nothing that was made is unacknowledged
 pub record HasAcknowledged (case : CaseShape) (from : ℕ) (history : List Entry) : Type 0 where
-  pub claimed : HasClaimed case from history
+  pub claimed : HasClaimedAll case from history
   pub none_pending : all_pending (run_of case.topology history) ≡ []
 
 -- nothing is unacknowledged, and no timer is due
@@ -71,14 +72,14 @@ pub record IsNextClaim (case : CaseShape) (from : ℕ) (history : List Entry)
 -- the least id that is unacknowledged is acknowledged in its sender's row, where its record is handled
 pub record IsNextAck (case : CaseShape) (from : ℕ) (history : List Entry)
     (row : RowName) (id : RecordId) : Type 0 where
-  pub earlier : HasClaimed case from history
+  pub earlier : HasClaimedAll case from history
   pub least : IsLeastSent case.topology (run_of case.topology history) id row
   pub handled : is_handled id history ≡ true
 
 -- the record of the least id that is unacknowledged is to be handled in this row
 pub record IsToHandle (case : CaseShape) (from : ℕ) (history : List Entry)
     (row : RowName) (id : RecordId) : Type 0 where
-  pub earlier : HasClaimed case from history
+  pub earlier : HasClaimedAll case from history
   pub sender : RowName
   pub least : IsLeastSent case.topology (run_of case.topology history) id sender
   pub delivery : Delivery
@@ -136,19 +137,19 @@ pub record IsLastPurge (case : CaseShape) (from : ℕ) (history : List Entry)
 -- ---- the whole
 
 -- an entry comes next after a history, in a drain that began when the history had this length
-abbrev pub IsDrainStep : CaseShape → ℕ → List Entry → Entry → Type 0
-IsDrainStep case from history (Claim worker interval) = IsNextClaim case from history worker interval
-IsDrainStep case from history (Inject seq part line item) = IsNextInject case from history part
-IsDrainStep case from history (Handle seq row id effects) = IsNextHandle case from history row id
-IsDrainStep case from history (Fire seq row timer mark effects) = IsNextFire case from history row timer mark
-IsDrainStep case from history (Ack seq row id) = IsNextAck case from history row id
-IsDrainStep case from history (Purge seq row floor) =
+abbrev pub IsNextEntry : CaseShape → ℕ → List Entry → Entry → Type 0
+IsNextEntry case from history (Claim worker interval) = IsNextClaim case from history worker interval
+IsNextEntry case from history (Inject seq part line item) = IsNextInject case from history part
+IsNextEntry case from history (Handle seq row id effects) = IsNextHandle case from history row id
+IsNextEntry case from history (Fire seq row timer mark effects) = IsNextFire case from history row timer mark
+IsNextEntry case from history (Ack seq row id) = IsNextAck case from history row id
+IsNextEntry case from history (Purge seq row floor) =
     IsPurgeBefore case from history row floor ⊎ IsLastPurge case from history row floor
 
 -- from this length on a history goes as a drain does: each of its entries is the next after those before it
 abbrev pub IsDraining : CaseShape → ℕ → List Entry → Type 0
 IsDraining case from history = (before : List Entry) (entry : Entry) →
-    Begins (before ++ entry ∷ []) history → from ≤ length before → IsDrainStep case from before entry
+    Begins (before ++ entry ∷ []) history → from ≤ length before → IsNextEntry case from before entry
 
 -- a history is drained: from this length on it goes as a drain does, and to the drain's end
 pub record IsDrained (case : CaseShape) (from : ℕ) (history : List Entry) : Type 0 where

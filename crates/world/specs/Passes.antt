@@ -1,5 +1,6 @@
 -- What the marks are once each interval was reported.
--- Akidau et al., VLDB 2013, section 4.5, where each worker reports on its intervals. Own: the order of the reports.
+-- Akidau et al., VLDB 2013, section 4.5, where each worker reports on its intervals.
+-- Own: the order of the reports.
 use Rattle.std.specs.Prelude.{ℕ, List, fold}
 use Rattle.std.specs.List.{enumerate_from}
 use Rattle.key_intervals.specs.declared.bounds.Bounds.{Bounds}

@@ -14,7 +14,7 @@ ghost use Rattle.world.specs.Drains.{
   HasEnded,
   HasInjected,
   IsDue,
-  IsDrainStep,
+  IsNextEntry,
   IsDraining,
   IsDrained,
 };
@@ -23,21 +23,21 @@ ghost use Rattle.world.specs.Drains.{
 /// and fenced with each.
 pub fn next_drain_entries_are_one()
     ensures same { (case : CaseShape) (from : ℕ) (history : List Entry) (one other : Entry) →
-        IsDrainStep case from history one → IsLegalAndFenced case (history ++ one ∷ []) →
-        IsDrainStep case from history other → IsLegalAndFenced case (history ++ other ∷ []) →
+        IsNextEntry case from history one → IsLegalAndFenced case (history ++ one ∷ []) →
+        IsNextEntry case from history other → IsLegalAndFenced case (history ++ other ∷ []) →
         one ≡ other }
 {}
 
 /// Nothing comes next once a drain has ended.
 pub fn ended_drains_have_no_next_entry()
     ensures none { (case : CaseShape) (from : ℕ) (history : List Entry) (entry : Entry) →
-        HasEnded case from history → IsDrainStep case from history entry → ⊥ }
+        HasEnded case from history → IsNextEntry case from history entry → ⊥ }
 {}
 
 /// A drain that has not ended has a next entry.
 pub fn drains_go_on_until_they_end()
     ensures next { (case : CaseShape) (from : ℕ) (history : List Entry) → from ≤ length history →
-        HasEnded case from history ⊎ ((entry : Entry) × IsDrainStep case from history entry) }
+        HasEnded case from history ⊎ ((entry : Entry) × IsNextEntry case from history entry) }
 {}
 
 /// A drain grows by its next entries, from a history to which nothing was added.
@@ -45,7 +45,7 @@ pub fn drains_grow_by_their_next_entries()
     ensures first { (case : CaseShape) (history : List Entry) →
         IsDraining case (length history) history }
     ensures grown { (case : CaseShape) (from : ℕ) (history : List Entry) (entry : Entry) →
-        IsDraining case from history → IsDrainStep case from history entry →
+        IsDraining case from history → IsNextEntry case from history entry →
         IsDraining case from (history ++ entry ∷ []) }
 {}
 

@@ -41,7 +41,7 @@ pub enum Step {
         /// The computation.
         part: u32,
     },
-    /// A worker reports the mark of an interval.
+    /// A worker reports the own work of an interval.
     Report {
         /// The worker.
         worker: u32,
