@@ -67,7 +67,8 @@ passes false is = absurd cc
 picked-forgets : (floor least : ℕ) (row : Contents) → forgets floor least row ≡ Some tt
     → (max 1 least ≤ length row.seen) × (row.floor < floor)
 picked-forgets floor least row is =
-    let two = both (nat_lt row.floor floor) (nat_le (max 1 least) (length row.seen)) (passes (nat_lt row.floor floor && nat_le (max 1 least) (length row.seen)) is) in (
+    let two = both (nat_lt row.floor floor) (nat_le (max 1 least) (length row.seen)) (passes (nat_lt row.floor floor && nat_le
+        (max 1 least) (length row.seen)) is) in (
       leb-true (max 1 least) (length row.seen) two.1,
       ltb-true row.floor floor two.0,
     )
@@ -88,7 +89,8 @@ has-picked shape held least floor name is = by_row (row_in (cached held.rows) na
     new = fresh (fresh_of shape name.part)
 
     by_row : (o : Option Contents) → row_in (cached held.rows) name ≡ o → HasPicked (forgets floor least) held.rows (name, tt)
-    by_row None at = absurd (let many = subst (λ (o : Option Contents). max 1 least ≤ length (unwrap_or o new).seen) at is.many in omega (arith, many))
+    by_row None at = absurd (let many = subst (λ (o : Option Contents). max 1 least ≤ length
+        (unwrap_or o new).seen) at is.many in omega (arith, many))
     by_row (Some row) at = record {
       row = row;
       there = at;

@@ -355,7 +355,7 @@ Fits-yielded case desk interval refusals.NoMemory old new left fits = subst (Fit
 -- ---- claims
 
 -- what is held is kept where nothing changed
-keeps-same : (shape : Shape) (all : List (Option HeldView)) → KeepsHeld shape all all
+pub keeps-same : (shape : Shape) (all : List (Option HeldView)) → KeepsHeld shape all all
 keeps-same shape all = record { there = λ i held at. (held, at, refl, λ name. refl); none = λ i none. none }
 
 -- what a claim leaves of a node

@@ -9,4 +9,5 @@ pub mod ReportLaws
 pub mod SendLaws
 pub mod StateLaws
 pub mod CommitLaws
+pub mod CopyLaws
 pub mod ReceiveLaws

@@ -80,7 +80,8 @@ held-there case desk all interval held name fit same at covers some =
     let here = fit.each interval held at in
     let i = held.lease.interval in
     told-then desk.told
-    (λ _. (n : RowName) → interval_of shape n ≡ Some i → row_held shape held n ≡ row_of shape (run_of shape (known i held.lease.seq desk.seen)) n)
+    (λ _. (n : RowName) → interval_of shape n ≡ Some i → row_held shape held n ≡ row_of shape (run_of shape
+        (known i held.lease.seq desk.seen)) n)
     (λ _. IsSome (row_in (run_of desk.case.topology desk.seen) name)) here.rows.known (λ x is.
     let front = known i held.lease.seq desk.seen in
     let begins = known-begins i held.lease.seq desk.seen in

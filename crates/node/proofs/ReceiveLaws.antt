@@ -1,6 +1,7 @@
 -- What a node makes of a message that comes.
 use Rattle.std.proofs.Common.{◌≡◌, ◌∙◌, Bool, true, false, List, [], ◌∷◌, ◌++◌, refl, sym, ap, subst}
 use Rattle.std.specs.Prelude.{All, IfSome, Option, Some, None, if◌then◌else◌}
+use Rattle.std.proofs.lemmas.List.Elements.{All-append, All-from_recursion}
 use Rattle.std.specs.Option.{is_some, option_map_or}
 use Rattle.mw_types.specs.Outcomes.{Outcome as Effects}
 use Rattle.mw_types.specs.declared.delivery.Delivery.{Delivery}
@@ -10,7 +11,7 @@ use Rattle.topology.specs.Shapes.{Shape}
 use Rattle.row_parts.specs.Contents.{is_finished}
 use Rattle.run_history.specs.Cases.{CaseShape}
 use Rattle.run_history.specs.Legal.{record_outcome}
-use Rattle.book.specs.Desks.{DeskView, HasLooked, HasMet, Sight}
+use Rattle.book.specs.Desks.{DeskView, HasLooked, HasMet, IsSound, Sight}
 use Rattle.book.specs.declared.proposal.Proposal.TheVariants as proposals
 use Rattle.holdings.specs.Holding.{HeldView, held_on, row_held}
 use Rattle.node.specs.Answers.{received, taken_in}
@@ -22,7 +23,8 @@ use Rattle.node.specs.declared.outcome.Outcome.TheVariants as outcomes
 use Rattle.node.specs.declared.outgoing.Outgoing.{Outgoing}
 use Rattle.node.specs.declared.outgoing.Outgoing.TheVariants as outgoing
 use Rattle.node.proofs.CommitLaws.{told-any}
-use Rattle.node.proofs.FitLaws.{so-more, step-told}
+use Rattle.holdings.proofs.HeldSteps.{AreHeld-looked}
+use Rattle.node.proofs.FitLaws.{Fits-kept, keeps-same, more-looked, so-more, step-told}
 
 -- ---- what a message says, once its note was met
 
@@ -100,3 +102,22 @@ Fits-new case desk node d sender effects held there new does is fits sent = reco
   };
   outbox = fits.outbox;
 }
+
+-- a node that has acknowledged a record once more fits
+pub Fits-again : (case : CaseShape) (desk : DeskView) (node : NodeView) (d : Delivery) (sender : RowName)
+    → IsOutgoing case desk (outgoing.Ack sender d.id) → Fits case desk node
+    → Fits case desk (record node { outbox = node.outbox ++ outgoing.Ack sender d.id ∷ [] })
+Fits-again case desk node d sender ack fits = record {
+  of_case = fits.of_case;
+  held = fits.held;
+  work = fits.work;
+  outbox = All-append (IsOutgoing case desk) node.outbox (outgoing.Ack sender d.id ∷ []) fits.outbox
+      (All-from_recursion (IsOutgoing case desk) (outgoing.Ack sender d.id ∷ []) (ack, tt));
+}
+
+-- a node whose desk has looked fits
+pub Fits-looked : (case : CaseShape) (old new : DeskView) (node : NodeView) → IsSound old → IsSound new → HasLooked old new
+    → Fits case old node → Fits case new node
+Fits-looked case old new node was is looked fits = Fits-kept case old new node node (more-looked old new looked)
+    (AreHeld-looked case old new node.held node.held fits.of_case was is looked (λ i. refl) fits.held)
+    (keeps-same case.topology node.held) refl refl fits

@@ -60,7 +60,8 @@ answers-unreported case old new held was node (refusals.RowDamaged name bytes) l
 answers-unreported case old new held was node refusals.NoMemory looked reason left = tt
 
 -- and so by what is held
-pub report-at : (case : CaseShape) (old new : DeskView) (was node : NodeView) (interval : ℕ) (held : HeldView) (result : Result Outcome NodeFault)
+pub report-at : (case : CaseShape) (old new : DeskView) (was node : NodeView) (interval : ℕ) (held : HeldView)
+    (result : Result Outcome NodeFault)
     → held_at was.held interval ≡ Some held → IfOk result (AnswersReportOf case old new held was node)
     → IfOk result (AnswersReport case old new (held_at was.held interval) was node)
 report-at case old new was node interval held result at is =

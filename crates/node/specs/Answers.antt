@@ -1,5 +1,6 @@
 -- What the calls of a node answer, and what they leave of it. Each is said of the worker that the node is.
--- Akidau et al., VLDB 2013, section 6.1 for what a worker does on receipt of a record and when it sends what it made,
+-- Akidau et al., VLDB 2013, section 6.1 for what a worker does on receipt of a record and when it sends what
+-- it made,
 -- section 6.2 for a write under an older sequencer. Own: the other answers.
 use Rattle.std.specs.Prelude.{◌≡◌, ◌≤◌, ◌++◌, ◌∷◌, ◌⊎◌, ◌↔◌, [], ℕ, true, if◌then◌else◌, List, Option, Some, None, IfSome, length, map, slice_get, Contains, IsSorted}
 use Rattle.std.specs.Option.{is_some, option_map_or, option_to_list}
@@ -44,9 +45,11 @@ HasKept old new = worker_at new ≡ worker_at old
 -- an entry is a claim, or is under a lease that is held
 abbrev pub IsOwnEntry : List (Option HeldView) → Entry → Type 0
 IsOwnEntry all entry = (sequencer_of entry ≡ None)
-    ⊎ (interval : ℕ) × (held : HeldView) × (held_at all interval ≡ Some held) × (sequencer_of entry ≡ Some held.lease.seq)
+    ⊎ (interval : ℕ) × (held : HeldView) × (held_at all interval ≡ Some held)
+    × (sequencer_of entry ≡ Some held.lease.seq)
 
--- a call of a node that held this came to see more through its desk, and appended at most one entry, which is its own
+-- a call of a node that held this came to see more through its desk, and appended at most one entry, which is
+-- its own
 pub record HasGrown (all : List (Option HeldView)) (old new : DeskView) : Type 0 where
   pub before : List Entry
   pub moved : HasMoved old new before
@@ -69,7 +72,8 @@ pub record IsRefused (old new : DeskView) (lease : LeaseView) (why : DeskRefusal
   pub looked : HasLooked old asked
   pub reason : HasReason asked new lease why
 
--- a call that asks for an entry fails as its desk does, and one that asks for none fails only for want of memory
+-- a call that asks for an entry fails as its desk does, and one that asks for none fails only for want of
+-- memory
 abbrev pub FailsAsked : DeskView → DeskView → Option Request → NodeFault → Type 0
 FailsAsked old new None why = why ≡ faults.NoMemory
 FailsAsked old new (Some asked) why = IsRefused old new asked.lease (refusal_of why)
@@ -77,7 +81,8 @@ FailsAsked old new (Some asked) why = IsRefused old new asked.lease (refusal_of 
 -- a call fails for want of memory, or as its desk does under a lease that is held
 abbrev pub FailsHeld : DeskView → DeskView → List (Option HeldView) → NodeFault → Type 0
 FailsHeld old new all why = (why ≡ faults.NoMemory)
-    ⊎ (interval : ℕ) × (held : HeldView) × (held_at all interval ≡ Some held) × IsRefused old new held.lease (refusal_of why)
+    ⊎ (interval : ℕ) × (held : HeldView) × (held_at all interval ≡ Some held)
+    × IsRefused old new held.lease (refusal_of why)
 
 -- ---- what a call answers that asks for an entry
 
@@ -86,9 +91,10 @@ abbrev pub made_of : Shape → Request → ℕ → List Outgoing
 made_of shape asked commit = messages_from asked.name
     (deliveries_made shape asked.name.part (productions_of asked.entry) asked.late commit)
 
--- the entry stands behind what was seen, under the last lease of its interval; the node is this worker then, with
--- what the entry makes last in its outbox
-pub record IsCommitted (shape : Shape) (old new : DeskView) (asked : Request) (after : Worker) (node : NodeView)
+-- the entry stands behind what was seen, under the last lease of its interval; the node is this worker then,
+-- with what the entry makes last in its outbox
+pub record IsCommitted (shape : Shape) (old new : DeskView) (asked : Request) (after : Worker)
+    (node : NodeView)
     (commit : ℕ) : Type 0 where
   pub before : List Entry
   pub moved : HasMoved old new before
@@ -100,7 +106,8 @@ pub record IsCommitted (shape : Shape) (old new : DeskView) (asked : Request) (a
   pub told : IfSome old.told (λ _. made_of shape asked commit ≡ sends shape before (asked.name, asked.entry))
 
 -- a later claim is there: the lease is lost, and what was prepared under it
-pub record IsLost (shape : Shape) (old new : DeskView) (lease : LeaseView) (was node : NodeView) (newer : ℕ) : Type 0 where
+pub record IsLost (shape : Shape) (old new : DeskView) (lease : LeaseView) (was node : NodeView)
+    (newer : ℕ) : Type 0 where
   pub looked : HasLooked old new
   pub claim : IsOvertakenBy newer lease.interval lease.seq new.seen
   pub left : worker_at node ≡ with_lease shape lease.interval None (worker_at was)
@@ -111,25 +118,33 @@ pub record IsIdle (old new : DeskView) (was node : NodeView) : Type 0 where
   pub kept : HasKept was node
 
 -- another had the turn, and the node is as it was
-pub record IsTurnedAway (old new : DeskView) (lease : LeaseView) (was node : NodeView) (found : ℕ) : Type 0 where
+pub record IsTurnedAway (old new : DeskView) (lease : LeaseView) (was node : NodeView)
+    (found : ℕ) : Type 0 where
   pub idle : IsIdle old new was node
   pub refused : IsRefused old new lease (refusals.Busy found)
 
 -- what a node may answer that asked for an entry
-abbrev pub AnswersWrite : Shape → DeskView → DeskView → Request → Worker → NodeView → NodeView → Outcome → Type 0
+abbrev pub AnswersWrite : Shape → DeskView → DeskView → Request → Worker → NodeView → NodeView → Outcome →
+    Type 0
 AnswersWrite shape old new asked after was node (outcomes.Committed commit) =
     IsCommitted shape old new asked after node commit
-AnswersWrite shape old new asked after was node (outcomes.Stale newer) = IsLost shape old new asked.lease was node newer
-AnswersWrite shape old new asked after was node (outcomes.Busy found) = IsTurnedAway old new asked.lease was node found
+AnswersWrite shape old new asked after was node (outcomes.Stale newer) =
+    IsLost shape old new asked.lease was node newer
+AnswersWrite shape old new asked after was node (outcomes.Busy found) =
+    IsTurnedAway old new asked.lease was node found
 AnswersWrite shape old new asked after was node _ = ⊥
 
 -- a call asks for an entry where there is one, and answers Nothing where there is none
-abbrev pub AnswersAsked : Shape → DeskView → DeskView → Option Request → Worker → NodeView → NodeView → Outcome → Type 0
-AnswersAsked shape old new None after was node outcome = (outcome ≡ outcomes.Nothing) × IsIdle old new was node
-AnswersAsked shape old new (Some asked) after was node outcome = AnswersWrite shape old new asked after was node outcome
+abbrev pub AnswersAsked : Shape → DeskView → DeskView → Option Request → Worker → NodeView → NodeView →
+    Outcome → Type 0
+AnswersAsked shape old new None after was node outcome =
+    (outcome ≡ outcomes.Nothing) × IsIdle old new was node
+AnswersAsked shape old new (Some asked) after was node outcome =
+    AnswersWrite shape old new asked after was node outcome
 
 -- a call asks for an entry for which it may ask, and answers Nothing exactly where there is none
-abbrev pub AnswersSome : Shape → DeskView → DeskView → (Request → Type 0) → NodeView → NodeView → Outcome → Type 0
+abbrev pub AnswersSome : Shape → DeskView → DeskView → (Request → Type 0) → NodeView → NodeView → Outcome →
+    Type 0
 AnswersSome shape old new MayAsk was node outcomes.Nothing =
     ((asked : Request) → MayAsk asked → ⊥) × IsIdle old new was node
 AnswersSome shape old new MayAsk was node outcome =
@@ -138,7 +153,8 @@ AnswersSome shape old new MayAsk was node outcome =
 -- ---- a claim
 
 -- a claim stands behind what was seen; the node has its number for the interval
-pub record IsTaken (shape : Shape) (old new : DeskView) (interval : ℕ) (was node : NodeView) (seq : ℕ) : Type 0 where
+pub record IsTaken (shape : Shape) (old new : DeskView) (interval : ℕ) (was node : NodeView)
+    (seq : ℕ) : Type 0 where
   pub before : List Entry
   pub moved : HasMoved old new before
   pub appended : new.seen ≡ before ++ entries.Claim was.number interval ∷ []
@@ -147,7 +163,8 @@ pub record IsTaken (shape : Shape) (old new : DeskView) (interval : ℕ) (was no
 
 -- what a claim answers
 abbrev pub AnswersClaim : Shape → DeskView → DeskView → ℕ → NodeView → NodeView → Outcome → Type 0
-AnswersClaim shape old new interval was node (outcomes.Claimed seq) = IsTaken shape old new interval was node seq
+AnswersClaim shape old new interval was node (outcomes.Claimed seq) =
+    IsTaken shape old new interval was node seq
 AnswersClaim shape old new interval was node (outcomes.Busy found) =
     IsIdle old new was node × HasClaimReason old new (refusals.Busy found)
 AnswersClaim shape old new interval was node _ = ⊥
@@ -165,21 +182,24 @@ received shape node delivery sender held = if is_finished delivery.id (row_held 
       },
     )
 
--- what a node answers to a record that comes, and the worker that it is then: it waits where a work is prepared, is
--- another's where its row is not held, is acknowledged again where it is finished there, and else is prepared
+-- what a node answers to a record that comes, and the worker that it is then: it waits where a work is
+-- prepared, is another's where its row is not held, is acknowledged again where it is finished there, and
+-- else is prepared
 abbrev pub taken_in : Shape → NodeView → Delivery → RowName → Outcome × Worker
 taken_in shape node delivery sender = if is_some node.prepared then (outcomes.Nothing, worker_at node) else
     option_map_or (received shape node delivery sender) (held_on shape node.held delivery.to)
     (outcomes.NotMine, worker_at node)
 
--- what a node answers to a message that comes, and the worker that it is then; an acknowledgement is no record
+-- what a node answers to a message that comes, and the worker that it is then; an acknowledgement is no
+-- record
 abbrev pub taken_from : Shape → NodeView → Outgoing → Outcome × Worker
 taken_from shape node (outgoing.Deliver delivery sender) = taken_in shape node delivery sender
 taken_from shape node (outgoing.Ack to id) = (outcomes.Nothing, worker_at node)
 
--- what a node answers to an acknowledgement: it is another's where its row is not held, and else is written where its
--- id is pending there
-abbrev pub AnswersAck : Shape → DeskView → DeskView → Option HeldView → RowName → RecordId → NodeView → NodeView → Outcome → Type 0
+-- what a node answers to an acknowledgement: it is another's where its row is not held, and else is written
+-- where its id is pending there
+abbrev pub AnswersAck : Shape → DeskView → DeskView → Option HeldView → RowName → RecordId → NodeView →
+    NodeView → Outcome → Type 0
 AnswersAck shape old new None to id was node outcome = (outcome ≡ outcomes.NotMine) × IsIdle old new was node
 AnswersAck shape old new (Some held) to id was node outcome =
     AnswersAsked shape old new (settling shape to id held) (worker_at was) was node outcome
@@ -204,25 +224,29 @@ pub record IsFloorKnown (old new : DeskView) (floor : ℕ) : Type 0 where
   pub same : old.alone ≡ true → floor ≡ old.floor
 
 -- the next timer of a part fires, under the least mark that is known of the part
-pub record AnswersFire (case : CaseShape) (old new : DeskView) (part : ℕ) (was node : NodeView) (outcome : Outcome) : Type 0 where
+pub record AnswersFire (case : CaseShape) (old new : DeskView) (part : ℕ) (was node : NodeView)
+    (outcome : Outcome) : Type 0 where
   pub mark : ℕ
   pub known : IsLeastKnown case.topology part old new mark
   pub answers : AnswersSome case.topology old new (MayAskFire case was part mark) was node outcome
 
 -- the first row of an interval that has ids to forget forgets them, under the known floor
-pub record AnswersPurge (shape : Shape) (old new : DeskView) (interval many : ℕ) (was node : NodeView) (outcome : Outcome) : Type 0 where
+pub record AnswersPurge (shape : Shape) (old new : DeskView) (interval many : ℕ) (was node : NodeView)
+    (outcome : Outcome) : Type 0 where
   pub floor : ℕ
   pub known : IsFloorKnown old new floor
   pub answers : AnswersSome shape old new (MayAskPurge shape was interval many floor) was node outcome
 
 -- a row that has ids to forget forgets them, under the known floor
-pub record AnswersForget (shape : Shape) (old new : DeskView) (name : RowName) (many : ℕ) (was node : NodeView) (outcome : Outcome) : Type 0 where
+pub record AnswersForget (shape : Shape) (old new : DeskView) (name : RowName) (many : ℕ)
+    (was node : NodeView) (outcome : Outcome) : Type 0 where
   pub floor : ℕ
   pub known : IsFloorKnown old new floor
   pub answers : AnswersSome shape old new (MayAskForget shape was many floor name) was node outcome
 
 -- the own work of what is held of an interval is reported, and the interval's mark is answered
-pub record IsMarked (case : CaseShape) (old new : DeskView) (held : HeldView) (was node : NodeView) (mark : ℕ) : Type 0 where
+pub record IsMarked (case : CaseShape) (old new : DeskView) (held : HeldView) (was node : NodeView)
+    (mark : ℕ) : Type 0 where
   pub idle : IsIdle old new was node
   pub own : ℕ
   pub of_rows : (bounds : Bounds) → slice_get (intervals_of case.topology) held.lease.interval ≡ Some bounds →
@@ -232,14 +256,18 @@ pub record IsMarked (case : CaseShape) (old new : DeskView) (held : HeldView) (w
   pub alone : old.alone ≡ true → IsReported old new held.lease own mark
 
 -- what a report under a lease answers
-abbrev pub AnswersReportOf : CaseShape → DeskView → DeskView → HeldView → NodeView → NodeView → Outcome → Type 0
+abbrev pub AnswersReportOf : CaseShape → DeskView → DeskView → HeldView → NodeView → NodeView → Outcome →
+    Type 0
 AnswersReportOf case old new held was node (outcomes.Marked mark) = IsMarked case old new held was node mark
-AnswersReportOf case old new held was node (outcomes.Stale newer) = IsLost case.topology old new held.lease was node newer
-AnswersReportOf case old new held was node (outcomes.Busy found) = IsTurnedAway old new held.lease was node found
+AnswersReportOf case old new held was node (outcomes.Stale newer) =
+    IsLost case.topology old new held.lease was node newer
+AnswersReportOf case old new held was node (outcomes.Busy found) =
+    IsTurnedAway old new held.lease was node found
 AnswersReportOf case old new held was node _ = ⊥
 
 -- what a report answers: Nothing exactly where no lease of the interval is held
-abbrev pub AnswersReport : CaseShape → DeskView → DeskView → Option HeldView → NodeView → NodeView → Outcome → Type 0
+abbrev pub AnswersReport : CaseShape → DeskView → DeskView → Option HeldView → NodeView → NodeView →
+    Outcome → Type 0
 AnswersReport case old new None was node outcome = (outcome ≡ outcomes.Nothing) × IsIdle old new was node
 AnswersReport case old new (Some held) was node outcome = AnswersReportOf case old new held was node outcome
 
@@ -259,7 +287,8 @@ pub record IsPendingHeld (all : List (Option HeldView)) (sending : Sending) : Ty
   pub row_there : row_in (cached held.rows) sending.sender ≡ Some row
   pub pending : Contains row.pending sending.delivery
 
--- records are sent again in the order of their ids: all that is pending in rows that are held, and nothing else
+-- records are sent again in the order of their ids: all that is pending in rows that are held, and nothing
+-- else
 pub record IsSweep (all : List (Option HeldView)) (again : List Sending) : Type 0 where
   pub order : IsSorted (λ (a b : Sending). id_cmp a.delivery.id b.delivery.id) again
   pub each : (sending : Sending) → Contains again sending ↔ IsPendingHeld all sending
@@ -269,4 +298,5 @@ pub record IsSwept (was node : NodeView) (count : ℕ) : Type 0 where
   pub again : List Sending
   pub sweep : IsSweep was.held again
   pub number : count ≡ length again
-  pub left : worker_at node ≡ with_outgoing (map (λ (s : Sending). outgoing.Deliver s.delivery s.sender) again) (worker_at was)
+  pub left : worker_at node
+      ≡ with_outgoing (map (λ (s : Sending). outgoing.Deliver s.delivery s.sender) again) (worker_at was)

@@ -1,5 +1,6 @@
 -- Which entries a node asks its desk to append, by what the node holds.
--- Akidau et al., VLDB 2013, section 6.1 for what a worker does on receipt of a record, section 4.6 for timers.
+-- Akidau et al., VLDB 2013, section 6.1 for what a worker does on receipt of a record, section 4.6 for
+-- timers.
 -- Own: the order of the timers of a part, and which row forgets first.
 use Rattle.std.specs.Prelude.{◌≡◌, ◌<◌, ◌≤◌, ℕ, Bool, false, [], List, Option, Some, None, length, max, slice_get}
 use Rattle.std.specs.Option.{option_and_then, option_map}
@@ -28,7 +29,8 @@ use Rattle.node.specs.Workers.{NodeView, WorkView}
 use Rattle.node.specs.declared.outgoing.Outgoing.{Outgoing}
 use Rattle.node.specs.declared.outgoing.Outgoing.TheVariants as outgoing
 
--- an entry that a node asks its desk to append: the lease, the row, the entry, and whether what it makes is late
+-- an entry that a node asks its desk to append: the lease, the row, the entry, and whether what it makes is
+-- late
 pub record Request : Type 0 where
   pub lease : LeaseView
   pub name : RowName
@@ -73,7 +75,8 @@ proposed shape all _ = None
 
 -- what a node has prepared
 abbrev pub work_asked : Shape → NodeView → Option Request
-work_asked shape node = option_and_then (λ (work : WorkView). proposed shape node.held work.proposal) node.prepared
+work_asked shape node =
+    option_and_then (λ (work : WorkView). proposed shape node.held work.proposal) node.prepared
 
 -- ---- an acknowledgement
 
@@ -98,14 +101,16 @@ ack_asked shape node (outgoing.Ack to id) = settle_asked shape node to id
 -- ---- a timer
 
 -- a timer is the first of a row of a part that a node holds
-pub record IsTimerHeld (shape : Shape) (node : NodeView) (part : ℕ) (name : RowName) (timer : Timer) : Type 0 where
+pub record IsTimerHeld (shape : Shape) (node : NodeView) (part : ℕ) (name : RowName)
+    (timer : Timer) : Type 0 where
   pub of_part : name.part ≡ part
   pub held : HeldView
   pub there : held_on shape node.held name ≡ Some held
   pub first : slice_get (row_held shape held name).timers 0 ≡ Some timer
 
 -- a node may fire this timer under a mark: nothing is prepared, no timer of the part is less, and it is due
-pub record IsNextTimer (shape : Shape) (node : NodeView) (part mark : ℕ) (name : RowName) (timer : Timer) : Type 0 where
+pub record IsNextTimer (shape : Shape) (node : NodeView) (part mark : ℕ) (name : RowName)
+    (timer : Timer) : Type 0 where
   pub free : node.prepared ≡ None
   pub set : IsTimerHeld shape node part name timer
   pub least : (other : RowName) (later : Timer) → IsTimerHeld shape node part other later →
@@ -144,7 +149,8 @@ forgetting held name floor = record {
 }
 
 -- a row may be asked to forget: nothing is prepared, and it is held and has ids to forget
-pub record MayAskForget (shape : Shape) (node : NodeView) (least floor : ℕ) (name : RowName) (asked : Request) : Type 0 where
+pub record MayAskForget (shape : Shape) (node : NodeView) (least floor : ℕ) (name : RowName)
+    (asked : Request) : Type 0 where
   pub free : node.prepared ≡ None
   pub held : HeldView
   pub there : held_on shape node.held name ≡ Some held
@@ -152,7 +158,8 @@ pub record MayAskForget (shape : Shape) (node : NodeView) (least floor : ℕ) (n
   pub request : asked ≡ forgetting held name floor
 
 -- a row of an interval may be asked to forget, and none before it by key
-pub record MayAskPurge (shape : Shape) (node : NodeView) (interval least floor : ℕ) (asked : Request) : Type 0 where
+pub record MayAskPurge (shape : Shape) (node : NodeView) (interval least floor : ℕ)
+    (asked : Request) : Type 0 where
   pub name : RowName
   pub of_interval : interval_of shape name ≡ Some interval
   pub may : MayAskForget shape node least floor name asked

@@ -1,4 +1,5 @@
--- When a node fits what its desk knows: what it holds, what it has prepared and what it has to send are right by what
+-- When a node fits what its desk knows: what it holds, what it has prepared and what it has to send are right
+-- by what
 -- the desk has seen. Own.
 use Rattle.std.specs.Prelude.{◌≡◌, List, Option, Some, IfSome, All}
 use Rattle.mw_types.specs.Outcomes.{Outcome}
@@ -14,8 +15,8 @@ use Rattle.node.specs.Messages.{IsOutgoing}
 use Rattle.node.specs.Workers.{NodeView, WorkView}
 use Rattle.node.specs.declared.outgoing.Outgoing.TheVariants as outgoing
 
--- a record that its sender may have sent goes to a row that is held, and is not finished there; these effects are what
--- its computation's handler leaves of it on that row
+-- a record that its sender may have sent goes to a row that is held, and is not finished there; these effects
+-- are what its computation's handler leaves of it on that row
 pub record IsHandled (case : CaseShape) (desk : DeskView) (all : List (Option HeldView)) (sender : RowName)
     (delivery : Delivery) (effects : Outcome) : Type 0 where
   pub sent : IsOutgoing case desk (outgoing.Deliver delivery sender)
@@ -25,7 +26,8 @@ pub record IsHandled (case : CaseShape) (desk : DeskView) (all : List (Option He
 
 -- what is proposed is that such a record was handled
 abbrev pub IsPrepared : CaseShape → DeskView → List (Option HeldView) → RowName → Proposal → Type 0
-IsPrepared case desk all sender (proposals.Handle delivery effects) = IsHandled case desk all sender delivery effects
+IsPrepared case desk all sender (proposals.Handle delivery effects) =
+    IsHandled case desk all sender delivery effects
 IsPrepared case desk all sender _ = ⊥
 
 -- a work that is prepared is right

@@ -1,5 +1,7 @@
--- What workers send each other: a record to the row that handles it, and word that it was handled to the row that sent it.
--- Akidau et al., VLDB 2013, section 6.1. Own: what a message says is so in what its sender had seen of the history.
+-- What workers send each other: a record to the row that handles it, and word that it was handled to the row
+-- that sent it.
+-- Akidau et al., VLDB 2013, section 6.1. Own: what a message says is so in what its sender had seen of the
+-- history.
 use Rattle.std.specs.Prelude.{◌≡◌, ◌<◌, ◌≤◌, ℕ, true, List, Option, Some, None, IfSome, ⊤}
 use Rattle.mw_types.specs.declared.TheConstants.{MAX_STAMP}
 use Rattle.mw_types.specs.declared.identity.RecordId.{RecordId}
@@ -20,11 +22,13 @@ use Rattle.node.specs.declared.outgoing.Outgoing.TheVariants as outgoing
 -- ---- what a message says
 
 -- a delivery was made, by an entry on its sender's row
-pub record IsSentFrom (case : CaseShape) (seen : List Entry) (sender : RowName) (delivery : Delivery) : Type 0 where
+pub record IsSentFrom (case : CaseShape) (seen : List Entry) (sender : RowName)
+    (delivery : Delivery) : Type 0 where
   pub made : found_delivery delivery.id (run_of case.topology seen).made ≡ Some delivery
   pub on_sender : IsMadeOn seen sender delivery
 
--- what a message says is so in a history: its record was made on the sender's row, or the record of its id was handled
+-- what a message says is so in a history: its record was made on the sender's row, or the record of its id
+-- was handled
 abbrev pub IsSoIn : CaseShape → List Entry → Outgoing → Type 0
 IsSoIn case seen (outgoing.Deliver delivery sender) = IsSentFrom case seen sender delivery
 IsSoIn case seen (outgoing.Ack to id) = is_handled id seen ≡ true
@@ -34,8 +38,8 @@ pub record IsComputation (shape : Shape) (part : ℕ) : Type 0 where
   pub no_injector : injectors_of shape ≤ part
   pub there : part < parts_of shape
 
--- a record that is sent has an id and a timestamp that can be kept, goes to a computation's row and comes from a row
--- of a part
+-- a record that is sent has an id and a timestamp that can be kept, goes to a computation's row and comes
+-- from a row of a part
 pub record IsDeliverable (shape : Shape) (delivery : Delivery) (sender : RowName) : Type 0 where
   pub id : IsId delivery.id
   pub stamp : delivery.item.stamp ≤ MAX_STAMP

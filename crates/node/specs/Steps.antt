@@ -34,11 +34,13 @@ line_deliveries case name item commit =
 
 -- a work's record goes to a row of a part
 abbrev pub IsWorkThere : Shape → WorkView → Type 0
-IsWorkThere shape work = IfSome (sending_in work.sender work.proposal) (λ (s : Sending). s.delivery.to.part < parts_of shape)
+IsWorkThere shape work =
+    IfSome (sending_in work.sender work.proposal) (λ (s : Sending). s.delivery.to.part < parts_of shape)
 
 -- whether a work's record goes to a row of this interval
 abbrev pub is_work_in : Shape → ℕ → WorkView → Bool
-is_work_in shape interval work = option_map_or (goes_into shape interval) (sending_in work.sender work.proposal) false
+is_work_in shape interval work =
+    option_map_or (goes_into shape interval) (sending_in work.sender work.proposal) false
 
 -- a work that is prepared, unless its record goes to a row of this interval
 abbrev pub work_beside : Shape → ℕ → Option WorkView → Option WorkView

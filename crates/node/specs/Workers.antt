@@ -1,5 +1,7 @@
--- A worker: its leases, the record that it has handled and not yet written, and the messages that it has to send.
--- Akidau et al., VLDB 2013, section 6.1 for what a worker does on receipt of a record, section 6.2 for sequencers.
+-- A worker: its leases, the record that it has handled and not yet written, and the messages that it has to
+-- send.
+-- Akidau et al., VLDB 2013, section 6.1 for what a worker does on receipt of a record, section 6.2 for
+-- sequencers.
 -- Own: the rows that a worker has cached are left out, since its leases tell them.
 use Rattle.std.specs.Prelude.{◌==◌, ◌++◌, ◌∷◌, ℕ, Bool, false, not, if◌then◌else◌, List, [], map, length, Option, Some, None, ⊤}
 use Rattle.std.specs.Option.{option_map, option_map_or, option_and_then}
@@ -21,7 +23,8 @@ pub record Sending : Type 0 where
   pub delivery : Delivery
   pub sender : RowName
 
--- a worker: its sequencer for each interval that it has, what it has prepared, and what it has to send, first come first
+-- a worker: its sequencer for each interval that it has, what it has prepared, and what it has to send, first
+-- come first
 pub record Worker : Type 0 where
   pub leases : ℕ → Option ℕ
   pub prepared : Option Sending

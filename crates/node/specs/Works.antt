@@ -11,18 +11,22 @@ use Rattle.topology.specs.Shapes.{Shape, kind_of}
 use Rattle.holdings.specs.Holding.{HeldView, held_on, row_held}
 
 -- each computation has the states of its kind, and does with a record and with a timer what its kind does
-pub record IsWorkOf (shape : Shape) (has : ℕ → State → Type 0) (gives_record : ℕ → List ℕ → State → Record → Outcome)
+pub record IsWorkOf (shape : Shape) (has : ℕ → State → Type 0)
+    (gives_record : ℕ → List ℕ → State → Record → Outcome)
     (gives_timer : ℕ → List ℕ → State → Timer → Outcome) : Type 0 where
   pub states : (part : ℕ) (kind : Kind) (state : State) → kind_of shape part ≡ Some kind →
       has_kind kind state ≡ true → has part state
   pub records : (part : ℕ) (kind : Kind) (key : List ℕ) (state : State) (item : Record) →
-      kind_of shape part ≡ Some kind → gives_record part key state item ≡ effects_of_record kind key state item
+      kind_of shape part ≡ Some kind → gives_record part key state item
+      ≡ effects_of_record kind key state item
   pub timers : (part : ℕ) (kind : Kind) (key : List ℕ) (state : State) (timer : Timer) →
-      kind_of shape part ≡ Some kind → gives_timer part key state timer ≡ effects_of_timer kind key state timer
+      kind_of shape part ≡ Some kind → gives_timer part key state timer
+      ≡ effects_of_timer kind key state timer
 
 -- a part is a computation, and its rows may have the state
 abbrev pub IsStateThere : Shape → ℕ → State → Type 0
-IsStateThere shape part state = (kind : Kind) × (kind_of shape part ≡ Some kind) × (has_kind kind state ≡ true)
+IsStateThere shape part state =
+    (kind : Kind) × (kind_of shape part ≡ Some kind) × (has_kind kind state ≡ true)
 
 -- the row of this name has a state of its part's kind, where it is held
 abbrev pub HasStates : Shape → List (Option HeldView) → RowName → Type 0

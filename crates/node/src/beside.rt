@@ -6,8 +6,8 @@ ghost use Rattle.holdings.specs.Holding.{HasSeenOthers};
 ghost use Rattle.node.specs.Fits.{Fits};
 ghost use Rattle.node.specs.Workers.{NodeView};
 
-/// A worker that fits still does beside another that acts: a desk may come to see more, of which nothing
-/// was written under a lease that the worker has. It does nothing when it runs.
+/// A worker that fits still does beside another that acts: a desk may come to see more, of which
+/// nothing was written under a lease that the worker has. It does nothing when it runs.
 pub fn node_fits_beside()
     ensures beside { (case : CaseShape) (old new : DeskView) (node : NodeView) →
         IsSound old → IsSound new → HasSeenOthers old new node.held →

@@ -14,8 +14,8 @@ use run_history::Case;
 use std::alloc::Global;
 
 impl<N: Seen> Node<N> {
-    /// Takes an interval, whose rows it then has. Every earlier lease of it is stale after that, and
-    /// what this worker had of it is replaced.
+    /// Takes an interval, whose rows it then has. Every earlier lease of it is stale after that,
+    /// and what this worker had of it is replaced.
     #[tactic(auto, using(crate::proofs::FitLaws::looked_not, crate::proofs::FitLaws::grown_looked))]
     pub fn claim<D: Desk<Note = N>>(
         &mut self,

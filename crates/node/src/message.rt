@@ -3,8 +3,8 @@ use book::Seen;
 use mw_types::{Delivery, RecordId, RowName};
 use std::marker::Model;
 
-/// A record on its way to the row that handles it. Where the note tells, an entry on the sender's row
-/// made it in what the sender had seen.
+/// A record on its way to the row that handles it. Where the note tells, an entry on the sender's
+/// row made it in what the sender had seen.
 #[derive(Drop)]
 pub struct Parcel<N: Seen> {
     /// The record.
@@ -26,8 +26,8 @@ impl<N: Seen> Model for Parcel<N> {
     ghost invariant = { λ p. IsSoBy (N.sight p.note) (outgoing.Deliver p.delivery p.sender) };
 }
 
-/// Word that a record was handled, on its way to the row that sent it. Where the note tells, the record
-/// was handled in what the sender of the word had seen.
+/// Word that a record was handled, on its way to the row that sent it. Where the note tells, the
+/// record was handled in what the sender of the word had seen.
 #[derive(Drop)]
 pub struct Receipt<N: Seen> {
     /// The row that sent the record.

@@ -28,8 +28,14 @@ returns-in-Ok-clause-fits g c =
     let old = g.D.Desk.view c.args.desk.now in
     let new = g.D.Desk.view c.report-reported.new.self in
     let was = c.args.self.now in
-    let node : NodeView = record { number = c.self.inside.number; held = c.own_work.new.self; prepared = c.self.inside.prepared; outbox = c.self.inside.outbox.messages } in
-    let same : node ≡ was = ap (λ (h : List (Option HeldView)). with_held h c.self.inside.number c.self.inside.prepared c.self.inside.outbox.messages)
+    let node : NodeView = record {
+      number = c.self.inside.number;
+      held = c.own_work.new.self;
+      prepared = c.self.inside.prepared;
+      outbox = c.self.inside.outbox.messages;
+    } in
+    let same : node ≡ was = ap (λ (h : List (Option HeldView)). with_held h c.self.inside.number c.self.inside.prepared
+        c.self.inside.outbox.messages)
         c.in_ok-own.ensures.same ∙ c.self.view_is in
     subst (Fits case new) (sym same)
     (Fits-looked case old new was c.sound.ensures.sound c.sound-2.ensures.sound c.report-reported.ensures.looked c.requires.fits)
@@ -40,8 +46,14 @@ returns-in-Ok-clause-answers g c =
     let old = g.D.Desk.view c.args.desk.now in
     let new = g.D.Desk.view c.report-reported.new.self in
     let was = c.args.self.now in
-    let node : NodeView = record { number = c.self.inside.number; held = c.own_work.new.self; prepared = c.self.inside.prepared; outbox = c.self.inside.outbox.messages } in
-    let same : node ≡ was = ap (λ (h : List (Option HeldView)). with_held h c.self.inside.number c.self.inside.prepared c.self.inside.outbox.messages)
+    let node : NodeView = record {
+      number = c.self.inside.number;
+      held = c.own_work.new.self;
+      prepared = c.self.inside.prepared;
+      outbox = c.self.inside.outbox.messages;
+    } in
+    let same : node ≡ was = ap (λ (h : List (Option HeldView)). with_held h c.self.inside.number c.self.inside.prepared
+        c.self.inside.outbox.messages)
         c.in_ok-own.ensures.same ∙ c.self.view_is in
     let held = c.unwrap.result.now in
     let at_node : held_at c.own_work.new.self c.args.interval ≡ Some held = search rules in
@@ -67,8 +79,14 @@ returns-in-Err-clause-fits g c =
     let old = g.D.Desk.view c.args.desk.now in
     let new = g.D.Desk.view c.report-reported.new.self in
     let was = c.args.self.now in
-    let node : NodeView = record { number = c.self.inside.number; held = c.own_work.new.self; prepared = c.self.inside.prepared; outbox = c.self.inside.outbox.messages } in
-    let same : node ≡ was = ap (λ (h : List (Option HeldView)). with_held h c.self.inside.number c.self.inside.prepared c.self.inside.outbox.messages)
+    let node : NodeView = record {
+      number = c.self.inside.number;
+      held = c.own_work.new.self;
+      prepared = c.self.inside.prepared;
+      outbox = c.self.inside.outbox.messages;
+    } in
+    let same : node ≡ was = ap (λ (h : List (Option HeldView)). with_held h c.self.inside.number c.self.inside.prepared
+        c.self.inside.outbox.messages)
         c.in_ok-own.ensures.same ∙ c.self.view_is in
     Fits-yielded case new c.args.interval c.in-Err.why node c.yield_to.new.self c.yield_to.ensures.left (subst (Fits case new) (sym same)
     (Fits-looked case old new was c.sound.ensures.sound c.sound-2.ensures.sound c.report-reported.ensures.looked c.requires.fits))
@@ -79,8 +97,14 @@ returns-in-Err-clause-answers g c =
     let old = g.D.Desk.view c.args.desk.now in
     let new = g.D.Desk.view c.report-reported.new.self in
     let was = c.args.self.now in
-    let node : NodeView = record { number = c.self.inside.number; held = c.own_work.new.self; prepared = c.self.inside.prepared; outbox = c.self.inside.outbox.messages } in
-    let same : node ≡ was = ap (λ (h : List (Option HeldView)). with_held h c.self.inside.number c.self.inside.prepared c.self.inside.outbox.messages)
+    let node : NodeView = record {
+      number = c.self.inside.number;
+      held = c.own_work.new.self;
+      prepared = c.self.inside.prepared;
+      outbox = c.self.inside.outbox.messages;
+    } in
+    let same : node ≡ was = ap (λ (h : List (Option HeldView)). with_held h c.self.inside.number c.self.inside.prepared
+        c.self.inside.outbox.messages)
         c.in_ok-own.ensures.same ∙ c.self.view_is in
     let held = c.unwrap.result.now in
     let at_node : held_at c.own_work.new.self c.args.interval ≡ Some held = search rules in
@@ -101,13 +125,20 @@ returns-in-Err-clause-fault g c =
     let old = g.D.Desk.view c.args.desk.now in
     let new = g.D.Desk.view c.report-reported.new.self in
     let was = c.args.self.now in
-    let node : NodeView = record { number = c.self.inside.number; held = c.own_work.new.self; prepared = c.self.inside.prepared; outbox = c.self.inside.outbox.messages } in
-    let same : node ≡ was = ap (λ (h : List (Option HeldView)). with_held h c.self.inside.number c.self.inside.prepared c.self.inside.outbox.messages)
+    let node : NodeView = record {
+      number = c.self.inside.number;
+      held = c.own_work.new.self;
+      prepared = c.self.inside.prepared;
+      outbox = c.self.inside.outbox.messages;
+    } in
+    let same : node ≡ was = ap (λ (h : List (Option HeldView)). with_held h c.self.inside.number c.self.inside.prepared
+        c.self.inside.outbox.messages)
         c.in_ok-own.ensures.same ∙ c.self.view_is in
     let held = c.unwrap.result.now in
     let at_node : held_at c.own_work.new.self c.args.interval ≡ Some held = search rules in
     let at : held_at was.held c.args.interval ≡ Some held = ap (λ (n : NodeView). held_at n.held c.args.interval) (sym same) ∙ at_node in
     let lease : c.lease.result.now ≡ held.lease = c.lease.ensures.lease in
     let reason = subst (λ (l : LeaseView). HasReason old new l c.in-Err.why) lease c.in-Err.ensures.reason in
-    subst (λ (r : Result Outcome NodeFault). IfErr r (FailsReport old new (held_at was.held c.args.interval))) (sym c.yield_to.ensures.answer)
+    subst (λ (r : Result Outcome NodeFault). IfErr r (FailsReport old new (held_at was.held c.args.interval))) (sym
+        c.yield_to.ensures.answer)
     (reason-held old new was.held c.args.interval held (answered c.in-Err.why) at (fails-refused old new held.lease c.in-Err.why reason))

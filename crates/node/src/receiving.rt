@@ -1,0 +1,167 @@
+//! Messages that come to a worker.
+ghost use Rattle.std.specs.Prelude.{◌≡◌, ◌≤◌, ◌++◌, ◌∷◌, [], IfErr, IfOk, OnErr, OnOk, Some};
+ghost use Rattle.mw_types.specs.declared.TheConstants.{MAX_STAMP};
+ghost use Rattle.topology.specs.Shapes.{Shape};
+ghost use Rattle.row_parts.specs.Contents.{is_finished};
+ghost use Rattle.run_history.specs.Legal.{record_outcome};
+ghost use Rattle.book.specs.Desks.{DeskView, HasLooked, IsSound, KeepsMarks};
+ghost use Rattle.holdings.specs.Holding.{row_held};
+ghost use Rattle.node.specs.Answers.{HasKept, taken_from, taken_in};
+ghost use Rattle.node.specs.Fits.{Fits};
+ghost use Rattle.node.specs.Messages.{IsAddressed, IsDeliverable, IsOutgoing, IsVouchedFor};
+ghost use Rattle.node.specs.Received.{IsDeliver, note_of, outgoing_of};
+ghost use Rattle.node.specs.Workers.{worker_at};
+ghost use Rattle.node.specs.Works.{HasStates, IsStateThere, IsWorkOf};
+ghost use Rattle.node.specs.declared.outgoing.Outgoing.TheVariants as outgoing;
+
+use crate::handling::handled;
+use crate::message::{Message, Parcel};
+use crate::node::Node;
+use crate::outcome::{NodeFault, Outcome};
+use crate::outgoing::Outgoing;
+use crate::work::Work;
+use book::{Desk, Proposal, Seen};
+use computations::Computation;
+use holdings::Held;
+use mw_types::{Delivery, Effects, MAX_STAMP, NoMemory, RecordId, RowName};
+use run_history::{Case, first_row};
+use std::alloc::Global;
+
+impl<N: Seen> Node<N> {
+    /// Takes in a record, whose row it has, and handles it; a record that is finished there is
+    /// acknowledged again. The message is used up whatever the answer is.
+    pub fn prepare<D: Desk<Note = N>, C: Computation>(
+        &mut self,
+        alloc: Global,
+        desk: &mut D,
+        case: &Case,
+        work: &C,
+        message: Message<N>,
+    ) -> Result<Outcome, NodeFault>
+        requires fits { Fits case.now (D.view desk.old) self.old }
+        requires work { IsWorkOf case.now.topology (C.has work.now)
+            (C.gives_record work.now) (C.gives_timer work.now) }
+        requires record { IsDeliver (outgoing_of message) }
+        requires addressed { IsAddressed case.now.topology (outgoing_of message) }
+        requires known { D.knows desk.old (note_of message) }
+        requires vouched { IsVouchedFor case.now (D.view desk.old)
+            (N.sight (note_of message)) (outgoing_of message) }
+
+        ensures fits { Fits case.now (D.view desk.new) self.new }
+        ensures answers { IfOk result (λ outcome. (outcome, worker_at self.new)
+            ≡ taken_from case.now.topology self.old (outgoing_of message)) }
+        ensures number { self.new.number ≡ self.old.number }
+
+        ensures kept { OnErr result (HasKept self.old self.new) }
+        ensures fault { IfErr result (λ fault. fault ≡ NodeFault.NoMemory) }
+
+        ensures looked { HasLooked (D.view desk.old) (D.view desk.new) }
+        ensures marks { KeepsMarks (D.view desk.old) (D.view desk.new) }
+        ensures loan { D.loan desk.new ≡ D.loan desk.old }
+    {
+        match message {
+            Message::Deliver { parcel } => {
+                let Parcel {
+                    delivery,
+                    sender,
+                    note,
+                } = parcel;
+                desk.sound();
+                desk.meet(note);
+                desk.sound();
+                self.take_in(alloc, case, work, delivery, sender)
+            }
+            Message::Ack { receipt: _ } => Ok(Outcome::Nothing),
+        }
+    }
+
+    // Takes in a record, as its sender may have sent it.
+    fn take_in<C: Computation>(
+        &mut self,
+        alloc: Global,
+        case: &Case,
+        work: &C,
+        delivery: Delivery,
+        sender: RowName,
+    ) -> Result<Outcome, NodeFault>
+        requires work { IsWorkOf case.now.topology (C.has work.now)
+            (C.gives_record work.now) (C.gives_timer work.now) }
+        requires deliverable { IsDeliverable case.now.topology delivery sender }
+        requires states { HasStates case.now.topology self.old.held delivery.to }
+
+        ensures fits { (desk : DeskView) → IsSound desk → Fits case.now desk self.old →
+            IsOutgoing case.now desk (outgoing.Deliver delivery sender) →
+            Fits case.now desk self.new }
+        ensures answers { IfOk result (λ outcome. (outcome, worker_at self.new)
+            ≡ taken_in case.now.topology self.old delivery sender) }
+        ensures number { self.new.number ≡ self.old.number }
+        ensures kept { OnErr result (HasKept self.old self.new) }
+        ensures fault { IfErr result (λ fault. fault ≡ NodeFault.NoMemory) }
+    {
+        if self.prepared.is_some() {
+            return Ok(Outcome::Nothing);
+        }
+        let interval = case.interval_of(&delivery.to);
+        let Some(held) = self.held.get(interval) else {
+            return Ok(Outcome::NotMine);
+        };
+        if is_finished(held, &delivery) {
+            self.acknowledge(sender, delivery.id)?;
+            return Ok(Outcome::Duplicate);
+        }
+        let effects = handled_on(alloc, work, case, held, &delivery)?;
+        let proposal = Proposal::Handle { delivery, effects };
+        self.prepared = Some(Work { sender, proposal });
+        Ok(Outcome::Prepared)
+    }
+
+    // Sends word once more that a record was handled.
+    fn acknowledge(&mut self, sender: RowName, id: RecordId) -> Result<(), NoMemory>
+        ensures put { OnOk result (self.new ≡ record self.old {
+          outbox = self.old.outbox ++ outgoing.Ack sender id ∷ [];
+        }) }
+        ensures unchanged { OnErr result (self.new ≡ self.old) }
+    {
+        self.outbox.make_room(1)?;
+        self.outbox.put(Outgoing::Ack { to: sender, id });
+        Ok(())
+    }
+}
+
+// Whether a record is finished in its row as it is held.
+fn is_finished(held: &Held, delivery: &Delivery) -> bool
+    ensures { (shape : Shape) →
+        result ≡ is_finished delivery.now.id (row_held shape held.now delivery.now.to) }
+{
+    match held.row(&delivery.to) {
+        Some(row) => row.is_finished(delivery.id),
+        None => false,
+    }
+}
+
+// What a computation leaves of a record on its row as it is held.
+fn handled_on<C: Computation>(
+    alloc: Global,
+    work: &C,
+    case: &Case,
+    held: &Held,
+    delivery: &Delivery,
+) -> Result<Effects, NoMemory>
+    requires work { IsWorkOf case.now.topology (C.has work.now)
+        (C.gives_record work.now) (C.gives_timer work.now) }
+    requires there { IsStateThere case.now.topology delivery.now.to.part
+        (row_held case.now.topology held.now delivery.now.to).state }
+    requires stamp { delivery.now.item.stamp ≤ MAX_STAMP }
+    ensures does { let row = row_held case.now.topology held.now delivery.now.to in
+        IfOk result (λ effects.
+        record_outcome case.now delivery.now.to row delivery.now.item ≡ Some effects) }
+{
+    let name = &delivery.to;
+    match held.row(name) {
+        Some(row) => handled(alloc, work, case, name, row, &delivery.item),
+        None => {
+            let row = first_row(alloc, case, name.part);
+            handled(alloc, work, case, name, &row, &delivery.item)
+        }
+    }
+}
