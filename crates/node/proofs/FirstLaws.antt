@@ -68,7 +68,7 @@ picked-forgets : (floor least : ℕ) (row : Contents) → forgets floor least ro
     → (max 1 least ≤ length row.seen) × (row.floor < floor)
 picked-forgets floor least row is =
     let two = both (nat_lt row.floor floor) (nat_le (max 1 least) (length row.seen)) (passes (nat_lt row.floor floor && nat_le
-        (max 1 least) (length row.seen)) is) in (
+    (max 1 least) (length row.seen)) is) in (
       leb-true (max 1 least) (length row.seen) two.1,
       ltb-true row.floor floor two.0,
     )
@@ -170,13 +170,16 @@ next-purge-held shape node interval least floor found free = by_held (held_at no
 pub first-forgets : (shape : Shape) (node : NodeView) (interval least floor : ℕ) (name : RowName)
     → IsToPurge shape node interval least floor (Some name) → MayForget shape node 0 floor name
 first-forgets shape node interval least floor name is =
-    let may = is.2.may in subst (λ (n : RowName). MayForget shape node 0 floor n) is.3 (is.1, record {
-      free = may.free;
-      held = may.held;
-      there = may.there;
-      forgets = record { many = let many = may.forgets.many in omega (arith, many); rises = may.forgets.rises };
-      request = may.request;
-    })
+    let may = is.2.may in subst (λ (n : RowName). MayForget shape node 0 floor n) is.3 (
+      is.1,
+      record {
+        free = may.free;
+        held = may.held;
+        there = may.there;
+        forgets = record { many = let many = may.forgets.many in omega (arith, many); rises = may.forgets.rises };
+        request = may.request;
+      },
+    )
 
 -- ---- what a purge answers
 
@@ -185,7 +188,7 @@ pub purge-answers : (case : CaseShape) (old mid new : DeskView) (was node : Node
     (result : Result Outcome NodeFault) → IsSound old → IsSound mid → HasLooked old mid → floor ≡ mid.floor
     → HasGrown was.held mid new → IsToPurge case.topology was interval least floor (Some name)
     → ((held : HeldView) → held_on case.topology was.held name ≡ Some held
-      → IfOk result (AnswersWrite case.topology mid new (forgetting held name floor) (worker_at was) was node))
+    → IfOk result (AnswersWrite case.topology mid new (forgetting held name floor) (worker_at was) was node))
     → IfOk result (AnswersPurge case.topology old new interval least was node)
 purge-answers case old mid new was node interval least floor name result sound is looked at grown first answers =
     let shape = case.topology in

@@ -30,9 +30,9 @@ returns-in-Some-clause-answers g c =
     let mid = g.D.Desk.view c.floor-floor.new.self in
     let new = g.D.Desk.view c.forget.new.desk in
     let first : IsToPurge c.args.case.now.topology c.args.self.now c.args.interval c.args.least c.floor-floor.result (Some c.in-Some.name) =
-        search rules in
+    search rules in
     purge-answers c.args.case.now old mid new c.args.self.now c.forget.new.self c.args.interval c.args.least c.floor-floor.result
-        c.in-Some.name
+    c.in-Some.name
     c.forget.result c.sound.ensures.sound c.sound-2.ensures.sound c.floor-floor.ensures.looked c.floor-floor.ensures.floor
     c.forget.ensures.grown first c.forget.ensures.answers
 

@@ -20,11 +20,11 @@ returns-in_ok-copy-in-Some g c =
     let free : node.prepared ≡ None = search rules in
     let there : IsSome (held_at node.held c.args.interval) = search rules in
     let within = subst (λ (n : NodeView). AreRowsWithin shape c.args.interval (held_at n.held c.args.interval)) (sym
-        c.self.view_is) c.requires.within in
+    c.self.view_is) c.requires.within in
     let found : IsToPurge shape c.args.self.now c.args.interval c.args.least c.args.floor (Some c.in-Some.name.now) =
-        subst (λ (n : NodeView). IsToPurge shape n c.args.interval c.args.least c.args.floor (Some c.in-Some.name.now)) c.self.view_is
-        (next-purge-held shape node c.args.interval c.args.least c.args.floor (Some c.in-Some.name.now) free there within
-            c.in-Some.ensures.first) in
+    subst (λ (n : NodeView). IsToPurge shape n c.args.interval c.args.least c.args.floor (Some c.in-Some.name.now)) c.self.view_is
+    (next-purge-held shape node c.args.interval c.args.least c.args.floor (Some c.in-Some.name.now) free there within
+    c.in-Some.ensures.first) in
     record {
       found = subst (λ (n : RowName). IsToPurge shape c.args.self.now c.args.interval c.args.least c.args.floor (Some n))
           (sym c.in_ok-copy-in-Some.ensures.copied) found;
@@ -43,8 +43,8 @@ returns-in-None g c =
     let free : node.prepared ≡ None = search rules in
     let there : IsSome (held_at node.held c.args.interval) = search rules in
     let within = subst (λ (n : NodeView). AreRowsWithin shape c.args.interval (held_at n.held c.args.interval)) (sym
-        c.self.view_is) c.requires.within in
+    c.self.view_is) c.requires.within in
     let found : IsToPurge shape c.args.self.now c.args.interval c.args.least c.args.floor (None) =
-        subst (λ (n : NodeView). IsToPurge shape n c.args.interval c.args.least c.args.floor (None)) c.self.view_is
-        (next-purge-held shape node c.args.interval c.args.least c.args.floor (None) free there within c.in-None.ensures.first) in
+    subst (λ (n : NodeView). IsToPurge shape n c.args.interval c.args.least c.args.floor (None)) c.self.view_is
+    (next-purge-held shape node c.args.interval c.args.least c.args.floor (None) free there within c.in-None.ensures.first) in
     record { found = found }
