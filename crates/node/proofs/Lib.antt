@@ -11,3 +11,5 @@ pub mod StateLaws
 pub mod CommitLaws
 pub mod CopyLaws
 pub mod ReceiveLaws
+pub mod SettleLaws
+pub mod WrittenLaws

@@ -1,17 +1,20 @@
 -- What a call answers that looks before it asks its desk.
 use Rattle.std.proofs.Common.{◌≡◌, List, subst, inl, inr}
-use Rattle.std.specs.Prelude.{IfErr, IfSome, Option, OnErr, Result, Ok, Err}
+use Rattle.std.specs.Prelude.{IfErr, IfOk, IfSome, Option, OnErr, Some, None, Result, Ok, Err}
+use Rattle.mw_types.specs.declared.identity.RecordId.{RecordId}
+use Rattle.mw_types.specs.declared.identity.RowName.{RowName}
 use Rattle.topology.specs.Shapes.{Shape}
 use Rattle.book.specs.Books.{LeaseView}
 use Rattle.book.specs.Desks.{DeskView, HasLooked}
 use Rattle.book.specs.declared.desk_refusal.DeskRefusal.{DeskRefusal}
-use Rattle.holdings.specs.Holding.{HeldView}
-use Rattle.node.specs.Answers.{AnswersWrite, FailsHeld, HasGrown, IsIdle, IsRefused, refusal_of}
-use Rattle.node.specs.Asking.{Request}
-use Rattle.node.specs.Workers.{NodeView, Worker}
+use Rattle.holdings.specs.Holding.{HeldView, held_on}
+use Rattle.node.specs.Answers.{AnswersAck, AnswersAckOf, AnswersAsked, AnswersWrite, FailsHeld, HasGrown, IsIdle, IsRefused, refusal_of}
+use Rattle.node.specs.Asking.{Request, settling}
+use Rattle.node.specs.Workers.{NodeView, Worker, worker_at}
 use Rattle.node.specs.declared.outcome.NodeFault.{NodeFault}
 use Rattle.node.specs.declared.outcome.Outcome.{Outcome}
 use Rattle.node.specs.declared.outcome.Outcome.TheVariants as outcomes
+use Rattle.node.specs.declared.outgoing.Outgoing.TheVariants as outgoing
 use Rattle.node.proofs.FitLaws.{looked-moved}
 
 -- what was told before a look
@@ -28,7 +31,7 @@ refused-later old mid new lease why looked is = record {
 }
 
 -- nothing was appended after a look
-idle-later : (old mid new : DeskView) (was node : NodeView) → HasLooked old mid → IsIdle mid new was node → IsIdle old new was node
+pub idle-later : (old mid new : DeskView) (was node : NodeView) → HasLooked old mid → IsIdle mid new was node → IsIdle old new was node
 idle-later old mid new was node looked is = record { looked = looked-moved old mid new new.seen looked is.looked; kept = is.kept }
 
 -- an entry that was asked for after a look
@@ -92,3 +95,28 @@ grown-later old mid new all looked is = record {
   appended = is.appended;
   under = is.under;
 }
+
+-- ---- what may be asked after a look
+
+-- an entry that may be asked for after a look
+asked-later : (shape : Shape) (old mid new : DeskView) (asked : Option Request) (after : Worker) (was node : NodeView) (outcome : Outcome)
+    → HasLooked old mid → AnswersAsked shape mid new asked after was node outcome → AnswersAsked shape old new asked after was node outcome
+asked-later shape old mid new None after was node outcome looked is = (is.0, idle-later old mid new was node looked is.1)
+asked-later shape old mid new (Some asked) after was node outcome looked is = answers-later shape old mid new asked after was node outcome looked is
+
+-- word for a row that may be held after a look
+word-later : (shape : Shape) (old mid new : DeskView) (here : Option HeldView) (to : RowName) (id : RecordId) (was node : NodeView)
+    (outcome : Outcome) → HasLooked old mid → AnswersAck shape mid new here to id was node outcome
+    → AnswersAck shape old new here to id was node outcome
+word-later shape old mid new None to id was node outcome looked is = (is.0, idle-later old mid new was node looked is.1)
+word-later shape old mid new (Some held) to id was node outcome looked is =
+    asked-later shape old mid new (settling shape to id held) (worker_at was) was node outcome looked is
+
+-- word that is taken in after a look
+pub ack-later : (shape : Shape) (old mid new : DeskView) (to : RowName) (id : RecordId) (was node : NodeView)
+    (result : Result Outcome NodeFault) → HasLooked old mid
+    → IfOk result (AnswersAck shape mid new (held_on shape was.held to) to id was node)
+    → IfOk result (AnswersAckOf shape old new (outgoing.Ack to id) was node)
+ack-later shape old mid new to id was node (Ok outcome) looked is =
+    word-later shape old mid new (held_on shape was.held to) to id was node outcome looked is
+ack-later shape old mid new to id was node (Err fault) looked is = tt

@@ -23,7 +23,9 @@ mod purges;
 mod receiving;
 mod reports;
 mod sends;
+mod settling;
 mod work;
+mod writes;
 mod yields;
 
 pub use beside::node_fits_beside;

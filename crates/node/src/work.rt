@@ -1,5 +1,5 @@
 //! A record that was handled and is not yet written.
-ghost use Rattle.std.specs.Prelude.{◌≡◌, IfOk, IfSome, MatchOption, Some, false};
+ghost use Rattle.std.specs.Prelude.{◌≡◌, IfOk, IfSome, MatchOption, None, Some, false};
 ghost use Rattle.std.specs.Option.{option_map_or};
 ghost use Rattle.book.specs.declared.proposal.Proposal.TheVariants as proposals;
 ghost use Rattle.node.specs.declared.outgoing.Outgoing.TheVariants as outgoing;
@@ -81,4 +81,11 @@ pub(crate) fn is_prepared_in(case: &Case, interval: u32, prepared: &Option<Work>
         Some(work) => work.is_in(case, interval),
         None => false,
     }
+}
+
+// Lets go of a work that was prepared.
+pub(crate) fn unprepared(prepared: &mut Option<Work>)
+    ensures { prepared.new ≡ None }
+{
+    *prepared = None;
 }

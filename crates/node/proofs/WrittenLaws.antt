@@ -1,0 +1,169 @@
+-- What a node leaves once its desk has taken what it had prepared, or has refused it.
+use Rattle.std.proofs.Common.{◌≡◌, ◌∙◌, ◌<◌, ◌≤◌, ◌+◌, ◌^◌, ℕ, Bool, List, [], ◌∷◌, ◌++◌, length, map, refl, sym, ap, subst, arith}
+use Rattle.std.specs.Prelude.{All, IfErr, IfOk, IfSome, Option, Some, None}
+use Rattle.std.proofs.lemmas.List.{length-append}
+use Rattle.mw_types.specs.Outcomes.{Outcome as Effects}
+use Rattle.mw_types.specs.declared.delivery.Delivery.{Delivery}
+use Rattle.mw_types.specs.declared.entry.Entry.{Entry}
+use Rattle.mw_types.specs.declared.entry.Entry.TheVariants as entries
+use Rattle.mw_types.specs.declared.identity.RecordId.{RecordId}
+use Rattle.mw_types.specs.declared.identity.RowName.{RowName}
+use Rattle.mw_types.specs.declared.record.Production.{Production}
+use Rattle.topology.specs.Shapes.{Shape}
+use Rattle.row_parts.specs.Contents.{Contents}
+use Rattle.run_history.specs.Cases.{CaseShape}
+use Rattle.run_history.specs.Fences.{interval_of}
+use Rattle.run_history.specs.Made.{deliveries_made}
+use Rattle.book.specs.Books.{LeaseView}
+use Rattle.book.specs.Desking.{HasWritten}
+use Rattle.book.specs.Desks.{DeskView, HasLooked, IsSound}
+use Rattle.book.specs.declared.answers.Written.{Written}
+use Rattle.book.specs.declared.desk_refusal.DeskRefusal.{DeskRefusal}
+use Rattle.book.specs.declared.proposal.Proposal.{Proposal}
+use Rattle.book.specs.declared.proposal.Proposal.TheVariants as proposals
+use Rattle.holdings.specs.Holding.{AreHeld, HeldView, HoldsEntry, IsRefusedOf}
+use Rattle.node.specs.Answers.{AnswersAsked, AnswersWrite, FailsAsked, HasGrown, HasKept}
+use Rattle.node.specs.Asking.{Request, handled_as, work_asked}
+use Rattle.node.specs.Fits.{Fits}
+use Rattle.node.specs.Messages.{IsAddressed}
+use Rattle.node.specs.Outboxes.{numbered}
+use Rattle.node.specs.Steps.{HasYielded, answered}
+use Rattle.node.specs.Workers.{NodeView, Sending, Worker, WorkView, messages_from, sending_in, worker_at}
+use Rattle.node.specs.declared.outgoing.Outgoing.{Outgoing}
+use Rattle.node.specs.declared.outgoing.Outgoing.TheVariants as outgoing
+use Rattle.node.proofs.CommitLaws.{Fits-written, IsAppended, appended-handled, grown-by, held-at-on, work-asked, work-of, written_by}
+use Rattle.node.proofs.FitLaws.{answers-refused, fails-refused}
+use Rattle.node.proofs.PurgeLaws.{ok-answers}
+use Rattle.node.proofs.RefusedLaws.{reason-at}
+use Rattle.node.proofs.SettleLaws.{fails-asked}
+
+-- ---- what is to be sent
+
+-- the number of an entry that a desk has seen last is small
+number-small : (desk : DeskView) (before : List Entry) (entry : Entry) (commit : ℕ) → IsSound desk → desk.seen ≡ before ++ entry ∷ []
+    → commit ≡ length before → commit < 2 ^ 32
+number-small desk before entry commit sound appended number =
+    let long : length desk.seen ≡ length before + 1 = ap length appended ∙ length-append before (entry ∷ []) in
+    omega (arith, sound.limit, sound.few, long, number)
+
+-- word for the sender of a work
+pub ack-of : (sender : RowName) (proposal : Proposal) (delivery : Delivery) (effects : Effects) (ack : Outgoing)
+    → proposal ≡ proposals.Handle delivery effects
+    → IfSome (sending_in sender proposal) (λ (s : Sending). ack ≡ outgoing.Ack s.sender s.delivery.id)
+    → ack ≡ outgoing.Ack sender delivery.id
+ack-of sender proposal delivery effects ack is word =
+    subst (λ (p : Proposal). IfSome (sending_in sender p) (λ (s : Sending). ack ≡ outgoing.Ack s.sender s.delivery.id)) is word
+
+-- what was made, by the case and the productions as they are
+pub made-here : (one two : Shape) (ps qs : List Production) (name : RowName) (late : Bool) (made : List Outgoing) → one ≡ two → ps ≡ qs
+    → ((commit : ℕ) → map (numbered commit) made ≡ messages_from name (deliveries_made one name.part ps late commit))
+    → (commit : ℕ) → map (numbered commit) made ≡ messages_from name (deliveries_made two name.part qs late commit)
+made-here one two ps qs name late made same equal is = λ commit.
+    is commit ∙ ap (λ (k : Shape). messages_from name (deliveries_made k name.part ps late commit)) same
+    ∙ ap (λ (list : List Production). messages_from name (deliveries_made two name.part list late commit)) equal
+
+-- and where it goes
+pub addressed-here : (one two : Shape) (ps qs : List Production) (name : RowName) (late : Bool) → one ≡ two → ps ≡ qs
+    → ((commit : ℕ) → commit < 2 ^ 32 → All (IsAddressed one) (messages_from name (deliveries_made one name.part ps late commit)))
+    → (commit : ℕ) → commit < 2 ^ 32 → All (IsAddressed two) (messages_from name (deliveries_made two name.part qs late commit))
+addressed-here one two ps qs name late same equal is = subst (λ (list : List Production). (commit : ℕ) → commit < 2 ^ 32
+    → All (IsAddressed two) (messages_from name (deliveries_made two name.part list late commit))) equal
+    (subst (λ (k : Shape). (commit : ℕ) → commit < 2 ^ 32 → All (IsAddressed k) (messages_from name (deliveries_made k name.part ps late commit)))
+    same is)
+
+-- an outbox into which word was put, and then what was made
+pub outbox-written : (outbox one two three : List Outgoing) (ack : Outgoing) (sender : RowName) (id : RecordId) (made : List Outgoing)
+    (name : RowName) (ds : List Delivery) (commit : ℕ) → one ≡ outbox → two ≡ one ++ ack ∷ [] → three ≡ two ++ map (numbered commit) made
+    → ack ≡ outgoing.Ack sender id → map (numbered commit) made ≡ messages_from name ds
+    → three ≡ (outbox ++ outgoing.Ack sender id ∷ []) ++ messages_from name ds
+outbox-written outbox one two three ack sender id made name ds commit room put all word sent =
+    all ∙ ap (λ (l : List Outgoing). l ++ map (numbered commit) made)
+      (put ∙ ap (λ (l : List Outgoing). l ++ ack ∷ []) room ∙ ap (λ (a : Outgoing). outbox ++ a ∷ []) word)
+    ∙ ap (λ (l : List Outgoing). (outbox ++ outgoing.Ack sender id ∷ []) ++ l) sent
+
+-- a node of these parts has written its work
+pub node-written : (shape : Shape) (held : List (Option HeldView)) (sender : RowName) (delivery : Delivery) (effects : Effects)
+    (commit : ℕ) (node : NodeView) (prepared : Option WorkView) (outbox : List Outgoing) → prepared ≡ None
+    → outbox ≡ (node.outbox ++ outgoing.Ack sender delivery.id ∷ [])
+      ++ messages_from delivery.to (deliveries_made shape delivery.to.part effects.productions delivery.item.late commit)
+    → written_by shape held sender delivery effects commit node
+    ≡ record { number = node.number; held = held; prepared = prepared; outbox = outbox }
+node-written shape held sender delivery effects commit node prepared outbox gone is =
+    λ i. record { number = node.number; held = held; prepared = sym gone i; outbox = sym is i }
+
+-- ---- an entry that stands
+
+-- a work that was written, as the desk answered it
+abbrev pub HoldsWork : Shape → DeskView → DeskView → ℕ → RowName → Proposal → ℕ → List (Option HeldView) → List (Option HeldView) → Type 0
+HoldsWork shape old new interval name proposal commit before after = HoldsEntry shape interval name commit
+    (λ (lease : LeaseView) (row : Contents) (answer : Written). HasWritten old new lease name proposal row answer) before after
+
+-- it stands under the lease that was held
+pub appended-work : (shape : Shape) (old new : DeskView) (interval : ℕ) (proposal : Proposal) (delivery : Delivery) (effects : Effects)
+    (commit : ℕ) (before after : List (Option HeldView)) → proposal ≡ proposals.Handle delivery effects
+    → (h : HoldsWork shape old new interval delivery.to proposal commit before after)
+    → IsAppended old new h.held.lease (entries.Handle h.held.lease.seq delivery.to delivery.id effects) commit
+appended-work shape old new interval proposal delivery effects commit before after is h =
+    subst (IsAppended old new h.held.lease (entries.Handle h.held.lease.seq delivery.to delivery.id effects)) h.number
+    (appended-handled old new h.held.lease delivery.to delivery effects proposal _ h.answer is h.entry)
+
+-- its entry is the node's own
+pub grown-work : (shape : Shape) (old new : DeskView) (interval : ℕ) (proposal : Proposal) (delivery : Delivery) (effects : Effects)
+    (commit : ℕ) (before after : List (Option HeldView)) → proposal ≡ proposals.Handle delivery effects
+    → HoldsWork shape old new interval delivery.to proposal commit before after → HasGrown before old new
+grown-work shape old new interval proposal delivery effects commit before after is h =
+    grown-by before old new interval h.held (entries.Handle h.held.lease.seq delivery.to delivery.id effects) commit h.was
+    (appended-work shape old new interval proposal delivery effects commit before after is h) refl
+
+-- the node fits
+pub Fits-committed : (case : CaseShape) (old new : DeskView) (node : NodeView) (held : List (Option HeldView)) (work : WorkView)
+    (delivery : Delivery) (effects : Effects) (interval commit : ℕ) → node.prepared ≡ Some work
+    → work.proposal ≡ proposals.Handle delivery effects
+    → HoldsWork case.topology old new interval delivery.to work.proposal commit node.held held → AreHeld case new held → IsSound new
+    → ((number : ℕ) → number < 2 ^ 32 → All (IsAddressed case.topology) (messages_from delivery.to
+      (deliveries_made case.topology delivery.to.part effects.productions delivery.item.late number)))
+    → Fits case old node → Fits case new (written_by case.topology held work.sender delivery effects commit node)
+Fits-committed case old new node held work delivery effects interval commit prepared is h fit sound addressed fits =
+    let a = appended-work case.topology old new interval work.proposal delivery effects commit node.held held is h in
+    Fits-written case old new node held work.sender delivery effects h.held.lease commit a fit
+    (work-of case old node work delivery effects fits prepared is)
+    (addressed commit (number-small new a.before _ commit sound a.appended a.number)) fits
+
+-- ---- a refusal
+
+-- what is asked of the work
+asked-work : (case : CaseShape) (desk : DeskView) (node : NodeView) (work : WorkView) (delivery : Delivery) (effects : Effects)
+    (fits : Fits case desk node) (prepared : node.prepared ≡ Some work) (is : work.proposal ≡ proposals.Handle delivery effects)
+    → work_asked case.topology node ≡ Some (handled_as delivery effects (work-of case desk node work delivery effects fits prepared is).held)
+asked-work case desk node work delivery effects fits prepared is =
+    work-asked case.topology node work delivery effects (work-of case desk node work delivery effects fits prepared is).held prepared is
+    (work-of case desk node work delivery effects fits prepared is).there
+
+-- what a call answers that was refused
+pub answers-unwritten : (case : CaseShape) (old new : DeskView) (after : Worker) (was mid node : NodeView) (work : WorkView)
+    (delivery : Delivery) (effects : Effects) (interval : ℕ) (why : DeskRefusal) → was.prepared ≡ Some work
+    → work.proposal ≡ proposals.Handle delivery effects → interval_of case.topology delivery.to ≡ Some interval → Fits case old was
+    → HasLooked old new → IsRefusedOf old new was.held interval why → HasKept was mid → HasYielded case.topology interval why mid node
+    → IfOk (answered why) (AnswersAsked case.topology old new (work_asked case.topology was) after was node)
+answers-unwritten case old new after was mid node work delivery effects interval why prepared is covers fits looked reason kept left =
+    let shape = case.topology in
+    let held = (work-of case old was work delivery effects fits prepared is).held in
+    let at = held-at-on shape was.held delivery.to interval held (work-of case old was work delivery effects fits prepared is).there covers in
+    let asked = handled_as delivery effects held in
+    ok-answers (answered why) (AnswersWrite shape old new asked after was node) (AnswersAsked shape old new (work_asked shape was) after was node)
+    (λ outcome answers. subst (λ (o : Option Request). AnswersAsked shape old new o after was node outcome)
+    (sym (asked-work case old was work delivery effects fits prepared is)) answers)
+    (answers-refused shape old new asked after was mid node why looked (reason-at old new was.held interval held why at reason) kept
+    (subst (λ (n : ℕ). HasYielded shape n why mid node) (sym (fits.held.each interval held at).of_interval) left))
+
+-- and why it failed
+pub fails-unwritten : (case : CaseShape) (old new : DeskView) (was : NodeView) (work : WorkView) (delivery : Delivery) (effects : Effects)
+    (interval : ℕ) (why : DeskRefusal) → was.prepared ≡ Some work → work.proposal ≡ proposals.Handle delivery effects
+    → interval_of case.topology delivery.to ≡ Some interval → Fits case old was → IsRefusedOf old new was.held interval why
+    → IfErr (answered why) (FailsAsked old new (work_asked case.topology was))
+fails-unwritten case old new was work delivery effects interval why prepared is covers fits reason =
+    let held = (work-of case old was work delivery effects fits prepared is).held in
+    let at = held-at-on case.topology was.held delivery.to interval held (work-of case old was work delivery effects fits prepared is).there covers in
+    fails-asked old new (work_asked case.topology was) (handled_as delivery effects held) (answered why)
+    (asked-work case old was work delivery effects fits prepared is)
+    (fails-refused old new held.lease why (reason-at old new was.held interval held why at reason))

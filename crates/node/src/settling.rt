@@ -1,0 +1,146 @@
+//! Acknowledgements that come to a worker.
+ghost use Rattle.std.specs.Prelude.{◌≡◌, ◌<◌, IfErr, IfOk, IfSome, OnErr, true};
+ghost use Rattle.std.specs.List.{list_any};
+ghost use Rattle.std.specs.Option.{is_some};
+ghost use Rattle.run_history.specs.Finished.{is_handled};
+ghost use Rattle.run_history.specs.Made.{found_delivery};
+ghost use Rattle.row_parts.specs.Contents.{same_id};
+ghost use Rattle.topology.specs.Shapes.{Shape, parts_of};
+ghost use Rattle.book.specs.Desks.{HasLooked, KeepsMarks};
+ghost use Rattle.holdings.specs.Holding.{held_on, row_held};
+ghost use Rattle.node.specs.Answers.{AnswersAck, AnswersAckOf, FailsAsked, HasGrown, HasKept};
+ghost use Rattle.node.specs.Asking.{ack_asked, settle_asked};
+ghost use Rattle.node.specs.Fits.{Fits};
+ghost use Rattle.node.specs.Messages.{IsAddressed, IsVouchedFor};
+ghost use Rattle.node.specs.Received.{IsAck, note_of, outgoing_of};
+
+use crate::message::{Message, Receipt};
+use crate::node::Node;
+use crate::outcome::{NodeFault, Outcome};
+use book::{Desk, Seen};
+use holdings::Held;
+use mw_types::{Delivery, RecordId, RowName};
+use run_history::Case;
+use std::alloc::Global;
+
+impl<N: Seen> Node<N> {
+    /// Takes in word that a record was handled: the row that sent it, which this worker has, no longer
+    /// waits for it. The message is used up whatever the answer is.
+    #[tactic(auto, using(crate::proofs::FitLaws::looked_not, crate::proofs::FitLaws::grown_looked, crate::proofs::FitLaws::fails_memory))]
+    pub fn take_ack<D: Desk<Note = N>>(
+        &mut self,
+        alloc: Global,
+        desk: &mut D,
+        case: &Case,
+        message: Message<N>,
+    ) -> Result<Outcome, NodeFault>
+        requires fits { Fits case.now (D.view desk.old) self.old }
+        requires ack { IsAck (outgoing_of message) }
+        requires addressed { IsAddressed case.now.topology (outgoing_of message) }
+        requires known { D.knows desk.old (note_of message) }
+        requires vouched { IsVouchedFor case.now (D.view desk.old)
+            (N.sight (note_of message)) (outgoing_of message) }
+
+        ensures fits { Fits case.now (D.view desk.new) self.new }
+        ensures answers { IfOk result (AnswersAckOf case.now.topology
+            (D.view desk.old) (D.view desk.new) (outgoing_of message) self.old self.new) }
+        ensures number { self.new.number ≡ self.old.number }
+
+        ensures kept { OnErr result (HasKept self.old self.new) }
+        ensures looked { OnErr result (HasLooked (D.view desk.old) (D.view desk.new)) }
+        ensures fault { let asked = ack_asked case.now.topology self.old (outgoing_of message) in
+            IfErr result (FailsAsked (D.view desk.old) (D.view desk.new) asked) }
+
+        ensures grown { HasGrown self.old.held (D.view desk.old) (D.view desk.new) }
+        ensures marks { KeepsMarks (D.view desk.old) (D.view desk.new) }
+        ensures loan { D.loan desk.new ≡ D.loan desk.old }
+    {
+        match message {
+            Message::Ack { receipt } => {
+                let Receipt { to, id, note } = receipt;
+                desk.sound();
+                desk.meet(note);
+                desk.sound();
+                self.settle(alloc, desk, case, &to, id)
+            }
+            Message::Deliver { parcel: _ } => Ok(Outcome::Nothing),
+        }
+    }
+
+    // Writes an acknowledgement of a record that was handled.
+    #[tactic(auto, using(crate::proofs::FitLaws::looked_not, crate::proofs::FitLaws::grown_looked, crate::proofs::FitLaws::fails_memory))]
+    fn settle<D: Desk<Note = N>>(
+        &mut self,
+        alloc: Global,
+        desk: &mut D,
+        case: &Case,
+        to: &RowName,
+        id: RecordId,
+    ) -> Result<Outcome, NodeFault>
+        requires fits { Fits case.now (D.view desk.old) self.old }
+        requires part { to.now.part < parts_of case.now.topology }
+        requires handled { IfSome (D.view desk.old).told
+            (λ _. is_handled id (D.view desk.old).seen ≡ true) }
+
+        ensures fits { Fits case.now (D.view desk.new) self.new }
+        ensures answers { let held = held_on case.now.topology self.old.held to.now in
+            IfOk result (AnswersAck case.now.topology
+            (D.view desk.old) (D.view desk.new) held to.now id self.old self.new) }
+        ensures number { self.new.number ≡ self.old.number }
+
+        ensures kept { OnErr result (HasKept self.old self.new) }
+        ensures looked { OnErr result (HasLooked (D.view desk.old) (D.view desk.new)) }
+        ensures fault { let asked = settle_asked case.now.topology self.old to.now id in
+            IfErr result (FailsAsked (D.view desk.old) (D.view desk.new) asked) }
+
+        ensures grown { HasGrown self.old.held (D.view desk.old) (D.view desk.new) }
+        ensures marks { KeepsMarks (D.view desk.old) (D.view desk.new) }
+        ensures loan { D.loan desk.new ≡ D.loan desk.old }
+    {
+        let interval = case.interval_of(to);
+        let Some(held) = self.held.get(interval) else {
+            return Ok(Outcome::NotMine);
+        };
+        if !is_pending(held, to, id) {
+            return Ok(Outcome::Nothing);
+        }
+        let settled = self.held.settle(alloc, desk, case, interval, to, id);
+        desk.sound();
+        match settled {
+            Ok(commit) => Ok(Outcome::Committed { commit }),
+            Err(why) => self.yield_to(case, interval, why),
+        }
+    }
+}
+
+// Whether an id is pending in a row as it is held.
+fn is_pending(held: &Held, to: &RowName, id: RecordId) -> bool
+    ensures { (shape : Shape) →
+        result ≡ is_some (found_delivery id (row_held shape held.now to.now).pending) }
+{
+    match held.row(to) {
+        Some(row) => has_id(row.pending.as_slice(), id),
+        None => false,
+    }
+}
+
+// Whether a delivery of this id is found among these.
+fn has_id(deliveries: &[Delivery], id: RecordId) -> bool
+    ensures { result ≡ is_some (found_delivery id deliveries.now) }
+{
+    is_among(deliveries, id)
+}
+
+// Whether one of these has this id.
+fn is_among(deliveries: &[Delivery], id: RecordId) -> bool
+    ensures { result ≡ list_any (λ d. same_id d.id id) deliveries.now }
+{
+    deliveries.iter().any(|d| is_same(d.id, id))
+}
+
+// Whether two ids are the same.
+fn is_same(a: RecordId, b: RecordId) -> bool
+    ensures { result ≡ same_id a b }
+{
+    a.commit == b.commit && a.index == b.index
+}
