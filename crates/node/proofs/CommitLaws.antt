@@ -1,5 +1,5 @@
 -- What a node is once an entry that it asked for stands.
-use Rattle.std.proofs.Common.{◌≡◌, ◌≢◌, ◌∙◌, ◌<◌, ◌≤◌, ◌^◌, ℕ, Bool, true, false, ◌||◌, List, [], ◌∷◌, ◌++◌, length, refl, sym, ap, subst, arith, append_assoc, inl, inr}
+use Rattle.std.proofs.Common.{◌≡◌, ◌∙◌, ◌≤◌, ℕ, Bool, true, false, ◌||◌, List, [], ◌∷◌, ◌++◌, length, refl, sym, ap, subst, inl, inr}
 use Rattle.std.specs.Prelude.{All, IfSome, Option, Some, None}
 use Rattle.std.specs.List.{list_any}
 use Rattle.std.specs.Option.{option_and_then, option_map, option_map_or}
@@ -18,7 +18,7 @@ use Rattle.row_parts.specs.Contents.{Contents}
 use Rattle.run_history.specs.Cases.{CaseShape}
 use Rattle.run_history.specs.Fences.{IsCurrent, interval_of}
 use Rattle.run_history.specs.Finished.{handles, is_handled}
-use Rattle.run_history.specs.Made.{deliveries_made, found_delivery, late_cause, productions_of, row_written}
+use Rattle.run_history.specs.Made.{deliveries_made, found_delivery, late_cause, row_written}
 use Rattle.run_history.specs.Runs.{run_of}
 use Rattle.history_laws.proofs.IdLaws.{same_id-itself}
 use Rattle.history_laws.proofs.SeenLaws.{found-more}
@@ -30,17 +30,15 @@ use Rattle.book.specs.declared.answers.Written.{Written}
 use Rattle.book.specs.declared.proposal.Proposal.{Proposal}
 use Rattle.book.specs.declared.proposal.Proposal.TheVariants as proposals
 use Rattle.book.proofs.SeenRows.{told-then}
-use Rattle.holdings.specs.Holding.{AreHeld, HeldView, HoldsEntry, held_at, held_on, row_held, with_row}
+use Rattle.holdings.specs.Holding.{AreHeld, HeldView, HoldsEntry, held_at, held_on, row_held}
 use Rattle.node.specs.Answers.{AnswersAsked, HasGrown, IsCommitted, made_of}
 use Rattle.node.specs.Asking.{Request, handled_as, proposed, work_asked}
 use Rattle.node.specs.Fits.{Fits, IsHandled, IsPrepared, IsWork}
 use Rattle.node.specs.Messages.{IsAddressed, IsOutgoing, IsSentFrom}
 use Rattle.node.specs.Workers.{NodeView, Sending, Worker, WorkView, leases_of, messages_from, sending_in, sending_of, with_outgoing, with_written, worker_at}
-use Rattle.node.specs.declared.outcome.Outcome.{Outcome}
 use Rattle.node.specs.declared.outcome.Outcome.TheVariants as outcomes
-use Rattle.node.specs.declared.outgoing.Outgoing.{Outgoing}
 use Rattle.node.specs.declared.outgoing.Outgoing.TheVariants as outgoing
-use Rattle.node.proofs.FitLaws.{HasMore, more-appended, outbox-more, outgoing-more}
+use Rattle.node.proofs.FitLaws.{HasMore, more-appended, outbox-more}
 use Rattle.node.proofs.SendLaws.{made-late, made-outgoing}
 use Rattle.node.proofs.StateLaws.{few-handled, state-held}
 

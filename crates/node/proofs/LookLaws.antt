@@ -102,7 +102,8 @@ grown-later old mid new all looked is = record {
 asked-later : (shape : Shape) (old mid new : DeskView) (asked : Option Request) (after : Worker) (was node : NodeView) (outcome : Outcome)
     → HasLooked old mid → AnswersAsked shape mid new asked after was node outcome → AnswersAsked shape old new asked after was node outcome
 asked-later shape old mid new None after was node outcome looked is = (is.0, idle-later old mid new was node looked is.1)
-asked-later shape old mid new (Some asked) after was node outcome looked is = answers-later shape old mid new asked after was node outcome looked is
+asked-later shape old mid new (Some asked) after was node outcome looked is = answers-later shape old mid new asked after was
+    node outcome looked is
 
 -- word for a row that may be held after a look
 word-later : (shape : Shape) (old mid new : DeskView) (here : Option HeldView) (to : RowName) (id : RecordId) (was node : NodeView)

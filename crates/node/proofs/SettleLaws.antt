@@ -1,5 +1,5 @@
 -- What a node leaves when word comes that what a row sent was handled.
-use Rattle.std.proofs.Common.{◌≡◌, ◌≢◌, ◌∙◌, ℕ, ◌||◌, Bool, true, false, List, [], ◌∷◌, length, refl, sym, ap, subst, inl, inr}
+use Rattle.std.proofs.Common.{◌≡◌, ◌∙◌, ℕ, ◌||◌, true, false, List, [], ◌∷◌, length, refl, sym, ap, subst, inl, inr}
 use Rattle.std.specs.List.{list_any}
 use Rattle.std.specs.Prelude.{IfErr, IfOk, IfSome, Option, Some, None, Result, Ok, Err, if◌then◌else◌}
 use Rattle.std.specs.Option.{is_some, option_and_then, option_map}
@@ -92,7 +92,8 @@ grown-settled shape old new interval to id commit before after h =
 -- ---- what is prepared
 
 -- what is handled on a row stays so where what it sent is settled
-handling-settled : (case : CaseShape) (name to : RowName) (number seq : ℕ) (id : RecordId) (row : Contents) (d : Delivery) (effects : Effects)
+handling-settled : (case : CaseShape) (name to : RowName) (number seq : ℕ) (id : RecordId) (row : Contents) (d : Delivery)
+    (effects : Effects)
     → IsHandling case name row d effects → IsHandling case name (written_row number (entries.Ack seq to id) [] row) d effects
 handling-settled case name to number seq id row d effects is =
     record { id = is.id; to_row = is.to_row; new = is.new; does = is.does }
@@ -128,7 +129,8 @@ handled-settled case old new before after interval to id commit sender d effects
       sent = sent;
       held = with_row to h.answer.row h.held;
       there = ap (option_and_then (held_at after)) on.1 ∙ ap (held_at after) here ∙ h.is;
-      handling = handling-held case to (length h.entry.before) h.held.lease.seq id h.answer.row h.held d effects h.entry.written.changed_alone was;
+      handling = handling-held case to (length h.entry.before) h.held.lease.seq id h.answer.row h.held d effects
+          h.entry.written.changed_alone was;
     }
   | inr other ↦ record {
     sent = sent;
@@ -209,5 +211,6 @@ pub fails-unsettled : (shape : Shape) (old new : DeskView) (was : NodeView) (int
     → IfErr (answered why) (FailsAsked old new (settle_asked shape was to id))
 fails-unsettled shape old new was interval here to id why covers at pending reason =
     fails-asked old new (settle_asked shape was to id) (settled_as to id here) (answered why)
-    (ap (option_and_then (settling shape to id)) (held-on-at shape was.held to interval here covers at) ∙ pending-asked shape to id here pending)
+    (ap (option_and_then (settling shape to id)) (held-on-at shape was.held to interval here covers at) ∙ pending-asked shape
+        to id here pending)
     (fails-refused old new here.lease why (reason-at old new was.held interval here why at reason))

@@ -1,5 +1,5 @@
 -- What a node leaves once its desk has taken what it had prepared, or has refused it.
-use Rattle.std.proofs.Common.{◌≡◌, ◌∙◌, ◌<◌, ◌≤◌, ◌+◌, ◌^◌, ℕ, Bool, List, [], ◌∷◌, ◌++◌, length, map, refl, sym, ap, subst, arith}
+use Rattle.std.proofs.Common.{◌≡◌, ◌∙◌, ◌<◌, ◌+◌, ◌^◌, ℕ, Bool, List, [], ◌∷◌, ◌++◌, length, map, refl, sym, ap, subst, arith}
 use Rattle.std.specs.Prelude.{All, IfErr, IfOk, IfSome, Option, Some, None}
 use Rattle.std.proofs.lemmas.List.{length-append}
 use Rattle.mw_types.specs.Outcomes.{Outcome as Effects}
@@ -28,7 +28,7 @@ use Rattle.node.specs.Fits.{Fits}
 use Rattle.node.specs.Messages.{IsAddressed}
 use Rattle.node.specs.Outboxes.{numbered}
 use Rattle.node.specs.Steps.{HasYielded, answered}
-use Rattle.node.specs.Workers.{NodeView, Sending, Worker, WorkView, messages_from, sending_in, worker_at}
+use Rattle.node.specs.Workers.{NodeView, Sending, Worker, WorkView, messages_from, sending_in}
 use Rattle.node.specs.declared.outgoing.Outgoing.{Outgoing}
 use Rattle.node.specs.declared.outgoing.Outgoing.TheVariants as outgoing
 use Rattle.node.proofs.CommitLaws.{Fits-written, IsAppended, appended-handled, grown-by, held-at-on, work-asked, work-of, written_by}
@@ -68,7 +68,8 @@ pub addressed-here : (one two : Shape) (ps qs : List Production) (name : RowName
     → (commit : ℕ) → commit < 2 ^ 32 → All (IsAddressed two) (messages_from name (deliveries_made two name.part qs late commit))
 addressed-here one two ps qs name late same equal is = subst (λ (list : List Production). (commit : ℕ) → commit < 2 ^ 32
     → All (IsAddressed two) (messages_from name (deliveries_made two name.part list late commit))) equal
-    (subst (λ (k : Shape). (commit : ℕ) → commit < 2 ^ 32 → All (IsAddressed k) (messages_from name (deliveries_made k name.part ps late commit)))
+    (subst (λ (k : Shape). (commit : ℕ) → commit < 2 ^ 32 → All (IsAddressed k) (messages_from name
+        (deliveries_made k name.part ps late commit)))
     same is)
 
 -- an outbox into which word was put, and then what was made
@@ -134,7 +135,8 @@ Fits-committed case old new node held work delivery effects interval commit prep
 -- what is asked of the work
 asked-work : (case : CaseShape) (desk : DeskView) (node : NodeView) (work : WorkView) (delivery : Delivery) (effects : Effects)
     (fits : Fits case desk node) (prepared : node.prepared ≡ Some work) (is : work.proposal ≡ proposals.Handle delivery effects)
-    → work_asked case.topology node ≡ Some (handled_as delivery effects (work-of case desk node work delivery effects fits prepared is).held)
+    → work_asked case.topology node ≡ Some (handled_as delivery effects
+        (work-of case desk node work delivery effects fits prepared is).held)
 asked-work case desk node work delivery effects fits prepared is =
     work-asked case.topology node work delivery effects (work-of case desk node work delivery effects fits prepared is).held prepared is
     (work-of case desk node work delivery effects fits prepared is).there
@@ -148,9 +150,11 @@ pub answers-unwritten : (case : CaseShape) (old new : DeskView) (after : Worker)
 answers-unwritten case old new after was mid node work delivery effects interval why prepared is covers fits looked reason kept left =
     let shape = case.topology in
     let held = (work-of case old was work delivery effects fits prepared is).held in
-    let at = held-at-on shape was.held delivery.to interval held (work-of case old was work delivery effects fits prepared is).there covers in
+    let at = held-at-on shape was.held delivery.to interval held (work-of case old was work delivery effects fits prepared
+        is).there covers in
     let asked = handled_as delivery effects held in
-    ok-answers (answered why) (AnswersWrite shape old new asked after was node) (AnswersAsked shape old new (work_asked shape was) after was node)
+    ok-answers (answered why) (AnswersWrite shape old new asked after was node) (AnswersAsked shape old new
+        (work_asked shape was) after was node)
     (λ outcome answers. subst (λ (o : Option Request). AnswersAsked shape old new o after was node outcome)
     (sym (asked-work case old was work delivery effects fits prepared is)) answers)
     (answers-refused shape old new asked after was mid node why looked (reason-at old new was.held interval held why at reason) kept
@@ -163,7 +167,8 @@ pub fails-unwritten : (case : CaseShape) (old new : DeskView) (was : NodeView) (
     → IfErr (answered why) (FailsAsked old new (work_asked case.topology was))
 fails-unwritten case old new was work delivery effects interval why prepared is covers fits reason =
     let held = (work-of case old was work delivery effects fits prepared is).held in
-    let at = held-at-on case.topology was.held delivery.to interval held (work-of case old was work delivery effects fits prepared is).there covers in
+    let at = held-at-on case.topology was.held delivery.to interval held (work-of case old was work delivery effects fits
+        prepared is).there covers in
     fails-asked old new (work_asked case.topology was) (handled_as delivery effects held) (answered why)
     (asked-work case old was work delivery effects fits prepared is)
     (fails-refused old new held.lease why (reason-at old new was.held interval held why at reason))

@@ -10,6 +10,7 @@
 #![tactic(auto)]
 
 mod beside;
+mod cached_rows;
 mod claims;
 mod handling;
 mod known_marks;

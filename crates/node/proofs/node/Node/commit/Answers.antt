@@ -14,7 +14,6 @@ use Rattle.node.specs.Fits.{Fits}
 use Rattle.node.specs.Workers.{NodeView, WorkView, sending_of, with_written, worker_at}
 use Rattle.node.proofs.CommitLaws.{answers-written, work-of}
 use Rattle.node.proofs.FitLaws.{Fits-kept, Fits-yielded, keeps-refused, more-looked, worker-kept}
-use Rattle.node.proofs.PurgeLaws.{holding}
 use Rattle.node.proofs.WrittenLaws.{Fits-committed, HoldsWork, addressed-here, ack-of, answers-unwritten, fails-unwritten, grown-work, made-here, node-written, outbox-written}
 use Rattle.node.proofs.node.Node.commit.Goals as goal
 

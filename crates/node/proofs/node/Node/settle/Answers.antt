@@ -1,6 +1,6 @@
 use Rattle.std.proofs.Common.{rules, ◌≡◌, ◌∙◌, true, ap, subst, sym, refl}
-use Rattle.std.specs.Prelude.{IfErr, IfOk, OnErr, Option, Some, Result}
-use Rattle.holdings.specs.Holding.{HeldView, IsRefusedOf, held_at, held_on}
+use Rattle.std.specs.Prelude.{IfErr, IfOk, OnErr, Some, Result}
+use Rattle.holdings.specs.Holding.{IsRefusedOf, held_at, held_on}
 use Rattle.node.specs.declared.outcome.NodeFault.{NodeFault}
 use Rattle.node.specs.declared.outcome.Outcome.{Outcome}
 use Rattle.node.specs.Answers.{AnswersAck, FailsAsked, HasGrown, HasKept}
