@@ -67,7 +67,8 @@ passes false is = absurd cc
 picked-forgets : (floor least : ℕ) (row : Contents) → forgets floor least row ≡ Some tt
     → (max 1 least ≤ length row.seen) × (row.floor < floor)
 picked-forgets floor least row is =
-    let two = both (nat_lt row.floor floor) (nat_le (max 1 least) (length row.seen)) (passes (nat_lt row.floor floor && nat_le (max 1 least) (length row.seen)) is) in (
+    let two = both (nat_lt row.floor floor) (nat_le (max 1 least) (length row.seen)) (passes (nat_lt row.floor floor && nat_le
+    (max 1 least) (length row.seen)) is) in (
       leb-true (max 1 least) (length row.seen) two.1,
       ltb-true row.floor floor two.0,
     )
@@ -88,7 +89,8 @@ has-picked shape held least floor name is = by_row (row_in (cached held.rows) na
     new = fresh (fresh_of shape name.part)
 
     by_row : (o : Option Contents) → row_in (cached held.rows) name ≡ o → HasPicked (forgets floor least) held.rows (name, tt)
-    by_row None at = absurd (let many = subst (λ (o : Option Contents). max 1 least ≤ length (unwrap_or o new).seen) at is.many in omega (arith, many))
+    by_row None at = absurd (let many = subst (λ (o : Option Contents). max 1 least ≤ length
+        (unwrap_or o new).seen) at is.many in omega (arith, many))
     by_row (Some row) at = record {
       row = row;
       there = at;
@@ -168,13 +170,16 @@ next-purge-held shape node interval least floor found free = by_held (held_at no
 pub first-forgets : (shape : Shape) (node : NodeView) (interval least floor : ℕ) (name : RowName)
     → IsToPurge shape node interval least floor (Some name) → MayForget shape node 0 floor name
 first-forgets shape node interval least floor name is =
-    let may = is.2.may in subst (λ (n : RowName). MayForget shape node 0 floor n) is.3 (is.1, record {
-      free = may.free;
-      held = may.held;
-      there = may.there;
-      forgets = record { many = let many = may.forgets.many in omega (arith, many); rises = may.forgets.rises };
-      request = may.request;
-    })
+    let may = is.2.may in subst (λ (n : RowName). MayForget shape node 0 floor n) is.3 (
+      is.1,
+      record {
+        free = may.free;
+        held = may.held;
+        there = may.there;
+        forgets = record { many = let many = may.forgets.many in omega (arith, many); rises = may.forgets.rises };
+        request = may.request;
+      },
+    )
 
 -- ---- what a purge answers
 
@@ -183,7 +188,7 @@ pub purge-answers : (case : CaseShape) (old mid new : DeskView) (was node : Node
     (result : Result Outcome NodeFault) → IsSound old → IsSound mid → HasLooked old mid → floor ≡ mid.floor
     → HasGrown was.held mid new → IsToPurge case.topology was interval least floor (Some name)
     → ((held : HeldView) → held_on case.topology was.held name ≡ Some held
-      → IfOk result (AnswersWrite case.topology mid new (forgetting held name floor) (worker_at was) was node))
+    → IfOk result (AnswersWrite case.topology mid new (forgetting held name floor) (worker_at was) was node))
     → IfOk result (AnswersPurge case.topology old new interval least was node)
 purge-answers case old mid new was node interval least floor name result sound is looked at grown first answers =
     let shape = case.topology in

@@ -49,7 +49,8 @@ Fits-less case desk node (Some message) rest is fits = record {
 -- the first of what a node has to send may be sent
 pub first-outgoing : (case : CaseShape) (desk : DeskView) (node : NodeView) (message : Outgoing) (rest : List Outgoing)
     → node.outbox ≡ message ∷ rest → Fits case desk node → IsOutgoing case desk message
-first-outgoing case desk node message rest is fits = All-head (IsOutgoing case desk) message rest (subst (All (IsOutgoing case desk)) is fits.outbox)
+first-outgoing case desk node message rest is fits = All-head (IsOutgoing case desk) message rest (subst (All
+    (IsOutgoing case desk)) is fits.outbox)
 
 -- what is there holds
 told-some : {X : Type 0} (o : Option X) (P : Type 0) → IsSome o → IfSome o (λ _. P) → P

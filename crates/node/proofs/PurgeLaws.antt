@@ -80,13 +80,14 @@ held-there case desk all interval held name fit same at covers some =
     let here = fit.each interval held at in
     let i = held.lease.interval in
     told-then desk.told
-    (λ _. (n : RowName) → interval_of shape n ≡ Some i → row_held shape held n ≡ row_of shape (run_of shape (known i held.lease.seq desk.seen)) n)
+    (λ _. (n : RowName) → interval_of shape n ≡ Some i → row_held shape held n ≡ row_of shape (run_of shape
+    (known i held.lease.seq desk.seen)) n)
     (λ _. IsSome (row_in (run_of desk.case.topology desk.seen) name)) here.rows.known (λ x is.
     let front = known i held.lease.seq desk.seen in
     let begins = known-begins i held.lease.seq desk.seen in
     let row = is name (covers ∙ sym (ap Some here.of_interval)) in
     let in_front = has-row (row_in (run_of shape front) name) (fresh (fresh_of shape name.part)) refl
-        (subst (λ (r : Contents). 1 ≤ length r.seen) row some) in
+    (subst (λ (r : Contents). 1 ≤ length r.seen) row some) in
     subst (λ (c : CaseShape). IsSome (row_in (run_of c.topology desk.seen) name)) (sym same)
     (row-stays shape front begins.0 desk.seen name begins.1 in_front))
 
@@ -184,7 +185,7 @@ floor-known old mid new floor was is looked at later = record {
   same = λ alone. at ∙ is.own_floor (looked.alone ∙ alone)
       ∙ ap (λ (c : CaseShape). floor_of (run_of c.topology mid.seen)) looked.case
       ∙ ap (λ (h : List Entry). floor_of (run_of old.case.topology h))
-        (looked.more ∙ ap (λ (h : List Entry). old.seen ++ h) (looked.none alone) ∙ append-nil old.seen)
+      (looked.more ∙ ap (λ (h : List Entry). old.seen ++ h) (looked.none alone) ∙ append-nil old.seen)
       ∙ sym (was.own_floor alone);
 }
 
@@ -199,7 +200,7 @@ pub forget-answers : (case : CaseShape) (old mid new : DeskView) (was node : Nod
     (result : Result Outcome NodeFault) → IsSound old → IsSound mid → HasLooked old mid → floor ≡ mid.floor → Fits case old was
     → HasGrown was.held mid new → MayForget case.topology was least floor name
     → ((held : HeldView) → held_on case.topology was.held name ≡ Some held
-      → IfOk result (AnswersWrite case.topology mid new (forgetting held name floor) (worker_at was) was node))
+    → IfOk result (AnswersWrite case.topology mid new (forgetting held name floor) (worker_at was) was node))
     → IfOk result (AnswersForget case.topology old new name least was node)
 forget-answers case old mid new was node name least floor result sound is looked at fits grown may answers =
     let m = may.1 in

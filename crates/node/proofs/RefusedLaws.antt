@@ -28,7 +28,8 @@ pub refused-held : (case : CaseShape) (old new : DeskView) (was mid node : NodeV
     → IsRefusedOf old new was.held interval why → HasKept was mid → HasYielded case.topology interval why mid node
     → IfOk (answered why) (AnswersWrite case.topology old new asked (worker_at was) was node)
 refused-held case old new was mid node interval held asked why fits at lease looked reason kept left =
-    let i : interval ≡ asked.lease.interval = sym (ap (λ (l : LeaseView). l.interval) lease ∙ (fits.held.each interval held at).of_interval) in
+    let i : interval ≡ asked.lease.interval = sym (ap (λ (l : LeaseView). l.interval) lease ∙
+    (fits.held.each interval held at).of_interval) in
     answers-refused case.topology old new asked (worker_at was) was mid node why looked
     (subst (λ (l : LeaseView). HasReason old new l why) (sym lease) (reason-at old new was.held interval held why at reason)) kept
     (subst (λ (n : ℕ). HasYielded case.topology n why mid node) i left)

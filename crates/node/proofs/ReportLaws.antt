@@ -29,7 +29,7 @@ with_held held number prepared outbox = record { number = number; held = held; p
 pub marked : (case : CaseShape) (old new : DeskView) (was : NodeView) (interval : ℕ) (held : HeldView) (own mark : ℕ)
     → Fits case old was → held_at was.held interval ≡ Some held
     → ((h : HeldView) (b : Bounds) → held_at was.held interval ≡ Some h → slice_get (intervals_of case.topology) interval ≡ Some b
-      → own ≡ own_work case (cached h.rows) b)
+    → own ≡ own_work case (cached h.rows) b)
     → mark ≡ mark_of new.marks held.lease.interval → HasLooked old new
     → (old.alone ≡ true → IsReported old new held.lease own mark) → IsMarked case old new held was was mark
 marked case old new was interval held own mark fits at exact known looked alone = record {
@@ -60,7 +60,8 @@ answers-unreported case old new held was node (refusals.RowDamaged name bytes) l
 answers-unreported case old new held was node refusals.NoMemory looked reason left = tt
 
 -- and so by what is held
-pub report-at : (case : CaseShape) (old new : DeskView) (was node : NodeView) (interval : ℕ) (held : HeldView) (result : Result Outcome NodeFault)
+pub report-at : (case : CaseShape) (old new : DeskView) (was node : NodeView) (interval : ℕ) (held : HeldView)
+    (result : Result Outcome NodeFault)
     → held_at was.held interval ≡ Some held → IfOk result (AnswersReportOf case old new held was node)
     → IfOk result (AnswersReport case old new (held_at was.held interval) was node)
 report-at case old new was node interval held result at is =

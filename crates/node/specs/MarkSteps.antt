@@ -11,8 +11,10 @@ pub record IsLesser (counts : Bool) (interval : ℕ) (old new : List ℕ) (befor
   pub at_most : mark ≤ mark_of new interval
   pub lesser : after ≡ (if counts then min before mark else before)
 
--- of the first intervals of a part a mark is at most what each has now, and at least what bounds each that it had before
-pub record IsLeastSoFar (intervals : List Bounds) (part : ℕ) (old new : List ℕ) (mark count : ℕ) : Type 0 where
+-- of the first intervals of a part a mark is at most what each has now, and at least what bounds each
+-- that it had before
+pub record IsLeastSoFar (intervals : List Bounds) (part : ℕ) (old new : List ℕ) (mark count : ℕ) :
+    Type 0 where
   pub at_most : (j : ℕ) (b : Bounds) → j < count → slice_get intervals j ≡ Some b → b.part ≡ part →
       mark ≤ mark_of new j
   pub at_least : (bound : ℕ) → bound ≤ END → ((j : ℕ) (b : Bounds) → slice_get intervals j ≡ Some b →

@@ -8,7 +8,8 @@ use Rattle.holdings.specs.Holding.{HeldView}
 use Rattle.node.specs.Asking.{MayAskForget, MayAskPurge, Request}
 use Rattle.node.specs.Workers.{NodeView}
 
--- a node may have a row forget ids: nothing is prepared, and the row is held and has so many, and a floor below this one
+-- a node may have a row forget ids: nothing is prepared, and the row is held and has so many, and a
+-- floor below this one
 abbrev pub MayForget : Shape → NodeView → ℕ → ℕ → RowName → Type 0
 MayForget shape node least floor name = (asked : Request) × MayAskForget shape node least floor name asked
 
@@ -21,5 +22,5 @@ IsToPurge shape node interval least floor (Some name) = (name.part < parts_of sh
 
 -- the rows that are cached of an interval lie in it
 abbrev pub AreRowsWithin : Shape → ℕ → Option HeldView → Type 0
-AreRowsWithin shape interval held = IfSome held (λ h. (name : RowName) → IsSome (row_in (cached h.rows) name) →
-    interval_of shape name ≡ Some interval)
+AreRowsWithin shape interval held = IfSome held (λ h. (name : RowName) →
+    IsSome (row_in (cached h.rows) name) → interval_of shape name ≡ Some interval)

@@ -11,6 +11,7 @@
 
 mod beside;
 mod claims;
+mod fires;
 mod handling;
 mod known_marks;
 mod message;

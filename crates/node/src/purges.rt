@@ -117,7 +117,8 @@ impl<N: Seen> Node<N> {
         }
     }
 
-    // Whether nothing is prepared, and a row is held and has so many ids, and a floor below this one.
+    // Whether nothing is prepared, and a row is held and has so many ids, and a floor below this
+    // one.
     fn may_forget(&self, case: &Case, name: &RowName, least: u32, floor: u64) -> bool
         requires part { name.now.part < parts_of case.now.topology }
         ensures may { IsTrue result →

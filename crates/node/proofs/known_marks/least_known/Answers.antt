@@ -12,8 +12,10 @@ returns-clause-known g c =
     let old = g.D.Desk.view c.args.desk.now in
     let new = g.D.Desk.view c.loop-interval.desk in
     let last : c.loop-interval.interval ≡ length (intervals_of shape) = search (rules, arith) in
-    least-all shape c.args.part old new c.loop-interval.least (c.sound.ensures.sound.marks ∙ ap (λ (k : CaseShape). length (intervals_of k.topology)) c.requires.case)
-    (c.sound-2.ensures.sound.marks ∙ ap (λ (k : CaseShape). length (intervals_of k.topology)) (c.loop-interval.invariant.looked.case ∙ c.requires.case))
+    least-all shape c.args.part old new c.loop-interval.least (c.sound.ensures.sound.marks ∙ ap (λ (k : CaseShape). length
+    (intervals_of k.topology)) c.requires.case)
+    (c.sound-2.ensures.sound.marks ∙ ap (λ (k : CaseShape). length (intervals_of k.topology))
+    (c.loop-interval.invariant.looked.case ∙ c.requires.case))
     (subst (λ (n : ℕ). IsLeastSoFar (intervals_of shape) c.args.part old.marks new.marks c.loop-interval.least n) last
     (subst (λ (all : List Bounds). IsLeastSoFar all c.args.part old.marks new.marks c.loop-interval.least c.loop-interval.interval)
     c.intervals-intervals.ensures.all c.loop-interval.invariant.so_far))

@@ -32,10 +32,15 @@ returns-in-Ok-clause-fits g c =
     let old = g.D.Desk.view c.args.desk.now in
     let new = g.D.Desk.view c.purge.new.desk in
     let interval = c.interval_of-interval.result in
-    let node : NodeView = record { number = c.self.inside.number; held = c.self.inside.held; prepared = c.self.inside.prepared; outbox = c.self.inside.outbox.messages } in
+    let node : NodeView = record {
+      number = c.self.inside.number;
+      held = c.self.inside.held;
+      prepared = c.self.inside.prepared;
+      outbox = c.self.inside.outbox.messages;
+    } in
     let fits : Fits case old node = subst (Fits case old) (sym c.self.view_is) c.requires.fits in
     let may : MayForget case.topology node 0 c.args.floor c.args.name.now =
-        subst (λ (n : NodeView). MayForget case.topology n 0 c.args.floor c.args.name.now) (sym c.self.view_is) c.requires.may in
+    subst (λ (n : NodeView). MayForget case.topology n 0 c.args.floor c.args.name.now) (sym c.self.view_is) c.requires.may in
     Fits-purged case old new node interval c.args.name.now c.args.floor c.in-Ok.commit c.purge.new.self c.in-Ok.ensures.purged
     c.in-Ok.ensures.fits may.1.free fits
 
@@ -54,11 +59,17 @@ returns-in-Err-clause-fits g c =
     let old = g.D.Desk.view c.args.desk.now in
     let new = g.D.Desk.view c.purge.new.desk in
     let interval = c.interval_of-interval.result in
-    let node : NodeView = record { number = c.self.inside.number; held = c.self.inside.held; prepared = c.self.inside.prepared; outbox = c.self.inside.outbox.messages } in
+    let node : NodeView = record {
+      number = c.self.inside.number;
+      held = c.self.inside.held;
+      prepared = c.self.inside.prepared;
+      outbox = c.self.inside.outbox.messages;
+    } in
     let fits : Fits case old node = subst (Fits case old) (sym c.self.view_is) c.requires.fits in
     let mid = holding c.purge.new.self node in
     Fits-yielded case new interval c.in-Err.why mid c.yield_to.new.self c.yield_to.ensures.left
-    (Fits-kept case old new node mid (more-looked old new c.in-Err.ensures.looked) c.in-Err.ensures.fits c.in-Err.ensures.kept refl refl fits)
+    (Fits-kept case old new node mid (more-looked old new c.in-Err.ensures.looked) c.in-Err.ensures.fits
+    c.in-Err.ensures.kept refl refl fits)
 
 pub returns-in-Err-clause-answers : goal.returns-in-Err-clause-answers
 returns-in-Err-clause-answers g c held there =
@@ -66,14 +77,21 @@ returns-in-Err-clause-answers g c held there =
     let old = g.D.Desk.view c.args.desk.now in
     let new = g.D.Desk.view c.purge.new.desk in
     let interval = c.interval_of-interval.result in
-    let node : NodeView = record { number = c.self.inside.number; held = c.self.inside.held; prepared = c.self.inside.prepared; outbox = c.self.inside.outbox.messages } in
+    let node : NodeView = record {
+      number = c.self.inside.number;
+      held = c.self.inside.held;
+      prepared = c.self.inside.prepared;
+      outbox = c.self.inside.outbox.messages;
+    } in
     let fits : Fits case old node = subst (Fits case old) (sym c.self.view_is) c.requires.fits in
     let mid = holding c.purge.new.self node in
-    let kept : HasKept c.args.self.now mid = worker-kept case.topology node mid c.in-Err.ensures.kept refl refl ∙ ap worker_at c.self.view_is in
+    let kept : HasKept c.args.self.now mid = worker-kept case.topology node mid c.in-Err.ensures.kept refl refl ∙ ap worker_at
+    c.self.view_is in
     let at = held-at-on case.topology c.args.self.now.held c.args.name.now interval held there c.interval_of-interval.ensures.interval in
     let reason = subst (λ (n : NodeView). IsRefusedOf old new n.held interval c.in-Err.why) c.self.view_is c.in-Err.ensures.reason in
     let asked = forgetting held c.args.name.now c.args.floor in
-    subst (λ (r : Result Outcome NodeFault). IfOk r (AnswersWrite case.topology old new asked (worker_at c.args.self.now) c.args.self.now c.yield_to.new.self))
+    subst (λ (r : Result Outcome NodeFault). IfOk r (AnswersWrite case.topology old new asked (worker_at c.args.self.now)
+    c.args.self.now c.yield_to.new.self))
     (sym c.yield_to.ensures.answer)
     (refused-held case old new c.args.self.now mid c.yield_to.new.self interval held asked c.in-Err.why c.requires.fits at refl
     c.in-Err.ensures.looked reason kept c.yield_to.ensures.left)
@@ -82,9 +100,15 @@ pub returns-in-Err-clause-kept : goal.returns-in-Err-clause-kept
 returns-in-Err-clause-kept g c =
     let case = c.args.case.now in
     let interval = c.interval_of-interval.result in
-    let node : NodeView = record { number = c.self.inside.number; held = c.self.inside.held; prepared = c.self.inside.prepared; outbox = c.self.inside.outbox.messages } in
+    let node : NodeView = record {
+      number = c.self.inside.number;
+      held = c.self.inside.held;
+      prepared = c.self.inside.prepared;
+      outbox = c.self.inside.outbox.messages;
+    } in
     let mid = holding c.purge.new.self node in
-    let kept : HasKept c.args.self.now mid = worker-kept case.topology node mid c.in-Err.ensures.kept refl refl ∙ ap worker_at c.self.view_is in
+    let kept : HasKept c.args.self.now mid = worker-kept case.topology node mid c.in-Err.ensures.kept refl refl ∙ ap worker_at
+    c.self.view_is in
     subst (λ (r : Result Outcome NodeFault). OnErr r (HasKept c.args.self.now c.yield_to.new.self)) (sym c.yield_to.ensures.answer)
     (keeps-refused case.topology interval c.args.self.now mid c.yield_to.new.self c.in-Err.why kept c.yield_to.ensures.left)
 
@@ -95,7 +119,8 @@ returns-in-Err-clause-fault g c =
     let new = g.D.Desk.view c.purge.new.desk in
     let interval = c.interval_of-interval.result in
     let m = c.requires.may.1 in
-    let at = held-at-on case.topology c.args.self.now.held c.args.name.now interval m.held m.there c.interval_of-interval.ensures.interval in
+    let at = held-at-on case.topology c.args.self.now.held c.args.name.now interval m.held m.there
+    c.interval_of-interval.ensures.interval in
     let reason = subst (λ (n : NodeView). IsRefusedOf old new n.held interval c.in-Err.why) c.self.view_is c.in-Err.ensures.reason in
     subst (λ (r : Result Outcome NodeFault). IfErr r (FailsHeld old new c.args.self.now.held)) (sym c.yield_to.ensures.answer)
     (fails-at old new c.args.self.now.held interval m.held c.in-Err.why at reason)

@@ -14,11 +14,17 @@ pub noted-requires : goal.noted-requires
 noted-requires g c =
     let old = g.D.Desk.view c.args.desk.now in
     let new = g.D.Desk.view c.note-note.new.self in
-    let node : NodeView = record { number = c.self.inside.number; held = c.self.inside.held; prepared = c.self.inside.prepared; outbox = c.self.inside.outbox.messages } in
+    let node : NodeView = record {
+      number = c.self.inside.number;
+      held = c.self.inside.held;
+      prepared = c.self.inside.prepared;
+      outbox = c.self.inside.outbox.messages;
+    } in
     let fits : Fits old.case old node = subst (Fits old.case old) (sym c.self.view_is) c.requires.fits in
     let is = first-outgoing old.case old node c.in-Some.message c.take_first.new.self.messages c.in-Some.ensures.first fits in
     record {
-      so = so-by-note old.case new (g.N.Seen.sight c.note-note.result) c.in-Some.message c.note-note.ensures.looked.case c.note-note.ensures.note
+      so = so-by-note old.case new (g.N.Seen.sight c.note-note.result) c.in-Some.message c.note-note.ensures.looked.case
+          c.note-note.ensures.note
           (outgoing-more old.case old new c.in-Some.message (more-looked old new c.note-note.ensures.looked) is);
     }
 
@@ -27,7 +33,12 @@ pub returns-clause-fits : goal.returns-clause-fits
 returns-clause-fits g c =
     let old = g.D.Desk.view c.args.desk.now in
     let new = g.D.Desk.view c.note-note.new.self in
-    let node : NodeView = record { number = c.self.inside.number; held = c.self.inside.held; prepared = c.self.inside.prepared; outbox = c.self.inside.outbox.messages } in
+    let node : NodeView = record {
+      number = c.self.inside.number;
+      held = c.self.inside.held;
+      prepared = c.self.inside.prepared;
+      outbox = c.self.inside.outbox.messages;
+    } in
     let fits : Fits old.case old node = subst (Fits old.case old) (sym c.self.view_is) c.requires.fits in
     let rest = c.take_first.new.self.messages in
     Fits-looked old.case old new (record node { outbox = rest }) c.sound.ensures.sound c.sound-2.ensures.sound c.note-note.ensures.looked
@@ -38,7 +49,12 @@ pub returns-clause-vouched : goal.returns-clause-vouched
 returns-clause-vouched g c =
     let old = g.D.Desk.view c.args.desk.now in
     let new = g.D.Desk.view c.note-note.new.self in
-    let node : NodeView = record { number = c.self.inside.number; held = c.self.inside.held; prepared = c.self.inside.prepared; outbox = c.self.inside.outbox.messages } in
+    let node : NodeView = record {
+      number = c.self.inside.number;
+      held = c.self.inside.held;
+      prepared = c.self.inside.prepared;
+      outbox = c.self.inside.outbox.messages;
+    } in
     let fits : Fits old.case old node = subst (Fits old.case old) (sym c.self.view_is) c.requires.fits in
     let is = first-outgoing old.case old node c.in-Some.message c.take_first.new.self.messages c.in-Some.ensures.first fits in
     subst (λ (s : Option Sight). IsVouchedFor old.case new s (outgoing_of c.noted.result)) (ap g.N.Seen.sight (sym c.noted.ensures.note))

@@ -14,12 +14,14 @@ to_purge-requires g c = record {
 
 -- where a name could not be copied
 pub returns-in_err-name-clause-fits : goal.returns-in_err-name-clause-fits
-returns-in_err-name-clause-fits g c = Fits-looked c.args.case.now (g.D.Desk.view c.args.desk.now) (g.D.Desk.view c.floor-floor.new.self) c.args.self.now
+returns-in_err-name-clause-fits g c = Fits-looked c.args.case.now (g.D.Desk.view c.args.desk.now) (g.D.Desk.view
+    c.floor-floor.new.self) c.args.self.now
     c.sound.ensures.sound c.sound-2.ensures.sound c.floor-floor.ensures.looked c.requires.fits
 
 -- where a row is the first
 pub forget-requires-clause-fits : goal.forget-requires-clause-fits
-forget-requires-clause-fits g c = Fits-looked c.args.case.now (g.D.Desk.view c.args.desk.now) (g.D.Desk.view c.floor-floor.new.self) c.args.self.now
+forget-requires-clause-fits g c = Fits-looked c.args.case.now (g.D.Desk.view c.args.desk.now) (g.D.Desk.view
+    c.floor-floor.new.self) c.args.self.now
     c.sound.ensures.sound c.sound-2.ensures.sound c.floor-floor.ensures.looked c.requires.fits
 
 pub returns-in-Some-clause-answers : goal.returns-in-Some-clause-answers
@@ -28,8 +30,9 @@ returns-in-Some-clause-answers g c =
     let mid = g.D.Desk.view c.floor-floor.new.self in
     let new = g.D.Desk.view c.forget.new.desk in
     let first : IsToPurge c.args.case.now.topology c.args.self.now c.args.interval c.args.least c.floor-floor.result (Some c.in-Some.name) =
-        search rules in
-    purge-answers c.args.case.now old mid new c.args.self.now c.forget.new.self c.args.interval c.args.least c.floor-floor.result c.in-Some.name
+    search rules in
+    purge-answers c.args.case.now old mid new c.args.self.now c.forget.new.self c.args.interval c.args.least c.floor-floor.result
+    c.in-Some.name
     c.forget.result c.sound.ensures.sound c.sound-2.ensures.sound c.floor-floor.ensures.looked c.floor-floor.ensures.floor
     c.forget.ensures.grown first c.forget.ensures.answers
 
@@ -56,5 +59,6 @@ returns-in-Some-clause-grown g c =
 
 -- where there is none
 pub returns-in-None-clause-fits : goal.returns-in-None-clause-fits
-returns-in-None-clause-fits g c = Fits-looked c.args.case.now (g.D.Desk.view c.args.desk.now) (g.D.Desk.view c.floor-floor.new.self) c.args.self.now
+returns-in-None-clause-fits g c = Fits-looked c.args.case.now (g.D.Desk.view c.args.desk.now) (g.D.Desk.view
+    c.floor-floor.new.self) c.args.self.now
     c.sound.ensures.sound c.sound-2.ensures.sound c.floor-floor.ensures.looked c.requires.fits

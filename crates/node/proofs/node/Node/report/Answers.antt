@@ -28,9 +28,15 @@ returns-in-Ok-clause-fits g c =
     let old = g.D.Desk.view c.args.desk.now in
     let new = g.D.Desk.view c.report-reported.new.self in
     let was = c.args.self.now in
-    let node : NodeView = record { number = c.self.inside.number; held = c.own_work.new.self; prepared = c.self.inside.prepared; outbox = c.self.inside.outbox.messages } in
-    let same : node ≡ was = ap (λ (h : List (Option HeldView)). with_held h c.self.inside.number c.self.inside.prepared c.self.inside.outbox.messages)
-        c.in_ok-own.ensures.same ∙ c.self.view_is in
+    let node : NodeView = record {
+      number = c.self.inside.number;
+      held = c.own_work.new.self;
+      prepared = c.self.inside.prepared;
+      outbox = c.self.inside.outbox.messages;
+    } in
+    let same : node ≡ was = ap (λ (h : List (Option HeldView)). with_held h c.self.inside.number c.self.inside.prepared
+    c.self.inside.outbox.messages)
+    c.in_ok-own.ensures.same ∙ c.self.view_is in
     subst (Fits case new) (sym same)
     (Fits-looked case old new was c.sound.ensures.sound c.sound-2.ensures.sound c.report-reported.ensures.looked c.requires.fits)
 
@@ -40,17 +46,23 @@ returns-in-Ok-clause-answers g c =
     let old = g.D.Desk.view c.args.desk.now in
     let new = g.D.Desk.view c.report-reported.new.self in
     let was = c.args.self.now in
-    let node : NodeView = record { number = c.self.inside.number; held = c.own_work.new.self; prepared = c.self.inside.prepared; outbox = c.self.inside.outbox.messages } in
-    let same : node ≡ was = ap (λ (h : List (Option HeldView)). with_held h c.self.inside.number c.self.inside.prepared c.self.inside.outbox.messages)
-        c.in_ok-own.ensures.same ∙ c.self.view_is in
+    let node : NodeView = record {
+      number = c.self.inside.number;
+      held = c.own_work.new.self;
+      prepared = c.self.inside.prepared;
+      outbox = c.self.inside.outbox.messages;
+    } in
+    let same : node ≡ was = ap (λ (h : List (Option HeldView)). with_held h c.self.inside.number c.self.inside.prepared
+    c.self.inside.outbox.messages)
+    c.in_ok-own.ensures.same ∙ c.self.view_is in
     let held = c.unwrap.result.now in
     let at_node : held_at c.own_work.new.self c.args.interval ≡ Some held = search rules in
     let at : held_at was.held c.args.interval ≡ Some held = ap (λ (n : NodeView). held_at n.held c.args.interval) (sym same) ∙ at_node in
     let lease : c.lease.result.now ≡ held.lease = c.lease.ensures.lease in
     let own = c.in_ok-own.own in
     let exact = subst (λ (n : NodeView). (h : HeldView) (b : Bounds) → held_at n.held c.args.interval ≡ Some h
-        → slice_get (intervals_of case.topology) c.args.interval ≡ Some b → own ≡ own_work case (cached h.rows) b) c.self.view_is
-        c.in_ok-own.ensures.exact in
+    → slice_get (intervals_of case.topology) c.args.interval ≡ Some b → own ≡ own_work case (cached h.rows) b) c.self.view_is
+    c.in_ok-own.ensures.exact in
     subst (λ (n : NodeView). AnswersReport case old new (held_at was.held c.args.interval) was n (outcomes.Marked c.in-Ok.mark)) (sym same)
     (report-at case old new was was c.args.interval held (Ok (outcomes.Marked c.in-Ok.mark)) at
     (marked case old new was c.args.interval held own c.in-Ok.mark c.requires.fits at exact
@@ -67,9 +79,15 @@ returns-in-Err-clause-fits g c =
     let old = g.D.Desk.view c.args.desk.now in
     let new = g.D.Desk.view c.report-reported.new.self in
     let was = c.args.self.now in
-    let node : NodeView = record { number = c.self.inside.number; held = c.own_work.new.self; prepared = c.self.inside.prepared; outbox = c.self.inside.outbox.messages } in
-    let same : node ≡ was = ap (λ (h : List (Option HeldView)). with_held h c.self.inside.number c.self.inside.prepared c.self.inside.outbox.messages)
-        c.in_ok-own.ensures.same ∙ c.self.view_is in
+    let node : NodeView = record {
+      number = c.self.inside.number;
+      held = c.own_work.new.self;
+      prepared = c.self.inside.prepared;
+      outbox = c.self.inside.outbox.messages;
+    } in
+    let same : node ≡ was = ap (λ (h : List (Option HeldView)). with_held h c.self.inside.number c.self.inside.prepared
+    c.self.inside.outbox.messages)
+    c.in_ok-own.ensures.same ∙ c.self.view_is in
     Fits-yielded case new c.args.interval c.in-Err.why node c.yield_to.new.self c.yield_to.ensures.left (subst (Fits case new) (sym same)
     (Fits-looked case old new was c.sound.ensures.sound c.sound-2.ensures.sound c.report-reported.ensures.looked c.requires.fits))
 
@@ -79,9 +97,15 @@ returns-in-Err-clause-answers g c =
     let old = g.D.Desk.view c.args.desk.now in
     let new = g.D.Desk.view c.report-reported.new.self in
     let was = c.args.self.now in
-    let node : NodeView = record { number = c.self.inside.number; held = c.own_work.new.self; prepared = c.self.inside.prepared; outbox = c.self.inside.outbox.messages } in
-    let same : node ≡ was = ap (λ (h : List (Option HeldView)). with_held h c.self.inside.number c.self.inside.prepared c.self.inside.outbox.messages)
-        c.in_ok-own.ensures.same ∙ c.self.view_is in
+    let node : NodeView = record {
+      number = c.self.inside.number;
+      held = c.own_work.new.self;
+      prepared = c.self.inside.prepared;
+      outbox = c.self.inside.outbox.messages;
+    } in
+    let same : node ≡ was = ap (λ (h : List (Option HeldView)). with_held h c.self.inside.number c.self.inside.prepared
+    c.self.inside.outbox.messages)
+    c.in_ok-own.ensures.same ∙ c.self.view_is in
     let held = c.unwrap.result.now in
     let at_node : held_at c.own_work.new.self c.args.interval ≡ Some held = search rules in
     let at : held_at was.held c.args.interval ≡ Some held = ap (λ (n : NodeView). held_at n.held c.args.interval) (sym same) ∙ at_node in
@@ -89,8 +113,8 @@ returns-in-Err-clause-answers g c =
     let reason = subst (λ (l : LeaseView). HasReason old new l c.in-Err.why) lease c.in-Err.ensures.reason in
     let after = c.yield_to.new.self in
     let left = subst (λ (n : ℕ). HasYielded case.topology n c.in-Err.why was after)
-        (sym (c.requires.fits.held.each c.args.interval held at).of_interval)
-        (subst (λ (n : NodeView). HasYielded case.topology c.args.interval c.in-Err.why n after) same c.yield_to.ensures.left) in
+    (sym (c.requires.fits.held.each c.args.interval held at).of_interval)
+    (subst (λ (n : NodeView). HasYielded case.topology c.args.interval c.in-Err.why n after) same c.yield_to.ensures.left) in
     subst (λ (r : Result Outcome NodeFault). IfOk r (AnswersReport case old new (held_at was.held c.args.interval) was after))
     (sym c.yield_to.ensures.answer) (report-at case old new was after c.args.interval held (answered c.in-Err.why) at
     (answers-unreported case old new held was after c.in-Err.why c.report-reported.ensures.looked reason left))
@@ -101,13 +125,20 @@ returns-in-Err-clause-fault g c =
     let old = g.D.Desk.view c.args.desk.now in
     let new = g.D.Desk.view c.report-reported.new.self in
     let was = c.args.self.now in
-    let node : NodeView = record { number = c.self.inside.number; held = c.own_work.new.self; prepared = c.self.inside.prepared; outbox = c.self.inside.outbox.messages } in
-    let same : node ≡ was = ap (λ (h : List (Option HeldView)). with_held h c.self.inside.number c.self.inside.prepared c.self.inside.outbox.messages)
-        c.in_ok-own.ensures.same ∙ c.self.view_is in
+    let node : NodeView = record {
+      number = c.self.inside.number;
+      held = c.own_work.new.self;
+      prepared = c.self.inside.prepared;
+      outbox = c.self.inside.outbox.messages;
+    } in
+    let same : node ≡ was = ap (λ (h : List (Option HeldView)). with_held h c.self.inside.number c.self.inside.prepared
+    c.self.inside.outbox.messages)
+    c.in_ok-own.ensures.same ∙ c.self.view_is in
     let held = c.unwrap.result.now in
     let at_node : held_at c.own_work.new.self c.args.interval ≡ Some held = search rules in
     let at : held_at was.held c.args.interval ≡ Some held = ap (λ (n : NodeView). held_at n.held c.args.interval) (sym same) ∙ at_node in
     let lease : c.lease.result.now ≡ held.lease = c.lease.ensures.lease in
     let reason = subst (λ (l : LeaseView). HasReason old new l c.in-Err.why) lease c.in-Err.ensures.reason in
-    subst (λ (r : Result Outcome NodeFault). IfErr r (FailsReport old new (held_at was.held c.args.interval))) (sym c.yield_to.ensures.answer)
+    subst (λ (r : Result Outcome NodeFault). IfErr r (FailsReport old new (held_at was.held c.args.interval))) (sym
+    c.yield_to.ensures.answer)
     (reason-held old new was.held c.args.interval held (answered c.in-Err.why) at (fails-refused old new held.lease c.in-Err.why reason))
