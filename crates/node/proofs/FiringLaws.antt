@@ -1,8 +1,9 @@
 -- What a node leaves when a timer fires.
-use Rattle.std.proofs.Common.{◌≡◌, ◌∙◌, ◌<◌, ◌≤◌, ◌+◌, ◌^◌, ℕ, List, [], ◌∷◌, ◌++◌, length, refl, sym, ap, subst, inr}
+use Rattle.std.proofs.Common.{◌≡◌, ◌∙◌, ◌<◌, ◌≤◌, ◌+◌, ◌^◌, ℕ, List, [], ◌∷◌, ◌++◌, length, refl, sym, ap, subst, arith}
 use Rattle.std.specs.Prelude.{All, IfOk, IfSome, Option, Some, None, Result, slice_get, unwrap_or}
 use Rattle.std.specs.List.{AllByRecursion}
 use Rattle.std.specs.Option.{option_map}
+use Rattle.std.proofs.lemmas.List.{length-append}
 use Rattle.std.proofs.lemmas.List.Elements.{All-append, recursion_from_All}
 use Rattle.mw_types.specs.declared.TheConstants.{MAX_STAMP}
 use Rattle.mw_types.specs.Outcomes.{Outcome as Effects}
@@ -25,17 +26,17 @@ use Rattle.run_history.proofs.Lists.{some_same}
 use Rattle.watermark.specs.Marks.{marks_of}
 use Rattle.book.specs.Books.{LeaseView}
 use Rattle.book.specs.Desking.{HasWritten, IsDueKnown}
-use Rattle.book.specs.Desks.{DeskView, HasLooked}
+use Rattle.book.specs.Desks.{DeskView, HasLooked, IsSound}
 use Rattle.book.specs.Proposals.{IsProposable}
 use Rattle.book.specs.declared.answers.Written.{Written}
 use Rattle.book.specs.declared.proposal.Proposal.{Proposal}
 use Rattle.book.specs.declared.proposal.Proposal.TheVariants as proposals
 use Rattle.book.proofs.ProposalLaws.{timer-suits}
-use Rattle.holdings.specs.Holding.{AreHeld, HeldView, HoldsEntry, held_at, held_on, row_held}
+use Rattle.holdings.specs.Holding.{AreHeld, HeldView, held_at, held_on, row_held}
 use Rattle.holdings.specs.declared.first_timer.RowTimer.{RowTimer}
 use Rattle.node.specs.Answers.{AnswersFire, AnswersSome, HasGrown, IsLeastKnown, made_of}
 use Rattle.node.specs.Asking.{IsNextTimer, MayAskFire, Request}
-use Rattle.node.specs.FireSteps.{IsSetAt, IsTimerToFire}
+use Rattle.node.specs.FireSteps.{HoldsFire, IsSetAt, IsTimerToFire}
 use Rattle.node.specs.Fits.{Fits, IsWork}
 use Rattle.node.specs.Messages.{IsAddressed, IsComputation, IsOutgoing}
 use Rattle.node.specs.Workers.{NodeView, WorkView, messages_from, with_outgoing, worker_at}
@@ -123,13 +124,6 @@ appended-fired old new lease name timer mark effects row answer w = record {
   number = w.written.written.commit;
   last = w.written.written.last;
 }
-
--- a timer's firing on a row that is held, as the desk answered it
-abbrev pub HoldsFire : Shape → DeskView → DeskView → ℕ → RowName → Timer → ℕ → Effects → ℕ → List (Option HeldView)
-    → List (Option HeldView) → Type 0
-HoldsFire shape old new interval name timer mark effects commit before after = HoldsEntry shape interval name commit
-    (λ (lease : LeaseView) (row : Contents) (answer : Written).
-    HasWritten old new lease name (proposals.Fire timer mark effects) row answer) before after
 
 -- its entry stands
 pub fired-last : (shape : Shape) (old new : DeskView) (interval : ℕ) (name : RowName) (timer : Timer) (mark : ℕ) (effects : Effects)
@@ -267,3 +261,13 @@ fire-nothing case old mid was part mark looked known none = record {
   known = known;
   answers = (λ asked may. none may.name may.timer may.next, record { looked = looked; kept = refl });
 }
+
+-- the number of an entry that stands can be kept
+pub small-number : (old new : DeskView) (lease : LeaseView) (entry : Entry) (commit : ℕ) → IsSound new → IsAppended old new lease entry commit
+    → commit < 2 ^ 32
+small-number old new lease entry commit sound a =
+    let long : length new.seen ≡ length a.before + 1 = ap (λ (h : List Entry). length h) a.appended ∙ length-append a.before (entry ∷ []) in
+    let number = a.number in
+    let limit = sound.few in
+    let small = sound.limit in
+    omega (arith, long, number, limit, small)

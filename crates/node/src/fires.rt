@@ -1,14 +1,17 @@
 //! Timers that fire.
-ghost use Rattle.std.specs.Prelude.{◌≡◌, IfErr, IfOk, OnErr, Some, length};
+ghost use Rattle.std.specs.Prelude.{◌≡◌, ◌<◌, IfErr, IfOk, OnErr, Some, length};
 ghost use Rattle.std.specs.Ordering.{is_lt};
 ghost use Rattle.run_history.specs.Cases.{intervals_of};
 ghost use Rattle.book.specs.Desking.{IsDueKnown};
 ghost use Rattle.book.specs.Desks.{HasLooked, KeepsMarks};
 ghost use Rattle.node.specs.Answers.{AnswersFire, AnswersSome, FailsHeld, HasGrown, HasKept};
 ghost use Rattle.node.specs.Fits.{Fits};
+ghost use Rattle.holdings.specs.Holding.{AreHeld, IsRefusedOf, KeepsHeld};
 ghost use Rattle.holdings.specs.Timers.{due_cmp, pair_of};
+ghost use Rattle.topology.specs.Shapes.{parts_of};
+ghost use Rattle.run_history.specs.Fences.{interval_of};
 ghost use Rattle.node.specs.Asking.{IsNextTimer, MayAskFire};
-ghost use Rattle.node.specs.FireSteps.{AreAllWithin, IsFirstIn, HasLeft, IsFirstSoFar, IsSetAt, IsTimerToFire, due_under, earlier_timer, lesser_timer};
+ghost use Rattle.node.specs.FireSteps.{AreAllWithin, IsFirstIn, HasLeft, HoldsFire, IsFirstSoFar, IsSetAt, IsTimerToFire, due_under, earlier_timer, lesser_timer};
 ghost use Rattle.node.specs.Messages.{IsComputation};
 ghost use Rattle.node.specs.Works.{IsWorkOf};
 
@@ -17,7 +20,7 @@ use crate::known_marks::least_known;
 use crate::node::Node;
 use crate::outcome::{NodeFault, Outcome};
 use crate::sends::made;
-use book::{Desk, Proposal, Seen};
+use book::{Desk, DeskRefusal, Proposal, Seen};
 use computations::Computation;
 use holdings::{Holdings, RowTimer};
 use mw_types::{Effects, NoMemory, RowName, Timer};
@@ -27,6 +30,7 @@ use std::alloc::Global;
 impl<N: Seen> Node<N> {
     /// Fires the next timer of a part, by time, tag and key, where it is due by the marks that the
     /// desk knows.
+    #[tactic(auto, using(crate::proofs::FitLaws::looked_not, crate::proofs::FitLaws::grown_looked))]
     pub fn fire<D: Desk<Note = N>, C: Computation>(
         &mut self,
         alloc: Global,
@@ -59,7 +63,7 @@ impl<N: Seen> Node<N> {
         desk.sound();
         match self.to_fire(alloc, case, part, mark)? {
             Some(found) => {
-                let fired = self.fire_one(alloc, desk, case, work, found, mark);
+                let fired = self.fire_one(alloc, desk, case, work, &found, mark);
                 desk.sound();
                 fired
             }
@@ -87,27 +91,28 @@ impl<N: Seen> Node<N> {
     }
 
     // Fires a timer that is due: its handler is called, and what it leaves is written.
+    #[tactic(auto, using(crate::proofs::FitLaws::looked_not, crate::proofs::FitLaws::grown_looked))]
     fn fire_one<D: Desk<Note = N>, C: Computation>(
         &mut self,
         alloc: Global,
         desk: &mut D,
         case: &Case,
         work: &C,
-        found: RowTimer,
+        found: &RowTimer,
         mark: u64,
     ) -> Result<Outcome, NodeFault>
         requires fits { Fits case.now (D.view desk.old) self.old }
         requires work { IsWorkOf case.now.topology (C.has work.now)
             (C.gives_record work.now) (C.gives_timer work.now) }
-        requires part { IsComputation case.now.topology found.name.part }
-        requires next { IsNextTimer case.now.topology self.old found.name.part mark
-            found.name found.timer }
-        requires known { IsDueKnown (D.view desk.old) found.name.part found.timer.time mark }
+        requires part { IsComputation case.now.topology found.now.name.part }
+        requires next { IsNextTimer case.now.topology self.old found.now.name.part mark
+            found.now.name found.now.timer }
+        requires known { IsDueKnown (D.view desk.old) found.now.name.part found.now.timer.time mark }
 
         ensures fits { Fits case.now (D.view desk.new) self.new }
         ensures answers { IfOk result (AnswersSome case.now.topology
             (D.view desk.old) (D.view desk.new)
-            (MayAskFire case.now self.old found.name.part mark) self.old self.new) }
+            (MayAskFire case.now self.old found.now.name.part mark) self.old self.new) }
         ensures number { self.new.number ≡ self.old.number }
 
         ensures kept { OnErr result (HasKept self.old self.new) }
@@ -120,17 +125,14 @@ impl<N: Seen> Node<N> {
         ensures loan { D.loan desk.new ≡ D.loan desk.old }
     {
         desk.sound();
-        let RowTimer { name, timer } = found;
-        let interval = case.interval_of(&name);
-        let effects = effects_of(&self.held, alloc, case, work, interval, &name, &timer)?;
-        let made = made(alloc, &case.topology, &name, effects.productions.as_slice(), timer.late)?;
+        let timer = found.timer;
+        let interval = case.interval_of(&found.name);
+        let effects = effects_of(&self.held, alloc, case, work, interval, &found.name, &timer)?;
+        let productions = effects.productions.as_slice();
+        let made = made(alloc, &case.topology, &found.name, productions, timer.late)?;
         self.outbox.make_room(made.len())?;
-        let proposal = Proposal::Fire {
-            timer,
-            mark,
-            effects,
-        };
-        let written = self.held.write(alloc, desk, case, interval, &name, &proposal);
+        let held = &mut self.held;
+        let written = write_fire(held, alloc, desk, case, interval, found, mark, effects);
         desk.sound();
         match written {
             Ok(commit) => {
@@ -140,6 +142,46 @@ impl<N: Seen> Node<N> {
             Err(why) => self.yield_to(case, interval, why),
         }
     }
+}
+
+// Writes that a timer of a row that is held of an interval fired.
+fn write_fire<D: Desk>(
+    held: &mut Holdings,
+    alloc: Global,
+    desk: &mut D,
+    case: &Case,
+    interval: u32,
+    found: &RowTimer,
+    mark: u64,
+    effects: Effects,
+) -> Result<u64, DeskRefusal>
+    requires case { (D.view desk.old).case ≡ case.now }
+    requires fits { AreHeld case.now (D.view desk.old) held.old }
+    requires covers { interval_of case.now.topology found.now.name ≡ Some interval }
+    requires part { found.now.name.part < parts_of case.now.topology }
+    requires set { IsSetAt case.now.topology held.old interval found.now.name found.now.timer }
+    requires left { HasLeft case.now held.old interval found.now.name found.now.timer effects }
+    requires known { IsDueKnown (D.view desk.old) found.now.name.part found.now.timer.time mark }
+
+    ensures fits { AreHeld case.now (D.view desk.new) held.new }
+    ensures fired { IfOk result (λ commit. HoldsFire case.now.topology
+        (D.view desk.old) (D.view desk.new) interval found.now.name found.now.timer mark effects
+        commit held.old held.new) }
+
+    ensures kept { OnErr result (KeepsHeld case.now.topology held.old held.new) }
+    ensures looked { OnErr result (HasLooked (D.view desk.old) (D.view desk.new)) }
+    ensures reason { IfErr result
+        (IsRefusedOf (D.view desk.old) (D.view desk.new) held.old interval) }
+    ensures marks { KeepsMarks (D.view desk.old) (D.view desk.new) }
+    ensures loan { D.loan desk.new ≡ D.loan desk.old }
+{
+    let timer = found.timer;
+    let proposal = Proposal::Fire {
+        timer,
+        mark,
+        effects,
+    };
+    held.write(alloc, desk, case, interval, &found.name, &proposal)
 }
 
 // What a handler leaves of a timer of a row that is held of an interval.
