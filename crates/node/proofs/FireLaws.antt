@@ -1,12 +1,12 @@
 -- Which timer of a part fires first.
-use Rattle.std.proofs.Common.{◌≡◌, ◌∙◌, ◌<◌, ◌≤◌, ◌+◌, ◌&&◌, ℕ, Bool, true, false, List, [], ◌∷◌, length, refl, sym, ap, subst, arith, inl, inr, zero, suc}
+use Rattle.std.proofs.Common.{◌≡◌, ◌∙◌, ◌<◌, ◌+◌, ◌&&◌, ℕ, Bool, true, false, List, [], ◌∷◌, length, refl, sym, ap, subst, arith, inl, inr, zero, suc}
 use Rattle.std.specs.Prelude.{IfSome, IsSome, Option, Some, None, ◌⊎◌, ◌==◌, if◌then◌else◌, nat_le, slice_get, unwrap_or}
 use Rattle.std.specs.Cmp.{nat_cmp_is}
 use Rattle.std.specs.Ordering.{is_le, is_lt, nat_cmp, ordering_reverse, ordering_then}
 use Rattle.std.specs.declared.cmp.Ordering.{Ordering}
 use Rattle.std.specs.declared.cmp.Ordering.TheVariants.{Less, Equal, Greater}
 use Rattle.std.proofs.lemmas.Bool.{cases_eq, eq-eqb, eqb-true, leb-false, leb-true}
-use Rattle.mw_types.specs.Orders.{key_cmp, row_cmp, timer_cmp}
+use Rattle.mw_types.specs.Orders.{key_cmp, row_cmp}
 use Rattle.mw_types.specs.declared.identity.RowName.{RowName}
 use Rattle.mw_types.specs.declared.timer.Timer.{Timer}
 use Rattle.key_intervals.specs.Intervals.{ends_after}
@@ -20,12 +20,12 @@ use Rattle.run_history.proofs.Fitting.{both}
 use Rattle.run_history.proofs.IntervalLaws.{interval_of-has}
 use Rattle.run_history.proofs.Lists.{some_same}
 use Rattle.holdings.specs.Firsts.{HasPicked}
-use Rattle.holdings.specs.Holding.{HeldView, held_at, held_on}
+use Rattle.holdings.specs.Holding.{HeldView, held_at}
 use Rattle.holdings.specs.Timers.{IsFirstTimer, due_cmp, pair_of, timer_of}
 use Rattle.holdings.specs.declared.first_timer.RowTimer.{RowTimer}
 use Rattle.holdings.proofs.TimerLaws.{due_cmp-total}
-use Rattle.node.specs.Asking.{IsNextTimer, IsTimerHeld}
-use Rattle.node.specs.FireSteps.{AreAllWithin, IsFirstIn, IsFirstSoFar, IsLeastTimer, IsTimerIn, IsTimerOf, IsTimerToFire, due_under, earlier_timer, lesser_timer}
+use Rattle.node.specs.Asking.{IsTimerHeld}
+use Rattle.node.specs.FireSteps.{AreAllWithin, IsFirstIn, IsFirstSoFar, IsLeastTimer, IsTimerIn, IsTimerOf, IsTimerToFire, due_under, earlier_timer}
 use Rattle.node.specs.PurgeSteps.{AreRowsWithin}
 use Rattle.node.specs.Workers.{NodeView}
 use Rattle.node.proofs.FirstLaws.{not_less}
@@ -223,13 +223,15 @@ timer-of shape node part name timer is =
 
 -- an earlier time is before
 time-before : (a b : RowName × Timer) → a.1.time < b.1.time → due_cmp a b ≡ Less
-time-before a b early = ap (λ o. ordering_then (ordering_then o (nat_cmp a.1.tag b.1.tag)) (row_cmp a.0 b.0)) (sym (nat_cmp_is a.1.time b.1.time Less early))
+time-before a b early = ap (λ o. ordering_then (ordering_then o (nat_cmp a.1.tag b.1.tag)) (row_cmp a.0 b.0))
+    (sym (nat_cmp_is a.1.time b.1.time Less early))
 
 -- the least timer of a part is the next, where it is due
 pub next-timer : (shape : Shape) (node : NodeView) (part mark : ℕ) (found : Option RowTimer) → node.prepared ≡ None
     → AreAllWithin shape node.held → IsFirstSoFar (intervals_of shape) node.held part (length (intervals_of shape)) found
     → IsTimerToFire shape node part mark (due_under mark found)
-next-timer shape node part mark None free within first = λ name timer next. first (name, timer) (timer-of shape node part name timer next.set)
+next-timer shape node part mark None free within first = λ name timer next.
+    first (name, timer) (timer-of shape node part name timer next.set)
 next-timer shape node part mark (Some f) free within first = by_time (nat_le f.timer.time mark) refl
   where
     by_time : (b : Bool) → nat_le f.timer.time mark ≡ b → IsTimerToFire shape node part mark (if b then Some f else None)

@@ -1,17 +1,14 @@
 -- What a node leaves when a timer fires.
 use Rattle.std.proofs.Common.{◌≡◌, ◌∙◌, ◌<◌, ◌≤◌, ◌+◌, ◌^◌, ℕ, List, [], ◌∷◌, ◌++◌, length, refl, sym, ap, subst, arith}
 use Rattle.std.specs.Prelude.{All, IfOk, IfSome, Option, Some, None, Result, slice_get, unwrap_or}
-use Rattle.std.specs.List.{AllByRecursion}
 use Rattle.std.specs.Option.{option_map}
 use Rattle.std.proofs.lemmas.List.{length-append}
-use Rattle.std.proofs.lemmas.List.Elements.{All-append, recursion_from_All}
-use Rattle.mw_types.specs.declared.TheConstants.{MAX_STAMP}
+use Rattle.std.proofs.lemmas.List.Elements.{All-append}
 use Rattle.mw_types.specs.Outcomes.{Outcome as Effects}
 use Rattle.mw_types.specs.declared.entry.Entry.{Entry}
 use Rattle.mw_types.specs.declared.entry.Entry.TheVariants as entries
 use Rattle.mw_types.specs.declared.identity.RowName.{RowName}
 use Rattle.mw_types.specs.declared.kind.Kind.{Kind}
-use Rattle.mw_types.specs.declared.state.State.{State}
 use Rattle.mw_types.specs.declared.timer.Timer.{Timer}
 use Rattle.topology.specs.Shapes.{Shape}
 use Rattle.computations.specs.Handlers.{effects_of_timer}
@@ -21,18 +18,15 @@ use Rattle.run_history.specs.Fences.{interval_of}
 use Rattle.run_history.specs.Legal.{timer_outcome}
 use Rattle.run_history.specs.Made.{deliveries_made, late_cause}
 use Rattle.run_history.specs.Runs.{cached, row_in, run_of}
-use Rattle.run_history.specs.Watermarks.{least}
 use Rattle.run_history.proofs.Lists.{some_same}
-use Rattle.watermark.specs.Marks.{marks_of}
 use Rattle.book.specs.Books.{LeaseView}
-use Rattle.book.specs.Desking.{HasWritten, IsDueKnown}
+use Rattle.book.specs.Desking.{HasWritten}
 use Rattle.book.specs.Desks.{DeskView, HasLooked, IsSound}
 use Rattle.book.specs.Proposals.{IsProposable}
 use Rattle.book.specs.declared.answers.Written.{Written}
-use Rattle.book.specs.declared.proposal.Proposal.{Proposal}
 use Rattle.book.specs.declared.proposal.Proposal.TheVariants as proposals
 use Rattle.book.proofs.ProposalLaws.{timer-suits}
-use Rattle.holdings.specs.Holding.{AreHeld, HeldView, held_at, held_on, row_held}
+use Rattle.holdings.specs.Holding.{AreHeld, HeldView, held_at, row_held}
 use Rattle.holdings.specs.declared.first_timer.RowTimer.{RowTimer}
 use Rattle.node.specs.Answers.{AnswersFire, AnswersSome, HasGrown, IsLeastKnown, made_of}
 use Rattle.node.specs.Asking.{IsNextTimer, MayAskFire, Request}
@@ -52,13 +46,6 @@ use Rattle.node.proofs.SendLaws.{made-outgoing}
 use Rattle.node.proofs.StateLaws.{state-held}
 
 -- ---- a timer that is the first of its row
-
--- the first timer of a row has a time that can be kept
-pub first-time : (timers : List Timer) (timer : Timer) → All (λ (t : Timer). t.time ≤ MAX_STAMP) timers → slice_get timers 0 ≡ Some timer
-    → timer.time ≤ MAX_STAMP
-first-time [] timer each at = absurd cc
-first-time (t ∷ ts) timer each at = subst (λ (u : Timer). u.time ≤ MAX_STAMP) (some_same t timer at)
-    (recursion_from_All (λ (u : Timer). u.time ≤ MAX_STAMP) (t ∷ ts) each).0
 
 -- the row of the next timer is there
 pub set-at : (case : CaseShape) (desk : DeskView) (node : NodeView) (part mark interval : ℕ) (name : RowName) (timer : Timer)
@@ -203,7 +190,8 @@ pub answers-fired : (case : CaseShape) (old new : DeskView) (node : NodeView) (m
     (effects : Effects) (commit : ℕ) (after : List (Option HeldView)) (set : IsSetAt case.topology node.held interval name timer)
     → MayAskFire case node name.part mark (firing name timer mark effects set.held)
     → HoldsFire case.topology old new interval name timer mark effects commit node.held after
-    → AnswersSome case.topology old new (MayAskFire case node name.part mark) node (fired_by case.topology after name timer effects commit node)
+    → AnswersSome case.topology old new (MayAskFire case node name.part mark) node
+    (fired_by case.topology after name timer effects commit node)
     (outcomes.Committed commit)
 answers-fired case old new node mark interval name timer effects commit after set may h =
     let shape = case.topology in
@@ -221,22 +209,6 @@ answers-fired case old new node mark interval name timer effects commit after se
     )
 
 -- ---- under the least known mark
-
--- the next timer of a part is that of its own part
-pub next-own : (shape : Shape) (node : NodeView) (part mark : ℕ) (found : RowTimer)
-    → IsNextTimer shape node part mark found.name found.timer → IsNextTimer shape node found.name.part mark found.name found.timer
-next-own shape node part mark found next =
-    subst (λ p. IsNextTimer shape node p mark found.name found.timer) (sym next.set.of_part) next
-
--- it is due by what is known
-pub due-known : (case : CaseShape) (old mid : DeskView) (node : NodeView) (part mark : ℕ) (found : RowTimer) → mid.case ≡ case
-    → IsLeastKnown case.topology part old mid mark → IsNextTimer case.topology node part mark found.name found.timer
-    → IsDueKnown mid found.name.part found.timer.time mark
-due-known case old mid node part mark found same known next =
-    subst (λ p. IsDueKnown mid p found.timer.time mark) (sym next.set.of_part) (record {
-      due = next.due;
-      under_marks = subst (λ (k : CaseShape). mark ≤ least (marks_of k.topology part mid.marks)) (sym same) known.at_most;
-    })
 
 -- what a node answers where a timer is the next
 pub fire-answers : (case : CaseShape) (old mid new : DeskView) (was node : NodeView) (part mark : ℕ) (found : RowTimer)
@@ -263,8 +235,8 @@ fire-nothing case old mid was part mark looked known none = record {
 }
 
 -- the number of an entry that stands can be kept
-pub small-number : (old new : DeskView) (lease : LeaseView) (entry : Entry) (commit : ℕ) → IsSound new → IsAppended old new lease entry commit
-    → commit < 2 ^ 32
+pub small-number : (old new : DeskView) (lease : LeaseView) (entry : Entry) (commit : ℕ) → IsSound new
+    → IsAppended old new lease entry commit → commit < 2 ^ 32
 small-number old new lease entry commit sound a =
     let long : length new.seen ≡ length a.before + 1 = ap (λ (h : List Entry). length h) a.appended ∙ length-append a.before (entry ∷ []) in
     let number = a.number in

@@ -1,5 +1,5 @@
 -- The steps by which a node finds the timer that fires. No public clause cites this module.
-use Rattle.std.specs.Prelude.{◌≡◌, ◌<◌, ℕ, Bool, true, false, List, Option, Some, None, IfSome, if◌then◌else◌, nat_le, slice_get}
+use Rattle.std.specs.Prelude.{◌≡◌, ◌<◌, ℕ, Bool, true, false, List, Option, Some, None, if◌then◌else◌, nat_le, slice_get}
 use Rattle.std.specs.Ordering.{is_lt}
 use Rattle.mw_types.specs.Outcomes.{Outcome}
 use Rattle.mw_types.specs.declared.identity.RowName.{RowName}
@@ -103,8 +103,8 @@ HasLeft case all interval name timer effects = (set : IsSetAt case.topology all 
     timer_outcome case name set.row timer ≡ Some effects
 
 -- a timer's firing on a row that is held, as the desk answered it
-abbrev pub HoldsFire : Shape → DeskView → DeskView → ℕ → RowName → Timer → ℕ → Outcome → ℕ → List (Option HeldView)
-    → List (Option HeldView) → Type 0
-HoldsFire shape old new interval name timer mark effects commit before after = HoldsEntry shape interval name commit
-    (λ (lease : LeaseView) (row : Contents) (answer : Written).
+abbrev pub HoldsFire : Shape → DeskView → DeskView → ℕ → RowName → Timer → ℕ → Outcome → ℕ →
+    List (Option HeldView) → List (Option HeldView) → Type 0
+HoldsFire shape old new interval name timer mark effects commit before after =
+    HoldsEntry shape interval name commit (λ (lease : LeaseView) (row : Contents) (answer : Written).
     HasWritten old new lease name (proposals.Fire timer mark effects) row answer) before after

@@ -107,7 +107,8 @@ impl<N: Seen> Node<N> {
         requires part { IsComputation case.now.topology found.now.name.part }
         requires next { IsNextTimer case.now.topology self.old found.now.name.part mark
             found.now.name found.now.timer }
-        requires known { IsDueKnown (D.view desk.old) found.now.name.part found.now.timer.time mark }
+        requires known { IsDueKnown (D.view desk.old) found.now.name.part
+            found.now.timer.time mark }
 
         ensures fits { Fits case.now (D.view desk.new) self.new }
         ensures answers { IfOk result (AnswersSome case.now.topology

@@ -1,4 +1,3 @@
-use Rattle.std.proofs.Common.{◌≡◌}
 use Rattle.node.proofs.FiringLaws.{fire-proposable}
 use Rattle.node.proofs.fires.write_fire.Goals as goal
 

@@ -75,12 +75,16 @@ returns-in-Ok-clause-fits g c =
       outbox = c.self.inside.outbox.messages;
     } in
     let fits : Fits case old node = subst (Fits case old) (sym c.self.view_is) c.requires.fits in
-    let next = subst (λ (n : NodeView). IsNextTimer case.topology n name.part c.args.mark name timer) (sym c.self.view_is) c.requires.next in
+    let next = subst (λ (n : NodeView). IsNextTimer case.topology n name.part c.args.mark name timer) (sym c.self.view_is)
+    c.requires.next in
     let productions = c.as_slice-productions.ensures.elements ∙ ap (λ (o : Effects). o.productions) c.effects.view_is in
-    let messages : List Production → List Outgoing = λ ps. messages_from name (deliveries_made case.topology name.part ps timer.late commit) in
+    let messages : List Production → List Outgoing = λ ps.
+    messages_from name (deliveries_made case.topology name.part ps timer.late commit) in
     let there : c.case.inside.topology ≡ case.topology = ap (λ (k : CaseShape). k.topology) c.case.view_is in
-    let made : Shape → List Outgoing = λ t. messages_from name (deliveries_made t name.part c.as_slice-productions.result.now timer.late commit) in
-    let out = c.put_all.ensures.put ∙ ap (λ (l : List Outgoing). l ++ map (numbered commit) c.in_ok-made.made.items) c.make_room.ensures.same
+    let made : Shape → List Outgoing = λ t.
+    messages_from name (deliveries_made t name.part c.as_slice-productions.result.now timer.late commit) in
+    let out = c.put_all.ensures.put
+    ∙ ap (λ (l : List Outgoing). l ++ map (numbered commit) c.in_ok-made.made.items) c.make_room.ensures.same
     ∙ ap (λ (l : List Outgoing). node.outbox ++ l) (c.in_ok-made.ensures.made commit ∙ ap made there ∙ ap messages productions) in
     let last = fired-last case.topology old new interval name timer c.args.mark effects commit node.held c.write_fire-written.new.held
     c.in-Ok.ensures.fired in
@@ -113,12 +117,16 @@ returns-in-Ok-clause-answers g c =
       outbox = c.self.inside.outbox.messages;
     } in
     let fits : Fits case old node = subst (Fits case old) (sym c.self.view_is) c.requires.fits in
-    let next = subst (λ (n : NodeView). IsNextTimer case.topology n name.part c.args.mark name timer) (sym c.self.view_is) c.requires.next in
+    let next = subst (λ (n : NodeView). IsNextTimer case.topology n name.part c.args.mark name timer) (sym c.self.view_is)
+    c.requires.next in
     let productions = c.as_slice-productions.ensures.elements ∙ ap (λ (o : Effects). o.productions) c.effects.view_is in
-    let messages : List Production → List Outgoing = λ ps. messages_from name (deliveries_made case.topology name.part ps timer.late commit) in
+    let messages : List Production → List Outgoing = λ ps.
+    messages_from name (deliveries_made case.topology name.part ps timer.late commit) in
     let there : c.case.inside.topology ≡ case.topology = ap (λ (k : CaseShape). k.topology) c.case.view_is in
-    let made : Shape → List Outgoing = λ t. messages_from name (deliveries_made t name.part c.as_slice-productions.result.now timer.late commit) in
-    let out = c.put_all.ensures.put ∙ ap (λ (l : List Outgoing). l ++ map (numbered commit) c.in_ok-made.made.items) c.make_room.ensures.same
+    let made : Shape → List Outgoing = λ t.
+    messages_from name (deliveries_made t name.part c.as_slice-productions.result.now timer.late commit) in
+    let out = c.put_all.ensures.put
+    ∙ ap (λ (l : List Outgoing). l ++ map (numbered commit) c.in_ok-made.made.items) c.make_room.ensures.same
     ∙ ap (λ (l : List Outgoing). node.outbox ++ l) (c.in_ok-made.ensures.made commit ∙ ap made there ∙ ap messages productions) in
     let covers = c.interval_of-interval.ensures.interval in
     let set = set-at case old node name.part c.args.mark interval name timer fits.held c.requires.part covers next in
