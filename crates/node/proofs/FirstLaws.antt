@@ -109,7 +109,7 @@ picked-has shape held least floor name is =
     }
 
 -- what is not less
-not_less : (o : Ordering) → (o ≡ Less → ⊥) → is_lt o ≡ false
+pub not_less : (o : Ordering) → (o ≡ Less → ⊥) → is_lt o ≡ false
 not_less Less never = absurd (never refl)
 not_less Equal never = refl
 not_less Greater never = refl

@@ -3,6 +3,8 @@ pub mod FitLaws
 pub mod LookLaws
 pub mod MarkLaws
 pub mod OutLaws
+pub mod FireLaws
+pub mod FiringLaws
 pub mod PurgeLaws
 pub mod RefusedLaws
 pub mod ReportLaws

@@ -8,7 +8,7 @@ use Rattle.book.specs.Books.{LeaseView}
 use Rattle.book.specs.Desks.{DeskView, HasLooked}
 use Rattle.book.specs.declared.desk_refusal.DeskRefusal.{DeskRefusal}
 use Rattle.holdings.specs.Holding.{HeldView, held_on}
-use Rattle.node.specs.Answers.{AnswersAck, AnswersAckOf, AnswersAsked, AnswersWrite, FailsHeld, HasGrown, IsIdle, IsRefused, refusal_of}
+use Rattle.node.specs.Answers.{AnswersAck, AnswersAckOf, AnswersAsked, AnswersSome, AnswersWrite, FailsHeld, HasGrown, IsIdle, IsRefused, refusal_of}
 use Rattle.node.specs.Asking.{Request, settling}
 use Rattle.node.specs.Workers.{NodeView, Worker, worker_at}
 use Rattle.node.specs.declared.outcome.NodeFault.{NodeFault}
@@ -66,6 +66,27 @@ answers-later shape old mid new asked after was node outcomes.Lost looked is = a
 answers-later shape old mid new asked after was node (outcomes.Marked mark) looked is = absurd is
 answers-later shape old mid new asked after was node outcomes.Crashed looked is = absurd is
 answers-later shape old mid new asked after was node outcomes.Nothing looked is = absurd is
+
+-- an entry for which a node may ask, after a look
+pub some-later : (shape : Shape) (old mid new : DeskView) (MayAsk : Request → Type 0) (was node : NodeView) (outcome : Outcome)
+    → HasLooked old mid → AnswersSome shape mid new MayAsk was node outcome → AnswersSome shape old new MayAsk was node outcome
+some-later shape old mid new MayAsk was node (outcomes.Committed commit) looked is =
+    (is.0, is.1, answers-later shape old mid new is.0 (worker_at was) was node (outcomes.Committed commit) looked is.2)
+some-later shape old mid new MayAsk was node (outcomes.Stale newer) looked is =
+    (is.0, is.1, answers-later shape old mid new is.0 (worker_at was) was node (outcomes.Stale newer) looked is.2)
+some-later shape old mid new MayAsk was node (outcomes.Busy found) looked is =
+    (is.0, is.1, answers-later shape old mid new is.0 (worker_at was) was node (outcomes.Busy found) looked is.2)
+some-later shape old mid new MayAsk was node (outcomes.Claimed seq) looked is = absurd is.2
+some-later shape old mid new MayAsk was node outcomes.Prepared looked is = absurd is.2
+some-later shape old mid new MayAsk was node outcomes.Duplicate looked is = absurd is.2
+some-later shape old mid new MayAsk was node outcomes.NotMine looked is = absurd is.2
+some-later shape old mid new MayAsk was node (outcomes.Queued count) looked is = absurd is.2
+some-later shape old mid new MayAsk was node (outcomes.Sent count) looked is = absurd is.2
+some-later shape old mid new MayAsk was node (outcomes.Copied message) looked is = absurd is.2
+some-later shape old mid new MayAsk was node outcomes.Lost looked is = absurd is.2
+some-later shape old mid new MayAsk was node (outcomes.Marked mark) looked is = absurd is.2
+some-later shape old mid new MayAsk was node outcomes.Crashed looked is = absurd is.2
+some-later shape old mid new MayAsk was node outcomes.Nothing looked is = (is.0, idle-later old mid new was node looked is.1)
 
 -- a fault after a look
 fault-later : (old mid new : DeskView) (all : List (Option HeldView)) (fault : NodeFault) → HasLooked old mid

@@ -75,3 +75,18 @@ least-all shape part old new mark long longer so_far = record {
     below [] k b at = absurd cc
     below (c ∷ cs) zero b at = omega arith
     below (c ∷ cs) (suc k) b at = let less = below cs k b at in omega (arith, less)
+
+-- the least known mark, as the desk comes to know more
+pub known-later : (shape : Shape) (part : ℕ) (old mid new : DeskView) (mark : ℕ) → length mid.marks ≡ length (intervals_of shape)
+    → length new.marks ≡ length (intervals_of shape) → ((i : ℕ) → mark_of mid.marks i ≤ mark_of new.marks i)
+    → IsLeastKnown shape part old mid mark → IsLeastKnown shape part old new mark
+known-later shape part old mid new mark long longer rise is =
+    let most = is.at_most in
+    let end = least-end (marks_of shape part mid.marks) in record {
+      at_least = is.at_least;
+      at_most = least-bound mark (marks_of shape part new.marks) (omega (arith, most, end))
+          (part-bound mark part (intervals_of shape) new.marks longer (λ k b at of.
+          let was = bound-part mark part (intervals_of shape) mid.marks k b long
+          (bound-each mark (marks_of shape part mid.marks) is.at_most) at of in
+          let more = rise k in omega (arith, was, more)));
+    }

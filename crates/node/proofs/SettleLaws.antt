@@ -105,11 +105,11 @@ handling-held : (case : CaseShape) (to : RowName) (number seq : ℕ) (id : Recor
     → IsHandling case d.to (row_held case.topology (with_row to left held) d.to) d effects
 handling-held case to number seq id left held d effects leaves is = elim (name_or_not d.to to) [
   | inl here ↦
-    let shape = case.topology in
-    let was = subst (λ (r : Contents). IsHandling case d.to r d effects) (ap (row_held shape held) here) is in
-    subst (λ (r : Contents). IsHandling case d.to r d effects)
-    (sym (ap (row_held shape (with_row to left held)) here ∙ row_held-here shape to left held ∙ leaves))
-    (handling-settled case d.to to number seq id (row_held shape held to) d effects was)
+      let shape = case.topology in
+      let was = subst (λ (r : Contents). IsHandling case d.to r d effects) (ap (row_held shape held) here) is in
+      subst (λ (r : Contents). IsHandling case d.to r d effects)
+      (sym (ap (row_held shape (with_row to left held)) here ∙ row_held-here shape to left held ∙ leaves))
+      (handling-settled case d.to to number seq id (row_held shape held to) d effects was)
   | inr apart ↦ subst (λ (r : Contents). IsHandling case d.to r d effects) (sym (row_held-other case.topology to d.to left held apart)) is
 ]
 
@@ -122,23 +122,23 @@ handled-settled case old new before after interval to id commit sender d effects
     let shape = case.topology in
     let on = held-interval shape before d.to is.held is.there in
     let sent = outgoing-more case old new (outgoing.Deliver d sender) more is.sent in elim (cases_eq on.0 interval) [
-  | inl here ↦
-    let same : is.held ≡ h.held = some_same _ _ (sym on.2 ∙ ap (held_at before) here ∙ h.was) in
-    let was = subst (λ (held : HeldView). IsHandling case d.to (row_held shape held d.to) d effects) same is.handling in
-    record {
-      sent = sent;
-      held = with_row to h.answer.row h.held;
-      there = ap (option_and_then (held_at after)) on.1 ∙ ap (held_at after) here ∙ h.is;
-      handling = handling-held case to (length h.entry.before) h.held.lease.seq id h.answer.row h.held d effects
-          h.entry.written.changed_alone was;
-    }
-  | inr other ↦ record {
-    sent = sent;
-    held = is.held;
-    there = ap (option_and_then (held_at after)) on.1 ∙ h.others on.0 other ∙ on.2;
-    handling = is.handling;
-  }
-]
+      | inl here ↦
+          let same : is.held ≡ h.held = some_same _ _ (sym on.2 ∙ ap (held_at before) here ∙ h.was) in
+          let was = subst (λ (held : HeldView). IsHandling case d.to (row_held shape held d.to) d effects) same is.handling in
+          record {
+            sent = sent;
+            held = with_row to h.answer.row h.held;
+            there = ap (option_and_then (held_at after)) on.1 ∙ ap (held_at after) here ∙ h.is;
+            handling = handling-held case to (length h.entry.before) h.held.lease.seq id h.answer.row h.held d effects
+                h.entry.written.changed_alone was;
+          }
+      | inr other ↦ record {
+        sent = sent;
+        held = is.held;
+        there = ap (option_and_then (held_at after)) on.1 ∙ h.others on.0 other ∙ on.2;
+        handling = is.handling;
+      }
+    ]
 
 -- and so what is proposed of it
 prepared-settled : (case : CaseShape) (old new : DeskView) (before after : List (Option HeldView)) (interval : ℕ) (to : RowName)
@@ -165,7 +165,7 @@ pub Fits-settled : (case : CaseShape) (old new : DeskView) (node : NodeView) (in
     → Fits case old node → Fits case new (holding held node)
 Fits-settled case old new node interval to id commit held h fit fits =
     let more = more-by old new h.held.lease (entries.Ack h.held.lease.seq to id) commit
-        (appended-settled case.topology old new interval to id commit node.held held h) in record {
+    (appended-settled case.topology old new interval to id commit node.held held h) in record {
       of_case = more.case ∙ fits.of_case;
       held = fit;
       work = works-settled case old new node.held held interval to id commit node.prepared more h fits.work;
@@ -212,5 +212,5 @@ pub fails-unsettled : (shape : Shape) (old new : DeskView) (was : NodeView) (int
 fails-unsettled shape old new was interval here to id why covers at pending reason =
     fails-asked old new (settle_asked shape was to id) (settled_as to id here) (answered why)
     (ap (option_and_then (settling shape to id)) (held-on-at shape was.held to interval here covers at) ∙ pending-asked shape
-        to id here pending)
+    to id here pending)
     (fails-refused old new here.lease why (reason-at old new was.held interval here why at reason))

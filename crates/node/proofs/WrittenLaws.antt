@@ -69,7 +69,7 @@ pub addressed-here : (one two : Shape) (ps qs : List Production) (name : RowName
 addressed-here one two ps qs name late same equal is = subst (λ (list : List Production). (commit : ℕ) → commit < 2 ^ 32
     → All (IsAddressed two) (messages_from name (deliveries_made two name.part list late commit))) equal
     (subst (λ (k : Shape). (commit : ℕ) → commit < 2 ^ 32 → All (IsAddressed k) (messages_from name
-        (deliveries_made k name.part ps late commit)))
+    (deliveries_made k name.part ps late commit)))
     same is)
 
 -- an outbox into which word was put, and then what was made
@@ -79,14 +79,14 @@ pub outbox-written : (outbox one two three : List Outgoing) (ack : Outgoing) (se
     → three ≡ (outbox ++ outgoing.Ack sender id ∷ []) ++ messages_from name ds
 outbox-written outbox one two three ack sender id made name ds commit room put all word sent =
     all ∙ ap (λ (l : List Outgoing). l ++ map (numbered commit) made)
-      (put ∙ ap (λ (l : List Outgoing). l ++ ack ∷ []) room ∙ ap (λ (a : Outgoing). outbox ++ a ∷ []) word)
+    (put ∙ ap (λ (l : List Outgoing). l ++ ack ∷ []) room ∙ ap (λ (a : Outgoing). outbox ++ a ∷ []) word)
     ∙ ap (λ (l : List Outgoing). (outbox ++ outgoing.Ack sender id ∷ []) ++ l) sent
 
 -- a node of these parts has written its work
 pub node-written : (shape : Shape) (held : List (Option HeldView)) (sender : RowName) (delivery : Delivery) (effects : Effects)
     (commit : ℕ) (node : NodeView) (prepared : Option WorkView) (outbox : List Outgoing) → prepared ≡ None
     → outbox ≡ (node.outbox ++ outgoing.Ack sender delivery.id ∷ [])
-      ++ messages_from delivery.to (deliveries_made shape delivery.to.part effects.productions delivery.item.late commit)
+    ++ messages_from delivery.to (deliveries_made shape delivery.to.part effects.productions delivery.item.late commit)
     → written_by shape held sender delivery effects commit node
     ≡ record { number = node.number; held = held; prepared = prepared; outbox = outbox }
 node-written shape held sender delivery effects commit node prepared outbox gone is =
@@ -122,7 +122,7 @@ pub Fits-committed : (case : CaseShape) (old new : DeskView) (node : NodeView) (
     → work.proposal ≡ proposals.Handle delivery effects
     → HoldsWork case.topology old new interval delivery.to work.proposal commit node.held held → AreHeld case new held → IsSound new
     → ((number : ℕ) → number < 2 ^ 32 → All (IsAddressed case.topology) (messages_from delivery.to
-      (deliveries_made case.topology delivery.to.part effects.productions delivery.item.late number)))
+    (deliveries_made case.topology delivery.to.part effects.productions delivery.item.late number)))
     → Fits case old node → Fits case new (written_by case.topology held work.sender delivery effects commit node)
 Fits-committed case old new node held work delivery effects interval commit prepared is h fit sound addressed fits =
     let a = appended-work case.topology old new interval work.proposal delivery effects commit node.held held is h in
@@ -136,7 +136,7 @@ Fits-committed case old new node held work delivery effects interval commit prep
 asked-work : (case : CaseShape) (desk : DeskView) (node : NodeView) (work : WorkView) (delivery : Delivery) (effects : Effects)
     (fits : Fits case desk node) (prepared : node.prepared ≡ Some work) (is : work.proposal ≡ proposals.Handle delivery effects)
     → work_asked case.topology node ≡ Some (handled_as delivery effects
-        (work-of case desk node work delivery effects fits prepared is).held)
+    (work-of case desk node work delivery effects fits prepared is).held)
 asked-work case desk node work delivery effects fits prepared is =
     work-asked case.topology node work delivery effects (work-of case desk node work delivery effects fits prepared is).held prepared is
     (work-of case desk node work delivery effects fits prepared is).there
@@ -151,10 +151,10 @@ answers-unwritten case old new after was mid node work delivery effects interval
     let shape = case.topology in
     let held = (work-of case old was work delivery effects fits prepared is).held in
     let at = held-at-on shape was.held delivery.to interval held (work-of case old was work delivery effects fits prepared
-        is).there covers in
+    is).there covers in
     let asked = handled_as delivery effects held in
     ok-answers (answered why) (AnswersWrite shape old new asked after was node) (AnswersAsked shape old new
-        (work_asked shape was) after was node)
+    (work_asked shape was) after was node)
     (λ outcome answers. subst (λ (o : Option Request). AnswersAsked shape old new o after was node outcome)
     (sym (asked-work case old was work delivery effects fits prepared is)) answers)
     (answers-refused shape old new asked after was mid node why looked (reason-at old new was.held interval held why at reason) kept
@@ -168,7 +168,7 @@ pub fails-unwritten : (case : CaseShape) (old new : DeskView) (was : NodeView) (
 fails-unwritten case old new was work delivery effects interval why prepared is covers fits reason =
     let held = (work-of case old was work delivery effects fits prepared is).held in
     let at = held-at-on case.topology was.held delivery.to interval held (work-of case old was work delivery effects fits
-        prepared is).there covers in
+    prepared is).there covers in
     fails-asked old new (work_asked case.topology was) (handled_as delivery effects held) (answered why)
     (asked-work case old was work delivery effects fits prepared is)
     (fails-refused old new held.lease why (reason-at old new was.held interval held why at reason))

@@ -9,3 +9,4 @@ pub mod Outboxes
 pub mod Steps
 pub mod PurgeSteps
 pub mod MarkSteps
+pub mod FireSteps

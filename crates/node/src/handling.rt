@@ -1,5 +1,5 @@
 //! What a computation leaves of a record or of a timer.
-ghost use Rattle.std.specs.Prelude.{◌≡◌, ◌≤◌, IfOk, Some, length};
+ghost use Rattle.std.specs.Prelude.{◌≡◌, ◌≤◌, IfOk, Some, length, slice_get};
 ghost use Rattle.mw_types.specs.declared.TheConstants.{MAX_STAMP};
 ghost use Rattle.run_history.specs.Legal.{record_outcome, timer_outcome};
 ghost use Rattle.run_history.specs.Fits.{suits_part};
@@ -45,7 +45,7 @@ pub(crate) fn fired<C: Computation>(
     requires work { IsWorkOf case.now.topology (C.has work.now)
         (C.gives_record work.now) (C.gives_timer work.now) }
     requires there { IsStateThere case.now.topology name.now.part row.now.state }
-    requires time { timer.now.time ≤ MAX_STAMP }
+    requires first { slice_get row.now.timers 0 ≡ Some timer.now }
     ensures does { IfOk result (λ effects.
         timer_outcome case.now name.now row.now timer.now ≡ Some effects) }
 {

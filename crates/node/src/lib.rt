@@ -12,6 +12,7 @@
 mod beside;
 mod cached_rows;
 mod claims;
+mod fires;
 mod handling;
 mod known_marks;
 mod message;

@@ -52,9 +52,9 @@ impl<N: Seen> Node<N> {
         let made = made(alloc, &case.topology, &delivery.to, productions, late)?;
         self.outbox.make_room(made.len() + 1)?;
         let interval = case.interval_of(&delivery.to);
-        let written =
-            self.held
-                .write(alloc, desk, case, interval, &delivery.to, &work.proposal);
+        let written = self
+            .held
+            .write(alloc, desk, case, interval, &delivery.to, &work.proposal);
         desk.sound();
         match written {
             Ok(commit) => {

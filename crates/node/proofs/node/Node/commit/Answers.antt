@@ -32,19 +32,19 @@ returns-in-Ok-clause-fits g c =
     let commit = c.in-Ok.commit in
     let topology : c.case.inside.topology ≡ shape = ap (λ (k : CaseShape). k.topology) c.case.view_is in
     let productions : c.as_slice-productions.result.now ≡ effects.productions =
-        (let elements = c.as_slice-productions.ensures.elements in
-        let inside : c.effects.inside.productions ≡ effects.productions = ap (λ (e : Effects). e.productions) c.effects.view_is in cc) in
+    (let elements = c.as_slice-productions.ensures.elements in
+    let inside : c.effects.inside.productions ≡ effects.productions = ap (λ (e : Effects). e.productions) c.effects.view_is in cc) in
     let made = made-here c.case.inside.topology shape c.as_slice-productions.result.now effects.productions delivery.to delivery.item.late
-        c.in_ok-made.made.items topology productions c.in_ok-made.ensures.made in
+    c.in_ok-made.made.items topology productions c.in_ok-made.ensures.made in
     let written = subst (λ (p : Proposal). HoldsWork shape old new c.interval_of-interval.result delivery.to p commit c.self.inside.held c.write-written.new.self)
-        (ap (λ (w : WorkView). w.proposal) c.work.view_is) c.in-Ok.ensures.written in
+    (ap (λ (w : WorkView). w.proposal) c.work.view_is) c.in-Ok.ensures.written in
     let outbox = outbox-written node.outbox c.make_room.new.self.messages c.put.new.self.messages c.put_all.new.self.messages c.in_ok-ack.ack
-        work.sender delivery.id c.in_ok-made.made.items delivery.to
-        (deliveries_made shape delivery.to.part effects.productions delivery.item.late commit) commit
-        c.in_ok-make_room.ensures.same c.put.ensures.put c.put_all.ensures.put
-        (ack-of work.sender work.proposal delivery effects c.in_ok-ack.ack c.parts.ensures c.in_ok-ack.ensures) (made commit) in
+    work.sender delivery.id c.in_ok-made.made.items delivery.to
+    (deliveries_made shape delivery.to.part effects.productions delivery.item.late commit) commit
+    c.in_ok-make_room.ensures.same c.put.ensures.put c.put_all.ensures.put
+    (ack-of work.sender work.proposal delivery effects c.in_ok-ack.ack c.parts.ensures c.in_ok-ack.ensures) (made commit) in
     let addressed = addressed-here c.case.inside.topology shape c.as_slice-productions.result.now effects.productions delivery.to delivery.item.late
-        topology productions c.in_ok-made.ensures.addressed in
+    topology productions c.in_ok-made.ensures.addressed in
     subst (Fits case new) (node-written shape c.write-written.new.self work.sender delivery effects commit node c.unprepared.new.prepared c.put_all.new.self.messages
     c.unprepared.ensures outbox)
     (Fits-committed case old new node c.write-written.new.self work delivery effects c.interval_of-interval.result commit c.in-Some.is
@@ -65,17 +65,17 @@ returns-in-Ok-clause-answers g c =
     let after : NodeView = record { number = node.number; held = c.write-written.new.self; prepared = c.unprepared.new.prepared; outbox = c.put_all.new.self.messages } in
     let topology : c.case.inside.topology ≡ shape = ap (λ (k : CaseShape). k.topology) c.case.view_is in
     let productions : c.as_slice-productions.result.now ≡ effects.productions =
-        (let elements = c.as_slice-productions.ensures.elements in
-        let inside : c.effects.inside.productions ≡ effects.productions = ap (λ (e : Effects). e.productions) c.effects.view_is in cc) in
+    (let elements = c.as_slice-productions.ensures.elements in
+    let inside : c.effects.inside.productions ≡ effects.productions = ap (λ (e : Effects). e.productions) c.effects.view_is in cc) in
     let made = made-here c.case.inside.topology shape c.as_slice-productions.result.now effects.productions delivery.to delivery.item.late
-        c.in_ok-made.made.items topology productions c.in_ok-made.ensures.made in
+    c.in_ok-made.made.items topology productions c.in_ok-made.ensures.made in
     let written = subst (λ (p : Proposal). HoldsWork shape old new c.interval_of-interval.result delivery.to p commit c.self.inside.held c.write-written.new.self)
-        (ap (λ (w : WorkView). w.proposal) c.work.view_is) c.in-Ok.ensures.written in
+    (ap (λ (w : WorkView). w.proposal) c.work.view_is) c.in-Ok.ensures.written in
     let outbox = outbox-written node.outbox c.make_room.new.self.messages c.put.new.self.messages c.put_all.new.self.messages c.in_ok-ack.ack
-        work.sender delivery.id c.in_ok-made.made.items delivery.to
-        (deliveries_made shape delivery.to.part effects.productions delivery.item.late commit) commit
-        c.in_ok-make_room.ensures.same c.put.ensures.put c.put_all.ensures.put
-        (ack-of work.sender work.proposal delivery effects c.in_ok-ack.ack c.parts.ensures c.in_ok-ack.ensures) (made commit) in
+    work.sender delivery.id c.in_ok-made.made.items delivery.to
+    (deliveries_made shape delivery.to.part effects.productions delivery.item.late commit) commit
+    c.in_ok-make_room.ensures.same c.put.ensures.put c.put_all.ensures.put
+    (ack-of work.sender work.proposal delivery effects c.in_ok-ack.ack c.parts.ensures c.in_ok-ack.ensures) (made commit) in
     subst (λ (n : NodeView). AnswersAsked shape old new (work_asked shape n) (with_written (sending_of n) (worker_at n)) n after (outcomes.Committed commit))
     c.self.view_is
     (subst (λ (n : NodeView). AnswersAsked shape old new (work_asked shape node) (with_written (sending_of node) (worker_at node)) node n (outcomes.Committed commit))
@@ -90,7 +90,7 @@ returns-in-Ok-clause-grown g c =
     let old = g.D.Desk.view c.args.desk.now in
     let new = g.D.Desk.view c.write-written.new.desk in
     let written = subst (λ (p : Proposal). HoldsWork c.args.case.now.topology old new c.interval_of-interval.result c.parts.result.0.now.to p c.in-Ok.commit
-        c.self.inside.held c.write-written.new.self) (ap (λ (w : WorkView). w.proposal) c.work.view_is) c.in-Ok.ensures.written in
+    c.self.inside.held c.write-written.new.self) (ap (λ (w : WorkView). w.proposal) c.work.view_is) c.in-Ok.ensures.written in
     subst (λ (n : NodeView). HasGrown n.held old new) c.self.view_is
     (grown-work c.args.case.now.topology old new c.interval_of-interval.result c.in-Some.work.proposal c.parts.result.0.now c.parts.result.1.now
     c.in-Ok.commit c.self.inside.held c.write-written.new.self c.parts.ensures written)
@@ -134,7 +134,7 @@ returns-in-Err-clause-kept g c =
     let node : NodeView = record { number = c.self.inside.number; held = c.self.inside.held; prepared = c.self.inside.prepared; outbox = c.self.inside.outbox.messages } in
     let mid : NodeView = record { number = node.number; held = c.write-written.new.self; prepared = node.prepared; outbox = c.make_room.new.self.messages } in
     let kept : HasKept c.args.self.now mid = worker-kept case.topology node mid c.in-Err.ensures.kept refl c.in_ok-make_room.ensures.same
-        ∙ ap worker_at c.self.view_is in
+    ∙ ap worker_at c.self.view_is in
     subst (λ (r : Result Outcome NodeFault). OnErr r (HasKept c.args.self.now c.yield_to.new.self)) (sym c.yield_to.ensures.answer)
     (keeps-refused case.topology c.interval_of-interval.result c.args.self.now mid c.yield_to.new.self c.in-Err.why kept c.yield_to.ensures.left)
 

@@ -55,7 +55,7 @@ returns-in-Err-clause-answers g c =
     let mid = holding c.settle-settled.new.self node in
     let kept : HasKept was mid = worker-kept case.topology node mid c.in-Err.ensures.kept refl refl ∙ ap worker_at c.self.view_is in
     let at : held_at was.held interval ≡ Some c.in-Some.held.now =
-        ap (λ (n : NodeView). held_at n.held interval) (sym c.self.view_is) ∙ sym c.in-Some.ensures.held in
+    ap (λ (n : NodeView). held_at n.held interval) (sym c.self.view_is) ∙ sym c.in-Some.ensures.held in
     let reason = subst (λ (n : NodeView). IsRefusedOf old new n.held interval c.in-Err.why) c.self.view_is c.in-Err.ensures.reason in
     let pending : c.is_pending.result ≡ true = search rules in
     subst (λ (r : Result Outcome NodeFault). IfOk r (AnswersAck case.topology old new (held_on case.topology was.held c.args.to.now)
@@ -81,7 +81,7 @@ returns-in-Err-clause-fault g c =
     let interval = c.interval_of-interval.result in
     let was = c.args.self.now in
     let at : held_at was.held interval ≡ Some c.in-Some.held.now =
-        ap (λ (n : NodeView). held_at n.held interval) (sym c.self.view_is) ∙ sym c.in-Some.ensures.held in
+    ap (λ (n : NodeView). held_at n.held interval) (sym c.self.view_is) ∙ sym c.in-Some.ensures.held in
     let reason = subst (λ (n : NodeView). IsRefusedOf old new n.held interval c.in-Err.why) c.self.view_is c.in-Err.ensures.reason in
     let pending : c.is_pending.result ≡ true = search rules in
     subst (λ (r : Result Outcome NodeFault). IfErr r (FailsAsked old new (settle_asked case.topology was c.args.to.now c.args.id)))

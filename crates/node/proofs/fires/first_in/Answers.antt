@@ -1,0 +1,19 @@
+use Rattle.std.proofs.Common.{rules, ◌≡◌, true}
+use Rattle.std.specs.Prelude.{IfSome, IsSome, Option}
+use Rattle.holdings.specs.Holding.{held_at}
+use Rattle.holdings.specs.Timers.{IsFirstTimer}
+use Rattle.holdings.specs.declared.first_timer.RowTimer.{RowTimer}
+use Rattle.holdings.proofs.HeldSteps.{ok-so}
+use Rattle.node.specs.FireSteps.{IsFirstIn}
+use Rattle.node.proofs.FireLaws.{first-held}
+use Rattle.node.proofs.fires.first_in.Goals as goal
+
+-- the first timer of the interval that is held
+pub returns-clause-first : goal.returns-clause-first
+returns-clause-first c =
+    let all = c.args.held.now in
+    let counted : c.args.counts ≡ true = search rules in
+    let there : IsSome (held_at all c.args.interval) = search rules in
+    ok-so (λ (found : Option RowTimer). IfSome (held_at all c.args.interval) (λ held. IsFirstTimer held.rows found))
+    (λ (found : Option RowTimer). IsFirstIn c.args.counts all c.args.interval found) c.first_timer.result
+    (λ found is. first-held all c.args.interval c.args.counts found counted there is) c.first_timer.ensures.first

@@ -1,0 +1,299 @@
+//! Timers that fire.
+ghost use Rattle.std.specs.Prelude.{◌≡◌, ◌<◌, IfErr, IfOk, OnErr, Some, length};
+ghost use Rattle.std.specs.Ordering.{is_lt};
+ghost use Rattle.run_history.specs.Cases.{intervals_of};
+ghost use Rattle.book.specs.Desking.{IsDueKnown};
+ghost use Rattle.book.specs.Desks.{HasLooked, KeepsMarks};
+ghost use Rattle.node.specs.Answers.{AnswersFire, AnswersSome, FailsHeld, HasGrown, HasKept};
+ghost use Rattle.node.specs.Fits.{Fits};
+ghost use Rattle.holdings.specs.Holding.{AreHeld, IsRefusedOf, KeepsHeld};
+ghost use Rattle.holdings.specs.Timers.{due_cmp, pair_of};
+ghost use Rattle.topology.specs.Shapes.{parts_of};
+ghost use Rattle.run_history.specs.Fences.{interval_of};
+ghost use Rattle.node.specs.Asking.{IsNextTimer, MayAskFire};
+ghost use Rattle.node.specs.FireSteps.{AreAllWithin, IsFirstIn, HasLeft, HoldsFire, IsFirstSoFar, IsSetAt, IsTimerToFire, due_under, earlier_timer, lesser_timer};
+ghost use Rattle.node.specs.Messages.{IsComputation};
+ghost use Rattle.node.specs.Works.{IsWorkOf};
+
+use crate::handling::fired;
+use crate::known_marks::least_known;
+use crate::node::Node;
+use crate::outcome::{NodeFault, Outcome};
+use crate::sends::made;
+use book::{Desk, DeskRefusal, Proposal, Seen};
+use computations::Computation;
+use holdings::{Holdings, RowTimer};
+use mw_types::{Effects, NoMemory, RowName, Timer};
+use run_history::Case;
+use std::alloc::Global;
+
+impl<N: Seen> Node<N> {
+    /// Fires the next timer of a part, by time, tag and key, where it is due by the marks that the
+    /// desk knows.
+    #[tactic(auto, using(crate::proofs::FitLaws::looked_not, crate::proofs::FitLaws::grown_looked))]
+    pub fn fire<D: Desk<Note = N>, C: Computation>(
+        &mut self,
+        alloc: Global,
+        desk: &mut D,
+        case: &Case,
+        work: &C,
+        part: u32,
+    ) -> Result<Outcome, NodeFault>
+        requires fits { Fits case.now (D.view desk.old) self.old }
+        requires work { IsWorkOf case.now.topology (C.has work.now)
+            (C.gives_record work.now) (C.gives_timer work.now) }
+        requires part { IsComputation case.now.topology part }
+
+        ensures fits { Fits case.now (D.view desk.new) self.new }
+        ensures answers { IfOk result (AnswersFire case.now
+            (D.view desk.old) (D.view desk.new) part self.old self.new) }
+        ensures number { self.new.number ≡ self.old.number }
+
+        ensures kept { OnErr result (HasKept self.old self.new) }
+        ensures looked { OnErr result (HasLooked (D.view desk.old) (D.view desk.new)) }
+        ensures fault { IfErr result
+            (FailsHeld (D.view desk.old) (D.view desk.new) self.old.held) }
+
+        ensures grown { HasGrown self.old.held (D.view desk.old) (D.view desk.new) }
+        ensures marks { KeepsMarks (D.view desk.old) (D.view desk.new) }
+        ensures loan { D.loan desk.new ≡ D.loan desk.old }
+    {
+        desk.sound();
+        let mark = least_known(desk, case, part);
+        desk.sound();
+        match self.to_fire(alloc, case, part, mark)? {
+            Some(found) => {
+                let fired = self.fire_one(alloc, desk, case, work, &found, mark);
+                desk.sound();
+                fired
+            }
+            None => Ok(Outcome::Nothing),
+        }
+    }
+
+    // The next timer of a part, where it is due under a mark and nothing is prepared.
+    fn to_fire(
+        &mut self,
+        alloc: Global,
+        case: &Case,
+        part: u32,
+        mark: u64,
+    ) -> Result<Option<RowTimer>, NoMemory>
+        requires within { AreAllWithin case.now.topology self.old.held }
+        ensures found { IfOk result (IsTimerToFire case.now.topology self.old part mark) }
+        ensures same { self.new ≡ self.old }
+    {
+        if self.prepared.is_some() {
+            return Ok(None);
+        }
+        let first = first_of_part(&mut self.held, alloc, case, part)?;
+        Ok(due(first, mark))
+    }
+
+    // Fires a timer that is due: its handler is called, and what it leaves is written.
+    #[tactic(auto, using(crate::proofs::FitLaws::looked_not, crate::proofs::FitLaws::grown_looked))]
+    fn fire_one<D: Desk<Note = N>, C: Computation>(
+        &mut self,
+        alloc: Global,
+        desk: &mut D,
+        case: &Case,
+        work: &C,
+        found: &RowTimer,
+        mark: u64,
+    ) -> Result<Outcome, NodeFault>
+        requires fits { Fits case.now (D.view desk.old) self.old }
+        requires work { IsWorkOf case.now.topology (C.has work.now)
+            (C.gives_record work.now) (C.gives_timer work.now) }
+        requires part { IsComputation case.now.topology found.now.name.part }
+        requires next { IsNextTimer case.now.topology self.old found.now.name.part mark
+            found.now.name found.now.timer }
+        requires known { IsDueKnown (D.view desk.old) found.now.name.part
+            found.now.timer.time mark }
+
+        ensures fits { Fits case.now (D.view desk.new) self.new }
+        ensures answers { IfOk result (AnswersSome case.now.topology
+            (D.view desk.old) (D.view desk.new)
+            (MayAskFire case.now self.old found.now.name.part mark) self.old self.new) }
+        ensures number { self.new.number ≡ self.old.number }
+
+        ensures kept { OnErr result (HasKept self.old self.new) }
+        ensures looked { OnErr result (HasLooked (D.view desk.old) (D.view desk.new)) }
+        ensures fault { IfErr result
+            (FailsHeld (D.view desk.old) (D.view desk.new) self.old.held) }
+
+        ensures grown { HasGrown self.old.held (D.view desk.old) (D.view desk.new) }
+        ensures marks { KeepsMarks (D.view desk.old) (D.view desk.new) }
+        ensures loan { D.loan desk.new ≡ D.loan desk.old }
+    {
+        desk.sound();
+        let timer = found.timer;
+        let interval = case.interval_of(&found.name);
+        let effects = effects_of(&self.held, alloc, case, work, interval, &found.name, &timer)?;
+        let productions = effects.productions.as_slice();
+        let made = made(alloc, &case.topology, &found.name, productions, timer.late)?;
+        self.outbox.make_room(made.len())?;
+        let held = &mut self.held;
+        let written = write_fire(held, alloc, desk, case, interval, found, mark, effects);
+        desk.sound();
+        match written {
+            Ok(commit) => {
+                self.outbox.put_all(made, commit);
+                Ok(Outcome::Committed { commit })
+            }
+            Err(why) => self.yield_to(case, interval, why),
+        }
+    }
+}
+
+// Writes that a timer of a row that is held of an interval fired.
+fn write_fire<D: Desk>(
+    held: &mut Holdings,
+    alloc: Global,
+    desk: &mut D,
+    case: &Case,
+    interval: u32,
+    found: &RowTimer,
+    mark: u64,
+    effects: Effects,
+) -> Result<u64, DeskRefusal>
+    requires case { (D.view desk.old).case ≡ case.now }
+    requires fits { AreHeld case.now (D.view desk.old) held.old }
+    requires covers { interval_of case.now.topology found.now.name ≡ Some interval }
+    requires part { found.now.name.part < parts_of case.now.topology }
+    requires set { IsSetAt case.now.topology held.old interval found.now.name found.now.timer }
+    requires left { HasLeft case.now held.old interval found.now.name found.now.timer effects }
+    requires known { IsDueKnown (D.view desk.old) found.now.name.part found.now.timer.time mark }
+
+    ensures fits { AreHeld case.now (D.view desk.new) held.new }
+    ensures fired { IfOk result (λ commit. HoldsFire case.now.topology
+        (D.view desk.old) (D.view desk.new) interval found.now.name found.now.timer mark effects
+        commit held.old held.new) }
+
+    ensures kept { OnErr result (KeepsHeld case.now.topology held.old held.new) }
+    ensures looked { OnErr result (HasLooked (D.view desk.old) (D.view desk.new)) }
+    ensures reason { IfErr result
+        (IsRefusedOf (D.view desk.old) (D.view desk.new) held.old interval) }
+    ensures marks { KeepsMarks (D.view desk.old) (D.view desk.new) }
+    ensures loan { D.loan desk.new ≡ D.loan desk.old }
+{
+    let timer = found.timer;
+    let proposal = Proposal::Fire {
+        timer,
+        mark,
+        effects,
+    };
+    held.write(alloc, desk, case, interval, &found.name, &proposal)
+}
+
+// What a handler leaves of a timer of a row that is held of an interval.
+fn effects_of<C: Computation>(
+    held: &Holdings,
+    alloc: Global,
+    case: &Case,
+    work: &C,
+    interval: u32,
+    name: &RowName,
+    timer: &Timer,
+) -> Result<Effects, NoMemory>
+    requires work { IsWorkOf case.now.topology (C.has work.now)
+        (C.gives_record work.now) (C.gives_timer work.now) }
+    requires set { IsSetAt case.now.topology held.now interval name.now timer.now }
+    ensures does { IfOk result (HasLeft case.now held.now interval name.now timer.now) }
+{
+    let row = held.get(interval).unwrap().row(name).unwrap();
+    fired(alloc, work, case, name, row, timer)
+}
+
+// The first timer of a part, of the intervals that are held.
+fn first_of_part(
+    held: &mut Holdings,
+    alloc: Global,
+    case: &Case,
+    part: u32,
+) -> Result<Option<RowTimer>, NoMemory>
+    ensures first { let intervals = intervals_of case.now.topology in
+        IfOk result (IsFirstSoFar intervals held.old part (length intervals)) }
+    ensures same { held.new ≡ held.old }
+{
+    let intervals = case.intervals();
+    let mut first = None;
+    for interval in 0..intervals.count() {
+        let counts = intervals.bounds(interval).part == part;
+        let here = first_in(held, alloc, interval, counts)?;
+        first = earlier(first, here);
+    }
+    Ok(first)
+}
+
+// The first timer of an interval, if that one counts and is held.
+fn first_in(
+    held: &mut Holdings,
+    alloc: Global,
+    interval: u32,
+    counts: bool,
+) -> Result<Option<RowTimer>, NoMemory>
+    ensures first { IfOk result (IsFirstIn counts held.old interval) }
+    ensures same { held.new ≡ held.old }
+{
+    if !counts {
+        return Ok(None);
+    }
+    if held.get(interval).is_none() {
+        return Ok(None);
+    }
+    held.first_timer(alloc, interval)
+}
+
+// A timer, where it is due under a mark.
+fn due(first: Option<RowTimer>, mark: u64) -> Option<RowTimer>
+    ensures { result ≡ due_under mark first }
+{
+    match first {
+        Some(found) => {
+            if found.timer.time <= mark {
+                Some(found)
+            } else {
+                None
+            }
+        }
+        None => None,
+    }
+}
+
+// Of two timers, where they are there, the one that is before.
+fn earlier(one: Option<RowTimer>, other: Option<RowTimer>) -> Option<RowTimer>
+    ensures { result ≡ earlier_timer one other }
+{
+    match other {
+        Some(found) => earlier_of(one, found),
+        None => one,
+    }
+}
+
+// Of a timer, where it is there, and another the one that is before.
+fn earlier_of(one: Option<RowTimer>, other: RowTimer) -> Option<RowTimer>
+    ensures { result ≡ earlier_timer one (Some other) }
+{
+    match one {
+        Some(found) => Some(lesser(found, other)),
+        None => Some(other),
+    }
+}
+
+// Of two timers the one that is before.
+fn lesser(one: RowTimer, other: RowTimer) -> RowTimer
+    ensures { result ≡ lesser_timer one other }
+{
+    if is_before(&other, &one) { other } else { one }
+}
+
+// Whether a timer is before another, by time, tag and the name of its row.
+fn is_before(a: &RowTimer, b: &RowTimer) -> bool
+    ensures { result ≡ is_lt (due_cmp (pair_of a.now) (pair_of b.now)) }
+{
+    let times = a.timer.time.cmp(&b.timer.time);
+    times
+        .then(a.timer.tag.cmp(&b.timer.tag))
+        .then(a.name.cmp(&b.name))
+        .is_lt()
+}
