@@ -43,7 +43,7 @@ use Rattle.book.proofs.SeenRows.{told-then}
 use Rattle.holdings.specs.Holding.{AreHeld, HeldView, held_at, row_held}
 use Rattle.holdings.specs.Pendings.{ArePendingIn, IsPendingIn}
 use Rattle.holdings.specs.declared.pending.Sent.{Sent}
-use Rattle.node.specs.Answers.{IsPendingHeld, IsSweep, again_cmp, sent_again}
+use Rattle.node.specs.Answers.{IsPendingHeld, IsSwept, again_cmp, sent_again}
 use Rattle.node.specs.FireSteps.{AreAllWithin}
 use Rattle.node.specs.Fits.{Fits}
 use Rattle.node.specs.Messages.{IsDeliverable, IsOutgoing, IsSentFrom}
@@ -87,9 +87,9 @@ found-none all = record {
 }
 
 -- what is pending in the first intervals, and in one more
-pub found-more : (all : List (Option HeldView)) (count : ℕ) (before after : List Sent) → AreFoundBelow all count before
+pub found-next : (all : List (Option HeldView)) (count : ℕ) (before after : List Sent) → AreFoundBelow all count before
     → HasFoundAt all count before after → AreFoundBelow all (count + 1) after
-found-more all count before after below more = subst (AreFoundBelow all (count + 1)) (sym more.appended) (record {
+found-next all count before after below more = subst (AreFoundBelow all (count + 1)) (sym more.appended) (record {
   each = All-append IsOne before more.found below.each
       (All-weaker (IsFoundAt all count) IsOne (λ s is. (count, is)) more.found more.each);
   every = λ i s early p. elim (cases_eq i count) [
@@ -314,3 +314,15 @@ told-ids case desk all again fit are = by_told desk.told
     by_told (Some x) so = by-ids desk.seen again (recursion_from_All (λ (s : Sent). IsMadeOn desk.seen s.sender s.delivery) again
         (All-weaker (λ (s : Sent). (i : ℕ) × IsFoundAt all i s) (λ (s : Sent). IsMadeOn desk.seen s.sender s.delivery)
         (λ s is. (so s is).on_sender) again are.each)) are.sweep.order
+
+-- what a sweep answers
+pub answers-swept : (case : CaseShape) (desk : DeskView) (node : NodeView) (again : List Sent) (count : ℕ) → AreAgain node.held again
+    → count ≡ length again → Fits case desk node
+    → IsSwept desk node (record node { outbox = node.outbox ++ map sent_again again }) count
+answers-swept case desk node again count are number fits = record {
+  again = again;
+  sweep = are.sweep;
+  number = number;
+  left = refl;
+  told = told-ids case desk node.held again fits.held are;
+}

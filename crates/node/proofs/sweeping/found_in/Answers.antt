@@ -1,16 +1,16 @@
 use Rattle.std.proofs.Common.{rules, arith, ◌≡◌, length, subst}
 use Rattle.run_history.specs.Cases.{intervals_of}
 use Rattle.node.specs.SweepSteps.{AreFoundBelow}
-use Rattle.node.proofs.SweepLaws.{found-more, found-none}
+use Rattle.node.proofs.SweepLaws.{found-next, found-none}
 use Rattle.node.proofs.sweeping.found_in.Goals as goal
 
 -- before the first interval
-pub loop-interval-initial : goal.loop-interval-initial
-loop-interval-initial c = found-none c.args.held.now
+pub loop-interval-init : goal.loop-interval-init
+loop-interval-init c = found-none c.args.held.now
 
 -- with one interval more
 pub loop-interval-preserved : goal.loop-interval-preserved
-loop-interval-preserved c = found-more c.args.held.now c.loop-interval.interval c.loop-interval.found.items c.push_pending.new.found.items
+loop-interval-preserved c = found-next c.args.held.now c.loop-interval.interval c.loop-interval.found.items c.push_pending.new.found.items
     c.loop-interval.invariant c.in_ok-push_pending.ensures
 
 -- after the last
