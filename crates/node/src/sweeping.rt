@@ -38,6 +38,7 @@ impl<N: Seen> Node<N> {
         ensures kept { OnErr result (HasKept self.old self.new) }
         ensures fault { IfErr result (λ fault. fault ≡ NodeFault.NoMemory) }
     {
+        // The desk is asked nothing: that the worker fits it tells where the rows lie.
         let _desk = desk;
         let again = again_of(alloc, case, &self.held)?;
         self.outbox.make_room(again.len())?;

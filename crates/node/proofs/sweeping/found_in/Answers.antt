@@ -1,4 +1,4 @@
-use Rattle.std.proofs.Common.{rules, arith, ◌≡◌, length, subst}
+use Rattle.std.proofs.Common.{rules, arith, ◌≡◌, [], length, subst, sym}
 use Rattle.run_history.specs.Cases.{intervals_of}
 use Rattle.node.specs.SweepSteps.{AreFoundBelow}
 use Rattle.node.proofs.SweepLaws.{found-next, found-none}
@@ -6,7 +6,9 @@ use Rattle.node.proofs.sweeping.found_in.Goals as goal
 
 -- before the first interval
 pub loop-interval-init : goal.loop-interval-init
-loop-interval-init c = found-none c.args.held.now
+loop-interval-init c =
+    let none : c.new-found.result.items ≡ [] = search rules in
+    subst (AreFoundBelow c.args.held.now 0) (sym none) (found-none c.args.held.now)
 
 -- with one interval more
 pub loop-interval-preserved : goal.loop-interval-preserved
