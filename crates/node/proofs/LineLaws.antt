@@ -1,50 +1,41 @@
 -- What a node asks for of the next line of an injector, and what it leaves once the line is injected.
-use Rattle.std.proofs.Common.{◌≡◌, ◌∙◌, ◌<◌, ◌≤◌, ◌^◌, ℕ, Bool, true, false, List, [], ◌∷◌, ◌++◌, length, map, refl, sym, ap, subst, arith, inl, inr}
-use Rattle.std.specs.Prelude.{All, IfErr, IfOk, IfSome, Option, Some, None, Result, if◌then◌else◌, nat_lt, slice_get, unwrap_or}
-use Rattle.std.specs.Option.{option_and_then, option_map, option_map_or}
-use Rattle.std.proofs.lemmas.Bool.{cases_eq, lt-ltb, ltb-false, ltb-true}
+use Rattle.std.proofs.Common.{◌≡◌, ◌∙◌, ◌<◌, ◌≤◌, ◌^◌, ℕ, List, [], ◌∷◌, ◌++◌, refl, sym, ap, subst, arith, inl, inr}
+use Rattle.std.specs.Prelude.{All, IfErr, IfOk, IfSome, Option, Some, None}
+use Rattle.std.specs.Option.{option_and_then, option_map}
+use Rattle.std.proofs.lemmas.Bool.{cases_eq, lt-ltb}
 use Rattle.std.proofs.lemmas.List.Elements.{All-append}
-use Rattle.std.proofs.lemmas.Option.{slice_get_past}
 use Rattle.mw_types.specs.Outcomes.{Outcome as Effects}
 use Rattle.mw_types.specs.declared.delivery.Delivery.{Delivery}
 use Rattle.mw_types.specs.declared.entry.Entry.{Entry}
 use Rattle.mw_types.specs.declared.entry.Entry.TheVariants as entries
 use Rattle.mw_types.specs.declared.identity.RowName.{RowName}
-use Rattle.mw_types.specs.declared.kind.Kind.{Kind}
-use Rattle.mw_types.specs.declared.kind.Kind.TheVariants as kinds
 use Rattle.mw_types.specs.declared.record.Record.{Record}
-use Rattle.mw_types.specs.declared.state.State.TheVariants as states
-use Rattle.injector.specs.Sources.{Source, SourceLine, item_at}
+use Rattle.injector.specs.Sources.{item_at}
 use Rattle.injector.specs.declared.item.Item.{Item}
-use Rattle.topology.specs.Shapes.{Shape, injectors_of, kind_of}
-use Rattle.computations.specs.Handlers.{fresh_state}
-use Rattle.row_parts.specs.Contents.{Contents, fresh}
-use Rattle.run_history.specs.Cases.{CaseShape, fresh_of, record_of, source_of}
+use Rattle.topology.specs.Shapes.{Shape, injectors_of}
+use Rattle.row_parts.specs.Contents.{Contents}
+use Rattle.run_history.specs.Cases.{CaseShape, record_of, source_of}
 use Rattle.run_history.specs.Fences.{interval_of}
 use Rattle.run_history.specs.Made.{late_cause}
-use Rattle.run_history.specs.Runs.{cached, row_in, run_of}
-use Rattle.run_history.specs.Watermarks.{cursor_in}
+use Rattle.run_history.specs.Runs.{run_of}
 use Rattle.run_history.proofs.Lists.{some_same}
-use Rattle.book.specs.Books.{LeaseView}
-use Rattle.book.specs.Desking.{HasWritten}
 use Rattle.book.specs.Desks.{DeskView, HasLooked, IsSound}
 use Rattle.book.specs.Proposals.{IsHandling, IsNextLine}
-use Rattle.book.specs.declared.answers.Written.{Written}
 use Rattle.book.specs.declared.desk_refusal.DeskRefusal.{DeskRefusal}
 use Rattle.book.specs.declared.proposal.Proposal.{Proposal}
 use Rattle.book.specs.declared.proposal.Proposal.TheVariants as proposals
-use Rattle.holdings.specs.Holding.{AreHeld, HeldView, HoldsEntry, IsRefusedOf, held_at, held_on, row_held, with_row}
+use Rattle.holdings.specs.Holding.{AreHeld, HeldView, IsRefusedOf, held_at, row_held, with_row}
 use Rattle.holdings.proofs.HeldRows.{row_held-other}
-use Rattle.node.specs.Answers.{AnswersAsked, AnswersWrite, FailsAsked, HasGrown, HasKept, IsCommitted, made_of}
+use Rattle.node.specs.Answers.{AnswersAsked, AnswersWrite, FailsAsked, HasGrown, HasKept, made_of}
 use Rattle.node.specs.Asking.{Request, line_asked, next_line}
 use Rattle.node.specs.Fits.{Fits, IsHandled, IsPrepared, IsWork}
 use Rattle.node.specs.LineSteps.{HoldsLine, IsLineNext, injector_row, line_deliveries}
-use Rattle.node.specs.Messages.{IsAddressed, IsComputation, IsOutgoing}
+use Rattle.node.specs.Messages.{IsAddressed, IsOutgoing}
 use Rattle.node.specs.Steps.{HasYielded, answered}
 use Rattle.node.specs.Workers.{NodeView, WorkView, messages_from, with_outgoing, worker_at}
 use Rattle.node.specs.declared.outcome.Outcome.TheVariants as outcomes
 use Rattle.node.specs.declared.outgoing.Outgoing.TheVariants as outgoing
-use Rattle.node.proofs.CommitLaws.{IsAppended, committed, grown-by, held-at-on, held-on-at, leases-written, more-by, told-any}
+use Rattle.node.proofs.CommitLaws.{IsAppended, committed, grown-by, held-at-on, leases-written, more-by, told-any}
 use Rattle.node.proofs.FiringLaws.{small-number}
 use Rattle.node.proofs.FitLaws.{HasMore, fails-refused, held-interval, outbox-more, outgoing-more}
 use Rattle.node.proofs.PurgeLaws.{ok-answers}

@@ -1,5 +1,5 @@
 -- What is pending in rows that are held, gathered and sent again each once, in the order of the ids.
-use Rattle.std.proofs.Common.{◌≡◌, ◌≢◌, ◌∙◌, ◌<◌, ◌+◌, ℕ, Any, Bool, true, false, List, [], ◌∷◌, ◌++◌, length, map, refl, sym, ap, subst, arith, inl, inr}
+use Rattle.std.proofs.Common.{◌≡◌, ◌∙◌, ◌<◌, ◌+◌, ℕ, true, List, [], ◌∷◌, ◌++◌, length, map, refl, sym, ap, subst, arith, inl, inr}
 use Rattle.std.specs.Prelude.{All, Contains, IfSome, IsSome, Option, Some, None, slice_get, unwrap_or}
 use Rattle.std.specs.Cmp.{IsTotalOrder, on_total, then_total, tied_itself}
 use Rattle.std.specs.List.{AllByRecursion, list_all}
@@ -281,7 +281,7 @@ below-one seen s t on also less = by_order (id_cmp s.delivery.id t.delivery.id) 
     by_order Equal is =
         let ids = tied-ids s.delivery.id t.delivery.id is in
         let entries : on.entry ≡ also.entry = some_same on.entry also.entry (sym on.numbered
-            ∙ ap (λ (i : RecordId). slice_get seen i.commit) ids ∙ also.numbered) in
+        ∙ ap (λ (i : RecordId). slice_get seen i.commit) ids ∙ also.numbered) in
         let senders : s.sender ≡ t.sender = some_same s.sender t.sender (sym on.on_row ∙ ap row_written entries ∙ also.on_row) in
         let tie : row_cmp s.sender t.sender ≡ Equal = ap (row_cmp s.sender) (sym senders) ∙ tied_itself row_cmp-total s.sender in
         absurd (let e : Equal ≡ Less = sym (ap (λ o. ordering_then o (row_cmp s.sender t.sender)) is ∙ tie) ∙ less in cc)

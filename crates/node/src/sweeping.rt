@@ -130,7 +130,10 @@ fn keep_once(again: &mut Vec<Sent>)
 fn order(a: &Sent, b: &Sent) -> Ordering
     ensures { result ≡ again_cmp a.now b.now }
 {
-    a.delivery.id.cmp(&b.delivery.id).then(a.sender.cmp(&b.sender))
+    a.delivery
+        .id
+        .cmp(&b.delivery.id)
+        .then(a.sender.cmp(&b.sender))
 }
 
 // Whether two records have the same place in the order.

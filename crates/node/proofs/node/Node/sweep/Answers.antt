@@ -1,5 +1,4 @@
 use Rattle.std.proofs.Common.{rules, ◌≡◌, ◌∙◌, ◌++◌, List, ap, length, map, subst, sym}
-use Rattle.holdings.specs.declared.pending.Sent.{Sent}
 use Rattle.node.specs.Answers.{IsSwept, sent_again}
 use Rattle.node.specs.FireSteps.{AreAllWithin}
 use Rattle.node.specs.Fits.{Fits}
