@@ -29,6 +29,7 @@ shorter a b h p q le = (
 -- the longer of two is one of them
 longer_cases : (a b h : List Entry) → Begins a h → Begins b h
     → ((length a ≤ length b) × (longer a b ≡ b)) ⊎ ((length b ≤ length a) × (longer a b ≡ a))
+unfolding shorter
 longer_cases a b h p q = by_order (dec_le (length a) (length b))
   where
     by_order : Dec (length a ≤ length b)

@@ -9,3 +9,4 @@ pub mod Joining
 pub mod Closing
 pub mod Starting
 pub mod Told
+pub mod Calls

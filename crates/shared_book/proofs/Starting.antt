@@ -16,6 +16,7 @@ use Rattle.shared_book.specs.declared.shared.Key.{Key}
 use Rattle.shared_book.specs.Lists.{IsIn, Ascends}
 use Rattle.shared_book.specs.FenceLaw.{Slot, FenceLaw, Fits, AreApart, IsCore, no_marks}
 use Rattle.shared_book.specs.Steps.{SeatView}
+use Rattle.shared_book.specs.Joins.{first_of}
 use Rattle.shared_book.specs.Opening.{blank, span, newborn, IsUnborn, SharedLaw, Fetches, Opens}
 use Rattle.shared_book.proofs.Moves.{off}
 use Rattle.shared_book.proofs.Appending.{lawful_legal}
@@ -122,6 +123,11 @@ in_span a (suc n) k p q = ⊎_elim (λ e. inl e) (λ l. inr (in_span (suc a) n k
 span_ascends : (a n : ℕ) → Ascends (span a n)
 span_ascends a zero = tt
 span_ascends a (suc n) = ((λ y p. let b = (span_in (suc a) n y p).0 in omega (arith, b)), span_ascends (suc a) n)
+
+-- the first of a span
+pub span_first : (from count : ℕ) → 0 < count → first_of (span from count) ≡ from ∷ []
+span_first from zero more = absurd (omega (arith, more))
+span_first from (suc count) more = refl
 
 -- the fence law holds once the book is in the table
 newborn_law : (v : View) (b : CoreView) (homes : List (mathlib.Core.Option.Option Slot)) → 0 < v.basis.seats → IsLawful v.basis.case b

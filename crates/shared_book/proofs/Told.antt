@@ -9,8 +9,6 @@ use Rattle.mw_types.specs.declared.entry.Entry.{Entry}
 use Rattle.mw_types.specs.declared.identity.RowName.{RowName}
 use Rattle.run_history.specs.Cases.{CaseShape}
 use Rattle.run_history.specs.Runs.{run_of, row_in}
-use Rattle.run_history.specs.Inputs.{IsRunnable}
-use Rattle.run_history.specs.Legal.{IsLegal}
 use Rattle.run_history.specs.Fences.{Begins, IsFenced, HasSeenAll, interval_of, known}
 use Rattle.history_laws.proofs.FenceLaws.{row_in-known}
 use Rattle.book.specs.Books.{CoreView, LeaseView}
@@ -23,12 +21,12 @@ use Rattle.shared_book.specs.Lists.{IsIn}
 use Rattle.shared_book.specs.FenceLaw.{Slot, IsCore, AreClaimed}
 use Rattle.shared_book.specs.Joins.{first_of, others_of}
 use Rattle.shared_book.specs.Opening.{SharedLaw}
-use Rattle.shared_book.specs.Steps.{SeatView, HasFound, HasSeenLawful, Takes, Appends, Gives, Faults, Looks, IsNext, grown, faulted, idle, holding, missing, lease_in}
-use Rattle.shared_book.specs.Turns.{IsTold, HasTaken, HasTurn, IsSoundView}
+use Rattle.shared_book.specs.Steps.{SeatView, HasFound, Takes, Appends, Gives, Faults, Looks, IsNext, faults_in, grown, history_in, faulted, idle, holding, missing, lease_in}
+use Rattle.shared_book.specs.Turns.{IsTold, HasTaken, HasTurn, IsGrown}
 use Rattle.shared_book.proofs.Lists.{drop_front, in_append}
 use Rattle.shared_book.proofs.Histories.{begins_more, claim_kept, seen_all}
 use Rattle.shared_book.proofs.Moves.{takes_turn}
-use Rattle.shared_book.proofs.Appending.{appends_one, gives_turn, faults_one, looks_on, news_claimed, after, grown_after, lawful_legal, seq_of_lease}
+use Rattle.shared_book.proofs.Appending.{appends_one, gives_turn, faults_one, looks_on, news_claimed, after, grown_after, seq_of_lease}
 use Rattle.shared_book.proofs.Starting.{lift}
 
 -- ---- what a seat may do
@@ -153,41 +151,6 @@ missed_turn found v w told ne =
       ((b : CoreView) × (w ≡ (holding v.0 b, (0, Some b) ∷ v.1)) × HasFound v.0 b)
       (w ≡ (missing v.0 found, v.1))) (ne_eqb found 0 ne) told
 
--- ---- what always holds of a view
-
--- what a seat with the turn has seen is lawful
-pub turn_sound : (seat : SeatView) → HasTurn seat → IsSoundView seat.0
-turn_sound seat t =
-    let v = seat.0 in
-    let b = t.book in
-    let lawful = t.core.lawful in
-    let most = lawful.limit in
-    let room = lawful.few in
-    record {
-      runnable = lawful.runnable;
-      limit = omega (arith, most, t.core.limit);
-      seen = record {
-        fenced = subst (IsFenced v.basis.case.topology) t.core.whole lawful.fenced;
-        legal = lawful_legal v.basis v.front b lawful t.core.whole t.core.told;
-        few = omega (arith, room, t.core.limit, ap length t.core.whole);
-        claimed = t.claimed;
-      };
-    }
-
--- a view that saw no more is as lawful
-pub same_sound : (v w : View) → w.basis ≡ v.basis → w.front ≡ v.front → w.leases ≡ v.leases → IsSoundView v → IsSoundView w
-same_sound v w basis front leases s = record {
-  runnable = subst (λ (z : Basis). IsRunnable z.case) (sym basis) s.runnable;
-  limit = subst (λ (z : Basis). z.limit ≤ 4294967296) (sym basis) s.limit;
-  seen = record {
-    fenced = subst (λ (z : Basis × List Entry). IsFenced z.0.case.topology z.1) (λ i. (sym basis i, sym front i)) s.seen.fenced;
-    legal = subst (λ (z : Basis × List Entry). IfSome z.0.told (λ _. IsLegal z.0.case z.1))
-        (λ i. (sym basis i, sym front i)) s.seen.legal;
-    few = subst (λ (z : Basis × List Entry). length z.1 ≤ z.0.limit) (λ i. (sym basis i, sym front i)) s.seen.few;
-    claimed = subst (λ (z : List Entry × List LeaseView). AreClaimed z.0 z.1) (λ i. (sym front i, sym leases i)) s.seen.claimed;
-  };
-}
-
 -- ---- a seat with the turn, after a call
 
 -- the book of a place, or else this one
@@ -231,15 +194,13 @@ turn_faulted v b t core claimed = record {
 }
 
 -- and where an entry was appended
-pub turn_grown : (v : View) (b : CoreView) (e : Entry) → v.turn ≡ true → b.history ≡ v.front ++ e ∷ [] → v.count ≤ b.faults
-    → IsLawful v.basis.case b → b.limit ≡ v.basis.limit → telling b.rows ≡ v.basis.told → AreClaimed v.front v.leases
-    → HasTurn (grown v b.history, (0, Some b) ∷ [])
-turn_grown v b e t more enough lawful limit told claimed = record {
+pub turn_grown : (v : View) (b : CoreView) → v.turn ≡ true → IsGrown v b → HasTurn (grown v b.history, (0, Some b) ∷ [])
+turn_grown v b t g = record {
   turn = t;
   book = b;
   places = refl;
-  core = record { whole = refl; enough = enough; lawful = lawful; limit = limit; told = told };
-  claimed = subst (λ (h : List Entry). AreClaimed h ((grown v h).leases)) (sym more) (grown_claimed v e claimed);
+  core = record { whole = refl; enough = g.enough; lawful = g.lawful; limit = g.limit; told = g.told };
+  claimed = subst (λ (h : List Entry). AreClaimed h ((grown v h).leases)) (sym g.next.1) (grown_claimed v g.next.0 g.claimed);
 }
 
 -- what the step leaves as it was, whether it took the turn or not
@@ -249,3 +210,21 @@ told_same zero v w empty told = let t = took_turn 0 v w empty told refl in (t.2,
 told_same (suc n) v w empty told =
     let e = missed_turn (suc n) v w told (λ z. omega (arith, z)) in
     (ap (λ (m : SeatView). m.0.basis) e, ap (λ (m : SeatView). m.0.live) e, ap (λ (m : SeatView). m.0.numbers) e)
+
+-- a seat with the turn after its entry was appended
+pub turn_appended : (old home new : SeatView) (b : CoreView) → home ≡ (old.0, (0, Some b) ∷ [])
+    → new ≡ (grown home.0 (history_in home.1), home.1) → old.0.turn ≡ true → IsGrown old.0 b → HasTurn new
+turn_appended old home new b was is t g =
+    subst HasTurn (sym (is ∙ ap (λ (m : SeatView). (grown m.0 (history_in m.1), m.1)) was)) (turn_grown old.0 b t g)
+
+-- a seat with the turn after a fault was noted
+pub turn_noted : (old home new : SeatView) (b : CoreView) → home ≡ (old.0, (0, Some b) ∷ [])
+    → new ≡ (faulted home.0 (faults_in home.1), home.1) → old.0.turn ≡ true → IsCore old.0.basis old.0.front old.0.count b
+    → AreClaimed old.0.front old.0.leases → HasTurn new
+turn_noted old home new b was is t core claimed =
+    subst HasTurn (sym (is ∙ ap (λ (m : SeatView). (faulted m.0 (faults_in m.1), m.1)) was)) (turn_faulted old.0 b t core claimed)
+
+-- a seat with the turn once the book is back as it was
+pub turn_back : (old new : SeatView) (b : CoreView) → new ≡ (old.0, (0, Some b) ∷ []) → old.0.turn ≡ true
+    → IsCore old.0.basis old.0.front old.0.count b → AreClaimed old.0.front old.0.leases → HasTurn new
+turn_back old new b is t core claimed = subst HasTurn (sym is) (turn_same old.0 b t core claimed)

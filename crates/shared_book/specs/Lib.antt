@@ -4,3 +4,4 @@ pub mod Steps
 pub mod Joins
 pub mod Opening
 pub mod Turns
+pub mod Guards

@@ -9,16 +9,20 @@
 //! the calls ask and answer.
 #![tactic(auto)]
 
+mod in_turn;
 mod joins;
 mod opening;
 mod rule;
 mod seats;
 mod shared;
 mod slots;
+mod turn;
+mod turn_calls;
 mod views;
 
 pub use opening::SharedRefusal;
 pub use rule::{Append, Dealt, Fault, Fetch, Give, Joined, Law, Look, Noted, Open, Take};
 pub use seats::{Note, Seat};
 pub use shared::{Key, Shared};
+pub use turn::{Busy, Turn};
 pub use views::{Basis, View};

@@ -1,12 +1,10 @@
 //! The atomic steps of a seat at the table, and the place that holds the book.
-ghost use Rattle.std.specs.Prelude.{◌≡◌, ◌≢◌, ◌<◌, ◌≤◌, ◌^◌, ◌∷◌, [], length, None, Some, true};
+ghost use Rattle.std.specs.Prelude.{◌≡◌, ◌≢◌, ◌∷◌, [], None, Some, true};
 ghost use Rattle.mw_types.specs.Causes.{Rose};
 ghost use Rattle.run_history.specs.Fences.{Begins};
-ghost use Rattle.book.specs.Lawful.{IsLawful};
-ghost use Rattle.book.specs.OwnDesks.{telling};
-ghost use Rattle.shared_book.specs.FenceLaw.{IsCore};
-ghost use Rattle.shared_book.specs.Steps.{HasSeenLawful, IsNext, faulted, grown, idle, missing};
-ghost use Rattle.shared_book.specs.Turns.{HasTaken, HasTurn, IsHere, IsIdle, IsOut};
+ghost use Rattle.shared_book.specs.FenceLaw.{AreClaimed, IsCore};
+ghost use Rattle.shared_book.specs.Steps.{HasSeenLawful, faulted, grown, idle, missing};
+ghost use Rattle.shared_book.specs.Turns.{HasTaken, HasTurn, IsGrown, IsHere, IsIdle, IsOut};
 
 use crate::rule::{Append, Fault, Give, Look, Take};
 use crate::seats::Seat;
@@ -73,11 +71,9 @@ pub(crate) fn append<K: Keeper>(
     requires table { place.old.table_id ≡ shared.now.table.shared.table_id }
     requires live { place.old.me.0.live ≡ true }
     requires out { IsOut place.old.me }
-    requires next { IsNext place.old.me.0 core.history }
-    requires lawful { IsLawful place.old.me.0.basis.case core }
-    requires limit { core.limit ≡ place.old.me.0.basis.limit }
-    requires told { telling core.rows ≡ place.old.me.0.basis.told }
+    requires grown { IsGrown place.old.me.0 core }
     ensures table { place.new.table_id ≡ shared.now.table.shared.table_id }
+    ensures turn { HasTurn place.new.me }
     ensures view { place.new.me ≡ (grown place.old.me.0 core.history, (0, Some core) ∷ []) }
 {
     home(shared, place, core);
@@ -93,9 +89,11 @@ pub(crate) fn fault<K: Keeper>(
     requires table { place.old.table_id ≡ shared.now.table.shared.table_id }
     requires live { place.old.me.0.live ≡ true }
     requires out { IsOut place.old.me }
-    requires later { place.old.me.0.count ≤ core.faults }
     requires rose { Rose place.old.me.0.count core.faults }
+    requires core { let v = place.old.me.0 in IsCore v.basis v.front v.count core }
+    requires claimed { AreClaimed place.old.me.0.front place.old.me.0.leases }
     ensures table { place.new.table_id ≡ shared.now.table.shared.table_id }
+    ensures turn { HasTurn place.new.me }
     ensures view { place.new.me ≡ (faulted place.old.me.0 core.faults, (0, Some core) ∷ []) }
 {
     home(shared, place, core);

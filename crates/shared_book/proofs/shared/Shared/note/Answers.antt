@@ -2,7 +2,7 @@ use Rattle.std.proofs.Common.{rules, arith}
 use Rattle.shared_book.specs.Joins.{note_of}
 use Rattle.shared_book.proofs.Starting.{lift_split}
 use Rattle.shared_book.proofs.Joining.{note_splits}
-use Rattle.shared_book.proofs.joins.Shared.note.Goals as goal
+use Rattle.shared_book.proofs.shared.Shared.note.Goals as goal
 
 pub split_seat-requires : goal.split_seat-requires
 split_seat-requires g c =

@@ -2,7 +2,7 @@ use Rattle.std.proofs.Common.{rules, arith}
 use Rattle.shared_book.specs.Joins.{joined, spent}
 use Rattle.shared_book.proofs.Starting.{lift_join}
 use Rattle.shared_book.proofs.Joining.{seats_join}
-use Rattle.shared_book.proofs.joins.Shared.meet.Goals as goal
+use Rattle.shared_book.proofs.shared.Shared.meet.Goals as goal
 
 pub join_seat-requires : goal.join_seat-requires
 join_seat-requires g c =

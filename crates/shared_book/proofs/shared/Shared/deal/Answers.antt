@@ -3,7 +3,7 @@ use Rattle.shared_book.specs.Joins.{stays, leaves}
 use Rattle.shared_book.proofs.Starting.{lift_split}
 use Rattle.shared_book.proofs.Joining.{seat_splits}
 use Rattle.shared_book.proofs.Told.{two_numbers}
-use Rattle.shared_book.proofs.opening.Shared.deal.Goals as goal
+use Rattle.shared_book.proofs.shared.Shared.deal.Goals as goal
 
 pub split_seat-place-requires : goal.split_seat-place-requires
 split_seat-place-requires g c =

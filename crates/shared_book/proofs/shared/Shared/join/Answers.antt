@@ -5,7 +5,7 @@ use Rattle.shared_book.specs.Joins.{joined, spent, first_of}
 use Rattle.shared_book.proofs.Merging.{joined_high, joined_even}
 use Rattle.shared_book.proofs.Starting.{lift_join}
 use Rattle.shared_book.proofs.Joining.{seats_join}
-use Rattle.shared_book.proofs.joins.Shared.join.Goals as goal
+use Rattle.shared_book.proofs.shared.Shared.join.Goals as goal
 
 pub join_seat-requires : goal.join_seat-requires
 join_seat-requires g c =
