@@ -1,23 +1,18 @@
 //! The calls of a book, in a turn: the book is taken out of its place, called, and put back.
-ghost use Rattle.std.specs.Prelude.{◌≡◌, ◌≢◌, ◌↔◌, [], IfErr, IfOk, IsErrOf, OnErr, length, true, false};
+ghost use Rattle.std.specs.Prelude.{◌≡◌, ◌≢◌, IfErr, IfOk, IsErrOf, true, false};
 ghost use Rattle.mw_types.specs.Causes.{Rose};
-ghost use Rattle.mw_types.specs.declared.entry.Entry.TheVariants.{Ack, Purge};
-ghost use Rattle.run_history.specs.Legal.{MayClaim};
 ghost use Rattle.book.specs.Answers.{IsFullWhere, IsStaleWhere};
-ghost use Rattle.book.specs.Claims.{IsDamaged};
-ghost use Rattle.book.specs.Conditions.{MayForget, MaySettle};
 ghost use Rattle.book.specs.Proposals.{IsProposable};
-ghost use Rattle.book.specs.declared.refusals.ClaimRefusal.TheVariants as claims;
 ghost use Rattle.book.specs.declared.refusals.WriteRefusal.TheVariants as refusals;
 ghost use Rattle.shared_book.specs.FenceLaw.{AreClaimed, IsCore};
-ghost use Rattle.shared_book.specs.Turns.{HasClaimedIn, HasFaulted, HasStoredIn, HasTurn, HasWrittenIn, IsHere, IsOut, IsProposedIn, IsRowHeld, MayWrite};
+ghost use Rattle.shared_book.specs.Turns.{HasFaulted, HasTurn, HasWrittenIn, IsHere, IsOut, IsProposedIn, IsRowHeld, MayWrite};
 
 use crate::shared::Shared;
 use crate::slots::{append, fault, home, out};
 use crate::views::View;
 use atomic_table::Seat as Place;
-use book::{Book, Claimed, ClaimRefusal, Core, Lease, Proposal, WriteRefusal, Written};
-use mw_types::{RecordId, RowName};
+use book::{Book, Core, Lease, Proposal, WriteRefusal, Written};
+use mw_types::RowName;
 use row_keeper::Keeper;
 use row_parts::Row;
 use std::alloc::Global;
@@ -69,7 +64,7 @@ pub(crate) fn write_in<K: Keeper>(
 }
 
 // The call was refused: the book goes back as it was, and it is noted where its keeper failed.
-fn back<K: Keeper>(
+pub(crate) fn back<K: Keeper>(
     shared: &Shared<'_, K>,
     place: &mut Place<Option<Core<K>>, View>,
     core: Core<K>,

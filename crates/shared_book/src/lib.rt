@@ -9,6 +9,7 @@
 //! the calls ask and answer.
 #![tactic(auto)]
 
+mod claiming;
 mod in_turn;
 mod joins;
 mod opening;
@@ -16,6 +17,7 @@ mod rule;
 mod seats;
 mod shared;
 mod slots;
+mod storing;
 mod turn;
 mod turn_calls;
 mod views;
