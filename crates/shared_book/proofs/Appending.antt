@@ -412,6 +412,7 @@ looks_on basis slots id v l live s f homes at small =
               (λ _ legal. legal_begins basis.case v.front f.history fit.begins legal));
           few = omega (arith, short, f.few, ap (λ (z : Basis). z.limit) base);
           claimed = fit.claimed;
+          ascend = fit.numbers_ascend;
         },
         fit.met,
       ),

@@ -228,3 +228,10 @@ turn_noted old home new b was is t core claimed =
 pub turn_back : (old new : SeatView) (b : CoreView) → new ≡ (old.0, (0, Some b) ∷ []) → old.0.turn ≡ true
     → IsCore old.0.basis old.0.front old.0.count b → AreClaimed old.0.front old.0.leases → HasTurn new
 turn_back old new b is t core claimed = subst HasTurn (sym is) (turn_same old.0 b t core claimed)
+
+-- a seat with the turn once the book that was taken out is back
+pub turn_home : (old out new : SeatView) (a b : CoreView) → out ≡ (old.0, (0, None) ∷ []) → new ≡ (out.0, (0, Some b) ∷ [])
+    → b ≡ a → old.0.turn ≡ true → IsCore old.0.basis old.0.front old.0.count a → AreClaimed old.0.front old.0.leases → HasTurn new
+turn_home old out new a b was is same t core claimed =
+    turn_back old new b (is ∙ ap (λ (m : SeatView). (m.0, (0, Some b) ∷ [])) was) t
+    (subst (λ (x : CoreView). IsCore old.0.basis old.0.front old.0.count x) (sym same) core) claimed

@@ -10,7 +10,7 @@ use Rattle.run_history.specs.Legal.{IsLegal}
 use Rattle.run_history.specs.Fences.{Begins, IsFenced, sequencer_of}
 use Rattle.book.specs.Books.{CoreView, LeaseView}
 use Rattle.shared_book.specs.declared.views.View.{View}
-use Rattle.shared_book.specs.Lists.{IsIn}
+use Rattle.shared_book.specs.Lists.{Ascends, IsIn}
 use Rattle.shared_book.specs.FenceLaw.{Slot, IsCore, AreClaimed, HasSeenOwn, seqs}
 
 -- a seat, as a step sees it: its view, and the places that it holds with what they hold
@@ -103,12 +103,13 @@ Faults step seat found after = after ≡ (faulted seat.0 (faults_in seat.1), sea
 
 -- ---- a look, which changes nothing
 
--- what a seat has seen is the beginning of a lawful history, with the claims of its leases
+-- what a seat has seen is the beginning of a lawful history, with the claims of its leases; and its numbers ascend
 pub record HasSeenLawful (v : View) : Type 0 where
   pub fenced : IsFenced v.basis.case.topology v.front
   pub legal : IfSome v.basis.told (λ _. IsLegal v.basis.case v.front)
   pub few : length v.front ≤ v.basis.limit
   pub claimed : AreClaimed v.front v.leases
+  pub ascend : Ascends v.numbers
 
 -- a seat looks, and learns what it has seen
 abbrev pub Looks : Step Slot → SeatView → ℕ → SeatView → Type 0

@@ -70,8 +70,9 @@ pub(crate) fn unfinished_in<K: Keeper>(
     requires here { IsHere shared.now.table.shared.table_id shared.now.case.now place.old }
     requires turn { HasTurn place.old.me }
 
-    ensures table { place.new.table_id ≡ place.old.table_id }
-    ensures same { place.new.me ≡ place.old.me }
+    ensures here { IsHere shared.now.table.shared.table_id shared.now.case.now place.new }
+    ensures turn { HasTurn place.new.me }
+    ensures view { place.new.me.0 ≡ place.old.me.0 }
     ensures left { let v = place.old.me.0 in IfSome v.basis.told
         (λ _. result ≡ unfinished v.basis.case (run_of v.basis.case.topology v.front)) }
 {

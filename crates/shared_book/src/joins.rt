@@ -3,7 +3,7 @@ ghost use Rattle.std.specs.Prelude.{◌≡◌, ◌<◌, ℕ, []};
 ghost use Rattle.run_history.specs.Fences.{Begins};
 ghost use Rattle.book.specs.Books.{core_of};
 ghost use Rattle.shared_book.specs.Joins.{joined, note_of};
-ghost use Rattle.shared_book.specs.Lists.{Ascends, IsIn};
+ghost use Rattle.shared_book.specs.Lists.{IsIn};
 ghost use Rattle.shared_book.specs.Steps.{HasSeenLawful};
 ghost use Rattle.shared_book.specs.Turns.{IsClosed, IsHere, IsIdle};
 
@@ -53,13 +53,14 @@ impl<'a, K: Keeper> Shared<'a, K> {
         requires idle { IsIdle seat.old.place.me }
         requires other { IsHere self.now.table.shared.table_id self.now.case.now other.place }
         requires other_idle { IsIdle other.place.me }
-        requires numbers { Ascends other.place.me.0.numbers }
 
         ensures here { IsHere self.now.table.shared.table_id self.now.case.now seat.new.place }
         ensures view { seat.new.place.me ≡ (joined seat.old.place.me.0 other.place.me.0, []) }
     {
         let Seat { place, number } = other;
-        self.table.shared.join_seat::<Joined>(&mut seat.place, place);
+        let mut theirs = place;
+        look(self, &mut theirs);
+        self.table.shared.join_seat::<Joined>(&mut seat.place, theirs);
         if number < seat.number {
             seat.number = number;
         }

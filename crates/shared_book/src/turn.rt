@@ -224,8 +224,10 @@ impl<'s, 'a, K: Keeper> Turn<'s, 'a, K> {
 
         ensures loan { self.new.seat.ghost_name ≡ self.old.seat.ghost_name }
         ensures shared { self.new.shared.now ≡ self.old.shared.now }
-        ensures table { self.new.seat.now.place.table_id ≡ self.old.seat.now.place.table_id }
-        ensures same { self.new.seat.now.place.me ≡ self.old.seat.now.place.me }
+        ensures here { let shared = self.old.shared.now in
+            IsHere shared.table.shared.table_id shared.case.now self.new.seat.now.place }
+        ensures turn { HasTurn self.new.seat.now.place.me }
+        ensures view { self.new.seat.now.place.me.0 ≡ self.old.seat.now.place.me.0 }
         ensures left { let v = self.old.seat.now.place.me.0 in IfSome v.basis.told
             (λ _. result ≡ unfinished v.basis.case (run_of v.basis.case.topology v.front)) }
     {

@@ -153,8 +153,9 @@ pub(crate) fn unfinished_at<K: Keeper>(shared: &Shared<'_, K>, seat: &mut Seat<K
     requires here { IsHere shared.now.table.shared.table_id shared.now.case.now seat.old.place }
     requires turn { HasTurn seat.old.place.me }
 
-    ensures table { seat.new.place.table_id ≡ seat.old.place.table_id }
-    ensures same { seat.new.place.me ≡ seat.old.place.me }
+    ensures here { IsHere shared.now.table.shared.table_id shared.now.case.now seat.new.place }
+    ensures turn { HasTurn seat.new.place.me }
+    ensures view { seat.new.place.me.0 ≡ seat.old.place.me.0 }
     ensures left { let v = seat.old.place.me.0 in IfSome v.basis.told
         (λ _. result ≡ unfinished v.basis.case (run_of v.basis.case.topology v.front)) }
 {

@@ -29,3 +29,13 @@ returns-in-Ok-clause-claimed g c =
     i.ensures.case i.ensures.lawful c.append.new.place.me.0 c.args.worker c.args.interval c.in-Ok.claimed
     (in_after c.args.place.now.me o.new.place.me c.append.new.place.me i.result.1 o.ensures.view c.append.ensures.view)
     k.appended k.lease k.rows
+
+pub back-requires-clause-claimed : goal.back-requires-clause-claimed
+back-requires-clause-claimed g c =
+    as_out c.args.place.now.me c.out-core.new.place.me (λ u. AreClaimed u.front u.leases) c.out-core.ensures.view
+    c.requires.turn.claimed
+
+pub back-requires-in-Err-clause-claimed : goal.back-requires-in-Err-clause-claimed
+back-requires-in-Err-clause-claimed g c =
+    as_out c.args.place.now.me c.out-core.new.place.me (λ u. AreClaimed u.front u.leases) c.out-core.ensures.view
+    c.requires.turn.claimed
