@@ -1,5 +1,5 @@
--- The steps of a seat with the turn keep the fence law: to append, to give the turn back, and to note a fault. So does
--- a look, which any seat may take.
+-- The steps of a seat with the turn keep the fence law: to append, to give the turn back, and to note a fault. So
+-- does a look, which any seat may take.
 use Rattle.std.proofs.Common.{inl, inr, ◌≡◌, ◌≢◌, ◌⊎◌, ℕ, zero, suc, ◌+◌, ◌%◌, ◌^◌, ◌<◌, ◌≤◌, List, [], ◌∷◌, ◌++◌, length, drop, Option, Some, None, Bool, true, false, refl, sym, ap, ◌∙◌, subst, ⊎_elim, arith, length-append}
 use Rattle.std.specs.Prelude.{slice_index, slice_set, slice_get, IfSome}
 use mathlib.Core.Option.{some, none, some-ne-none, some-injective}

@@ -169,7 +169,8 @@ pub same_core : (l : List (ℕ × Slot)) (b d : CoreView) (r : List (ℕ × Slot
 same_core l b d r p q = (ap (λ m. core_of (slot_or m None) b) (sym p ∙ q), sym (ap rest (sym p ∙ q)))
 
 -- the leases of a view that appended stand in what was seen
-grown_claimed : (v : View) (e : Entry) → AreClaimed v.front v.leases → AreClaimed (v.front ++ e ∷ []) ((grown v (v.front ++ e ∷ [])).leases)
+grown_claimed : (v : View) (e : Entry) → AreClaimed v.front v.leases
+    → AreClaimed (v.front ++ e ∷ []) ((grown v (v.front ++ e ∷ [])).leases)
 grown_claimed v e h =
     subst (λ (d : List Entry). AreClaimed (v.front ++ e ∷ []) (v.leases ++ lease_in d (length v.front))) (sym (drop_front v.front (e ∷ [])))
     (λ l p. ⊎_elim

@@ -1,7 +1,7 @@
--- What holds between any two atomic steps of threads that share a book, over the table's words, the book's place in
--- it, and what each seat knows.
--- Akidau et al., VLDB 2013, section 6.2, where a sequencer is checked at each write, so that a former owner's write
--- is refused. Own: threads that share one history, the turn, and what each seat has seen of it.
+-- What holds between any two atomic steps of threads that share a book, over the table's words, the book's
+-- place in it, and what each seat knows. Akidau et al., VLDB 2013, section 6.2, where a sequencer is
+-- checked at each write, so that a former owner's write is refused. Own: threads that share one history,
+-- the turn, and what each seat has seen of it.
 use Rattle.std.specs.Prelude.{◌≡◌, ℕ, suc, ◌+◌, ◌<◌, ◌≤◌, List, [], ◌∷◌, ◌++◌, true, false, Option, None, Some, IfSome, length, replicate, slice_get}
 use mathlib.Core.Option.{some}
 use lib.ListN.{get_elem?}
@@ -27,8 +27,8 @@ Slot = Option CoreView
 abbrev pub no_marks : List ℕ
 no_marks = replicate 62 0
 
--- a book but for its case is that of a history: it is lawful, its limit and whether it tells are those of the start,
--- and its keeper has failed at least so often
+-- a book but for its case is that of a history: it is lawful, its limit and whether it tells are those of
+-- the start, and its keeper has failed at least so often
 pub record IsCore (basis : Basis) (history : List Entry) (count : ℕ) (core : CoreView) : Type 0 where
   pub whole : core.history ≡ history
   pub enough : count ≤ core.faults
@@ -61,7 +61,8 @@ CarriesBelow history seq number = (at : ℕ) (entry : Entry) → slice_get histo
 abbrev pub HasSeenOwn : List Entry → View → Type 0
 HasSeenOwn history v = (seq : ℕ) → IsIn seq (seqs v.leases) → CarriesBelow history seq (length v.front)
 
--- the seat that has the turn: the word is 1 more than its least number, it has seen all, and it has the count
+-- the seat that has the turn: the word is 1 more than its least number, it has seen all, and it has the
+-- count
 abbrev pub HoldsTurn : List Entry → ℕ → ℕ → View → Type 0
 HoldsTurn history turn count v = (least : ℕ) × (others : List ℕ) × (v.numbers ≡ least ∷ others)
     × (turn ≡ suc least) × (v.front ≡ history) × (v.count ≡ count)
@@ -76,14 +77,16 @@ pub record Fits (basis : Basis) (history : List Entry) (turn count : ℕ) (v : V
   pub same : v.live ≡ true → v.basis ≡ basis
   -- a view that is spent has no number: the blank one, from which all begin, has one
   pub spent : v.live ≡ false → v.numbers ≡ []
-  -- what was seen is a beginning of the history, and not less than what the book began with: else one who closes it
-  -- could lack what was there at the start
+  -- what was seen is a beginning of the history, and not less than what the book began with: else one who
+  -- closes it could lack what was there at the start
   pub begins : Begins v.front history
   pub reaches : v.live ≡ true → basis.begin ≤ length v.front
-  -- what another had seen that was taken in was seen: two views alone do not show which of them has seen more
+  -- what another had seen that was taken in was seen: two views alone do not show which of them has seen
+  -- more
   pub met : Begins v.met v.front
   pub holds : v.turn ≡ true → HoldsTurn history turn count v
-  -- leases: each was claimed in what was seen, none stands twice, and all that was written under it was seen
+  -- leases: each was claimed in what was seen, none stands twice, and all that was written under it was
+  -- seen
   pub claimed : AreClaimed v.front v.leases
   pub once : AreDistinct (seqs v.leases)
   pub seen_own : HasSeenOwn history v

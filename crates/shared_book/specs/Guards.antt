@@ -1,4 +1,5 @@
--- What a seat is after a try for the turn, as its lender knows it. The call that lends it cites this module.
+-- What a seat is after a try for the turn, as its lender knows it. The call that lends it cites this
+-- module.
 use Rattle.std.specs.Prelude.{◌≡◌, ◌≢◌, Result, Ok, Err, ⊤}
 use Rattle.std.specs.Borrow.{RestsIfErr, MutBor, Fml, RattleType}
 use Rattle.row_keeper.specs.declared.keeper.Keeper.{Ghosts}
@@ -8,7 +9,8 @@ use Rattle.shared_book.specs.declared.turn.Busy.{Busy}
 use Rattle.shared_book.specs.contracts.seats.Seat.{the_row}
 use Rattle.shared_book.specs.Steps.{SeatView, missing}
 
--- the number that was found, which is not 0, was appended to those that the seat missed, and nothing else changed
+-- the number that was found, which is not 0, was appended to those that the seat missed, and nothing else
+-- changed
 abbrev pub IsBusy : {T : Type 0} → Result T Busy → SeatView → SeatView → Type 0
 IsBusy (Ok turn) new old = ⊤
 IsBusy (Err busy) new old = (busy.found ≢ 0) × (new ≡ (missing old.0 busy.found, old.1))

@@ -57,8 +57,8 @@ merged xs (y ∷ ys) = placed y (merged xs ys)
 abbrev pub longer : List Entry → List Entry → List Entry
 longer one other = one ++ drop (length one) other
 
--- the view of a seat that took in another: what either has seen, the numbers, own entries and leases of both, what it
--- missed itself, and the greater count of faults
+-- the view of a seat that took in another: what either has seen, the numbers, own entries and leases of
+-- both, what it missed itself, and the greater count of faults
 abbrev pub joined : View → View → View
 joined v w = record v {
   numbers = merged v.numbers w.numbers;

@@ -1,6 +1,6 @@
--- The rule of the table, and how it begins: the table is made empty, its first seat takes the place, and gives it back
--- with the book.
--- Own. The constants of the law stand in views: a step cannot read what the table was told when it was made.
+-- The rule of the table, and how it begins: the table is made empty, its first seat takes the place, and
+-- gives it back with the book. Own. The constants of the law stand in views: a step cannot read what the
+-- table was told when it was made.
 use Rattle.std.specs.Prelude.{◌≡◌, ◌⊎◌, ℕ, zero, suc, List, [], ◌∷◌, Bool, true, false, Option, None, Some, length}
 use mathlib.Core.Option.{some}
 use lib.ListN.{get_elem?}
@@ -66,7 +66,15 @@ core_or ((at , Some core) ∷ places) d = core
 
 -- a book without anything
 abbrev pub no_core : CoreView
-no_core = record { history = []; limit = 0; rows = None; faults = 0; work = 0; unacknowledged = []; marks = [] }
+no_core = record {
+  history = [];
+  limit = 0;
+  rows = None;
+  faults = 0;
+  work = 0;
+  unacknowledged = [];
+  marks = [];
+}
 
 -- the first seat gives the place back with the book in it
 abbrev pub Opens : Step Slot → SeatView → ℕ → SeatView → Type 0

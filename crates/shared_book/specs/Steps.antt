@@ -1,7 +1,7 @@
--- What each atomic step does to the view of the seat that makes it. A step is told the table's word that it found, and
--- the seat's view before and after, each with the places that the seat holds.
--- Own. A step reads the book where the seat holds its place: so an entry is appended, and a fault noted, while the
--- longer history, or the higher count, already lies there.
+-- What each atomic step does to the view of the seat that makes it. A step is told the table's word that it
+-- found, and the seat's view before and after, each with the places that the seat holds. Own. A step reads
+-- the book where the seat holds its place: so an entry is appended, and a fault noted, while the longer
+-- history, or the higher count, already lies there.
 use Rattle.std.specs.Prelude.{◌≡◌, ℕ, suc, ◌==◌, List, [], ◌∷◌, ◌++◌, true, false, IfSome, Some, None, length, drop, MatchBool, ◌≤◌}
 use Rattle.atomic_table.specs.Table.{Me, Step}
 use Rattle.mw_types.specs.declared.entry.Entry.{Entry}
@@ -54,7 +54,8 @@ lease_in [] commit = []
 lease_in (Claim worker interval ∷ entries) commit = record { interval = interval; seq = commit } ∷ []
 lease_in (entry ∷ entries) commit = []
 
--- the view of a seat that appended an entry, so that this is the history: the entry is its own, and a claim a lease
+-- the view of a seat that appended an entry, so that this is the history: the entry is its own, and a claim
+-- a lease
 abbrev pub grown : View → List Entry → View
 grown v history = record v {
   front = history;
@@ -103,7 +104,8 @@ Faults step seat found after = after ≡ (faulted seat.0 (faults_in seat.1), sea
 
 -- ---- a look, which changes nothing
 
--- what a seat has seen is the beginning of a lawful history, with the claims of its leases; and its numbers ascend
+-- what a seat has seen is the beginning of a lawful history, with the claims of its leases; and its numbers
+-- ascend
 pub record HasSeenLawful (v : View) : Type 0 where
   pub fenced : IsFenced v.basis.case.topology v.front
   pub legal : IfSome v.basis.told (λ _. IsLegal v.basis.case v.front)

@@ -1,5 +1,5 @@
--- What the calls of a shared book ask of a seat, and what they answer.
--- Akidau et al., VLDB 2013, section 6.2 for sequencers. Own: the turn, and what a seat's view was before and after.
+-- What the calls of a shared book ask of a seat, and what they answer. Akidau et al., VLDB 2013, section
+-- 6.2 for sequencers. Own: the turn, and what a seat's view was before and after.
 use Rattle.std.specs.Prelude.{◌≡◌, ℕ, ◌<◌, ◌≤◌, ◌++◌, ◌∷◌, [], List, true, false, Some, None, IfSome, length}
 use mathlib.Core.Option.{none}
 use Rattle.atomic_table.specs.Table.{step}
@@ -60,8 +60,8 @@ pub record IsOut (seat : SeatView) : Type 0 where
 abbrev pub IsTold : ℕ → SeatView → SeatView → Type 0
 IsTold found before after = Takes (step 1 1 0 0 none) before found after
 
--- a turn was taken: the seat has seen the whole history now, which goes on from what it had seen, and each of its leases
--- has its rows as they were, whatever others appended
+-- a turn was taken: the seat has seen the whole history now, which goes on from what it had seen, and each
+-- of its leases has its rows as they were, whatever others appended
 pub record HasTaken (old new : View) : Type 0 where
   pub book : CoreView
   pub view : new ≡ holding old book
@@ -93,21 +93,23 @@ IsProposedIn v name proposal = IfSome v.basis.told
 
 -- ---- what a call in a turn answers
 
--- a claim was accepted: its entry is the seat's own and the next of the history, its lease has the entry's number and
--- is the seat's, and the rows are those of the interval before it
+-- a claim was accepted: its entry is the seat's own and the next of the history, its lease has the entry's
+-- number and is the seat's, and the rows are those of the interval before it
 pub record HasClaimedIn (old new : View) (worker interval : ℕ) (answer : Claimed) : Type 0 where
   pub view : new ≡ grown old (old.front ++ Claim worker interval ∷ [])
   pub lease : answer.lease ≡ record { interval = interval; seq = length old.front }
   pub rows : AreRowsOf old.basis.case old.basis.told old.front interval answer.rows
 
--- a proposal was accepted: its entry is the seat's own and the next of the history, and found the row that was handed in
+-- a proposal was accepted: its entry is the seat's own and the next of the history, and found the row that
+-- was handed in
 pub record HasWrittenIn (old new : View) (lease : LeaseView) (name : RowName) (proposal : Proposal)
     (row : Contents) (answer : Written) : Type 0 where
   pub view : new ≡ grown old new.front
   pub found : IsRowOf old.basis.case old.basis.told old.front name row
   pub written : IsWrittenBy old.basis.case old.basis.told old.front new.front lease name proposal row answer
 
--- an entry was appended: it is the seat's own and the next of the history, and found the row that was handed in
+-- an entry was appended: it is the seat's own and the next of the history, and found the row that was
+-- handed in
 pub record HasStoredIn (old new : View) (lease : LeaseView) (name : RowName) (entry : Entry)
     (row : Contents) (answer : Written) : Type 0 where
   pub view : new ≡ grown old new.front
@@ -130,8 +132,8 @@ HasFaulted old new = (count : ℕ) × Rose old.count count × (new ≡ faulted o
 
 -- ---- the close
 
--- what a close hands back: the book of all that was seen, of which each entry since the start is the seat's own, in
--- order; the keeper failed more often than at the start where the seat saw it fail
+-- what a close hands back: the book of all that was seen, of which each entry since the start is the seat's
+-- own, in order; the keeper failed more often than at the start where the seat saw it fail
 pub record IsClosed (v : View) (book : CoreView) : Type 0 where
   pub core : IsCore v.basis v.front v.basis.count book
   pub all_own : (commit : ℕ) → v.basis.begin ≤ commit → commit < length v.front → IsIn commit v.own

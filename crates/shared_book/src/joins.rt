@@ -66,8 +66,8 @@ impl<'a, K: Keeper> Shared<'a, K> {
         }
     }
 
-    /// The book comes back from the seat that has all numbers, and no turn: each entry since the start
-    /// is the seat's own.
+    /// The book comes back from the seat that has all numbers, and no turn: each entry since the
+    /// start is the seat's own.
     pub fn close(self, seat: Seat<K>) -> Book<'a, K>
         requires here { IsHere self.table.shared.table_id self.case.now seat.place }
         requires idle { IsIdle seat.place.me }

@@ -1,12 +1,12 @@
-//! The history of one store, which threads share: each appends through a seat of its own, and one at
-//! a time has the turn to append.
+//! The history of one store, which threads share: each appends through a seat of its own, and one
+//! at a time has the turn to append.
 //!
 //! A turn that another has is refused at once, and no call waits. Stands on `book` and on the kit's
 //! `atomic_table`. Public contract: whatever the threads' calls come between one another, there is
-//! one history, of which each seat has seen a beginning; each entry is one seat's own; and a lease's
-//! rows are as its seat last saw them. Definitions: `specs/FenceLaw.antt`, what holds between any two
-//! atomic steps; `specs/Steps.antt`, what each step does to a seat's view; `specs/Turns.antt`, what
-//! the calls ask and answer.
+//! one history, of which each seat has seen a beginning; each entry is one seat's own; and a
+//! lease's rows are as its seat last saw them. Definitions: `specs/FenceLaw.antt`, what holds
+//! between any two atomic steps; `specs/Steps.antt`, what each step does to a seat's view;
+//! `specs/Turns.antt`, what the calls ask and answer.
 #![tactic(auto)]
 
 mod claiming;

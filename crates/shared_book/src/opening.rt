@@ -24,8 +24,8 @@ pub struct SharedRefusal<'a, K: Keeper> {
 }
 
 impl<'a, K: Keeper> Shared<'a, K> {
-    /// Shares a book among so many seats of callers: the first seat has all their numbers, and deals
-    /// them. It has seen the whole history, and has no lease.
+    /// Shares a book among so many seats of callers: the first seat has all their numbers, and
+    /// deals them. It has seen the whole history, and has no lease.
     pub fn start(
         alloc: Global,
         book: Book<'a, K>,
@@ -89,7 +89,8 @@ fn opened<'a, K: Keeper>(
     requires many { many ≡ length core.history }
 
     ensures case { IfOk result (λ shared. shared.0.case.now ≡ case.now) }
-    ensures here { IfOk result (λ shared. IsHere shared.0.table.shared.table_id case.now shared.1.place) }
+    ensures here { IfOk result (λ shared.
+        IsHere shared.0.table.shared.table_id case.now shared.1.place) }
     ensures idle { IfOk result (λ shared. IsIdle shared.1.place.me) }
     ensures view { IfOk result (λ shared.
         shared.1.place.me.0 ≡ newborn (blank case.now seats true) core) }

@@ -39,8 +39,8 @@ pub struct Turn<'s, 'a, K: Keeper> {
 }
 
 impl<K: Keeper> Seat<K> {
-    /// One try for the turn. A seat that gets it has seen the whole history, and each of its leases has
-    /// its rows as the seat last saw them, whatever others appended.
+    /// One try for the turn. A seat that gets it has seen the whole history, and each of its leases
+    /// has its rows as the seat last saw them, whatever others appended.
     pub fn try_turn<'s, 'a>(
         &'s mut self,
         shared: &'s Shared<'a, K>,
@@ -66,8 +66,8 @@ impl<K: Keeper> Seat<K> {
 }
 
 impl<'s, 'a, K: Keeper> Turn<'s, 'a, K> {
-    /// A worker takes an interval, which makes every earlier lease of it stale, whichever seat has it.
-    /// The lease is the seat's.
+    /// A worker takes an interval, which makes every earlier lease of it stale, whichever seat has
+    /// it. The lease is the seat's.
     pub fn claim(
         &mut self,
         alloc: Global,
@@ -100,8 +100,8 @@ impl<'s, 'a, K: Keeper> Turn<'s, 'a, K> {
         claim_at(alloc, shared, self.seat, worker, interval)
     }
 
-    /// A row is written anew, under a lease of the seat: an injector's next line is injected, a record
-    /// was handled, or a timer fired.
+    /// A row is written anew, under a lease of the seat: an injector's next line is injected, a
+    /// record was handled, or a timer fired.
     pub fn write(
         &mut self,
         alloc: Global,
@@ -177,8 +177,8 @@ impl<'s, 'a, K: Keeper> Turn<'s, 'a, K> {
         settle_at(alloc, shared, self.seat, lease, name, row, id)
     }
 
-    /// A row forgets, under a lease of the seat, the ids of records that are finished: those below the
-    /// floor.
+    /// A row forgets, under a lease of the seat, the ids of records that are finished: those below
+    /// the floor.
     pub fn purge(
         &mut self,
         alloc: Global,
@@ -237,7 +237,8 @@ impl<'s, 'a, K: Keeper> Turn<'s, 'a, K> {
 
     /// Gives the turn back, and the book with it.
     pub fn release(self)
-        requires here { IsHere self.shared.now.table.shared.table_id self.shared.now.case.now self.seat.now.place }
+        requires here { let shared = self.shared.now in
+            IsHere shared.table.shared.table_id shared.case.now self.seat.now.place }
         requires turn { HasTurn self.seat.now.place.me }
         ensures view { self.exit.1.0.now.place.me ≡ (idle self.entry.seat.now.place.me.0, []) }
         ensures table { self.exit.1.0.now.place.table_id ≡ self.entry.seat.now.place.table_id }

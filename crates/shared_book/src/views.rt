@@ -22,7 +22,8 @@ pub struct Basis {
 
 /// What a seat knows.
 pub struct View {
-    /// Whether it is a seat of a book: not before the book is in the table, and not once it is joined.
+    /// Whether it is a seat of a book: not before the book is in the table, and not once it is
+    /// joined.
     pub live: bool,
     /// What no step changes.
     pub basis: Basis,
