@@ -1,0 +1,12 @@
+pub mod Lists
+pub mod ViewLists
+pub mod Histories
+pub mod Moves
+pub mod Appending
+pub mod Merging
+pub mod Fronts
+pub mod Joining
+pub mod Closing
+pub mod Starting
+pub mod Told
+pub mod Calls

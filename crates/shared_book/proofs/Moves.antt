@@ -1,0 +1,214 @@
+-- Taking the turn, or missing it, keeps the fence law.
+use Rattle.std.proofs.Common.{◌≡◌, ◌≢◌, ℕ, zero, suc, ◌+◌, ◌<◌, ◌≤◌, List, [], ◌∷◌, ◌++◌, length, Option, Some, None, Bool, true, false, true≢false, refl, sym, ap, ◌∙◌, subst, arith, eqb, ne_eqb}
+use Rattle.std.specs.Prelude.{slice_index, slice_set, MatchBool}
+use mathlib.Core.Option.{some, none, some-ne-none, some-injective}
+use prog.Atomic.{either}
+use lib.ListN.{get_elem?}
+use Rattle.atomic_table.specs.Table.{State, Me, Act, keeps, takes, gives, stepped, step, Allows, Valid, carried_after}
+use Rattle.mw_types.specs.Causes.{Rose}
+use Rattle.mw_types.proofs.CauseLaws.{Rose-before}
+use Rattle.mw_types.specs.declared.entry.Entry.{Entry}
+use Rattle.run_history.specs.Fences.{Begins}
+use Rattle.run_history.proofs.Beginnings.{Begins-itself, Begins-trans, Begins-length}
+use Rattle.book.specs.Books.{CoreView, LeaseView}
+use Rattle.shared_book.specs.declared.views.Basis.{Basis}
+use Rattle.shared_book.specs.declared.views.View.{View}
+use Rattle.shared_book.specs.Lists.{IsIn, Somewhere, Everywhere, Pairwise}
+use Rattle.shared_book.specs.FenceLaw.{Slot, FenceLaw, Fits, AreApart, IsCore, AreClaimed, HasSeenOwn, HoldsTurn, no_marks}
+use Rattle.shared_book.specs.Steps.{SeatView, HasFound, Takes, holding, missing}
+use Rattle.shared_book.proofs.ViewLists.{everywhere_set, pairwise_set, somewhere_set, somewhere_here}
+use Rattle.shared_book.proofs.Histories.{claim_kept, all_below}
+
+-- no is not yes
+pub off : false ≡ true → ⊥
+off e = true≢false (sym e)
+
+-- a count that rose has risen where it goes on
+pub rose_on : (a b c : ℕ) → Rose a b → b ≤ c → Rose a c
+rose_on a b c rose le = omega (arith, rose, le)
+
+-- at most what is at most this
+pub le_on : (a b c : ℕ) → a ≤ b → b ≤ c → a ≤ c
+le_on a b c p q = omega (arith, p, q)
+
+-- two views that are apart are apart the other way round
+pub apart_sym : (v w : View) → AreApart v w → AreApart w v
+apart_sym v w a = record {
+  turn = λ x y. a.turn y x;
+  leases = λ s x y. a.leases s y x;
+  own = λ k x y. a.own k y x;
+  numbers = λ n x y. a.numbers n y x;
+}
+
+-- a view without the turn still fits where the history goes on and the count does not fall
+pub fits_on : (basis : Basis) (h k : List Entry) (turn count turn' count' : ℕ) (u : View) → Fits basis h turn count u
+    → (u.turn ≡ true → ⊥) → Begins h k → count ≤ count' → HasSeenOwn k u → Fits basis k turn' count' u
+fits_on basis h k turn count turn' count' u f quiet grows more seen_own = record {
+  same = f.same;
+  spent = f.spent;
+  begins = Begins-trans u.front h k f.begins grows;
+  reaches = f.reaches;
+  met = f.met;
+  holds = λ r. absurd (quiet r);
+  claimed = f.claimed;
+  once = f.once;
+  seen_own = seen_own;
+  own = f.own;
+  own_ascend = f.own_ascend;
+  numbers = f.numbers;
+  numbers_ascend = f.numbers_ascend;
+  only_looks = f.only_looks;
+  failed = λ p. rose_on basis.count count count' (f.failed p) more;
+}
+
+-- no other view has the turn
+pub alone : (basis : Basis) (s : State Slot View) (f : FenceLaw basis s) (id : ℕ) (v : View) → get_elem? s.views id ≡ some v
+    → v.turn ≡ true → (i : ℕ) (u : View) → i ≢ id → get_elem? s.views i ≡ some u → u.turn ≡ true → ⊥
+alone basis s f id v at t i u o e r = (f.apart id i v u at e (λ x. o (sym x))).turn t r
+
+-- what has to be shown of a step that takes the turn, or misses it, where it found this number
+abbrev Taken : Basis → ℕ → ℕ → ℕ → View → State Slot View → ℕ → Type 0
+Taken basis slots id number v s n =
+    (w : View) × (a : Act Slot) × Valid s.homes [] a
+    × FenceLaw basis (stepped s 1 (either (eqb n 0) (number + 1) n) id [] w a)
+    × Takes (step slots 1 0 (number + 1) none) (v, []) n (w, carried_after [] a)
+
+-- a word that is set to what it is
+same_words : (ws : List ℕ) (a t : ℕ) → ws ≡ a ∷ t ∷ no_marks → slice_set ws 1 t ≡ a ∷ t ∷ no_marks
+same_words ws a t e = ap (λ l. slice_set l 1 t) e
+
+-- the turn is taken where the word is 0
+took : (basis : Basis) (slots id number : ℕ) (ns : List ℕ) (v : View) → v.numbers ≡ number ∷ ns → v.turn ≡ false
+    → v.live ≡ true → (s : State Slot View) → (f : FenceLaw basis s) → get_elem? s.views id ≡ some v → f.turn ≡ 0
+    → Taken basis slots id number v s 0
+took basis slots id number ns v num quiet live s f at is =
+    let h = f.history in
+    let home = f.home is in
+    let b = home.0 in
+    let core = home.2 in
+    let w = holding v b in
+    let fit = f.views id v at in
+    let base : v.basis ≡ basis = fit.same live in
+    let reach : Begins v.front b.history = subst (Begins v.front) (sym core.whole) fit.begins in
+    let longer = Begins-length v.front b.history reach in
+    let claimed : AreClaimed b.history v.leases =
+        λ l p. claim_kept v.front b.history l.interval l.seq reach (fit.claimed l p) in
+    let free : (i : ℕ) (u : View) → get_elem? s.views i ≡ some u → u.turn ≡ true → ⊥ =
+        λ i u e r. let k = (f.views i u e).holds r in omega (arith, k.3, is) in (
+      w,
+      takes 0 (Some b),
+      home.1,
+      record {
+        history = h;
+        turn = number + 1;
+        count = b.faults;
+        words = ap (λ l. slice_set l 1 (number + 1)) f.words;
+        holder = λ z. somewhere_here (λ x. x.turn ≡ true) s.views id v w at refl;
+        home = λ z. absurd (omega arith);
+        fenced = f.fenced;
+        legal = f.legal;
+        few = f.few;
+        started = f.started;
+        counted = le_on basis.count f.count b.faults f.counted core.enough;
+        views = everywhere_set (Fits basis h (number + 1) b.faults) s.views id w
+            (record {
+              same = fit.same;
+              spent = fit.spent;
+              begins = subst (λ l. Begins l h) (sym core.whole) (Begins-itself h);
+              reaches = λ x. let o = fit.reaches x in omega (arith, o, longer);
+              met = Begins-trans v.met v.front b.history fit.met reach;
+              holds = λ r. (number, ns, num, omega arith, core.whole, refl);
+              claimed = claimed;
+              once = fit.once;
+              seen_own = λ q p. all_below h b.history q core.whole;
+              own = λ k p. let o = fit.own k p in (o.0, omega (arith, o.1, longer));
+              own_ascend = fit.own_ascend;
+              numbers = fit.numbers;
+              numbers_ascend = fit.numbers_ascend;
+              only_looks = λ e. absurd (some-ne-none number
+                  (sym (ap (λ (l : List ℕ). get_elem? l 0) (sym e ∙ num))));
+              failed = λ p. rose_on basis.count f.count b.faults (fit.failed p) core.enough;
+            })
+            (λ i u o e. fits_on basis h h f.turn f.count (number + 1) b.faults u (f.views i u e) (free i u e)
+                (Begins-itself h) core.enough (f.views i u e).seen_own);
+        apart = pairwise_set AreApart s.views id w f.apart
+            (λ i u o e. let a = f.apart id i v u at e (λ x. o (sym x)) in
+              let n : AreApart w u = record {
+                turn = λ x y. free i u e y; leases = a.leases; own = a.own; numbers = a.numbers
+              } in (n, apart_sym w u n));
+        owned = λ k p q. somewhere_set (λ x. IsIn k x.own) s.views id v w at (λ y. y) (f.owned k p q);
+        numbered = λ n p. somewhere_set (λ x. IsIn n x.numbers) s.views id v w at (λ y. y) (f.numbered n p);
+      },
+      (b, refl, record {
+        begins = reach;
+        claimed = fit.claimed;
+        seen_own = subst (λ l. HasSeenOwn l v) (sym core.whole) fit.seen_own;
+        core = subst (λ (y : Basis). IsCore y b.history b.faults b) (sym base)
+            (record { whole = refl; enough = omega arith; lawful = core.lawful; limit = core.limit; told = core.told });
+      }),
+    )
+
+-- the turn is missed where another has it, or else it is taken
+taken : (basis : Basis) (slots id number : ℕ) (ns : List ℕ) (v : View) → v.numbers ≡ number ∷ ns → v.turn ≡ false
+    → v.live ≡ true → (s : State Slot View) → (f : FenceLaw basis s) → get_elem? s.views id ≡ some v
+    → (t : ℕ) → f.turn ≡ t → Taken basis slots id number v s t
+taken basis slots id number ns v num quiet live s f at zero is = took basis slots id number ns v num quiet live s f at is
+taken basis slots id number ns v num quiet live s f at (suc m) is =
+    let ne : eqb (suc m) 0 ≡ false = ne_eqb (suc m) 0 (λ e. omega arith) in
+    let w = missing v (suc m) in
+    let fit = f.views id v at in
+    rw ne (
+      w,
+      keeps,
+      tt,
+      record {
+        history = f.history;
+        turn = f.turn;
+        count = f.count;
+        words = subst (λ (k : ℕ). slice_set s.words 1 k ≡ length f.history ∷ f.turn ∷ no_marks) is
+            (same_words s.words (length f.history) f.turn f.words);
+        holder = λ z. somewhere_set (λ x. x.turn ≡ true) s.views id v w at (λ y. y) (f.holder z);
+        home = f.home;
+        fenced = f.fenced;
+        legal = f.legal;
+        few = f.few;
+        started = f.started;
+        counted = f.counted;
+        views = everywhere_set (Fits basis f.history f.turn f.count) s.views id w
+            (record {
+              same = fit.same;
+              spent = fit.spent;
+              begins = fit.begins;
+              reaches = fit.reaches;
+              met = fit.met;
+              holds = fit.holds;
+              claimed = fit.claimed;
+              once = fit.once;
+              seen_own = fit.seen_own;
+              own = fit.own;
+              own_ascend = fit.own_ascend;
+              numbers = fit.numbers;
+              numbers_ascend = fit.numbers_ascend;
+              only_looks = fit.only_looks;
+              failed = fit.failed;
+            })
+            (λ i u o e. f.views i u e);
+        apart = pairwise_set AreApart s.views id w f.apart
+            (λ i u o e. let a = f.apart id i v u at e (λ x. o (sym x)) in
+              let n : AreApart w u = record { turn = a.turn; leases = a.leases; own = a.own; numbers = a.numbers } in
+              (n, apart_sym w u n));
+        owned = λ k p q. somewhere_set (λ x. IsIn k x.own) s.views id v w at (λ y. y) (f.owned k p q);
+        numbered = λ n p. somewhere_set (λ x. IsIn n x.numbers) s.views id v w at (λ y. y) (f.numbered n p);
+      },
+      refl,
+    )
+
+-- a seat without the turn may try to take it
+pub takes_turn : (basis : Basis) (slots id number : ℕ) (ns : List ℕ) (v : View) → v.numbers ≡ number ∷ ns
+    → v.turn ≡ false → v.live ≡ true
+    → Allows (FenceLaw basis) slots id (v, []) 1 (λ n. either (eqb n 0) (number + 1) n)
+    (Takes (step slots 1 0 (number + 1) none) (v, []))
+takes_turn basis slots id number ns v num quiet live s f homes at small =
+    let e : slice_index s.words 1 ≡ f.turn = ap (λ l. slice_index l 1) f.words in
+    subst (λ (n : ℕ). Taken basis slots id number v s n) (sym e)
+    (taken basis slots id number ns v num quiet live s f at f.turn refl)

@@ -1,0 +1,25 @@
+use Rattle.std.proofs.Common.{rules, arith, ap, ◌∙◌}
+use Rattle.shared_book.proofs.Told.{may_take, took_turn}
+use Rattle.shared_book.proofs.slots.take.Goals as goal
+
+pub compare_exchange-requires : goal.compare_exchange-requires
+compare_exchange-requires g c =
+    let ids = c.args.shared.now.sized in
+    let table = c.args.shared.now.table.shared in
+    let p = c.args.seat.now in
+    (
+      c.requires.here.table,
+      omega (arith, ids.0),
+      may_take table.key table.table_id.slots p.place.id p.number p.place.me.0 p.place.me.1 p.numbered
+          c.requires.idle.turn p.live c.requires.idle.places,
+    )
+
+pub returns-clause-turn : goal.returns-clause-turn
+returns-clause-turn g c = λ e.
+    let step = c.compare_exchange in
+    (took_turn step.result c.args.seat.now.place.me step.new.seat.me c.requires.idle.places step.ensures.2 e).0
+
+pub returns-clause-taken : goal.returns-clause-taken
+returns-clause-taken g c = λ e.
+    let step = c.compare_exchange in
+    (took_turn step.result c.args.seat.now.place.me step.new.seat.me c.requires.idle.places step.ensures.2 e).1

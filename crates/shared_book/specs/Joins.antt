@@ -1,0 +1,94 @@
+-- What a split and a join make of views. Own.
+use Rattle.std.specs.Prelude.{ℕ, ◌+◌, ◌-◌, List, [], ◌∷◌, ◌++◌, true, false, None, length, drop, nat_le, if◌then◌else◌}
+use Rattle.mw_types.specs.declared.entry.Entry.{Entry}
+use Rattle.run_history.specs.Cases.{CaseShape}
+use Rattle.shared_book.specs.declared.views.Basis.{Basis}
+use Rattle.shared_book.specs.declared.views.View.{View}
+
+-- ---- a note, and a seat of its own
+
+-- the view of a note of a seat: what the seat has seen, and nothing else
+abbrev pub note_of : View → View
+note_of v = record {
+  live = v.live;
+  basis = v.basis;
+  numbers = [];
+  turn = false;
+  count = 0;
+  front = v.front;
+  met = [];
+  own = [];
+  missed = [];
+  faults = 0;
+  leases = [];
+}
+
+-- the first number, where there is one
+abbrev pub first_of : List ℕ → List ℕ
+first_of [] = []
+first_of (n ∷ ns) = n ∷ []
+
+-- all numbers but the first
+abbrev pub others_of : List ℕ → List ℕ
+others_of [] = []
+others_of (n ∷ ns) = ns
+
+-- the view of a seat that gave its first number to a new one
+abbrev pub stays : View → View
+stays v = record v { numbers = others_of v.numbers }
+
+-- the view of the new seat: the number, and what was seen
+abbrev pub leaves : View → View
+leaves v = record (note_of v) { numbers = first_of v.numbers }
+
+-- ---- one view of two
+
+-- a number at its place in an ascending list
+abbrev pub placed : ℕ → List ℕ → List ℕ
+placed x [] = x ∷ []
+placed x (y ∷ ys) = if nat_le x y then x ∷ y ∷ ys else y ∷ placed x ys
+
+-- two ascending lists as one
+abbrev pub merged : List ℕ → List ℕ → List ℕ
+merged xs [] = xs
+merged xs (y ∷ ys) = placed y (merged xs ys)
+
+-- the longer of two beginnings of one history
+abbrev pub longer : List Entry → List Entry → List Entry
+longer one other = one ++ drop (length one) other
+
+-- the view of a seat that took in another: what either has seen, the numbers, own entries and leases of
+-- both, what it missed itself, and the greater count of faults
+abbrev pub joined : View → View → View
+joined v w = record v {
+  numbers = merged v.numbers w.numbers;
+  front = longer v.front w.front;
+  met = w.front;
+  own = merged v.own w.own;
+  faults = v.faults + (w.faults - v.faults);
+  leases = v.leases ++ w.leases;
+}
+
+-- a case of nothing, in the view of a seat that is spent
+abbrev pub no_case : CaseShape
+no_case = record { topology = record { injectors = []; computations = [] }; sources = [] }
+
+-- what no step changes, in a view that is spent
+abbrev pub no_basis : Basis
+no_basis = record { case = no_case; limit = 0; seats = 0; begin = 0; count = 0; told = None }
+
+-- the view of a seat that another took in
+abbrev pub spent : View
+spent = record {
+  live = false;
+  basis = no_basis;
+  numbers = [];
+  turn = false;
+  count = 0;
+  front = [];
+  met = [];
+  own = [];
+  missed = [];
+  faults = 0;
+  leases = [];
+}

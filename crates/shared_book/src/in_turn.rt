@@ -1,0 +1,92 @@
+//! The calls of a book, in a turn: the book is taken out of its place, called, and put back.
+ghost use Rattle.std.specs.Prelude.{◌≡◌, ◌≢◌, IfErr, IfOk, IsErrOf, true, false};
+ghost use Rattle.mw_types.specs.Causes.{Rose};
+ghost use Rattle.book.specs.Answers.{IsFullWhere, IsStaleWhere};
+ghost use Rattle.book.specs.Proposals.{IsProposable};
+ghost use Rattle.book.specs.declared.refusals.WriteRefusal.TheVariants as refusals;
+ghost use Rattle.shared_book.specs.FenceLaw.{AreClaimed, IsCore};
+ghost use Rattle.shared_book.specs.Turns.{HasFaulted, HasTurn, HasWrittenIn, IsHere, IsOut, IsProposedIn, IsRowHeld, MayWrite};
+
+use crate::shared::Shared;
+use crate::slots::{append, fault, home, out};
+use crate::views::View;
+use atomic_table::Seat as Place;
+use book::{Book, Core, Lease, Proposal, WriteRefusal, Written};
+use mw_types::RowName;
+use row_keeper::Keeper;
+use row_parts::Row;
+use std::alloc::Global;
+
+// A write in a turn.
+pub(crate) fn write_in<K: Keeper>(
+    alloc: Global,
+    shared: &Shared<'_, K>,
+    place: &mut Place<Option<Core<K>>, View>,
+    lease: &Lease,
+    name: &RowName,
+    row: &Row,
+    proposal: &Proposal,
+) -> Result<Written, WriteRefusal>
+    requires here { IsHere shared.now.table.shared.table_id shared.now.case.now place.old }
+    requires turn { HasTurn place.old.me }
+    requires lease { MayWrite place.old.me.0 lease.now name.now }
+    requires row { IsRowHeld place.old.me.0 lease.now name.now row.now }
+    requires proposal { IsProposable shared.now.case.now name.now row.now proposal.now }
+    requires seen { IsProposedIn place.old.me.0 name.now proposal.now }
+
+    ensures here { IsHere shared.now.table.shared.table_id shared.now.case.now place.new }
+    ensures turn { HasTurn place.new.me }
+    ensures numbers { place.new.me.0.numbers ≡ place.old.me.0.numbers }
+    ensures written { IfOk result
+        (HasWrittenIn place.old.me.0 place.new.me.0 lease.now name.now proposal.now row.now) }
+    ensures stale { IsStaleWhere place.old.me.0.front lease.now result }
+    ensures full { IsFullWhere place.old.me.0.basis.limit place.old.me.0.front lease.now result }
+    ensures fault { IsErrOf result WriteRefusal.KeeperFault →
+        HasFaulted place.old.me.0 place.new.me.0 }
+    ensures unchanged { IfErr result (λ why. (why ≢ refusals.KeeperFault) →
+        place.new.me.0 ≡ place.old.me.0) }
+{
+    let core = out(shared, place);
+    let mut book = Book::of(shared.case, core);
+    let front = book.history().len() as u64;
+    let result = book.write(alloc, lease, front, name, row, proposal);
+    let (_case, core) = book.into_core();
+    match result {
+        Ok(written) => {
+            append(shared, place, core);
+            Ok(written)
+        }
+        Err(why) => {
+            back(shared, place, core, why == WriteRefusal::KeeperFault);
+            Err(why)
+        }
+    }
+}
+
+// The call was refused: the book goes back as it was, and it is noted where its keeper failed.
+pub(crate) fn back<K: Keeper>(
+    shared: &Shared<'_, K>,
+    place: &mut Place<Option<Core<K>>, View>,
+    core: Core<K>,
+    failed: bool,
+)
+    requires table { place.old.table_id ≡ shared.now.table.shared.table_id }
+    requires live { place.old.me.0.live ≡ true }
+    requires out { IsOut place.old.me }
+    requires core { let v = place.old.me.0 in IsCore v.basis v.front v.count core }
+    requires claimed { AreClaimed place.old.me.0.front place.old.me.0.leases }
+    requires rose { failed ≡ true → Rose place.old.me.0.count core.faults }
+    ensures table { place.new.table_id ≡ shared.now.table.shared.table_id }
+    ensures turn { HasTurn place.new.me }
+    ensures same { failed ≡ false → place.new.me.0 ≡ place.old.me.0 }
+    ensures fault { failed ≡ true → HasFaulted place.old.me.0 place.new.me.0 }
+    ensures basis { place.new.me.0.basis ≡ place.old.me.0.basis }
+    ensures live { place.new.me.0.live ≡ true }
+    ensures numbers { place.new.me.0.numbers ≡ place.old.me.0.numbers }
+{
+    if failed {
+        fault(shared, place, core);
+    } else {
+        home(shared, place, core);
+    }
+}

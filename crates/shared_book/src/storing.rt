@@ -1,0 +1,109 @@
+//! What a sender settles, and a row forgets, in a turn.
+ghost use Rattle.std.specs.Prelude.{◌≡◌, ◌≢◌, IfErr, IfOk, IsErrOf};
+ghost use Rattle.mw_types.specs.declared.entry.Entry.TheVariants.{Ack, Purge};
+ghost use Rattle.book.specs.Answers.{IsFullWhere, IsStaleWhere};
+ghost use Rattle.book.specs.Conditions.{MayForget, MaySettle};
+ghost use Rattle.book.specs.declared.refusals.WriteRefusal.TheVariants as refusals;
+ghost use Rattle.shared_book.specs.Turns.{HasFaulted, HasStoredIn, HasTurn, IsHere, IsRowHeld, MayWrite};
+
+use crate::in_turn::back;
+use crate::shared::Shared;
+use crate::slots::{append, out};
+use crate::views::View;
+use atomic_table::Seat as Place;
+use book::{Book, Core, Lease, WriteRefusal, Written};
+use mw_types::{RecordId, RowName};
+use row_keeper::Keeper;
+use row_parts::Row;
+use std::alloc::Global;
+
+// An id is settled in a turn.
+pub(crate) fn settle_in<K: Keeper>(
+    alloc: Global,
+    shared: &Shared<'_, K>,
+    place: &mut Place<Option<Core<K>>, View>,
+    lease: &Lease,
+    name: &RowName,
+    row: &Row,
+    id: RecordId,
+) -> Result<Written, WriteRefusal>
+    requires here { IsHere shared.now.table.shared.table_id shared.now.case.now place.old }
+    requires turn { HasTurn place.old.me }
+    requires lease { MayWrite place.old.me.0 lease.now name.now }
+    requires row { IsRowHeld place.old.me.0 lease.now name.now row.now }
+    requires id { let v = place.old.me.0 in MaySettle v.basis.told v.front row.now id }
+
+    ensures here { IsHere shared.now.table.shared.table_id shared.now.case.now place.new }
+    ensures turn { HasTurn place.new.me }
+    ensures numbers { place.new.me.0.numbers ≡ place.old.me.0.numbers }
+    ensures written { let entry = Ack lease.now.seq name.now id in IfOk result
+        (HasStoredIn place.old.me.0 place.new.me.0 lease.now name.now entry row.now) }
+    ensures stale { IsStaleWhere place.old.me.0.front lease.now result }
+    ensures full { IsFullWhere place.old.me.0.basis.limit place.old.me.0.front lease.now result }
+    ensures fault { IsErrOf result WriteRefusal.KeeperFault →
+        HasFaulted place.old.me.0 place.new.me.0 }
+    ensures unchanged { IfErr result (λ why. (why ≢ refusals.KeeperFault) →
+        place.new.me.0 ≡ place.old.me.0) }
+{
+    let core = out(shared, place);
+    let mut book = Book::of(shared.case, core);
+    let front = book.history().len() as u64;
+    let result = book.settle(alloc, lease, front, name, row, id);
+    let (_case, core) = book.into_core();
+    match result {
+        Ok(written) => {
+            append(shared, place, core);
+            Ok(written)
+        }
+        Err(why) => {
+            back(shared, place, core, why == WriteRefusal::KeeperFault);
+            Err(why)
+        }
+    }
+}
+
+// A row is purged in a turn.
+pub(crate) fn purge_in<K: Keeper>(
+    alloc: Global,
+    shared: &Shared<'_, K>,
+    place: &mut Place<Option<Core<K>>, View>,
+    lease: &Lease,
+    name: &RowName,
+    row: &Row,
+    floor: u64,
+) -> Result<Written, WriteRefusal>
+    requires here { IsHere shared.now.table.shared.table_id shared.now.case.now place.old }
+    requires turn { HasTurn place.old.me }
+    requires lease { MayWrite place.old.me.0 lease.now name.now }
+    requires row { IsRowHeld place.old.me.0 lease.now name.now row.now }
+    requires floor { let v = place.old.me.0 in
+        MayForget v.basis.case v.basis.told v.front name.now row.now floor }
+
+    ensures here { IsHere shared.now.table.shared.table_id shared.now.case.now place.new }
+    ensures turn { HasTurn place.new.me }
+    ensures numbers { place.new.me.0.numbers ≡ place.old.me.0.numbers }
+    ensures written { let entry = Purge lease.now.seq name.now floor in IfOk result
+        (HasStoredIn place.old.me.0 place.new.me.0 lease.now name.now entry row.now) }
+    ensures stale { IsStaleWhere place.old.me.0.front lease.now result }
+    ensures full { IsFullWhere place.old.me.0.basis.limit place.old.me.0.front lease.now result }
+    ensures fault { IsErrOf result WriteRefusal.KeeperFault →
+        HasFaulted place.old.me.0 place.new.me.0 }
+    ensures unchanged { IfErr result (λ why. (why ≢ refusals.KeeperFault) →
+        place.new.me.0 ≡ place.old.me.0) }
+{
+    let core = out(shared, place);
+    let mut book = Book::of(shared.case, core);
+    let front = book.history().len() as u64;
+    let result = book.purge(alloc, lease, front, name, row, floor);
+    let (_case, core) = book.into_core();
+    match result {
+        Ok(written) => {
+            append(shared, place, core);
+            Ok(written)
+        }
+        Err(why) => {
+            back(shared, place, core, why == WriteRefusal::KeeperFault);
+            Err(why)
+        }
+    }
+}

@@ -1,0 +1,173 @@
+//! The calls of a turn, on a caller's seat.
+ghost use Rattle.std.specs.Prelude.{◌≡◌, ◌≢◌, ◌↔◌, IfErr, IfOk, IfSome, IsErrOf, [], length};
+ghost use Rattle.mw_types.specs.declared.entry.Entry.TheVariants.{Ack, Purge};
+ghost use Rattle.run_history.specs.Finished.{unfinished};
+ghost use Rattle.run_history.specs.Legal.{MayClaim};
+ghost use Rattle.run_history.specs.Runs.{run_of};
+ghost use Rattle.book.specs.Answers.{IsFullWhere, IsStaleWhere};
+ghost use Rattle.book.specs.Claims.{IsDamaged};
+ghost use Rattle.book.specs.Conditions.{MayForget, MaySettle};
+ghost use Rattle.book.specs.Proposals.{IsProposable};
+ghost use Rattle.book.specs.declared.refusals.ClaimRefusal.TheVariants as claims;
+ghost use Rattle.book.specs.declared.refusals.WriteRefusal.TheVariants as refusals;
+ghost use Rattle.shared_book.specs.Steps.{idle};
+ghost use Rattle.shared_book.specs.Turns.{HasClaimedIn, HasFaulted, HasStoredIn, HasTurn, HasWrittenIn, IsHere, IsProposedIn, IsRowHeld, MayWrite};
+
+use crate::claiming::{claim_in, unfinished_in};
+use crate::in_turn::write_in;
+use crate::seats::Seat;
+use crate::shared::Shared;
+use crate::slots::give;
+use crate::storing::{purge_in, settle_in};
+use book::{ClaimRefusal, Claimed, Lease, Proposal, WriteRefusal, Written};
+use mw_types::{RecordId, RowName};
+use row_keeper::Keeper;
+use row_parts::Row;
+use std::alloc::Global;
+
+// A claim in a turn.
+pub(crate) fn claim_at<K: Keeper>(
+    alloc: Global,
+    shared: &Shared<'_, K>,
+    seat: &mut Seat<K>,
+    worker: u32,
+    interval: u32,
+) -> Result<Claimed, ClaimRefusal>
+    requires here { IsHere shared.now.table.shared.table_id shared.now.case.now seat.old.place }
+    requires turn { HasTurn seat.old.place.me }
+    requires may { MayClaim shared.now.case.now worker interval }
+
+    ensures here { IsHere shared.now.table.shared.table_id shared.now.case.now seat.new.place }
+    ensures turn { HasTurn seat.new.place.me }
+    ensures claimed { IfOk result
+        (HasClaimedIn seat.old.place.me.0 seat.new.place.me.0 worker interval) }
+    ensures full { IsErrOf result ClaimRefusal.HistoryFull ↔
+        (length seat.old.place.me.0.front ≡ seat.old.place.me.0.basis.limit) }
+    ensures damaged { let v = seat.old.place.me.0 in
+        IfErr result (IsDamaged v.basis.case v.basis.told (length v.front)) }
+    ensures fault { IsErrOf result ClaimRefusal.KeeperFault →
+        HasFaulted seat.old.place.me.0 seat.new.place.me.0 }
+    ensures unchanged { IfErr result (λ why. (why ≢ claims.KeeperFault) →
+        seat.new.place.me.0 ≡ seat.old.place.me.0) }
+{
+    claim_in(alloc, shared, &mut seat.place, worker, interval)
+}
+
+// A write in a turn.
+pub(crate) fn write_at<K: Keeper>(
+    alloc: Global,
+    shared: &Shared<'_, K>,
+    seat: &mut Seat<K>,
+    lease: &Lease,
+    name: &RowName,
+    row: &Row,
+    proposal: &Proposal,
+) -> Result<Written, WriteRefusal>
+    requires here { IsHere shared.now.table.shared.table_id shared.now.case.now seat.old.place }
+    requires turn { HasTurn seat.old.place.me }
+    requires lease { MayWrite seat.old.place.me.0 lease.now name.now }
+    requires row { IsRowHeld seat.old.place.me.0 lease.now name.now row.now }
+    requires proposal { IsProposable shared.now.case.now name.now row.now proposal.now }
+    requires seen { IsProposedIn seat.old.place.me.0 name.now proposal.now }
+
+    ensures here { IsHere shared.now.table.shared.table_id shared.now.case.now seat.new.place }
+    ensures turn { HasTurn seat.new.place.me }
+    ensures written { IfOk result (HasWrittenIn seat.old.place.me.0 seat.new.place.me.0
+        lease.now name.now proposal.now row.now) }
+    ensures stale { IsStaleWhere seat.old.place.me.0.front lease.now result }
+    ensures full { IsFullWhere seat.old.place.me.0.basis.limit seat.old.place.me.0.front
+        lease.now result }
+    ensures fault { IsErrOf result WriteRefusal.KeeperFault →
+        HasFaulted seat.old.place.me.0 seat.new.place.me.0 }
+    ensures unchanged { IfErr result (λ why. (why ≢ refusals.KeeperFault) →
+        seat.new.place.me.0 ≡ seat.old.place.me.0) }
+{
+    write_in(alloc, shared, &mut seat.place, lease, name, row, proposal)
+}
+
+// An id is settled in a turn.
+pub(crate) fn settle_at<K: Keeper>(
+    alloc: Global,
+    shared: &Shared<'_, K>,
+    seat: &mut Seat<K>,
+    lease: &Lease,
+    name: &RowName,
+    row: &Row,
+    id: RecordId,
+) -> Result<Written, WriteRefusal>
+    requires here { IsHere shared.now.table.shared.table_id shared.now.case.now seat.old.place }
+    requires turn { HasTurn seat.old.place.me }
+    requires lease { MayWrite seat.old.place.me.0 lease.now name.now }
+    requires row { IsRowHeld seat.old.place.me.0 lease.now name.now row.now }
+    requires id { let v = seat.old.place.me.0 in MaySettle v.basis.told v.front row.now id }
+
+    ensures here { IsHere shared.now.table.shared.table_id shared.now.case.now seat.new.place }
+    ensures turn { HasTurn seat.new.place.me }
+    ensures written { let entry = Ack lease.now.seq name.now id in IfOk result
+        (HasStoredIn seat.old.place.me.0 seat.new.place.me.0 lease.now name.now entry row.now) }
+    ensures stale { IsStaleWhere seat.old.place.me.0.front lease.now result }
+    ensures full { IsFullWhere seat.old.place.me.0.basis.limit seat.old.place.me.0.front
+        lease.now result }
+    ensures fault { IsErrOf result WriteRefusal.KeeperFault →
+        HasFaulted seat.old.place.me.0 seat.new.place.me.0 }
+    ensures unchanged { IfErr result (λ why. (why ≢ refusals.KeeperFault) →
+        seat.new.place.me.0 ≡ seat.old.place.me.0) }
+{
+    settle_in(alloc, shared, &mut seat.place, lease, name, row, id)
+}
+
+// A row is purged in a turn.
+pub(crate) fn purge_at<K: Keeper>(
+    alloc: Global,
+    shared: &Shared<'_, K>,
+    seat: &mut Seat<K>,
+    lease: &Lease,
+    name: &RowName,
+    row: &Row,
+    floor: u64,
+) -> Result<Written, WriteRefusal>
+    requires here { IsHere shared.now.table.shared.table_id shared.now.case.now seat.old.place }
+    requires turn { HasTurn seat.old.place.me }
+    requires lease { MayWrite seat.old.place.me.0 lease.now name.now }
+    requires row { IsRowHeld seat.old.place.me.0 lease.now name.now row.now }
+    requires floor { let v = seat.old.place.me.0 in
+        MayForget v.basis.case v.basis.told v.front name.now row.now floor }
+
+    ensures here { IsHere shared.now.table.shared.table_id shared.now.case.now seat.new.place }
+    ensures turn { HasTurn seat.new.place.me }
+    ensures written { let entry = Purge lease.now.seq name.now floor in IfOk result
+        (HasStoredIn seat.old.place.me.0 seat.new.place.me.0 lease.now name.now entry row.now) }
+    ensures stale { IsStaleWhere seat.old.place.me.0.front lease.now result }
+    ensures full { IsFullWhere seat.old.place.me.0.basis.limit seat.old.place.me.0.front
+        lease.now result }
+    ensures fault { IsErrOf result WriteRefusal.KeeperFault →
+        HasFaulted seat.old.place.me.0 seat.new.place.me.0 }
+    ensures unchanged { IfErr result (λ why. (why ≢ refusals.KeeperFault) →
+        seat.new.place.me.0 ≡ seat.old.place.me.0) }
+{
+    purge_in(alloc, shared, &mut seat.place, lease, name, row, floor)
+}
+
+// A count of what is left, in a turn.
+pub(crate) fn unfinished_at<K: Keeper>(shared: &Shared<'_, K>, seat: &mut Seat<K>) -> u64
+    requires here { IsHere shared.now.table.shared.table_id shared.now.case.now seat.old.place }
+    requires turn { HasTurn seat.old.place.me }
+
+    ensures here { IsHere shared.now.table.shared.table_id shared.now.case.now seat.new.place }
+    ensures turn { HasTurn seat.new.place.me }
+    ensures view { seat.new.place.me.0 ≡ seat.old.place.me.0 }
+    ensures left { let v = seat.old.place.me.0 in IfSome v.basis.told
+        (λ _. result ≡ unfinished v.basis.case (run_of v.basis.case.topology v.front)) }
+{
+    unfinished_in(shared, &mut seat.place)
+}
+
+// The turn is given back.
+pub(crate) fn give_at<K: Keeper>(shared: &Shared<'_, K>, seat: &mut Seat<K>)
+    requires here { IsHere shared.now.table.shared.table_id shared.now.case.now seat.old.place }
+    requires turn { HasTurn seat.old.place.me }
+    ensures table { seat.new.place.table_id ≡ seat.old.place.table_id }
+    ensures view { seat.new.place.me ≡ (idle seat.old.place.me.0, []) }
+{
+    give(shared, &mut seat.place);
+}
