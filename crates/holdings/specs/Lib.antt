@@ -5,3 +5,4 @@ pub mod Firsts
 pub mod Timers
 pub mod Purges
 pub mod Pendings
+pub mod Indexes

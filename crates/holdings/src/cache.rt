@@ -1,5 +1,5 @@
 //! The rows of one interval that are cached.
-ghost use Rattle.std.specs.Prelude.{◌≡◌, ◌++◌, IfOk, IsSome, None, OnErr, OnOk, fold, map, min, option_copied};
+ghost use Rattle.std.specs.Prelude.{◌≡◌, ◌++◌, IfOk, IsSome, None, OnErr, OnOk, fold, map, option_copied};
 ghost use Rattle.std.specs.List.{flat_map};
 ghost use Rattle.std.specs.List.Sorted.{IsStrictlySortedBy};
 ghost use Rattle.std.specs.Map.{lookup, set_value};
@@ -8,22 +8,21 @@ ghost use Rattle.mw_types.specs.Orders.{row_cmp};
 ghost use Rattle.mw_types.specs.declared.identity.RowName.{RowName};
 ghost use Rattle.row_parts.specs.Contents.{Contents};
 ghost use Rattle.row_parts.specs.Places.{IsHitOrGap};
-ghost use Rattle.run_history.specs.Marks.{row_marks};
 ghost use Rattle.run_history.specs.Runs.{cached, row_in};
-ghost use Rattle.run_history.specs.Watermarks.{least};
 ghost use Rattle.book.specs.Claims.{named};
 ghost use Rattle.book.specs.declared.answers.NamedRow.{NamedRow};
 ghost use Rattle.holdings.specs.Firsts.{earlier};
+ghost use Rattle.holdings.specs.Indexes.{HasStamped, IsIndexOf};
 ghost use Rattle.holdings.specs.Pendings.{ArePendingIn, sent_in};
 ghost use Rattle.holdings.specs.Purges.{IsFirstToPurge, by_name, forgets, seen_name};
 ghost use Rattle.holdings.specs.Timers.{IsFirstSeen, due_cmp, seen_of, timer_of};
 
 use crate::first_timer::earlier;
+use crate::index::Index;
 use crate::pending::{SentList, push_row};
-use crate::row_work::row_work;
 use crate::to_purge::earlier_name;
 use book::{NamedRow, NamedRowList};
-use mw_types::{END, NoMemory, RowName, Timer};
+use mw_types::{NoMemory, RowName, Timer};
 use row_parts::Row;
 use std::alloc::Global;
 use std::collections::BTreeMap;
@@ -93,11 +92,14 @@ impl Cache {
         }
     }
 
-    // The oldest work of all rows, or the end where there is none.
-    pub(crate) fn oldest(&self) -> u64
-        ensures { result ≡ least (flat_map (λ (r : RowName × Contents). row_marks r.1) self.now) }
+    // What is kept beside the rows, made anew.
+    pub(crate) fn index(&self, alloc: Global) -> Result<Index, NoMemory>
+        ensures { IfOk result (IsIndexOf self.now) }
     {
-        oldest_beside(&self.others, oldest_in(&self.answered))
+        let mut index = Index::new(alloc);
+        index_in(&mut index, &self.answered)?;
+        index_beside(&mut index, &self.others)?;
+        Ok(index)
     }
 
     // The first timer of all rows, with the name of its row, or none where no row has a timer.
@@ -205,27 +207,24 @@ fn first_beside<'a>(
     best
 }
 
-// The oldest work of the rows of a list.
-fn oldest_in(rows: &[NamedRow]) -> u64
-    ensures { result ≡ least (map (λ (r : NamedRow). least (row_marks r.row)) rows.now) }
+// Keeps what there is of the rows of a list.
+fn index_in(index: &mut Index, rows: &[NamedRow]) -> Result<(), NoMemory>
+    ensures work { OnOk result (HasStamped (map named rows.now) index.old.work index.new.work) }
 {
-    let mut oldest = END;
     for row in rows {
-        oldest = oldest.min(row_work(&row.row));
+        index.add(&row.row)?;
     }
-    oldest
+    Ok(())
 }
 
-// The lesser of a mark and the oldest work of the rows of a map.
-fn oldest_beside(rows: &BTreeMap<RowName, Row>, mark: u64) -> u64
-    ensures { result ≡ min mark (least
-        (map (λ (r : RowName × Contents). least (row_marks r.1)) rows.now.entries)) }
+// Keeps what there is of the rows of a map.
+fn index_beside(index: &mut Index, rows: &BTreeMap<RowName, Row>) -> Result<(), NoMemory>
+    ensures work { OnOk result (HasStamped rows.now.entries index.old.work index.new.work) }
 {
-    let mut oldest = mark;
     for (_, row) in rows {
-        oldest = oldest.min(row_work(row));
+        index.add(row)?;
     }
-    oldest
+    Ok(())
 }
 
 // The place of a name's row among rows that ascend by name; `Err` has the place where it would

@@ -9,7 +9,7 @@ ghost use Rattle.holdings.specs.Pendings.{ArePendingIn};
 ghost use Rattle.holdings.specs.Purges.{IsFirstToPurge};
 ghost use Rattle.holdings.specs.Timers.{IsFirstSeen, seen_of};
 
-use crate::cache::Cache;
+use crate::indexed::Indexed;
 use crate::pending::SentList;
 use book::Lease;
 use mw_types::{Duplicate, NoMemory, RowName, Timer};
@@ -22,7 +22,7 @@ use std::marker::Model;
 #[derive(Drop)]
 pub struct Held {
     pub(crate) lease: Lease,
-    pub(crate) rows: Cache,
+    pub(crate) rows: Indexed,
 }
 
 impl Model for Held {

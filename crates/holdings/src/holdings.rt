@@ -84,7 +84,7 @@ impl Holdings {
     }
 
     // Takes what is held of an interval out of its place.
-    fn take(&mut self, interval: u32) -> Held
+    pub(crate) fn take(&mut self, interval: u32) -> Held
         requires there { IsSome (held_at self.old interval) }
         ensures taken { held_at self.old interval ≡ Some result }
         ensures gone { self.new ≡ slice_set self.old interval None }
