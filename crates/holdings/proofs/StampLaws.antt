@@ -1,7 +1,7 @@
 -- The stamps of rows, one a row: they are changed with one row, and the least of them is the oldest work.
 use Rattle.std.proofs.Common.{◌≡◌, ◌≢◌, ◌<◌, ◌≤◌, ◌+◌, ◌-◌, ℕ, zero, suc, List, [], ◌∷◌, length, map, refl, sym, ◌∙◌, ap, subst, arith, inl, inr, sum_by}
 use Rattle.std.specs.Prelude.{Contains, Err, IfOk, IfSome, None, Ok, OnOk, Option, Result, Some, unwrap_or}
-use Rattle.std.specs.Option.{option_map}
+use Rattle.std.specs.Option.{option_and_then, option_map}
 use Rattle.std.specs.Result.{result_ok}
 use Rattle.std.specs.List.{flat_map}
 use Rattle.std.specs.List.Sorted.{IsPermutation, IsStrictlySortedBy}
@@ -24,9 +24,13 @@ use Rattle.history_laws.proofs.LowLaws.{least-end}
 use Rattle.book.specs.Claims.{named}
 use Rattle.book.specs.declared.answers.NamedRow.{NamedRow}
 use Rattle.holdings.specs.Caching.{AreOrdered, merged}
+use Rattle.holdings.specs.Dues.{due_name, due_of, due_order}
+use Rattle.holdings.specs.Keyed.{HasRekeyed}
 use Rattle.holdings.specs.Indexes.{AreLeft, AreStamps, HasRestamped, HasStamped, IsIndexOf, IsIndexed, work_of}
 use Rattle.holdings.specs.declared.index.Index.{Index}
 use Rattle.holdings.proofs.CacheLaws.{lookup-behind, lookup-merged, merged-ordered}
+use Rattle.holdings.proofs.DueLaws.{due_placed, due_tie}
+use Rattle.holdings.proofs.KeyLaws.{keys-put}
 use Rattle.holdings.proofs.HeldPlaces.{number_or_not}
 use Rattle.holdings.proofs.WorkLaws.{before-none, least-flat_map}
 
@@ -231,12 +235,16 @@ pub index-put : (rows : List (RowName × Contents)) (name : RowName) (row : Cont
     (result : Result Index NoMemory) → IsStrictlySortedBy row_cmp (keys_of rows) → IsIndexOf rows old
     → before ≡ row_in (cached rows) name
     → IfOk result (λ new. HasRestamped (option_map work_of before) (work_of row) old.work new.work)
+    → IfOk result (λ new. HasRekeyed due_order (option_and_then (due_of name) before) (due_of name row) old.dues.entries new.dues.entries)
     → IfSome (result_ok result) (IsIndexOf (insert_entry row_cmp rows name row))
-index-put rows name row before old (Ok new) ordered are is has = record {
+index-put rows name row before old (Ok new) ordered are is has keyed = record {
   work = stamps-put rows name row old.work new.work ordered are.work
       (subst (λ (o : Option Contents). HasRestamped (option_map work_of o) (work_of row) old.work new.work) is has);
+  dues = keys-put due_order due_name due_of due_placed due_tie rows name row old.dues.entries new.dues.entries are.dues
+      (subst (λ (o : Option Contents). HasRekeyed due_order (option_and_then (due_of name) o) (due_of name row) old.dues.entries new.dues.entries)
+      is keyed);
 }
-index-put rows name row before old (Err want) ordered are is has = tt
+index-put rows name row before old (Err want) ordered are is has keyed = tt
 
 -- rows and index after a row is put
 pub indexed-put : (rows after : List (RowName × Contents)) (name : RowName) (row : Contents) (index : Option Index)

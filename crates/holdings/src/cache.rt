@@ -2,7 +2,7 @@
 ghost use Rattle.std.specs.Prelude.{◌≡◌, ◌++◌, IfOk, IsSome, None, OnErr, OnOk, fold, map, option_copied};
 ghost use Rattle.std.specs.List.{flat_map};
 ghost use Rattle.std.specs.List.Sorted.{IsStrictlySortedBy};
-ghost use Rattle.std.specs.Map.{lookup, set_value};
+ghost use Rattle.std.specs.Map.{keys_of, lookup, set_value};
 ghost use Rattle.std.specs.BTreeMap.{insert_entry, is_at};
 ghost use Rattle.mw_types.specs.Orders.{row_cmp};
 ghost use Rattle.mw_types.specs.declared.identity.RowName.{RowName};
@@ -15,14 +15,14 @@ ghost use Rattle.holdings.specs.Firsts.{earlier};
 ghost use Rattle.holdings.specs.Indexes.{HasStamped, IsIndexOf};
 ghost use Rattle.holdings.specs.Pendings.{ArePendingIn, sent_in};
 ghost use Rattle.holdings.specs.Purges.{IsFirstToPurge, by_name, forgets, seen_name};
-ghost use Rattle.holdings.specs.Timers.{IsFirstSeen, due_cmp, seen_of, timer_of};
+ghost use Rattle.holdings.specs.Dues.{due_of, due_order};
+ghost use Rattle.holdings.specs.Keyed.{HasKeyed};
 
-use crate::first_timer::earlier;
 use crate::index::Index;
 use crate::pending::{SentList, push_row};
 use crate::to_purge::earlier_name;
 use book::{NamedRow, NamedRowList};
-use mw_types::{NoMemory, RowName, Timer};
+use mw_types::{NoMemory, RowName};
 use row_parts::Row;
 use std::alloc::Global;
 use std::collections::BTreeMap;
@@ -97,16 +97,9 @@ impl Cache {
         ensures { IfOk result (IsIndexOf self.now) }
     {
         let mut index = Index::new(alloc);
-        index_in(&mut index, &self.answered)?;
-        index_beside(&mut index, &self.others)?;
+        index_in(alloc, &mut index, &self.answered)?;
+        index_beside(alloc, &mut index, &self.others)?;
         Ok(index)
-    }
-
-    // The first timer of all rows, with the name of its row, or none where no row has a timer.
-    pub(crate) fn first_timer(&self) -> Option<(&RowName, Timer)>
-        ensures { IsFirstSeen self.now (seen_of result) }
-    {
-        first_beside(&self.others, first_in(&self.answered))
     }
 
     // All that is pending in the rows.
@@ -126,17 +119,6 @@ impl Cache {
         let first = purge_in(&self.answered, floor, least);
         purge_beside(&self.others, first, floor, least)
     }
-}
-
-// The first timer of the rows of a list.
-fn first_in(rows: &[NamedRow]) -> Option<(&RowName, Timer)>
-    ensures { seen_of result ≡ fold (earlier timer_of due_cmp) None (map named rows.now) }
-{
-    let mut best = None;
-    for row in rows {
-        best = earlier(best, &row.name, &row.row);
-    }
-    best
 }
 
 // Appends what is pending in the rows of a list.
@@ -192,37 +174,32 @@ fn purge_beside<'a>(
     best
 }
 
-// The earlier of a timer and the first of the rows of a map.
-fn first_beside<'a>(
-    rows: &'a BTreeMap<RowName, Row>,
-    first: Option<(&'a RowName, Timer)>,
-) -> Option<(&'a RowName, Timer)>
-    ensures { seen_of result
-        ≡ fold (earlier timer_of due_cmp) (seen_of first.entry) rows.now.entries }
-{
-    let mut best = first;
-    for (name, row) in rows {
-        best = earlier(best, name, row);
-    }
-    best
-}
-
 // Keeps what there is of the rows of a list.
-fn index_in(index: &mut Index, rows: &[NamedRow]) -> Result<(), NoMemory>
+fn index_in(alloc: Global, index: &mut Index, rows: &[NamedRow]) -> Result<(), NoMemory>
+    requires ordered { IsStrictlySortedBy due_order (keys_of index.old.dues.entries) }
     ensures work { OnOk result (HasStamped (map named rows.now) index.old.work index.new.work) }
+    ensures dues { OnOk result (HasKeyed due_order due_of (map named rows.now)
+        index.old.dues.entries index.new.dues.entries) }
 {
     for row in rows {
-        index.add(&row.row)?;
+        index.add(alloc, &row.name, &row.row)?;
     }
     Ok(())
 }
 
 // Keeps what there is of the rows of a map.
-fn index_beside(index: &mut Index, rows: &BTreeMap<RowName, Row>) -> Result<(), NoMemory>
+fn index_beside(
+    alloc: Global,
+    index: &mut Index,
+    rows: &BTreeMap<RowName, Row>,
+) -> Result<(), NoMemory>
+    requires ordered { IsStrictlySortedBy due_order (keys_of index.old.dues.entries) }
     ensures work { OnOk result (HasStamped rows.now.entries index.old.work index.new.work) }
+    ensures dues { OnOk result (HasKeyed due_order due_of rows.now.entries
+        index.old.dues.entries index.new.dues.entries) }
 {
-    for (_, row) in rows {
-        index.add(row)?;
+    for (name, row) in rows {
+        index.add(alloc, name, row)?;
     }
     Ok(())
 }

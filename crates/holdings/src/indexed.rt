@@ -14,13 +14,15 @@ ghost use Rattle.book.specs.declared.answers.NamedRow.{NamedRow};
 ghost use Rattle.holdings.specs.Indexes.{IsIndexOf};
 ghost use Rattle.holdings.specs.Pendings.{ArePendingIn};
 ghost use Rattle.holdings.specs.Purges.{IsFirstToPurge};
-ghost use Rattle.holdings.specs.Timers.{IsFirstSeen, seen_of};
+ghost use Rattle.holdings.specs.Timers.{IsFirstTimer};
 
 use crate::cache::Cache;
+use crate::due::first_timer;
+use crate::first_timer::RowTimer;
 use crate::index::{Index, changed};
 use crate::pending::SentList;
 use book::NamedRowList;
-use mw_types::{NoMemory, RowName, Timer};
+use mw_types::{NoMemory, RowName};
 use row_parts::Row;
 use std::alloc::Global;
 use std::marker::Model;
@@ -67,25 +69,25 @@ impl Indexed {
     }
 
     // Puts a row that is not cached yet.
-    pub(crate) fn add(&mut self, name: RowName, row: Row) -> Result<(), NoMemory>
+    pub(crate) fn add(&mut self, alloc: Global, name: RowName, row: Row) -> Result<(), NoMemory>
         requires new { row_in (cached self.old) name ≡ None }
         ensures added { OnOk result (self.new ≡ insert_entry row_cmp self.old name row) }
         ensures unchanged { OnErr result (self.new ≡ self.old) }
     {
         let index = replace(&mut self.index, None);
-        let index = changed(index, &self.rows, &name, &row);
+        let index = changed(alloc, index, &self.rows, &name, &row);
         self.rows.add(name, row)?;
         self.index = index;
         Ok(())
     }
 
     // Puts another row in the place of one that is cached.
-    pub(crate) fn set(&mut self, name: &RowName, row: Row)
+    pub(crate) fn set(&mut self, alloc: Global, name: &RowName, row: Row)
         requires there { IsSome (row_in (cached self.old) name.now) }
         ensures { self.new ≡ insert_entry row_cmp self.old name.now row }
     {
         let index = replace(&mut self.index, None);
-        self.index = changed(index, &self.rows, name, &row);
+        self.index = changed(alloc, index, &self.rows, name, &row);
         self.rows.set(name, row);
     }
 
@@ -113,10 +115,14 @@ impl Indexed {
     }
 
     // The first timer of all rows, with the name of its row, or none where no row has a timer.
-    pub(crate) fn first_timer(&self) -> Option<(&RowName, Timer)>
-        ensures { IsFirstSeen self.now (seen_of result) }
+    pub(crate) fn first_timer(&mut self, alloc: Global) -> Result<Option<RowTimer>, NoMemory>
+        ensures first { IfOk result (IsFirstTimer self.old) }
+        ensures same { self.new ≡ self.old }
     {
-        self.rows.first_timer()
+        let index = self.take_index(alloc)?;
+        let found = first_timer(alloc, &index.dues, &self.rows);
+        self.index = Some(index);
+        found
     }
 
     // All that is pending in the rows.
