@@ -63,3 +63,10 @@ held-push [] zero = refl
 held-push [] (suc i) = refl
 held-push (x ∷ xs) zero = refl
 held-push (x ∷ xs) (suc i) = held-push xs i
+
+-- what was taken out of its place and put back leaves all as it was
+pub put-back : (all : List (Option HeldView)) (i : ℕ) (held : HeldView) → held_at all i ≡ Some held
+    → slice_set (slice_set all i None) i (Some held) ≡ all
+put-back [] i held is = absurd (none_some held is)
+put-back (x ∷ all) zero held is = ap (λ (o : Option HeldView). o ∷ all) (sym is)
+put-back (x ∷ all) (suc i) held is = ap (λ (l : List (Option HeldView)). x ∷ l) (put-back all i held is)

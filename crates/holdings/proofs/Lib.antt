@@ -4,6 +4,9 @@ pub mod HeldPlaces
 pub mod HeldSteps
 pub mod ClaimSteps
 pub mod WorkLaws
+pub mod StampLaws
+pub mod KeyLaws
+pub mod DueLaws
 pub mod OwnLaws
 pub mod FirstLaws
 pub mod TimerLaws

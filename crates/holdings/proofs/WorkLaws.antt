@@ -5,9 +5,9 @@ use Rattle.std.specs.Option.{is_some}
 use Rattle.std.specs.List.{AllByRecursion, flat_map}
 use Rattle.std.specs.List.Sorted.{IsStrictlySortedBy}
 use Rattle.std.specs.Map.{keys_of, lookup}
-use Rattle.std.specs.BTreeMap.{insert_entry, is_at}
-use Rattle.std.specs.Ordering.{is_eq, match_ordering}
-use Rattle.std.specs.declared.cmp.Ordering.TheVariants.{Less, Equal, Greater}
+use Rattle.std.specs.BTreeMap.{is_at}
+use Rattle.std.specs.Ordering.{is_eq}
+use Rattle.std.specs.declared.cmp.Ordering.TheVariants.{Less}
 use Rattle.std.proofs.lemmas.List.{drop_all}
 use Rattle.mw_types.specs.declared.TheConstants.{END}
 use Rattle.mw_types.specs.declared.identity.RowName.{RowName}
@@ -21,15 +21,13 @@ use Rattle.run_history.specs.Cases.{CaseShape, is_injector, source_of}
 use Rattle.run_history.specs.Marks.{own_work}
 use Rattle.run_history.specs.Runs.{Run, cached, row_in, row_of}
 use Rattle.run_history.specs.Watermarks.{cursor_in, least}
-use Rattle.run_history.proofs.Lists.{each-weaker, filter-all, none_some}
+use Rattle.run_history.proofs.Lists.{each-weaker, filter-all}
 use Rattle.run_history.proofs.Lookups.{each_found}
 use Rattle.history_laws.proofs.LowLaws.{AreRowsInOrder, least-end}
 use Rattle.history_laws.proofs.MarkLaws.{OfBounds, from-own, own-end, own-from}
 use Rattle.history_laws.proofs.OwnLaws.{IsOwnFrom, IsRowFrom}
 use Rattle.book.specs.Claims.{named}
 use Rattle.book.specs.declared.answers.NamedRow.{NamedRow}
-use Rattle.holdings.specs.Caching.{AreOrdered, merged}
-use Rattle.holdings.proofs.CacheLaws.{lookup-behind, lookup-merged}
 
 -- ---- the least of a list, gone through from the front
 
@@ -63,21 +61,6 @@ least-past time late xs i x d old new within at is =
     by_late true e = ap (λ n. min n rest) (sym e)
     by_late false e = omega (arith, e)
 
--- the lesser of a mark and of nothing that is left, where none is left out
-pub least-gone : {X : Type 0} (time : X → ℕ) (xs : List X) (i old all : ℕ) → length xs ≤ i → old ≤ END
-    → min old (least (map time (drop i xs))) ≡ all → old ≡ all
-least-gone time xs i old all past end is =
-    let none : min old END ≡ all = ap (λ l. min old (least (map time l))) (sym (drop_all i xs past)) ∙ is in omega (arith, none, end)
-
--- the lesser of a mark and what is left, once an element is past, where none is left out
-pub least-one : {X : Type 0} (time : X → ℕ) (xs : List X) (i : ℕ) (x d : X) (old new : ℕ) → i < length xs → x ≡ get_or xs i d
-    → new ≡ min old (time x) → min new (least (map time (drop (i + 1) xs))) ≡ min old (least (map time (drop i xs)))
-least-one time xs i x d old new within at is =
-    let rest = least (map time (drop (i + 1) xs)) in
-    let whole : min old (least (map time (drop i xs))) ≡ min old (min (time x) rest) =
-    ap (λ l. min old (least (map time l))) (drop-cons xs i d within ∙ (λ j. sym at j ∷ drop (sym (add-one i) j) xs)) in
-    omega (arith, whole, is)
-
 -- ---- the least of all rows
 
 -- the least of many lists is that of their leasts
@@ -85,44 +68,12 @@ pub least-flat_map : {X : Type 0} (f : X → List ℕ) (xs : List X) → least (
 least-flat_map f [] = refl
 least-flat_map f (x ∷ xs) = least-append (f x) (flat_map f xs) ∙ ap (min (least (f x))) (least-flat_map f xs)
 
--- the least with one more entry, of a new key
-least-insert : (g : Contents → ℕ) (es : List (RowName × Contents)) (name : RowName) (row : Contents) → lookup (is_at (row_cmp name)) es ≡ None
-    → least (map (λ (e : RowName × Contents). g e.1) (insert_entry row_cmp es name row))
-    ≡ min (g row) (least (map (λ (e : RowName × Contents). g e.1) es))
-least-insert g [] name row none = refl
-least-insert g (e ∷ es) name row none =
-    elim (row_cmp name e.0) as (λ o. cond (is_eq o) (Some e.1) (lookup (is_at (row_cmp name)) es) ≡ None
-    → least (map (λ (x : RowName × Contents). g x.1)
-    (match_ordering o ((name, row) ∷ e ∷ es) ((e.0, row) ∷ es) (e ∷ insert_entry row_cmp es name row)))
-    ≡ min (g row) (least (map (λ (x : RowName × Contents). g x.1) (e ∷ es)))) [
-      | Less ↦ λ _. refl
-      | Equal ↦ λ some. absurd (none_some e.1 (sym some))
-      | Greater ↦ λ rest. let again = least-insert g es name row rest in omega (arith, again)
-    ] none
-
 -- a name before all of a list is not found there
-before-none : (name : RowName) (rows : List NamedRow) → AllByRecursion (λ (n : RowName). row_cmp name n ≡ Less) (map (λ (r : NamedRow). r.name) rows)
+pub before-none : (name : RowName) (rows : List NamedRow) → AllByRecursion (λ (n : RowName). row_cmp name n ≡ Less) (map (λ (r : NamedRow). r.name) rows)
     → lookup (is_at (row_cmp name)) (map named rows) ≡ None
 before-none name [] each = refl
 before-none name (r ∷ rows) each =
     ap (λ o. cond (is_eq o) (Some r.row) (lookup (is_at (row_cmp name)) (map named rows))) each.0 ∙ before-none name rows each.1
-
--- the least of the rows of a list and of those beside it
-pub least-merged : (g : Contents → ℕ) (answered : List NamedRow) (others : List (RowName × Contents)) → AreOrdered answered others
-    → least (map (λ (e : RowName × Contents). g e.1) (merged answered others))
-    ≡ min (least (map (λ (r : NamedRow). g r.row) answered)) (least (map (λ (e : RowName × Contents). g e.1) others))
-unfolding IsStrictlySortedBy
-least-merged g [] others are = let end = least-end (map (λ (e : RowName × Contents). g e.1) others) in omega (arith, end)
-least-merged g (r ∷ answered) others are =
-    let rest = least-merged g answered others (record {
-      answered_ordered = are.answered_ordered.1;
-      others_ordered = are.others_ordered;
-      apart = are.apart.1;
-    }) in
-    let new = least-insert g (merged answered others) r.name r.row
-    (lookup-merged r.name answered others
-    ∙ lookup-behind r.name (map named answered) others (before-none r.name answered are.answered_ordered.0) ∙ are.apart.0) in
-    omega (arith, rest, new)
 
 -- ---- the rows of an interval
 

@@ -5,3 +5,6 @@ pub mod Firsts
 pub mod Timers
 pub mod Purges
 pub mod Pendings
+pub mod Keyed
+pub mod Dues
+pub mod Indexes

@@ -5,7 +5,6 @@ use Rattle.std.specs.Prelude.{List, Option, slice_get}
 use Rattle.std.specs.Option.{option_map}
 use Rattle.std.specs.Ordering.{ordering_then}
 use Rattle.std.specs.declared.cmp.Ordering.{Ordering}
-use denote.Ref.{Bor}
 use Rattle.mw_types.specs.Orders.{row_cmp, timer_cmp}
 use Rattle.mw_types.specs.declared.identity.RowName.{RowName}
 use Rattle.mw_types.specs.declared.timer.Timer.{Timer}
@@ -31,14 +30,6 @@ IsFirstTimer rows found = IsFirstOf timer_of due_cmp rows (option_map pair_of fo
 
 -- ---- what no public clause cites
 
--- a timer of a row, as a contract sees it
-abbrev pub seen_of : Option (Bor RowName × Timer) → Option (RowName × Timer)
-seen_of best = option_map (λ b. (b.0.now, b.1)) best
-
 -- a timer, with the name of its row
-abbrev pub named_timer : RowName × Timer → RowTimer
-named_timer found = record { name = found.0; timer = found.1 }
-
--- the first timer of rows, with the name of its row, or none where no row has one
-abbrev pub IsFirstSeen : List (RowName × Contents) → Option (RowName × Timer) → Type 0
-IsFirstSeen rows best = IsFirstOf timer_of due_cmp rows best
+abbrev pub row_timer : RowName → Timer → RowTimer
+row_timer name timer = record { name = name; timer = timer }

@@ -1,29 +1,28 @@
 //! The rows of one interval that are cached.
-ghost use Rattle.std.specs.Prelude.{◌≡◌, ◌++◌, IfOk, IsSome, None, OnErr, OnOk, fold, map, min, option_copied};
+ghost use Rattle.std.specs.Prelude.{◌≡◌, ◌++◌, IfOk, IsSome, None, OnErr, OnOk, fold, map, option_copied};
 ghost use Rattle.std.specs.List.{flat_map};
 ghost use Rattle.std.specs.List.Sorted.{IsStrictlySortedBy};
-ghost use Rattle.std.specs.Map.{lookup, set_value};
+ghost use Rattle.std.specs.Map.{keys_of, lookup, set_value};
 ghost use Rattle.std.specs.BTreeMap.{insert_entry, is_at};
 ghost use Rattle.mw_types.specs.Orders.{row_cmp};
 ghost use Rattle.mw_types.specs.declared.identity.RowName.{RowName};
 ghost use Rattle.row_parts.specs.Contents.{Contents};
 ghost use Rattle.row_parts.specs.Places.{IsHitOrGap};
-ghost use Rattle.run_history.specs.Marks.{row_marks};
 ghost use Rattle.run_history.specs.Runs.{cached, row_in};
-ghost use Rattle.run_history.specs.Watermarks.{least};
 ghost use Rattle.book.specs.Claims.{named};
 ghost use Rattle.book.specs.declared.answers.NamedRow.{NamedRow};
 ghost use Rattle.holdings.specs.Firsts.{earlier};
+ghost use Rattle.holdings.specs.Indexes.{HasStamped, IsIndexOf};
 ghost use Rattle.holdings.specs.Pendings.{ArePendingIn, sent_in};
 ghost use Rattle.holdings.specs.Purges.{IsFirstToPurge, by_name, forgets, seen_name};
-ghost use Rattle.holdings.specs.Timers.{IsFirstSeen, due_cmp, seen_of, timer_of};
+ghost use Rattle.holdings.specs.Dues.{due_of, due_order};
+ghost use Rattle.holdings.specs.Keyed.{HasKeyed};
 
-use crate::first_timer::earlier;
+use crate::index::Index;
 use crate::pending::{SentList, push_row};
-use crate::row_work::row_work;
 use crate::to_purge::earlier_name;
 use book::{NamedRow, NamedRowList};
-use mw_types::{END, NoMemory, RowName, Timer};
+use mw_types::{NoMemory, RowName};
 use row_parts::Row;
 use std::alloc::Global;
 use std::collections::BTreeMap;
@@ -93,18 +92,14 @@ impl Cache {
         }
     }
 
-    // The oldest work of all rows, or the end where there is none.
-    pub(crate) fn oldest(&self) -> u64
-        ensures { result ≡ least (flat_map (λ (r : RowName × Contents). row_marks r.1) self.now) }
+    // What is kept beside the rows, made anew.
+    pub(crate) fn index(&self, alloc: Global) -> Result<Index, NoMemory>
+        ensures { IfOk result (IsIndexOf self.now) }
     {
-        oldest_beside(&self.others, oldest_in(&self.answered))
-    }
-
-    // The first timer of all rows, with the name of its row, or none where no row has a timer.
-    pub(crate) fn first_timer(&self) -> Option<(&RowName, Timer)>
-        ensures { IsFirstSeen self.now (seen_of result) }
-    {
-        first_beside(&self.others, first_in(&self.answered))
+        let mut index = Index::new(alloc);
+        index_in(alloc, &mut index, &self.answered)?;
+        index_beside(alloc, &mut index, &self.others)?;
+        Ok(index)
     }
 
     // All that is pending in the rows.
@@ -124,17 +119,6 @@ impl Cache {
         let first = purge_in(&self.answered, floor, least);
         purge_beside(&self.others, first, floor, least)
     }
-}
-
-// The first timer of the rows of a list.
-fn first_in(rows: &[NamedRow]) -> Option<(&RowName, Timer)>
-    ensures { seen_of result ≡ fold (earlier timer_of due_cmp) None (map named rows.now) }
-{
-    let mut best = None;
-    for row in rows {
-        best = earlier(best, &row.name, &row.row);
-    }
-    best
 }
 
 // Appends what is pending in the rows of a list.
@@ -190,42 +174,34 @@ fn purge_beside<'a>(
     best
 }
 
-// The earlier of a timer and the first of the rows of a map.
-fn first_beside<'a>(
-    rows: &'a BTreeMap<RowName, Row>,
-    first: Option<(&'a RowName, Timer)>,
-) -> Option<(&'a RowName, Timer)>
-    ensures { seen_of result
-        ≡ fold (earlier timer_of due_cmp) (seen_of first.entry) rows.now.entries }
+// Keeps what there is of the rows of a list.
+fn index_in(alloc: Global, index: &mut Index, rows: &[NamedRow]) -> Result<(), NoMemory>
+    requires ordered { IsStrictlySortedBy due_order (keys_of index.old.dues.entries) }
+    ensures work { OnOk result (HasStamped (map named rows.now) index.old.work index.new.work) }
+    ensures dues { OnOk result (HasKeyed due_order due_of (map named rows.now)
+        index.old.dues.entries index.new.dues.entries) }
 {
-    let mut best = first;
-    for (name, row) in rows {
-        best = earlier(best, name, row);
-    }
-    best
-}
-
-// The oldest work of the rows of a list.
-fn oldest_in(rows: &[NamedRow]) -> u64
-    ensures { result ≡ least (map (λ (r : NamedRow). least (row_marks r.row)) rows.now) }
-{
-    let mut oldest = END;
     for row in rows {
-        oldest = oldest.min(row_work(&row.row));
+        index.add(alloc, &row.name, &row.row)?;
     }
-    oldest
+    Ok(())
 }
 
-// The lesser of a mark and the oldest work of the rows of a map.
-fn oldest_beside(rows: &BTreeMap<RowName, Row>, mark: u64) -> u64
-    ensures { result ≡ min mark (least
-        (map (λ (r : RowName × Contents). least (row_marks r.1)) rows.now.entries)) }
+// Keeps what there is of the rows of a map.
+fn index_beside(
+    alloc: Global,
+    index: &mut Index,
+    rows: &BTreeMap<RowName, Row>,
+) -> Result<(), NoMemory>
+    requires ordered { IsStrictlySortedBy due_order (keys_of index.old.dues.entries) }
+    ensures work { OnOk result (HasStamped rows.now.entries index.old.work index.new.work) }
+    ensures dues { OnOk result (HasKeyed due_order due_of rows.now.entries
+        index.old.dues.entries index.new.dues.entries) }
 {
-    let mut oldest = mark;
-    for (_, row) in rows {
-        oldest = oldest.min(row_work(row));
+    for (name, row) in rows {
+        index.add(alloc, name, row)?;
     }
-    oldest
+    Ok(())
 }
 
 // The place of a name's row among rows that ascend by name; `Err` has the place where it would

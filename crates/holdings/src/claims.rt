@@ -6,9 +6,9 @@ ghost use Rattle.book.specs.DeskReasons.{HasClaimReason};
 ghost use Rattle.book.specs.Desks.{DeskView, HasLooked, IsSound, KeepsMarks};
 ghost use Rattle.holdings.specs.Holding.{AreHeld, HasSeenOthers, HeldView, HoldsClaim, KeepsHeld};
 
-use crate::cache::Cache;
 use crate::held::Held;
 use crate::holdings::Holdings;
+use crate::indexed::Indexed;
 use book::{Claimed, Desk, DeskRefusal};
 use run_history::Case;
 use std::alloc::Global;
@@ -46,7 +46,7 @@ impl Holdings {
         desk.sound();
         let Claimed { lease, rows } = claimed?;
         let seq = lease.seq();
-        let rows = Cache::of(alloc, rows);
+        let rows = Indexed::of(alloc, rows);
         self.put(interval, Held { lease, rows });
         Ok(seq)
     }

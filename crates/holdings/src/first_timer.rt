@@ -1,10 +1,8 @@
 //! The first timer of an interval that is held.
-ghost use Rattle.std.specs.Prelude.{◌≡◌, IfOk, IfSome, IsSome, Some};
-ghost use Rattle.std.specs.Option.{option_map};
-ghost use Rattle.std.specs.Ordering.{is_lt};
+ghost use Rattle.std.specs.Prelude.{◌≡◌, IfOk, IfSome, IsSome, option_copied};
+ghost use Rattle.std.specs.Option.{option_and_then, option_map};
 ghost use Rattle.holdings.specs.Holding.{held_at};
-ghost use Rattle.holdings.specs.Firsts.{earlier, earlier_of};
-ghost use Rattle.holdings.specs.Timers.{IsFirstTimer, due_cmp, named_timer, seen_of, timer_of};
+ghost use Rattle.holdings.specs.Timers.{IsFirstTimer, row_timer, timer_of};
 
 use crate::holdings::Holdings;
 use mw_types::{Duplicate, NoMemory, RowName, Timer};
@@ -33,78 +31,41 @@ impl Holdings {
             IfSome (held_at self.old interval) (λ held. IsFirstTimer held.rows found)) }
         ensures same { self.new ≡ self.old }
     {
-        let held = self.get(interval).unwrap();
-        named_timer(alloc, held.first_timer())
+        let mut held = self.take(interval);
+        let found = held.first_timer(alloc);
+        self.put(interval, held);
+        found
     }
 }
 
-// A timer that was found, with a name of its own.
+// The first timer of a row, with the row's name, or none where there is none.
+pub(crate) fn timer_of(
+    alloc: Global,
+    name: &RowName,
+    row: Option<&Row>,
+) -> Result<Option<RowTimer>, NoMemory>
+    ensures { IfOk result (λ found. found ≡ option_map (row_timer name.now)
+        (option_and_then timer_of (option_copied row.entry))) }
+{
+    match row {
+        Some(row) => named_timer(alloc, name, row.least_timer()),
+        None => Ok(None),
+    }
+}
+
+// A timer, with a name of its own, or none where there is none.
 fn named_timer(
     alloc: Global,
-    found: Option<(&RowName, Timer)>,
+    name: &RowName,
+    timer: Option<Timer>,
 ) -> Result<Option<RowTimer>, NoMemory>
-    ensures { IfOk result (λ named. named ≡ option_map named_timer (seen_of found.entry)) }
+    ensures { IfOk result (λ found. found ≡ option_map (row_timer name.now) timer) }
 {
-    match found {
-        Some((name, timer)) => Ok(Some(RowTimer {
+    match timer {
+        Some(timer) => Ok(Some(RowTimer {
             name: name.copy(alloc)?,
             timer,
         })),
         None => Ok(None),
     }
-}
-
-// Of a timer and the first of a row the one that is before.
-pub(crate) fn earlier<'a>(
-    best: Option<(&'a RowName, Timer)>,
-    name: &'a RowName,
-    row: &Row,
-) -> Option<(&'a RowName, Timer)>
-    ensures { seen_of result ≡ earlier timer_of due_cmp (seen_of best.entry) (name.now, row.now) }
-{
-    match row.least_timer() {
-        Some(timer) => earlier_of(best, name, timer),
-        None => best,
-    }
-}
-
-// Of a timer and one of a row the one that is before.
-fn earlier_of<'a>(
-    best: Option<(&'a RowName, Timer)>,
-    name: &'a RowName,
-    timer: Timer,
-) -> Option<(&'a RowName, Timer)>
-    ensures { seen_of result ≡ earlier_of due_cmp (seen_of best.entry) name.now (Some timer) }
-{
-    match best {
-        None => Some((name, timer)),
-        Some((other, held)) => lesser(name, timer, other, held),
-    }
-}
-
-// Of two timers the one that is before.
-fn lesser<'a>(
-    name: &'a RowName,
-    timer: Timer,
-    other: &'a RowName,
-    held: Timer,
-) -> Option<(&'a RowName, Timer)>
-    ensures { seen_of result ≡ earlier_of due_cmp (Some (other.now, held)) name.now (Some timer) }
-{
-    if is_before(name, &timer, other, &held) {
-        Some((name, timer))
-    } else {
-        Some((other, held))
-    }
-}
-
-// Whether a timer is before another.
-fn is_before(name: &RowName, timer: &Timer, other: &RowName, held: &Timer) -> bool
-    ensures { result ≡ is_lt (due_cmp (name.now, timer.now) (other.now, held.now)) }
-{
-    let times = timer.time.cmp(&held.time);
-    times
-        .then(timer.tag.cmp(&held.tag))
-        .then(name.cmp(other))
-        .is_lt()
 }

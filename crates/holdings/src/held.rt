@@ -7,12 +7,13 @@ ghost use Rattle.run_history.specs.Runs.{cached, row_in};
 ghost use Rattle.holdings.specs.Holding.{row_held, with_row};
 ghost use Rattle.holdings.specs.Pendings.{ArePendingIn};
 ghost use Rattle.holdings.specs.Purges.{IsFirstToPurge};
-ghost use Rattle.holdings.specs.Timers.{IsFirstSeen, seen_of};
+ghost use Rattle.holdings.specs.Timers.{IsFirstTimer};
 
-use crate::cache::Cache;
+use crate::first_timer::RowTimer;
+use crate::indexed::Indexed;
 use crate::pending::SentList;
 use book::Lease;
-use mw_types::{Duplicate, NoMemory, RowName, Timer};
+use mw_types::{Duplicate, NoMemory, RowName};
 use row_parts::Row;
 use run_history::{Case, first_row};
 use std::alloc::Global;
@@ -22,7 +23,7 @@ use std::marker::Model;
 #[derive(Drop)]
 pub struct Held {
     pub(crate) lease: Lease,
-    pub(crate) rows: Cache,
+    pub(crate) rows: Indexed,
 }
 
 impl Model for Held {
@@ -57,10 +58,11 @@ impl Held {
     }
 
     // The first timer of all rows, with the name of its row, or none where no row has a timer.
-    pub(crate) fn first_timer(&self) -> Option<(&RowName, Timer)>
-        ensures { IsFirstSeen self.now.rows (seen_of result) }
+    pub(crate) fn first_timer(&mut self, alloc: Global) -> Result<Option<RowTimer>, NoMemory>
+        ensures first { IfOk result (IsFirstTimer self.old.rows) }
+        ensures same { self.new ≡ self.old }
     {
-        self.rows.first_timer()
+        self.rows.first_timer(alloc)
     }
 
     // All that is pending in the rows.
@@ -94,15 +96,15 @@ impl Held {
         }
         let key = name.copy(alloc)?;
         let row = first_row(alloc, case, name.part);
-        self.rows.add(key, row)?;
+        self.rows.add(alloc, key, row)?;
         Ok(())
     }
 
     // Puts another row in the place of one that is cached.
-    pub(crate) fn set(&mut self, name: &RowName, row: Row)
+    pub(crate) fn set(&mut self, alloc: Global, name: &RowName, row: Row)
         requires there { IsSome (row_in (cached self.old.rows) name.now) }
         ensures { self.new ≡ with_row name.now row self.old }
     {
-        self.rows.set(name, row);
+        self.rows.set(alloc, name, row);
     }
 }

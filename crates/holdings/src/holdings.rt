@@ -84,7 +84,7 @@ impl Holdings {
     }
 
     // Takes what is held of an interval out of its place.
-    fn take(&mut self, interval: u32) -> Held
+    pub(crate) fn take(&mut self, interval: u32) -> Held
         requires there { IsSome (held_at self.old interval) }
         ensures taken { held_at self.old interval ≡ Some result }
         ensures gone { self.new ≡ slice_set self.old interval None }
@@ -127,6 +127,7 @@ impl Holdings {
     // Puts what is held of an interval back after a write, with the row that the write left.
     pub(crate) fn keep(
         &mut self,
+        alloc: Global,
         interval: u32,
         name: &RowName,
         held: Held,
@@ -141,7 +142,7 @@ impl Holdings {
         ensures others { KeepsOthers interval self.old self.new }
     {
         match written {
-            Ok(written) => Ok(self.keep_written(interval, name, held, written)),
+            Ok(written) => Ok(self.keep_written(alloc, interval, name, held, written)),
             Err(why) => {
                 self.put(interval, held);
                 Err(why)
@@ -150,7 +151,14 @@ impl Holdings {
     }
 
     // The same where the write was accepted.
-    fn keep_written(&mut self, interval: u32, name: &RowName, held: Held, written: Written) -> u64
+    fn keep_written(
+        &mut self,
+        alloc: Global,
+        interval: u32,
+        name: &RowName,
+        held: Held,
+        written: Written,
+    ) -> u64
         requires there { IsSome (row_in (cached held.rows) name.now) }
         ensures number { result ≡ written.commit }
         ensures put { self.new
@@ -158,7 +166,7 @@ impl Holdings {
     {
         let mut held = held;
         let Written { commit, row } = written;
-        held.set(name, row);
+        held.set(alloc, name, row);
         self.put(interval, held);
         commit
     }

@@ -4,16 +4,20 @@
 //! A call asks a desk for one entry, and keeps the row that the entry leaves; a refusal leaves all
 //! as it was. Stands on `book` and the crates below it. Public contract: what is held fits the desk
 //! after each call (`AreHeld`), an accepted write is the desk's, and each other row stays; the first
-//! timer and the own work of an interval are exact. Each of these goes over all rows of the interval.
-//! Definitions: `specs/Holding.antt`; `specs/Timers.antt`, `specs/Purges.antt` and
+//! timer and the own work of an interval are exact. Both are kept beside the rows, so that they are
+//! asked and changed in a time logarithmic in the rows; what is pending and the row to purge go over
+//! all rows. Definitions: `specs/Holding.antt`; `specs/Timers.antt`, `specs/Purges.antt` and
 //! `specs/Pendings.antt` for what is found among the rows.
 #![tactic(auto)]
 
 mod cache;
 mod claims;
+mod due;
 mod first_timer;
 mod held;
 mod holdings;
+mod index;
+mod indexed;
 mod own_work;
 mod pending;
 mod row_work;

@@ -39,11 +39,24 @@ impl Held {
     }
 
     // The oldest work of all rows, and of an injector the watermark that its file states.
-    fn own_work(&self, alloc: Global, case: &Case, part: u32) -> u64
+    fn own_work(&mut self, alloc: Global, case: &Case, part: u32) -> Result<u64, NoMemory>
+        ensures own { IfOk result (λ own.
+            own ≡ least (flat_map (λ (r : RowName × Contents). row_marks r.1) self.old.rows
+            ++ stated_marks case.now (cached self.old.rows) part)) }
+        ensures same { self.new ≡ self.old }
+    {
+        let oldest = self.rows.oldest(alloc)?;
+        Ok(self.own_beside(alloc, case, part, oldest))
+    }
+
+    // The lesser of the oldest work of all rows and, of an injector, of the watermark that its file
+    // states.
+    fn own_beside(&self, alloc: Global, case: &Case, part: u32, oldest: u64) -> u64
+        requires oldest { oldest
+            ≡ least (flat_map (λ (r : RowName × Contents). row_marks r.1) self.now.rows) }
         ensures { result ≡ least (flat_map (λ (r : RowName × Contents). row_marks r.1) self.now.rows
             ++ stated_marks case.now (cached self.now.rows) part) }
     {
-        let oldest = self.rows.oldest();
         if part < case.topology.injectors() {
             oldest.min(self.stated(alloc, case, part))
         } else {
@@ -77,7 +90,9 @@ impl Holdings {
     {
         desk.sound();
         let part = case.intervals().bounds(interval).part;
-        let held = self.get(interval).unwrap();
-        Ok(held.own_work(alloc, case, part))
+        let mut held = self.take(interval);
+        let own = held.own_work(alloc, case, part);
+        self.put(interval, held);
+        own
     }
 }

@@ -54,7 +54,7 @@ impl Holdings {
         let held = self.ready(alloc, case, interval, name)?;
         let written = desk.write(alloc, held.lease(), name, held.cached(name), proposal);
         desk.sound();
-        self.keep(interval, name, held, written)
+        self.keep(alloc, interval, name, held, written)
     }
 
     /// A sender learns that what it made was handled: the row no longer waits for the id. Answers
@@ -95,7 +95,7 @@ impl Holdings {
         let held = self.ready(alloc, case, interval, name)?;
         let written = desk.settle(alloc, held.lease(), name, held.cached(name), id);
         desk.sound();
-        self.keep(interval, name, held, written)
+        self.keep(alloc, interval, name, held, written)
     }
 
     /// A row forgets the ids of records that are finished: those below the floor. Answers the
@@ -136,6 +136,6 @@ impl Holdings {
         let held = self.ready(alloc, case, interval, name)?;
         let written = desk.purge(alloc, held.lease(), name, held.cached(name), floor);
         desk.sound();
-        self.keep(interval, name, held, written)
+        self.keep(alloc, interval, name, held, written)
     }
 }

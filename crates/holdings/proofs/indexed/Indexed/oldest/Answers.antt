@@ -1,0 +1,8 @@
+use Rattle.std.proofs.Common.{◌∙◌}
+use Rattle.holdings.proofs.StampLaws.{least-stamps}
+use Rattle.holdings.proofs.indexed.Indexed.oldest.Goals as goal
+
+-- the least stamp is the oldest work of all rows
+pub returns-clause-oldest : goal.returns-clause-oldest
+returns-clause-oldest c = c.least-oldest.ensures.least
+    ∙ least-stamps c.args.self.now c.in_ok-index.index.work c.in_ok-index.ensures.index.work

@@ -1,0 +1,111 @@
+//! The first timers of rows, in the order in which they are due.
+ghost use Rattle.std.specs.Prelude.{◌≡◌, IfOk, None, OnOk, option_copied, slice_get};
+ghost use Rattle.std.specs.Option.{option_and_then, option_map};
+ghost use Rattle.std.specs.List.Sorted.{IsStrictlySortedBy};
+ghost use Rattle.std.specs.Map.{keys_of};
+ghost use Rattle.holdings.specs.Dues.{AreDues, due_at, due_order};
+ghost use Rattle.holdings.specs.Keyed.{HasRekeyed};
+ghost use Rattle.holdings.specs.Timers.{IsFirstTimer};
+
+use crate::cache::Cache;
+use crate::first_timer::{RowTimer, timer_of};
+use mw_types::{Duplicate, NoMemory, RowName, Timer};
+use std::alloc::Global;
+use std::collections::BTreeMap;
+
+// When a timer is due, and then its tag: so stand the timers of one row.
+#[derive(Clone, Copy, Debug, PartialEq, Eq, PartialOrd, Ord)]
+pub(crate) struct Moment {
+    pub(crate) time: u64,
+    pub(crate) tag: u64,
+}
+
+// The first timer of a row: so stand those of several rows.
+#[derive(Debug, Drop, PartialEq, Eq, PartialOrd, Ord)]
+pub(crate) struct Due {
+    pub(crate) at: Moment,
+    pub(crate) name: RowName,
+}
+
+// The first timers of rows, of which the first is asked.
+pub(crate) type Dues = BTreeMap<Due, ()>;
+
+// One first timer in the place of another, of a row that may have none.
+pub(crate) fn set_due(
+    alloc: Global,
+    dues: &mut Dues,
+    name: &RowName,
+    before: Option<Timer>,
+    after: Option<Timer>,
+) -> Result<(), NoMemory>
+    requires ordered { IsStrictlySortedBy due_order (keys_of dues.old.entries) }
+    ensures set { OnOk result (HasRekeyed due_order (option_map (due_at name.now) before)
+        (option_map (due_at name.now) after) dues.old.entries dues.new.entries) }
+{
+    drop_due(alloc, dues, name, before)?;
+    add_due(alloc, dues, name, after)
+}
+
+// A row's first timer is gone, if it had one.
+fn drop_due(
+    alloc: Global,
+    dues: &mut Dues,
+    name: &RowName,
+    before: Option<Timer>,
+) -> Result<(), NoMemory>
+    requires ordered { IsStrictlySortedBy due_order (keys_of dues.old.entries) }
+    ensures gone { OnOk result (HasRekeyed due_order (option_map (due_at name.now) before) None
+        dues.old.entries dues.new.entries) }
+{
+    if let Some(timer) = before {
+        let due = due_of(alloc, name, timer)?;
+        dues.remove(&due);
+    }
+    Ok(())
+}
+
+// A row has this first timer, if it has one.
+pub(crate) fn add_due(
+    alloc: Global,
+    dues: &mut Dues,
+    name: &RowName,
+    after: Option<Timer>,
+) -> Result<(), NoMemory>
+    requires ordered { IsStrictlySortedBy due_order (keys_of dues.old.entries) }
+    ensures added { OnOk result (HasRekeyed due_order None (option_map (due_at name.now) after)
+        dues.old.entries dues.new.entries) }
+{
+    if let Some(timer) = after {
+        let due = due_of(alloc, name, timer)?;
+        dues.insert(due, ())?;
+    }
+    Ok(())
+}
+
+// A timer of a row of this name.
+fn due_of(alloc: Global, name: &RowName, timer: Timer) -> Result<Due, NoMemory>
+    ensures { IfOk result (λ due. due ≡ due_at name.now timer) }
+{
+    Ok(Due {
+        at: Moment {
+            time: timer.time,
+            tag: timer.tag,
+        },
+        name: name.copy(alloc)?,
+    })
+}
+
+// The first timer of all rows, with the name of its row, or none where no row has a timer.
+pub(crate) fn first_timer(
+    alloc: Global,
+    dues: &Dues,
+    rows: &Cache,
+) -> Result<Option<RowTimer>, NoMemory>
+    requires { AreDues rows.now dues.now.entries }
+    ensures { IfOk result (IsFirstTimer rows.now) }
+{
+    match dues.first_key_value() {
+        Some((due, _)) => timer_of(alloc, &due.name, rows.get(&due.name)),
+        None => Ok(None),
+    }
+}

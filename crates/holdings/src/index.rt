@@ -1,0 +1,139 @@
+//! What is kept beside the rows of an interval, so that no step goes over all of them.
+ghost use Rattle.std.specs.Prelude.{◌≡◌, [], Contains, IfOk, IfSome, None, OnOk, Some, option_copied};
+ghost use Rattle.std.specs.Option.{option_and_then, option_map};
+ghost use Rattle.std.specs.List.Sorted.{IsStrictlySortedBy};
+ghost use Rattle.std.specs.Map.{keys_of};
+ghost use Rattle.std.specs.BTreeMap.{insert_entry};
+ghost use Rattle.mw_types.specs.Orders.{row_cmp};
+ghost use Rattle.row_parts.specs.Contents.{Contents};
+ghost use Rattle.holdings.specs.Dues.{due_of, due_order};
+ghost use Rattle.holdings.specs.Keyed.{HasRekeyed};
+ghost use Rattle.holdings.specs.Timers.{timer_of};
+ghost use Rattle.holdings.specs.Indexes.{HasRestamped, IsIndexOf, work_of};
+
+use crate::cache::Cache;
+use crate::due::{Dues, add_due, set_due};
+use crate::row_work::row_work;
+use mw_types::{NoMemory, RowName, Timer};
+use row_parts::Row;
+use std::alloc::Global;
+use std::collections::BTreeMap;
+use watermark::Oldest;
+
+// What is kept beside rows: the oldest work of each, of which the least is asked, and the first timer
+// of each, of which the first is asked.
+#[derive(Drop)]
+pub(crate) struct Index {
+    pub(crate) work: Oldest,
+    pub(crate) dues: Dues,
+}
+
+impl Index {
+    // That of no rows.
+    pub(crate) fn new(alloc: Global) -> Index
+        ensures work { result.work ≡ [] }
+        ensures dues { result.dues.entries ≡ [] }
+        ensures ordered { IsStrictlySortedBy due_order (keys_of result.dues.entries) }
+    {
+        Index {
+            work: Oldest::new(alloc),
+            dues: BTreeMap::new(alloc),
+        }
+    }
+
+    // Keeps what there is of one more row.
+    pub(crate) fn add(&mut self, alloc: Global, name: &RowName, row: &Row) -> Result<(), NoMemory>
+        requires ordered { IsStrictlySortedBy due_order (keys_of self.old.dues.entries) }
+        ensures work { OnOk result (HasRestamped None (work_of row.now) self.old.work self.new.work) }
+        ensures dues { OnOk result (HasRekeyed due_order None (due_of name.now row.now)
+            self.old.dues.entries self.new.dues.entries) }
+    {
+        restamp(&mut self.work, None, row_work(row))?;
+        add_due(alloc, &mut self.dues, name, row.least_timer())
+    }
+
+    // Keeps what there is of a row in the place of what there was of it before, if it was there.
+    fn put(
+        self,
+        alloc: Global,
+        before: Option<&Row>,
+        name: &RowName,
+        row: &Row,
+    ) -> Result<Index, NoMemory>
+        requires held { IfSome (option_copied before) (λ b. Contains self.work (work_of b)) }
+        requires ordered { IsStrictlySortedBy due_order (keys_of self.dues.entries) }
+        ensures work { IfOk result (λ new. HasRestamped
+            (option_map work_of (option_copied before.entry)) (work_of row.now) self.work new.work) }
+        ensures dues { IfOk result (λ new. HasRekeyed due_order
+            (option_and_then (due_of name.now) (option_copied before.entry))
+            (due_of name.now row.now) self.dues.entries new.dues.entries) }
+    {
+        let mut index = self;
+        let old = work_before(before);
+        restamp(&mut index.work, old, row_work(row))?;
+        let old = timer_before(before);
+        set_due(alloc, &mut index.dues, name, old, row.least_timer())?;
+        Ok(index)
+    }
+}
+
+// The index once a row is put among the rows, or none where there was no memory for it.
+pub(crate) fn changed(
+    alloc: Global,
+    index: Option<Index>,
+    rows: &Cache,
+    name: &RowName,
+    row: &Row,
+) -> Option<Index>
+    requires ordered { IsStrictlySortedBy row_cmp (keys_of rows.now) }
+    requires index { IfSome index (IsIndexOf rows.now) }
+    ensures { IfSome result (IsIndexOf (insert_entry row_cmp rows.now name.now row.now)) }
+{
+    match index {
+        Some(index) => index.put(alloc, rows.get(name), name, row).ok(),
+        None => None,
+    }
+}
+
+// The oldest work of a row, if there is one.
+fn work_before(before: Option<&Row>) -> Option<u64>
+    ensures { result ≡ option_map work_of (option_copied before.entry) }
+{
+    match before {
+        Some(row) => Some(row_work(row)),
+        None => None,
+    }
+}
+
+// The first timer of a row, if there is one.
+fn timer_before(before: Option<&Row>) -> Option<Timer>
+    ensures { result ≡ option_and_then timer_of (option_copied before.entry) }
+{
+    match before {
+        Some(row) => row.least_timer(),
+        None => None,
+    }
+}
+
+// One stamp more, and one less where there was one.
+fn restamp(stamps: &mut Oldest, before: Option<u64>, after: u64) -> Result<(), NoMemory>
+    requires held { IfSome before (λ b. Contains stamps.old b) }
+    ensures changed { OnOk result (HasRestamped before after stamps.old stamps.new) }
+{
+    match before {
+        Some(before) => change(stamps, before, after),
+        None => stamps.add(after),
+    }
+}
+
+// One stamp in the place of another.
+fn change(stamps: &mut Oldest, before: u64, after: u64) -> Result<(), NoMemory>
+    requires held { Contains stamps.old before }
+    ensures changed { OnOk result (HasRestamped (Some before) after stamps.old stamps.new) }
+{
+    if before != after {
+        stamps.add(after)?;
+        stamps.remove(before);
+    }
+    Ok(())
+}

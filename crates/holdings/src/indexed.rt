@@ -1,0 +1,141 @@
+//! The rows of one interval that are cached, and what is kept beside them.
+ghost use Rattle.std.specs.Prelude.{◌≡◌, IfOk, IsSome, None, OnErr, OnOk, map, option_copied};
+ghost use Rattle.std.specs.List.{flat_map};
+ghost use Rattle.std.specs.List.Sorted.{IsStrictlySortedBy};
+ghost use Rattle.std.specs.BTreeMap.{insert_entry};
+ghost use Rattle.mw_types.specs.Orders.{row_cmp};
+ghost use Rattle.mw_types.specs.declared.identity.RowName.{RowName};
+ghost use Rattle.row_parts.specs.Contents.{Contents};
+ghost use Rattle.run_history.specs.Marks.{row_marks};
+ghost use Rattle.run_history.specs.Runs.{cached, row_in};
+ghost use Rattle.run_history.specs.Watermarks.{least};
+ghost use Rattle.book.specs.Claims.{named};
+ghost use Rattle.book.specs.declared.answers.NamedRow.{NamedRow};
+ghost use Rattle.holdings.specs.Indexes.{IsIndexOf};
+ghost use Rattle.holdings.specs.Pendings.{ArePendingIn};
+ghost use Rattle.holdings.specs.Purges.{IsFirstToPurge};
+ghost use Rattle.holdings.specs.Timers.{IsFirstTimer};
+
+use crate::cache::Cache;
+use crate::due::first_timer;
+use crate::first_timer::RowTimer;
+use crate::index::{Index, changed};
+use crate::pending::SentList;
+use book::NamedRowList;
+use mw_types::{NoMemory, RowName};
+use row_parts::Row;
+use std::alloc::Global;
+use std::marker::Model;
+use std::mem::replace;
+
+// Rows by their names, with an index of them. There is no index right after a claim, and where there
+// was no memory to change it; it is made anew once it is asked for.
+#[derive(Drop)]
+pub(crate) struct Indexed {
+    rows: Cache,
+    index: Option<Index>,
+}
+
+impl Model for Indexed {
+    ghost use Rattle.std.specs.Prelude.{List};
+    ghost use Rattle.mw_types.specs.declared.identity.RowName.{RowName};
+    ghost use Rattle.row_parts.specs.Contents.{Contents};
+    ghost use Rattle.holdings.specs.Indexes.{IsIndexed};
+
+    ghost Value = { List (RowName × Contents) };
+
+    ghost view = { λ all. all.rows };
+
+    ghost invariant = { λ all. IsIndexed all.rows all.index };
+}
+
+impl Indexed {
+    // The rows that a claim answered, which ascend by name.
+    pub(crate) fn of(alloc: Global, rows: NamedRowList) -> Indexed
+        requires { IsStrictlySortedBy row_cmp (map (λ (r : NamedRow). r.name) rows) }
+        ensures { result ≡ map named rows }
+    {
+        Indexed {
+            rows: Cache::of(alloc, rows),
+            index: None,
+        }
+    }
+
+    // The row of this name, or none where none is cached.
+    pub(crate) fn get(&self, name: &RowName) -> Option<&Row>
+        ensures { option_copied result ≡ row_in (cached self.now) name.now }
+    {
+        self.rows.get(name)
+    }
+
+    // Puts a row that is not cached yet.
+    pub(crate) fn add(&mut self, alloc: Global, name: RowName, row: Row) -> Result<(), NoMemory>
+        requires new { row_in (cached self.old) name ≡ None }
+        ensures added { OnOk result (self.new ≡ insert_entry row_cmp self.old name row) }
+        ensures unchanged { OnErr result (self.new ≡ self.old) }
+    {
+        let index = replace(&mut self.index, None);
+        let index = changed(alloc, index, &self.rows, &name, &row);
+        self.rows.add(name, row)?;
+        self.index = index;
+        Ok(())
+    }
+
+    // Puts another row in the place of one that is cached.
+    pub(crate) fn set(&mut self, alloc: Global, name: &RowName, row: Row)
+        requires there { IsSome (row_in (cached self.old) name.now) }
+        ensures { self.new ≡ insert_entry row_cmp self.old name.now row }
+    {
+        let index = replace(&mut self.index, None);
+        self.index = changed(alloc, index, &self.rows, name, &row);
+        self.rows.set(name, row);
+    }
+
+    // The oldest work of all rows, or the end where there is none.
+    pub(crate) fn oldest(&mut self, alloc: Global) -> Result<u64, NoMemory>
+        ensures oldest { IfOk result (λ oldest.
+            oldest ≡ least (flat_map (λ (r : RowName × Contents). row_marks r.1) self.old)) }
+        ensures same { self.new ≡ self.old }
+    {
+        let index = self.take_index(alloc)?;
+        let oldest = index.work.least();
+        self.index = Some(index);
+        Ok(oldest)
+    }
+
+    // Takes the index, which is made where there is none.
+    fn take_index(&mut self, alloc: Global) -> Result<Index, NoMemory>
+        ensures index { IfOk result (IsIndexOf self.old) }
+        ensures same { self.new ≡ self.old }
+    {
+        match replace(&mut self.index, None) {
+            Some(index) => Ok(index),
+            None => self.rows.index(alloc),
+        }
+    }
+
+    // The first timer of all rows, with the name of its row, or none where no row has a timer.
+    pub(crate) fn first_timer(&mut self, alloc: Global) -> Result<Option<RowTimer>, NoMemory>
+        ensures first { IfOk result (IsFirstTimer self.old) }
+        ensures same { self.new ≡ self.old }
+    {
+        let index = self.take_index(alloc)?;
+        let found = first_timer(alloc, &index.dues, &self.rows);
+        self.index = Some(index);
+        found
+    }
+
+    // All that is pending in the rows.
+    pub(crate) fn pending(&self, alloc: Global) -> Result<SentList, NoMemory>
+        ensures { IfOk result (ArePendingIn self.now) }
+    {
+        self.rows.pending(alloc)
+    }
+
+    // The name of the first row that may forget ids, or none where none may.
+    pub(crate) fn to_purge(&self, floor: u64, least: u64) -> Option<&RowName>
+        ensures { IsFirstToPurge floor least self.now (option_copied result) }
+    {
+        self.rows.to_purge(floor, least)
+    }
+}
