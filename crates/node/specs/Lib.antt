@@ -7,6 +7,7 @@ pub mod Asking
 pub mod Answers
 pub mod Outboxes
 pub mod Steps
+pub mod LineSteps
 pub mod PurgeSteps
 pub mod MarkSteps
 pub mod FireSteps

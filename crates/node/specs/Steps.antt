@@ -1,13 +1,7 @@
 -- The steps inside a node's calls. No public clause cites this module.
-use Rattle.std.specs.Prelude.{◌≡◌, ◌<◌, ◌==◌, ℕ, Bool, false, not, List, Option, None, IfSome, Result, Ok, Err}
+use Rattle.std.specs.Prelude.{◌≡◌, ◌<◌, ℕ, Bool, false, not, Option, None, IfSome, Result, Ok, Err}
 use Rattle.std.specs.Option.{option_map_or}
-use Rattle.mw_types.specs.declared.delivery.Delivery.{Delivery}
-use Rattle.mw_types.specs.declared.entry.Entry.TheVariants as entries
-use Rattle.mw_types.specs.declared.identity.RowName.{RowName}
-use Rattle.injector.specs.declared.item.Item.{Item}
 use Rattle.topology.specs.Shapes.{Shape, parts_of}
-use Rattle.run_history.specs.Cases.{CaseShape, record_of}
-use Rattle.run_history.specs.Made.{deliveries_made, productions_of}
 use Rattle.book.specs.declared.desk_refusal.DeskRefusal.{DeskRefusal}
 use Rattle.book.specs.declared.desk_refusal.DeskRefusal.TheVariants as refusals
 use Rattle.holdings.specs.Holding.{KeepsOthers, held_at}
@@ -25,12 +19,6 @@ answered refusals.HistoryFull = Err faults.HistoryFull
 answered refusals.KeeperFault = Err faults.KeeperFault
 answered (refusals.RowDamaged name bytes) = Err (faults.RowDamaged name bytes)
 answered refusals.NoMemory = Err faults.NoMemory
-
--- what an injected line becomes under a commit number
-abbrev pub line_deliveries : CaseShape → RowName → Item → ℕ → List Delivery
-line_deliveries case name item commit =
-    let entry = entries.Inject 0 name.part 0 (record_of item) in
-    deliveries_made case.topology name.part (productions_of entry) item.late commit
 
 -- a work's record goes to a row of a part
 abbrev pub IsWorkThere : Shape → WorkView → Type 0

@@ -14,6 +14,7 @@ mod cached_rows;
 mod claims;
 mod fires;
 mod handling;
+mod injecting;
 mod known_marks;
 mod message;
 mod messages_out;

@@ -1,0 +1,200 @@
+//! Lines of injectors that are injected.
+ghost use Rattle.std.specs.Prelude.{◌≡◌, ◌<◌, ◌≤◌, ◌^◌, ℕ, All, IfErr, IfOk, OnErr, OnOk, length, map};
+ghost use Rattle.mw_types.specs.declared.TheConstants.{MAX_STAMP};
+ghost use Rattle.topology.specs.Shapes.{Shape, injectors_of, parts_of};
+ghost use Rattle.run_history.specs.Cases.{source_of};
+ghost use Rattle.run_history.specs.Watermarks.{cursor_in};
+ghost use Rattle.book.specs.Desks.{HasLooked, KeepsMarks};
+ghost use Rattle.holdings.specs.Holding.{row_held};
+ghost use Rattle.node.specs.Answers.{AnswersAsked, FailsAsked, HasGrown, HasKept};
+ghost use Rattle.node.specs.Asking.{line_asked};
+ghost use Rattle.node.specs.Fits.{Fits};
+ghost use Rattle.node.specs.LineSteps.{IsLineNext, IsNextOf, injector_row, line_deliveries, line_held};
+ghost use Rattle.node.specs.Messages.{IsAddressed};
+ghost use Rattle.node.specs.Outboxes.{numbered};
+ghost use Rattle.node.specs.Workers.{messages_from, worker_at};
+
+use crate::node::Node;
+use crate::outcome::{NodeFault, Outcome};
+use crate::outgoing::Outgoing;
+use crate::sends::made;
+use book::{Desk, Proposal, Seen};
+use holdings::Held;
+use mw_types::{Key, NoMemory, Production, Record, RowName, State};
+use run_history::Case;
+use std::alloc::Global;
+use topology::Topology;
+
+impl<N: Seen> Node<N> {
+    /// Injects the next line of an injector that it has.
+    #[tactic(auto, using(crate::proofs::FitLaws::looked_not, crate::proofs::FitLaws::grown_looked))]
+    pub fn inject<D: Desk<Note = N>>(
+        &mut self,
+        alloc: Global,
+        desk: &mut D,
+        case: &Case,
+        part: u32,
+    ) -> Result<Outcome, NodeFault>
+        requires fits { Fits case.now (D.view desk.old) self.old }
+
+        ensures fits { Fits case.now (D.view desk.new) self.new }
+        ensures answers { let asked = line_asked case.now self.old part in
+            IfOk result (AnswersAsked case.now.topology
+            (D.view desk.old) (D.view desk.new) asked (worker_at self.old) self.old self.new) }
+        ensures number { self.new.number ≡ self.old.number }
+
+        ensures kept { OnErr result (HasKept self.old self.new) }
+        ensures looked { OnErr result (HasLooked (D.view desk.old) (D.view desk.new)) }
+        ensures fault { let asked = line_asked case.now self.old part in
+            IfErr result (FailsAsked (D.view desk.old) (D.view desk.new) asked) }
+
+        ensures grown { HasGrown self.old.held (D.view desk.old) (D.view desk.new) }
+        ensures marks { KeepsMarks (D.view desk.old) (D.view desk.new) }
+        ensures loan { D.loan desk.new ≡ D.loan desk.old }
+    {
+        match self.next_line(alloc, case, part) {
+            Some(line) => self.inject_line(alloc, desk, case, part, line),
+            None => Ok(Outcome::Nothing),
+        }
+    }
+
+    // The next line of an injector, where its row is held and has one.
+    fn next_line(&self, alloc: Global, case: &Case, part: u32) -> Option<u32>
+        ensures { IsNextOf case.now self.now part result }
+    {
+        let parts = case.topology.parts();
+        if case.topology.injectors() <= part || parts <= part {
+            return None;
+        }
+        let name = injector_row(alloc, part);
+        let interval = case.interval_of(&name);
+        match self.held.get(interval) {
+            Some(held) => line_of(held, case, &name),
+            None => None,
+        }
+    }
+
+    // Injects a line, which is the next of an injector's row that is held.
+    #[tactic(auto, using(crate::proofs::FitLaws::looked_not, crate::proofs::FitLaws::grown_looked, crate::proofs::FitLaws::fails_memory))]
+    fn inject_line<D: Desk<Note = N>>(
+        &mut self,
+        alloc: Global,
+        desk: &mut D,
+        case: &Case,
+        part: u32,
+        line: u32,
+    ) -> Result<Outcome, NodeFault>
+        requires fits { Fits case.now (D.view desk.old) self.old }
+        requires next { IsLineNext case.now self.old part line }
+
+        ensures fits { Fits case.now (D.view desk.new) self.new }
+        ensures answers { let asked = line_asked case.now self.old part in
+            IfOk result (AnswersAsked case.now.topology
+            (D.view desk.old) (D.view desk.new) asked (worker_at self.old) self.old self.new) }
+        ensures number { self.new.number ≡ self.old.number }
+
+        ensures kept { OnErr result (HasKept self.old self.new) }
+        ensures looked { OnErr result (HasLooked (D.view desk.old) (D.view desk.new)) }
+        ensures fault { let asked = line_asked case.now self.old part in
+            IfErr result (FailsAsked (D.view desk.old) (D.view desk.new) asked) }
+
+        ensures grown { HasGrown self.old.held (D.view desk.old) (D.view desk.new) }
+        ensures marks { KeepsMarks (D.view desk.old) (D.view desk.new) }
+        ensures loan { D.loan desk.new ≡ D.loan desk.old }
+    {
+        let name = injector_row(alloc, part);
+        let item = case.line_record(alloc, part, line)?;
+        let made = made_of(alloc, &case.topology, &name, item)?;
+        self.outbox.make_room(made.len())?;
+        let interval = case.interval_of(&name);
+        let proposal = Proposal::Inject { line };
+        let written = self
+            .held
+            .write(alloc, desk, case, interval, &name, &proposal);
+        desk.sound();
+        match written {
+            Ok(commit) => {
+                self.outbox.put_all(made, commit);
+                Ok(Outcome::Committed { commit })
+            }
+            Err(why) => self.yield_to(case, interval, why),
+        }
+    }
+}
+
+// The name of an injector's row.
+fn injector_row(alloc: Global, part: u32) -> RowName
+    ensures { result ≡ injector_row part }
+{
+    RowName {
+        part,
+        key: Key::none(alloc),
+    }
+}
+
+// The next line of an injector's row as it is held, where there is one.
+fn line_of(held: &Held, case: &Case, name: &RowName) -> Option<u32>
+    requires injector { name.now.part < injectors_of case.now.topology }
+    ensures { result ≡ line_held case.now held.now name.now }
+{
+    let line = cursor_of(held, name);
+    if line < lines(case, name.part) {
+        Some(line)
+    } else {
+        None
+    }
+}
+
+// How many lines of an injector were injected, by its row as it is held.
+fn cursor_of(held: &Held, name: &RowName) -> u32
+    ensures { (shape : Shape) → name.now.part < injectors_of shape →
+        result ≡ cursor_in (row_held shape held.now name.now).state }
+{
+    match held.row(name) {
+        Some(row) => cursor_in(&row.state),
+        None => 0,
+    }
+}
+
+// How many lines a state says were injected.
+fn cursor_in(state: &State) -> u32
+    ensures { result ≡ cursor_in state.now }
+{
+    match state {
+        State::Injector { cursor } => *cursor,
+        _ => 0,
+    }
+}
+
+// How many lines an injector has.
+fn lines(case: &Case, part: u32) -> u32
+    requires { part < injectors_of case.now.topology }
+    ensures { result ≡ length (source_of case.now part) }
+{
+    case.items.as_slice()[part as usize].count()
+}
+
+// What the record of a line becomes, under the commit number 0: the entry's comes later.
+fn made_of(
+    alloc: Global,
+    topology: &Topology,
+    name: &RowName,
+    item: Record,
+) -> Result<Vec<Outgoing>, NoMemory>
+    requires part { name.now.part < parts_of topology.now }
+    requires stamp { item.stamp ≤ MAX_STAMP }
+    ensures made { IfOk result (λ made. (commit : ℕ) → map (numbered commit) made.items
+        ≡ messages_from name.now (line_deliveries topology.now name.now.part item commit)) }
+    ensures addressed { OnOk result ((commit : ℕ) → commit < 2 ^ 32 →
+        All (IsAddressed topology.now) (messages_from name.now
+        (line_deliveries topology.now name.now.part item commit))) }
+{
+    let Record {
+        key,
+        stamp,
+        value,
+        late,
+    } = item;
+    let production = Production { key, stamp, value };
+    made(alloc, topology, name, &[production], late)
+}
