@@ -61,7 +61,7 @@ ok_of_left files words left s is ok = subst (λ t. HasLeft files words left t) o
 
 -- what is written of a run that came to its end is what its status leaves
 pub wrote : (case : CaseShape) (lines : Bool) (left : Left) (s : Status) → IsWholeRun case left
-    → HasText lines case.topology left.history left.text s → RunLeaves case lines left s
+    → HasText lines case.topology left.history left.text.0 left.text.1 s → RunLeaves case lines left s
 wrote case lines left status.Ok run is = record { run = run; text = is.text; whole = is.whole; written = is.written }
 wrote case lines left status.Usage run is = absurd is
 wrote case lines left (status.NoFile n) run is = absurd is

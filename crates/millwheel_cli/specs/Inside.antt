@@ -91,8 +91,8 @@ pub record WritesPart (lines : Bool) (shape : Shape) (history : List Entry) (old
   pub part : AppendsPrefix text old new
 
 -- what is written of a history: its whole text, or a beginning, or nothing where memory ran out
-abbrev pub HasText : Bool → Shape → List Entry → Option (List ℕ) × Option (List ℕ) → Status → Type 0
-HasText lines shape history text status.Ok = WritesWhole lines shape history text.0 text.1
-HasText lines shape history text status.SinkFault = WritesPart lines shape history text.0 text.1
-HasText lines shape history text status.NoMemory = WritesPart lines shape history text.0 text.1 ⊎ (text.1 ≡ text.0)
-HasText lines shape history text _ = ⊥
+abbrev pub HasText : Bool → Shape → List Entry → Option (List ℕ) → Option (List ℕ) → Status → Type 0
+HasText lines shape history old new status.Ok = WritesWhole lines shape history old new
+HasText lines shape history old new status.SinkFault = WritesPart lines shape history old new
+HasText lines shape history old new status.NoMemory = WritesPart lines shape history old new ⊎ (new ≡ old)
+HasText lines shape history old new _ = ⊥

@@ -19,7 +19,7 @@ use node::NodeFault;
 use row_keeper::Keeper;
 use run_history::{Case, History, history_lines, result_text};
 use std::alloc::Global;
-use world::drain;
+use world::{drain, drains_go_on_until_they_end, drains_leave_no_work};
 
 // How many entries a history may have.
 const HISTORY_MAX: u64 = 1 << 32;
@@ -111,8 +111,14 @@ fn finish<K: Keeper, C: Computation, O: Sink>(
     } in RunLeaves book.old.case lines left result }
     ensures tells { is_some book.new.rows ≡ is_some book.old.rows }
 {
-    match drain(alloc, book, work) {
-        Ok(()) => write(alloc, book.case(), book.history(), lines, out),
+    // What holds of every book is known of it before and after.
+    book.history();
+    let drained = drain(alloc, book, work);
+    let history = book.history();
+    drains_leave_no_work();
+    drains_go_on_until_they_end();
+    match drained {
+        Ok(()) => write(alloc, book.case(), history, lines, out),
         Err(fault) => status_of_drain(fault),
     }
 }
@@ -128,8 +134,8 @@ fn write<O: Sink>(
     requires printable { IsPrintable case.now.topology history.now }
     requires lines { All HasLine history.now }
 
-    ensures written { let text = (O.text out.old, O.text out.new) in
-        HasText lines case.now.topology history.now text result }
+    ensures written { HasText lines case.now.topology history.now
+        (O.text out.old) (O.text out.new) result }
     ensures sink_fault { result ≡ Status.SinkFault → Rose (O.faults out.old) (O.faults out.new) }
 {
     match whole_text(alloc, case, history, lines) {
