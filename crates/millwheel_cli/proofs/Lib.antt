@@ -1,5 +1,6 @@
 pub mod Refusals
 pub mod Reasons
+pub mod Statuses
 pub mod Works
 pub mod Running
 pub mod Leaving

@@ -14,7 +14,6 @@ use row_keeper::{Keeper, KeptRow, MemKeeper};
 use std::alloc::Global;
 use std::process::Abort;
 use std::test::Fail;
-use topologies::COUNT;
 
 // Two records in the window that ends at 60, and one in the next.
 const EVENTS: &str = r#"{"key":"a","ts":10}
@@ -158,9 +157,4 @@ fn holds(
         assert_eq!(rt; hex_of(alloc, row)?.as_str(), *bytes);
     }
     Ok(())
-}
-
-// The events of one count.
-fn count_answer(alloc: Global, text: &str, out: &mut MemSink) -> Result<Done<MemKeeper>, NoMemory> {
-    answer(alloc, text, COUNT, EVENTS, out)
 }

@@ -1,6 +1,6 @@
 //! A sink or a keeper that fails, and keepers that have rows.
 use super::topologies::{COUNT, HEADS};
-use super::{EVENTS, bytes_of, call, called, count_answer, holds, keeper, shelf, sink};
+use super::{EVENTS, answer, bytes_of, call, called, holds, keeper, shelf, sink};
 use crate::{Done, Status};
 use mw_ports::MemSink;
 use mw_types::{CallList, Key, KeyRefusal, RowName};
@@ -29,7 +29,7 @@ fn fails_after_eight(
     empty: CallList,
 ) -> Result<(), Fail> {
     let mut out = MemSink::of(alloc, 8, failing, empty);
-    let done = count_answer(alloc, "solo t.json e", &mut out)?;
+    let done = answer(alloc, "solo t.json e", COUNT, EVENTS, &mut out)?;
     assert_eq!(rt; done.status, Status::SinkFault);
     assert_eq!(rt; done.history.len(), 14);
     assert_eq!(rt; out.text(), b"{\"key\":\"".as_slice());
