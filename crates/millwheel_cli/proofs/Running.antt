@@ -1,7 +1,9 @@
 -- What a book that was worked off leaves, as a run.
-use Rattle.std.proofs.Common.{◌≡◌, ◌∙◌, ◌⊎◌, ◌≤◌, ℕ, ⊤, true, false, List, [], length, Option, Some, None, IfSome, refl, sym, ap, subst, inl, inr, true≢false, arith}
+use Rattle.std.proofs.Common.{◌≡◌, ◌∙◌, ◌⊎◌, ◌≤◌, ℕ, true, false, List, [], length, Option, Some, None, IfSome, refl, sym, ap, subst, inl, inr, true≢false, arith}
+use Rattle.std.specs.Prelude.{⊤}
 use Rattle.std.specs.Option.{is_some}
 use Rattle.mw_types.specs.declared.entry.Entry.{Entry}
+use Rattle.mw_types.specs.declared.identity.RowName.{RowName}
 use Rattle.row_keeper.specs.Rows.{Rows}
 use Rattle.run_history.specs.Cases.{CaseShape}
 use Rattle.run_history.specs.Runs.{run_of}
@@ -10,7 +12,13 @@ use Rattle.run_history.specs.Finished.{IsFinished}
 use Rattle.run_history.specs.Inputs.{IsRunnable}
 use Rattle.run_history.specs.Stored.{stored_rows}
 use Rattle.book.specs.Books.{BookView, core_of}
+use Rattle.book.specs.Claims.{IsDamagedRow}
+use Rattle.book.specs.DeskReasons.{IsDamageOf}
 use Rattle.book.specs.Lawful.{IsHeld, IsLawful}
+use Rattle.book.specs.OwnDesks.{own_view, telling}
+use Rattle.node.specs.Answers.{refusal_of}
+use Rattle.node.specs.declared.outcome.NodeFault.{NodeFault}
+use Rattle.node.specs.declared.outcome.NodeFault.TheVariants as faults
 use Rattle.world.specs.Drains.{IsDraining, IsDrained, HasEnded, HasInjected, IsNextEntry}
 use Rattle.millwheel_cli.specs.Answers.{Left, IsKeptRun, IsRun, IsWholeRun}
 
@@ -57,7 +65,7 @@ pub run_of_book : (case : CaseShape) (old new : BookView) (text : Option (List �
 run_of_book case old new text mine same before after empty tells draining =
     let lawful : IsLawful case (core_of new) = subst (λ c. IsLawful c (core_of new)) (same ∙ sym mine) after in
     let drains : IfSome old.rows (λ _. IsDraining case (length old.history) new.history) =
-        subst (λ c. IfSome old.rows (λ _. IsDraining c (length old.history) new.history)) (sym mine) draining in
+    subst (λ c. IfSome old.rows (λ _. IsDraining c (length old.history) new.history)) (sym mine) draining in
     record {
       began_empty = none_kept old.case old.history old.rows empty before.held;
       fenced = lawful.fenced;
@@ -97,3 +105,17 @@ pub goes_on_seen : (case : CaseShape) (from : ℕ) (history : List Entry) (old n
 goes_on_seen case from history old new zero tells law unended =
     seen_again {P = λ _. ⊤} old new tells (λ rows u t. goes_on case history (law case 0 history (omega arith)) (subst (λ n. HasEnded case n history → ⊥) zero u))
     unended (all_seen new)
+
+-- what a desk does not tell a contract does not see
+untold_of : {X : Type 0} (told : Option X) → IfSome (telling told) (λ _. ⊥) → IfSome told (λ _. ⊥)
+untold_of None is = tt
+untold_of (Some x) is = is
+
+-- a row at which a drain stopped is damaged
+pub damaged_of : (book : BookView) (case : CaseShape) (fault : NodeFault) (name : RowName) (bytes : List ℕ) → book.case ≡ case
+    → IsDamageOf (own_view book) (refusal_of fault) → fault ≡ faults.RowDamaged name bytes → IsDamagedRow case book.rows (length book.history) name bytes
+damaged_of book case fault name bytes same is named =
+    let at : IsDamagedRow book.case (telling book.rows) (length book.history) name bytes =
+    subst (λ f. IsDamageOf (own_view book) (refusal_of f)) named is in
+    subst (λ c. IsDamagedRow c book.rows (length book.history) name bytes) same
+    (record { no_row = at.no_row; untold = untold_of book.rows at.untold })

@@ -123,7 +123,7 @@ still_told old None rows told tells untold = true≢false (sym (tells ∙ ap is_
 still_told old (Some held) rows told tells untold = untold
 
 -- words that ask for nothing are answered with Usage
-answer_usage : (words : List (List ℕ)) (held : Files) (rows : Rows) → call_of words ≡ None → Usage ≡ answer_of held rows words
+pub answer_usage : (words : List (List ℕ)) (held : Files) (rows : Rows) → call_of words ≡ None → Usage ≡ answer_of held rows words
 answer_usage words held rows none = sym (ap (λ (c : Option Call). option_map_or (answer_for held rows) c Usage) none)
 
 -- over files and rows that a contract can see, where nothing failed, the answer is theirs, or memory ran out, or the history is full
@@ -147,9 +147,11 @@ told_answer seen words left k0 k1 f0 f1 held rows NoMemory why is keeper sink te
 told_answer seen words left k0 k1 f0 f1 held rows (NotEmpty name bytes) why is keeper sink tells told seen_rows well kept written =
     let first = told_of left.rows.0 rows (λ rs. slice_get rs 0 ≡ Some (name, bytes)) seen_rows is.leaves.first in
     sym (answer_read seen.files words held rows is.call is.case told is.named is.read ∙ ran_over-first rows name bytes first)
-told_answer seen words left k0 k1 f0 f1 held rows HistoryFull why is keeper sink tells told seen_rows well kept written =
-    (answer_read seen.files words held rows is.call is.case told is.named is.read
-    ∙ ran_over-empty left.rows.0 rows seen_rows is.leaves.stopped.run.began_empty, is.leaves.full)
+told_answer seen words left k0 k1 f0 f1 held rows HistoryFull why is keeper sink tells told seen_rows well kept written = (
+  answer_read seen.files words held rows is.call is.case told is.named is.read
+      ∙ ran_over-empty left.rows.0 rows seen_rows is.leaves.stopped.run.began_empty,
+  is.leaves.full,
+)
 told_answer seen words left k0 k1 f0 f1 held rows (RowDamaged name bytes) why is keeper sink tells told seen_rows well kept written =
     absurd (still_told left.rows.0 left.rows.1 rows seen_rows tells is.leaves.damaged.untold)
 told_answer seen words left k0 k1 f0 f1 held rows (ReadFault name) why is keeper sink tells told seen_rows well kept written =

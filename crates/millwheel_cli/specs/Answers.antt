@@ -23,8 +23,8 @@ use Rattle.millwheel_cli.specs.declared.status.Status.TheVariants as status
 use Rattle.millwheel_cli.specs.Words.{Call, history_limit, call_of}
 use Rattle.millwheel_cli.specs.Files.{IsCaseRead}
 
--- what a call leaves: the keeper's rows and the sink's text, before and after, where a contract can see them, and
--- the history
+-- what a call leaves: the keeper's rows and the sink's text, before and after, where a contract can see
+-- them, and the history
 pub record Left : Type 0 where
   pub rows : Option Rows × Option Rows
   pub text : Option (List ℕ) × Option (List ℕ)
@@ -38,7 +38,8 @@ pub record IsUnbegun (left : Left) : Type 0 where
   pub same_rows : left.rows.1 ≡ left.rows.0
   pub unwritten : left.text.1 ≡ left.text.0
 
--- rows that a contract can see are those of the history, which is a legal one, and goes as a drain from nothing does
+-- rows that a contract can see are those of the history, which is a legal one, and goes as a drain from
+-- nothing does
 pub record IsKeptRun (case : CaseShape) (history : List Entry) (rows : Rows) : Type 0 where
   pub legal : IsLegal case history
   pub draining : IsDraining case 0 history
@@ -91,8 +92,8 @@ pub record IsFull (case : CaseShape) (left : Left) : Type 0 where
   pub full : length left.history ≡ history_limit
   pub more : IfSome left.rows.1 (λ _. (entry : Entry) × IsNextEntry case 0 left.history entry)
 
--- the run stopped at bytes that the keeper gave, which are those of no row that fits the name; of a keeper whose
--- rows a contract can see none are
+-- the run stopped at bytes that the keeper gave, which are those of no row that fits the name; of a keeper
+-- whose rows a contract can see none are
 pub record IsDamagedAt (case : CaseShape) (left : Left) (name : RowName) (bytes : List ℕ) : Type 0 where
   pub stopped : IsStopped case left
   pub damaged : IsDamagedRow case left.rows.1 (length left.history) name bytes
@@ -114,7 +115,8 @@ RunLeaves case lines left (NotEmpty name bytes) = IsHeldBefore left name bytes
 RunLeaves case lines left _ = ⊥
 
 -- the words ask for two files that were read, and for their case the status leaves this
-pub record HasRun (files : Option Files) (words : List (List ℕ)) (left : Left) (status : Status) : Type 0 where
+pub record HasRun (files : Option Files) (words : List (List ℕ)) (left : Left)
+    (status : Status) : Type 0 where
   pub call : Call
   pub named : call_of words ≡ Some call
   pub case : CaseShape

@@ -38,8 +38,8 @@ abbrev pub IsContent : Option Files → List ℕ → List ℕ → Type 0
 IsContent files name bytes = IfSome files (λ held. held name ≡ Some bytes)
 
 -- the file of that name had so many bytes at most, and they are taken or refused so
-pub record HoldsAs {T : Type 0} (files : Option Files) (name : List ℕ) (limit : ℕ) (taken : List ℕ → Result T Status)
-    (result : Result T Status) : Type 0 where
+pub record HoldsAs {T : Type 0} (files : Option Files) (name : List ℕ) (limit : ℕ)
+    (taken : List ℕ → Result T Status) (result : Result T Status) : Type 0 where
   pub bytes : List ℕ
   pub content : IsContent files name bytes
   pub short : length bytes ≤ limit

@@ -79,13 +79,15 @@ of_sink sink.Failed = status.SinkFault
 of_sink sink.NoMemory = status.NoMemory
 
 -- the whole text of a history was written
-pub record WritesWhole (lines : Bool) (shape : Shape) (history : List Entry) (old new : Option (List ℕ)) : Type 0 where
+pub record WritesWhole (lines : Bool) (shape : Shape) (history : List Entry)
+    (old new : Option (List ℕ)) : Type 0 where
   pub text : List ℕ
   pub whole : IsWholeText lines shape history text
   pub written : new ≡ append_known old text
 
 -- a beginning of the text of a history was written
-pub record WritesPart (lines : Bool) (shape : Shape) (history : List Entry) (old new : Option (List ℕ)) : Type 0 where
+pub record WritesPart (lines : Bool) (shape : Shape) (history : List Entry)
+    (old new : Option (List ℕ)) : Type 0 where
   pub text : List ℕ
   pub whole : IsWholeText lines shape history text
   pub part : AppendsPrefix text old new

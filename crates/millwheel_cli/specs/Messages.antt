@@ -36,7 +36,8 @@ message_of Usage = codes "usage: millwheel MODE ARGS"
 message_of (NoFile name) = codes "no file " ++ name
 message_of (TopologyRefused why) = codes "topology refused: " ++ topology_rule why
 message_of (EventsRefused file line why) =
-    codes "events refused: file " ++ decimal file ++ codes " line " ++ decimal line ++ codes ": " ++ line_rule why
+    codes "events refused: file " ++ decimal file ++ codes " line " ++ decimal line ++ codes ": "
+    ++ line_rule why
 message_of KeeperFault = codes "the keeper failed"
 message_of SinkFault = codes "the output failed"
 message_of NoMemory = codes "out of memory"

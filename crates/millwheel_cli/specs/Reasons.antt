@@ -1,5 +1,5 @@
--- Why each status comes: what the shelf gave or failed to give, and what files and rows make of a call where a
--- contract can see them. Own.
+-- Why each status comes: what the shelf gave or failed to give, and what files and rows make of a call where
+-- a contract can see them. Own.
 use Rattle.std.specs.Prelude.{◌≡◌, ◌<◌, ◌⊎◌, ℕ, ⊤, List, [], ◌∷◌, length, nat_le, if◌then◌else◌, Option, Some, None, IfSome, IsSomeAnd, Result, Ok, Err}
 use Rattle.std.specs.Option.{option_map_or}
 use Rattle.mw_types.specs.Causes.{Rose}
@@ -23,17 +23,20 @@ pub record ShelfSeen : Type 0 where
   pub faults : ℕ × ℕ
   pub lacks : ℕ × ℕ
 
--- why the file of that name was not read: it is not there, it has more bytes than the limit, or reading failed
+-- why the file of that name was not read: it is not there, it has more bytes than the limit, or reading
+-- failed
 abbrev pub IsUnread : ShelfSeen → List ℕ → ℕ → Status → Type 0
 IsUnread seen name limit (NoFile file) =
     (file ≡ name) × Rose seen.lacks.0 seen.lacks.1 × IfSome seen.files (λ held. held name ≡ None)
 IsUnread seen name limit (TooLong file) =
-    (file ≡ name) × Rose seen.lacks.0 seen.lacks.1 × IfSome seen.files (λ held. IsSomeAnd (held name) (λ bytes. limit < length bytes))
+    (file ≡ name) × Rose seen.lacks.0 seen.lacks.1
+    × IfSome seen.files (λ held. IsSomeAnd (held name) (λ bytes. limit < length bytes))
 IsUnread seen name limit (ReadFault file) = (file ≡ name) × Rose seen.faults.0 seen.faults.1
 IsUnread seen name limit _ = ⊥
 
 -- why a file is refused: it was not read, or its bytes are refused
-abbrev pub IsFileRefused : {T : Type 0} → ShelfSeen → List ℕ → ℕ → (List ℕ → Result T Status) → Status → Type 0
+abbrev pub IsFileRefused : {T : Type 0} → ShelfSeen → List ℕ → ℕ → (List ℕ → Result T Status) → Status
+    → Type 0
 IsFileRefused seen name limit taken status =
     IsUnread seen name limit status ⊎ HoldsAs seen.files name limit taken (Err status)
 
@@ -57,8 +60,8 @@ pub record IsCallRefused (seen : ShelfSeen) (words : List (List ℕ)) (status : 
   pub named : call_of words ≡ Some call
   pub why : IsRefused seen call.files status
 
--- why a status came that comes before a run: the words ask for nothing, or a file is refused. What is said of the
--- other statuses stands in clauses of their own
+-- why a status came that comes before a run: the words ask for nothing, or a file is refused. What is said of
+-- the other statuses stands in clauses of their own
 abbrev pub HasReason : ShelfSeen → List (List ℕ) → Status → Type 0
 HasReason seen words status.Ok = ⊤
 HasReason seen words KeeperFault = ⊤
@@ -75,7 +78,8 @@ HasReason seen words status = IsCallRefused seen words status
 -- a file of a shelf, or why it is not read
 abbrev pub file_within : Files → List ℕ → ℕ → Result (List ℕ) Status
 file_within held name limit =
-    option_map_or (λ bytes. if nat_le (length bytes) limit then Ok bytes else Err (TooLong name)) (held name) (Err (NoFile name))
+    option_map_or (λ bytes. if nat_le (length bytes) limit then Ok bytes else Err (TooLong name))
+    (held name) (Err (NoFile name))
 
 -- what a file of a shelf is taken for, or why it is refused
 abbrev pub file_as : {T : Type 0} → Files → List ℕ → ℕ → (List ℕ → Result T Status) → Result T Status
@@ -91,13 +95,14 @@ abbrev pub ended : {T : Type 0} → Result T Status → Status → Status
 ended (Ok x) run = run
 ended (Err status) run = status
 
--- the answer for two files of a shelf and the rows of a keeper: the topology is tried first, and the keeper last
+-- the answer for two files of a shelf and the rows of a keeper: the topology is tried first, and the keeper
+-- last
 abbrev pub answer_for : Files → Rows → Call → Status
 answer_for held rows call = ended (and_then (file_as held call.files.0 topology_limit topology_taken)
     (λ shape. file_as held call.files.1 events_limit source_taken)) (ran_over rows)
 
--- the answer to these words over a shelf that holds these files and a keeper that holds these rows, where nothing
--- fails, memory does not run out, and the history has room
+-- the answer to these words over a shelf that holds these files and a keeper that holds these rows, where
+-- nothing fails, memory does not run out, and the history has room
 abbrev pub answer_of : Files → Rows → List (List ℕ) → Status
 answer_of held rows words = option_map_or (answer_for held rows) (call_of words) Usage
 

@@ -6,7 +6,8 @@ use Rattle.std.specs.Cmp.Lexicographic.{pointwise}
 abbrev pub Names : Type 0
 Names = List ℕ × List ℕ
 
--- what is asked for: the run of two files, and whether the lines of its history are to be written before its result
+-- what is asked for: the run of two files, and whether the lines of its history are to be written before its
+-- result
 pub record Call : Type 0 where
   pub files : Names
   pub lines : Bool

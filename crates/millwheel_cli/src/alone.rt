@@ -61,15 +61,17 @@ pub fn millwheel_alone<S: Shelf, K: Keeper, O: Sink>(
         Rose (K.faults keeper) (K.faults result.keeper) }
     ensures sink_fault { result.status ≡ Status.SinkFault →
         Rose (O.faults out.old) (O.faults out.new) }
-    // Where a contract can see the shelf's files and the keeper's rows they decide the status, unless
-    // something fails.
-    ensures answer { (held : Files) (rows : Rows) → S.files shelf.old ≡ Some held → K.rows keeper ≡ Some rows
+    // Where a contract can see the shelf's files and the keeper's rows they decide the status,
+    // unless something fails.
+    ensures answer { (held : Files) (rows : Rows) → S.files shelf.old ≡ Some held
+        → K.rows keeper ≡ Some rows
         → (Rose (S.faults shelf.old) (S.faults shelf.new) → ⊥)
         → (Rose (K.faults keeper) (K.faults result.keeper) → ⊥)
         → (Rose (O.faults out.old) (O.faults out.new) → ⊥)
         → IsAnswer held rows words.now result.history result.status }
 
-    // Each status leaves what is said of it, which for HistoryFull, RowDamaged and NotEmpty is also why.
+    // Each status leaves what is said of it, which for HistoryFull, RowDamaged and NotEmpty is also
+    // why.
     ensures left { let left : Left = record {
       rows = (K.rows keeper, K.rows result.keeper);
       text = (O.text out.old, O.text out.new);

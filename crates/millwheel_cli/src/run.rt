@@ -1,5 +1,5 @@
 //! The run of a case over a keeper, and the writing of its text.
-ghost use Rattle.std.specs.Prelude.{◌≡◌, [], if◌then◌else◌, All, IfOk};
+ghost use Rattle.std.specs.Prelude.{◌≡◌, ◌++◌, [], if◌then◌else◌, All, IfOk};
 ghost use Rattle.std.specs.Option.{is_some};
 ghost use Rattle.mw_types.specs.Causes.{Rose};
 ghost use Rattle.node.specs.Works.{IsWorkOf};
@@ -44,14 +44,50 @@ pub fn run<K: Keeper, O: Sink>(
     ensures untouched { result.history ≡ [] → K.rows result.keeper ≡ K.rows keeper }
     ensures tells { is_some (K.rows result.keeper) ≡ is_some (K.rows keeper) }
 {
-    let work = match Kinds::of(alloc, &case.topology) {
-        Ok(work) => work,
-        Err(NoMemory) => return unbegun(alloc, Status::NoMemory, keeper),
-    };
-    match Book::start(alloc, case, keeper, HISTORY_MAX) {
-        Ok(book) => run_book(alloc, book, &work, lines, out),
-        Err(StartRefusal { why, keeper }) => unbegun(alloc, status_of_start(why), keeper),
+    match Kinds::of(alloc, &case.topology) {
+        Ok(work) => run_work(alloc, case, &work, lines, keeper, out),
+        Err(NoMemory) => unbegun(alloc, Status::NoMemory, keeper),
     }
+}
+
+// Runs a case over a keeper to its end, with these computations, and writes its text.
+fn run_work<K: Keeper, C: Computation, O: Sink>(
+    alloc: Global,
+    case: &Case,
+    work: &C,
+    lines: bool,
+    keeper: K,
+    out: &mut O,
+) -> Done<K>
+    requires work { IsWorkOf case.now.topology (C.has work.now)
+        (C.gives_record work.now) (C.gives_timer work.now) }
+
+    ensures keeper_fault { result.status ≡ Status.KeeperFault →
+        Rose (K.faults keeper) (K.faults result.keeper) }
+    ensures sink_fault { result.status ≡ Status.SinkFault →
+        Rose (O.faults out.old) (O.faults out.new) }
+    ensures left { let left : Left = record {
+      rows = (K.rows keeper, K.rows result.keeper);
+      text = (O.text out.old, O.text out.new);
+      history = result.history;
+    } in RunLeaves case.now lines left result.status }
+    ensures untouched { result.history ≡ [] → K.rows result.keeper ≡ K.rows keeper }
+    ensures tells { is_some (K.rows result.keeper) ≡ is_some (K.rows keeper) }
+{
+    match Book::start(alloc, case, keeper, HISTORY_MAX) {
+        Ok(book) => run_book(alloc, book, work, lines, out),
+        Err(refusal) => unstarted(alloc, refusal),
+    }
+}
+
+// What a call leaves that began no book.
+fn unstarted<K: Keeper>(alloc: Global, refusal: StartRefusal<K>) -> Done<K>
+    ensures status { result.status ≡ of_start refusal.why }
+    ensures keeper { result.keeper ≡ refusal.keeper }
+    ensures history { result.history ≡ [] }
+{
+    let StartRefusal { why, keeper } = refusal;
+    unbegun(alloc, status_of_start(why), keeper)
 }
 
 // Runs a new book to its end, and writes its text.
@@ -109,6 +145,7 @@ fn finish<K: Keeper, C: Computation, O: Sink>(
       text = (O.text out.old, O.text out.new);
       history = book.new.history;
     } in RunLeaves book.old.case lines left result }
+    ensures untouched { book.new.history ≡ [] → book.new.rows ≡ book.old.rows }
     ensures tells { is_some book.new.rows ≡ is_some book.old.rows }
 {
     // What holds of every book is known of it before and after.
@@ -124,13 +161,7 @@ fn finish<K: Keeper, C: Computation, O: Sink>(
 }
 
 // Writes the text of a history.
-fn write<O: Sink>(
-    alloc: Global,
-    case: &Case,
-    history: &History,
-    lines: bool,
-    out: &mut O,
-) -> Status
+fn write<O: Sink>(alloc: Global, case: &Case, history: &History, lines: bool, out: &mut O) -> Status
     requires printable { IsPrintable case.now.topology history.now }
     requires lines { All HasLine history.now }
 
@@ -148,22 +179,23 @@ fn write<O: Sink>(
 }
 
 // The text of a history: its lines, where they are asked for, and its result.
-fn whole_text(
-    alloc: Global,
-    case: &Case,
-    history: &History,
-    lines: bool,
-) -> Result<Bytes, NoMemory>
+fn whole_text(alloc: Global, case: &Case, history: &History, lines: bool) -> Result<Bytes, NoMemory>
     requires printable { IsPrintable case.now.topology history.now }
     requires lines { All HasLine history.now }
     ensures { IfOk result (IsWholeText lines case.now.topology history.now) }
 {
-    let mut text = first_lines(alloc, history, lines)?;
+    let text = first_lines(alloc, history, lines)?;
     let result = result_text(alloc, case, history)?;
-    for byte in result.as_slice() {
-        text.push(*byte)?;
-    }
-    Ok(text)
+    joined(text, result.as_slice())
+}
+
+// Bytes, and then more of them.
+fn joined(text: Bytes, more: &[u8]) -> Result<Bytes, NoMemory>
+    ensures { IfOk result (λ all. all ≡ text ++ more.now) }
+{
+    let mut all = text.into_vec();
+    all.extend_from_slice(more)?;
+    Ok(Bytes::from_vec(all))
 }
 
 // The lines of a history, where they are asked for.

@@ -77,8 +77,8 @@ fn keeper(alloc: Global) -> MemKeeper {
     MemKeeper::new(alloc, CallList::new(alloc))
 }
 
-// What a call with these words answers, and writes to a sink. No other function calls the program over
-// this keeper, since each that does carries what its clauses tell.
+// What a call with these words answers, and writes to a sink. No other function calls the program,
+// since each that does carries what its clauses tell.
 fn called<K: Keeper>(
     alloc: Global,
     text: &str,

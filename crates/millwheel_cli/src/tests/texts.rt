@@ -127,7 +127,13 @@ fn two_readers_of_one_stream(rt: HostRuntime) -> Result<(), Fail> {
 {"key":"a","stream":"windows","ts":60,"value":1}
 {"fired":1,"handled":2,"injected":1,"late":0}
 "#;
-    let done = writes(&rt, rt.alloc(), READERS, "{\"key\":\"a\",\"ts\":10}\n", want)?;
+    let done = writes(
+        &rt,
+        rt.alloc(),
+        READERS,
+        "{\"key\":\"a\",\"ts\":10}\n",
+        want,
+    )?;
     assert_eq!(rt; done.history.len(), 11);
     Ok(())
 }
@@ -161,7 +167,8 @@ fn a_count_in_three_intervals(rt: HostRuntime) -> Result<(), Fail> {
 
 #[test]
 fn other_names_and_spellings_are_taken(rt: HostRuntime) -> Result<(), Fail> {
-    let topology = r#"{ "computations": [{"stream":"sums", "cuts":[], "size":60, "kind":"count", "reads":[{"by":"key","stream":"in_1"}], "name":"c"}],
+    let topology =
+        r#"{ "computations": [{"stream":"sums", "cuts":[], "size":60, "kind":"count", "reads":[{"by":"key","stream":"in_1"}], "name":"c"}],
  "injectors": [{"stream":"in_1","name":"i"}] }"#;
     let events = "\n{\"value\":-3,\"ts\":59,\"key\":\"b\",\"note\":null}\r\n{\"watermark\":60}\n";
     let want = r#"{"key":"b","stream":"sums","ts":60,"value":1}
