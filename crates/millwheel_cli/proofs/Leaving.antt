@@ -83,7 +83,8 @@ wrote case lines left (status.TooLong n) run is = absurd is
 wrote case lines left (status.FileCount n m) run is = absurd is
 
 -- so it is where the case and the history are said in other words
-pub wrote_as : (case other : CaseShape) (lines : Bool) (left : Left) (history : List Entry) (s : Status) → other ≡ case → history ≡ left.history
+pub wrote_as : (case other : CaseShape) (lines : Bool) (left : Left) (history : List Entry) (s : Status) → other ≡ case
+    → history ≡ left.history
     → IsWholeRun case left → HasText lines other.topology history left.text.0 left.text.1 s → RunLeaves case lines left s
 wrote_as case other lines left history s same told run is = wrote case lines left s run
     (subst (λ (h : List Entry). HasText lines case.topology h left.text.0 left.text.1 s) told
@@ -93,7 +94,8 @@ wrote_as case other lines left history s same told run is = wrote case lines lef
 pub stopped : (case : CaseShape) (lines : Bool) (left : Left) (fault : NodeFault) → IsRun case left → left.text.1 ≡ left.text.0
     → (fault ≡ faults.HistoryFull → length left.history ≡ history_limit)
     → (fault ≡ faults.HistoryFull → IfSome left.rows.1 (λ _. (entry : Entry) × IsNextEntry case 0 left.history entry))
-    → ((name : RowName) (bytes : List ℕ) → fault ≡ faults.RowDamaged name bytes → IsDamagedRow case left.rows.1 (length left.history) name bytes)
+    → ((name : RowName) (bytes : List ℕ) → fault ≡ faults.RowDamaged name bytes
+    → IsDamagedRow case left.rows.1 (length left.history) name bytes)
     → RunLeaves case lines left (of_drain fault)
 stopped case lines left faults.HistoryFull run same full more damaged =
     record { stopped = record { run = run; unwritten = same }; full = full refl; more = more refl }
@@ -110,7 +112,8 @@ unstarted case lines left starts.KeeperFault is first = inr is
 unstarted case lines left starts.NoMemory is first = inr (inr is)
 
 -- a status of a run has its reason elsewhere
-pub run_reason : (seen : ShelfSeen) (words : List (List ℕ)) (case : CaseShape) (lines : Bool) (left : Left) (s : Status) → RunLeaves case lines left s
+pub run_reason : (seen : ShelfSeen) (words : List (List ℕ)) (case : CaseShape) (lines : Bool) (left : Left) (s : Status)
+    → RunLeaves case lines left s
     → HasReason seen words s
 run_reason seen words case lines left status.Ok leaves = tt
 run_reason seen words case lines left status.Usage leaves = absurd leaves
@@ -132,7 +135,8 @@ pub run_usage : (case : CaseShape) (lines : Bool) (left : Left) (s : Status) →
 run_usage case lines left s leaves is = subst (λ t. RunLeaves case lines left t) is leaves
 
 -- what a run leaves, said of the same case and the same rows before
-pub same_run : (case other : CaseShape) (lines : Bool) (before rows after : Option Rows) (text : Option (List ℕ) × Option (List ℕ)) (history : List Entry) (s : Status)
+pub same_run : (case other : CaseShape) (lines : Bool) (before rows after : Option Rows) (text : Option (List ℕ) × Option (List ℕ))
+    (history : List Entry) (s : Status)
     → other ≡ case → before ≡ rows → RunLeaves other lines (record { rows = (before, after); text = text; history = history }) s
     → RunLeaves case lines (record { rows = (rows, after); text = text; history = history }) s
 same_run case other lines before rows after text history s same told leaves =
@@ -140,7 +144,8 @@ same_run case other lines before rows after text history s same told leaves =
     (subst (λ c. RunLeaves c lines (record { rows = (before, after); text = text; history = history }) s) same leaves)
 
 -- so it is of the same rows after and the same history
-pub same_end : (case : CaseShape) (lines : Bool) (before after rows : Option Rows) (text : Option (List ℕ) × Option (List ℕ)) (history other : List Entry) (s : Status)
+pub same_end : (case : CaseShape) (lines : Bool) (before after rows : Option Rows) (text : Option (List ℕ) × Option (List ℕ))
+    (history other : List Entry) (s : Status)
     → rows ≡ after → other ≡ history → RunLeaves case lines (record { rows = (before, after); text = text; history = history }) s
     → RunLeaves case lines (record { rows = (before, rows); text = text; history = other }) s
 same_end case lines before after rows text history other s told same leaves =
@@ -148,7 +153,8 @@ same_end case lines before after rows text history other s told same leaves =
     (subst (λ h. RunLeaves case lines (record { rows = (before, after); text = text; history = h }) s) (sym same) leaves)
 
 -- where memory ran out before a run was begun, that is what is left
-pub unwanted : (case : CaseShape) (lines : Bool) (left : Left) (s : Status) → s ≡ status.NoMemory → IsUnbegun left → RunLeaves case lines left s
+pub unwanted : (case : CaseShape) (lines : Bool) (left : Left) (s : Status) → s ≡ status.NoMemory → IsUnbegun left
+    → RunLeaves case lines left s
 unwanted case lines left s is unbegun = subst (λ t. RunLeaves case lines left t) (sym is) (inr (inr unbegun))
 
 -- where words ask for something they do not ask for nothing

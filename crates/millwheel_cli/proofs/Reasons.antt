@@ -63,7 +63,8 @@ pub items_refused : (files later : Option Files) (f0 f1 f2 l0 l1 l2 : ℕ) (name
     → UnlessWant (IsRefused (record { files = files; faults = (f0, f2); lacks = (l0, l2) }) names) refusal
 items_refused files later f0 f1 f2 l0 l1 l2 names shape refusal same topology f l is =
     items_refused_of files f0 f1 f2 l0 l1 l2 names shape refusal topology f l
-    (subst (λ (fs : Option Files). UnlessWant (IsFileRefused (record { files = fs; faults = (f1, f2); lacks = (l1, l2) }) names.1 events_limit source_taken) refusal) same is)
+    (subst (λ (fs : Option Files). UnlessWant (IsFileRefused (record { files = fs; faults = (f1, f2); lacks = (l1, l2) }) names.1
+    events_limit source_taken) refusal) same is)
 
 -- what the words ask for is refused as one of the two files is
 called : (seen : ShelfSeen) (words : List (List ℕ)) (call : Call) (s : Status) → call_of words ≡ Some call → IsRefused seen call.files s

@@ -25,7 +25,8 @@ unread_refused seen name limit taken refusal is =
     unless_map (IsUnread seen name limit) (IsFileRefused seen name limit taken) refusal (λ s u. inl u) is
 
 -- a file whose bytes are refused is refused
-pub bytes_refused : {T : Type 0} (seen : ShelfSeen) (name : List ℕ) (limit : ℕ) (taken : List ℕ → Result T Status) (bytes slice : List ℕ) (refusal : Refusal)
+pub bytes_refused : {T : Type 0} (seen : ShelfSeen) (name : List ℕ) (limit : ℕ) (taken : List ℕ → Result T Status)
+    (bytes slice : List ℕ) (refusal : Refusal)
     → slice ≡ bytes → IsContent seen.files name bytes → length bytes ≤ limit → UnlessWant (λ s. taken slice ≡ Err s) refusal
     → UnlessWant (IsFileRefused seen name limit taken) refusal
 bytes_refused seen name limit taken bytes slice refusal same content short is =
@@ -33,7 +34,8 @@ bytes_refused seen name limit taken bytes slice refusal same content short is =
     (λ s e. inr (record { bytes = bytes; content = content; short = short; gives = ap taken (sym same) ∙ e })) is
 
 -- a file whose bytes are taken is taken
-pub bytes_taken : {T : Type 0} (files : Option Files) (name : List ℕ) (limit : ℕ) (taken : List ℕ → Result T Status) (bytes slice : List ℕ) (x : T)
+pub bytes_taken : {T : Type 0} (files : Option Files) (name : List ℕ) (limit : ℕ) (taken : List ℕ → Result T Status)
+    (bytes slice : List ℕ) (x : T)
     → slice ≡ bytes → IsContent files name bytes → length bytes ≤ limit → taken slice ≡ Ok x → HoldsAs files name limit taken (Ok x)
 bytes_taken files name limit taken bytes slice x same content short is =
     record { bytes = bytes; content = content; short = short; gives = ap taken (sym same) ∙ is }

@@ -49,7 +49,8 @@ seen_again None (Some rows) tells f a p = absurd (true≢false tells)
 seen_again (Some held) (Some rows) tells f a p = f rows a p
 
 -- rows that a book has are those of a run
-kept_run : (case : CaseShape) (from : ℕ) (history : List Entry) (rows : Rows) → from ≡ 0 → IsDraining case from history → IsHeld case history rows
+kept_run : (case : CaseShape) (from : ℕ) (history : List Entry) (rows : Rows) → from ≡ 0 → IsDraining case from history
+    → IsHeld case history rows
     → IsKeptRun case history rows
 kept_run case from history rows zero draining held = record {
   legal = held.legal;
@@ -69,7 +70,8 @@ run_of_book case old new text mine same before after empty tells draining =
     record {
       began_empty = none_kept old.case old.history old.rows empty before.held;
       fenced = lawful.fenced;
-      kept = seen_again old.rows new.rows tells (λ rows d h. kept_run case (length old.history) new.history rows (ap length empty) d h) drains lawful.held;
+      kept = seen_again old.rows new.rows tells (λ rows d h. kept_run case (length old.history) new.history rows (ap length empty) d
+          h) drains lawful.held;
     }
 
 -- a run that went to the drain's end is a whole one
@@ -103,7 +105,8 @@ pub goes_on_seen : (case : CaseShape) (from : ℕ) (history : List Entry) (old n
     → ((c : CaseShape) (n : ℕ) (h : List Entry) → n ≤ length h → HasEnded c n h ⊎ ((entry : Entry) × IsNextEntry c n h entry))
     → IfSome old (λ _. HasEnded case from history → ⊥) → IfSome new (λ _. (entry : Entry) × IsNextEntry case 0 history entry)
 goes_on_seen case from history old new zero tells law unended =
-    seen_again {P = λ _. ⊤} old new tells (λ rows u t. goes_on case history (law case 0 history (omega arith)) (subst (λ n. HasEnded case n history → ⊥) zero u))
+    seen_again {P = λ _. ⊤} old new tells (λ rows u t. goes_on case history (law case 0 history (omega arith))
+    (subst (λ n. HasEnded case n history → ⊥) zero u))
     unended (all_seen new)
 
 -- what a desk does not tell a contract does not see
@@ -113,7 +116,8 @@ untold_of (Some x) is = is
 
 -- a row at which a drain stopped is damaged
 pub damaged_of : (book : BookView) (case : CaseShape) (fault : NodeFault) (name : RowName) (bytes : List ℕ) → book.case ≡ case
-    → IsDamageOf (own_view book) (refusal_of fault) → fault ≡ faults.RowDamaged name bytes → IsDamagedRow case book.rows (length book.history) name bytes
+    → IsDamageOf (own_view book) (refusal_of fault) → fault ≡ faults.RowDamaged name bytes
+    → IsDamagedRow case book.rows (length book.history) name bytes
 damaged_of book case fault name bytes same is named =
     let at : IsDamagedRow book.case (telling book.rows) (length book.history) name bytes =
     subst (λ f. IsDamageOf (own_view book) (refusal_of f)) named is in

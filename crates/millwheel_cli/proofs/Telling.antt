@@ -32,13 +32,15 @@ nat_le-false a b lt = grind (arith, lt)
 file_within-short : (held : Files) (name : List ℕ) (limit : ℕ) (bytes : List ℕ) → held name ≡ Some bytes → length bytes ≤ limit
     → file_within held name limit ≡ Ok bytes
 file_within-short held name limit bytes there short =
-    ap (λ (found : Option (List ℕ)). option_map_or (λ bs. cond (nat_le (length bs) limit) (Ok bs) (Err (TooLong name))) found (Err (NoFile name))) there
+    ap (λ (found : Option (List ℕ)). option_map_or (λ bs. cond (nat_le (length bs) limit) (Ok bs) (Err (TooLong name))) found
+    (Err (NoFile name))) there
     ∙ ap (λ b. cond b (Ok bytes) (Err (TooLong name))) (nat_le-true (length bytes) limit short)
 
 -- a file that is not there is missing
 file_within-none : (held : Files) (name : List ℕ) (limit : ℕ) → held name ≡ None → file_within held name limit ≡ Err (NoFile name)
 file_within-none held name limit none =
-    ap (λ (found : Option (List ℕ)). option_map_or (λ bs. cond (nat_le (length bs) limit) (Ok bs) (Err (TooLong name))) found (Err (NoFile name))) none
+    ap (λ (found : Option (List ℕ)). option_map_or (λ bs. cond (nat_le (length bs) limit) (Ok bs) (Err (TooLong name))) found
+    (Err (NoFile name))) none
 
 -- bytes over the limit are too long
 long_of : (name : List ℕ) (limit : ℕ) (found : Option (List ℕ)) → IsSomeAnd found (λ bytes. limit < length bytes)
@@ -47,7 +49,8 @@ long_of name limit None is = absurd is
 long_of name limit (Some bytes) is = ap (λ b. cond b (Ok bytes) (Err (TooLong name))) (nat_le-false (length bytes) limit is)
 
 -- what a file is taken for is what its bytes are
-held_as : {T : Type 0} (files : Option Files) (held : Files) (name : List ℕ) (limit : ℕ) (taken : List ℕ → Result T Status) (result : Result T Status)
+held_as : {T : Type 0} (files : Option Files) (held : Files) (name : List ℕ) (limit : ℕ) (taken : List ℕ → Result T Status)
+    (result : Result T Status)
     → files ≡ Some held → HoldsAs files name limit taken result → file_as held name limit taken ≡ result
 held_as files held name limit taken result told is =
     let there : held name ≡ Some is.bytes = told_of files held (λ h. h name ≡ Some is.bytes) told is.content in
@@ -60,7 +63,8 @@ unread_as seen held name limit taken status.Ok told well is = absurd is
 unread_as seen held name limit taken Usage told well is = absurd is
 unread_as seen held name limit taken (NoFile n) told well is =
     let none : held name ≡ None = told_of seen.files held (λ h. h name ≡ None) told is.2 in
-    ap (λ (found : Result (List ℕ) Status). and_then found taken) (file_within-none held name limit none) ∙ ap (λ m. Err (NoFile m)) (sym is.0)
+    ap (λ (found : Result (List ℕ) Status). and_then found taken) (file_within-none held name limit none)
+    ∙ ap (λ m. Err (NoFile m)) (sym is.0)
 unread_as seen held name limit taken (TopologyRefused why) told well is = absurd is
 unread_as seen held name limit taken (EventsRefused file line why) told well is = absurd is
 unread_as seen held name limit taken KeeperFault told well is = absurd is
@@ -72,12 +76,14 @@ unread_as seen held name limit taken (RowDamaged row bytes) told well is = absur
 unread_as seen held name limit taken (ReadFault n) told well is = absurd (well is.1)
 unread_as seen held name limit taken (TooLong n) told well is =
     let long = told_of seen.files held (λ h. IsSomeAnd (h name) (λ bytes. limit < length bytes)) told is.2 in
-    ap (λ (found : Result (List ℕ) Status). and_then found taken) (long_of name limit (held name) long) ∙ ap (λ m. Err (TooLong m)) (sym is.0)
+    ap (λ (found : Result (List ℕ) Status). and_then found taken) (long_of name limit (held name) long)
+    ∙ ap (λ m. Err (TooLong m)) (sym is.0)
 unread_as seen held name limit taken (FileCount files injectors) told well is = absurd is
 
 -- a file that is refused is refused so
 refused_as : {T : Type 0} (seen : ShelfSeen) (held : Files) (name : List ℕ) (limit : ℕ) (taken : List ℕ → Result T Status) (s : Status)
-    → seen.files ≡ Some held → (Rose seen.faults.0 seen.faults.1 → ⊥) → IsFileRefused seen name limit taken s → file_as held name limit taken ≡ Err s
+    → seen.files ≡ Some held → (Rose seen.faults.0 seen.faults.1 → ⊥) → IsFileRefused seen name limit taken s
+    → file_as held name limit taken ≡ Err s
 refused_as seen held name limit taken s told well is = elim is [
   | inl unread ↦ unread_as seen held name limit taken s told well unread
   | inr refused ↦ held_as seen.files held name limit taken (Err s) told refused
@@ -96,7 +102,8 @@ answer_refused seen words held rows s told well is = sym (answer_of-named held r
       (refused_as seen held is.call.files.0 topology_limit topology_taken s told well topology)
   | inr source ↦ ap (λ found. ended (and_then found (λ shape. file_as held is.call.files.1 events_limit source_taken)) (ran_over rows))
       (held_as seen.files held is.call.files.0 topology_limit topology_taken _ told source.topology)
-      ∙ ap (λ found. ended found (ran_over rows)) (refused_as seen held is.call.files.1 events_limit source_taken s told well source.refused)
+      ∙ ap (λ found. ended found (ran_over rows)) (refused_as seen held is.call.files.1 events_limit source_taken s told well
+      source.refused)
 ])
 
 -- where both files were read the keeper's rows decide the answer
@@ -112,7 +119,8 @@ ran_over-empty : (found : Option Rows) (rows : Rows) → found ≡ Some rows →
 ran_over-empty found rows told empty = ap ran_over (told_of found rows (λ rs. rs ≡ []) told empty)
 
 -- none is begun over a keeper that has a first row
-ran_over-first : (rows : Rows) (name : RowName) (bytes : List ℕ) → slice_get rows 0 ≡ Some (name, bytes) → ran_over rows ≡ NotEmpty name bytes
+ran_over-first : (rows : Rows) (name : RowName) (bytes : List ℕ) → slice_get rows 0 ≡ Some (name, bytes)
+    → ran_over rows ≡ NotEmpty name bytes
 ran_over-first [] name bytes first = grind (arith, first)
 ran_over-first (row ∷ rows) name bytes first =
     ap (λ (r : RowName × List ℕ). NotEmpty r.0 r.1) (same_Some row (name, bytes) first)
@@ -134,15 +142,18 @@ pub told_answer : (seen : ShelfSeen) (words : List (List ℕ)) (left : Left) (k0
 told_answer seen words left k0 k1 f0 f1 held rows status.Ok why is keeper sink tells told seen_rows well kept written =
     sym (answer_read seen.files words held rows is.call is.case told is.named is.read
     ∙ ran_over-empty left.rows.0 rows seen_rows is.leaves.run.run.began_empty)
-told_answer seen words left k0 k1 f0 f1 held rows Usage why is keeper sink tells told seen_rows well kept written = answer_usage words held rows why
+told_answer seen words left k0 k1 f0 f1 held rows Usage why is keeper sink tells told seen_rows well kept written = answer_usage
+    words held rows why
 told_answer seen words left k0 k1 f0 f1 held rows (NoFile name) why is keeper sink tells told seen_rows well kept written =
     answer_refused seen words held rows _ told well why
 told_answer seen words left k0 k1 f0 f1 held rows (TopologyRefused r) why is keeper sink tells told seen_rows well kept written =
     answer_refused seen words held rows _ told well why
 told_answer seen words left k0 k1 f0 f1 held rows (EventsRefused file line r) why is keeper sink tells told seen_rows well kept written =
     answer_refused seen words held rows _ told well why
-told_answer seen words left k0 k1 f0 f1 held rows KeeperFault why is keeper sink tells told seen_rows well kept written = absurd (kept (keeper refl))
-told_answer seen words left k0 k1 f0 f1 held rows SinkFault why is keeper sink tells told seen_rows well kept written = absurd (written (sink refl))
+told_answer seen words left k0 k1 f0 f1 held rows KeeperFault why is keeper sink tells told seen_rows well kept written = absurd
+    (kept (keeper refl))
+told_answer seen words left k0 k1 f0 f1 held rows SinkFault why is keeper sink tells told seen_rows well kept written = absurd
+    (written (sink refl))
 told_answer seen words left k0 k1 f0 f1 held rows NoMemory why is keeper sink tells told seen_rows well kept written = tt
 told_answer seen words left k0 k1 f0 f1 held rows (NotEmpty name bytes) why is keeper sink tells told seen_rows well kept written =
     let first = told_of left.rows.0 rows (λ rs. slice_get rs 0 ≡ Some (name, bytes)) seen_rows is.leaves.first in

@@ -32,13 +32,15 @@ kind_at-of shape parts part injectors kinds =
     ∙ kind_among shape part
 
 -- a kind that is there is in range
-ranged : (b : Bool) (kinds : List Kind) (at : ℕ) (kind : Kind) → cond b None (slice_get kinds at) ≡ Some kind → All IsKind kinds → IsKind kind
+ranged : (b : Bool) (kinds : List Kind) (at : ℕ) (kind : Kind) → cond b None (slice_get kinds at) ≡ Some kind → All IsKind kinds
+    → IsKind kind
 ranged true kinds at kind is all = grind (arith, is)
 ranged false kinds at kind is all =
     subst IsKind (get_or_from_slice_get kinds at kind kind is) (all at kind (slice_get_within kinds at kind is))
 
 -- the computations of a topology's kinds are work of it
-pub kinds_work : (shape : Shape) (parts : Parts) → parts.injectors ≡ injectors_of shape → parts.kinds ≡ kinds_of shape → All IsKind parts.kinds
+pub kinds_work : (shape : Shape) (parts : Parts) → parts.injectors ≡ injectors_of shape → parts.kinds ≡ kinds_of shape
+    → All IsKind parts.kinds
     → IsWorkOf shape (HasState parts) (part_record parts) (part_timer parts)
 kinds_work shape parts injectors kinds within = record {
   states = λ part kind state is has.

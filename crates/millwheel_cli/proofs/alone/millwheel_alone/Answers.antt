@@ -23,7 +23,8 @@ returns-in_default-clause-answer g c held rows told seen well kept written =
 
 pub returns-in-Ok-clause-left : goal.returns-in-Ok-clause-left
 returns-in-Ok-clause-left g c =
-    left_of_run _ _ (asked c.in-Some.topology.now c.in-Some.events.now c.in-Some.lines) _ _ _ (sym c.in-Some.ensures) c.in-Ok.ensures.read c.run.ensures.left
+    left_of_run _ _ (asked c.in-Some.topology.now c.in-Some.events.now c.in-Some.lines) _ _ _ (sym c.in-Some.ensures)
+    c.in-Ok.ensures.read c.run.ensures.left
 
 pub returns-in-Ok-clause-ok : goal.returns-in-Ok-clause-ok
 returns-in-Ok-clause-ok g c is =
@@ -56,7 +57,8 @@ returns-in-Ok-clause-answer g c held rows told seen_rows well kept written =
       text = (g.O.Sink.text c.args.out.now, g.O.Sink.text c.run.new.out);
       history = c.run.result.history;
     } in
-    told_answer seen c.args.words.now left _ _ _ _ held rows c.run.result.status (run_reason seen c.args.words.now _ _ _ _ c.run.ensures.left)
+    told_answer seen c.args.words.now left _ _ _ _ held rows c.run.result.status
+    (run_reason seen c.args.words.now _ _ _ _ c.run.ensures.left)
     (left_of_run seen.files c.args.words.now call c.in-Ok.case left _ (sym c.in-Some.ensures) c.in-Ok.ensures.read c.run.ensures.left)
     c.run.ensures.keeper_fault c.run.ensures.sink_fault c.run.ensures.tells told seen_rows well kept written
 
@@ -66,8 +68,11 @@ pub returns-in-Err-clause-ok : goal.returns-in-Err-clause-ok
 returns-in-Err-clause-ok g c is = absurd (refusal_ok _ (sym (c.unbegun-in-Err.ensures.status ∙ c.status_of.ensures) ∙ is))
 
 pub returns-in-Err-clause-usage : goal.returns-in-Err-clause-usage
-returns-in-Err-clause-usage g c =
-    (λ is. absurd (refusal_usage _ (sym (c.unbegun-in-Err.ensures.status ∙ c.status_of.ensures) ∙ is)), λ none. absurd (not_none _ _ (sym c.in-Some.ensures) none))
+returns-in-Err-clause-usage g c = (
+  λ is. absurd (refusal_usage _ (sym (c.unbegun-in-Err.ensures.status ∙ c.status_of.ensures) ∙ is)),
+  λ none. absurd
+      (not_none _ _ (sym c.in-Some.ensures) none),
+)
 
 pub returns-in-Err-clause-keeper_fault : goal.returns-in-Err-clause-keeper_fault
 returns-in-Err-clause-keeper_fault g c is = absurd (refusal_keeper _ (sym (c.unbegun-in-Err.ensures.status ∙ c.status_of.ensures) ∙ is))
@@ -94,7 +99,11 @@ returns-in-Err-clause-left g c =
       history = c.unbegun-in-Err.result.history;
     } in
     let unbegun : IsUnbegun left =
-        record { empty = c.unbegun-in-Err.ensures.history; same_rows = ap g.K.Keeper.rows c.unbegun-in-Err.ensures.keeper; unwritten = refl } in
+    record {
+      empty = c.unbegun-in-Err.ensures.history;
+      same_rows = ap g.K.Keeper.rows c.unbegun-in-Err.ensures.keeper;
+      unwritten = refl;
+    } in
     subst (λ s. HasLeft (g.S.Shelf.files c.args.shelf.now) c.args.words.now left s)
     (sym (c.unbegun-in-Err.ensures.status ∙ c.status_of.ensures))
     (left_of_refusal (g.S.Shelf.files c.args.shelf.now) c.args.words.now left c.in-Err.refusal unbegun)
@@ -114,11 +123,15 @@ returns-in-Err-clause-answer g c held rows told seen_rows well kept written =
     } in
     let is = c.unbegun-in-Err.ensures.status ∙ c.status_of.ensures in
     let unbegun : IsUnbegun left =
-        record { empty = c.unbegun-in-Err.ensures.history; same_rows = ap g.K.Keeper.rows c.unbegun-in-Err.ensures.keeper; unwritten = refl } in
+    record {
+      empty = c.unbegun-in-Err.ensures.history;
+      same_rows = ap g.K.Keeper.rows c.unbegun-in-Err.ensures.keeper;
+      unwritten = refl;
+    } in
     let reason = subst (λ s. HasReason seen c.args.words.now s) (sym is)
-        (call_reason seen c.args.words.now call c.in-Err.refusal (sym c.in-Some.ensures) c.in-Err.ensures.refused) in
+    (call_reason seen c.args.words.now call c.in-Err.refusal (sym c.in-Some.ensures) c.in-Err.ensures.refused) in
     let leaves = subst (λ s. HasLeft seen.files c.args.words.now left s) (sym is)
-        (left_of_refusal seen.files c.args.words.now left c.in-Err.refusal unbegun) in
+    (left_of_refusal seen.files c.args.words.now left c.in-Err.refusal unbegun) in
     told_answer seen c.args.words.now left _ _ _ _ held rows c.unbegun-in-Err.result.status reason leaves
     (λ e. absurd (refusal_keeper _ (sym is ∙ e))) (λ e. absurd (refusal_sink _ (sym is ∙ e)))
     (ap is_some unbegun.same_rows) told seen_rows well kept written

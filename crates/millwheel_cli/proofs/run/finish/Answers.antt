@@ -18,7 +18,8 @@ returns-in-Ok-clause-left g c =
     c.history.ensures.lawful c.history-history.ensures.lawful c.requires.empty after.tells after.draining in
     let whole = whole_run old.case _ old.rows _ run c.history.ensures.lawful.runnable (ap length c.requires.empty)
     c.drains_leave_no_work.ensures.finished after.tells c.in-Ok.ensures.ended in
-    wrote_as old.case _ c.args.lines _ _ _ (c.case.ensures.case ∙ after.case) c.history-history.ensures.history whole c.write.ensures.written
+    wrote_as old.case _ c.args.lines _ _ _ (c.case.ensures.case ∙ after.case) c.history-history.ensures.history whole
+    c.write.ensures.written
 
 pub returns-in-Err-clause-left : goal.returns-in-Err-clause-left
 returns-in-Err-clause-left g c =
@@ -30,8 +31,8 @@ returns-in-Err-clause-left g c =
     c.history.ensures.lawful c.history-history.ensures.lawful c.requires.empty after.tells after.draining in
     let status = stopped old.case c.args.lines _ c.in-Err.fault run refl
     (λ e. c.in-Err.ensures.full (ap Err e) ∙ after.limit ∙ c.requires.limit)
-        (λ e. goes_on_seen old.case _ new.history old.rows new.rows (ap length c.requires.empty) after.tells
-        c.drains_go_on_until_they_end.ensures.next (c.in-Err.ensures.more (ap Err e)))
+    (λ e. goes_on_seen old.case _ new.history old.rows new.rows (ap length c.requires.empty) after.tells
+    c.drains_go_on_until_they_end.ensures.next (c.in-Err.ensures.more (ap Err e)))
     (λ name bytes e. damaged_of new old.case _ name bytes after.case c.in-Err.ensures.damaged e) in
     subst (RunLeaves old.case c.args.lines _) (sym c.status_of_drain.ensures) status
 
@@ -39,13 +40,15 @@ pub returns-in-Ok-clause-untouched : goal.returns-in-Ok-clause-untouched
 returns-in-Ok-clause-untouched g c empty =
     let before = c.history.ensures.lawful in
     let after = c.history-history.ensures.lawful in
-    same_where_empty _ _ _ _ _ _ c.drain-drained.ensures.tells c.requires.empty empty before.held after.held
+    same_where_empty c.args.book.now.case c.drain-drained.new.book.case c.args.book.now.history c.drain-drained.new.book.history
+    c.args.book.now.rows c.drain-drained.new.book.rows c.drain-drained.ensures.tells c.requires.empty empty before.held after.held
 
 pub returns-in-Err-clause-untouched : goal.returns-in-Err-clause-untouched
 returns-in-Err-clause-untouched g c empty =
     let before = c.history.ensures.lawful in
     let after = c.history-history.ensures.lawful in
-    same_where_empty _ _ _ _ _ _ c.drain-drained.ensures.tells c.requires.empty empty before.held after.held
+    same_where_empty c.args.book.now.case c.drain-drained.new.book.case c.args.book.now.history c.drain-drained.new.book.history
+    c.args.book.now.rows c.drain-drained.new.book.rows c.drain-drained.ensures.tells c.requires.empty empty before.held after.held
 
 pub write-requires-clause-printable : goal.write-requires-clause-printable
 write-requires-clause-printable g c =

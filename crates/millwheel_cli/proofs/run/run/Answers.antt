@@ -9,8 +9,10 @@ pub run_work-requires : goal.run_work-requires
 run_work-requires g c =
     let made = c.in-Ok.ensures in
     let same = ap (λ (k : CaseShape). k.topology) c.case.view_is in
-    kinds_work c.args.case.now.topology c.in-Ok.work (made.injectors ∙ ap injectors_of same)
-    (made.kinds ∙ ap (λ (s : Shape). map (λ (k : ComputationShape). k.kind) s.computations) same) made.within
+    record {
+      work = kinds_work c.args.case.now.topology c.in-Ok.work (made.injectors ∙ ap injectors_of same)
+          (made.kinds ∙ ap (λ (s : Shape). map (λ (k : ComputationShape). k.kind) s.computations) same) made.within;
+    }
 
 pub returns-in-Err-clause-left : goal.returns-in-Err-clause-left
 returns-in-Err-clause-left g c =

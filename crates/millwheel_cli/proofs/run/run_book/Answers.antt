@@ -6,7 +6,7 @@ use Rattle.millwheel_cli.proofs.run.run_book.Goals as goal
 
 pub returns-clause-keeper_fault : goal.returns-clause-keeper_fault
 returns-clause-keeper_fault g c is =
-    subst (λ n. Rose _ n) (sym c.into_parts-keeper.ensures.faults) (c.finish-status.ensures.keeper_fault is)
+    subst (λ n. Rose c.args.book.faults n) (sym c.into_parts-keeper.ensures.faults) (c.finish-status.ensures.keeper_fault is)
 
 pub returns-clause-left : goal.returns-clause-left
 returns-clause-left g c =
