@@ -53,7 +53,7 @@ made-numbered shape name productions late commit = renumbered-each name commit
 -- ---- where it goes
 
 -- a delivery that was made goes to a computation
-goes-there : (shape : Shape) (number : ℕ) (d : Delivery) → is_sent_before shape number d ≡ true → IsComputation shape d.to.part
+pub goes-there : (shape : Shape) (number : ℕ) (d : Delivery) → is_sent_before shape number d ≡ true → IsComputation shape d.to.part
 goes-there shape number d is =
     let first = both (nat_lt d.id.commit number && nat_le (injectors_of shape) d.to.part) (nat_lt d.to.part (parts_of shape)) is in
     let second = both (nat_lt d.id.commit number) (nat_le (injectors_of shape) d.to.part) first.0 in record {
