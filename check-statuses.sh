@@ -32,8 +32,11 @@ head -c 1048577 /dev/zero | tr '\0' ' ' > long.json
 mkdir folder
 
 expect 0 '' solo t.json e
+expect 0 '' solo --history t.json e
+expect 0 '' solo head.json e
 expect 2 'millwheel: usage: millwheel MODE ARGS'
 expect 2 'millwheel: usage: millwheel MODE ARGS' sing t.json e
+expect 2 'millwheel: usage: millwheel MODE ARGS' solo t.json --history e
 expect 3 'millwheel: no file missing' solo t.json missing
 expect 4 'millwheel: topology refused: UnknownStream' solo later.json e
 expect 5 'millwheel: events refused: file 0 line 2: NotJson' solo t.json cut
@@ -41,7 +44,7 @@ out=/dev/full expect 8 'millwheel: the output failed' solo t.json e
 expect 13 "millwheel: can't read folder" solo t.json folder
 expect 14 'millwheel: too long: long.json' solo long.json e
 expect 15 'millwheel: 1 event files for 2 injectors' solo taps.json e
-expect 16 'millwheel: not built yet' solo head.json e
 
-[ "$failed" = 0 ] && echo "each status has its text and its number"
+# 7, 10 and 12 can't come of a new keeper in memory, 9 not at will, and 11 not in a shell's time.
+[ "$failed" = 0 ] && echo "each status that a shell can bring about has its text and its number"
 exit "$failed"

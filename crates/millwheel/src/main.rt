@@ -1,12 +1,14 @@
 //! The program `millwheel`: the command line, the files and the output of its process.
 //!
-//! All that it does is `millwheel_alone` of `millwheel_cli`, over the files and the standard output of the
-//! runtime, and then `tell`, over its standard error, whose number is the exit status.
+//! All that it does is `millwheel_alone` of `millwheel_cli`, over a keeper in memory and the files and the
+//! standard output of the runtime, and then `tell`, over its standard error, whose number is the exit
+//! status.
 #![tactic(auto)]
 
-use millwheel_cli::{FirstDone, Status, millwheel_alone, tell};
+use millwheel_cli::{Done, Status, millwheel_alone, tell};
 use mw_ports::{FileShelf, OutSink};
-use mw_types::{Name, NoMemory, Seq};
+use mw_types::{CallList, Name, NoMemory, Seq};
+use row_keeper::MemKeeper;
 use std::alloc::Global;
 use std::io::{Error, ErrorKind};
 use std::process::ExitCode;
@@ -54,12 +56,20 @@ fn unread(error: &Error) -> Status {
     }
 }
 
-// Runs these words over the process's files and its standard output.
+// Runs these words over the process's files, its standard output and a keeper of their own.
 fn run(rt: &HostRuntime, words: &[Name]) -> Status {
+    let alloc = rt.alloc();
     let mut shelf = FileShelf::new(rt);
     let mut out = OutSink::new(rt);
-    let FirstDone { status, history } = millwheel_alone(rt.alloc(), words, &mut shelf, &mut out);
-    // The process ends here, so the history is not given back piece by piece.
+    let kept = MemKeeper::new(alloc, CallList::new(alloc));
+    let done = millwheel_alone(alloc, words, &mut shelf, kept, &mut out);
+    let Done {
+        status,
+        keeper,
+        history,
+    } = done;
+    // The process ends here, so neither is given back piece by piece.
+    mem::forget(keeper);
     mem::forget(history);
     status
 }

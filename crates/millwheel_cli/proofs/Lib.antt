@@ -1,7 +1,8 @@
 pub mod Refusals
 pub mod Reasons
+pub mod Statuses
+pub mod Works
+pub mod Running
+pub mod Leaving
 pub mod Telling
-pub mod Plainness
-pub mod Lines
-pub mod Writing
 pub mod Said

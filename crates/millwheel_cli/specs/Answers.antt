@@ -1,60 +1,135 @@
--- What each status leaves of the history and of the text. Own.
-use Rattle.std.specs.Prelude.{◌≡◌, ◌⊎◌, ℕ, List, [], All, Option}
+-- What each status leaves of the history, of the keeper's rows and of the text. Own.
+use Rattle.std.specs.Prelude.{◌≡◌, ◌⊎◌, ◌++◌, ℕ, Bool, if◌then◌else◌, List, [], length, Option, Some, None, IfSome, slice_get}
 use Rattle.std.specs.Io.KnownBytes.{append_known}
+use Rattle.mw_types.specs.declared.identity.RowName.{RowName}
 use Rattle.mw_types.specs.declared.entry.Entry.{Entry}
 use Rattle.mw_ports.specs.Shelves.{Files}
 use Rattle.mw_ports.specs.Sinks.{AppendsPrefix}
+use Rattle.topology.specs.Shapes.{Shape}
+use Rattle.row_keeper.specs.Rows.{Rows}
 use Rattle.run_history.specs.Cases.{CaseShape}
 use Rattle.run_history.specs.Runs.{run_of}
-use Rattle.run_history.specs.Legal.{IsLegal, IsDone}
+use Rattle.run_history.specs.Legal.{IsLegal}
+use Rattle.run_history.specs.Fences.{IsFenced}
+use Rattle.run_history.specs.Finished.{IsFinished}
+use Rattle.run_history.specs.Stored.{stored_rows}
+use Rattle.run_history.specs.HistoryLines.{lines_of_history}
 use Rattle.run_history.specs.Texts.{IsResultText}
-use Rattle.plain_run.specs.Plain.{IsPlainEntry}
+use Rattle.book.specs.Claims.{IsDamagedRow}
+use Rattle.world.specs.Drains.{IsDraining, IsDrained, IsNextEntry}
 use Rattle.millwheel_cli.specs.declared.status.Status.{Status}
-use Rattle.millwheel_cli.specs.declared.status.Status.TheVariants.{SinkFault, NoMemory}
+use Rattle.millwheel_cli.specs.declared.status.Status.TheVariants.{KeeperFault, SinkFault, NoMemory, NotEmpty, HistoryFull, RowDamaged}
 use Rattle.millwheel_cli.specs.declared.status.Status.TheVariants as status
+use Rattle.millwheel_cli.specs.Words.{Call, history_limit, call_of}
 use Rattle.millwheel_cli.specs.Files.{IsCaseRead}
 
--- a run that came to its end: its history is a legal one, without entries of several workers, and all work is done
-pub record IsPlainRun (case : CaseShape) (history : List Entry) : Type 0 where
+-- what a call leaves: the keeper's rows and the sink's text, before and after, where a contract can see
+-- them, and the history
+pub record Left : Type 0 where
+  pub rows : Option Rows × Option Rows
+  pub text : Option (List ℕ) × Option (List ℕ)
+  pub history : List Entry
+
+-- ---- the history and the rows
+
+-- no run was begun: there is no history, the keeper's rows are those handed in, and nothing was written
+pub record IsUnbegun (left : Left) : Type 0 where
+  pub empty : left.history ≡ []
+  pub same_rows : left.rows.1 ≡ left.rows.0
+  pub unwritten : left.text.1 ≡ left.text.0
+
+-- rows that a contract can see are those of the history, which is a legal one, and goes as a drain from
+-- nothing does
+pub record IsKeptRun (case : CaseShape) (history : List Entry) (rows : Rows) : Type 0 where
   pub legal : IsLegal case history
-  pub plain : All IsPlainEntry history
-  pub done : IsDone case (run_of case.topology history)
+  pub draining : IsDraining case 0 history
+  pub stored : rows ≡ stored_rows (run_of case.topology history)
 
--- the two files' case ran to its end, and its whole result was written
-pub record IsWhole (files : Option Files) (words : List (List ℕ)) (history : List Entry) (old new : Option (List ℕ)) : Type 0 where
-  pub case : CaseShape
-  pub read : IsCaseRead files words case
-  pub finished : IsPlainRun case history
+-- a run of the case, as far as it came: it was begun over a keeper without rows
+pub record IsRun (case : CaseShape) (left : Left) : Type 0 where
+  pub began_empty : IfSome left.rows.0 (λ rows. rows ≡ [])
+  pub fenced : IsFenced case.topology left.history
+  pub kept : IfSome left.rows.1 (IsKeptRun case left.history)
+
+-- a run that came to its end: it is the whole drain, and no work is left
+pub record IsWholeRun (case : CaseShape) (left : Left) : Type 0 where
+  pub run : IsRun case left
+  pub drained : IfSome left.rows.1 (λ _. IsDrained case 0 left.history)
+  pub finished : IfSome left.rows.1 (λ _. IsFinished case (run_of case.topology left.history))
+
+-- ---- the text
+
+-- the text of a history: its lines, where they are asked for, and then a result of it
+pub record IsWholeText (lines : Bool) (shape : Shape) (history : List Entry) (text : List ℕ) : Type 0 where
+  pub result : List ℕ
+  pub of_history : IsResultText shape history result
+  pub spelled : text ≡ (if lines then lines_of_history history else []) ++ result
+
+-- ---- what each status leaves
+
+-- the run came to its end, and its whole text was written
+pub record IsWhole (case : CaseShape) (lines : Bool) (left : Left) : Type 0 where
+  pub run : IsWholeRun case left
   pub text : List ℕ
-  pub result : IsResultText case.topology history text
-  pub written : new ≡ append_known old text
+  pub whole : IsWholeText lines case.topology left.history text
+  pub written : left.text.1 ≡ append_known left.text.0 text
 
--- the two files' case ran to its end, and a beginning of its result was written
-pub record IsPart (files : Option Files) (words : List (List ℕ)) (history : List Entry) (old new : Option (List ℕ)) : Type 0 where
-  pub case : CaseShape
-  pub read : IsCaseRead files words case
-  pub finished : IsPlainRun case history
+-- the run came to its end, and a beginning of its text was written
+pub record IsPart (case : CaseShape) (lines : Bool) (left : Left) : Type 0 where
+  pub run : IsWholeRun case left
   pub text : List ℕ
-  pub result : IsResultText case.topology history text
-  pub written : AppendsPrefix text old new
+  pub whole : IsWholeText lines case.topology left.history text
+  pub part : AppendsPrefix text left.text.0 left.text.1
 
--- what is written with each status: the whole result, a beginning of it, or nothing
-abbrev pub HasWritten : Option Files → List (List ℕ) → List Entry → Option (List ℕ) → Option (List ℕ) → Status → Type 0
-HasWritten files words history old new status.Ok = IsWhole files words history old new
-HasWritten files words history old new SinkFault = IsPart files words history old new
-HasWritten files words history old new NoMemory = IsPart files words history old new ⊎ (new ≡ old)
-HasWritten files words history old new _ = new ≡ old
+-- the run came so far, and nothing was written
+pub record IsStopped (case : CaseShape) (left : Left) : Type 0 where
+  pub run : IsRun case left
+  pub unwritten : left.text.1 ≡ left.text.0
 
--- the two files' case, of which the history is a legal one without entries of several workers
-pub record IsBegun (files : Option Files) (words : List (List ℕ)) (history : List Entry) : Type 0 where
+-- the run stopped since its history has as many entries as one may have, and a drain has more
+pub record IsFull (case : CaseShape) (left : Left) : Type 0 where
+  pub stopped : IsStopped case left
+  pub full : length left.history ≡ history_limit
+  pub more : IfSome left.rows.1 (λ _. (entry : Entry) × IsNextEntry case 0 left.history entry)
+
+-- the run stopped at bytes that the keeper gave, which are those of no row that fits the name; of a keeper
+-- whose rows a contract can see none are
+pub record IsDamagedAt (case : CaseShape) (left : Left) (name : RowName) (bytes : List ℕ) : Type 0 where
+  pub stopped : IsStopped case left
+  pub damaged : IsDamagedRow case left.rows.1 (length left.history) name bytes
+
+-- no run was begun, since the keeper has rows; this is the first where a contract can see them
+pub record IsHeldBefore (left : Left) (name : RowName) (bytes : List ℕ) : Type 0 where
+  pub unbegun : IsUnbegun left
+  pub first : IfSome left.rows.0 (λ rows. slice_get rows 0 ≡ Some (name, bytes))
+
+-- what each status leaves once the files are read; the others come before that
+abbrev pub RunLeaves : CaseShape → Bool → Left → Status → Type 0
+RunLeaves case lines left status.Ok = IsWhole case lines left
+RunLeaves case lines left SinkFault = IsPart case lines left
+RunLeaves case lines left KeeperFault = IsStopped case left ⊎ IsUnbegun left
+RunLeaves case lines left NoMemory = IsPart case lines left ⊎ (IsStopped case left ⊎ IsUnbegun left)
+RunLeaves case lines left HistoryFull = IsFull case left
+RunLeaves case lines left (RowDamaged name bytes) = IsDamagedAt case left name bytes
+RunLeaves case lines left (NotEmpty name bytes) = IsHeldBefore left name bytes
+RunLeaves case lines left _ = ⊥
+
+-- the words ask for two files that were read, and for their case the status leaves this
+pub record HasRun (files : Option Files) (words : List (List ℕ)) (left : Left)
+    (status : Status) : Type 0 where
+  pub call : Call
+  pub named : call_of words ≡ Some call
   pub case : CaseShape
-  pub read : IsCaseRead files words case
-  pub legal : IsLegal case history
-  pub plain : All IsPlainEntry history
+  pub read : IsCaseRead files call.files case
+  pub leaves : RunLeaves case call.lines left status
 
--- the history with each status: a legal one of the two files' case, or an empty one before the run
-abbrev pub HasHistory : Option Files → List (List ℕ) → List Entry → Status → Type 0
-HasHistory files words history status.Ok = IsBegun files words history
-HasHistory files words history SinkFault = IsBegun files words history
-HasHistory files words history NoMemory = IsBegun files words history ⊎ (history ≡ [])
-HasHistory files words history _ = history ≡ []
+-- what each status leaves
+abbrev pub HasLeft : Option Files → List (List ℕ) → Left → Status → Type 0
+HasLeft files words left status.Ok = HasRun files words left status.Ok
+HasLeft files words left SinkFault = HasRun files words left SinkFault
+HasLeft files words left KeeperFault = HasRun files words left KeeperFault
+HasLeft files words left NoMemory = HasRun files words left NoMemory ⊎ IsUnbegun left
+HasLeft files words left HistoryFull = HasRun files words left HistoryFull
+HasLeft files words left (RowDamaged name bytes) = HasRun files words left (RowDamaged name bytes)
+HasLeft files words left (NotEmpty name bytes) = HasRun files words left (NotEmpty name bytes)
+HasLeft files words left _ = IsUnbegun left

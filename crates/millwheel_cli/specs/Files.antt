@@ -11,38 +11,35 @@ use Rattle.injector.specs.declared.refusal.LinesRefusal.TheVariants.{Line}
 use Rattle.injector.specs.declared.refusal.LinesRefusal.TheVariants as lines
 use Rattle.run_history.specs.Cases.{CaseShape}
 use Rattle.millwheel_cli.specs.declared.status.Status.{Status}
-use Rattle.millwheel_cli.specs.declared.status.Status.TheVariants.{TopologyRefused, EventsRefused, FileCount, NoMemory, NotBuilt}
-use Rattle.millwheel_cli.specs.Words.{Names, topology_limit, events_limit, lines_limit, files_named}
-use Rattle.millwheel_cli.specs.Built.{is_built, is_unstated}
+use Rattle.millwheel_cli.specs.declared.status.Status.TheVariants.{TopologyRefused, EventsRefused, FileCount, NoMemory}
+use Rattle.millwheel_cli.specs.Words.{Names, topology_limit, events_limit, lines_limit}
 
--- a topology that is read is taken where it has one injector, for the one event file, and is built
-abbrev pub built_of : Result Shape TopologyRefusal → Result Shape Status
-built_of (Err why) = Err (TopologyRefused why)
-built_of (Ok shape) =
-    if injectors_of shape == 1 then (if is_built shape then Ok shape else Err NotBuilt)
-    else Err (FileCount 1 (injectors_of shape))
+-- a topology that is read is taken where it has one injector, for the one event file
+abbrev pub fed_of : Result Shape TopologyRefusal → Result Shape Status
+fed_of (Err why) = Err (TopologyRefused why)
+fed_of (Ok shape) = if injectors_of shape == 1 then Ok shape else Err (FileCount 1 (injectors_of shape))
 
 -- the topology that the bytes of a file are taken for, or the status with which they are refused
 abbrev pub topology_taken : List ℕ → Result Shape Status
-topology_taken bytes = built_of (topology_of bytes)
+topology_taken bytes = fed_of (topology_of bytes)
 
--- a source that is read is taken where no watermark above 0 stands before a line
-abbrev pub unstated_of : Result Source LinesRefusal → Result Source Status
-unstated_of (Err (Line line why)) = Err (EventsRefused 0 line why)
-unstated_of (Err lines.NoMemory) = Err NoMemory
-unstated_of (Ok source) = if is_unstated source then Ok source else Err NotBuilt
+-- a source that is read is taken
+abbrev pub read_of : Result Source LinesRefusal → Result Source Status
+read_of (Err (Line line why)) = Err (EventsRefused 0 line why)
+read_of (Err lines.NoMemory) = Err NoMemory
+read_of (Ok source) = Ok source
 
 -- the source that the bytes of an event file are taken for, or the status with which they are refused
 abbrev pub source_taken : List ℕ → Result Source Status
-source_taken bytes = unstated_of (source_in lines_limit bytes)
+source_taken bytes = read_of (source_in lines_limit bytes)
 
 -- the bytes are those of the file of that name, where a contract can see the shelf's files
 abbrev pub IsContent : Option Files → List ℕ → List ℕ → Type 0
 IsContent files name bytes = IfSome files (λ held. held name ≡ Some bytes)
 
 -- the file of that name had so many bytes at most, and they are taken or refused so
-pub record HoldsAs {T : Type 0} (files : Option Files) (name : List ℕ) (limit : ℕ) (taken : List ℕ → Result T Status)
-    (result : Result T Status) : Type 0 where
+pub record HoldsAs {T : Type 0} (files : Option Files) (name : List ℕ) (limit : ℕ)
+    (taken : List ℕ → Result T Status) (result : Result T Status) : Type 0 where
   pub bytes : List ℕ
   pub content : IsContent files name bytes
   pub short : length bytes ≤ limit
@@ -56,10 +53,8 @@ HoldsTopology files name shape = HoldsAs files name topology_limit topology_take
 abbrev pub HoldsSource : Option Files → List ℕ → Source → Type 0
 HoldsSource files name source = HoldsAs files name events_limit source_taken (Ok source)
 
--- the case is that of the two files that the words name
-pub record IsCaseRead (files : Option Files) (words : List (List ℕ)) (case : CaseShape) : Type 0 where
-  pub names : Names
-  pub named : files_named words ≡ Some names
+-- the case is that of the two files of these names
+pub record IsCaseRead (files : Option Files) (names : Names) (case : CaseShape) : Type 0 where
   pub topology : HoldsTopology files names.0 case.topology
   pub source : Source
   pub events : HoldsSource files names.1 source

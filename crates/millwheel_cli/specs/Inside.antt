@@ -1,5 +1,5 @@
 -- How the functions behind the public call answer. No public clause cites this module.
-use Rattle.std.specs.Prelude.{◌≡◌, ◌⊎◌, ℕ, ⊤, Bool, false, List, [], ◌∷◌, Option, Result, Ok, Err}
+use Rattle.std.specs.Prelude.{◌≡◌, ◌⊎◌, ℕ, ⊤, Bool, List, Option}
 use Rattle.std.specs.Io.KnownBytes.{append_known}
 use Rattle.mw_types.specs.declared.entry.Entry.{Entry}
 use Rattle.mw_ports.specs.declared.shelf.ShelfFault.{ShelfFault}
@@ -7,38 +7,36 @@ use Rattle.mw_ports.specs.declared.shelf.ShelfFault.TheVariants as shelf
 use Rattle.mw_ports.specs.declared.sink.SinkFault.{SinkFault}
 use Rattle.mw_ports.specs.declared.sink.SinkFault.TheVariants as sink
 use Rattle.mw_ports.specs.Sinks.{AppendsPrefix}
-use Rattle.topology.specs.declared.subscription.Subscription.{Subscription}
+use Rattle.topology.specs.Shapes.{Shape}
 use Rattle.topology.specs.declared.refusal.TopologyRefusal.{TopologyRefusal}
 use Rattle.topology.specs.declared.refusal.TopologyRefusal.TheVariants as topologies
 use Rattle.injector.specs.declared.refusal.LinesRefusal.{LinesRefusal}
 use Rattle.injector.specs.declared.refusal.LinesRefusal.TheVariants.{Line}
 use Rattle.injector.specs.declared.refusal.LinesRefusal.TheVariants as lines
-use Rattle.run_history.specs.Cases.{CaseShape}
-use Rattle.run_history.specs.Texts.{IsResultText}
+use Rattle.book.specs.declared.refusals.StartWhy.{StartWhy}
+use Rattle.book.specs.declared.refusals.StartWhy.TheVariants as starts
+use Rattle.node.specs.declared.outcome.NodeFault.{NodeFault}
+use Rattle.node.specs.declared.outcome.NodeFault.TheVariants as faults
+use Rattle.millwheel_cli.specs.Words.{Call}
+use Rattle.millwheel_cli.specs.Answers.{IsWholeText}
 use Rattle.millwheel_cli.specs.declared.status.Status.{Status}
 use Rattle.millwheel_cli.specs.declared.status.Status.TheVariants as status
 use Rattle.millwheel_cli.specs.declared.refusal.Refusal.{Refusal}
-use Rattle.millwheel_cli.specs.declared.refusal.Refusal.TheVariants.{Usage, NoFile, TopologyRefused, EventsRefused, SinkFails, NoMemory, ReadFault, TooLong, FileCount, NotBuilt}
-use Rattle.millwheel_cli.specs.Built.{is_by_key}
-use Rattle.millwheel_cli.specs.Answers.{IsPlainRun}
+use Rattle.millwheel_cli.specs.declared.refusal.Refusal.TheVariants.{NoFile, TopologyRefused, EventsRefused, NoMemory, ReadFault, TooLong, FileCount}
 
--- a refusal as a status
+-- what is asked for with these two names, and with this wish for the lines
+abbrev pub asked : List ℕ → List ℕ → Bool → Call
+asked topology events lines = record { files = (topology, events); lines = lines }
+
+-- a refusal of the files as a status
 abbrev pub status_of : Refusal → Status
-status_of Usage = status.Usage
 status_of (NoFile name) = status.NoFile name
 status_of (TopologyRefused why) = status.TopologyRefused why
 status_of (EventsRefused line why) = status.EventsRefused 0 line why
-status_of SinkFails = status.SinkFault
 status_of NoMemory = status.NoMemory
 status_of (ReadFault name) = status.ReadFault name
 status_of (TooLong name) = status.TooLong name
 status_of (FileCount files injectors) = status.FileCount files injectors
-status_of NotBuilt = status.NotBuilt
-
--- how a run ended, as a status
-abbrev pub ending_of : {T : Type 0} → Result T Refusal → Status
-ending_of (Ok t) = status.Ok
-ending_of (Err refusal) = status_of refusal
 
 -- it is so of the refusal's status, unless memory ran out
 abbrev pub UnlessWant : (Status → Type 0) → Refusal → Type 0
@@ -55,11 +53,6 @@ abbrev pub of_lines : LinesRefusal → Refusal
 of_lines (Line line why) = EventsRefused line why
 of_lines lines.NoMemory = NoMemory
 
--- the refusal of a sink
-abbrev pub of_sink : SinkFault → Refusal
-of_sink sink.Failed = SinkFails
-of_sink sink.NoMemory = NoMemory
-
 -- the refusal of a shelf for a file of that name
 abbrev pub of_shelf : List ℕ → ShelfFault → Refusal
 of_shelf name shelf.Missing = NoFile name
@@ -67,32 +60,41 @@ of_shelf name shelf.Failed = ReadFault name
 of_shelf name shelf.TooLong = TooLong name
 of_shelf name shelf.NoMemory = NoMemory
 
--- whether there is one subscription, by the whole key
-abbrev pub subscribes_once : List Subscription → Bool
-subscribes_once (subscription ∷ []) = is_by_key subscription.by
-subscribes_once _ = false
+-- the status where a book was not begun
+abbrev pub of_start : StartWhy → Status
+of_start (starts.NotEmpty name bytes) = status.NotEmpty name bytes
+of_start starts.KeeperFault = status.KeeperFault
+of_start starts.NoMemory = status.NoMemory
 
--- the whole result of the history was written
-pub record WritesWhole (case : CaseShape) (history : List Entry) (old new : Option (List ℕ)) : Type 0 where
+-- the status where a drain did not come to its end
+abbrev pub of_drain : NodeFault → Status
+of_drain faults.HistoryFull = status.HistoryFull
+of_drain faults.KeeperFault = status.KeeperFault
+of_drain (faults.RowDamaged name bytes) = status.RowDamaged name bytes
+of_drain faults.NoMemory = status.NoMemory
+
+-- the status of a sink's fault
+abbrev pub of_sink : SinkFault → Status
+of_sink sink.Failed = status.SinkFault
+of_sink sink.NoMemory = status.NoMemory
+
+-- the whole text of a history was written
+pub record WritesWhole (lines : Bool) (shape : Shape) (history : List Entry)
+    (old new : Option (List ℕ)) : Type 0 where
   pub text : List ℕ
-  pub result : IsResultText case.topology history text
+  pub whole : IsWholeText lines shape history text
   pub written : new ≡ append_known old text
 
--- a beginning of the result of the history was written
-pub record WritesPart (case : CaseShape) (history : List Entry) (old new : Option (List ℕ)) : Type 0 where
-  pub finished : IsPlainRun case history
+-- a beginning of the text of a history was written
+pub record WritesPart (lines : Bool) (shape : Shape) (history : List Entry)
+    (old new : Option (List ℕ)) : Type 0 where
   pub text : List ℕ
-  pub result : IsResultText case.topology history text
-  pub written : AppendsPrefix text old new
+  pub whole : IsWholeText lines shape history text
+  pub part : AppendsPrefix text old new
 
--- what a run and the writing of its result leave
-abbrev pub Leaves : {T : Type 0} → CaseShape → List Entry → Option (List ℕ) → Option (List ℕ) → Result T Refusal → Type 0
-Leaves case history old new (Ok t) = IsPlainRun case history × WritesWhole case history old new
-Leaves case history old new (Err SinkFails) = WritesPart case history old new
-Leaves case history old new (Err NoMemory) = WritesPart case history old new ⊎ (new ≡ old)
-Leaves case history old new (Err _) = ⊥
-
--- the refusals that come before the run
-abbrev pub IsOfReading : Refusal → Type 0
-IsOfReading SinkFails = ⊥
-IsOfReading _ = ⊤
+-- what is written of a history: its whole text, or a beginning, or nothing where memory ran out
+abbrev pub HasText : Bool → Shape → List Entry → Option (List ℕ) → Option (List ℕ) → Status → Type 0
+HasText lines shape history old new status.Ok = WritesWhole lines shape history old new
+HasText lines shape history old new status.SinkFault = WritesPart lines shape history old new
+HasText lines shape history old new status.NoMemory = WritesPart lines shape history old new ⊎ (new ≡ old)
+HasText lines shape history old new _ = ⊥

@@ -1,5 +1,4 @@
 pub mod Words
-pub mod Built
 pub mod Files
 pub mod Reasons
 pub mod Answers

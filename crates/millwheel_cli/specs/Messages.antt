@@ -5,7 +5,7 @@ use Rattle.topology.specs.declared.refusal.TopologyRefusal.TheVariants as topolo
 use Rattle.injector.specs.declared.refusal.LineWhy.{LineWhy}
 use Rattle.injector.specs.declared.refusal.LineWhy.TheVariants as lines
 use Rattle.millwheel_cli.specs.declared.status.Status.{Status}
-use Rattle.millwheel_cli.specs.declared.status.Status.TheVariants.{Ok, Usage, NoFile, TopologyRefused, EventsRefused, SinkFault, NoMemory, ReadFault, TooLong, FileCount, NotBuilt}
+use Rattle.millwheel_cli.specs.declared.status.Status.TheVariants.{Ok, Usage, NoFile, TopologyRefused, EventsRefused, KeeperFault, SinkFault, NoMemory, NotEmpty, HistoryFull, RowDamaged, ReadFault, TooLong, FileCount}
 
 -- the name of a rule of topology files
 abbrev pub topology_rule : TopologyRefusal → List ℕ
@@ -29,21 +29,26 @@ line_rule lines.BadStamp = codes "BadStamp"
 line_rule lines.BadValue = codes "BadValue"
 line_rule lines.TooManyLines = codes "TooManyLines"
 
--- the text of a status, which names the file or the rule that it is about; there is none with Ok
+-- the text of a status, which names the file, the rule or the row that it is about; there is none with Ok
 abbrev pub message_of : Status → List ℕ
 message_of Ok = []
 message_of Usage = codes "usage: millwheel MODE ARGS"
 message_of (NoFile name) = codes "no file " ++ name
 message_of (TopologyRefused why) = codes "topology refused: " ++ topology_rule why
 message_of (EventsRefused file line why) =
-    codes "events refused: file " ++ decimal file ++ codes " line " ++ decimal line ++ codes ": " ++ line_rule why
+    codes "events refused: file " ++ decimal file ++ codes " line " ++ decimal line ++ codes ": "
+    ++ line_rule why
+message_of KeeperFault = codes "the keeper failed"
 message_of SinkFault = codes "the output failed"
 message_of NoMemory = codes "out of memory"
+message_of (NotEmpty row bytes) =
+    codes "the keeper is not empty: part " ++ decimal row.part ++ codes " key " ++ row.key
+message_of HistoryFull = codes "the history is full"
+message_of (RowDamaged row bytes) = codes "damaged row: part " ++ decimal row.part ++ codes " key " ++ row.key
 message_of (ReadFault name) = codes "can't read " ++ name
 message_of (TooLong name) = codes "too long: " ++ name
 message_of (FileCount files injectors) =
     decimal files ++ codes " event files for " ++ decimal injectors ++ codes " injectors"
-message_of NotBuilt = codes "not built yet"
 
 -- whether the run came to its end
 abbrev pub is_ok : Status → Bool

@@ -1,91 +1,103 @@
 //! The call behind the program.
-ghost use Rattle.std.specs.Prelude.{◌≡◌, ◌↔◌, ◌⊎◌, [], Err, IsErrOf, None, Some};
-ghost use Rattle.mw_types.specs.Causes.{HasCause, Rose};
-ghost use Rattle.millwheel_cli.specs.Words.{files_named};
+ghost use Rattle.std.specs.Prelude.{◌≡◌, ◌↔◌, ◌≤◌, ℕ, List, [], None, Some};
+ghost use Rattle.std.specs.Option.{is_some};
+ghost use Rattle.mw_types.specs.Causes.{Rose};
 ghost use Rattle.mw_ports.specs.Shelves.{Files};
-ghost use Rattle.millwheel_cli.specs.Reasons.{ShelfSeen, HasReason, answer_of};
-ghost use Rattle.millwheel_cli.specs.Answers.{HasWritten, HasHistory, IsWhole};
-ghost use Rattle.millwheel_cli.specs.Inside.{ending_of};
+ghost use Rattle.row_keeper.specs.Rows.{Rows};
+ghost use Rattle.millwheel_cli.specs.Words.{call_of};
+ghost use Rattle.millwheel_cli.specs.Reasons.{ShelfSeen, HasReason, IsAnswer};
+ghost use Rattle.millwheel_cli.specs.Answers.{Left, IsUnbegun, HasRun, HasLeft};
 
 use crate::reading::read_case;
-use crate::refusal::{Refusal, ending_of};
+use crate::refusal::status_of;
 use crate::run::run;
 use crate::status::Status;
+use crate::words::call_of;
 use mw_ports::{Shelf, Sink};
 use mw_types::Name;
+use row_keeper::Keeper;
 use run_history::History;
 use std::alloc::Global;
 
-/// How a call ended, and the history of its run.
+/// How a call ended, and what it leaves.
 #[derive(Debug, Drop)]
-pub struct FirstDone {
+pub struct Done<K> {
     /// How it ended.
     pub status: Status,
+    /// The keeper that was handed in.
+    pub keeper: K,
     /// What happened in the run; nothing, where none was begun.
     pub history: History,
 }
 
 /// Does what the words of the command line say, the program's name left out.
 ///
-/// The two files are read and tried one after the other, then they are run, and then the result is
-/// written by one call. A refusal comes at the first step that fails.
-pub fn millwheel_alone<S: Shelf, O: Sink>(
+/// The two files are read and tried one after the other, then they are run over the keeper, which
+/// must have no rows, and then the text is written by one call. A refusal comes at the first step
+/// that fails.
+pub fn millwheel_alone<S: Shelf, K: Keeper, O: Sink>(
     alloc: Global,
     words: &[Name],
     shelf: &mut S,
+    keeper: K,
     out: &mut O,
-) -> FirstDone
-    ensures ok { result.status ≡ Status.Ok →
-        IsWhole (S.files shelf.old) words.now result.history (O.text out.old) (O.text out.new) }
+) -> Done<K>
+    // With Ok the two files' case was run to its end, the keeper has its rows, and all of its text
+    // was written.
+    ensures ok { let left : Left = record {
+      rows = (K.rows keeper, K.rows result.keeper);
+      text = (O.text out.old, O.text out.new);
+      history = result.history;
+    } in result.status ≡ Status.Ok → HasRun (S.files shelf.old) words.now left Status.Ok }
 
     // Each other status has its reason.
-    ensures usage { (result.status ≡ Status.Usage) ↔ (files_named words.now ≡ None) }
+    ensures usage { (result.status ≡ Status.Usage) ↔ (call_of words.now ≡ None) }
     ensures reason { let seen : ShelfSeen = record {
       files = S.files shelf.old;
       faults = (S.faults shelf.old, S.faults shelf.new);
       lacks = (S.lacks shelf.old, S.lacks shelf.new);
     } in HasReason seen words.now result.status }
+    ensures keeper_fault { result.status ≡ Status.KeeperFault →
+        Rose (K.faults keeper) (K.faults result.keeper) }
     ensures sink_fault { result.status ≡ Status.SinkFault →
         Rose (O.faults out.old) (O.faults out.new) }
-    // Where a contract can see the shelf's files they decide the answer, unless something fails.
-    ensures answer { (held : Files) → S.files shelf.old ≡ Some held
+    // Where a contract can see the shelf's files and the keeper's rows they decide the status,
+    // unless something fails.
+    ensures answer { (held : Files) (rows : Rows) → S.files shelf.old ≡ Some held
+        → K.rows keeper ≡ Some rows
         → (Rose (S.faults shelf.old) (S.faults shelf.new) → ⊥)
+        → (Rose (K.faults keeper) (K.faults result.keeper) → ⊥)
         → (Rose (O.faults out.old) (O.faults out.new) → ⊥)
-        → (result.status ≡ answer_of held words.now) ⊎ (result.status ≡ Status.NoMemory) }
+        → IsAnswer held rows words.now result.history result.status }
 
-    // Each status leaves what is said of it.
-    ensures written { let old = O.text out.old in let new = O.text out.new in
-        HasWritten (S.files shelf.old) words.now result.history old new result.status }
-    ensures history { HasHistory (S.files shelf.old) words.now result.history result.status }
+    // Each status leaves what is said of it, which for HistoryFull, RowDamaged and NotEmpty is also
+    // why.
+    ensures left { let left : Left = record {
+      rows = (K.rows keeper, K.rows result.keeper);
+      text = (O.text out.old, O.text out.new);
+      history = result.history;
+    } in HasLeft (S.files shelf.old) words.now left result.status }
+    ensures untouched { result.history ≡ [] → K.rows result.keeper ≡ K.rows keeper }
+    ensures tells { is_some (K.rows result.keeper) ≡ is_some (K.rows keeper) }
 {
-    let mut history = History::new(alloc);
-    let ending = solo(alloc, words, shelf, out, &mut history);
-    let status = ending_of(ending);
-    FirstDone { status, history }
+    let Some((topology, events, lines)) = call_of(words) else {
+        return unbegun(alloc, Status::Usage, keeper);
+    };
+    match read_case(alloc, shelf, topology, events) {
+        Ok(case) => run(alloc, &case, lines, keeper, out),
+        Err(refusal) => unbegun(alloc, status_of(refusal), keeper),
+    }
 }
 
-// Reads the two files, runs them, and writes the result.
-fn solo<S: Shelf, O: Sink>(
-    alloc: Global,
-    words: &[Name],
-    shelf: &mut S,
-    out: &mut O,
-    history: &mut History,
-) -> Result<(), Refusal>
-    requires { history.old ≡ [] }
-
-    ensures usage { files_named words.now ≡ None → result ≡ Err Refusal.Usage }
-    ensures reason { let seen : ShelfSeen = record {
-      files = S.files shelf.old;
-      faults = (S.faults shelf.old, S.faults shelf.new);
-      lacks = (S.lacks shelf.old, S.lacks shelf.new);
-    } in HasReason seen words.now (ending_of result) }
-    ensures sink_fault { IsErrOf result Refusal.SinkFails →
-        Rose (O.faults out.old) (O.faults out.new) }
-    ensures written { let old = O.text out.old in let new = O.text out.new in
-        HasWritten (S.files shelf.old) words.now history.new old new (ending_of result) }
-    ensures history { HasHistory (S.files shelf.old) words.now history.new (ending_of result) }
+/// What a call leaves that began no run.
+pub(crate) fn unbegun<K>(alloc: Global, status: Status, keeper: K) -> Done<K>
+    ensures status { result.status ≡ status }
+    ensures keeper { result.keeper ≡ keeper }
+    ensures history { result.history ≡ [] }
 {
-    let case = read_case(alloc, words, shelf)?;
-    run(alloc, &case, history, out)
+    Done {
+        status,
+        keeper,
+        history: History::new(alloc),
+    }
 }

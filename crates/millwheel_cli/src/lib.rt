@@ -1,15 +1,15 @@
 //! The program `millwheel` as a library: from the words of the command line to the text and the status.
 //!
-//! `solo T E` reads a topology and an event file, runs them on one thread, and writes the result. Stands
-//! on `plain_run`, and reaches files and output by `mw_ports`. Public contract: with Ok the history of
-//! `millwheel_alone` is a legal run of the two files in which all work is done, and exactly its result
-//! was written; every other status has its reason, and leaves what the clauses say. Definitions, in the
-//! order of reading: `specs/Words.antt`, which words and files are taken; `specs/Files.antt`, what was
-//! read; `specs/Answers.antt`, why each status comes and what it leaves.
+//! `solo T E` reads a topology and an event file, works them off on one thread over a keeper of rows, and
+//! writes the result. Stands on `world`, and reaches files and output by `mw_ports`. Public contract: with
+//! Ok the history of `millwheel_alone` is the whole drain of the two files' case, legal, fenced and
+//! finished, the keeper's rows are its rows, and exactly its text was written; every other status has its
+//! reason, and leaves what the clauses say. Definitions, in the order of reading: `specs/Words.antt`,
+//! which words are taken; `specs/Files.antt`, what was read; `specs/Reasons.antt`, why each status comes;
+//! `specs/Answers.antt`, what it leaves.
 #![tactic(auto)]
 
 mod alone;
-mod events;
 mod form;
 mod reading;
 mod refusal;
@@ -20,6 +20,6 @@ mod status;
 mod tests;
 mod words;
 
-pub use alone::{FirstDone, millwheel_alone};
+pub use alone::{Done, millwheel_alone};
 pub use saying::{say, tell};
 pub use status::Status;

@@ -1,17 +1,14 @@
-//! The reading of the two files that the words name.
-ghost use Rattle.std.specs.Prelude.{◌≡◌, ◌≤◌, ◌^◌, [], ◌∷◌, length, Err, IfErr, IfOk, None};
+//! The reading of the two files that are asked for.
+ghost use Rattle.std.specs.Prelude.{◌≡◌, ◌≤◌, ◌^◌, [], ◌∷◌, length, IfErr, IfOk};
 ghost use Rattle.mw_ports.specs.Shelves.{Files};
 ghost use Rattle.topology.specs.Shapes.{injectors_of};
-ghost use Rattle.plain_run.specs.Plain.{IsPlain};
-ghost use Rattle.millwheel_cli.specs.Words.{topology_limit, events_limit, files_named};
+ghost use Rattle.millwheel_cli.specs.Words.{events_limit};
 ghost use Rattle.millwheel_cli.specs.Files.{source_taken, IsContent, HoldsTopology, HoldsSource, IsCaseRead};
-ghost use Rattle.millwheel_cli.specs.Reasons.{ShelfSeen, IsUnread, IsFileRefused, IsTopologyRefused, HasReason};
-ghost use Rattle.millwheel_cli.specs.Inside.{of_shelf, status_of, UnlessWant, IsOfReading};
+ghost use Rattle.millwheel_cli.specs.Reasons.{ShelfSeen, IsUnread, IsFileRefused, IsTopologyRefused, IsRefused};
+ghost use Rattle.millwheel_cli.specs.Inside.{of_shelf, UnlessWant};
 
-use crate::events::items_of;
-use crate::form::topology_of;
+use crate::form::{items_of, topology_of};
 use crate::refusal::Refusal;
-use crate::words::names;
 use injector::Items;
 use mw_ports::{Shelf, ShelfFault};
 use mw_types::{Bytes, Duplicate, Name, NoMemory, Seq};
@@ -25,21 +22,20 @@ const TOPOLOGY_MAX: u64 = 1 << 20;
 // How many bytes an event file may have.
 const EVENTS_MAX: u64 = 1 << 25;
 
-/// The case of the two files that the words name.
-pub fn read_case<S: Shelf>(alloc: Global, words: &[Name], shelf: &mut S) -> Result<Case, Refusal>
-    ensures read { IfOk result (IsCaseRead (S.files shelf.old) words.now) }
-    ensures plain { IfOk result (λ case. IsPlain case.topology) }
-    ensures reason { let seen : ShelfSeen = record {
+/// The case of the two files of these names.
+pub fn read_case<S: Shelf>(
+    alloc: Global,
+    shelf: &mut S,
+    topology: &Name,
+    events: &Name,
+) -> Result<Case, Refusal>
+    ensures read { IfOk result (IsCaseRead (S.files shelf.old) (topology.now, events.now)) }
+    ensures refused { let seen : ShelfSeen = record {
       files = S.files shelf.old;
       faults = (S.faults shelf.old, S.faults shelf.new);
       lacks = (S.lacks shelf.old, S.lacks shelf.new);
-    } in IfErr result (λ refusal. HasReason seen words.now (status_of refusal)) }
-    ensures reading { IfErr result IsOfReading }
-    ensures usage { files_named words.now ≡ None → result ≡ Err Refusal.Usage }
+    } in IfErr result (UnlessWant (IsRefused seen (topology.now, events.now))) }
 {
-    let Some((topology, events)) = names(words) else {
-        return Err(Refusal::Usage);
-    };
     let topology = read_topology(alloc, shelf, topology)?;
     let items = read_items(alloc, shelf, events)?;
     let case = case_of(alloc, topology, items)?;
@@ -52,7 +48,7 @@ fn read_topology<S: Shelf>(alloc: Global, shelf: &mut S, name: &Name) -> Result<
     ensures faults_later { S.faults shelf.old ≤ S.faults shelf.new }
     ensures lacks_later { S.lacks shelf.old ≤ S.lacks shelf.new }
     ensures topology { IfOk result (HoldsTopology (S.files shelf.old) name.now) }
-    ensures plain { IfOk result IsPlain }
+    ensures injector { IfOk result (λ topology. injectors_of topology ≡ 1) }
     ensures refused { let seen : ShelfSeen = record {
       files = S.files shelf.old;
       faults = (S.faults shelf.old, S.faults shelf.new);

@@ -1,26 +1,22 @@
-//! Why a call did not come to its end.
+//! Why the files that are asked for are not run.
 ghost use Rattle.std.specs.Prelude.{◌≡◌};
-ghost use Rattle.millwheel_cli.specs.Inside.{ending_of};
+ghost use Rattle.millwheel_cli.specs.Inside.{status_of};
 
 use crate::status::Status;
 use injector::{LineWhy, LinesRefusal};
-use mw_ports::SinkFault;
 use mw_types::{Name, NoMemory};
 use topology::TopologyRefusal;
 
-/// Why a call did not come to its end: each status but Ok.
+/// Why the files that are asked for are not run: each status that can come of reading them.
 #[derive(Debug, Drop)]
 pub enum Refusal {
-    Usage,
     NoFile { name: Name },
     TopologyRefused { why: TopologyRefusal },
     EventsRefused { line: u32, why: LineWhy },
-    SinkFails,
     NoMemory,
     ReadFault { name: Name },
     TooLong { name: Name },
     FileCount { files: u32, injectors: u32 },
-    NotBuilt,
 }
 
 impl From<NoMemory> for Refusal {
@@ -62,35 +58,17 @@ impl From<LinesRefusal> for Refusal {
     }
 }
 
-impl From<SinkFault> for Refusal {
-    ghost use Rattle.std.specs.Prelude.{◌≡◌};
-    ghost use Rattle.millwheel_cli.specs.Inside.{of_sink};
-
-    ghost from_gives = { λ fault refusal. refusal ≡ of_sink fault };
-
-    fn from(fault: SinkFault) -> Refusal {
-        match fault {
-            SinkFault::Failed => Refusal::SinkFails,
-            SinkFault::NoMemory => Refusal::NoMemory,
-        }
-    }
-}
-
-/// How a call ended, as a status.
-pub fn ending_of(ending: Result<(), Refusal>) -> Status
-    ensures { result ≡ ending_of ending }
+/// The status of a refusal.
+pub fn status_of(refusal: Refusal) -> Status
+    ensures { result ≡ status_of refusal }
 {
-    match ending {
-        Ok(()) => Status::Ok,
-        Err(Refusal::Usage) => Status::Usage,
-        Err(Refusal::NoFile { name }) => Status::NoFile { name },
-        Err(Refusal::TopologyRefused { why }) => Status::TopologyRefused { why },
-        Err(Refusal::EventsRefused { line, why }) => Status::EventsRefused { file: 0, line, why },
-        Err(Refusal::SinkFails) => Status::SinkFault,
-        Err(Refusal::NoMemory) => Status::NoMemory,
-        Err(Refusal::ReadFault { name }) => Status::ReadFault { name },
-        Err(Refusal::TooLong { name }) => Status::TooLong { name },
-        Err(Refusal::FileCount { files, injectors }) => Status::FileCount { files, injectors },
-        Err(Refusal::NotBuilt) => Status::NotBuilt,
+    match refusal {
+        Refusal::NoFile { name } => Status::NoFile { name },
+        Refusal::TopologyRefused { why } => Status::TopologyRefused { why },
+        Refusal::EventsRefused { line, why } => Status::EventsRefused { file: 0, line, why },
+        Refusal::NoMemory => Status::NoMemory,
+        Refusal::ReadFault { name } => Status::ReadFault { name },
+        Refusal::TooLong { name } => Status::TooLong { name },
+        Refusal::FileCount { files, injectors } => Status::FileCount { files, injectors },
     }
 }

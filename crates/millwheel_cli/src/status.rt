@@ -4,7 +4,7 @@ ghost use Rattle.millwheel_cli.specs.Numbers.{number_of};
 ghost use Rattle.millwheel_cli.specs.Messages.{is_ok, topology_rule, line_rule};
 
 use injector::LineWhy;
-use mw_types::Name;
+use mw_types::{Bytes, Name, RowName};
 use std::fmt;
 use topology::TopologyRefusal;
 
@@ -34,10 +34,28 @@ pub enum Status {
         /// The first rule that the line breaks.
         why: LineWhy,
     },
+    /// The keeper failed.
+    KeeperFault,
     /// The output failed.
     SinkFault,
     /// Memory ran out.
     NoMemory,
+    /// The keeper holds a row already; where a contract can see its rows, this is the first.
+    NotEmpty {
+        /// The row's name.
+        name: RowName,
+        /// The row's bytes.
+        bytes: Bytes,
+    },
+    /// The history has as many entries as it may have.
+    HistoryFull,
+    /// The keeper gave bytes that are those of no row that fits its name.
+    RowDamaged {
+        /// The row's name.
+        name: RowName,
+        /// The bytes.
+        bytes: Bytes,
+    },
     /// This file could not be read.
     ReadFault {
         /// The word that names it.
@@ -55,8 +73,6 @@ pub enum Status {
         /// How many injectors the topology has.
         injectors: u32,
     },
-    /// What was read asks for more than is built yet.
-    NotBuilt,
 }
 
 impl Status {
@@ -80,12 +96,15 @@ impl Status {
             Status::NoFile { .. } => 3,
             Status::TopologyRefused { .. } => 4,
             Status::EventsRefused { .. } => 5,
+            Status::KeeperFault => 7,
             Status::SinkFault => 8,
             Status::NoMemory => 9,
+            Status::NotEmpty { .. } => 10,
+            Status::HistoryFull => 11,
+            Status::RowDamaged { .. } => 12,
             Status::ReadFault { .. } => 13,
             Status::TooLong { .. } => 14,
             Status::FileCount { .. } => 15,
-            Status::NotBuilt => 16,
         }
     }
 }
@@ -109,14 +128,23 @@ impl fmt::Display for Status {
                 let rule = line_rule(*why);
                 write!(f, "events refused: file {file} line {line}: {rule}")
             }
+            Status::KeeperFault => f.write_str("the keeper failed"),
             Status::SinkFault => f.write_str("the output failed"),
             Status::NoMemory => f.write_str("out of memory"),
+            Status::NotEmpty { name, .. } => {
+                let (part, key) = (name.part, name.key.text());
+                write!(f, "the keeper is not empty: part {part} key {key}")
+            }
+            Status::HistoryFull => f.write_str("the history is full"),
+            Status::RowDamaged { name, .. } => {
+                let (part, key) = (name.part, name.key.text());
+                write!(f, "damaged row: part {part} key {key}")
+            }
             Status::ReadFault { name } => write!(f, "can't read {}", name.text()),
             Status::TooLong { name } => write!(f, "too long: {}", name.text()),
             Status::FileCount { files, injectors } => {
                 write!(f, "{files} event files for {injectors} injectors")
             }
-            Status::NotBuilt => f.write_str("not built yet"),
         }
     }
 }

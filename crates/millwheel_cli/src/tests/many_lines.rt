@@ -1,5 +1,6 @@
 //! A thousand record lines over a hundred keys and twenty windows, against a count by an array. No helper
 //! has a clause, so that no test carries what the calls before have told.
+use super::topologies::COUNT;
 use super::{answer, sink};
 use crate::Status;
 use mw_types::NoMemory;
@@ -67,7 +68,7 @@ fn counts_as_the_array(rt: &impl Abort, alloc: Global, lines: u32) -> Result<(),
     let counts = counts(alloc, lines)?;
     let want = text_of(alloc, counts.as_slice(), lines)?;
     let mut out = sink(alloc);
-    let done = answer(alloc, "solo t.json e", events.as_str(), &mut out)?;
+    let done = answer(alloc, "solo t.json e", COUNT, events.as_str(), &mut out)?;
     assert!(rt; done.status == Status::Ok);
     assert!(rt; out.text() == want.as_bytes());
     Ok(())

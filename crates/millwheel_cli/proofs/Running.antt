@@ -1,0 +1,125 @@
+-- What a book that was worked off leaves, as a run.
+use Rattle.std.proofs.Common.{◌≡◌, ◌∙◌, ◌⊎◌, ◌≤◌, ℕ, true, false, List, [], length, Option, Some, None, IfSome, refl, sym, ap, subst, inl, inr, true≢false, arith}
+use Rattle.std.specs.Prelude.{⊤}
+use Rattle.std.specs.Option.{is_some}
+use Rattle.mw_types.specs.declared.entry.Entry.{Entry}
+use Rattle.mw_types.specs.declared.identity.RowName.{RowName}
+use Rattle.row_keeper.specs.Rows.{Rows}
+use Rattle.run_history.specs.Cases.{CaseShape}
+use Rattle.run_history.specs.Runs.{run_of}
+use Rattle.run_history.specs.Legal.{IsLegal}
+use Rattle.run_history.specs.Finished.{IsFinished}
+use Rattle.run_history.specs.Inputs.{IsRunnable}
+use Rattle.run_history.specs.Stored.{stored_rows}
+use Rattle.book.specs.Books.{BookView, core_of}
+use Rattle.book.specs.Claims.{IsDamagedRow}
+use Rattle.book.specs.DeskReasons.{IsDamageOf}
+use Rattle.book.specs.Lawful.{IsHeld, IsLawful}
+use Rattle.book.specs.OwnDesks.{own_view, telling}
+use Rattle.node.specs.Answers.{refusal_of}
+use Rattle.node.specs.declared.outcome.NodeFault.{NodeFault}
+use Rattle.node.specs.declared.outcome.NodeFault.TheVariants as faults
+use Rattle.world.specs.Drains.{IsDraining, IsDrained, HasEnded, HasInjected, IsNextEntry}
+use Rattle.millwheel_cli.specs.Answers.{Left, IsKeptRun, IsRun, IsWholeRun}
+
+-- the rows of an empty history are none
+none_stored : (case : CaseShape) (history : List Entry) (rows : Rows) → history ≡ [] → IsHeld case history rows → rows ≡ []
+none_stored case history rows empty held = held.stored ∙ ap (λ h. stored_rows (run_of case.topology h)) empty
+
+-- so are those of a keeper that a contract can see
+pub none_kept : (case : CaseShape) (history : List Entry) (found : Option Rows) → history ≡ [] → IfSome found (IsHeld case history)
+    → IfSome found (λ rows. rows ≡ [])
+none_kept case history None empty held = tt
+none_kept case history (Some rows) empty held = none_stored case history rows empty held
+
+-- where both histories are empty the rows are the same
+pub same_where_empty : (one other : CaseShape) (before after : List Entry) (old new : Option Rows) → is_some new ≡ is_some old
+    → before ≡ [] → after ≡ [] → IfSome old (IsHeld one before) → IfSome new (IsHeld other after) → new ≡ old
+same_where_empty one other before after None None tells begun ended held kept = refl
+same_where_empty one other before after None (Some rows) tells begun ended held kept = absurd (true≢false tells)
+same_where_empty one other before after (Some rows) None tells begun ended held kept = absurd (true≢false (sym tells))
+same_where_empty one other before after (Some old) (Some new) tells begun ended held kept =
+    ap Some (none_stored other after new ended kept ∙ sym (none_stored one before old begun held))
+
+-- what is so where rows were seen is so where they are seen, as is what holds of them
+pub seen_again : {A : Type 0} {P Q : Rows → Type 0} (old new : Option Rows) → is_some new ≡ is_some old
+    → ((rows : Rows) → A → P rows → Q rows) → IfSome old (λ _. A) → IfSome new P → IfSome new Q
+seen_again old None tells f a p = tt
+seen_again None (Some rows) tells f a p = absurd (true≢false tells)
+seen_again (Some held) (Some rows) tells f a p = f rows a p
+
+-- rows that a book has are those of a run
+kept_run : (case : CaseShape) (from : ℕ) (history : List Entry) (rows : Rows) → from ≡ 0 → IsDraining case from history
+    → IsHeld case history rows
+    → IsKeptRun case history rows
+kept_run case from history rows zero draining held = record {
+  legal = held.legal;
+  draining = subst (λ n. IsDraining case n history) zero draining;
+  stored = held.stored;
+}
+
+-- a book that began with nothing and went on as a drain does has a run
+pub run_of_book : (case : CaseShape) (old new : BookView) (text : Option (List ℕ) × Option (List ℕ))
+    → case ≡ old.case → new.case ≡ old.case → IsLawful old.case (core_of old) → IsLawful new.case (core_of new) → old.history ≡ []
+    → is_some new.rows ≡ is_some old.rows → IfSome old.rows (λ _. IsDraining old.case (length old.history) new.history)
+    → IsRun case (record { rows = (old.rows, new.rows); text = text; history = new.history })
+run_of_book case old new text mine same before after empty tells draining =
+    let lawful : IsLawful case (core_of new) = subst (λ c. IsLawful c (core_of new)) (same ∙ sym mine) after in
+    let drains : IfSome old.rows (λ _. IsDraining case (length old.history) new.history) =
+    subst (λ c. IfSome old.rows (λ _. IsDraining c (length old.history) new.history)) (sym mine) draining in
+    record {
+      began_empty = none_kept old.case old.history old.rows empty before.held;
+      fenced = lawful.fenced;
+      kept = seen_again old.rows new.rows tells (λ rows d h. kept_run case (length old.history) new.history rows (ap length empty) d
+          h) drains lawful.held;
+    }
+
+-- a run that went to the drain's end is a whole one
+pub whole_run : (case : CaseShape) (from : ℕ) (old : Option Rows) (left : Left) → IsRun case left → IsRunnable case → from ≡ 0
+    → ((c : CaseShape) (n : ℕ) (h : List Entry) → IsRunnable c → IsLegal c h → HasInjected c n h → IsFinished c (run_of c.topology h))
+    → is_some left.rows.1 ≡ is_some old → IfSome old (λ _. HasEnded case from left.history) → IsWholeRun case left
+whole_run case from old left run runnable zero law tells ended = record {
+  run = run;
+  drained = seen_again old left.rows.1 tells (λ rows e k. record {
+    draining = k.draining;
+    ended = subst (λ n. HasEnded case n left.history) zero e;
+  }) ended run.kept;
+  finished = seen_again old left.rows.1 tells (λ rows e k. law case from left.history runnable k.legal e.earlier) ended run.kept;
+}
+
+-- a drain that has not ended goes on
+goes_on : (case : CaseShape) (history : List Entry) → HasEnded case 0 history ⊎ ((entry : Entry) × IsNextEntry case 0 history entry)
+    → (HasEnded case 0 history → ⊥) → (entry : Entry) × IsNextEntry case 0 history entry
+goes_on case history either unended = elim either [
+  | inl ended ↦ absurd (unended ended)
+  | inr next ↦ next
+]
+
+-- nothing is asked of rows
+all_seen : (found : Option Rows) → IfSome found (λ _. ⊤)
+all_seen None = tt
+all_seen (Some rows) = tt
+
+-- so it is where rows are seen
+pub goes_on_seen : (case : CaseShape) (from : ℕ) (history : List Entry) (old new : Option Rows) → from ≡ 0 → is_some new ≡ is_some old
+    → ((c : CaseShape) (n : ℕ) (h : List Entry) → n ≤ length h → HasEnded c n h ⊎ ((entry : Entry) × IsNextEntry c n h entry))
+    → IfSome old (λ _. HasEnded case from history → ⊥) → IfSome new (λ _. (entry : Entry) × IsNextEntry case 0 history entry)
+goes_on_seen case from history old new zero tells law unended =
+    seen_again {P = λ _. ⊤} old new tells (λ rows u t. goes_on case history (law case 0 history (omega arith))
+    (subst (λ n. HasEnded case n history → ⊥) zero u))
+    unended (all_seen new)
+
+-- what a desk does not tell a contract does not see
+untold_of : {X : Type 0} (told : Option X) → IfSome (telling told) (λ _. ⊥) → IfSome told (λ _. ⊥)
+untold_of None is = tt
+untold_of (Some x) is = is
+
+-- a row at which a drain stopped is damaged
+pub damaged_of : (book : BookView) (case : CaseShape) (fault : NodeFault) (name : RowName) (bytes : List ℕ) → book.case ≡ case
+    → IsDamageOf (own_view book) (refusal_of fault) → fault ≡ faults.RowDamaged name bytes
+    → IsDamagedRow case book.rows (length book.history) name bytes
+damaged_of book case fault name bytes same is named =
+    let at : IsDamagedRow book.case (telling book.rows) (length book.history) name bytes =
+    subst (λ f. IsDamageOf (own_view book) (refusal_of f)) named is in
+    subst (λ c. IsDamagedRow c book.rows (length book.history) name bytes) same
+    (record { no_row = at.no_row; untold = untold_of book.rows at.untold })
