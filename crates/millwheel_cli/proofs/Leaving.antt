@@ -11,7 +11,6 @@ use Rattle.book.specs.declared.refusals.StartWhy.{StartWhy}
 use Rattle.book.specs.declared.refusals.StartWhy.TheVariants as starts
 use Rattle.node.specs.declared.outcome.NodeFault.{NodeFault}
 use Rattle.node.specs.declared.outcome.NodeFault.TheVariants as faults
-use Rattle.world.specs.Drains.{IsNextEntry}
 use Rattle.millwheel_cli.specs.declared.status.Status.{Status}
 use Rattle.millwheel_cli.specs.declared.status.Status.TheVariants as status
 use Rattle.millwheel_cli.specs.declared.refusal.Refusal.{Refusal}
@@ -93,16 +92,15 @@ wrote_as case other lines left history s same told run is = wrote case lines lef
 -- what a drain that stopped leaves is what its status leaves
 pub stopped : (case : CaseShape) (lines : Bool) (left : Left) (fault : NodeFault) → IsRun case left → left.text.1 ≡ left.text.0
     → (fault ≡ faults.HistoryFull → length left.history ≡ history_limit)
-    → (fault ≡ faults.HistoryFull → IfSome left.rows.1 (λ _. (entry : Entry) × IsNextEntry case 0 left.history entry))
     → ((name : RowName) (bytes : List ℕ) → fault ≡ faults.RowDamaged name bytes
     → IsDamagedRow case left.rows.1 (length left.history) name bytes)
     → RunLeaves case lines left (of_drain fault)
-stopped case lines left faults.HistoryFull run same full more damaged =
-    record { stopped = record { run = run; unwritten = same }; full = full refl; more = more refl }
-stopped case lines left faults.KeeperFault run same full more damaged = inl (record { run = run; unwritten = same })
-stopped case lines left (faults.RowDamaged name bytes) run same full more damaged =
+stopped case lines left faults.HistoryFull run same full damaged =
+    record { stopped = record { run = run; unwritten = same }; full = full refl }
+stopped case lines left faults.KeeperFault run same full damaged = inl (record { run = run; unwritten = same })
+stopped case lines left (faults.RowDamaged name bytes) run same full damaged =
     record { stopped = record { run = run; unwritten = same }; damaged = damaged name bytes refl }
-stopped case lines left faults.NoMemory run same full more damaged = inr (inl (record { run = run; unwritten = same }))
+stopped case lines left faults.NoMemory run same full damaged = inr (inl (record { run = run; unwritten = same }))
 
 -- what is left where no book was begun is what its status leaves
 pub unstarted : (case : CaseShape) (lines : Bool) (left : Left) (why : StartWhy) → IsUnbegun left → IsNotEmpty left.rows.0 why

@@ -1,6 +1,5 @@
 -- What a book that was worked off leaves, as a run.
 use Rattle.std.proofs.Common.{◌≡◌, ◌∙◌, ◌⊎◌, ◌≤◌, ℕ, true, false, List, [], length, Option, Some, None, IfSome, refl, sym, ap, subst, inl, inr, true≢false, arith}
-use Rattle.std.specs.Prelude.{⊤}
 use Rattle.std.specs.Option.{is_some}
 use Rattle.mw_types.specs.declared.entry.Entry.{Entry}
 use Rattle.mw_types.specs.declared.identity.RowName.{RowName}
@@ -19,7 +18,7 @@ use Rattle.book.specs.OwnDesks.{own_view, telling}
 use Rattle.node.specs.Answers.{refusal_of}
 use Rattle.node.specs.declared.outcome.NodeFault.{NodeFault}
 use Rattle.node.specs.declared.outcome.NodeFault.TheVariants as faults
-use Rattle.world.specs.Drains.{IsDraining, IsDrained, HasEnded, HasInjected, IsNextEntry}
+use Rattle.world.specs.Drains.{IsDraining, IsDrained, HasEnded, HasInjected}
 use Rattle.millwheel_cli.specs.Answers.{Left, IsKeptRun, IsRun, IsWholeRun}
 
 -- the rows of an empty history are none
@@ -86,28 +85,6 @@ whole_run case from old left run runnable zero law tells ended = record {
   }) ended run.kept;
   finished = seen_again old left.rows.1 tells (λ rows e k. law case from left.history runnable k.legal e.earlier) ended run.kept;
 }
-
--- a drain that has not ended goes on
-goes_on : (case : CaseShape) (history : List Entry) → HasEnded case 0 history ⊎ ((entry : Entry) × IsNextEntry case 0 history entry)
-    → (HasEnded case 0 history → ⊥) → (entry : Entry) × IsNextEntry case 0 history entry
-goes_on case history either unended = elim either [
-  | inl ended ↦ absurd (unended ended)
-  | inr next ↦ next
-]
-
--- nothing is asked of rows
-all_seen : (found : Option Rows) → IfSome found (λ _. ⊤)
-all_seen None = tt
-all_seen (Some rows) = tt
-
--- so it is where rows are seen
-pub goes_on_seen : (case : CaseShape) (from : ℕ) (history : List Entry) (old new : Option Rows) → from ≡ 0 → is_some new ≡ is_some old
-    → ((c : CaseShape) (n : ℕ) (h : List Entry) → n ≤ length h → HasEnded c n h ⊎ ((entry : Entry) × IsNextEntry c n h entry))
-    → IfSome old (λ _. HasEnded case from history → ⊥) → IfSome new (λ _. (entry : Entry) × IsNextEntry case 0 history entry)
-goes_on_seen case from history old new zero tells law unended =
-    seen_again {P = λ _. ⊤} old new tells (λ rows u t. goes_on case history (law case 0 history (omega arith))
-    (subst (λ n. HasEnded case n history → ⊥) zero u))
-    unended (all_seen new)
 
 -- what a desk does not tell a contract does not see
 untold_of : {X : Type 0} (told : Option X) → IfSome (telling told) (λ _. ⊥) → IfSome told (λ _. ⊥)

@@ -16,7 +16,7 @@ use Rattle.run_history.specs.Stored.{stored_rows}
 use Rattle.run_history.specs.HistoryLines.{lines_of_history}
 use Rattle.run_history.specs.Texts.{IsResultText}
 use Rattle.book.specs.Claims.{IsDamagedRow}
-use Rattle.world.specs.Drains.{IsDraining, IsDrained, IsNextEntry}
+use Rattle.world.specs.Drains.{IsDraining, IsDrained}
 use Rattle.millwheel_cli.specs.declared.status.Status.{Status}
 use Rattle.millwheel_cli.specs.declared.status.Status.TheVariants.{KeeperFault, SinkFault, NoMemory, NotEmpty, HistoryFull, RowDamaged}
 use Rattle.millwheel_cli.specs.declared.status.Status.TheVariants as status
@@ -86,11 +86,10 @@ pub record IsStopped (case : CaseShape) (left : Left) : Type 0 where
   pub run : IsRun case left
   pub unwritten : left.text.1 ≡ left.text.0
 
--- the run stopped since its history has as many entries as one may have, and a drain has more
+-- the run stopped since its history has as many entries as one may have
 pub record IsFull (case : CaseShape) (left : Left) : Type 0 where
   pub stopped : IsStopped case left
   pub full : length left.history ≡ history_limit
-  pub more : IfSome left.rows.1 (λ _. (entry : Entry) × IsNextEntry case 0 left.history entry)
 
 -- the run stopped at bytes that the keeper gave, which are those of no row that fits the name; of a keeper
 -- whose rows a contract can see none are

@@ -16,8 +16,6 @@ mod refusal;
 mod run;
 mod saying;
 mod status;
-#[cfg(test)]
-mod tests;
 mod words;
 
 pub use alone::{Done, millwheel_alone};

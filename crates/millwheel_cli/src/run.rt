@@ -19,7 +19,7 @@ use node::NodeFault;
 use row_keeper::Keeper;
 use run_history::{Case, History, history_lines, result_text};
 use std::alloc::Global;
-use world::{drain, drains_go_on_until_they_end, drains_leave_no_work};
+use world::{drain, drains_leave_no_work};
 
 // How many entries a history may have.
 const HISTORY_MAX: u64 = 1 << 32;
@@ -153,7 +153,6 @@ fn finish<K: Keeper, C: Computation, O: Sink>(
     let drained = drain(alloc, book, work);
     let history = book.history();
     drains_leave_no_work();
-    drains_go_on_until_they_end();
     match drained {
         Ok(()) => write(alloc, book.case(), history, lines, out),
         Err(fault) => status_of_drain(fault),

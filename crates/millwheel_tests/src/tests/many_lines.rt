@@ -2,7 +2,7 @@
 //! has a clause, so that no test carries what the calls before have told.
 use super::topologies::COUNT;
 use super::{answer, sink};
-use crate::Status;
+use millwheel_cli::Status;
 use mw_types::NoMemory;
 use std::alloc::Global;
 use std::process::Abort;

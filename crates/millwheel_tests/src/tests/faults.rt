@@ -1,7 +1,7 @@
 //! A sink or a keeper that fails, and keepers that have rows.
 use super::topologies::{COUNT, HEADS};
 use super::{EVENTS, answer, bytes_of, call, called, holds, keeper, shelf, sink};
-use crate::{Done, Status};
+use millwheel_cli::{Done, Status};
 use mw_ports::MemSink;
 use mw_types::{CallList, Key, KeyRefusal, RowName};
 use row_keeper::{BlindKeeper, Keeper, KeptRow, MemKeeper};

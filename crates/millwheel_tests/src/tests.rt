@@ -7,7 +7,7 @@ mod statuses;
 mod texts;
 mod topologies;
 
-use crate::{Done, Status, millwheel_alone};
+use millwheel_cli::{Done, Status, millwheel_alone};
 use mw_ports::{FileList, MemShelf, MemSink, NamedFile};
 use mw_types::{Bytes, CallList, Name, NoMemory, Seq};
 use row_keeper::{Keeper, KeptRow, MemKeeper};

@@ -1,7 +1,7 @@
 //! What is said of each status, and the number with which the process ends.
 use super::{bytes_of, call, sink};
-use crate::{Status, tell};
 use injector::LineWhy;
+use millwheel_cli::{Status, tell};
 use mw_ports::MemSink;
 use mw_types::{CallList, Key, KeyRefusal, Name, RowName};
 use std::alloc::Global;

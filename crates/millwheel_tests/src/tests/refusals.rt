@@ -1,8 +1,8 @@
 //! Words and files that are refused, by their values.
 use super::topologies::COUNT;
 use super::{EVENTS, answer, call, called, keeper, shelf, sink};
-use crate::Status;
 use injector::LineWhy;
+use millwheel_cli::Status;
 use mw_types::{CallList, Name, NoMemory};
 use std::alloc::Global;
 use std::process::Abort;
