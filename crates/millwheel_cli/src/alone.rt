@@ -33,8 +33,7 @@ pub struct Done<K> {
 /// Does what the words of the command line say, the program's name left out.
 ///
 /// The two files are read and tried one after the other, then they are run over the keeper, which
-/// must have no rows, and then the text is written by one call. A refusal comes at the first step
-/// that fails.
+/// must have no rows, and then the text is written. A refusal comes at the first step that fails.
 pub fn millwheel_alone<S: Shelf, K: Keeper, O: Sink>(
     alloc: Global,
     words: &[Name],

@@ -1,4 +1,4 @@
-//! What is pending is sent again.
+//! What is pending is put into the outbox again.
 ghost use Rattle.std.specs.Prelude.{◌≡◌, All, IfErr, IfOk, OnErr, OnOk, length};
 ghost use Rattle.std.specs.List.Sorted.{IsPermutation, IsSorted, IsStrictlySortedBy};
 ghost use Rattle.std.specs.Ordering.{is_eq};
@@ -19,7 +19,8 @@ use std::alloc::Global;
 use std::cmp::Ordering;
 
 impl<N: Seen> Node<N> {
-    /// Sends again all that is pending in the rows that it has, in the order of the records' ids.
+    /// Puts all that is pending in the rows that it has into the outbox again, in the order of the
+    /// records' ids.
     pub fn sweep<D: Desk<Note = N>>(
         &mut self,
         alloc: Global,
