@@ -1,19 +1,19 @@
 -- The steps of a seat with the turn keep the fence law: to append, to give the turn back, and to note a fault. So
 -- does a look, which any seat may take.
-use Rattle.std.proofs.Common.{inl, inr, ◌≡◌, ◌≢◌, ◌⊎◌, ℕ, zero, suc, ◌+◌, ◌%◌, ◌^◌, ◌<◌, ◌≤◌, List, [], ◌∷◌, ◌++◌, length, drop, Option, Some, None, Bool, true, false, refl, sym, ap, ◌∙◌, subst, ⊎_elim, arith, length-append}
+use Rattle.std.proofs.Common.{inl, inr, ◌≡◌, ◌≢◌, ◌⊎◌, ℕ, ◌+◌, ◌%◌, ◌^◌, ◌<◌, ◌≤◌, List, [], ◌∷◌, ◌++◌, length, Option, Some, true, refl, sym, ap, ◌∙◌, subst, ⊎_elim, arith, length-append}
 use Rattle.std.specs.Prelude.{slice_index, slice_set, slice_get, IfSome}
-use mathlib.Core.Option.{some, none, some-ne-none, some-injective}
+use mathlib.Core.Option.{some, none}
 use mathlib.Core.Logic.{dite}
 use native.Mathlib.Decide.{ℕ_discrete}
 use lib.ListN.{get_elem?}
-use Rattle.atomic_table.specs.Table.{State, Me, Act, keeps, takes, gives, stepped, step, Allows, Valid, carried_after}
+use Rattle.atomic_table.specs.Table.{State, keeps, gives, step, Allows}
 use Rattle.atomic_table.proofs.Lists.{set_here, set_again}
 use Rattle.mw_types.specs.Causes.{Rose}
 use Rattle.mw_types.proofs.CauseLaws.{Rose-before}
 use Rattle.mw_types.specs.declared.entry.Entry.{Entry}
 use Rattle.mw_types.specs.declared.entry.Entry.TheVariants.{Claim, Inject, Handle, Fire, Ack, Purge}
 use Rattle.run_history.specs.Legal.{IsLegal}
-use Rattle.run_history.specs.Fences.{Begins, IsFenced, sequencer_of}
+use Rattle.run_history.specs.Fences.{Begins, IsFenced}
 use Rattle.run_history.proofs.Beginnings.{Begins-itself, Begins-trans, Begins-length, slice_get-last}
 use Rattle.run_history.proofs.Fenced.{IsFenced-begins}
 use Rattle.book.specs.Books.{CoreView, LeaseView}
@@ -23,13 +23,13 @@ use Rattle.book.proofs.DeskLaws.{telling-if}
 use Rattle.book.proofs.SeenRows.{told-then}
 use Rattle.shared_book.specs.declared.views.Basis.{Basis}
 use Rattle.shared_book.specs.declared.views.View.{View}
-use Rattle.shared_book.specs.Lists.{IsIn, AreDistinct, Somewhere, Everywhere, Pairwise}
-use Rattle.shared_book.specs.FenceLaw.{Slot, FenceLaw, Fits, AreApart, IsCore, AreClaimed, HasSeenOwn, CarriesBelow, seqs, no_marks}
-use Rattle.shared_book.specs.Steps.{SeatView, Appends, Gives, Faults, Looks, HasSeenLawful, IsOwnEntry, history_in, faults_in, lease_in, grown, idle, faulted}
-use Rattle.shared_book.proofs.Lists.{at_bound, in_append, in_left, in_right, ascends_push, distinct_append, drop_front}
+use Rattle.shared_book.specs.Lists.{IsIn, AreDistinct}
+use Rattle.shared_book.specs.FenceLaw.{Slot, FenceLaw, Fits, AreApart, IsCore, AreClaimed, CarriesBelow, seqs, no_marks}
+use Rattle.shared_book.specs.Steps.{Appends, Gives, Faults, Looks, IsOwnEntry, lease_in, grown, idle, faulted}
+use Rattle.shared_book.proofs.Lists.{in_append, in_left, in_right, ascends_push, distinct_append, drop_front}
 use Rattle.shared_book.proofs.ViewLists.{everywhere_set, pairwise_set, somewhere_set, somewhere_here}
 use Rattle.shared_book.proofs.Histories.{begins_more, claim_kept, claim_within, all_below, below_push, legal_begins}
-use Rattle.shared_book.proofs.Moves.{off, rose_on, apart_sym, fits_on, alone}
+use Rattle.shared_book.proofs.Moves.{off, apart_sym, fits_on, alone}
 
 -- ---- leases and their sequencers
 
@@ -81,8 +81,11 @@ news_distinct v (Purge q row floor) = tt
 -- the lease that an entry gives is claimed by it
 pub news_claimed : (v : View) (e : Entry) → AreClaimed (v.front ++ e ∷ []) (news v e)
 news_claimed v (Claim w i) l p = ⊎_elim
-    (λ x. (w, ap (λ (y : LeaseView). slice_get (v.front ++ Claim w i ∷ []) y.seq) x
-        ∙ slice_get-last v.front (Claim w i) ∙ ap (λ (y : LeaseView). Some (Claim w y.interval)) (sym x)))
+    (λ x. (
+      w,
+      ap (λ (y : LeaseView). slice_get (v.front ++ Claim w i ∷ []) y.seq) x
+          ∙ slice_get-last v.front (Claim w i) ∙ ap (λ (y : LeaseView). Some (Claim w y.interval)) (sym x),
+    ))
     (λ x. absurd x)
     p
 news_claimed v (Inject q part line item) l p = absurd p
@@ -167,8 +170,8 @@ grown_apart basis s f id v e at turn i u o g =
     let fu = f.views i u g in
     let short = Begins-length u.front f.history fu.begins in
     let there : (q : ℕ) → IsIn q (seqs (v.leases ++ news v e)) → IsIn q (seqs v.leases) ⊎ (q ≡ length v.front) = λ q p.
-        ⊎_elim (λ y. inl y) (λ y. inr (new_seq v e q y))
-        (in_append q (seqs v.leases) (seqs (news v e)) (subst (IsIn q) (seqs_append v.leases (news v e)) p)) in
+    ⊎_elim (λ y. inl y) (λ y. inr (new_seq v e q y))
+    (in_append q (seqs v.leases) (seqs (news v e)) (subst (IsIn q) (seqs_append v.leases (news v e)) p)) in
     record {
       turn = a.turn;
       leases = λ q p r. ⊎_elim (λ y. a.leases q y r)
@@ -215,11 +218,11 @@ appended basis s f id v b e at turn live may longer lawful limit told =
       counted = f.counted;
       views = everywhere_set (Fits basis h' f.turn f.count) s.views id w (grown_fits basis s f id v e at turn live)
           (λ i u o g. let fu = f.views i u g in
-            let a = f.apart id i v u at g (λ x. o (sym x)) in
-            fits_on basis f.history h' f.turn f.count f.turn f.count u fu (free i u o g) grows (omega arith)
-            (λ q p. below_push v.front e q (length u.front)
-              (subst (λ l. CarriesBelow l q (length u.front)) (sym whole) (fu.seen_own q p))
-              (λ carries. a.leases q (may q carries) p)));
+          let a = f.apart id i v u at g (λ x. o (sym x)) in
+          fits_on basis f.history h' f.turn f.count f.turn f.count u fu (free i u o g) grows (omega arith)
+          (λ q p. below_push v.front e q (length u.front)
+          (subst (λ l. CarriesBelow l q (length u.front)) (sym whole) (fu.seen_own q p))
+          (λ carries. a.leases q (may q carries) p)));
       apart = pairwise_set AreApart s.views id w f.apart
           (λ i u o g. let n = grown_apart basis s f id v e at turn i u o g in (n, apart_sym w u n));
       owned = λ k p q. ⊎_elim
@@ -247,13 +250,15 @@ appends_one basis slots id v b e turn live may longer below lawful limit told s 
     let is : after v e ≡ grown v b.history = sym (ap (grown v) longer ∙ grown_after v e) in
     let below' : length (v.front ++ e ∷ []) < 2 ^ 64 = subst (λ (l : List Entry). length l < 2 ^ 64) longer below in
     let next : (slice_index s.words 0 + 1) % 2 ^ 64 ≡ length (v.front ++ e ∷ []) =
-        ap (λ n. (n + 1) % 2 ^ 64) (found ∙ sym front) ∙ ap (λ n. n % 2 ^ 64) (sym more)
-        ∙ rem_small (length (v.front ++ e ∷ [])) below' in (
+    ap (λ n. (n + 1) % 2 ^ 64) (found ∙ sym front) ∙ ap (λ n. n % 2 ^ 64) (sym more)
+    ∙ rem_small (length (v.front ++ e ∷ [])) below' in (
       after v e,
       keeps,
       tt,
       subst (λ (n : ℕ). FenceLaw basis (record {
-        words = slice_set s.words 0 n; homes = s.homes; views = slice_set s.views id (after v e)
+        words = slice_set s.words 0 n;
+        homes = s.homes;
+        views = slice_set s.views id (after v e);
       })) (sym next) (appended basis s f id v b e at turn live may longer lawful limit told),
       (found ∙ sym front, λ i. (is i, (0, Some b) ∷ [])),
     )
@@ -278,8 +283,11 @@ gives_turn basis slots id v b turn live core room s f homes at small =
         count = f.count;
         words = ap (λ l. slice_set l 1 0) f.words;
         holder = λ z. absurd (omega arith);
-        home = λ _. (b, set_here s.homes 0 (some (Some b)) (omega (arith, homes)),
-          subst (λ (z : Basis × List Entry × ℕ). IsCore z.0 z.1 z.2 b) (λ i. (fit.same live i, mine.4 i, mine.5 i)) core);
+        home = λ _. (
+          b,
+          set_here s.homes 0 (some (Some b)) (omega (arith, homes)),
+          subst (λ (z : Basis × List Entry × ℕ). IsCore z.0 z.1 z.2 b) (λ i. (fit.same live i, mine.4 i, mine.5 i)) core,
+        );
         fenced = f.fenced;
         legal = f.legal;
         few = f.few;
@@ -304,12 +312,15 @@ gives_turn basis slots id v b turn live core room s f homes at small =
               failed = fit.failed;
             })
             (λ i u o e. fits_on basis f.history f.history f.turn f.count 0 f.count u (f.views i u e) (free i u o e)
-                (Begins-itself f.history) (omega arith) (f.views i u e).seen_own);
+            (Begins-itself f.history) (omega arith) (f.views i u e).seen_own);
         apart = pairwise_set AreApart s.views id w f.apart
             (λ i u o e. let a = f.apart id i v u at e (λ x. o (sym x)) in
-              let n : AreApart w u = record {
-                turn = λ x y. free i u o e y; leases = a.leases; own = a.own; numbers = a.numbers
-              } in (n, apart_sym w u n));
+            let n : AreApart w u = record {
+              turn = λ x y. free i u o e y;
+              leases = a.leases;
+              own = a.own;
+              numbers = a.numbers;
+            } in (n, apart_sym w u n));
         owned = λ k p q. somewhere_set (λ x. IsIn k x.own) s.views id v w at (λ y. y) (f.owned k p q);
         numbered = λ n p. somewhere_set (λ x. IsIn n x.numbers) s.views id v w at (λ y. y) (f.numbered n p);
       },
@@ -369,11 +380,11 @@ faults_one basis slots id v b turn more rose s f homes at small =
               failed = λ p. Rose-before basis.count v.count b.faults low rose;
             })
             (λ i u o e. fits_on basis f.history f.history f.turn f.count f.turn b.faults u (f.views i u e) (free i u o e)
-                (Begins-itself f.history) up (f.views i u e).seen_own);
+            (Begins-itself f.history) up (f.views i u e).seen_own);
         apart = pairwise_set AreApart s.views id w f.apart
             (λ i u o e. let a = f.apart id i v u at e (λ x. o (sym x)) in
-              let n : AreApart w u = record { turn = a.turn; leases = a.leases; own = a.own; numbers = a.numbers } in
-              (n, apart_sym w u n));
+            let n : AreApart w u = record { turn = a.turn; leases = a.leases; own = a.own; numbers = a.numbers } in
+            (n, apart_sym w u n));
         owned = λ k p q. somewhere_set (λ x. IsIn k x.own) s.views id v w at (λ y. y) (f.owned k p q);
         numbered = λ n p. somewhere_set (λ x. IsIn n x.numbers) s.views id v w at (λ y. y) (f.numbered n p);
       },
@@ -385,7 +396,9 @@ faults_one basis slots id v b turn more rose s f homes at small =
 -- a word that is set to what it is leaves the table as it was
 still : (basis : Basis) (s : State Slot View) (f : FenceLaw basis s) (id : ℕ) (v : View) → get_elem? s.views id ≡ some v
     → FenceLaw basis (record {
-      words = slice_set s.words 0 (slice_index s.words 0); homes = s.homes; views = slice_set s.views id v
+      words = slice_set s.words 0 (slice_index s.words 0);
+      homes = s.homes;
+      views = slice_set s.views id v;
     })
 still basis s f id v at =
     subst (λ (z : List ℕ × List View). FenceLaw basis (record { words = z.0; homes = s.homes; views = z.1 }))

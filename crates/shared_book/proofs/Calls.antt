@@ -1,5 +1,5 @@
 -- What a call of a book in a turn leaves, for the seat that has the turn.
-use Rattle.std.proofs.Common.{◌≡◌, ◌≢◌, ℕ, ◌+◌, ◌<◌, ◌≤◌, List, [], ◌∷◌, ◌++◌, length, Option, Some, None, Bool, true, false, refl, sym, ap, ◌∙◌, subst, arith}
+use Rattle.std.proofs.Common.{◌≡◌, ℕ, ◌≤◌, List, [], ◌∷◌, ◌++◌, length, Option, Some, None, sym, ap, ◌∙◌, subst, arith}
 use Rattle.std.specs.Prelude.{IfSome, Result, take}
 use Rattle.std.proofs.lemmas.List.{take_all}
 use Rattle.mw_types.specs.Causes.{Rose}
@@ -55,7 +55,6 @@ entry_carries case seq name (proposals.Fire timer mark effects) entry is = ap se
 -- a seat's view, the book that it took out, and what is known of the two
 module _ (v : View) (a : CoreView) (old : BookView) (z : CaseShape) (core : IsCore v.basis v.front v.count a)
     (is : core_of old ≡ a) (of_case : old.case ≡ z) (here : v.basis.case ≡ z) where
-
   -- the book's history is what the seat has seen
   pub seen_history : old.history ≡ v.front
   seen_history = ap (λ (b : CoreView). b.history) is ∙ core.whole
@@ -98,7 +97,7 @@ module _ (v : View) (a : CoreView) (old : BookView) (z : CaseShape) (core : IsCo
       → IfSome old.rows (λ _. IsProposedOf old.case name proposal (run_of old.case.topology (take front old.history)))
   proposed_held front name proposal whole held = if-telling old.rows _
       (subst (λ (t : CaseShape × Option Unit × List Entry).
-        IfSome t.1 (λ _. IsProposedOf t.0 name proposal (run_of t.0.topology t.2)))
+      IfSome t.1 (λ _. IsProposedOf t.0 name proposal (run_of t.0.topology t.2)))
       (λ i. (sym seen_case i, sym seen_told i, sym (take_seen front whole) i)) held)
 
   -- an id may be settled by what was seen
@@ -112,7 +111,7 @@ module _ (v : View) (a : CoreView) (old : BookView) (z : CaseShape) (core : IsCo
       → MayForget v.basis.case v.basis.told v.front name row floor → MayForgetAt old front name row floor
   forget_held front name row floor whole may =
       let told = subst (λ (t : CaseShape × Option Unit × List Entry). MayForget t.0 t.1 t.2 name row floor)
-          (λ i. (sym seen_case i, sym seen_told i, sym (take_seen front whole) i)) may in
+      (λ i. (sym seen_case i, sym seen_told i, sym (take_seen front whole) i)) may in
       record {
         rises = told.rises;
         few = told.few;
@@ -145,7 +144,6 @@ module _ (v : View) (a : CoreView) (old : BookView) (z : CaseShape) (core : IsCo
 
   module _ (new : BookView) (c : CoreView) (w : CaseShape) (claimed : AreClaimed v.front v.leases) (same : IsSameBook old new)
       (later : old.faults ≤ new.faults) (parts : c ≡ core_of new) (is_case : w ≡ new.case) (lawful : IsLawful w c) where
-
     -- the book is lawful by the seat's case
     left_lawful : IsLawful v.basis.case c
     left_lawful = subst (λ (y : CaseShape). IsLawful y c) (is_case ∙ same.case ∙ seen_case) lawful

@@ -1,12 +1,11 @@
 -- What a close hands back: the seat with all numbers, and no turn, has seen all, and the book is at home.
-use Rattle.std.proofs.Common.{inl, inr, ◌≡◌, ◌⊎◌, ℕ, zero, suc, ◌+◌, ◌<◌, ◌≤◌, List, [], ◌∷◌, length, Option, Some, None, Bool, true, false, refl, sym, ap, ◌∙◌, subst, ⊎_elim, arith}
+use Rattle.std.proofs.Common.{◌≡◌, ℕ, zero, suc, ◌<◌, ◌≤◌, List, [], length, Some, None, true, false, refl, sym, ap, ◌∙◌, subst, ⊎_elim, arith}
 use mathlib.Core.Option.{some, some-injective}
 use mathlib.Core.Logic.{dite}
 use native.Mathlib.Decide.{ℕ_discrete, dec_le}
 use lib.ListN.{get_elem?}
 use Rattle.atomic_table.specs.Table.{State, Final, Seen}
 use Rattle.mw_types.specs.Causes.{Rose}
-use Rattle.mw_types.specs.declared.entry.Entry.{Entry}
 use Rattle.book.specs.Books.{CoreView}
 use Rattle.shared_book.specs.declared.views.Basis.{Basis}
 use Rattle.shared_book.specs.declared.views.View.{View}
@@ -80,7 +79,7 @@ closes basis s f id v at quiet live all =
     let mine = own_all basis s f id v at all in
     let reach = fit.reaches live in
     let far : length f.history ≤ length v.front = not_past (length v.front) (length f.history)
-        (λ h. let o = (fit.own (length v.front) (mine (length v.front) reach h)).1 in omega (arith, o)) in
+    (λ h. let o = (fit.own (length v.front) (mine (length v.front) reach h)).1 in omega (arith, o)) in
     let whole : v.front ≡ f.history = is_whole v.front f.history fit.begins far in
     let core = home.2 in
     let enough : basis.count ≤ home.0.faults = omega (arith, f.counted, core.enough) in
@@ -121,10 +120,10 @@ closing key id v words places final quiet live all r at =
     ⊎_elim
     (λ u. absurd (unborn_view key s u id v seen.1 live))
     (λ x.
-      let e : v.basis ≡ x.0 = (x.1.views id v seen.1).same live in
-      let c = closes x.0 s x.1 id v seen.1 quiet live
-          (λ n h. all n (omega (arith, h, ap (λ (z : Basis). z.seats) e))) in
-      (c.core, some-injective r (Some c.core) (sym at ∙ final.4 0 (Some c.core) c.home), closed_of v x.0 s e c))
+    let e : v.basis ≡ x.0 = (x.1.views id v seen.1).same live in
+    let c = closes x.0 s x.1 id v seen.1 quiet live
+    (λ n h. all n (omega (arith, h, ap (λ (z : Basis). z.seats) e))) in
+    (c.core, some-injective r (Some c.core) (sym at ∙ final.4 0 (Some c.core) c.home), closed_of v x.0 s e c))
     seen.0
 
 -- whether a place has a book

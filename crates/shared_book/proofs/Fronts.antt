@@ -1,12 +1,11 @@
 -- The longer of two beginnings of one history.
-use Rattle.std.proofs.Common.{inl, inr, ◌≡◌, ◌⊎◌, ℕ, zero, suc, ◌+◌, ◌<◌, ◌≤◌, List, [], ◌∷◌, ◌++◌, length, take, drop, refl, sym, ap, ◌∙◌, subst, ⊎_elim, arith, length-append, append-nil}
+use Rattle.std.proofs.Common.{inl, inr, ◌≡◌, ◌⊎◌, ◌≤◌, List, [], ◌∷◌, ◌++◌, length, take, drop, refl, sym, ap, ◌∙◌, subst, ⊎_elim, arith, length-append, append-nil}
 use Rattle.std.proofs.lemmas.List.{take-append-drop, take-take, drop_all}
 use native.Mathlib.Decide.{dec_le}
 use Rattle.mw_types.specs.declared.entry.Entry.{Entry}
 use Rattle.run_history.specs.Fences.{Begins}
 use Rattle.run_history.proofs.Beginnings.{Begins-itself}
 use Rattle.shared_book.specs.Joins.{longer}
-use Rattle.shared_book.proofs.Lists.{drop_front}
 
 -- what is taken of a list's length is the list
 take_front : (a b : List Entry) → take (length a) (a ++ b) ≡ a

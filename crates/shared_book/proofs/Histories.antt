@@ -1,18 +1,16 @@
 -- Beginnings of a history, and which of its entries carry a sequencer.
-use Rattle.std.proofs.Common.{inl, inr, ◌≡◌, ◌≢◌, ◌⊎◌, ℕ, zero, suc, ◌+◌, ◌<◌, ◌≤◌, List, [], ◌∷◌, ◌++◌, length, refl, sym, ap, ◌∙◌, subst, ⊎_elim, arith, append_assoc, length-append}
-use Rattle.std.specs.Prelude.{Option, Some, None, IfSome, slice_get, All}
+use Rattle.std.proofs.Common.{inl, inr, ◌≡◌, ◌≢◌, ◌⊎◌, ℕ, zero, suc, ◌<◌, ◌≤◌, List, [], ◌∷◌, ◌++◌, length, refl, sym, ap, ◌∙◌, subst, ⊎_elim, arith, append_assoc, length-append}
+use Rattle.std.specs.Prelude.{Some, slice_get}
 use Rattle.std.specs.List.{AllByRecursion}
 use Rattle.std.proofs.lemmas.Option.{slice_get_within}
-use Rattle.std.proofs.lemmas.List.{append-nil}
 use Rattle.std.proofs.lemmas.List.Elements.{All-from_recursion}
 use Rattle.mw_types.specs.declared.entry.Entry.{Entry}
 use Rattle.run_history.specs.Cases.{CaseShape}
 use Rattle.run_history.specs.Runs.{Run, empty_run, followed}
 use Rattle.run_history.specs.Legal.{IsLegal, AreLegal}
-use Rattle.run_history.specs.Fences.{Begins, IsClaimed, CarryNot, HasSeenAll, sequencer_of}
+use Rattle.run_history.specs.Fences.{Begins, IsClaimed, HasSeenAll, sequencer_of}
 use Rattle.run_history.proofs.Lists.{some_same, none_some}
 use Rattle.run_history.proofs.Beginnings.{Begins-at, slice_get-more, slice_get-last}
-use Rattle.book.specs.Books.{LeaseView}
 use Rattle.shared_book.specs.FenceLaw.{CarriesBelow}
 
 -- a history is a beginning of itself with one more entry
@@ -56,9 +54,9 @@ rest_carry_not seq number [] front few below = tt
 rest_carry_not seq number (e ∷ rest) front few below =
     let again : (front ++ e ∷ []) ++ rest ≡ front ++ e ∷ rest = append_assoc front (e ∷ []) rest in (
       (λ carries.
-        let at = subst (λ (l : List Entry). slice_get l (length front) ≡ Some e) again
-            (slice_get-more (front ++ e ∷ []) (length front) e rest (slice_get-last front e)) in
-        let less = below (length front) e at carries in omega (arith, less, few)),
+          let at = subst (λ (l : List Entry). slice_get l (length front) ≡ Some e) again
+          (slice_get-more (front ++ e ∷ []) (length front) e rest (slice_get-last front e)) in
+          let less = below (length front) e at carries in omega (arith, less, few)),
       rest_carry_not seq number rest (front ++ e ∷ [])
           (omega (arith, few, length-append front (e ∷ []))) (subst (λ (l : List Entry). CarriesBelow l seq number) (sym again) below),
     )

@@ -1,16 +1,14 @@
 -- Splits and joins keep the fence law.
-use Rattle.std.proofs.Common.{inl, inr, ◌≡◌, ◌≢◌, ◌⊎◌, ℕ, zero, suc, ◌+◌, ◌-◌, ◌<◌, ◌≤◌, List, [], ◌∷◌, ◌++◌, length, Bool, true, false, refl, sym, ap, ◌∙◌, subst, ⊎_elim, arith}
+use Rattle.std.proofs.Common.{inl, inr, ◌≡◌, ◌⊎◌, ℕ, zero, suc, ◌+◌, ◌-◌, ◌<◌, List, [], ◌∷◌, ◌++◌, true, false, refl, sym, ap, ◌∙◌, subst, ⊎_elim, arith}
 use Rattle.std.specs.Prelude.{slice_set}
-use mathlib.Core.Option.{some, none, some-ne-none, some-injective}
+use mathlib.Core.Option.{some, some-ne-none}
 use lib.ListN.{get_elem?}
 use Rattle.atomic_table.specs.Table.{State, Splits, Joins}
 use Rattle.atomic_table.proofs.Lists.{at_set}
-use Rattle.run_history.specs.Fences.{Begins}
 use Rattle.run_history.proofs.Beginnings.{Begins-length}
-use Rattle.book.specs.Books.{LeaseView}
 use Rattle.shared_book.specs.declared.views.Basis.{Basis}
 use Rattle.shared_book.specs.declared.views.View.{View}
-use Rattle.shared_book.specs.Lists.{IsIn, Ascends, AreDistinct, Somewhere, Everywhere, Pairwise}
+use Rattle.shared_book.specs.Lists.{IsIn, Ascends, AreDistinct}
 use Rattle.shared_book.specs.FenceLaw.{Slot, FenceLaw, Fits, AreApart, seqs}
 use Rattle.shared_book.specs.Joins.{note_of, first_of, others_of, stays, leaves, longer, merged, joined, spent}
 use Rattle.shared_book.proofs.Lists.{in_append, distinct_append, no_members}
@@ -19,7 +17,7 @@ use Rattle.shared_book.proofs.Histories.{claim_kept}
 use Rattle.shared_book.proofs.Moves.{off, apart_sym}
 use Rattle.shared_book.proofs.Appending.{seqs_append}
 use Rattle.shared_book.proofs.Merging.{in_merged, merged_left, merged_right, merged_ascends}
-use Rattle.shared_book.proofs.Fronts.{IsLonger, is_longer}
+use Rattle.shared_book.proofs.Fronts.{is_longer}
 
 -- ---- splits
 
@@ -99,11 +97,11 @@ seat_splits basis id n m ms v is quiet s f at =
     let one : first_of v.numbers ≡ n ∷ [] = ap first_of is in
     let two : others_of v.numbers ≡ m ∷ ms = ap others_of is in
     let first : (k : ℕ) → IsIn k (first_of v.numbers) → IsIn k v.numbers =
-        λ k p. ⊎_elim (λ e. subst (IsIn k) (sym is) (inl e)) (λ e. absurd e) (subst (IsIn k) one p) in
+    λ k p. ⊎_elim (λ e. subst (IsIn k) (sym is) (inl e)) (λ e. absurd e) (subst (IsIn k) one p) in
     let others : (k : ℕ) → IsIn k (others_of v.numbers) → IsIn k v.numbers =
-        λ k p. subst (IsIn k) (sym is) (inr (subst (IsIn k) two p)) in
+    λ k p. subst (IsIn k) (sym is) (inr (subst (IsIn k) two p)) in
     let distinct : (k : ℕ) → IsIn k (others_of v.numbers) → IsIn k (first_of v.numbers) → ⊥ = λ k p q.
-        ⊎_elim (λ e. let l = rise.0 k (subst (IsIn k) two p) in omega (arith, l, e)) (λ e. e) (subst (IsIn k) one q) in
+    ⊎_elim (λ e. let l = rise.0 k (subst (IsIn k) two p) in omega (arith, l, e)) (λ e. e) (subst (IsIn k) one q) in
     split_law basis s f id v (stays v) (leaves v) at
     (record {
       same = fit.same;
@@ -164,7 +162,7 @@ joined_fits basis s f v w fv fw a live quiet =
     let p_len = Begins-length v.front (longer v.front w.front) far.left in
     let q_len = Begins-length w.front (longer v.front w.front) far.right in
     let in_seqs : (q : ℕ) → IsIn q (seqs (v.leases ++ w.leases)) → IsIn q (seqs v.leases) ⊎ IsIn q (seqs w.leases) =
-        λ q p. in_append q (seqs v.leases) (seqs w.leases) (subst (IsIn q) (seqs_append v.leases w.leases) p) in
+    λ q p. in_append q (seqs v.leases) (seqs w.leases) (subst (IsIn q) (seqs_append v.leases w.leases) p) in
     record {
       same = fv.same;
       spent = λ e. absurd (off (sym e ∙ live));
@@ -231,7 +229,7 @@ pub seats_join : (basis : Basis) (id : ℕ) (v : View) (other : ℕ) (w : View) 
     → Joins {S = Slot} (FenceLaw basis) id v other w (joined v w) spent
 seats_join basis id v other w live quiet still s f at apart there' =
     let there : get_elem? s.views other ≡ some w =
-        ⊎_elim (λ q. absurd (apart q.0)) (λ q. q.1) (at_set s.views id other (joined v w) w there') in
+    ⊎_elim (λ q. absurd (apart q.0)) (λ q. q.1) (at_set s.views id other (joined v w) w there') in
     let fv = f.views id v at in
     let fw = f.views other w there in
     let a = f.apart id other v w at there (λ e. apart (sym e)) in

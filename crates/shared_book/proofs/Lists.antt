@@ -1,6 +1,6 @@
 -- Membership, ascending lists, and reading a list of views at a place.
-use Rattle.std.proofs.Common.{inl, inr, ◌≡◌, ◌≢◌, ◌⊎◌, ℕ, zero, suc, ◌+◌, ◌<◌, ◌≤◌, List, [], ◌∷◌, ◌++◌, length, drop, refl, sym, ap, ◌∙◌, subst, ⊎_elim, arith}
-use mathlib.Core.Option.{some, none, some-injective, some-ne-none}
+use Rattle.std.proofs.Common.{inl, inr, ◌≡◌, ◌⊎◌, ℕ, zero, suc, ◌<◌, List, [], ◌∷◌, ◌++◌, length, drop, refl, sym, ap, subst, ⊎_elim, arith}
+use mathlib.Core.Option.{some, some-injective, some-ne-none}
 use lib.ListN.{get_elem?}
 use Rattle.shared_book.specs.Lists.{IsIn, Ascends, AreDistinct}
 
@@ -45,9 +45,9 @@ pub ascends_push : (xs : List ℕ) (n : ℕ) → Ascends xs → ((x : ℕ) → I
 ascends_push [] n r h = ((λ y p. absurd p), tt)
 ascends_push (x ∷ xs) n r h = (
   (λ y p. ⊎_elim
-    (λ q. r.0 y q)
-    (λ q. ⊎_elim (λ e. subst (λ (z : ℕ). x < z) (sym e) (h x (inl refl))) (λ e. absurd e) q)
-    (in_append y xs (n ∷ []) p)),
+      (λ q. r.0 y q)
+      (λ q. ⊎_elim (λ e. subst (λ (z : ℕ). x < z) (sym e) (h x (inl refl))) (λ e. absurd e) q)
+      (in_append y xs (n ∷ []) p)),
   ascends_push xs n r.1 (λ y p. h y (inr p)),
 )
 

@@ -1,5 +1,5 @@
 -- Two ascending lists as one.
-use Rattle.std.proofs.Common.{inl, inr, ◌≡◌, ◌≢◌, ◌⊎◌, ℕ, zero, suc, ◌<◌, ◌≤◌, List, [], ◌∷◌, length, Bool, true, false, refl, sym, ap, ◌∙◌, subst, ⊎_elim, arith, if◌then◌else◌}
+use Rattle.std.proofs.Common.{inl, inr, ◌≡◌, ◌≢◌, ◌⊎◌, ℕ, ◌<◌, ◌≤◌, List, [], ◌∷◌, length, Bool, true, false, refl, ap, ◌∙◌, ⊎_elim, arith, if◌then◌else◌}
 use Rattle.std.specs.Prelude.{nat_le}
 use Rattle.std.proofs.lemmas.Bool.{leb-true, leb-false}
 use native.Mathlib.Decide.{dec_le}
@@ -124,9 +124,9 @@ merged_high : (a b : ℕ) (xs ys : List ℕ) → first_of xs ≡ a ∷ [] → b 
 merged_high a b xs [] e h r = placed_low b a xs e h
 merged_high a b xs (y ∷ ys) e h r = ⊎_elim
     (λ l. let q = r.0 y (inl refl) in
-      placed_low b y (merged xs (y ∷ ys)) (merged_high a y xs ys e l r.1) (omega (arith, q)))
+    placed_low b y (merged xs (y ∷ ys)) (merged_high a y xs ys e l r.1) (omega (arith, q)))
     (λ l. placed_low b a (merged xs (y ∷ ys))
-      (merged_low a xs (y ∷ ys) e (λ k p. ⊎_elim (λ z. omega (arith, z, l)) (λ z. let q = r.1.0 k z in omega (arith, q, l)) p)) h)
+    (merged_low a xs (y ∷ ys) e (λ k p. ⊎_elim (λ z. omega (arith, z, l)) (λ z. let q = r.1.0 k z in omega (arith, q, l)) p)) h)
     (le_or y a)
 
 -- the second's first, where it is not above

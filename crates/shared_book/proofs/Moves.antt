@@ -1,21 +1,19 @@
 -- Taking the turn, or missing it, keeps the fence law.
-use Rattle.std.proofs.Common.{◌≡◌, ◌≢◌, ℕ, zero, suc, ◌+◌, ◌<◌, ◌≤◌, List, [], ◌∷◌, ◌++◌, length, Option, Some, None, Bool, true, false, true≢false, refl, sym, ap, ◌∙◌, subst, arith, eqb, ne_eqb}
-use Rattle.std.specs.Prelude.{slice_index, slice_set, MatchBool}
-use mathlib.Core.Option.{some, none, some-ne-none, some-injective}
+use Rattle.std.proofs.Common.{◌≡◌, ◌≢◌, ℕ, zero, suc, ◌+◌, ◌≤◌, List, [], ◌∷◌, length, Some, true, false, true≢false, refl, sym, ap, ◌∙◌, subst, arith, eqb, ne_eqb}
+use Rattle.std.specs.Prelude.{slice_index, slice_set}
+use mathlib.Core.Option.{some, none, some-ne-none}
 use prog.Atomic.{either}
 use lib.ListN.{get_elem?}
-use Rattle.atomic_table.specs.Table.{State, Me, Act, keeps, takes, gives, stepped, step, Allows, Valid, carried_after}
+use Rattle.atomic_table.specs.Table.{State, Act, keeps, takes, stepped, step, Allows, Valid, carried_after}
 use Rattle.mw_types.specs.Causes.{Rose}
-use Rattle.mw_types.proofs.CauseLaws.{Rose-before}
 use Rattle.mw_types.specs.declared.entry.Entry.{Entry}
 use Rattle.run_history.specs.Fences.{Begins}
 use Rattle.run_history.proofs.Beginnings.{Begins-itself, Begins-trans, Begins-length}
-use Rattle.book.specs.Books.{CoreView, LeaseView}
 use Rattle.shared_book.specs.declared.views.Basis.{Basis}
 use Rattle.shared_book.specs.declared.views.View.{View}
-use Rattle.shared_book.specs.Lists.{IsIn, Somewhere, Everywhere, Pairwise}
-use Rattle.shared_book.specs.FenceLaw.{Slot, FenceLaw, Fits, AreApart, IsCore, AreClaimed, HasSeenOwn, HoldsTurn, no_marks}
-use Rattle.shared_book.specs.Steps.{SeatView, HasFound, Takes, holding, missing}
+use Rattle.shared_book.specs.Lists.{IsIn}
+use Rattle.shared_book.specs.FenceLaw.{Slot, FenceLaw, Fits, AreApart, IsCore, AreClaimed, HasSeenOwn, no_marks}
+use Rattle.shared_book.specs.Steps.{Takes, holding, missing}
 use Rattle.shared_book.proofs.ViewLists.{everywhere_set, pairwise_set, somewhere_set, somewhere_here}
 use Rattle.shared_book.proofs.Histories.{claim_kept, all_below}
 
@@ -92,9 +90,9 @@ took basis slots id number ns v num quiet live s f at is =
     let reach : Begins v.front b.history = subst (Begins v.front) (sym core.whole) fit.begins in
     let longer = Begins-length v.front b.history reach in
     let claimed : AreClaimed b.history v.leases =
-        λ l p. claim_kept v.front b.history l.interval l.seq reach (fit.claimed l p) in
+    λ l p. claim_kept v.front b.history l.interval l.seq reach (fit.claimed l p) in
     let free : (i : ℕ) (u : View) → get_elem? s.views i ≡ some u → u.turn ≡ true → ⊥ =
-        λ i u e r. let k = (f.views i u e).holds r in omega (arith, k.3, is) in (
+    λ i u e r. let k = (f.views i u e).holds r in omega (arith, k.3, is) in (
       w,
       takes 0 (Some b),
       home.1,
@@ -130,22 +128,29 @@ took basis slots id number ns v num quiet live s f at is =
               failed = λ p. rose_on basis.count f.count b.faults (fit.failed p) core.enough;
             })
             (λ i u o e. fits_on basis h h f.turn f.count (number + 1) b.faults u (f.views i u e) (free i u e)
-                (Begins-itself h) core.enough (f.views i u e).seen_own);
+            (Begins-itself h) core.enough (f.views i u e).seen_own);
         apart = pairwise_set AreApart s.views id w f.apart
             (λ i u o e. let a = f.apart id i v u at e (λ x. o (sym x)) in
-              let n : AreApart w u = record {
-                turn = λ x y. free i u e y; leases = a.leases; own = a.own; numbers = a.numbers
-              } in (n, apart_sym w u n));
+            let n : AreApart w u = record {
+              turn = λ x y. free i u e y;
+              leases = a.leases;
+              own = a.own;
+              numbers = a.numbers;
+            } in (n, apart_sym w u n));
         owned = λ k p q. somewhere_set (λ x. IsIn k x.own) s.views id v w at (λ y. y) (f.owned k p q);
         numbered = λ n p. somewhere_set (λ x. IsIn n x.numbers) s.views id v w at (λ y. y) (f.numbered n p);
       },
-      (b, refl, record {
-        begins = reach;
-        claimed = fit.claimed;
-        seen_own = subst (λ l. HasSeenOwn l v) (sym core.whole) fit.seen_own;
-        core = subst (λ (y : Basis). IsCore y b.history b.faults b) (sym base)
-            (record { whole = refl; enough = omega arith; lawful = core.lawful; limit = core.limit; told = core.told });
-      }),
+      (
+        b,
+        refl,
+        record {
+          begins = reach;
+          claimed = fit.claimed;
+          seen_own = subst (λ l. HasSeenOwn l v) (sym core.whole) fit.seen_own;
+          core = subst (λ (y : Basis). IsCore y b.history b.faults b) (sym base)
+              (record { whole = refl; enough = omega arith; lawful = core.lawful; limit = core.limit; told = core.told });
+        },
+      ),
     )
 
 -- the turn is missed where another has it, or else it is taken
@@ -195,8 +200,8 @@ taken basis slots id number ns v num quiet live s f at (suc m) is =
             (λ i u o e. f.views i u e);
         apart = pairwise_set AreApart s.views id w f.apart
             (λ i u o e. let a = f.apart id i v u at e (λ x. o (sym x)) in
-              let n : AreApart w u = record { turn = a.turn; leases = a.leases; own = a.own; numbers = a.numbers } in
-              (n, apart_sym w u n));
+            let n : AreApart w u = record { turn = a.turn; leases = a.leases; own = a.own; numbers = a.numbers } in
+            (n, apart_sym w u n));
         owned = λ k p q. somewhere_set (λ x. IsIn k x.own) s.views id v w at (λ y. y) (f.owned k p q);
         numbered = λ n p. somewhere_set (λ x. IsIn n x.numbers) s.views id v w at (λ y. y) (f.numbered n p);
       },

@@ -1,12 +1,11 @@
 -- How the rule begins, and from the fence law to the rule.
-use Rattle.std.proofs.Common.{inl, inr, ◌≡◌, ◌≢◌, ◌⊎◌, ℕ, zero, suc, ◌+◌, ◌<◌, ◌≤◌, List, [], ◌∷◌, ◌++◌, length, Option, Some, None, Bool, true, false, true≢false, refl, sym, ap, ◌∙◌, subst, ⊎_elim, arith}
+use Rattle.std.proofs.Common.{inl, inr, ◌≡◌, ◌⊎◌, ℕ, zero, suc, ◌+◌, ◌<◌, ◌≤◌, List, [], ◌∷◌, length, Some, None, Bool, true, false, true≢false, refl, sym, ap, ◌∙◌, subst, ⊎_elim, arith}
 use Rattle.std.specs.Prelude.{slice_index, slice_set}
 use mathlib.Core.Option.{some, none, some-ne-none, some-injective}
 use lib.ListN.{get_elem?}
-use Rattle.atomic_table.specs.Table.{State, Me, Act, keeps, takes, gives, step, Allows, Splits, Joins, rest, opening}
+use Rattle.atomic_table.specs.Table.{State, Me, takes, gives, step, Allows, Splits, Joins, rest, opening}
 use Rattle.atomic_table.proofs.Lists.{set_here}
 use Rattle.run_history.specs.Cases.{CaseShape}
-use Rattle.run_history.specs.Legal.{IsLegal}
 use Rattle.run_history.proofs.Beginnings.{Begins-itself}
 use Rattle.book.specs.Books.{CoreView}
 use Rattle.book.specs.Lawful.{IsLawful}
@@ -14,7 +13,7 @@ use Rattle.shared_book.specs.declared.views.Basis.{Basis}
 use Rattle.shared_book.specs.declared.views.View.{View}
 use Rattle.shared_book.specs.declared.shared.Key.{Key}
 use Rattle.shared_book.specs.Lists.{IsIn, Ascends}
-use Rattle.shared_book.specs.FenceLaw.{Slot, FenceLaw, Fits, AreApart, IsCore, no_marks}
+use Rattle.shared_book.specs.FenceLaw.{Slot, FenceLaw, Fits, no_marks}
 use Rattle.shared_book.specs.Steps.{SeatView}
 use Rattle.shared_book.specs.Joins.{first_of}
 use Rattle.shared_book.specs.Opening.{blank, span, newborn, IsUnborn, SharedLaw, Fetches, Opens}
@@ -78,23 +77,25 @@ pub fetches : (key : Key) (slots id : ℕ)
     (Fetches (step slots 0 0 0 none) (blank key.case.now key.seats false, []))
 fetches key slots id s r homes at small = ⊎_elim
     (λ u.
-      let here = one_view (blank key.case.now key.seats u.out) (blank key.case.now key.seats false) id
-          (ap (λ l. get_elem? l id) (sym u.views) ∙ at) in
-      let inside : u.out ≡ false = ap (λ (x : View). x.turn) here.1 in (
-        blank key.case.now key.seats true,
-        takes 0 None,
-        u.home inside,
-        inl (record {
-          words = (u.words.0,
-            subst (λ (l : List ℕ). slice_set s.words 0 (slice_index l 0) ≡ u.words.0 ∷ 0 ∷ no_marks) (sym u.words.1)
-            (ap (λ l. slice_set l 0 u.words.0) u.words.1));
-          out = true;
-          views = ap (λ l. slice_set l id (blank key.case.now key.seats true)) u.views
-              ∙ ap (λ k. slice_set (blank key.case.now key.seats u.out ∷ []) k (blank key.case.now key.seats true)) here.0;
-          home = λ e. absurd (true≢false e);
-        }),
-        refl,
-      ))
+    let here = one_view (blank key.case.now key.seats u.out) (blank key.case.now key.seats false) id
+    (ap (λ l. get_elem? l id) (sym u.views) ∙ at) in
+    let inside : u.out ≡ false = ap (λ (x : View). x.turn) here.1 in (
+      blank key.case.now key.seats true,
+      takes 0 None,
+      u.home inside,
+      inl (record {
+        words = (
+          u.words.0,
+          subst (λ (l : List ℕ). slice_set s.words 0 (slice_index l 0) ≡ u.words.0 ∷ 0 ∷ no_marks) (sym u.words.1)
+              (ap (λ l. slice_set l 0 u.words.0) u.words.1),
+        );
+        out = true;
+        views = ap (λ l. slice_set l id (blank key.case.now key.seats true)) u.views
+            ∙ ap (λ k. slice_set (blank key.case.now key.seats u.out ∷ []) k (blank key.case.now key.seats true)) here.0;
+        home = λ e. absurd (true≢false e);
+      }),
+      refl,
+    ))
     (λ x. absurd (no_blank x.0 s x.1 key.case.now key.seats id false at))
     r
 
@@ -177,23 +178,26 @@ pub opens : (key : Key) (slots id : ℕ) (b : CoreView) (m : ℕ) → m ≡ leng
     (λ _. Opens (step slots 0 m 0 none) (blank key.case.now key.seats true, (0, Some b) ∷ []) m)
 opens key slots id b m long some_seat room lawful s r homes at small = ⊎_elim
     (λ u.
-      let v = blank key.case.now key.seats true in
-      let here = one_view (blank key.case.now key.seats u.out) v id (ap (λ l. get_elem? l id) (sym u.views) ∙ at) in
-      let placed = slice_set s.homes 0 (some (Some b)) in
-      let P : List ℕ × List View → Type 0 =
-          λ z. FenceLaw ((newborn v b).basis) (record { words = z.0; homes = placed; views = z.1 }) in
-      let ws : length b.history ∷ 0 ∷ no_marks ≡ slice_set s.words 0 m =
-          ap (λ k. k ∷ 0 ∷ no_marks) (sym long) ∙ sym (ap (λ l. slice_set l 0 m) u.words.1) in
-      let vs : newborn v b ∷ [] ≡ slice_set s.views id (newborn v b) =
-          sym (ap (λ l. slice_set l id (newborn v b)) u.views
-          ∙ ap (λ k. slice_set (blank key.case.now key.seats u.out ∷ []) k (newborn v b)) here.0) in (
-        newborn v b,
-        gives,
-        tt,
-        inr ((newborn v b).basis, subst P (λ i. (ws i, vs i))
-          (newborn_law v b placed some_seat lawful (set_here s.homes 0 (some (Some b)) (omega (arith, homes, room))))),
-        refl,
-      ))
+    let v = blank key.case.now key.seats true in
+    let here = one_view (blank key.case.now key.seats u.out) v id (ap (λ l. get_elem? l id) (sym u.views) ∙ at) in
+    let placed = slice_set s.homes 0 (some (Some b)) in
+    let P : List ℕ × List View → Type 0 =
+    λ z. FenceLaw ((newborn v b).basis) (record { words = z.0; homes = placed; views = z.1 }) in
+    let ws : length b.history ∷ 0 ∷ no_marks ≡ slice_set s.words 0 m =
+    ap (λ k. k ∷ 0 ∷ no_marks) (sym long) ∙ sym (ap (λ l. slice_set l 0 m) u.words.1) in
+    let vs : newborn v b ∷ [] ≡ slice_set s.views id (newborn v b) =
+    sym (ap (λ l. slice_set l id (newborn v b)) u.views
+    ∙ ap (λ k. slice_set (blank key.case.now key.seats u.out ∷ []) k (newborn v b)) here.0) in (
+      newborn v b,
+      gives,
+      tt,
+      inr (
+        (newborn v b).basis,
+        subst P (λ i. (ws i, vs i))
+            (newborn_law v b placed some_seat lawful (set_here s.homes 0 (some (Some b)) (omega (arith, homes, room)))),
+      ),
+      refl,
+    ))
     (λ x. absurd (no_blank x.0 s x.1 key.case.now key.seats id true at))
     r
 
@@ -219,8 +223,8 @@ pub may_open : (key : Key) (slots id : ℕ) (me at : SeatView) (b : CoreView) (m
     → Allows (SharedLaw key) slots id me 0 (λ _. m) (λ _. Opens (step slots 0 m 0 none) me m)
 may_open key slots id me at b m case seats p q was e long some_seat room lawful =
     let is : me ≡ (blank key.case.now key.seats true, (0, Some b) ∷ []) =
-        e ∙ ap (λ (x : SeatView). (x.0, (0, Some b) ∷ rest x.1)) was
-        ∙ ap (λ (v : View). (v, (0, Some b) ∷ [])) (blank_of key case seats true p q) in
+    e ∙ ap (λ (x : SeatView). (x.0, (0, Some b) ∷ rest x.1)) was
+    ∙ ap (λ (v : View). (v, (0, Some b) ∷ [])) (blank_of key case seats true p q) in
     subst (λ (x : SeatView). Allows (SharedLaw key) slots id x 0 (λ _. m) (λ _. Opens (step slots 0 m 0 none) x m)) (sym is)
     (opens key slots id b m long (omega (arith, q, some_seat)) room (subst (λ (z : CaseShape). IsLawful z b) (sym p) lawful))
 

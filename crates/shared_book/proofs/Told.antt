@@ -1,32 +1,29 @@
 -- From what a step tells to what the calls say.
-use Rattle.std.proofs.Common.{inl, inr, ◌≡◌, ◌≢◌, ◌⊎◌, ℕ, zero, suc, ◌+◌, ◌%◌, ◌^◌, ◌<◌, ◌≤◌, List, [], ◌∷◌, ◌++◌, length, Option, Some, None, Bool, true, false, refl, sym, ap, ◌∙◌, subst, ⊎_elim, arith, eqb, ne_eqb}
-use Rattle.std.specs.Prelude.{MatchBool, IfSome}
+use Rattle.std.proofs.Common.{◌≡◌, ℕ, zero, suc, ◌+◌, ◌%◌, ◌^◌, ◌<◌, ◌≤◌, List, [], ◌∷◌, ◌++◌, length, Some, None, Bool, true, false, refl, sym, ap, ◌∙◌, subst, ⊎_elim, arith, eqb, ne_eqb}
+use Rattle.std.specs.Prelude.{MatchBool}
 use mathlib.Core.Option.{none}
 use prog.Atomic.{either}
-use Rattle.atomic_table.specs.Table.{Me, Allows, step, rest}
+use Rattle.atomic_table.specs.Table.{Allows, step, rest}
 use Rattle.mw_types.specs.Causes.{Rose}
 use Rattle.mw_types.specs.declared.entry.Entry.{Entry}
-use Rattle.mw_types.specs.declared.identity.RowName.{RowName}
-use Rattle.run_history.specs.Cases.{CaseShape}
 use Rattle.run_history.specs.Runs.{run_of, row_in}
-use Rattle.run_history.specs.Fences.{Begins, IsFenced, HasSeenAll, interval_of, known}
+use Rattle.run_history.specs.Fences.{IsFenced, HasSeenAll, known}
 use Rattle.history_laws.proofs.FenceLaws.{row_in-known}
 use Rattle.book.specs.Books.{CoreView, LeaseView}
 use Rattle.book.specs.Lawful.{IsLawful}
 use Rattle.book.specs.OwnDesks.{telling}
-use Rattle.shared_book.specs.declared.views.Basis.{Basis}
 use Rattle.shared_book.specs.declared.views.View.{View}
 use Rattle.shared_book.specs.declared.shared.Key.{Key}
 use Rattle.shared_book.specs.Lists.{IsIn}
 use Rattle.shared_book.specs.FenceLaw.{Slot, IsCore, AreClaimed}
 use Rattle.shared_book.specs.Joins.{first_of, others_of}
 use Rattle.shared_book.specs.Opening.{SharedLaw}
-use Rattle.shared_book.specs.Steps.{SeatView, HasFound, Takes, Appends, Gives, Faults, Looks, IsNext, faults_in, grown, history_in, faulted, idle, holding, missing, lease_in}
+use Rattle.shared_book.specs.Steps.{SeatView, HasFound, Takes, Appends, Gives, Faults, Looks, IsNext, faults_in, grown, history_in, faulted, holding, missing, lease_in}
 use Rattle.shared_book.specs.Turns.{IsTold, HasTaken, HasTurn, IsGrown}
 use Rattle.shared_book.proofs.Lists.{drop_front, in_append}
 use Rattle.shared_book.proofs.Histories.{begins_more, claim_kept, seen_all}
 use Rattle.shared_book.proofs.Moves.{takes_turn}
-use Rattle.shared_book.proofs.Appending.{appends_one, gives_turn, faults_one, looks_on, news_claimed, after, grown_after, seq_of_lease}
+use Rattle.shared_book.proofs.Appending.{appends_one, gives_turn, faults_one, looks_on, news_claimed, seq_of_lease}
 use Rattle.shared_book.proofs.Starting.{lift}
 
 -- ---- what a seat may do
@@ -62,7 +59,7 @@ pub may_take : (key : Key) (slots id number : ℕ) (v : View) (l : List (ℕ × 
 may_take key slots id number v l num quiet live e =
     let n = first_number v.numbers number num in
     subst (λ (m : List (ℕ × Slot)). Allows (SharedLaw key) slots id (v, m) 1 (λ k. either (eqb k 0) (number + 1) k)
-      (Takes (step slots 1 0 (number + 1) none) (v, m))) (sym e)
+    (Takes (step slots 1 0 (number + 1) none) (v, m))) (sym e)
     (lift key slots id v [] 1 (λ k. either (eqb k 0) (number + 1) k) (Takes (step slots 1 0 (number + 1) none) (v, [])) live
     (λ basis. takes_turn basis slots id number n.0 v n.1 quiet live))
 
@@ -128,9 +125,8 @@ took_turn found v w empty told nought =
     let t : IsTold 0 v w = subst (λ (n : ℕ). IsTold n v w) nought told in
     let b = t.0 in
     let is : w ≡ (holding v.0 b, (0, Some b) ∷ []) =
-        t.1 ∙ ap (λ (l : List (ℕ × Slot)). (holding v.0 b, (0, Some b) ∷ l)) empty in
-    subst (λ (m : SeatView). HasTurn m × HasTaken v.0 m.0 × (m.0.basis ≡ v.0.basis) × (m.0.live ≡ v.0.live) × (m.0.numbers ≡ v.0.numbers)) (sym is)
-    (
+    t.1 ∙ ap (λ (l : List (ℕ × Slot)). (holding v.0 b, (0, Some b) ∷ l)) empty in
+    subst (λ (m : SeatView). HasTurn m × HasTaken v.0 m.0 × (m.0.basis ≡ v.0.basis) × (m.0.live ≡ v.0.live) × (m.0.numbers ≡ v.0.numbers)) (sym is) (
       record {
         turn = refl;
         book = b;
@@ -148,8 +144,8 @@ took_turn found v w empty told nought =
 pub missed_turn : (found : ℕ) (v w : SeatView) → IsTold found v w → (found ≡ 0 → ⊥) → w ≡ (missing v.0 found, v.1)
 missed_turn found v w told ne =
     subst (λ (b : Bool). MatchBool b
-      ((b : CoreView) × (w ≡ (holding v.0 b, (0, Some b) ∷ v.1)) × HasFound v.0 b)
-      (w ≡ (missing v.0 found, v.1))) (ne_eqb found 0 ne) told
+    ((b : CoreView) × (w ≡ (holding v.0 b, (0, Some b) ∷ v.1)) × HasFound v.0 b)
+    (w ≡ (missing v.0 found, v.1))) (ne_eqb found 0 ne) told
 
 -- ---- a seat with the turn, after a call
 
@@ -174,9 +170,9 @@ grown_claimed : (v : View) (e : Entry) → AreClaimed v.front v.leases
 grown_claimed v e h =
     subst (λ (d : List Entry). AreClaimed (v.front ++ e ∷ []) (v.leases ++ lease_in d (length v.front))) (sym (drop_front v.front (e ∷ [])))
     (λ l p. ⊎_elim
-      (λ q. claim_kept v.front (v.front ++ e ∷ []) l.interval l.seq (begins_more v.front e) (h l q))
-      (λ q. news_claimed v e l q)
-      (in_append l v.leases (lease_in (e ∷ []) (length v.front)) p))
+    (λ q. claim_kept v.front (v.front ++ e ∷ []) l.interval l.seq (begins_more v.front e) (h l q))
+    (λ q. news_claimed v e l q)
+    (in_append l v.leases (lease_in (e ∷ []) (length v.front)) p))
 
 -- the turn goes on where nothing was appended
 pub turn_same : (v : View) (b : CoreView) → v.turn ≡ true → IsCore v.basis v.front v.count b → AreClaimed v.front v.leases

@@ -1,6 +1,6 @@
 -- Facts of all views, of each two, and of one of them, after a view is set, added, or two are joined.
-use Rattle.std.proofs.Common.{inl, inr, ◌≡◌, ◌≢◌, ◌⊎◌, ℕ, zero, suc, ◌+◌, ◌<◌, ◌≤◌, List, [], ◌∷◌, ◌++◌, length, set, refl, sym, ap, ◌∙◌, subst, ⊎_elim, arith}
-use mathlib.Core.Option.{some, none, some-injective, some-ne-none}
+use Rattle.std.proofs.Common.{inl, inr, ◌≡◌, ◌≢◌, ◌⊎◌, ℕ, List, [], ◌∷◌, ◌++◌, length, set, refl, sym, ap, ◌∙◌, subst, ⊎_elim}
+use mathlib.Core.Option.{some, some-injective}
 use mathlib.Core.Logic.{dite}
 use native.Mathlib.Decide.{ℕ_discrete}
 use lib.ListN.{get_elem?}
@@ -66,8 +66,8 @@ module _ {V : Type 0} where
       dite (ℕ_discrete x.0 id)
       (λ e. (id, both, new, left (subst P (some-injective x.1 v (sym x.2 ∙ ap (get_elem? vs) e ∙ at)) x.3)))
       (λ n. dite (ℕ_discrete x.0 other)
-        (λ e. (id, both, new, right (subst P (some-injective x.1 w (sym x.2 ∙ ap (get_elem? vs) e ∙ there)) x.3)))
-        (λ m. (x.0, x.1, set_else (set vs id both) other x.0 spent m ∙ set_else vs id x.0 both n ∙ x.2, x.3)))
+      (λ e. (id, both, new, right (subst P (some-injective x.1 w (sym x.2 ∙ ap (get_elem? vs) e ∙ there)) x.3)))
+      (λ m. (x.0, x.1, set_else (set vs id both) other x.0 spent m ∙ set_else vs id x.0 both n ∙ x.2, x.3)))
 
   -- where a view is cut in two, a fact of one of the views stays one where either part has it
   pub somewhere_split : (P : V → Type 0) (vs : List V) (id : ℕ) (v left right : V) → get_elem? vs id ≡ some v
@@ -75,9 +75,9 @@ module _ {V : Type 0} where
   somewhere_split P vs id v left right at keeps x =
       dite (ℕ_discrete x.0 id)
       (λ e. ⊎_elim
-        (λ p. somewhere_snoc P (set vs id left) right (somewhere_here P vs id v left at p))
-        (λ p. somewhere_last P (set vs id left) right p)
-        (keeps (subst P (some-injective x.1 v (sym x.2 ∙ ap (get_elem? vs) e ∙ at)) x.3)))
+      (λ p. somewhere_snoc P (set vs id left) right (somewhere_here P vs id v left at p))
+      (λ p. somewhere_last P (set vs id left) right p)
+      (keeps (subst P (some-injective x.1 v (sym x.2 ∙ ap (get_elem? vs) e ∙ at)) x.3)))
       (λ n. somewhere_snoc P (set vs id left) right (x.0, x.1, set_else vs id x.0 left n ∙ x.2, x.3))
 
   -- which view stands where, after two are joined
@@ -103,13 +103,13 @@ module _ {V : Type 0} where
       ⊎_elim
       (λ p. subst (λ y. R y x) p.1 (with_spent x))
       (λ a. ⊎_elim
-        (λ p. ⊎_elim
-          (λ q. subst (λ y. R u y) q.1 (turned spent u (with_spent u)))
-          (λ b. ⊎_elim (λ q. absurd (apart (p.0 ∙ sym q.0))) (λ q. subst (λ y. R y x) p.1 (with_both j x q.0 q.1 q.2)) b)
-          (places vs id other both spent j x f))
-        (λ p. ⊎_elim
-          (λ q. subst (λ y. R u y) q.1 (turned spent u (with_spent u)))
-          (λ b. ⊎_elim (λ q. subst (λ y. R u y) q.1 (turned both u (with_both i u p.0 p.1 p.2))) (λ q. old i j u x p.2 q.2 apart) b)
-          (places vs id other both spent j x f))
-        a)
+      (λ p. ⊎_elim
+      (λ q. subst (λ y. R u y) q.1 (turned spent u (with_spent u)))
+      (λ b. ⊎_elim (λ q. absurd (apart (p.0 ∙ sym q.0))) (λ q. subst (λ y. R y x) p.1 (with_both j x q.0 q.1 q.2)) b)
+      (places vs id other both spent j x f))
+      (λ p. ⊎_elim
+      (λ q. subst (λ y. R u y) q.1 (turned spent u (with_spent u)))
+      (λ b. ⊎_elim (λ q. subst (λ y. R u y) q.1 (turned both u (with_both i u p.0 p.1 p.2))) (λ q. old i j u x p.2 q.2 apart) b)
+      (places vs id other both spent j x f))
+      a)
       (places vs id other both spent i u e)

@@ -2,7 +2,7 @@
 -- place in it, and what each seat knows. Akidau et al., VLDB 2013, section 6.2, where a sequencer is
 -- checked at each write, so that a former owner's write is refused. Own: threads that share one history,
 -- the turn, and what each seat has seen of it.
-use Rattle.std.specs.Prelude.{◌≡◌, ℕ, suc, ◌+◌, ◌<◌, ◌≤◌, List, [], ◌∷◌, ◌++◌, true, false, Option, None, Some, IfSome, length, replicate, slice_get}
+use Rattle.std.specs.Prelude.{◌≡◌, ℕ, suc, ◌<◌, ◌≤◌, List, [], ◌∷◌, true, false, Option, Some, IfSome, length, replicate, slice_get}
 use mathlib.Core.Option.{some}
 use lib.ListN.{get_elem?}
 use Rattle.atomic_table.specs.Table.{State}

@@ -1,7 +1,7 @@
 -- The rule of the table, and how it begins: the table is made empty, its first seat takes the place, and
 -- gives it back with the book. Own. The constants of the law stand in views: a step cannot read what the
 -- table was told when it was made.
-use Rattle.std.specs.Prelude.{◌≡◌, ◌⊎◌, ℕ, zero, suc, List, [], ◌∷◌, Bool, true, false, Option, None, Some, length}
+use Rattle.std.specs.Prelude.{◌≡◌, ◌⊎◌, ℕ, zero, suc, List, [], ◌∷◌, Bool, true, false, None, Some, length}
 use mathlib.Core.Option.{some}
 use lib.ListN.{get_elem?}
 use Rattle.atomic_table.specs.Table.{State, Step}
@@ -12,7 +12,7 @@ use Rattle.shared_book.specs.declared.views.View.{View}
 use Rattle.shared_book.specs.declared.shared.Key.{Key}
 use Rattle.shared_book.specs.FenceLaw.{Slot, FenceLaw, no_marks}
 use Rattle.shared_book.specs.Steps.{SeatView}
-use Rattle.shared_book.specs.Joins.{note_of, spent}
+use Rattle.shared_book.specs.Joins.{spent}
 
 -- the view of the first seat before the book is in the table, and whether the seat holds the place
 abbrev pub blank : CaseShape → ℕ → Bool → View
@@ -61,8 +61,8 @@ Fetches step seat found after = after ≡ (record seat.0 { turn = true }, (0, No
 -- the book in the place that a seat holds, or else this one
 abbrev pub core_or : List (ℕ × Slot) → CoreView → CoreView
 core_or [] d = d
-core_or ((at , None) ∷ places) d = d
-core_or ((at , Some core) ∷ places) d = core
+core_or ((at, None) ∷ places) d = d
+core_or ((at, Some core) ∷ places) d = core
 
 -- a book without anything
 abbrev pub no_core : CoreView

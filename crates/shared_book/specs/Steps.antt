@@ -45,8 +45,8 @@ Takes step seat found after = MatchBool (found == 0)
 -- the history of the book in the place that the seat holds
 abbrev pub history_in : List (ℕ × Slot) → List Entry
 history_in [] = []
-history_in ((at , None) ∷ places) = []
-history_in ((at , Some core) ∷ places) = core.history
+history_in ((at, None) ∷ places) = []
+history_in ((at, Some core) ∷ places) = core.history
 
 -- the lease that the first of these entries gives, where it is a claim, under this commit number
 abbrev pub lease_in : List Entry → ℕ → List LeaseView
@@ -91,8 +91,8 @@ Gives step seat found after = after ≡ (idle seat.0, [])
 -- how often the keeper of the book has failed, in the place that the seat holds
 abbrev pub faults_in : List (ℕ × Slot) → ℕ
 faults_in [] = 0
-faults_in ((at , None) ∷ places) = 0
-faults_in ((at , Some core) ∷ places) = core.faults
+faults_in ((at, None) ∷ places) = 0
+faults_in ((at, Some core) ∷ places) = core.faults
 
 -- the view of a seat that saw the keeper fail, so that this is its count
 abbrev pub faulted : View → ℕ → View

@@ -42,7 +42,9 @@ impl<'a, K: Keeper> Shared<'a, K> {
         ensures lawful { HasSeenLawful seat.new.place.me.0 }
     {
         let Note { place } = note;
-        self.table.shared.join_seat::<Joined>(&mut seat.place, place);
+        self.table
+            .shared
+            .join_seat::<Joined>(&mut seat.place, place);
         look(self, &mut seat.place);
     }
 
@@ -60,7 +62,9 @@ impl<'a, K: Keeper> Shared<'a, K> {
         let Seat { place, number } = other;
         let mut theirs = place;
         look(self, &mut theirs);
-        self.table.shared.join_seat::<Joined>(&mut seat.place, theirs);
+        self.table
+            .shared
+            .join_seat::<Joined>(&mut seat.place, theirs);
         if number < seat.number {
             seat.number = number;
         }

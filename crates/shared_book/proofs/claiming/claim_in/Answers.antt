@@ -1,8 +1,7 @@
-use Rattle.std.proofs.Common.{rules, ap, ◌∙◌}
 use Rattle.shared_book.specs.FenceLaw.{AreClaimed}
 use Rattle.shared_book.specs.Turns.{IsGrown}
 use Rattle.mw_types.specs.declared.entry.Entry.TheVariants.{Claim}
-use Rattle.shared_book.proofs.Calls.{claim_own, grown_by, damaged_seen, claimed_in, as_out, in_after}
+use Rattle.shared_book.proofs.Calls.{claim_own, grown_by, claimed_in, as_out, in_after}
 use Rattle.shared_book.proofs.claiming.claim_in.Goals as goal
 
 pub append-requires-clause-grown : goal.append-requires-clause-grown

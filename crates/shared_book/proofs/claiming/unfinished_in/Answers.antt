@@ -1,4 +1,4 @@
-use Rattle.std.proofs.Common.{rules, ◌∙◌}
+use Rattle.std.proofs.Common.{◌∙◌}
 use Rattle.shared_book.proofs.Told.{turn_home}
 use Rattle.shared_book.proofs.claiming.unfinished_in.Goals as goal
 

@@ -1,4 +1,3 @@
-use Rattle.std.proofs.Common.{rules}
 use Rattle.shared_book.proofs.Told.{turn_back}
 use Rattle.shared_book.proofs.in_turn.back.Goals as goal
 

@@ -1,4 +1,4 @@
-use Rattle.std.proofs.Common.{rules, ap, ◌∙◌, length}
+use Rattle.std.proofs.Common.{ap, ◌∙◌, length}
 use Rattle.shared_book.specs.FenceLaw.{AreClaimed}
 use Rattle.shared_book.specs.Turns.{IsGrown}
 use Rattle.shared_book.proofs.Calls.{use_held, proposed_held, lease_own, entry_carries, grown_by, stale_seen, written_in, as_out, in_after}

@@ -1,4 +1,4 @@
-use Rattle.std.proofs.Common.{rules, arith, ap, ◌∙◌}
+use Rattle.std.proofs.Common.{arith, ap, ◌∙◌}
 use Rattle.shared_book.specs.Joins.{first_of}
 use Rattle.shared_book.specs.Steps.{SeatView}
 use Rattle.shared_book.proofs.Starting.{span_first}

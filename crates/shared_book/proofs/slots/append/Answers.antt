@@ -1,4 +1,4 @@
-use Rattle.std.proofs.Common.{rules, arith, ap, sym, ◌∙◌, subst}
+use Rattle.std.proofs.Common.{arith}
 use Rattle.shared_book.proofs.Told.{may_append, turn_appended}
 use Rattle.shared_book.proofs.slots.append.Goals as goal
 
@@ -9,8 +9,7 @@ fetch_add-requires g c =
     let s = c.args.place.now in
     let r = c.requires.grown in
     let few = r.lawful.few in
-    let most = r.lawful.limit in
-    (
+    let most = r.lawful.limit in (
       c.home.ensures.table,
       omega (arith, ids.0),
       may_append table.key table.table_id.slots c.home.new.place.id c.home.new.place.me s.me.0 c.args.core c.home.ensures.view

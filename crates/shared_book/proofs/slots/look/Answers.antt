@@ -1,4 +1,4 @@
-use Rattle.std.proofs.Common.{rules, arith, ap, ◌∙◌}
+use Rattle.std.proofs.Common.{arith}
 use Rattle.shared_book.proofs.Told.{may_look}
 use Rattle.shared_book.proofs.slots.look.Goals as goal
 

@@ -1,4 +1,4 @@
-use Rattle.std.proofs.Common.{rules, arith, ap, ◌∙◌}
+use Rattle.std.proofs.Common.{arith}
 use Rattle.shared_book.proofs.Told.{may_take, took_turn}
 use Rattle.shared_book.proofs.slots.take.Goals as goal
 
@@ -6,8 +6,7 @@ pub compare_exchange-requires : goal.compare_exchange-requires
 compare_exchange-requires g c =
     let ids = c.args.shared.now.sized in
     let table = c.args.shared.now.table.shared in
-    let p = c.args.seat.now in
-    (
+    let p = c.args.seat.now in (
       c.requires.here.table,
       omega (arith, ids.0),
       may_take table.key table.table_id.slots p.place.id p.number p.place.me.0 p.place.me.1 p.numbered

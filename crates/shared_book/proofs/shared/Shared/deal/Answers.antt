@@ -1,4 +1,4 @@
-use Rattle.std.proofs.Common.{rules, arith, ◌+◌}
+use Rattle.std.proofs.Common.{arith, ◌+◌}
 use Rattle.shared_book.specs.Joins.{stays, leaves}
 use Rattle.shared_book.proofs.Starting.{lift_split}
 use Rattle.shared_book.proofs.Joining.{seat_splits}
@@ -11,8 +11,7 @@ split_seat-place-requires g c =
     let s = c.args.seat.now in
     let p = s.place in
     let v = p.me.0 in
-    let n = two_numbers v.numbers s.number (s.number + 1) s.numbered c.requires.more in
-    (
+    let n = two_numbers v.numbers s.number (s.number + 1) s.numbered c.requires.more in (
       c.requires.here.table,
       omega (arith, ids.0),
       lift_split c.args.self.now.table.shared.key p.id v (stays v) (leaves v) s.live

@@ -1,4 +1,4 @@
-use Rattle.std.proofs.Common.{rules, arith, ap, sym, ◌∙◌, subst}
+use Rattle.std.proofs.Common.{arith, ap, sym, ◌∙◌, subst}
 use Rattle.shared_book.specs.declared.views.View.{View}
 use Rattle.shared_book.specs.Lists.{Ascends}
 use Rattle.shared_book.specs.Steps.{SeatView}
@@ -15,8 +15,7 @@ join_seat-requires g c =
     let n = c.look.new.place in
     let same = c.look.ensures.same in
     let v = s.place.me.0 in
-    let w = n.me.0 in
-    (
+    let w = n.me.0 in (
       c.requires.here.table,
       c.look.ensures.table,
       ap (λ (m : SeatView). m.1) same ∙ c.requires.other_idle.places,

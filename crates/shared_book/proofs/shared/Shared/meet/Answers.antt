@@ -1,4 +1,4 @@
-use Rattle.std.proofs.Common.{rules, arith}
+use Rattle.std.proofs.Common.{arith}
 use Rattle.shared_book.specs.Joins.{joined, spent}
 use Rattle.shared_book.proofs.Starting.{lift_join}
 use Rattle.shared_book.proofs.Joining.{seats_join}
@@ -10,8 +10,7 @@ join_seat-requires g c =
     let s = c.args.seat.now in
     let n = c.args.note in
     let v = s.place.me.0 in
-    let w = n.place.me.0 in
-    (
+    let w = n.place.me.0 in (
       c.requires.here.table,
       c.requires.note.table,
       n.empty,
