@@ -1,0 +1,6 @@
+pub mod Places
+pub mod Messages
+pub mod Leases
+pub mod Deeds
+pub mod Steps
+pub mod CopyLaws

@@ -1,0 +1,59 @@
+//! Scripts that were worked by hand.
+ghost use Rattle.std.specs.Prelude.{[], ◌∷◌, ◌≡◌, None, Some, length, take};
+ghost use Rattle.scripts.specs.Scripts.{
+    IsAnswered, after_crash, by_one_worker, first_ack, first_line, first_record, history_of, late_copy,
+    late_copy_history, old_owner, old_owner_history, overtaken_leases, unsent, unsent_history, unwritten,
+    without_work, world_of,
+};
+ghost use Rattle.worked_examples.specs.Drained.{drained_history};
+
+/// An owner that is overtaken between its preparation and its write is refused, and the record is handled once.
+pub fn old_owner_is_stale()
+    ensures answers { IsAnswered old_owner }
+    ensures history { history_of old_owner ≡ old_owner_history }
+
+    // The stale write leaves the history with its four entries.
+    ensures refused { length (history_of (take 7 old_owner)) ≡ 4 }
+
+    // The first message is the record, and the last is its acknowledgement.
+    ensures sent { (world_of (take 4 old_owner)).flight ≡ Some first_record ∷ [] }
+    ensures acknowledged { (world_of (take 12 old_owner)).flight ≡ None ∷ None ∷ Some first_ack ∷ [] }
+{}
+
+/// A copy that comes after its record's acknowledgement, and after a purge, is a duplicate.
+pub fn late_copy_is_duplicate()
+    ensures answers { IsAnswered late_copy }
+    ensures history { history_of late_copy ≡ late_copy_history }
+    ensures acknowledged { (world_of (take 8 late_copy)).flight ≡ None ∷ Some first_record ∷ Some first_ack ∷ [] }
+{}
+
+/// A record that a worker wrote and did not send is sent by the next owner of the row that made it.
+pub fn crash_between_write_and_send()
+    ensures answers { IsAnswered unsent }
+    ensures history { history_of unsent ≡ unsent_history }
+    ensures sent { (world_of (take 7 unsent)).flight ≡ Some first_record ∷ [] }
+{}
+
+/// Of a record that was prepared and not written nothing is left after a crash.
+pub fn crash_before_write()
+    ensures answers { IsAnswered unwritten }
+    ensures history { history_of unwritten ≡ first_line }
+    ensures after { IsAnswered after_crash }
+{}
+
+/// What has nothing to do answers so, and a message for another worker's row stays.
+pub fn steps_without_work_change_nothing()
+    ensures answers { IsAnswered without_work }
+    ensures history { history_of (take 10 without_work) ≡ [] }
+{}
+
+/// A worker learns once that a lease was overtaken, from whichever call it asks with it, and then lacks the lease.
+pub fn overtaken_leases_are_lost()
+    ensures answers { IsAnswered overtaken_leases }
+{}
+
+/// One worker that does all steps of the example writes the drained example.
+pub fn one_worker_writes_the_drained_example()
+    ensures answers { IsAnswered by_one_worker }
+    ensures history { history_of by_one_worker ≡ drained_history }
+{}
