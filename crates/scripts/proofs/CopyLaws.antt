@@ -1,13 +1,12 @@
 -- What a copy of a record meets that comes at any time.
 use Rattle.std.proofs.Common.{◌≡◌, ◌≢◌, ◌∙◌, ◌<◌, ◌≤◌, ◌+◌, ℕ, true, false, List, [], ◌∷◌, ◌++◌, append_assoc, fold, length, refl, sym, ap, subst, arith, inl, inr}
 use Rattle.std.specs.Prelude.{◌⊎◌, Option, None, Some, IsSome}
-use Rattle.std.specs.Option.{is_some}
 use Rattle.std.specs.List.{AllByRecursion}
 use Rattle.std.proofs.lemmas.List.{append-nil}
 use Rattle.mw_types.specs.declared.delivery.Delivery.{Delivery}
 use Rattle.mw_types.specs.declared.entry.Entry.{Entry}
 use Rattle.topology.specs.Shapes.{Shape}
-use Rattle.row_parts.specs.Contents.{is_finished, same_id}
+use Rattle.row_parts.specs.Contents.{same_id}
 use Rattle.run_history.specs.Cases.{CaseShape}
 use Rattle.run_history.specs.Fences.{Begins, known, last_claim}
 use Rattle.run_history.specs.Finished.{is_handled}
@@ -22,7 +21,7 @@ use Rattle.history_laws.proofs.FloorLaws.{floor_of-below}
 use Rattle.history_laws.proofs.IdLaws.{legal-tells, made-in_order, next-length}
 use Rattle.history_laws.proofs.Made.{each_of_commit}
 use Rattle.history_laws.proofs.SeenLaws.{found-more}
-use Rattle.scripts.specs.Copies.{IsCopyKnown, row_after_history}
+use Rattle.scripts.specs.Copies.{IsCopyKnown}
 
 -- what entries make has their numbers
 made-rest : (shape : Shape) (rest : List Entry) (run : Run) → (more : List Delivery)
@@ -65,10 +64,10 @@ early-or-late shape front rest d made = by_found (found_delivery d.id (run_of sh
 unmade-unhandled : (case : CaseShape) (history : List Entry) (d : Delivery) → IsLegal case history
     → found_delivery d.id (run_of case.topology history).made ≡ None → is_handled d.id history ≡ false
 unmade-unhandled case history d legal none = elim (is_handled d.id history) as (λ b. is_handled d.id history ≡ b → b ≡ false) [
-    | true ↦ λ e. absurd (not_there (found_delivery d.id (run_of case.topology history).made)
-        ((legal-tells case history legal).handled d.id e) none)
-    | false ↦ λ e. refl
-  ] refl
+  | true ↦ λ e. absurd (not_there (found_delivery d.id (run_of case.topology history).made)
+      ((legal-tells case history legal).handled d.id e) none)
+  | false ↦ λ e. refl
+] refl
   where
     not_there : (o : Option Delivery) → IsSome o → o ≡ None → ⊥
     not_there None is e = absurd (cc)
@@ -79,7 +78,7 @@ made-below : (shape : Shape) (history : List Entry) (d : Delivery) → found_del
     → d.id.commit < length history
 made-below shape history d made =
     let below = find-each (λ (e : Delivery). e.id.commit < (run_of shape history).next) (λ (e : Delivery). same_id e.id d.id)
-        (run_of shape history).made d (made-in_order shape history).below made in
+    (run_of shape history).made d (made-in_order shape history).below made in
     let next = next-length shape history in omega (arith, below, next)
 
 -- a copy that comes at any time, after its acknowledgement and a purge too
@@ -112,7 +111,7 @@ copy-known case history interval seq d legal made = by_time (early-or-late case.
     by_time (inr late) = record {
       exact = unmade-unfinished case front d.id d.to lawful late.0
           (let below = (floor_of-below (run_of case.topology front)).next in let next = next-length case.topology front in
-            let past = late.1 in omega (arith, below, next, past))
+          let past = late.1 in omega (arith, below, next, past))
           ∙ sym (unmade-unhandled case front d lawful late.0);
       left = λ unfinished. inr (overtaken late.1);
     }

@@ -1,9 +1,8 @@
 -- What the deed of each step keeps of the world.
-use Rattle.std.proofs.Common.{◌≡◌, ◌∙◌, ℕ, Bool, true, false, List, [], ◌∷◌, length, map, refl, sym, inl}
+use Rattle.std.proofs.Common.{◌≡◌, ◌∙◌, ℕ, Bool, true, false, [], ◌∷◌, length, map, refl, sym, inl}
 use Rattle.std.specs.Prelude.{if◌then◌else◌, find, nat_le, Option, None, Some, slice_get}
 use Rattle.std.specs.Option.{is_some, option_map_or}
 use Rattle.std.proofs.lemmas.List.{length-set}
-use Rattle.mw_types.specs.Outcomes.{Outcome as Effects}
 use Rattle.mw_types.specs.declared.entry.Entry.{Entry}
 use Rattle.mw_types.specs.declared.entry.Entry.TheVariants as entries
 use Rattle.mw_types.specs.declared.identity.RowName.{RowName}
@@ -11,7 +10,7 @@ use Rattle.mw_types.specs.declared.timer.Timer.{Timer}
 use Rattle.key_intervals.specs.declared.bounds.Bounds.{Bounds}
 use Rattle.injector.specs.Sources.{item_at}
 use Rattle.topology.specs.Shapes.{Shape}
-use Rattle.row_parts.specs.Contents.{Contents, is_finished}
+use Rattle.row_parts.specs.Contents.{is_finished}
 use Rattle.run_history.specs.Cases.{CaseShape, intervals_of, record_of, source_of}
 use Rattle.run_history.specs.Legal.{floor_of, record_outcome, timer_outcome}
 use Rattle.run_history.specs.Made.{found_delivery}
@@ -22,7 +21,7 @@ use Rattle.watermark.specs.Marks.{marks_of}
 use Rattle.run_history.proofs.Lists.{none_some}
 use Rattle.book.specs.Books.{LeaseView}
 use Rattle.book.specs.Marks.{reported}
-use Rattle.node.specs.Workers.{Sending, Worker, idle, where_passes, with_outgoing, with_written}
+use Rattle.node.specs.Workers.{Sending, Worker, where_passes, with_outgoing, with_written}
 use Rattle.node.specs.declared.outcome.Outcome.{Outcome}
 use Rattle.node.specs.declared.outcome.Outcome.TheVariants as outcomes
 use Rattle.node.specs.declared.outgoing.Outgoing.{Outgoing}
@@ -139,9 +138,9 @@ keeps-take_in : (shape : Shape) (world : World) (number : ℕ) (lease : LeaseVie
 keeps-take_in shape world number lease (outgoing.Deliver delivery sender) = keeps-either world
     (take_again number world delivery sender) (take_new number world delivery sender)
     (keeps-becomes world number outcomes.Duplicate
-      (with_outgoing (outgoing.Ack sender delivery.id ∷ []) (worker_of world number)) (λ i. refl))
+    (with_outgoing (outgoing.Ack sender delivery.id ∷ []) (worker_of world number)) (λ i. refl))
     (keeps-becomes world number outcomes.Prepared
-      (record (worker_of world number) { prepared = Some (record { delivery = delivery; sender = sender }) }) (λ i. refl))
+    (record (worker_of world number) { prepared = Some (record { delivery = delivery; sender = sender }) }) (λ i. refl))
     (is_finished delivery.id (row_known shape world lease delivery.to))
 keeps-take_in shape world number lease (outgoing.Ack to id) = keeps-either world
     (writes world number lease (entries.Ack lease.seq to id) (worker_of world number)) (nothing world number)
@@ -178,8 +177,8 @@ keeps-take shape world number message = keeps-option world number (take_message 
 
 -- a message that is copied
 keeps-copied : (world : World) (copied : Outgoing) → IsKeeping world (record (stays world 0 (outcomes.Copied (length world.flight))) {
-      flight = sent_after world.flight (copied ∷ []);
-    })
+  flight = sent_after world.flight (copied ∷ []);
+})
 keeps-copied world copied = record {
   marks = refl;
   flight = KeepsMessages-append world.flight (map Some (copied ∷ []));
@@ -206,14 +205,14 @@ keeps-write_under : (case : CaseShape) (world : World) (number : ℕ) (sending :
 keeps-write_under case world number sending lease = let delivery = sending.delivery in
     keeps-option world number (write_effects number world sending lease)
     (λ effects. keeps-writes world number lease (entries.Handle lease.seq delivery.to delivery.id effects)
-      (with_written (Some sending) (worker_of world number)) (λ i. refl))
+    (with_written (Some sending) (worker_of world number)) (λ i. refl))
     (record_outcome case delivery.to (row_known case.topology world lease delivery.to) delivery.item)
 
 -- what is prepared
 keeps-write : (case : CaseShape) (world : World) (number : ℕ) → IsKeeping world (write case number world)
 keeps-write case world number = keeps-option world number (write_prepared case number world)
     (λ sending. keeps-option world number (write_under case number world sending)
-      (keeps-write_under case world number sending) (lease_on case.topology (worker_of world number) sending.delivery.to))
+    (keeps-write_under case world number sending) (lease_on case.topology (worker_of world number) sending.delivery.to))
     (worker_of world number).prepared
 
 -- a timer, by its row as it is known
@@ -237,7 +236,7 @@ keeps-fire : (case : CaseShape) (world : World) (number part : ℕ) → IsKeepin
 keeps-fire case world number part = let mark = least (marks_of case.topology part world.marks) in
     keeps-option world number (fire_due case number world mark) (keeps-fire_due case world number mark)
     (where_passes (λ (due : RowName × Timer). nat_le due.1.time mark)
-      (least_timer case.topology world (worker_of world number) part))
+    (least_timer case.topology world (worker_of world number) part))
 
 -- own work
 keeps-report_own : (case : CaseShape) (world : World) (number : ℕ) (lease : LeaseView) (bounds : Bounds)
@@ -253,7 +252,7 @@ keeps-report_own case world number lease bounds = record {
 keeps-report : (case : CaseShape) (world : World) (number interval : ℕ) → IsKeeping world (report case number interval world)
 keeps-report case world number interval = keeps-option world number (report_under case number world)
     (λ lease. keeps-option world number (report_own case number world lease) (keeps-report_own case world number lease)
-      (slice_get (intervals_of case.topology) lease.interval))
+    (slice_get (intervals_of case.topology) lease.interval))
     (lease_of (worker_of world number) interval)
 
 -- what is pending
@@ -268,7 +267,7 @@ keeps-purge_first shape world number lease = let floor = floor_of (run_of shape 
     let found = find (may_forget floor) (rows_known shape world lease) in keeps-either world (nothing world number)
     (option_map_or (purge_row number world lease floor) found (nothing world number)) (keeps-nothing world number)
     (keeps-option world number (purge_row number world lease floor)
-      (λ row. keeps-written world number lease (entries.Purge lease.seq row.0 floor)) found)
+    (λ row. keeps-written world number lease (entries.Purge lease.seq row.0 floor)) found)
     (is_some (worker_of world number).prepared)
 
 -- a purge

@@ -1,7 +1,7 @@
 -- Each lease of a worker is of a claim of its own.
-use Rattle.std.proofs.Common.{◌≡◌, ◌≢◌, ◌∙◌, ◌++◌, ℕ, zero, suc, List, [], ◌∷◌, length, refl, sym, ap, subst, inl, inr}
-use Rattle.std.specs.Prelude.{◌⊎◌, ◌==◌, if◌then◌else◌, ⊤, Option, None, Some, replicate, slice_get, slice_set, unwrap_or}
-use Rattle.std.specs.Option.{option_map, option_map_or, option_to_list}
+use Rattle.std.proofs.Common.{◌≡◌, ◌∙◌, ◌++◌, ℕ, zero, suc, List, length, refl, sym, ap, subst, inl, inr}
+use Rattle.std.specs.Prelude.{◌⊎◌, if◌then◌else◌, ⊤, Option, None, Some, replicate, slice_get, slice_set, unwrap_or}
+use Rattle.std.specs.Option.{option_map_or, option_to_list}
 use Rattle.std.proofs.lemmas.Bool.{cases_eq, eq-eqb, ne_eqb}
 use Rattle.mw_types.specs.declared.entry.Entry.{Entry}
 use Rattle.mw_types.specs.declared.entry.Entry.TheVariants as entries
@@ -11,8 +11,8 @@ use Rattle.run_history.specs.Made.{row_written}
 use Rattle.run_history.proofs.Beginnings.{slice_get-last, slice_get-more}
 use Rattle.run_history.proofs.Lists.{none_some, some_same}
 use Rattle.node.specs.Workers.{Worker, idle, sends, with_lease, with_outgoing}
-use Rattle.scripts.specs.Acts.{with_made, with_sends, workers_with}
-use Rattle.scripts.specs.Keeping.{AreApart, AreClaimed, IsOneLease}
+use Rattle.scripts.specs.Acts.{with_sends}
+use Rattle.scripts.specs.Keeping.{AreApart, AreClaimed}
 use Rattle.scripts.specs.Worlds.{World, worker_of, world_on}
 use Rattle.scripts.proofs.Places.{at-set}
 
@@ -37,10 +37,10 @@ pub LeasesFrom-claim : (shape : Shape) (world : World) (number interval : ℕ)
     (with_lease shape interval (Some (length world.history)) (worker_of world number))
 LeasesFrom-claim shape world number interval i seq is = elim (cases_eq i interval) [
   | inl same ↦ inr (record {
-      next = sym (some_same (length world.history) seq (sym (ap (λ b. if b then Some (length world.history)
-          else (worker_of world number).leases i) (eq-eqb i interval same)) ∙ is));
-      claim = ap (λ n. Some (entries.Claim number n)) (sym same);
-    })
+    next = sym (some_same (length world.history) seq (sym (ap (λ b. if b then Some (length world.history)
+        else (worker_of world number).leases i) (eq-eqb i interval same)) ∙ is));
+    claim = ap (λ n. Some (entries.Claim number n)) (sym same);
+  })
   | inr other ↦ inl (sym (ap (λ b. if b then Some (length world.history) else (worker_of world number).leases i)
       (ne_eqb i interval other)) ∙ is)
 ]
@@ -106,7 +106,7 @@ pub AreClaimed-more : (world new : World) (entry : Option Entry) → AreClaimed 
 AreClaimed-more world new entry claimed history workers n i seq is =
     subst (λ h. slice_get h seq ≡ Some (entries.Claim n i)) (sym history)
     (claim-stays world.history entry seq (entries.Claim n i)
-      (claimed n i seq (subst (λ ws. (unwrap_or (slice_get ws n) idle).leases i ≡ Some seq) workers is)))
+    (claimed n i seq (subst (λ ws. (unwrap_or (slice_get ws n) idle).leases i ≡ Some seq) workers is)))
 
 -- the worker and the interval of a claim
 abbrev claimant : Option Entry → ℕ × ℕ

@@ -4,3 +4,5 @@ pub mod Leases
 pub mod Deeds
 pub mod Steps
 pub mod CopyLaws
+pub mod OwnerLaws
+pub mod Fencing

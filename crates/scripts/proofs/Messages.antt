@@ -1,6 +1,6 @@
 -- Messages keep their numbers.
-use Rattle.std.proofs.Common.{◌≡◌, ◌∙◌, ◌<◌, ◌≤◌, ◌+◌, ◌++◌, ℕ, List, [], ◌∷◌, length, map, refl, sym, ap, arith, inl, inr, length-append}
-use Rattle.std.specs.Prelude.{◌⊎◌, Option, None, Some, slice_get, slice_set, unwrap_or}
+use Rattle.std.proofs.Common.{◌≡◌, ◌∙◌, ◌<◌, ◌++◌, ℕ, List, length, refl, sym, arith, inl, inr, length-append}
+use Rattle.std.specs.Prelude.{◌⊎◌, Option, None, slice_set}
 use Rattle.std.proofs.lemmas.List.{get_or_append_left, length-set}
 use Rattle.std.proofs.lemmas.Option.{unwrap_or-slice_get}
 use Rattle.node.specs.declared.outgoing.Outgoing.{Outgoing}

@@ -1,6 +1,6 @@
 -- What each step of a script keeps, and so each script.
-use Rattle.std.proofs.Common.{◌≡◌, ◌∙◌, ◌++◌, ℕ, List, [], ◌∷◌, length, refl, sym, ap, inl}
-use Rattle.std.specs.Prelude.{Option, None, Some, slice_set}
+use Rattle.std.proofs.Common.{◌≡◌, ◌∙◌, ℕ, List, [], ◌∷◌, length, refl, sym, ap, inl}
+use Rattle.std.specs.Prelude.{Option, None, Some}
 use Rattle.std.specs.Option.{option_map, option_to_list}
 use Rattle.std.proofs.lemmas.List.{append-nil, length-set}
 use Rattle.mw_types.specs.declared.entry.Entry.{Entry}
@@ -55,7 +55,7 @@ sends-leases : (shape : Shape) (world : World) (deed : Deed) (after : Worker) �
     → LeasesFrom world deed.number deed.entry (with_sends shape world.history deed.entry after)
 sends-leases shape world deed after from interval seq is =
     from interval seq (sym (ap (λ (leases : ℕ → Option ℕ). leases interval)
-      (with_sends-leases shape world.history deed.entry after)) ∙ is)
+    (with_sends-leases shape world.history deed.entry after)) ∙ is)
 
 -- a deed that is done leaves leases that are claims of their workers
 changed-claimed : (shape : Shape) (world : World) (deed : Deed) → AreClaimed world → (after : Option Worker)

@@ -1,7 +1,7 @@
 -- What each step of a script does in the scripted world, and what it answers.
--- Akidau et al., VLDB 2013, section 6.1 for what a worker does on receipt of a record, section 4.6 for timers,
--- section 6.2 for a write under an older sequencer. Own: the steps, and their answers.
-use Rattle.std.specs.Prelude.{◌≡◌, ℕ, ◌+◌, ◌==◌, ◌^◌, ◌&&◌, ◌++◌, ◌∷◌, [], nat_le, nat_lt, if◌then◌else◌, Bool, false, List, filter, find, fold, length, map, slice_get, slice_set, Option, None, Some}
+-- Akidau et al., VLDB 2013, section 6.1 for what a worker does on receipt of a record, section 4.6 for
+-- timers, section 6.2 for a write under an older sequencer. Own: the steps, and their answers.
+use Rattle.std.specs.Prelude.{ℕ, ◌+◌, ◌==◌, ◌^◌, ◌&&◌, ◌++◌, ◌∷◌, [], nat_le, nat_lt, if◌then◌else◌, Bool, false, List, filter, find, fold, length, map, slice_get, slice_set, Option, None, Some}
 use Rattle.std.specs.List.{filter_map, flat_map, reduce}
 use Rattle.std.specs.Option.{is_some, option_and_then, option_map, option_map_or, option_to_list}
 use Rattle.std.specs.Ordering.{min_by_ordering}
@@ -36,9 +36,9 @@ use Rattle.scripts.specs.Worlds.{World, empty_world, in_flight, lease_of, lease_
 use Rattle.scripts.specs.declared.step.Step.{Step}
 use Rattle.scripts.specs.declared.step.Step.TheVariants as steps
 
--- what a step comes to: its answer; the lease under which it is done, if it is done under one; the worker that
--- does it, and what that worker is then, if it changes; the entry that it writes, if it writes one; and the
--- messages and the marks that it leaves
+-- what a step comes to: its answer; the lease under which it is done, if it is done under one; the worker
+-- that does it, and what that worker is then, if it changes; the entry that it writes, if it writes one; and
+-- the messages and the marks that it leaves
 pub record Deed : Type 0 where
   pub answer : Outcome
   pub under : Option LeaseView
@@ -138,14 +138,15 @@ writes world number lease entry after =
 abbrev pub claim : Shape → ℕ → ℕ → World → Deed
 claim shape number interval world = let seq = length world.history in
     record (becomes world number (outcomes.Claimed seq)
-        (with_lease shape interval (Some seq) (worker_of world number))) {
+    (with_lease shape interval (Some seq) (worker_of world number))) {
       entry = Some (entries.Claim number interval);
     }
 
 -- a worker injects a line of an injector
 abbrev pub inject_item : ℕ → World → RowName → LeaseView → ℕ → Item → Deed
 inject_item number world name lease line item =
-    writes world number lease (entries.Inject lease.seq name.part line (record_of item)) (worker_of world number)
+    writes world number lease (entries.Inject lease.seq name.part line (record_of item))
+    (worker_of world number)
 
 -- a worker injects the next line of an injector's row, if there is one
 abbrev pub inject_next : CaseShape → ℕ → World → RowName → LeaseView → Deed
@@ -225,7 +226,7 @@ take_message shape number message world taken = let worker = worker_of world num
     if must_wait worker taken
     then nothing world number
     else option_map_or (take_out shape number message world taken)
-        (lease_on shape worker (row_of_message taken)) (stays world number outcomes.NotMine)
+    (lease_on shape worker (row_of_message taken)) (stays world number outcomes.NotMine)
 
 -- a worker takes a message that is in flight
 abbrev pub take : Shape → ℕ → ℕ → World → Deed
@@ -313,7 +314,7 @@ fire_due case number world mark due = let worker = worker_of world number in
     if is_some worker.prepared
     then nothing world number
     else option_map_or (fire_under case number world mark due)
-        (lease_on case.topology worker due.0) (nothing world number)
+    (lease_on case.topology worker due.0) (nothing world number)
 
 -- a worker fires the least timer of a part, where that is due under the least mark of the part
 abbrev pub fire : CaseShape → ℕ → ℕ → World → Deed
@@ -321,7 +322,7 @@ fire case number part world =
     let mark = least (marks_of case.topology part world.marks) in
     option_map_or (fire_due case number world mark)
     (where_passes (λ (due : RowName × Timer). nat_le due.1.time mark)
-      (least_timer case.topology world (worker_of world number) part))
+    (least_timer case.topology world (worker_of world number) part))
     (nothing world number)
 
 -- ---- marks
@@ -392,7 +393,7 @@ purge_first shape number world lease = let floor = floor_of (run_of shape world.
     if is_some (worker_of world number).prepared
     then nothing world number
     else option_map_or (purge_row number world lease floor)
-        (find (may_forget floor) (rows_known shape world lease)) (nothing world number)
+    (find (may_forget floor) (rows_known shape world lease)) (nothing world number)
 
 -- a worker purges a row of an interval that it has
 abbrev pub purge : Shape → ℕ → ℕ → World → Deed

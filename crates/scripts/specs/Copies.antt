@@ -1,6 +1,6 @@
 -- What a copy of a record meets that comes at any time.
--- Akidau et al., VLDB 2013, section 6.1: a record that comes again is discarded. Own: what is known under a lease
--- that was overtaken.
+-- Akidau et al., VLDB 2013, section 6.1: a record that comes again is discarded. Own: what is known under a
+-- lease that was overtaken.
 use Rattle.std.specs.Prelude.{◌≡◌, ◌⊎◌, ◌≢◌, ℕ, false, List, Some}
 use Rattle.mw_types.specs.declared.delivery.Delivery.{Delivery}
 use Rattle.mw_types.specs.declared.entry.Entry.{Entry}
@@ -16,9 +16,10 @@ use Rattle.run_history.specs.Runs.{row_of, run_of}
 abbrev pub row_after_history : Shape → List Entry → Delivery → Contents
 row_after_history shape history d = row_of shape (run_of shape history) d.to
 
--- a copy that comes under a lease is finished in its row as it is known exactly where it was handled in what is
--- known; and where it is not finished it waits there, or the lease is overtaken
-pub record IsCopyKnown (case : CaseShape) (history : List Entry) (interval seq : ℕ) (d : Delivery) : Type 0 where
+-- a copy that comes under a lease is finished in its row as it is known exactly where it was handled in what
+-- is known; and where it is not finished it waits there, or the lease is overtaken
+pub record IsCopyKnown (case : CaseShape) (history : List Entry) (interval seq : ℕ)
+    (d : Delivery) : Type 0 where
   pub exact : let front = known interval seq history in
       is_finished d.id (row_after_history case.topology front d) ≡ is_handled d.id front
   pub left : let front = known interval seq history in

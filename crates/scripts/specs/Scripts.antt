@@ -1,14 +1,13 @@
 -- Scripts that were worked by hand, each step with its answer. All are of the first example of
 -- `worked_examples`: three records of one key in windows of 60, of which most scripts inject the first alone.
-use Rattle.std.specs.Prelude.{◌≡◌, ℕ, ◌+◌, [], ◌∷◌, ◌++◌, List, map, Option, None, Some}
+use Rattle.std.specs.Prelude.{◌≡◌, ℕ, ◌+◌, [], ◌∷◌, ◌++◌, List, map}
 use Rattle.mw_types.specs.declared.TheConstants.{END}
-use Rattle.mw_types.specs.declared.delivery.Delivery.{Delivery}
 use Rattle.mw_types.specs.declared.entry.Entry.{Entry}
 use Rattle.mw_types.specs.declared.entry.Entry.TheVariants as entries
 use Rattle.worked_examples.specs.Drained.{id_of, injector_row}
 use Rattle.worked_examples.specs.First.{counts, first_case, record_at, row_a, window}
 use Rattle.node.specs.declared.outcome.Outcome.{Outcome}
-use Rattle.node.specs.declared.outcome.Outcome.TheVariants.{Claimed, Committed, Copied, Crashed, Duplicate, Lost, Marked, NotMine, Nothing, Prepared, Queued, Sent, Stale}
+use Rattle.node.specs.declared.outcome.Outcome.TheVariants.{Claimed, Committed, Copied, Crashed, Duplicate, Marked, NotMine, Nothing, Prepared, Queued, Sent, Stale}
 use Rattle.node.specs.declared.outgoing.Outgoing.{Outgoing}
 use Rattle.node.specs.declared.outgoing.Outgoing.TheVariants as outgoing
 use Rattle.scripts.specs.Acts.{answers, scripted_history, world_after}
@@ -27,7 +26,8 @@ steps_of worked = map (λ (w : Step × Outcome). w.0) worked
 -- each step answers what was worked out for it
 abbrev pub IsAnswered : Worked → Type 0
 IsAnswered worked =
-    answers first_case (empty_world first_case.topology) (steps_of worked) ≡ map (λ (w : Step × Outcome). w.1) worked
+    answers first_case (empty_world first_case.topology) (steps_of worked)
+    ≡ map (λ (w : Step × Outcome). w.1) worked
 
 -- the world that a worked script leaves
 abbrev pub world_of : Worked → World
@@ -55,8 +55,8 @@ first_ack = outgoing.Ack injector_row (id_of 2)
 
 -- ---- an owner that is overtaken between its preparation and its write
 
--- the first worker has prepared the record, and the second claims the row; the write of the first is stale, and
--- the second handles the record, which is sent again
+-- the first worker has prepared the record, and the second claims the row; the write of the first is stale,
+-- and the second handles the record, which is sent again
 abbrev pub old_owner : Worked
 old_owner =
     (Claim 0 0, Claimed 0)
@@ -139,8 +139,9 @@ after_crash = unwritten ++ (Write 0, Nothing) ∷ (Take 0 0, Nothing) ∷ []
 
 -- ---- what has nothing to do
 
--- a worker without a lease has nothing to do, nor has one without a message; a worker whose row a message is not
--- for leaves it; before its time no timer fires, and a message that is gone can't be lost
+-- a worker without a lease has nothing to do, nor is there a message to take, to copy or to lose; a worker
+-- whose row a message is not for leaves it; no timer fires before its time, and a message that is gone can't be
+-- lost
 abbrev pub without_work : Worked
 without_work =
     (Write 3, Nothing)
@@ -167,8 +168,8 @@ without_work =
 
 -- ---- leases that were overtaken
 
--- an acknowledgement and a report under a lease that was overtaken are stale once, and then there is nothing to
--- do; the record is handled, so its copy is a duplicate, and its acknowledgement comes again
+-- an acknowledgement and a report under a lease that was overtaken are stale once, and then there is nothing
+-- to do; the record is handled, so its copy is a duplicate, and its acknowledgement comes again
 abbrev pub overtaken_leases : Worked
 overtaken_leases =
     (Claim 0 0, Claimed 0)

@@ -2,7 +2,7 @@
 -- Akidau et al., VLDB 2013, section 6.1 for what a worker sends and takes, section 6.2 for sequencers.
 -- Own: a message has a number, and a worker has no cache: it knows of an interval what stood in the history
 -- before its lease was overtaken.
-use Rattle.std.specs.Prelude.{◌≡◌, ℕ, ◌==◌, nat_lt, List, [], map, length, replicate, slice_get, slice_set, unwrap_or, Option, None}
+use Rattle.std.specs.Prelude.{ℕ, nat_lt, List, [], length, replicate, slice_get, unwrap_or, Option, None}
 use Rattle.std.specs.Option.{option_and_then, option_map, option_map_or}
 use Rattle.std.specs.List.{flat_map, range_with_len}
 use Rattle.mw_types.specs.declared.entry.Entry.{Entry}

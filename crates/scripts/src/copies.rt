@@ -8,7 +8,7 @@ ghost use Rattle.run_history.specs.Made.{found_delivery};
 ghost use Rattle.run_history.specs.Runs.{run_of};
 ghost use Rattle.scripts.specs.Copies.{IsCopyKnown};
 
-/// A copy of a record is a duplicate exactly where the record was handled in what its row's owner knows.
+/// A copy of a record is a duplicate exactly where the record was handled in what its owner knows.
 ///
 /// It may come at any time, after the record's acknowledgement and a purge too.
 pub fn copies_are_known()

@@ -1,13 +1,29 @@
 //! Scripts that were worked by hand.
 ghost use Rattle.std.specs.Prelude.{[], ◌∷◌, ◌≡◌, None, Some, length, take};
 ghost use Rattle.scripts.specs.Scripts.{
-    IsAnswered, after_crash, by_one_worker, first_ack, first_line, first_record, history_of, late_copy,
-    late_copy_history, old_owner, old_owner_history, overtaken_leases, unsent, unsent_history, unwritten,
-    without_work, world_of,
+  IsAnswered,
+  after_crash,
+  by_one_worker,
+  first_ack,
+  first_line,
+  first_record,
+  history_of,
+  late_copy,
+  late_copy_history,
+  old_owner,
+  old_owner_history,
+  overtaken_leases,
+  unsent,
+  unsent_history,
+  unwritten,
+  without_work,
+  world_of,
 };
 ghost use Rattle.worked_examples.specs.Drained.{drained_history};
 
-/// An owner that is overtaken between its preparation and its write is refused, and the record is handled once.
+/// An owner that is overtaken between its preparation and its write is refused.
+///
+/// Its record is handled once, by the new owner.
 pub fn old_owner_is_stale()
     ensures answers { IsAnswered old_owner }
     ensures history { history_of old_owner ≡ old_owner_history }
@@ -47,7 +63,7 @@ pub fn steps_without_work_change_nothing()
     ensures history { history_of (take 10 without_work) ≡ [] }
 {}
 
-/// A worker learns once that a lease was overtaken, from whichever call it asks with it, and then lacks the lease.
+/// A worker learns once that a lease was overtaken, whatever it does under it, and then lacks it.
 pub fn overtaken_leases_are_lost()
     ensures answers { IsAnswered overtaken_leases }
 {}

@@ -6,7 +6,12 @@ ghost use Rattle.run_history.specs.Fences.{Begins};
 ghost use Rattle.node.specs.declared.outgoing.Outgoing.{Outgoing};
 ghost use Rattle.scripts.specs.Acts.{world_after, world_then};
 ghost use Rattle.scripts.specs.Keeping.{
-    AppendsAtMostOne, AreApart, AreClaimed, IsKept, KeepsForm, KeepsMessages,
+  AppendsAtMostOne,
+  AreApart,
+  AreClaimed,
+  IsKept,
+  KeepsForm,
+  KeepsMessages,
 };
 ghost use Rattle.scripts.specs.Worlds.{World, in_flight, world_on};
 ghost use Rattle.scripts.specs.declared.step.Step.{Step};
@@ -48,8 +53,9 @@ pub fn scripts_keep_what_steps_keep()
         IsKept world (world_after case world script) }
 
     // Before a script no worker has a lease, so after it each lease is a claim of its worker.
-    ensures claimed { (case : CaseShape) (history : List Entry) (marks : List ℕ) (script : List Step) →
-        AreClaimed (world_after case (world_on history marks) script) }
-    ensures sixteen { (case : CaseShape) (history : List Entry) (marks : List ℕ) (script : List Step) →
+    ensures claimed { (case : CaseShape) (history : List Entry) (marks : List ℕ)
+        (script : List Step) → AreClaimed (world_after case (world_on history marks) script) }
+    ensures sixteen { (case : CaseShape) (history : List Entry) (marks : List ℕ)
+        (script : List Step) →
         length (world_after case (world_on history marks) script).workers ≡ 16 }
 {}
