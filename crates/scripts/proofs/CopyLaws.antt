@@ -1,12 +1,13 @@
 -- What a copy of a record meets that comes at any time.
-use Rattle.std.proofs.Common.{◌≡◌, ◌≢◌, ◌∙◌, ◌<◌, ◌≤◌, ◌+◌, ℕ, true, false, List, [], ◌∷◌, ◌++◌, append_assoc, fold, length, refl, sym, ap, subst, arith, inl, inr}
-use Rattle.std.specs.Prelude.{◌⊎◌, Option, None, Some, IsSome}
+use Rattle.std.proofs.Common.{◌≡◌, ◌≢◌, ◌∙◌, ◌<◌, ◌≤◌, ◌+◌, ℕ, Bool, true, false, List, [], ◌∷◌, ◌++◌, append_assoc, fold, length, refl, sym, ap, subst, arith, inl, inr}
+use Rattle.std.specs.Prelude.{if◌then◌else◌, ◌⊎◌, Option, None, Some, IsSome}
 use Rattle.std.specs.List.{AllByRecursion}
 use Rattle.std.proofs.lemmas.List.{append-nil}
 use Rattle.mw_types.specs.declared.delivery.Delivery.{Delivery}
 use Rattle.mw_types.specs.declared.entry.Entry.{Entry}
+use Rattle.mw_types.specs.declared.identity.RowName.{RowName}
 use Rattle.topology.specs.Shapes.{Shape}
-use Rattle.row_parts.specs.Contents.{same_id}
+use Rattle.row_parts.specs.Contents.{is_finished, same_id}
 use Rattle.run_history.specs.Cases.{CaseShape}
 use Rattle.run_history.specs.Fences.{Begins, known, last_claim}
 use Rattle.run_history.specs.Finished.{is_handled}
@@ -21,7 +22,11 @@ use Rattle.history_laws.proofs.FloorLaws.{floor_of-below}
 use Rattle.history_laws.proofs.IdLaws.{legal-tells, made-in_order, next-length}
 use Rattle.history_laws.proofs.Made.{each_of_commit}
 use Rattle.history_laws.proofs.SeenLaws.{found-more}
-use Rattle.scripts.specs.Copies.{IsCopyKnown}
+use Rattle.book.specs.Books.{LeaseView}
+use Rattle.node.specs.declared.outgoing.Outgoing.TheVariants as outgoing
+use Rattle.scripts.specs.Acts.{take_again, take_in, take_new}
+use Rattle.scripts.specs.Copies.{IsCopyKnown, answer_to_copy}
+use Rattle.scripts.specs.Worlds.{World, row_known}
 
 -- what entries make has their numbers
 made-rest : (shape : Shape) (rest : List Entry) (run : Run) → (more : List Delivery)
@@ -115,3 +120,18 @@ copy-known case history interval seq d legal made = by_time (early-or-late case.
           ∙ sym (unmade-unhandled case front d lawful late.0);
       left = λ unfinished. inr (overtaken late.1);
     }
+
+-- a record that is taken is answered by whether it is finished
+take-answer : (number : ℕ) (world : World) (d : Delivery) (sender : RowName) (finished : Bool)
+    → (if finished then take_again number world d sender else take_new number world d sender).answer ≡ answer_to_copy finished
+take-answer number world d sender true = refl
+take-answer number world d sender false = refl
+
+-- a worker that takes a copy answers by what it knows of the history
+pub copy-answered : (case : CaseShape) (world : World) (number : ℕ) (lease : LeaseView) (d : Delivery) (sender : RowName)
+    → IsLegal case world.history → found_delivery d.id (run_of case.topology world.history).made ≡ Some d
+    → (take_in case.topology number world lease (outgoing.Deliver d sender)).answer
+    ≡ answer_to_copy (is_handled d.id (known lease.interval lease.seq world.history))
+copy-answered case world number lease d sender legal made =
+    take-answer number world d sender (is_finished d.id (row_known case.topology world lease d.to))
+    ∙ ap answer_to_copy (copy-known case world.history lease.interval lease.seq d legal made).exact

@@ -245,10 +245,10 @@ not-stale : (history : List Entry) (under : Option LeaseView) (lease : LeaseView
     → overtaken_by history lease ≡ None
 not-stale history under lease is fresh = by_newer (overtaken_by history lease) refl (sym (ap (stale_in history) is) ∙ fresh)
   where
-    by_newer : (o : Option ℕ) → overtaken_by history lease ≡ o → option_map (λ (newer : ℕ). (lease, newer)) o ≡ None
+    by_newer : (o : Option ℕ) → overtaken_by history lease ≡ o → option_map {U = LeaseView × ℕ} (λ (newer : ℕ). (lease, newer)) o ≡ None
         → overtaken_by history lease ≡ None
     by_newer None none f = none
-    by_newer (Some newer) there f = absurd (none_some (lease, newer) (sym f))
+    by_newer (Some newer) there f = let both : LeaseView × ℕ = (lease, newer) in absurd (none_some both (sym f))
 
 -- an entry that is written follows the last claim of its row's interval
 fenced-entry : (shape : Shape) (world : World) (deed : Deed) (entry : Option Entry) → AreClaimed world

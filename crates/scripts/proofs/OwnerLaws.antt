@@ -26,7 +26,7 @@ current-stays history lease last = ap (where_passes (nat_lt lease.seq)) last
     ∙ ap (λ b. if b then Some lease.seq else None) (below-itself lease.seq)
 
 -- a later claim has overtaken a lease
-later-overtakes : (history : List Entry) (lease : LeaseView) (newer : ℕ) → IsOvertakenBy newer lease.interval lease.seq history
+pub later-overtakes : (history : List Entry) (lease : LeaseView) (newer : ℕ) → IsOvertakenBy newer lease.interval lease.seq history
     → overtaken_by history lease ≡ Some newer
 later-overtakes history lease newer later = ap (where_passes (nat_lt lease.seq)) later.0
     ∙ ap (λ b. if b then Some newer else None) (below-other lease.seq newer later.1)

@@ -1,7 +1,7 @@
 -- What a copy of a record meets that comes at any time.
 -- Akidau et al., VLDB 2013, section 6.1: a record that comes again is discarded. Own: what is known under a
 -- lease that was overtaken.
-use Rattle.std.specs.Prelude.{◌≡◌, ◌⊎◌, ◌≢◌, ℕ, false, List, Some}
+use Rattle.std.specs.Prelude.{◌≡◌, ◌⊎◌, ◌≢◌, ℕ, Bool, false, if◌then◌else◌, List, Some}
 use Rattle.mw_types.specs.declared.delivery.Delivery.{Delivery}
 use Rattle.mw_types.specs.declared.entry.Entry.{Entry}
 use Rattle.topology.specs.Shapes.{Shape}
@@ -11,6 +11,8 @@ use Rattle.run_history.specs.Fences.{known, last_claim}
 use Rattle.run_history.specs.Finished.{is_handled}
 use Rattle.run_history.specs.Made.{found_delivery}
 use Rattle.run_history.specs.Runs.{row_of, run_of}
+use Rattle.node.specs.declared.outcome.Outcome.{Outcome}
+use Rattle.node.specs.declared.outcome.Outcome.TheVariants as outcomes
 
 -- the row to which a record goes, after a history
 abbrev pub row_after_history : Shape → List Entry → Delivery → Contents
@@ -26,3 +28,7 @@ pub record IsCopyKnown (case : CaseShape) (history : List Entry) (interval seq :
       is_finished d.id (row_after_history case.topology front d) ≡ false →
       (found_delivery d.id (run_of case.topology front).unhandled ≡ Some d)
       ⊎ (last_claim interval history ≢ Some seq)
+
+-- what a worker answers that takes a copy, by whether its record was handled
+abbrev pub answer_to_copy : Bool → Outcome
+answer_to_copy handled = if handled then outcomes.Duplicate else outcomes.Prepared
