@@ -1,7 +1,6 @@
 -- Each entry that a script writes is under the last claim of its row's interval.
-use Rattle.std.proofs.Common.{◌≡◌, ◌∙◌, ◌<◌, ◌≤◌, ◌++◌, ℕ, Bool, true, false, List, [], ◌∷◌, length, refl, sym, ap, subst, arith, inl, inr}
+use Rattle.std.proofs.Common.{◌≡◌, ◌∙◌, ◌++◌, ℕ, Bool, true, false, List, [], ◌∷◌, length, refl, sym, ap, subst, arith, inl, inr}
 use Rattle.std.specs.Prelude.{◌⊎◌, if◌then◌else◌, ⊤, find, nat_le, Option, None, Some, slice_get}
-use Rattle.std.specs.List.{AllByRecursion}
 use Rattle.std.specs.Option.{is_some, option_and_then, option_map, option_map_or, option_to_list}
 use Rattle.std.proofs.lemmas.Bool.{cases_lt}
 use Rattle.std.proofs.lemmas.List.{append-nil}
@@ -16,19 +15,18 @@ use Rattle.topology.specs.Rules.{IsTopology}
 use Rattle.topology.specs.Shapes.{Shape}
 use Rattle.row_parts.specs.Contents.{Contents, is_finished}
 use Rattle.run_history.specs.Cases.{CaseShape, intervals_of, record_of, source_of}
-use Rattle.run_history.specs.Fences.{IsCurrent, IsFenced, interval_of, last_claim, sequencer_of}
+use Rattle.run_history.specs.Fences.{IsCurrent, IsFenced, interval_of, sequencer_of}
 use Rattle.run_history.specs.Legal.{floor_of, record_outcome, timer_outcome}
 use Rattle.run_history.specs.Made.{found_delivery, row_written}
 use Rattle.run_history.specs.Runs.{run_of}
 use Rattle.run_history.specs.Watermarks.{cursor_in, least}
 use Rattle.run_history.proofs.Claims.{last_claim-latest}
-use Rattle.run_history.proofs.Fenced.{IsFenced-push, claim-under, entry-under}
+use Rattle.run_history.proofs.Fenced.{IsFenced-push, entry-under}
 use Rattle.run_history.proofs.IntervalLaws.{are-intervals, has-interval_of}
 use Rattle.run_history.proofs.Lists.{filter-passes, find-each, none_some, some_same}
 use Rattle.watermark.specs.Marks.{marks_of}
 use Rattle.book.specs.Books.{LeaseView}
-use Rattle.node.specs.Workers.{Sending, Worker, where_passes, with_written}
-use Rattle.node.specs.declared.outcome.Outcome.{Outcome}
+use Rattle.node.specs.Workers.{Worker, where_passes, with_written}
 use Rattle.node.specs.declared.outcome.Outcome.TheVariants as outcomes
 use Rattle.node.specs.declared.outgoing.Outgoing.{Outgoing}
 use Rattle.node.specs.declared.outgoing.Outgoing.TheVariants as outgoing
@@ -131,9 +129,9 @@ own-inject : (case : CaseShape) (world : World) (number part : ℕ) → IsOwn ca
 own-inject case world number part = let shape = case.topology in let name : RowName = record { part = part; key = [] } in
     own-option shape world number (inject_next case number world name) (lease_on shape (worker_of world number) name)
     (λ lease found. let line = cursor_in (row_known shape world lease name).state in
-      own-option shape world number (inject_item number world name lease line) (item_at (source_of case name.part) line)
-      (λ item there. own-writes shape world number lease (entries.Inject lease.seq name.part line (record_of item))
-        (worker_of world number) name (lease_on-had shape (worker_of world number) name lease found) refl refl))
+    own-option shape world number (inject_item number world name lease line) (item_at (source_of case name.part) line)
+    (λ item there. own-writes shape world number lease (entries.Inject lease.seq name.part line (record_of item))
+    (worker_of world number) name (lease_on-had shape (worker_of world number) name lease found) refl refl))
 
 -- a message that is taken in
 own-take_in : (shape : Shape) (world : World) (number : ℕ) (lease : LeaseView) (message : Outgoing)
@@ -145,7 +143,7 @@ own-take_in shape world number lease (outgoing.Deliver delivery sender) found = 
 own-take_in shape world number lease (outgoing.Ack to id) found = own-either shape world
     (writes world number lease (entries.Ack lease.seq to id) (worker_of world number)) (nothing world number)
     (own-writes shape world number lease (entries.Ack lease.seq to id) (worker_of world number) to
-      (lease_on-had shape (worker_of world number) to lease found) refl refl) tt
+    (lease_on-had shape (worker_of world number) to lease found) refl refl) tt
     (is_some (found_delivery id (row_known shape world lease to).pending))
 
 -- a message whose row a worker has, or not
@@ -159,20 +157,20 @@ own-mine shape world number message taken (Some lease) found = own-take_in shape
 own-take : (shape : Shape) (world : World) (number message : ℕ) → IsOwn shape world (take shape number message world)
 own-take shape world number message = own-option shape world number (take_message shape number message world)
     (in_flight world.flight message) (λ taken there. let worker = worker_of world number in
-      let lease = lease_on shape worker (row_of_message taken) in own-either shape world (nothing world number)
-      (option_map_or (take_out shape number message world taken) lease (stays world number outcomes.NotMine)) tt
-      (own-mine shape world number message taken lease refl) (must_wait worker taken))
+    let lease = lease_on shape worker (row_of_message taken) in own-either shape world (nothing world number)
+    (option_map_or (take_out shape number message world taken) lease (stays world number outcomes.NotMine)) tt
+    (own-mine shape world number message taken lease refl) (must_wait worker taken))
 
 -- what is prepared
 own-write : (case : CaseShape) (world : World) (number : ℕ) → IsOwn case.topology world (write case number world)
 own-write case world number = let shape = case.topology in let worker = worker_of world number in
     own-option shape world number (write_prepared case number world) worker.prepared
     (λ sending there. let delivery = sending.delivery in
-      own-option shape world number (write_under case number world sending) (lease_on shape worker delivery.to)
-      (λ lease found. own-option shape world number (write_effects number world sending lease)
-        (record_outcome case delivery.to (row_known shape world lease delivery.to) delivery.item)
-        (λ effects does. own-writes shape world number lease (entries.Handle lease.seq delivery.to delivery.id effects)
-          (with_written (Some sending) worker) delivery.to (lease_on-had shape worker delivery.to lease found) refl refl)))
+    own-option shape world number (write_under case number world sending) (lease_on shape worker delivery.to)
+    (λ lease found. own-option shape world number (write_effects number world sending lease)
+    (record_outcome case delivery.to (row_known shape world lease delivery.to) delivery.item)
+    (λ effects does. own-writes shape world number lease (entries.Handle lease.seq delivery.to delivery.id effects)
+    (with_written (Some sending) worker) delivery.to (lease_on-had shape worker delivery.to lease found) refl refl)))
 
 -- a timer
 own-fire : (case : CaseShape) (world : World) (number part : ℕ) → IsOwn case.topology world (fire case number part world)
@@ -180,13 +178,13 @@ own-fire case world number part = let shape = case.topology in let worker = work
     let mark = least (marks_of shape part world.marks) in own-option shape world number (fire_due case number world mark)
     (where_passes (λ (due : RowName × Timer). nat_le due.1.time mark) (least_timer shape world worker part))
     (λ due there. own-either shape world (nothing world number)
-      (option_map_or (fire_under case number world mark due) (lease_on shape worker due.0) (nothing world number)) tt
-      (own-option shape world number (fire_under case number world mark due) (lease_on shape worker due.0)
-        (λ lease found. own-option shape world number (fire_effects number world mark due lease)
-          (timer_outcome case due.0 (row_known shape world lease due.0) due.1)
-          (λ effects does. own-writes shape world number lease (entries.Fire lease.seq due.0 due.1 mark effects) worker due.0
-            (lease_on-had shape worker due.0 lease found) refl refl)))
-      (is_some worker.prepared))
+    (option_map_or (fire_under case number world mark due) (lease_on shape worker due.0) (nothing world number)) tt
+    (own-option shape world number (fire_under case number world mark due) (lease_on shape worker due.0)
+    (λ lease found. own-option shape world number (fire_effects number world mark due lease)
+    (timer_outcome case due.0 (row_known shape world lease due.0) due.1)
+    (λ effects does. own-writes shape world number lease (entries.Fire lease.seq due.0 due.1 mark effects) worker due.0
+    (lease_on-had shape worker due.0 lease found) refl refl)))
+    (is_some worker.prepared))
 
 -- a row that is known under a lease lies in the lease's interval
 known-lies : (shape : Shape) (world : World) (lease : LeaseView) (test : RowName × Contents → Bool) (row : RowName × Contents)
@@ -197,9 +195,12 @@ known-lies shape world lease test row topology found = by_bounds (slice_get (int
         → find test (option_map_or (λ (bounds : Bounds). rows_covered bounds (run_known shape world lease).rows) o []) ≡ Some row
         → interval_of shape row.0 ≡ Some lease.interval
     by_bounds None none is = absurd (none_some row is)
-    by_bounds (Some bounds) there is = has-interval_of shape lease.interval row.0 (are-intervals shape topology) (bounds, there,
-        find-each (λ (r : RowName × Contents). covers bounds r.0 ≡ true) test (rows_covered bounds (run_known shape world lease).rows) row
-        (filter-passes (λ (r : RowName × Contents). covers bounds r.0) (run_known shape world lease).rows) is)
+    by_bounds (Some bounds) there is = has-interval_of shape lease.interval row.0 (are-intervals shape topology) (
+      bounds,
+      there,
+      find-each (λ (r : RowName × Contents). covers bounds r.0 ≡ true) test (rows_covered bounds (run_known shape world lease).rows) row
+          (filter-passes (λ (r : RowName × Contents). covers bounds r.0) (run_known shape world lease).rows) is,
+    )
 
 -- a purge
 own-purge : (shape : Shape) (world : World) (number interval : ℕ) → IsTopology shape
@@ -207,13 +208,15 @@ own-purge : (shape : Shape) (world : World) (number interval : ℕ) → IsTopolo
 own-purge shape world number interval topology = let worker = worker_of world number in
     own-option shape world number (purge_first shape number world) (lease_of worker interval)
     (λ lease found. let floor = floor_of (run_of shape world.history) in
-      let row = find (may_forget floor) (rows_known shape world lease) in own-either shape world (nothing world number)
-      (option_map_or (purge_row number world lease floor) row (nothing world number)) tt
-      (own-option shape world number (purge_row number world lease floor) row
-        (λ r there. own-writes shape world number lease (entries.Purge lease.seq r.0 floor) worker r.0
-          (record { lies = known-lies shape world lease (may_forget floor) r topology there;
-                    seq = (lease_of-had worker interval lease found).seq }) refl refl))
-      (is_some worker.prepared))
+    let row = find (may_forget floor) (rows_known shape world lease) in own-either shape world (nothing world number)
+    (option_map_or (purge_row number world lease floor) row (nothing world number)) tt
+    (own-option shape world number (purge_row number world lease floor) row
+    (λ r there. own-writes shape world number lease (entries.Purge lease.seq r.0 floor) worker r.0
+    (record {
+      lies = known-lies shape world lease (may_forget floor) r topology there;
+      seq = (lease_of-had worker interval lease found).seq;
+    }) refl refl))
+    (is_some worker.prepared))
 
 -- each step
 own-step : (case : CaseShape) (world : World) (step : Step) → IsTopology case.topology
@@ -227,13 +230,13 @@ own-step case world (steps.Write worker) topology = own-write case world worker
 own-step case world (steps.Fire worker part) topology = own-fire case world worker part
 own-step case world (steps.Report worker interval) topology = own-option case.topology world worker (report_under case worker world)
     (lease_of (worker_of world worker) interval) (λ lease found. own-option case.topology world worker
-      (report_own case worker world lease) (slice_get (intervals_of case.topology) lease.interval) (λ bounds there. tt))
+    (report_own case worker world lease) (slice_get (intervals_of case.topology) lease.interval) (λ bounds there. tt))
 own-step case world (steps.Resend worker) topology = tt
 own-step case world (steps.Purge worker interval) topology = own-purge case.topology world worker interval topology
 own-step case world (steps.Repeat message) topology = own-option case.topology world 0 (copy_message world)
     (in_flight world.flight message) (λ copied there. own-either case.topology world
-      (record (stays world 0 (outcomes.Copied (length world.flight))) { flight = sent_after world.flight (copied ∷ []) })
-      (nothing world 0) tt tt (has_numbers world.flight 1))
+    (record (stays world 0 (outcomes.Copied (length world.flight))) { flight = sent_after world.flight (copied ∷ []) })
+    (nothing world 0) tt tt (has_numbers world.flight 1))
 own-step case world (steps.Lose message) topology = own-option case.topology world 0 (lose_message message world)
     (in_flight world.flight message) (λ gone there. tt)
 own-step case world (steps.Crash worker) topology = tt
@@ -259,8 +262,8 @@ fenced-entry shape world deed (Some entry) claimed fresh (inl claim) fenced = Is
     (λ name written. absurd (none_some name (sym claim ∙ written)))
 fenced-entry shape world deed (Some entry) claimed fresh (inr w) fenced = IsFenced-push shape world.history entry fenced
     (entry-under shape world.history entry w.name w.lease.interval w.lease.seq w.on_row w.on.lies
-      (current-of world.history w.lease deed.number (claimed deed.number w.lease.interval w.lease.seq w.on.seq)
-        (not-stale world.history deed.under w.lease w.is_under fresh)) w.carries)
+    (current-of world.history w.lease deed.number (claimed deed.number w.lease.interval w.lease.seq w.on.seq)
+    (not-stale world.history deed.under w.lease w.is_under fresh)) w.carries)
 
 -- a deed, done or not
 done-fenced : (shape : Shape) (world : World) (deed : Deed) (stale : Option (LeaseView × ℕ)) → stale_in world.history deed.under ≡ stale
@@ -286,4 +289,4 @@ pub script-fenced : (case : CaseShape) (history : List Entry) (marks : List ℕ)
     → IsFenced case.topology history → IsFenced case.topology (world_after case (world_on history marks) script).history
 script-fenced case history marks script topology fenced =
     (along_script case (IsFencedWorld case.topology) (fenced-step case topology) script (world_on history marks)
-      (AreClaimed-first history marks, fenced)).1
+    (AreClaimed-first history marks, fenced)).1
