@@ -7,7 +7,7 @@ use Rattle.mw_types.specs.declared.entry.Entry.TheVariants as entries
 use Rattle.worked_examples.specs.Drained.{id_of, injector_row}
 use Rattle.worked_examples.specs.First.{counts, first_case, record_at, row_a, window}
 use Rattle.node.specs.declared.outcome.Outcome.{Outcome}
-use Rattle.node.specs.declared.outcome.Outcome.TheVariants.{Claimed, Committed, Copied, Crashed, Duplicate, Marked, NotMine, Nothing, Prepared, Queued, Sent, Stale}
+use Rattle.node.specs.declared.outcome.Outcome.TheVariants.{Claimed, Committed, Copied, Crashed, Duplicate, Lost, Marked, NotMine, Nothing, Prepared, Queued, Sent, Stale}
 use Rattle.node.specs.declared.outgoing.Outgoing.{Outgoing}
 use Rattle.node.specs.declared.outgoing.Outgoing.TheVariants as outgoing
 use Rattle.scripts.specs.Acts.{answers, scripted_history, world_after}
@@ -133,9 +133,51 @@ unwritten =
     ∷ (Crash 0, Crashed)
     ∷ []
 
--- what comes after such a crash: there is nothing to write, and nothing to take
+-- what comes after such a crash: there is nothing to write, nothing to take, and no lease
 abbrev pub after_crash : Worked
-after_crash = unwritten ++ (Write 0, Nothing) ∷ (Take 0 0, Nothing) ∷ []
+after_crash = unwritten
+    ++ (Write 0, Nothing)
+    ∷ (Take 0 0, Nothing)
+    ∷ (Inject 0 0, Nothing)
+    ∷ (Report 0 1, Nothing)
+    ∷ (Resend 0, Queued 0)
+    ∷ []
+
+-- what a worker has to send that crashed before it sent: nothing
+abbrev pub after_unsent : Worked
+after_unsent = (Claim 0 0, Claimed 0) ∷ (Inject 0 0, Committed 1) ∷ (Crash 0, Crashed) ∷ (Send 0, Sent 0) ∷ []
+
+-- ---- while a work is prepared
+
+-- while a record is prepared another record waits in flight, and no row forgets; a line is injected and an
+-- acknowledgement is written all the same; a copy that is lost is gone, as its number is
+abbrev pub while_prepared : Worked
+while_prepared =
+    (Claim 0 0, Claimed 0)
+    ∷ (Claim 0 1, Claimed 1)
+    ∷ (Inject 0 0, Committed 2)
+    ∷ (Inject 0 0, Committed 3)
+    ∷ (Send 0, Sent 2)
+    ∷ (Repeat 1, Copied 2)
+    ∷ (Take 0 0, Prepared)
+    ∷ (Take 0 1, Nothing)
+    ∷ (Inject 0 0, Committed 4)
+    ∷ (Inject 0 0, Nothing)
+    ∷ (Write 0, Committed 5)
+    ∷ (Take 0 1, Prepared)
+    ∷ (Write 0, Committed 6)
+    ∷ (Lose 2, Lost)
+    ∷ (Lose 2, Nothing)
+    ∷ (Take 0 2, Nothing)
+    ∷ (Repeat 2, Nothing)
+    ∷ (Send 0, Sent 3)
+    ∷ (Take 0 4, Committed 7)
+    ∷ (Take 0 3, Prepared)
+    ∷ (Purge 0 1, Nothing)
+    ∷ (Take 0 5, Committed 8)
+    ∷ (Write 0, Committed 9)
+    ∷ (Purge 0 1, Committed 10)
+    ∷ []
 
 -- ---- what has nothing to do
 

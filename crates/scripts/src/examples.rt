@@ -3,6 +3,7 @@ ghost use Rattle.std.specs.Prelude.{[], ◌∷◌, ◌≡◌, None, Some, length
 ghost use Rattle.scripts.specs.Scripts.{
   IsAnswered,
   after_crash,
+  after_unsent,
   by_one_worker,
   first_ack,
   first_line,
@@ -16,6 +17,7 @@ ghost use Rattle.scripts.specs.Scripts.{
   unsent,
   unsent_history,
   unwritten,
+  while_prepared,
   without_work,
   world_of,
 };
@@ -48,6 +50,9 @@ pub fn crash_between_write_and_send()
     ensures answers { IsAnswered unsent }
     ensures history { history_of unsent ≡ unsent_history }
     ensures sent { (world_of (take 7 unsent)).flight ≡ Some first_record ∷ [] }
+
+    // The worker that crashed has nothing left to send.
+    ensures after { IsAnswered after_unsent }
 {}
 
 /// Of a record that was prepared and not written nothing is left after a crash.
@@ -55,6 +60,11 @@ pub fn crash_before_write()
     ensures answers { IsAnswered unwritten }
     ensures history { history_of unwritten ≡ first_line }
     ensures after { IsAnswered after_crash }
+{}
+
+/// While a record is prepared other records wait, and lines and acknowledgements do not.
+pub fn records_wait_while_one_is_prepared()
+    ensures answers { IsAnswered while_prepared }
 {}
 
 /// What has nothing to do answers so, and a message for another worker's row stays.

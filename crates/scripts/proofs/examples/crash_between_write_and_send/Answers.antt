@@ -9,3 +9,6 @@ returns-clause-history c = refl
 
 pub returns-clause-sent : goal.returns-clause-sent
 returns-clause-sent c = refl
+
+pub returns-clause-after : goal.returns-clause-after
+returns-clause-after c = refl
