@@ -1,6 +1,6 @@
 -- Scripts that were worked by hand, each step with its answer. All are of the first example of
 -- `worked_examples`: three records of one key in windows of 60, of which most scripts inject the first alone.
-use Rattle.std.specs.Prelude.{◌≡◌, ℕ, ◌+◌, [], ◌∷◌, ◌++◌, List, map}
+use Rattle.std.specs.Prelude.{◌≡◌, ℕ, ◌+◌, [], ◌∷◌, ◌++◌, List, map, Option}
 use Rattle.mw_types.specs.declared.TheConstants.{END}
 use Rattle.mw_types.specs.declared.entry.Entry.{Entry}
 use Rattle.mw_types.specs.declared.entry.Entry.TheVariants as entries
@@ -11,7 +11,7 @@ use Rattle.node.specs.declared.outcome.Outcome.TheVariants.{Claimed, Committed, 
 use Rattle.node.specs.declared.outgoing.Outgoing.{Outgoing}
 use Rattle.node.specs.declared.outgoing.Outgoing.TheVariants as outgoing
 use Rattle.scripts.specs.Acts.{answers, scripted_history, world_after}
-use Rattle.scripts.specs.Worlds.{World, empty_world}
+use Rattle.scripts.specs.Worlds.{empty_world}
 use Rattle.scripts.specs.declared.step.Step.{Step}
 use Rattle.scripts.specs.declared.step.Step.TheVariants.{Claim, Crash, Fire, Inject, Lose, Purge, Repeat, Report, Resend, Send, Take, Write}
 
@@ -29,9 +29,9 @@ IsAnswered worked =
     answers first_case (empty_world first_case.topology) (steps_of worked)
     ≡ map (λ (w : Step × Outcome). w.1) worked
 
--- the world that a worked script leaves
-abbrev pub world_of : Worked → World
-world_of worked = world_after first_case (empty_world first_case.topology) (steps_of worked)
+-- the messages in flight after a worked script
+abbrev pub flight_of : Worked → List (Option Outgoing)
+flight_of worked = (world_after first_case (empty_world first_case.topology) (steps_of worked)).flight
 
 -- the history that a worked script writes
 abbrev pub history_of : Worked → List Entry
@@ -182,8 +182,8 @@ while_prepared =
 -- ---- what has nothing to do
 
 -- a worker without a lease has nothing to do, nor is there a message to take, to copy or to lose; a worker
--- whose row a message is not for leaves it; no timer fires before its time, and a message that is gone can't be
--- lost
+-- whose row a message is not for leaves it; no timer fires before its time, and a message that was taken can't
+-- be lost
 abbrev pub without_work : Worked
 without_work =
     (Write 3, Nothing)

@@ -1,5 +1,5 @@
 //! Scripts that were worked by hand.
-ghost use Rattle.std.specs.Prelude.{[], ◌∷◌, ◌≡◌, None, Some, length, take};
+ghost use Rattle.std.specs.Prelude.{None, Some, [], length, take, ◌∷◌, ◌≡◌};
 ghost use Rattle.scripts.specs.Scripts.{
   IsAnswered,
   after_crash,
@@ -8,6 +8,7 @@ ghost use Rattle.scripts.specs.Scripts.{
   first_ack,
   first_line,
   first_record,
+  flight_of,
   history_of,
   late_copy,
   late_copy_history,
@@ -19,7 +20,6 @@ ghost use Rattle.scripts.specs.Scripts.{
   unwritten,
   while_prepared,
   without_work,
-  world_of,
 };
 ghost use Rattle.worked_examples.specs.Drained.{drained_history};
 
@@ -34,22 +34,22 @@ pub fn old_owner_is_stale()
     ensures refused { length (history_of (take 7 old_owner)) ≡ 4 }
 
     // The first message is the record, and the last is its acknowledgement.
-    ensures sent { (world_of (take 4 old_owner)).flight ≡ Some first_record ∷ [] }
-    ensures acknowledged { (world_of (take 12 old_owner)).flight ≡ None ∷ None ∷ Some first_ack ∷ [] }
+    ensures sent { flight_of (take 4 old_owner) ≡ Some first_record ∷ [] }
+    ensures acknowledged { flight_of (take 12 old_owner) ≡ None ∷ None ∷ Some first_ack ∷ [] }
 {}
 
 /// A copy that comes after its record's acknowledgement, and after a purge, is a duplicate.
 pub fn late_copy_is_duplicate()
     ensures answers { IsAnswered late_copy }
     ensures history { history_of late_copy ≡ late_copy_history }
-    ensures acknowledged { (world_of (take 8 late_copy)).flight ≡ None ∷ Some first_record ∷ Some first_ack ∷ [] }
+    ensures sent { flight_of (take 8 late_copy) ≡ None ∷ Some first_record ∷ Some first_ack ∷ [] }
 {}
 
 /// A record that a worker wrote and did not send is sent by the next owner of the row that made it.
 pub fn crash_between_write_and_send()
     ensures answers { IsAnswered unsent }
     ensures history { history_of unsent ≡ unsent_history }
-    ensures sent { (world_of (take 7 unsent)).flight ≡ Some first_record ∷ [] }
+    ensures sent { flight_of (take 7 unsent) ≡ Some first_record ∷ [] }
 
     // The worker that crashed has nothing left to send.
     ensures after { IsAnswered after_unsent }

@@ -5,11 +5,11 @@
 //! or are lost, in any order. Stands on `node`, for what a worker is, and on the crates below it.
 //! Public contract: the scripts that were worked by hand answer as they were worked out; each step
 //! appends at most one entry, and keeps the workers and the numbers of messages; no two workers
-//! have one sequencer, and what is done under one that was overtaken is refused, so each history that
-//! a script writes is fenced; a copy of a record that comes at any time is a duplicate exactly where
-//! its record was handled. Definitions:
-//! `specs/Worlds.antt`, what the world is; `specs/Acts.antt`, what a step does; `specs/Keeping.antt`
-//! and `specs/Copies.antt`, what the laws say; `specs/Scripts.antt`, the worked scripts.
+//! have one sequencer, and what is done under one that was overtaken is refused, so each history
+//! that a script writes is fenced; a copy of a record that comes at any time is a duplicate exactly
+//! where its record was handled. Definitions: `specs/Worlds.antt`, what the world is;
+//! `specs/Acts.antt`, what a step does; `specs/Keeping.antt` and `specs/Copies.antt`, what the laws
+//! say; `specs/Scripts.antt`, the worked scripts.
 #![tactic(auto)]
 
 mod copies;

@@ -7,5 +7,5 @@ returns-clause-answers c = refl
 pub returns-clause-history : goal.returns-clause-history
 returns-clause-history c = refl
 
-pub returns-clause-acknowledged : goal.returns-clause-acknowledged
-returns-clause-acknowledged c = refl
+pub returns-clause-sent : goal.returns-clause-sent
+returns-clause-sent c = refl
