@@ -1,0 +1,5 @@
+pub mod Worlds
+pub mod Acts
+pub mod Keeping
+pub mod Copies
+pub mod Scripts
