@@ -1,9 +1,8 @@
 -- The first timers of rows, in the order in which they are due.
-use Rattle.std.proofs.Common.{◌≡◌, ◌<◌, ℕ, zero, Bool, true, false, List, [], ◌∷◌, length, refl, sym, ◌∙◌, ap, subst, arith, true≢false}
-use Rattle.std.specs.Prelude.{IfOk, IfSome, None, Option, Some, slice_get}
+use Rattle.std.proofs.Common.{◌≡◌, ◌<◌, ℕ, true, false, List, [], ◌∷◌, length, refl, sym, ◌∙◌, ap, subst, arith, true≢false}
+use Rattle.std.specs.Prelude.{None, Option, Some, slice_get}
 use Rattle.std.specs.Option.{is_some, option_and_then, option_map}
 use Rattle.std.specs.Cmp.{IsTotalOrder, on_total, then_total, tied_itself}
-use Rattle.std.specs.List.Sorted.{IsStrictlySortedBy}
 use Rattle.std.specs.Map.{lookup}
 use Rattle.std.specs.BTreeMap.{is_at}
 use Rattle.std.specs.Ordering.{is_eq, nat_cmp, ordering_then}
@@ -22,7 +21,7 @@ use Rattle.history_laws.proofs.RowSteps.{same_row}
 use Rattle.holdings.specs.Dues.{AreDues, due_at, due_name, due_of, due_order}
 use Rattle.holdings.specs.Firsts.{HasPicked}
 use Rattle.holdings.specs.Keyed.{has_key, ties}
-use Rattle.holdings.specs.Timers.{IsFirstTimer, due_cmp, row_timer, timer_of}
+use Rattle.holdings.specs.Timers.{IsFirstTimer, row_timer, timer_of}
 use Rattle.holdings.specs.declared.due.Due.{Due}
 use Rattle.holdings.proofs.KeyLaws.{first-least, first-there}
 

@@ -1,6 +1,6 @@
 -- Keys that are made of rows, one of a row or none: they are changed with one row, and made anew.
-use Rattle.std.proofs.Common.{◌≡◌, Bool, true, false, cond, not, ◌&&◌, ◌||◌, List, [], ◌∷◌, ◌++◌, map, refl, sym, ◌∙◌, ap, subst, true≢false}
-use Rattle.std.specs.Prelude.{IsSome, None, Option, Some}
+use Rattle.std.proofs.Common.{◌≡◌, Bool, true, false, cond, not, ◌&&◌, ◌||◌, List, [], ◌∷◌, ◌++◌, map, refl, sym, ◌∙◌, ap, true≢false}
+use Rattle.std.specs.Prelude.{None, Option, Some}
 use Rattle.std.specs.Option.{is_some, option_and_then}
 use Rattle.std.specs.Cmp.{IsTotalOrder, tied_itself}
 use Rattle.std.specs.List.{AllByRecursion}
@@ -21,7 +21,6 @@ use Rattle.row_parts.specs.Contents.{Contents}
 use Rattle.run_history.specs.Runs.{cached, row_in}
 use Rattle.run_history.proofs.Lookups.{lookup-insert_entry}
 use Rattle.history_laws.proofs.RowSteps.{same_row}
-use Rattle.run_history.proofs.Lists.{none_some}
 use Rattle.book.specs.Claims.{named}
 use Rattle.book.specs.declared.answers.NamedRow.{NamedRow}
 use Rattle.holdings.specs.Caching.{AreOrdered, merged}
@@ -98,6 +97,43 @@ module _ {K : Type 0} (cmp : K → K → Ordering) (place : K → RowName) (key 
           (apart-place name row k apart)
           ∙ ap (λ b. not b && is_some (lookup (is_at (cmp k)) old)) (apart-before name (row_in (cached rows) name) k apart)
           ∙ are.each k
+
+  -- a key that is taken away, whether it is that of the row that was there or that of no row
+  pub rekeyed-before : (rows : List (RowName × Contents)) (name : RowName) (taken : K) (after : Option K) (old new : List (K × Unit {0}))
+      → place taken ≡ name → ((row : Contents) (k : K) → key name row ≡ Some k → k ≡ taken)
+      → AreKeys cmp place key rows old → HasRekeyed cmp (Some taken) after old new
+      → HasRekeyed cmp (option_and_then (key name) (row_in (cached rows) name)) after old new
+  rekeyed-before rows name taken after old new at only are has = record {
+    ordered = has.ordered;
+    each = λ k. has.each k ∙ ap (λ b. ties cmp k after || b) (other_way k);
+  }
+    where
+      -- where the row that was there has a key, it is the one that is taken away
+      there : (before : Option Contents) (k : K) → is_at (cmp k) taken ≡ false → ties cmp k (option_and_then (key name) before) ≡ false
+      there None k apart = refl
+      there (Some row) k apart = by_key (key name row) refl
+        where
+          by_key : (o : Option K) → key name row ≡ o → ties cmp k o ≡ false
+          by_key None is = refl
+          by_key (Some j) is = ap (is_at (cmp k)) (only row j is) ∙ apart
+
+      none_both : (b : Bool) → false ≡ (not b && b)
+      none_both true = refl
+      none_both false = refl
+
+      other_way : (k : K) → (not (is_at (cmp k) taken) && is_some (lookup (is_at (cmp k)) old))
+          ≡ (not (ties cmp k (option_and_then (key name) (row_in (cached rows) name))) && is_some (lookup (is_at (cmp k)) old))
+      other_way k = elim (is_at (cmp k) taken) as (λ b. is_at (cmp k) taken ≡ b
+          → (not b && is_some (lookup (is_at (cmp k)) old))
+          ≡ (not (ties cmp k (option_and_then (key name) (row_in (cached rows) name))) && is_some (lookup (is_at (cmp k)) old))) [
+            | true ↦ λ tie.
+                let was : is_some (lookup (is_at (cmp k)) old) ≡ ties cmp k (option_and_then (key name) (row_in (cached rows) name)) =
+                are.each k ∙ ap (λ n. has_key cmp key k n (row_in (cached rows) n)) (ap place (same k taken tie) ∙ at)
+                ∙ has-before k (row_in (cached rows) name) name in
+                none_both (ties cmp k (option_and_then (key name) (row_in (cached rows) name)))
+                ∙ ap (λ b. not (ties cmp k (option_and_then (key name) (row_in (cached rows) name))) && b) (sym was)
+            | false ↦ λ apart. ap (λ b. not b && is_some (lookup (is_at (cmp k)) old)) (sym (there (row_in (cached rows) name) k apart))
+          ] refl
 
 -- ---- one key
 

@@ -7,6 +7,7 @@ pub mod WorkLaws
 pub mod StampLaws
 pub mod KeyLaws
 pub mod DueLaws
+pub mod SeenLaws
 pub mod OwnLaws
 pub mod FirstLaws
 pub mod TimerLaws

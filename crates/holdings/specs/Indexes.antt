@@ -10,6 +10,7 @@ use Rattle.row_parts.specs.Contents.{Contents}
 use Rattle.run_history.specs.Marks.{row_marks}
 use Rattle.run_history.specs.Watermarks.{least}
 use Rattle.holdings.specs.Dues.{AreDues}
+use Rattle.holdings.specs.Seens.{AreSeen}
 use Rattle.holdings.specs.declared.index.Index.{Index}
 
 -- ---- the oldest work, one stamp a row
@@ -41,6 +42,7 @@ pub record AreLeft (left all : List (RowName × Contents)) (now start : List ℕ
 pub record IsIndexOf (rows : List (RowName × Contents)) (index : Index) : Type 0 where
   pub work : AreStamps rows index.work
   pub dues : AreDues rows index.dues.entries
+  pub seen : AreSeen rows index.seen.entries
 
 -- rows stand in order of their names, and the index, where there is one, is theirs
 pub record IsIndexed (rows : List (RowName × Contents)) (index : Option Index) : Type 0 where

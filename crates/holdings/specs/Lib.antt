@@ -8,3 +8,4 @@ pub mod Pendings
 pub mod Keyed
 pub mod Dues
 pub mod Indexes
+pub mod Seens

@@ -17,6 +17,7 @@ ghost use Rattle.holdings.specs.Pendings.{ArePendingIn, sent_in};
 ghost use Rattle.holdings.specs.Purges.{IsFirstToPurge, by_name, forgets, seen_name};
 ghost use Rattle.holdings.specs.Dues.{due_of, due_order};
 ghost use Rattle.holdings.specs.Keyed.{HasKeyed};
+ghost use Rattle.holdings.specs.Seens.{seen_of};
 
 use crate::index::Index;
 use crate::pending::{SentList, push_row};
@@ -177,9 +178,12 @@ fn purge_beside<'a>(
 // Keeps what there is of the rows of a list.
 fn index_in(alloc: Global, index: &mut Index, rows: &[NamedRow]) -> Result<(), NoMemory>
     requires ordered { IsStrictlySortedBy due_order (keys_of index.old.dues.entries) }
+    requires ascending { IsStrictlySortedBy row_cmp (keys_of index.old.seen.entries) }
     ensures work { OnOk result (HasStamped (map named rows.now) index.old.work index.new.work) }
     ensures dues { OnOk result (HasKeyed due_order due_of (map named rows.now)
         index.old.dues.entries index.new.dues.entries) }
+    ensures seen { OnOk result (HasKeyed row_cmp seen_of (map named rows.now)
+        index.old.seen.entries index.new.seen.entries) }
 {
     for row in rows {
         index.add(alloc, &row.name, &row.row)?;
@@ -194,9 +198,12 @@ fn index_beside(
     rows: &BTreeMap<RowName, Row>,
 ) -> Result<(), NoMemory>
     requires ordered { IsStrictlySortedBy due_order (keys_of index.old.dues.entries) }
+    requires ascending { IsStrictlySortedBy row_cmp (keys_of index.old.seen.entries) }
     ensures work { OnOk result (HasStamped rows.now.entries index.old.work index.new.work) }
     ensures dues { OnOk result (HasKeyed due_order due_of rows.now.entries
         index.old.dues.entries index.new.dues.entries) }
+    ensures seen { OnOk result (HasKeyed row_cmp seen_of rows.now.entries
+        index.old.seen.entries index.new.seen.entries) }
 {
     for (name, row) in rows {
         index.add(alloc, name, row)?;

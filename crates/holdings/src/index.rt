@@ -10,22 +10,25 @@ ghost use Rattle.holdings.specs.Dues.{due_of, due_order};
 ghost use Rattle.holdings.specs.Keyed.{HasRekeyed};
 ghost use Rattle.holdings.specs.Timers.{timer_of};
 ghost use Rattle.holdings.specs.Indexes.{HasRestamped, IsIndexOf, work_of};
+ghost use Rattle.holdings.specs.Seens.{seen_of};
 
 use crate::cache::Cache;
 use crate::due::{Dues, add_due, set_due};
 use crate::row_work::row_work;
+use crate::seen::{Names, add_seen, set_seen};
 use mw_types::{NoMemory, RowName, Timer};
 use row_parts::Row;
 use std::alloc::Global;
 use std::collections::BTreeMap;
 use watermark::Oldest;
 
-// What is kept beside rows: the oldest work of each, of which the least is asked, and the first timer
-// of each, of which the first is asked.
+// What is kept beside rows: the oldest work of each, of which the least is asked, the first timer of
+// each, of which the first is asked, and the names of those that have seen ids.
 #[derive(Drop)]
 pub(crate) struct Index {
     pub(crate) work: Oldest,
     pub(crate) dues: Dues,
+    pub(crate) seen: Names,
 }
 
 impl Index {
@@ -34,22 +37,29 @@ impl Index {
         ensures work { result.work ≡ [] }
         ensures dues { result.dues.entries ≡ [] }
         ensures ordered { IsStrictlySortedBy due_order (keys_of result.dues.entries) }
+        ensures seen { result.seen.entries ≡ [] }
+        ensures ascending { IsStrictlySortedBy row_cmp (keys_of result.seen.entries) }
     {
         Index {
             work: Oldest::new(alloc),
             dues: BTreeMap::new(alloc),
+            seen: BTreeMap::new(alloc),
         }
     }
 
     // Keeps what there is of one more row.
     pub(crate) fn add(&mut self, alloc: Global, name: &RowName, row: &Row) -> Result<(), NoMemory>
         requires ordered { IsStrictlySortedBy due_order (keys_of self.old.dues.entries) }
+        requires ascending { IsStrictlySortedBy row_cmp (keys_of self.old.seen.entries) }
         ensures work { OnOk result (HasRestamped None (work_of row.now) self.old.work self.new.work) }
         ensures dues { OnOk result (HasRekeyed due_order None (due_of name.now row.now)
             self.old.dues.entries self.new.dues.entries) }
+        ensures seen { OnOk result (HasRekeyed row_cmp None (seen_of name.now row.now)
+            self.old.seen.entries self.new.seen.entries) }
     {
         restamp(&mut self.work, None, row_work(row))?;
-        add_due(alloc, &mut self.dues, name, row.least_timer())
+        add_due(alloc, &mut self.dues, name, row.least_timer())?;
+        add_seen(alloc, &mut self.seen, name, row)
     }
 
     // Keeps what there is of a row in the place of what there was of it before, if it was there.
@@ -62,17 +72,21 @@ impl Index {
     ) -> Result<Index, NoMemory>
         requires held { IfSome (option_copied before) (λ b. Contains self.work (work_of b)) }
         requires ordered { IsStrictlySortedBy due_order (keys_of self.dues.entries) }
+        requires ascending { IsStrictlySortedBy row_cmp (keys_of self.seen.entries) }
         ensures work { IfOk result (λ new. HasRestamped
             (option_map work_of (option_copied before.entry)) (work_of row.now) self.work new.work) }
         ensures dues { IfOk result (λ new. HasRekeyed due_order
             (option_and_then (due_of name.now) (option_copied before.entry))
             (due_of name.now row.now) self.dues.entries new.dues.entries) }
+        ensures seen { IfOk result (λ new. HasRekeyed row_cmp (Some name.now)
+            (seen_of name.now row.now) self.seen.entries new.seen.entries) }
     {
         let mut index = self;
         let old = work_before(before);
         restamp(&mut index.work, old, row_work(row))?;
         let old = timer_before(before);
         set_due(alloc, &mut index.dues, name, old, row.least_timer())?;
+        set_seen(alloc, &mut index.seen, name, row)?;
         Ok(index)
     }
 }

@@ -21,6 +21,7 @@ use crate::due::first_timer;
 use crate::first_timer::RowTimer;
 use crate::index::{Index, changed};
 use crate::pending::SentList;
+use crate::seen::first_seen;
 use book::NamedRowList;
 use mw_types::{NoMemory, RowName};
 use row_parts::Row;
@@ -136,6 +137,9 @@ impl Indexed {
     pub(crate) fn to_purge(&self, floor: u64, least: u64) -> Option<&RowName>
         ensures { IsFirstToPurge floor least self.now (option_copied result) }
     {
-        self.rows.to_purge(floor, least)
+        match &self.index {
+            Some(index) => first_seen(&index.seen, &self.rows, floor, least),
+            None => self.rows.to_purge(floor, least),
+        }
     }
 }

@@ -5,8 +5,9 @@
 //! as it was. Stands on `book` and the crates below it. Public contract: what is held fits the desk
 //! after each call (`AreHeld`), an accepted write is the desk's, and each other row stays; the first
 //! timer and the own work of an interval are exact. Both are kept beside the rows, so that they are
-//! asked and changed in a time logarithmic in the rows; what is pending and the row to purge go over
-//! all rows. Definitions: `specs/Holding.antt`; `specs/Timers.antt`, `specs/Purges.antt` and
+//! asked and changed in a time logarithmic in the rows; the row to purge is sought among the rows that
+//! have seen ids, in order, up to the first that may forget some; what is pending goes over all rows.
+//! Definitions: `specs/Holding.antt`; `specs/Timers.antt`, `specs/Purges.antt` and
 //! `specs/Pendings.antt` for what is found among the rows.
 #![tactic(auto)]
 
@@ -21,6 +22,7 @@ mod indexed;
 mod own_work;
 mod pending;
 mod row_work;
+mod seen;
 mod to_purge;
 mod writes;
 

@@ -1,4 +1,3 @@
-use Rattle.std.proofs.Common.{Option, ap}
 use Rattle.std.specs.Option.{option_map}
 use Rattle.holdings.specs.Dues.{due_at, due_order}
 use Rattle.holdings.proofs.KeyLaws.{rekeyed-both}

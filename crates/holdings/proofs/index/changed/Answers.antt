@@ -13,10 +13,11 @@ put-requires c = record {
   held = stamp-held c.args.rows.now c.args.name.now (option_copied c.get.result) c.in-Some.index.work
       (subst (λ (o : Option Index). IfSome o (IsIndexOf c.args.rows.now)) c.in-Some.is c.requires.index).work c.get.ensures;
   ordered = (subst (λ (o : Option Index). IfSome o (IsIndexOf c.args.rows.now)) c.in-Some.is c.requires.index).dues.ordered;
+  ascending = (subst (λ (o : Option Index). IfSome o (IsIndexOf c.args.rows.now)) c.in-Some.is c.requires.index).seen.ordered;
 }
 
 -- the index is that of the rows, once the row is put
 pub returns-in-Some : goal.returns-in-Some
 returns-in-Some c = subst (λ (o : Option Index). IfSome o (IsIndexOf (insert_entry row_cmp c.args.rows.now c.args.name.now c.args.row.now))) (sym c.ok.ensures.value)
     (index-put c.args.rows.now c.args.name.now c.args.row.now (option_copied c.get.result) c.in-Some.index c.put.result c.requires.ordered
-    (subst (λ (o : Option Index). IfSome o (IsIndexOf c.args.rows.now)) c.in-Some.is c.requires.index) c.get.ensures c.put.ensures.work c.put.ensures.dues)
+    (subst (λ (o : Option Index). IfSome o (IsIndexOf c.args.rows.now)) c.in-Some.is c.requires.index) c.get.ensures c.put.ensures.work c.put.ensures.dues c.put.ensures.seen)
