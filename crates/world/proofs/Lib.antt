@@ -11,3 +11,6 @@ pub mod Tried
 pub mod DrainedExample
 pub mod Digits
 pub mod Words
+pub mod TurnLaws
+pub mod KnownLaws
+pub mod SettleLaws

@@ -79,6 +79,3 @@ fn turn_all<'a, K: Keeper, C: Computation>(
     while turn(alloc, book, work, node)? {}
     Ok(())
 }
-
-#[cfg(test)]
-mod tests;

@@ -1,3 +1,6 @@
+use Rattle.world.proofs.SettleLaws.{ack-turned}
+use Rattle.world.proofs.KnownLaws.{row-known}
+use Rattle.world.proofs.TurnLaws.{written}
 use Rattle.world.proofs.WholeDrains.{draining-first, draining-push}
 use Rattle.world.proofs.drains.drains_grow_by_their_next_entries.Goals as goal
 
