@@ -14,3 +14,6 @@ pub mod Words
 pub mod TurnLaws
 pub mod KnownLaws
 pub mod SettleLaws
+pub mod InjectLaws
+pub mod PurgeLaws
+pub mod FireLaws

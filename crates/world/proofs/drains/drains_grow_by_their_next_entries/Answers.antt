@@ -1,3 +1,5 @@
+use Rattle.world.proofs.InjectLaws.{inject-none}
+use Rattle.world.proofs.SettleLaws.{ack-turned}
 use Rattle.world.proofs.SettleLaws.{ack-turned}
 use Rattle.world.proofs.KnownLaws.{row-known}
 use Rattle.world.proofs.TurnLaws.{written}
