@@ -67,6 +67,7 @@ head-or x xs y (suc i, within, at) = inr (i, omega (arith, within), at)
 -- the first of a list in order is below the others
 first-or : {X : Type 0} (R : X → X → Ordering) (xs : List X) (x y : X) → IsStrictlySortedBy R xs → slice_get xs 0 ≡ Some x → Contains xs y
     → (x ≡ y) ⊎ (R x y ≡ Less)
+unfolding IsStrictlySortedBy
 first-or R [] x y sorted is has = absurd (none_some x is)
 first-or R (z ∷ zs) x y sorted is has =
     let same : z ≡ x = some_same z x is in
@@ -166,7 +167,7 @@ module _ (book : BookView) (node : NodeView) (at : IsAtWork book node) (told : I
   legal = (lawful-rows book.case book.history book.rows told lawful.held).0
 
   -- its rows are in order
-  order : AreRowsInOrder run
+  abbrev order : AreRowsInOrder run
   order = rows-in_order book.case.topology book.history
 
   -- the timers of a row are in order

@@ -17,3 +17,5 @@ pub mod SettleLaws
 pub mod InjectLaws
 pub mod PurgeLaws
 pub mod FireLaws
+pub mod GoLaws
+pub mod ReportLaws

@@ -1,7 +1,8 @@
 -- The purge with which a drain ends is of the first row, over all intervals, that has seen ids.
-use Rattle.std.proofs.Common.{◌≡◌, ◌≢◌, ◌<◌, ◌≤◌, ◌+◌, ◌⊎◌, ℕ, Bool, true, false, cond, zero, suc, List, [], ◌∷◌, length, refl, sym, ◌∙◌, ap, subst, arith, inl, inr, get_or, fold, map, min}
+use Rattle.std.proofs.Common.{◌≡◌, ◌≢◌, ◌<◌, ◌≤◌, ◌+◌, ◌⊎◌, ℕ, Bool, true, false, cond, zero, suc, List, [], ◌∷◌, length, refl, sym, ◌∙◌, ap, subst, arith, inl, inr, get_or, fold, map, min, rules}
 use Rattle.std.specs.Prelude.{Option, Some, None, IsSome, IfSome, Contains, MatchOption, slice_get, max, All}
 use Rattle.std.specs.List.{AllByRecursion}
+use Rattle.std.specs.List.Sorted.{IsStrictlySortedBy}
 use Rattle.std.specs.Cmp.{IsTotalOrder}
 use Rattle.std.specs.Option.{is_some, option_and_then}
 use Rattle.std.specs.Ordering.{is_gt, is_le, is_lt, ordering_reverse}
@@ -11,7 +12,7 @@ use Rattle.std.proofs.lemmas.Bool.{both_ways, cases_lt}
 use Rattle.std.proofs.lemmas.Cmp.{upto}
 use Rattle.std.proofs.lemmas.List.Elements.{All-contains, All-from_recursion}
 use Rattle.std.proofs.lemmas.Option.{get_or_from_slice_get, slice_get_within}
-use Rattle.mw_types.specs.Orders.{key_cmp, row_cmp}
+use Rattle.mw_types.specs.Orders.{id_cmp, key_cmp, row_cmp, timer_cmp}
 use Rattle.mw_types.specs.declared.delivery.Delivery.{Delivery}
 use Rattle.mw_types.specs.declared.entry.Entry.{Entry}
 use Rattle.mw_types.specs.declared.identity.RecordId.{RecordId}
@@ -104,9 +105,9 @@ intervals-rise shape i j a b are lies other less le =
     let by : begins_by a (get_or all (i + 1) d) ≡ true =
     begin_in_two all a are.next (i + 1) j d (omega (arith, less)) short
     (subst (λ (c : Bounds). begins_by a c ≡ true) (sym second) begun) in
-    both_ways (begins_by a (get_or all (i + 1) d)) by
+    both_ways (begins_by a (get_or all (i + 1) d))
     (begins_after (get_or all i d) (get_or all (i + 1) d) a (are.next i d near)
-    (subst (λ (c : Bounds). covers c a ≡ true) (sym first) one.2))
+    (subst (λ (c : Bounds). covers c a ≡ true) (sym first) one.2)) by
 
 -- ---- rows that are kept
 
@@ -121,6 +122,11 @@ pub record IsOrdered (row : Contents) : Type 0 where
   pub seen : AreSeen row.floor row.seen
   pub timers : AreTimers row.timers
 
+-- no list is out of order where it is empty
+none-sorted : {X : Type 0} (R : X → X → Ordering) → IsStrictlySortedBy R []
+unfolding IsStrictlySortedBy
+none-sorted R = tt
+
 -- the lists of each row of a lawful history are, where that is told
 pub rows-ordered : (book : BookView) (name : RowName) → IsLawful book.case (core_of book) → IsSome book.rows
     → IsOrdered (row_of book.case.topology (run_of book.case.topology book.history) name)
@@ -131,12 +137,12 @@ rows-ordered book name lawful told =
     (run_of book.case.topology book.history).rows (lawful-rows book.case book.history book.rows told lawful.held).1)
     (record {
       seen = record {
-        ascending = search rules;
+        ascending = none-sorted id_cmp;
         each = search rules;
         kept = search rules;
         few = omega arith;
       };
-      timers = record { ascending = search rules; times = search rules; few = omega arith };
+      timers = record { ascending = none-sorted timer_cmp; times = search rules; few = omega arith };
     })
 
 -- the floor is the number of the next entry where nothing is pending
@@ -211,7 +217,7 @@ module _ (book : BookView) (node : NodeView) (at : IsAtWork book node) (told : I
   legal = (lawful-rows book.case book.history book.rows told lawful.held).0
 
   -- its rows are in order
-  order : AreRowsInOrder run
+  abbrev order : AreRowsInOrder run
   order = rows-in_order book.case.topology book.history
 
   -- the first row by name that has seen ids is one that its interval may be asked to purge

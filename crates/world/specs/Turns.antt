@@ -143,6 +143,13 @@ pub record HasFailedIn (start book : BookView) (why : NodeFault) : Type 0 where
   pub full : why ≡ faults.HistoryFull → length book.history ≡ book.limit
   pub damaged : IsDamageOf (own_view book) (refusal_of why)
 
+-- a drain that began with a book, and had claimed all intervals, goes on
+pub record IsDrainingOn (start book : BookView) (node : NodeView) : Type 0 where
+  pub gone : HasGone start book
+  pub at_work : IsAtWork book node
+  pub goes : WhereTold start ((from : ℕ) → HasClaimedAll start.case from start.history →
+      IsDraining start.case from start.history → IsDraining start.case from book.history)
+
 -- whether an entry was written
 abbrev pub is_committed : Outcome → Bool
 is_committed (outcomes.Committed commit) = true

@@ -1,3 +1,7 @@
+use Rattle.world.proofs.SettleLaws.{handle-turned}
+use Rattle.world.proofs.GoLaws.{passed-exact}
+use Rattle.world.proofs.FireLaws.{fire-quiet}
+use Rattle.world.proofs.PurgeLaws.{purge-ended}
 use Rattle.world.proofs.InjectLaws.{inject-none}
 use Rattle.world.proofs.SettleLaws.{ack-turned}
 use Rattle.world.proofs.SettleLaws.{ack-turned}
