@@ -19,3 +19,4 @@ pub mod PurgeLaws
 pub mod FireLaws
 pub mod GoLaws
 pub mod ReportLaws
+pub mod CallLaws

@@ -42,7 +42,7 @@ empty_or_not [] = inl refl
 empty_or_not (x ∷ xs) = inr (x, (0, omega arith, refl))
 
 -- what a search finds is an element that passes
-find-has : {X : Type 0} (test : X → Bool) (xs : List X) (d : X) → find test xs ≡ Some d → Contains xs d
+pub find-has : {X : Type 0} (test : X → Bool) (xs : List X) (d : X) → find test xs ≡ Some d → Contains xs d
 find-has test [] d found = absurd (none_some d found)
 find-has test (x ∷ xs) d found =
     elim (test x) as (λ b. cond b (Some x) (find test xs) ≡ Some d → Contains (x ∷ xs) d) [

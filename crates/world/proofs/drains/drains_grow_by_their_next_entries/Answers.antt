@@ -1,3 +1,5 @@
+use Rattle.world.proofs.ReportLaws.{reports-all}
+use Rattle.world.proofs.CallLaws.{handle-call}
 use Rattle.world.proofs.SettleLaws.{handle-turned}
 use Rattle.world.proofs.GoLaws.{passed-exact}
 use Rattle.world.proofs.FireLaws.{fire-quiet}
