@@ -43,7 +43,8 @@ use Rattle.world.proofs.Firsts.{tied_both_ways}
 use Rattle.world.proofs.InjectLaws.{slice_get-some}
 use Rattle.world.proofs.KnownLaws.{held-there, row-known}
 use Rattle.world.proofs.NextLaws.{IsLeastDue, none_or_due, not_after-first}
-use Rattle.world.proofs.PurgeLaws.{lawful-rows, lt-flip, rows-ordered}
+use Rattle.world.proofs.LawfulRows.{lawful-rows}
+use Rattle.world.proofs.PurgeLaws.{lt-flip, rows-ordered}
 use Rattle.world.proofs.SettleLaws.{turned-asked}
 use Rattle.world.proofs.ThereLaws.{timer-computation, timer-part}
 

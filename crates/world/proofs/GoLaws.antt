@@ -38,7 +38,7 @@ use Rattle.world.specs.Drains.{HasClaimedAll, HasEnded, IsDraining, IsNextEntry}
 use Rattle.world.specs.Passes.{pass_of}
 use Rattle.world.specs.Turns.{AreExact, HasFailed, HasFailedIn, HasFirst, HasGone, HasLast, HasStepped, HasTaken, HasTurned, IsAtWork, IsClaiming, IsDrainingOn, IsEndOf, IsNextIn, IsSettled, WhereTold, with_own}
 use Rattle.world.proofs.PassLaws.{pass-low}
-use Rattle.world.proofs.PurgeLaws.{lawful-rows}
+use Rattle.world.proofs.LawfulRows.{lawful-rows}
 use Rattle.world.proofs.TurnLaws.{free-of, held-leased, lease-held, moved-before, sending-none, stepped-by, stepped-on}
 use Rattle.world.proofs.WholeDrains.{draining-first, draining-push}
 
@@ -182,6 +182,11 @@ nearer old new turned few = by_own turned.own turned.is_more turned.stepped
     by_own (Some entry) some stepped =
         let long : length new.history ≡ length old.history + 1 = ap length stepped.appended ∙ length_push old.history entry in
         let same = stepped.limit in omega (arith, long, same, few)
+
+-- and so one that tells so, over a lawful book
+pub nearer-more : (old new : BookView) (more : Bool) → HasTurned old new more → IsLawful new.case (core_of new) → more ≡ true
+    → new.limit - length new.history < old.limit - length old.history
+nearer-more old new more turned lawful is = nearer old new (subst (HasTurned old new) is turned) lawful.few
 
 -- ---- the claims
 

@@ -12,6 +12,7 @@ pub mod DrainedExample
 pub mod Digits
 pub mod Words
 pub mod TurnLaws
+pub mod LawfulRows
 pub mod KnownLaws
 pub mod SettleLaws
 pub mod InjectLaws
@@ -20,3 +21,6 @@ pub mod FireLaws
 pub mod GoLaws
 pub mod ReportLaws
 pub mod CallLaws
+pub mod PurgeLoop
+pub mod FireLoop
+pub mod Results

@@ -44,9 +44,10 @@ use Rattle.holdings.specs.Holding.{HeldView, held_at, held_on, row_held}
 use Rattle.node.specs.Asking.{HasToForget, MayAskForget, MayAskPurge, Request, forgetting}
 use Rattle.node.specs.Workers.{NodeView}
 use Rattle.world.specs.Drains.{HasClaimedAll, HasInjected, IsNextEntry}
-use Rattle.world.specs.Turns.{HasAsked, HasAskedOne, HasTurned, IsAtWork, IsEndOf, IsInjected, IsQuiet, IsSettled}
+use Rattle.world.specs.Turns.{HasAsked, HasAskedOne, HasTurned, IsAtWork, HasStepped, IsEmptied, IsEndOf, IsInjected, IsQuiet, IsSettled}
 use Rattle.world.proofs.FirstItems.{row_of-named}
 use Rattle.world.proofs.Firsts.{one_row}
+use Rattle.world.proofs.LawfulRows.{lawful-rows}
 use Rattle.world.proofs.KnownLaws.{interval-found, row-known, held-there}
 use Rattle.world.proofs.NextLaws.{IsFirstRow, none_or_seen}
 use Rattle.world.proofs.SettleLaws.{turned-asked}
@@ -110,12 +111,6 @@ intervals-rise shape i j a b are lies other less le =
     (subst (λ (c : Bounds). covers c a ≡ true) (sym first) one.2)) by
 
 -- ---- rows that are kept
-
--- a book's history is legal and its rows can be kept, where they are told
-pub lawful-rows : (case : CaseShape) (history : List Entry) (o : Option Rows) → IsSome o → IfSome o (IsHeld case history)
-    → (IsLegal case history) × AllByRecursion (IsKept case (length history)) (run_of case.topology history).rows
-lawful-rows case history None there is = absurd (cc)
-lawful-rows case history (Some rows) there is = (is.legal, is.kept)
 
 -- the lists of a row are in order
 pub record IsOrdered (row : Contents) : Type 0 where
@@ -256,25 +251,42 @@ module _ (book : BookView) (node : NodeView) (at : IsAtWork book node) (told : I
         },
       )
 
-  -- no row has seen ids where no interval may be asked to purge one
-  pub none-seen-asked : ((interval : ℕ) → interval < interval_count book.case.topology → (asked : Request)
-      → MayAskPurge book.case.topology node interval 1 (floor_of run) asked → ⊥)
-      → (row : RowName) → (row_of book.case.topology run row).seen ≡ []
-  none-seen-asked none = by_case (none_or_seen book.case run order)
+  -- no row of an interval has seen ids where it may not be asked to purge one, and none of an earlier one has
+  pub emptied-here : IsTopology book.case.topology → (interval : ℕ)
+      → ((earlier : ℕ) → earlier < interval → IsEmptied book.case book.history earlier)
+      → ((asked : Request) → MayAskPurge book.case.topology node interval 1 (floor_of run) asked → ⊥)
+      → IsEmptied book.case book.history interval
+  emptied-here rules interval emptied none row lies = by_case (none_or_seen book.case run order)
     where
+      by_place : (first : RowName) → IsFirstRow book.case run order first → (row_of book.case.topology run row).seen ≢ [] → (j : ℕ)
+          → interval_of book.case.topology first ≡ Some j → (j < interval) ⊎ (interval ≤ j) → (interval < j) ⊎ (j ≤ interval) → ⊥
+      by_place first is some j at_j (inl less) after = is.0 (emptied j less first at_j)
+      by_place first is some j at_j (inr le) (inl less) =
+          intervals-rise book.case.topology interval j row first (are-intervals book.case.topology rules) lies at_j less (is.1 row some)
+      by_place first is some j at_j (inr le) (inr ge) =
+          let one = first-asked first is in
+          let same : one.0 ≡ interval = let e = some_same one.0 j (sym one.1 ∙ at_j) in omega (arith, le, ge, e) in
+          none one.2 (subst (λ (i : ℕ). MayAskPurge book.case.topology node i 1 (floor_of run) one.2) same one.3)
+
+      by_list : (first : RowName) → IsFirstRow book.case run order first → (ids : List RecordId)
+          → (row_of book.case.topology run row).seen ≡ ids → (row_of book.case.topology run row).seen ≡ []
+      by_list first is [] same = same
+      by_list first is (id ∷ ids) same =
+          let there = interval-found book.case.topology first (seen-part book.case book.history first legal is.0) in
+          absurd (by_place first is (λ e. let wrong = sym same ∙ e in cc) there.0 there.1 (cases_lt there.0 interval)
+          (cases_lt interval there.0))
+
       by_case : ((row : RowName) → (row_of book.case.topology run row).seen ≡ []) ⊎ ((row : RowName) × IsFirstRow book.case run order row)
-          → (row : RowName) → (row_of book.case.topology run row).seen ≡ []
-      by_case (inl all) = all
-      by_case (inr (row, first)) =
-          let asked = first-asked row first in
-          absurd (none asked.0 (interval-counted book.case.topology row asked.0 asked.1) asked.2 asked.3)
+          → (row_of book.case.topology run row).seen ≡ []
+      by_case (inl all) = all row
+      by_case (inr (first, is)) = by_list first is (row_of book.case.topology run row).seen refl
 
   -- the row that an interval is asked to purge is the first of all, where none before it may be asked
   pub asked-first : IsTopology book.case.topology → (interval : ℕ)
-      → ((earlier : ℕ) → earlier < interval → (asked : Request) → MayAskPurge book.case.topology node earlier 1 (floor_of run) asked → ⊥)
+      → ((earlier : ℕ) → earlier < interval → IsEmptied book.case book.history earlier)
       → (asked : Request) → (may : MayAskPurge book.case.topology node interval 1 (floor_of run) asked)
       → IsFirstRow book.case run order may.name
-  asked-first rules interval none asked may = (has, by_case (none_or_seen book.case run order))
+  asked-first rules interval emptied asked may = (has, by_case (none_or_seen book.case run order))
     where
       shape : Shape
       shape = book.case.topology
@@ -289,14 +301,11 @@ module _ (book : BookView) (node : NodeView) (at : IsAtWork book node) (told : I
       -- the first of all is in the row's interval
       by_place : (row : RowName) → IsFirstRow book.case run order row → (other : RowName) → (row_of shape run other).seen ≢ []
           → (j : ℕ) → interval_of shape row ≡ Some j → (j < interval) ⊎ (interval ≤ j) → (interval < j) ⊎ (j ≤ interval)
-          → ((asked : Request) → MayAskPurge shape node j 1 (floor_of run) asked → j < interval → ⊥) → is_gt (row_cmp may.name other) ≡ false
-      by_place row first other some j lies (inl less) after earlier =
-          let one = first-asked row first in
-          let same : one.0 ≡ j = some_same one.0 j (sym one.1 ∙ lies) in
-          absurd (earlier one.2 (subst (λ (i : ℕ). MayAskPurge shape node i 1 (floor_of run) one.2) same one.3) less)
-      by_place row first other some j lies (inr le) (inl less) earlier =
+          → is_gt (row_cmp may.name other) ≡ false
+      by_place row first other some j lies (inl less) after = absurd (first.0 (emptied j less row lies))
+      by_place row first other some j lies (inr le) (inl less) =
           absurd (intervals-rise shape interval j may.name row (are-intervals shape rules) may.of_interval lies less (first.1 may.name has))
-      by_place row first other some j lies (inr le) (inr ge) earlier =
+      by_place row first other some j lies (inr le) (inr ge) =
           let same : interval ≡ j = omega (arith, le, ge) in
           let within : interval_of shape row ≡ Some interval = lies ∙ ap Some (sym same) in
           let on : held_on shape node.held row ≡ Some may.may.held =
@@ -315,24 +324,22 @@ module _ (book : BookView) (node : NodeView) (at : IsAtWork book node) (told : I
       by_case (inr (row, first)) other some =
           let lies = interval-found shape row (seen-part book.case book.history row legal first.0) in
           by_place row first other some lies.0 lies.1 (cases_lt lies.0 interval) (cases_lt interval lies.0)
-          (λ a m less. none lies.0 less a m)
 
 -- a last purge is a turn
 pub purge-turned : (old new : BookView) (node : NodeView) (interval : ℕ) (more : Bool) → IsAtWork old node
     → IsLawful old.case (core_of old) → IsSettled old.case old.history → (IsSome old.rows → IsQuiet old.case old.history)
     → (IsSome old.rows → IsInjected old.case old.history)
-    → (IsSome old.rows → (earlier : ℕ) → earlier < interval → (asked : Request)
-    → MayAskPurge old.case.topology node earlier 1 (floor_of (run_of old.case.topology old.history)) asked → ⊥)
+    → (IsSome old.rows → (earlier : ℕ) → earlier < interval → IsEmptied old.case old.history earlier)
     → HasAskedOne old new (MayAskPurge old.case.topology node interval 1 (floor_of (run_of old.case.topology old.history))) more
     → HasTurned old new more
-purge-turned old new node interval more at lawful settled quiet injected none done = by_asked done.asked done.done done.may
+purge-turned old new node interval more at lawful settled quiet injected emptied done = by_asked done.asked done.done done.may
   where
     by_asked : (asked : Option Request) → HasAsked old new asked more
         → IfSome asked (MayAskPurge old.case.topology node interval 1 (floor_of (run_of old.case.topology old.history)))
         → HasTurned old new more
     by_asked None done may = turned-asked old new None more done (λ told. tt)
     by_asked (Some asked) done may = turned-asked old new (Some asked) more done (λ told from claimed.
-        let first = asked-first old node at told lawful settled lawful.runnable.topology interval (none told) asked may in
+        let first = asked-first old node at told lawful settled lawful.runnable.topology interval (emptied told) asked may in
         subst (λ (a : Request). IsNextEntry old.case from old.history a.entry) (sym may.may.request) (inr (record {
           earlier = record {
             earlier = record {
@@ -346,13 +353,26 @@ purge-turned old new node interval more at lawful settled quiet injected none do
           to_floor = refl;
         })))
 
--- a drain is at its end where no interval has a row to purge
-pub purge-ended : (book : BookView) (node : NodeView) → IsAtWork book node → IsLawful book.case (core_of book) → IsSome book.rows
+-- and where it writes none, no row of the interval has seen ids
+pub purge-emptied : (old new : BookView) (node : NodeView) (interval : ℕ) (more : Bool) → IsAtWork old node
+    → IsLawful old.case (core_of old) → IsSettled old.case old.history → IsSome old.rows
+    → ((earlier : ℕ) → earlier < interval → IsEmptied old.case old.history earlier)
+    → HasAskedOne old new (MayAskPurge old.case.topology node interval 1 (floor_of (run_of old.case.topology old.history))) more
+    → more ≡ false → IsEmptied old.case old.history interval
+purge-emptied old new node interval more at lawful settled told emptied done none_more =
+    emptied-here old node at told lawful settled lawful.runnable.topology interval emptied
+    (done.none (by_none done.asked (done.done.is_more ∙ none_more)))
+  where
+    by_none : (asked : Option Request) → is_some asked ≡ false → asked ≡ None
+    by_none None e = refl
+    by_none (Some a) e = absurd (cc)
+
+-- a drain is at its end where no row of any interval has seen ids
+pub purge-ended : (book : BookView) → IsLawful book.case (core_of book) → IsSome book.rows
     → IsSettled book.case book.history → IsQuiet book.case book.history → IsInjected book.case book.history
-    → ((interval : ℕ) → interval < interval_count book.case.topology → (asked : Request)
-    → MayAskPurge book.case.topology node interval 1 (floor_of (run_of book.case.topology book.history)) asked → ⊥)
+    → ((interval : ℕ) → interval < interval_count book.case.topology → IsEmptied book.case book.history interval)
     → IsEndOf book.case book.history
-purge-ended book node at lawful told settled quiet injected none from claimed = record {
+purge-ended book lawful told settled quiet injected emptied from claimed = record {
   earlier = record {
     earlier = record {
       earlier = record { claimed = claimed; none_pending = settled };
@@ -360,5 +380,14 @@ purge-ended book node at lawful told settled quiet injected none from claimed = 
     };
     none_left = injected;
   };
-  none_seen = none-seen-asked book node at told lawful settled none;
+  none_seen = λ row. by_list row (row_of book.case.topology (run_of book.case.topology book.history) row).seen refl;
 }
+  where
+    by_list : (row : RowName) (ids : List RecordId) → (row_of book.case.topology (run_of book.case.topology book.history) row).seen ≡ ids
+        → (row_of book.case.topology (run_of book.case.topology book.history) row).seen ≡ []
+    by_list row [] is = is
+    by_list row (id ∷ ids) is =
+        let legal = (lawful-rows book.case book.history book.rows told lawful.held).0 in
+        let there = interval-found book.case.topology row
+        (seen-part book.case book.history row legal (λ e. let wrong = sym is ∙ e in cc)) in
+        emptied there.0 (interval-counted book.case.topology row there.0 there.1) row there.1

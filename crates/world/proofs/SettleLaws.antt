@@ -22,15 +22,20 @@ use Rattle.run_history.proofs.Fitting.{each-passes}
 use Rattle.history_laws.proofs.FinishedLaws.{finished-handled}
 use Rattle.history_laws.proofs.IdLaws.{same_id-true}
 use Rattle.history_laws.proofs.SentLaws.{pending-as_made}
-use Rattle.book.specs.Books.{BookView}
+use Rattle.history_laws.specs.Ids.{IsMadeOn}
+use Rattle.history_laws.proofs.SenderLaws.{pending-on}
+use Rattle.history_laws.proofs.PrintLaws.{legal-on_parts}
+use Rattle.book.specs.Books.{BookView, core_of}
+use Rattle.book.specs.Lawful.{IsLawful}
 use Rattle.book.specs.Senders.{IsLeastSent}
 use Rattle.holdings.specs.Holding.{HeldView, held_at, held_on, row_held}
 use Rattle.node.specs.Asking.{HasToForget, MayAskForget, Request, forgetting, settle_asked, settling}
-use Rattle.node.specs.Messages.{IsComputation}
+use Rattle.node.specs.Messages.{IsComputation, IsSentFrom}
 use Rattle.node.specs.Workers.{NodeView}
 use Rattle.world.specs.Drains.{HasClaimedAll, IsNextEntry, IsToHandle, is_full}
-use Rattle.world.specs.Turns.{HasAsked, HasAskedOne, HasHandled, HasStepped, HasTurned, IsAtWork, IsNextIn, WhereTold, is_finished_at, sent_at}
-use Rattle.world.proofs.TurnLaws.{stepped-on}
+use Rattle.world.specs.Turns.{HasAsked, HasAskedOne, HasHandled, HasStepped, HasTurned, IsAtWork, IsNextIn, IsToSettle, WhereTold, is_finished_at, sent_at}
+use Rattle.world.proofs.LawfulRows.{lawful-rows}
+use Rattle.world.proofs.ThereLaws.{row-there}
 use Rattle.world.proofs.KnownLaws.{held-on-is, held-there, row-known}
 
 -- ---- what was asked for
@@ -267,21 +272,93 @@ forget-none old new node name more at told there none_more done =
           request = refl;
         }))
 
+-- whether a record that was made is finished in its row, as that is held, is whether it is handled
+pub finished-made : (book : BookView) (node : NodeView) (d : Delivery) → IsAtWork book node → IsSome book.rows
+    → IsLegal book.case book.history → d.to.part < parts_of book.case.topology
+    → found_delivery d.id (run_of book.case.topology book.history).made ≡ Some d
+    → is_finished_at book.case.topology node d ≡ is_handled d.id book.history
+finished-made book node d at told legal there made =
+    let shape = book.case.topology in
+    let held = held-there book node d.to at there in
+    ap (λ (o : Option HeldView). option_map_or (λ (h : HeldView). is_finished d.id (row_held shape h d.to)) o false) held.1
+    ∙ ap (is_finished d.id) (row-known book node d.to held.0 at told held.1)
+    ∙ finished-handled book.case book.history d legal made
+
 -- that a record was handled is a turn
-pub handle-turned : (start old new : BookView) (node : NodeView) (sender : RowName) (d : Delivery) (more : Bool) → IsAtWork start node
-    → HasStepped start old None
-    → sent_at start.case.topology node sender d.id ≡ Some d
-    → IsLeastSent start.case.topology (run_of start.case.topology start.history) d.id sender
-    → (IsSome start.rows → is_handled d.id start.history ≡ false)
-    → (IsSome start.rows → let run = run_of start.case.topology start.history in
-    is_full run (row_of start.case.topology run d.to) ≡ false)
-    → HasHandled old new d more → HasTurned start new more
-handle-turned start old new node sender d more at stayed sent least left room done = record {
+pub handle-turned : (old new : BookView) (sender : RowName) (d : Delivery) (more : Bool)
+    → IsLeastSent old.case.topology (run_of old.case.topology old.history) d.id sender
+    → (IsSome old.rows → IsToSettle old.case old.history sender d) → HasHandled old new d more → HasTurned old new more
+handle-turned old new sender d more least settles done = record {
   own = Some (entries.Handle done.seq d.to d.id done.effects);
-  stepped = stepped-on start old new (Some (entries.Handle done.seq d.to d.id done.effects)) stayed done.stepped;
+  stepped = done.stepped;
   is_more = sym done.is_more;
   next = λ told from claimed. record {
-    waits = to-handle start node sender d at told sent least (left told) from claimed;
-    room = room told;
+    waits = record {
+      earlier = claimed;
+      sender = sender;
+      least = least;
+      delivery = d;
+      sent = (settles told).pending;
+      to_row = refl;
+      unhandled = (settles told).left;
+    };
+    room = (settles told).room;
   };
+}
+
+-- its record was sent from that row
+pub settles-sent : (case : CaseShape) (history : List Entry) (sender : RowName) (d : Delivery) → IsToSettle case history sender d
+    → IsSentFrom case history sender d
+settles-sent case history sender d is = record {
+  made = pending-as_made case.topology history sender d.id d is.pending;
+  on_sender = find-each (IsMadeOn history sender) (λ (e : Delivery). same_id e.id d.id)
+      (row_of case.topology (run_of case.topology history) sender).pending d ((pending-on case.topology history).each sender) is.pending;
+}
+
+-- what is to be settled is not finished, where that is told
+pub settles-left : (book : BookView) (node : NodeView) (sender : RowName) (d : Delivery) → IsAtWork book node
+    → IsLawful book.case (core_of book) → IsSome book.rows → d.to.part < parts_of book.case.topology
+    → IsToSettle book.case book.history sender d → is_finished_at book.case.topology node d ≡ true → ⊥
+settles-left book node sender d at lawful told there is finished =
+    both_ways (is_finished_at book.case.topology node d)
+    (finished-made book node d at told (lawful-rows book.case book.history book.rows told lawful.held).0 there
+    (pending-as_made book.case.topology book.history sender d.id d is.pending) ∙ is.left) finished
+
+-- ---- the sender
+
+-- a row in which an id is pending is of a part that is there, where that is told
+pub sender-there : (book : BookView) (sender : RowName) (id : RecordId) → IsLawful book.case (core_of book) → IsSome book.rows
+    → IsLeastSent book.case.topology (run_of book.case.topology book.history) id sender → sender.part < parts_of book.case.topology
+sender-there book sender id lawful told least =
+    let legal = (lawful-rows book.case book.history book.rows told lawful.held).0 in
+    (legal-on_parts book.case book.history legal).rows sender
+    (row-there book.case.topology (run_of book.case.topology book.history) sender
+    (λ is. let some = subst (λ (c : Contents). IsSome (found_delivery id c.pending)) is least.pending in cc))
+
+-- ---- the whole
+
+-- what is known of the least id, once its record is found in its sender's row
+pub record IsFound (book : BookView) (node : NodeView) (sender : RowName) (d : Delivery) : Type 0 where
+  pub at_work : IsAtWork book node
+  pub lawful : IsLawful book.case (core_of book)
+  pub part : sender.part < parts_of book.case.topology
+  pub least : IsLeastSent book.case.topology (run_of book.case.topology book.history) d.id sender
+  pub sent : sent_at book.case.topology node sender d.id ≡ Some d
+
+-- whether it is handled is whether it is finished
+pub found-handled : (book : BookView) (node : NodeView) (sender : RowName) (d : Delivery) → IsFound book node sender d → (b : Bool)
+    → is_finished_at book.case.topology node d ≡ b → IsSome book.rows → is_handled d.id book.history ≡ b
+found-handled book node sender d is b finished told =
+    sym (finished-is book node sender d is.at_work told (lawful-rows book.case book.history book.rows told is.lawful.held).0
+    (sent-to book node sender d.id d is.at_work is.part is.sent).there is.sent) ∙ finished
+
+-- it is to be settled where it is not finished and its row has no ids to forget
+pub found-settles : (old new : BookView) (node : NodeView) (sender : RowName) (d : Delivery) → IsFound old node sender d
+    → is_finished_at old.case.topology node d ≡ false
+    → HasAskedOne old new (MayAskForget old.case.topology node 64 (floor_of (run_of old.case.topology old.history)) d.to) false
+    → IsSome old.rows → IsToSettle old.case old.history sender d
+found-settles old new node sender d is left done told = record {
+  pending = sent-pending old node sender d.id d is.at_work told is.sent;
+  left = found-handled old node sender d is false left told;
+  room = forget-none old new node d.to false is.at_work told (sent-to old node sender d.id d is.at_work is.part is.sent).there refl done;
 }

@@ -312,6 +312,15 @@ failed-memory old new looked = record {
   damaged = tt;
 }
 
+-- a want of memory where nothing was done
+pub failed-not : (book : BookView) (why : NodeFault) → why ≡ faults.NoMemory → HasFailed book book why
+failed-not book why is = subst (HasFailed book book) (sym is) (record {
+  stepped = stepped-not book;
+  keeper = λ e. absurd (cc);
+  full = λ e. absurd (cc);
+  damaged = tt;
+})
+
 -- where no row is said to be damaged none is
 no-damage : (desk : DeskView) (why : NodeFault) → IsNoDamage (refusal_of why) → IsDamageOf desk (refusal_of why)
 no-damage desk faults.HistoryFull none = tt

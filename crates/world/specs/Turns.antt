@@ -17,9 +17,9 @@ use Rattle.row_parts.specs.Contents.{IsId, is_finished}
 use Rattle.run_history.specs.Cases.{CaseShape, intervals_of, source_of}
 use Rattle.run_history.specs.Made.{found_delivery}
 use Rattle.run_history.specs.Watermarks.{cursor_in, least, low_watermark}
-use Rattle.run_history.specs.Runs.{run_of}
-use Rattle.run_history.specs.Finished.{all_pending, injectors_left}
-use Rattle.run_history.specs.Fences.{Begins, IsCurrent}
+use Rattle.run_history.specs.Runs.{row_of, run_of}
+use Rattle.run_history.specs.Finished.{all_pending, injectors_left, is_handled}
+use Rattle.run_history.specs.Fences.{Begins, IsCurrent, interval_of}
 use Rattle.watermark.specs.Marks.{marks_of}
 use Rattle.book.specs.Books.{BookView}
 use Rattle.book.specs.DeskReasons.{IsDamageOf}
@@ -34,7 +34,7 @@ use Rattle.node.specs.declared.outcome.NodeFault.TheVariants as faults
 use Rattle.node.specs.declared.outcome.Outcome.{Outcome}
 use Rattle.node.specs.declared.outcome.Outcome.TheVariants as outcomes
 use Rattle.world.specs.Passes.{with_report}
-use Rattle.world.specs.Drains.{HasClaimedAll, HasEnded, IsDraining, IsDue, IsNextEntry}
+use Rattle.world.specs.Drains.{HasClaimedAll, HasEnded, IsDraining, IsDue, IsNextEntry, is_full}
 
 -- ---- how a book goes on
 
@@ -170,6 +170,11 @@ IsQuietAt case history part = (row : RowName) (timer : Timer) →
 abbrev pub IsQuiet : CaseShape → List Entry → Type 0
 IsQuiet case history = (row : RowName) (timer : Timer) → IsDue case (run_of case.topology history) row timer → ⊥
 
+-- no row of an interval has seen ids
+abbrev pub IsEmptied : CaseShape → List Entry → ℕ → Type 0
+IsEmptied case history interval = (row : RowName) → interval_of case.topology row ≡ Some interval →
+    (row_of case.topology (run_of case.topology history) row).seen ≡ []
+
 -- no injector has a line left
 abbrev pub IsInjected : CaseShape → List Entry → Type 0
 IsInjected case history = injectors_left case (run_of case.topology history) ≡ []
@@ -250,3 +255,11 @@ pub record HasHandled (old new : BookView) (delivery : Delivery) (more : Bool) :
   pub seq : ℕ
   pub effects : Effects
   pub stepped : HasStepped old new (Some (entries.Handle seq delivery.to delivery.id effects))
+
+-- a record that a row has pending is to be handled next: it is not handled, and its row is not full
+pub record IsToSettle (case : CaseShape) (history : List Entry) (sender : RowName) (delivery : Delivery) : Type 0 where
+  pub pending : let run = run_of case.topology history in
+      found_delivery delivery.id (row_of case.topology run sender).pending ≡ Some delivery
+  pub left : is_handled delivery.id history ≡ false
+  pub room : let run = run_of case.topology history in
+      is_full run (row_of case.topology run delivery.to) ≡ false

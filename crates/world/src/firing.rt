@@ -6,6 +6,8 @@ ghost use Rattle.run_history.specs.Runs.{run_of};
 ghost use Rattle.node.specs.Works.{IsWorkOf};
 ghost use Rattle.node.specs.Messages.{IsComputation};
 ghost use Rattle.run_history.specs.Watermarks.{least};
+ghost use Rattle.book.specs.Books.{core_of};
+ghost use Rattle.book.specs.Lawful.{IsLawful};
 ghost use Rattle.watermark.specs.Marks.{marks_of};
 ghost use Rattle.node.specs.Asking.{MayAskFire};
 ghost use Rattle.world.specs.Passes.{pass_of};
@@ -53,6 +55,8 @@ fn report<'a, K: Keeper>(
     ensures failed { IfErr result (HasFailed book.old book.new) }
 {
     let case = book.case();
+    // Every topology keeps the rules that intervals need.
+    let _parts = case.topology.parts();
     let mut desk = OwnDesk { book };
     node.report(alloc, &mut desk, case, interval)?;
     Ok(())
@@ -76,6 +80,8 @@ pub(crate) fn fire_first<'a, K: Keeper, C: Computation>(
         WhereTold book.old (IsQuiet book.old.case book.old.history)) }
     ensures failed { IfErr result (HasFailed book.old book.new) }
 {
+    // Its clauses say what always holds of a book.
+    book.history();
     let case = book.case();
     for part in case.topology.injectors()..case.topology.parts() {
         if fire(alloc, book, work, node, part)? {
@@ -100,10 +106,13 @@ fn fire<'a, K: Keeper, C: Computation>(
     ensures asked { let case = book.old.case in
         let mark = least (marks_of case.topology part book.old.marks) in
         IfOk result (HasAskedOne book.old book.new (MayAskFire case node.old part mark)) }
-    ensures marks { book.new.marks ≡ book.old.marks }
+    ensures lawful { IsLawful book.old.case (core_of book.old) }
+    ensures marks { OnOk result (book.new.marks ≡ book.old.marks) }
     ensures at_work { OnOk result (IsAtWork book.new node.new) }
     ensures failed { IfErr result (HasFailed book.old book.new) }
 {
+    // Its clauses say what always holds of a book.
+    book.history();
     let case = book.case();
     let mut desk = OwnDesk { book };
     let outcome = node.fire(alloc, &mut desk, case, work, part)?;

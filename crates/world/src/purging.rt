@@ -2,6 +2,8 @@
 ghost use Rattle.std.specs.Prelude.{◌≡◌, ◌<◌, ◌≤◌, ◌+◌, ℕ, IfErr, IfOk, OnOk, None, true, false, length};
 ghost use Rattle.topology.specs.Rules.{interval_count};
 ghost use Rattle.run_history.specs.Legal.{floor_of};
+ghost use Rattle.book.specs.Books.{core_of};
+ghost use Rattle.book.specs.Lawful.{IsLawful};
 ghost use Rattle.run_history.specs.Runs.{run_of};
 ghost use Rattle.node.specs.Asking.{MayAskPurge};
 ghost use Rattle.world.specs.Turns.{HasAskedOne, HasFailed, HasTurned, IsAtWork, IsEndOf, IsInjected, IsQuiet, IsSettled, WhereTold};
@@ -28,6 +30,8 @@ pub(crate) fn purge_first<'a, K: Keeper>(
         WhereTold book.old (IsEndOf book.old.case book.old.history)) }
     ensures failed { IfErr result (HasFailed book.old book.new) }
 {
+    // Its clauses say what always holds of a book.
+    book.history();
     let case = book.case();
     for interval in 0..case.intervals().count() {
         if purge(alloc, book, node, interval)? {
@@ -50,9 +54,12 @@ fn purge<'a, K: Keeper>(
         let floor = floor_of (run_of shape book.old.history) in
         IfOk result (HasAskedOne book.old book.new
         (MayAskPurge shape node.old interval 1 floor)) }
+    ensures lawful { IsLawful book.old.case (core_of book.old) }
     ensures at_work { OnOk result (IsAtWork book.new node.new) }
     ensures failed { IfErr result (HasFailed book.old book.new) }
 {
+    // Its clauses say what always holds of a book.
+    book.history();
     let case = book.case();
     let mut desk = OwnDesk { book };
     let outcome = node.purge(alloc, &mut desk, case, interval, 1)?;

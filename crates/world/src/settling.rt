@@ -14,7 +14,7 @@ ghost use Rattle.run_history.specs.Legal.{floor_of};
 ghost use Rattle.run_history.specs.Finished.{is_handled};
 ghost use Rattle.row_parts.specs.Contents.{same_id};
 ghost use Rattle.node.specs.Asking.{MayAskForget, settle_asked};
-ghost use Rattle.world.specs.Turns.{CanBeKept, HasAsked, HasAskedOne, HasFailed, HasHandled, HasTurned, IsAtWork, WhereTold, is_committed, is_finished_at, sent_at};
+ghost use Rattle.world.specs.Turns.{CanBeKept, HasAsked, HasAskedOne, HasFailed, HasHandled, HasTurned, IsAtWork, IsToSettle, WhereTold, is_committed, is_finished_at, sent_at};
 
 use book::{Book, OwnDesk};
 use computations::Computation;
@@ -44,6 +44,8 @@ pub(crate) fn settle<'a, K: Keeper, C: Computation>(
     ensures more { IfOk result (λ more. WhereTold book.old (more ≡ true)) }
     ensures failed { IfErr result (HasFailed book.old book.new) }
 {
+    // Its clauses say what always holds of a book.
+    book.history();
     let case = book.case();
     if case.topology.parts() <= sender.part {
         return Ok(false);
@@ -76,12 +78,45 @@ fn settle_sent<'a, K: Keeper, C: Computation>(
     ensures at_work { OnOk result (IsAtWork book.new node.new) }
     ensures failed { IfErr result (HasFailed book.old book.new) }
 {
+    // Its clauses say what always holds of a book.
+    book.history();
     let case = book.case();
     if is_finished(case, node, &delivery) {
         return acknowledge(alloc, book, node, sender, delivery.id);
     }
     if forget(alloc, book, node, &delivery.to)? {
         return Ok(true);
+    }
+    handle_left(alloc, book, work, node, sender, delivery)
+}
+
+// Handles a record that is not finished in its row.
+fn handle_left<'a, K: Keeper, C: Computation>(
+    alloc: Global,
+    book: &mut Book<'a, K>,
+    work: &C,
+    node: &mut Node<u64>,
+    sender: RowName,
+    delivery: Delivery,
+) -> Result<bool, NodeFault>
+    requires work { IsWorkOf book.old.case.topology (C.has work.now)
+        (C.gives_record work.now) (C.gives_timer work.now) }
+    requires at_work { IsAtWork book.old node.old }
+    requires deliverable { IsDeliverable book.old.case.topology delivery sender }
+    requires least { let shape = book.old.case.topology in
+        IsLeastSent shape (run_of shape book.old.history) delivery.id sender }
+    requires settles { WhereTold book.old
+        (IsToSettle book.old.case book.old.history sender delivery) }
+    ensures turned { IfOk result (HasTurned book.old book.new) }
+    ensures more { IfOk result (λ more. WhereTold book.old (more ≡ true)) }
+    ensures at_work { OnOk result (IsAtWork book.new node.new) }
+    ensures failed { IfErr result (HasFailed book.old book.new) }
+{
+    // Its clauses say what always holds of a book.
+    book.history();
+    // Only over a keeper whose rows no contract can see.
+    if is_finished(book.case(), node, &delivery) {
+        return Ok(false);
     }
     handle(alloc, book, work, node, sender, delivery)
 }

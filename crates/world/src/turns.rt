@@ -78,6 +78,8 @@ fn go_on<'a, K: Keeper, C: Computation>(
         WhereTold book.old (IsEndOf book.old.case book.old.history)) }
     ensures failed { IfErr result (HasFailed book.old book.new) }
 {
+    // Its clauses say what always holds of a book.
+    book.history();
     report_all(alloc, book, node)?;
     if fire_first(alloc, book, work, node)? {
         return Ok(true);

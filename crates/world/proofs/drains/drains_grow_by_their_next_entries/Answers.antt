@@ -1,4 +1,9 @@
 use Rattle.world.proofs.ReportLaws.{reports-all}
+use Rattle.world.proofs.Results.{ok-then}
+use Rattle.world.proofs.SettleLaws.{found-settles}
+use Rattle.world.proofs.FireLoop.{firing-quiet}
+use Rattle.world.proofs.PurgeLoop.{purging-ended}
+use Rattle.world.proofs.ReportLaws.{reports-all}
 use Rattle.world.proofs.CallLaws.{handle-call}
 use Rattle.world.proofs.SettleLaws.{handle-turned}
 use Rattle.world.proofs.GoLaws.{passed-exact}
