@@ -1,5 +1,5 @@
 -- What a row that is held tells of a record: it is finished there only where it was handled.
-use Rattle.std.proofs.Common.{◌≡◌, ◌∙◌, ◌<◌, ◌≤◌, ◌+◌, ℕ, Bool, true, false, List, [], ◌∷◌, ◌++◌, append_assoc, fold, length, refl, sym, ap, subst, arith}
+use Rattle.std.proofs.Common.{◌≡◌, ◌∙◌, ◌≤◌, ◌+◌, ℕ, true, List, [], ◌∷◌, ◌++◌, append_assoc, fold, refl, sym, ap, subst, arith}
 use Rattle.std.specs.Prelude.{IfSome, Option, Some, None}
 use Rattle.std.specs.List.{AllByRecursion}
 use Rattle.std.proofs.lemmas.List.{append-nil}
@@ -19,7 +19,6 @@ use Rattle.run_history.proofs.Lists.{each-append, each-weaker, find-behind, find
 use Rattle.history_laws.proofs.Along.{AreLegal-apart, run_of-append}
 use Rattle.history_laws.proofs.FinishedLaws.{finished-handled, is_handled-more, unmade-unfinished}
 use Rattle.history_laws.proofs.FloorLaws.{floor_of-below}
-use Rattle.history_laws.proofs.IdLaws.{next-length}
 use Rattle.history_laws.proofs.Made.{each_of_commit}
 use Rattle.history_laws.proofs.SeenLaws.{found-more}
 use Rattle.book.specs.Desks.{DeskView, IsSound}

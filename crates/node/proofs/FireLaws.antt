@@ -175,7 +175,7 @@ first-more intervals all part count b one other at so_far here =
     ]
 
 -- the part of a row that lies in an interval
-lies-part : (shape : Shape) (i : ℕ) (name : RowName) (b : Bounds) → interval_of shape name ≡ Some i
+pub lies-part : (shape : Shape) (i : ℕ) (name : RowName) (b : Bounds) → interval_of shape name ≡ Some i
     → slice_get (intervals_of shape) i ≡ Some b → b.part ≡ name.part
 lies-part shape i name b lies at =
     let has = interval_of-has shape i name lies in

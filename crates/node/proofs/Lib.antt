@@ -1,5 +1,6 @@
 pub mod FirstLaws
 pub mod FitLaws
+pub mod LineLaws
 pub mod LookLaws
 pub mod MarkLaws
 pub mod OutLaws
@@ -10,6 +11,7 @@ pub mod RefusedLaws
 pub mod ReportLaws
 pub mod SendLaws
 pub mod StateLaws
+pub mod SweepLaws
 pub mod CommitLaws
 pub mod CopyLaws
 pub mod ReceiveLaws

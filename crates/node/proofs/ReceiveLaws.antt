@@ -1,6 +1,6 @@
 -- What a node makes of a message that comes.
-use Rattle.std.proofs.Common.{◌≡◌, ◌∙◌, Bool, true, false, List, [], ◌∷◌, ◌++◌, refl, sym, ap, subst}
-use Rattle.std.specs.Prelude.{All, IfSome, Option, Some, None, if◌then◌else◌}
+use Rattle.std.proofs.Common.{◌≡◌, ◌∙◌, true, false, List, [], ◌∷◌, ◌++◌, refl, sym, ap, subst}
+use Rattle.std.specs.Prelude.{IfSome, Option, Some, None, if◌then◌else◌}
 use Rattle.std.proofs.lemmas.List.Elements.{All-append, All-from_recursion}
 use Rattle.std.specs.Option.{is_some, option_map_or}
 use Rattle.mw_types.specs.Outcomes.{Outcome as Effects}
@@ -15,9 +15,9 @@ use Rattle.book.specs.Desks.{DeskView, HasLooked, HasMet, IsSound, Sight}
 use Rattle.book.specs.declared.proposal.Proposal.TheVariants as proposals
 use Rattle.holdings.specs.Holding.{HeldView, held_on, row_held}
 use Rattle.node.specs.Answers.{received, taken_in}
-use Rattle.node.specs.Fits.{Fits, IsWork}
+use Rattle.node.specs.Fits.{Fits}
 use Rattle.node.specs.Messages.{IsDeliverable, IsOutgoing, IsSoBy, IsSoIn, IsVouchedFor}
-use Rattle.node.specs.Workers.{NodeView, Worker, WorkView, worker_at}
+use Rattle.node.specs.Workers.{NodeView, Worker, worker_at}
 use Rattle.node.specs.declared.outcome.Outcome.{Outcome}
 use Rattle.node.specs.declared.outcome.Outcome.TheVariants as outcomes
 use Rattle.node.specs.declared.outgoing.Outgoing.{Outgoing}

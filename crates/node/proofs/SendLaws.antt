@@ -1,6 +1,6 @@
 -- What an entry makes, as messages from its row.
 use Rattle.std.proofs.Common.{◌≡◌, ◌∙◌, ◌<◌, ◌≤◌, ◌+◌, ◌^◌, ◌&&◌, ℕ, Bool, true, List, [], ◌∷◌, ◌++◌, length, map, refl, sym, ap, subst, arith}
-use Rattle.std.specs.Prelude.{All, IfSome, Option, Some, None, nat_lt, nat_le, slice_get}
+use Rattle.std.specs.Prelude.{All, IfSome, Option, Some, nat_lt, nat_le, slice_get}
 use Rattle.std.specs.List.{AllByRecursion, enumerate_from, flat_map, list_all}
 use Rattle.std.specs.Option.{option_map_or}
 use Rattle.std.proofs.lemmas.Bool.{leb-true, ltb-true}
@@ -17,18 +17,17 @@ use Rattle.row_parts.specs.Contents.{IsId}
 use Rattle.run_history.specs.Cases.{CaseShape}
 use Rattle.run_history.specs.Fits.{is_sent_before}
 use Rattle.run_history.specs.Made.{deliveries_made, deliveries_of, delivery_at, found_delivery, late_cause, produced, productions_of, row_written, sends_of}
-use Rattle.run_history.specs.Runs.{Run, followed, run_of}
+use Rattle.run_history.specs.Runs.{Run, run_of}
 use Rattle.run_history.proofs.Beginnings.{slice_get-last}
 use Rattle.run_history.proofs.Fitting.{both}
 use Rattle.run_history.proofs.Making.{consumers_few}
 use Rattle.run_history.proofs.RunLaws.{run_of-push}
 use Rattle.history_laws.proofs.IdLaws.{each_found_delivery, made-in_order, next-length}
 use Rattle.history_laws.proofs.Made.{each_of_commit}
-use Rattle.history_laws.specs.Ids.{IsMadeOn}
 use Rattle.book.specs.Desks.{DeskView}
 use Rattle.book.proofs.SeenRows.{told-then}
 use Rattle.book.proofs.SentLaws.{sent-before, sent-ids, sent-stamps}
-use Rattle.node.specs.Messages.{IsAddressed, IsComputation, IsDeliverable, IsOutgoing, IsSentFrom}
+use Rattle.node.specs.Messages.{IsAddressed, IsComputation, IsOutgoing, IsSentFrom}
 use Rattle.node.specs.Outboxes.{numbered}
 use Rattle.node.specs.Workers.{messages_from}
 use Rattle.node.specs.declared.outgoing.Outgoing.{Outgoing}
@@ -53,7 +52,7 @@ made-numbered shape name productions late commit = renumbered-each name commit
 -- ---- where it goes
 
 -- a delivery that was made goes to a computation
-goes-there : (shape : Shape) (number : ℕ) (d : Delivery) → is_sent_before shape number d ≡ true → IsComputation shape d.to.part
+pub goes-there : (shape : Shape) (number : ℕ) (d : Delivery) → is_sent_before shape number d ≡ true → IsComputation shape d.to.part
 goes-there shape number d is =
     let first = both (nat_lt d.id.commit number && nat_le (injectors_of shape) d.to.part) (nat_lt d.to.part (parts_of shape)) is in
     let second = both (nat_lt d.id.commit number) (nat_le (injectors_of shape) d.to.part) first.0 in record {

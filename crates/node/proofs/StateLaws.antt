@@ -1,6 +1,6 @@
 -- The states of rows that are held, and what handlers make of them.
-use Rattle.std.proofs.Common.{◌≡◌, ◌∙◌, ◌<◌, ◌≤◌, ◌&&◌, ℕ, Bool, true, false, List, length, cond, refl, sym, ap, subst, arith}
-use Rattle.std.specs.Prelude.{Option, Some, None, if◌then◌else◌, nat_lt, ◌==◌}
+use Rattle.std.proofs.Common.{◌≡◌, ◌∙◌, ◌≤◌, ◌&&◌, ℕ, Bool, true, false, List, length, refl, sym, ap, subst}
+use Rattle.std.specs.Prelude.{Option, Some, None, if◌then◌else◌, ◌==◌}
 use Rattle.std.specs.List.{list_all}
 use Rattle.std.specs.Option.{option_map, option_map_or}
 use Rattle.std.proofs.lemmas.Bool.{le-ltb}
@@ -8,11 +8,11 @@ use Rattle.mw_types.specs.Outcomes.{Outcome as Effects}
 use Rattle.mw_types.specs.declared.identity.RowName.{RowName}
 use Rattle.mw_types.specs.declared.kind.Kind.{Kind}
 use Rattle.mw_types.specs.declared.record.Record.{Record}
-use Rattle.topology.specs.Shapes.{injectors_of, kind_of, parts_of}
+use Rattle.topology.specs.Shapes.{injectors_of, kind_of}
 use Rattle.computations.specs.Handlers.{effects_of_record, has_kind}
 use Rattle.row_parts.specs.Contents.{Contents}
 use Rattle.run_history.specs.Cases.{CaseShape, is_injector, source_of}
-use Rattle.run_history.specs.Fits.{fits, is_cursor_within, is_sent_before, suits_part}
+use Rattle.run_history.specs.Fits.{is_cursor_within, is_sent_before, suits_part}
 use Rattle.run_history.specs.Legal.{record_outcome}
 use Rattle.run_history.proofs.Fitting.{both}
 use Rattle.run_history.proofs.Lists.{some_same}

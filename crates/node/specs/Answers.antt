@@ -2,9 +2,12 @@
 -- Akidau et al., VLDB 2013, section 6.1 for what a worker does on receipt of a record and when it sends what
 -- it made,
 -- section 6.2 for a write under an older sequencer. Own: the other answers.
-use Rattle.std.specs.Prelude.{◌≡◌, ◌≤◌, ◌++◌, ◌∷◌, ◌⊎◌, ◌↔◌, [], ℕ, true, if◌then◌else◌, List, Option, Some, None, IfSome, length, map, slice_get, Contains, IsSorted}
+use Rattle.std.specs.Prelude.{◌≡◌, ◌≤◌, ◌++◌, ◌∷◌, ◌⊎◌, ◌↔◌, [], ℕ, true, if◌then◌else◌, List, Option, Some, None, IfSome, length, map, slice_get, Contains}
+use Rattle.std.specs.declared.cmp.Ordering.{Ordering}
+use Rattle.std.specs.List.Sorted.{IsStrictlySortedBy}
 use Rattle.std.specs.Option.{is_some, option_map_or, option_to_list}
-use Rattle.mw_types.specs.Orders.{id_cmp}
+use Rattle.std.specs.Ordering.{ordering_then}
+use Rattle.mw_types.specs.Orders.{id_cmp, row_cmp}
 use Rattle.mw_types.specs.declared.delivery.Delivery.{Delivery}
 use Rattle.mw_types.specs.declared.entry.Entry.{Entry}
 use Rattle.mw_types.specs.declared.entry.Entry.TheVariants as entries
@@ -12,12 +15,12 @@ use Rattle.mw_types.specs.declared.identity.RecordId.{RecordId}
 use Rattle.mw_types.specs.declared.identity.RowName.{RowName}
 use Rattle.key_intervals.specs.declared.bounds.Bounds.{Bounds}
 use Rattle.topology.specs.Shapes.{Shape}
-use Rattle.row_parts.specs.Contents.{Contents, is_finished}
+use Rattle.row_parts.specs.Contents.{is_finished}
 use Rattle.run_history.specs.Cases.{CaseShape, intervals_of}
 use Rattle.run_history.specs.Fences.{IsCurrent, IsOvertakenBy, sequencer_of}
 use Rattle.run_history.specs.Made.{deliveries_made, productions_of}
 use Rattle.run_history.specs.Marks.{own_work}
-use Rattle.run_history.specs.Runs.{cached, row_in}
+use Rattle.run_history.specs.Runs.{cached}
 use Rattle.run_history.specs.Watermarks.{least}
 use Rattle.watermark.specs.Marks.{mark_of, marks_of}
 use Rattle.book.specs.Books.{LeaseView}
@@ -27,8 +30,10 @@ use Rattle.book.specs.Desks.{DeskView, HasLooked, HasMoved}
 use Rattle.book.specs.declared.desk_refusal.DeskRefusal.{DeskRefusal}
 use Rattle.book.specs.declared.desk_refusal.DeskRefusal.TheVariants as refusals
 use Rattle.holdings.specs.Holding.{HeldView, held_at, held_on, row_held}
+use Rattle.holdings.specs.Pendings.{IsPendingIn}
+use Rattle.holdings.specs.declared.pending.Sent.{Sent}
 use Rattle.node.specs.Asking.{MayAskFire, MayAskForget, MayAskPurge, Request, settling}
-use Rattle.node.specs.Workers.{NodeView, Sending, Worker, messages_from, sends, with_lease, with_outgoing, worker_at}
+use Rattle.node.specs.Workers.{NodeView, Worker, messages_from, sends, with_lease, with_outgoing, worker_at}
 use Rattle.node.specs.declared.outcome.NodeFault.{NodeFault}
 use Rattle.node.specs.declared.outcome.NodeFault.TheVariants as faults
 use Rattle.node.specs.declared.outcome.Outcome.{Outcome}
@@ -278,25 +283,37 @@ FailsReport old new (Some held) why = IsRefused old new held.lease (refusal_of w
 
 -- ---- what is sent again
 
+-- records that are sent again stand by their ids, and those of one id by the rows that sent them
+abbrev pub again_cmp : Sent → Sent → Ordering
+again_cmp a b = ordering_then (id_cmp a.delivery.id b.delivery.id) (row_cmp a.sender b.sender)
+
 -- a record is pending in a row that is held
-pub record IsPendingHeld (all : List (Option HeldView)) (sending : Sending) : Type 0 where
+pub record IsPendingHeld (all : List (Option HeldView)) (sent : Sent) : Type 0 where
   pub interval : ℕ
   pub held : HeldView
   pub there : held_at all interval ≡ Some held
-  pub row : Contents
-  pub row_there : row_in (cached held.rows) sending.sender ≡ Some row
-  pub pending : Contains row.pending sending.delivery
+  pub pending : IsPendingIn held.rows sent
 
--- records are sent again in the order of their ids: all that is pending in rows that are held, and nothing
--- else
-pub record IsSweep (all : List (Option HeldView)) (again : List Sending) : Type 0 where
-  pub order : IsSorted (λ (a b : Sending). id_cmp a.delivery.id b.delivery.id) again
-  pub each : (sending : Sending) → Contains again sending ↔ IsPendingHeld all sending
+-- records are sent again each once, in the order of their ids: all that is pending in rows that are held, and
+-- nothing else
+pub record IsSweep (all : List (Option HeldView)) (again : List Sent) : Type 0 where
+  pub order : IsStrictlySortedBy again_cmp again
+  pub each : (sent : Sent) → Contains again sent ↔ IsPendingHeld all sent
+
+-- a record that is sent again, as a message from the row that has it pending
+abbrev pub sent_again : Sent → Outgoing
+sent_again sent = outgoing.Deliver sent.delivery sent.sender
 
 -- what a sweep leaves of a worker: its messages are last in the outbox
-pub record IsSwept (was node : NodeView) (count : ℕ) : Type 0 where
-  pub again : List Sending
+pub record IsSwept (desk : DeskView) (was node : NodeView) (count : ℕ) : Type 0 where
+  pub again : List Sent
   pub sweep : IsSweep was.held again
   pub number : count ≡ length again
-  pub left : worker_at node
-      ≡ with_outgoing (map (λ (s : Sending). outgoing.Deliver s.delivery s.sender) again) (worker_at was)
+  pub left : worker_at node ≡ with_outgoing (map sent_again again) (worker_at was)
+  -- no id stands twice, where a contract can see the keeper's rows
+  pub told : IfSome desk.told (λ _. IsStrictlySortedBy id_cmp (map (λ (s : Sent). s.delivery.id) again))
+
+-- a sweep answers how many records it sends again
+abbrev pub AnswersSweep : DeskView → NodeView → NodeView → Outcome → Type 0
+AnswersSweep desk was node (outcomes.Queued count) = IsSwept desk was node count
+AnswersSweep desk was node _ = ⊥

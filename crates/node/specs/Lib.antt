@@ -8,6 +8,7 @@ pub mod Answers
 pub mod Outboxes
 pub mod Steps
 pub mod LineSteps
+pub mod SweepSteps
 pub mod PurgeSteps
 pub mod MarkSteps
 pub mod FireSteps

@@ -1,14 +1,20 @@
 -- The steps by which a node injects the next line of an injector. No public clause cites this module.
-use Rattle.std.specs.Prelude.{◌≡◌, ◌<◌, ℕ, [], List, Option, Some, None, length, nat_lt, if◌then◌else◌}
+use Rattle.std.specs.Prelude.{◌≡◌, ◌<◌, ◌∷◌, ℕ, [], List, Option, Some, None, length, nat_lt, if◌then◌else◌}
 use Rattle.mw_types.specs.declared.delivery.Delivery.{Delivery}
-use Rattle.mw_types.specs.declared.entry.Entry.TheVariants as entries
 use Rattle.mw_types.specs.declared.identity.RowName.{RowName}
+use Rattle.mw_types.specs.declared.record.Production.{Production}
 use Rattle.mw_types.specs.declared.record.Record.{Record}
 use Rattle.topology.specs.Shapes.{Shape, injectors_of}
+use Rattle.row_parts.specs.Contents.{Contents}
 use Rattle.run_history.specs.Cases.{CaseShape, source_of}
-use Rattle.run_history.specs.Made.{deliveries_made, productions_of}
+use Rattle.run_history.specs.Made.{deliveries_made}
 use Rattle.run_history.specs.Watermarks.{cursor_in}
-use Rattle.holdings.specs.Holding.{HeldView, held_on, row_held}
+use Rattle.book.specs.Books.{LeaseView}
+use Rattle.book.specs.Desking.{HasWritten}
+use Rattle.book.specs.Desks.{DeskView}
+use Rattle.book.specs.declared.answers.Written.{Written}
+use Rattle.book.specs.declared.proposal.Proposal.TheVariants as proposals
+use Rattle.holdings.specs.Holding.{HeldView, HoldsEntry, held_on, row_held}
 use Rattle.node.specs.Asking.{line_asked}
 use Rattle.node.specs.Workers.{NodeView}
 
@@ -34,7 +40,20 @@ abbrev pub IsNextOf : CaseShape → NodeView → ℕ → Option ℕ → Type 0
 IsNextOf case node part None = line_asked case node part ≡ None
 IsNextOf case node part (Some line) = IsLineNext case node part line
 
+-- ---- a line that is injected
+
+-- a line on a row that is held, as the desk answered it
+abbrev pub HoldsLine : Shape → DeskView → DeskView → ℕ → RowName → ℕ → ℕ → List (Option HeldView) →
+    List (Option HeldView) → Type 0
+HoldsLine shape old new interval name line commit before after = HoldsEntry shape interval name commit
+    (λ (lease : LeaseView) (row : Contents) (answer : Written).
+    HasWritten old new lease name (proposals.Inject line) row answer) before after
+
+-- the record of a line, as it is produced
+abbrev pub production_of : Record → Production
+production_of item = record { key = item.key; stamp = item.stamp; value = item.value }
+
 -- what the record of an injected line becomes under a commit number
 abbrev pub line_deliveries : Shape → ℕ → Record → ℕ → List Delivery
 line_deliveries shape part item commit =
-    deliveries_made shape part (productions_of (entries.Inject 0 part 0 item)) item.late commit
+    deliveries_made shape part (production_of item ∷ []) item.late commit

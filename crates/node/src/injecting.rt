@@ -1,15 +1,17 @@
 //! Lines of injectors that are injected.
-ghost use Rattle.std.specs.Prelude.{◌≡◌, ◌<◌, ◌≤◌, ◌^◌, ℕ, All, IfErr, IfOk, OnErr, OnOk, length, map};
+ghost use Rattle.std.specs.Prelude.{◌≡◌, ◌<◌, ◌≤◌, ◌^◌, ℕ, All, IfErr, IfOk, IfSome, IsSome, OnErr, OnOk, Some, length, map};
 ghost use Rattle.mw_types.specs.declared.TheConstants.{MAX_STAMP};
 ghost use Rattle.topology.specs.Shapes.{Shape, injectors_of, parts_of};
 ghost use Rattle.run_history.specs.Cases.{source_of};
+ghost use Rattle.run_history.specs.Fences.{interval_of};
 ghost use Rattle.run_history.specs.Watermarks.{cursor_in};
 ghost use Rattle.book.specs.Desks.{HasLooked, KeepsMarks};
-ghost use Rattle.holdings.specs.Holding.{row_held};
+ghost use Rattle.book.specs.Proposals.{IsNextLine};
+ghost use Rattle.holdings.specs.Holding.{AreHeld, IsRefusedOf, KeepsHeld, held_at, row_held};
 ghost use Rattle.node.specs.Answers.{AnswersAsked, FailsAsked, HasGrown, HasKept};
 ghost use Rattle.node.specs.Asking.{line_asked};
 ghost use Rattle.node.specs.Fits.{Fits};
-ghost use Rattle.node.specs.LineSteps.{IsLineNext, IsNextOf, injector_row, line_deliveries, line_held};
+ghost use Rattle.node.specs.LineSteps.{HoldsLine, IsLineNext, IsNextOf, injector_row, line_deliveries, line_held, production_of};
 ghost use Rattle.node.specs.Messages.{IsAddressed};
 ghost use Rattle.node.specs.Outboxes.{numbered};
 ghost use Rattle.node.specs.Workers.{messages_from, worker_at};
@@ -18,8 +20,8 @@ use crate::node::Node;
 use crate::outcome::{NodeFault, Outcome};
 use crate::outgoing::Outgoing;
 use crate::sends::made;
-use book::{Desk, Proposal, Seen};
-use holdings::Held;
+use book::{Desk, DeskRefusal, Proposal, Seen};
+use holdings::{Held, Holdings};
 use mw_types::{Key, NoMemory, Production, Record, RowName, State};
 use run_history::Case;
 use std::alloc::Global;
@@ -53,7 +55,10 @@ impl<N: Seen> Node<N> {
         ensures loan { D.loan desk.new ≡ D.loan desk.old }
     {
         match self.next_line(alloc, case, part) {
-            Some(line) => self.inject_line(alloc, desk, case, part, line),
+            Some(line) => {
+                let name = injector_row(alloc, part);
+                self.inject_line(alloc, desk, case, part, &name, line)
+            }
             None => Ok(Outcome::Nothing),
         }
     }
@@ -62,8 +67,7 @@ impl<N: Seen> Node<N> {
     fn next_line(&self, alloc: Global, case: &Case, part: u32) -> Option<u32>
         ensures { IsNextOf case.now self.now part result }
     {
-        let parts = case.topology.parts();
-        if case.topology.injectors() <= part || parts <= part {
+        if case.topology.injectors() <= part {
             return None;
         }
         let name = injector_row(alloc, part);
@@ -82,9 +86,11 @@ impl<N: Seen> Node<N> {
         desk: &mut D,
         case: &Case,
         part: u32,
+        name: &RowName,
         line: u32,
     ) -> Result<Outcome, NodeFault>
         requires fits { Fits case.now (D.view desk.old) self.old }
+        requires name { name.now ≡ injector_row part }
         requires next { IsLineNext case.now self.old part line }
 
         ensures fits { Fits case.now (D.view desk.new) self.new }
@@ -102,15 +108,12 @@ impl<N: Seen> Node<N> {
         ensures marks { KeepsMarks (D.view desk.old) (D.view desk.new) }
         ensures loan { D.loan desk.new ≡ D.loan desk.old }
     {
-        let name = injector_row(alloc, part);
         let item = case.line_record(alloc, part, line)?;
-        let made = made_of(alloc, &case.topology, &name, item)?;
+        let made = made_of(alloc, &case.topology, name, item)?;
         self.outbox.make_room(made.len())?;
-        let interval = case.interval_of(&name);
-        let proposal = Proposal::Inject { line };
-        let written = self
-            .held
-            .write(alloc, desk, case, interval, &name, &proposal);
+        let interval = case.interval_of(name);
+        let held = &mut self.held;
+        let written = write_line(held, alloc, desk, case, interval, name, line);
         desk.sound();
         match written {
             Ok(commit) => {
@@ -120,6 +123,39 @@ impl<N: Seen> Node<N> {
             Err(why) => self.yield_to(case, interval, why),
         }
     }
+}
+
+// Writes that the next line of an injector's row that is held is injected.
+fn write_line<D: Desk>(
+    held: &mut Holdings,
+    alloc: Global,
+    desk: &mut D,
+    case: &Case,
+    interval: u32,
+    name: &RowName,
+    line: u32,
+) -> Result<u64, DeskRefusal>
+    requires case { (D.view desk.old).case ≡ case.now }
+    requires fits { AreHeld case.now (D.view desk.old) held.old }
+    requires covers { interval_of case.now.topology name.now ≡ Some interval }
+    requires part { name.now.part < parts_of case.now.topology }
+    requires there { IsSome (held_at held.old interval) }
+    requires next { IfSome (held_at held.old interval) (λ here. IsNextLine case.now name.now
+        (row_held case.now.topology here name.now) line) }
+
+    ensures fits { AreHeld case.now (D.view desk.new) held.new }
+    ensures injected { IfOk result (λ commit. HoldsLine case.now.topology
+        (D.view desk.old) (D.view desk.new) interval name.now line commit held.old held.new) }
+
+    ensures kept { OnErr result (KeepsHeld case.now.topology held.old held.new) }
+    ensures looked { OnErr result (HasLooked (D.view desk.old) (D.view desk.new)) }
+    ensures reason { IfErr result
+        (IsRefusedOf (D.view desk.old) (D.view desk.new) held.old interval) }
+    ensures marks { KeepsMarks (D.view desk.old) (D.view desk.new) }
+    ensures loan { D.loan desk.new ≡ D.loan desk.old }
+{
+    let proposal = Proposal::Inject { line };
+    held.write(alloc, desk, case, interval, name, &proposal)
 }
 
 // The name of an injector's row.
@@ -147,7 +183,7 @@ fn line_of(held: &Held, case: &Case, name: &RowName) -> Option<u32>
 
 // How many lines of an injector were injected, by its row as it is held.
 fn cursor_of(held: &Held, name: &RowName) -> u32
-    ensures { (shape : Shape) → name.now.part < injectors_of shape →
+    ensures { (shape : Shape) →
         result ≡ cursor_in (row_held shape held.now name.now).state }
 {
     match held.row(name) {
@@ -189,12 +225,20 @@ fn made_of(
         All (IsAddressed topology.now) (messages_from name.now
         (line_deliveries topology.now name.now.part item commit))) }
 {
+    let late = item.late;
+    let production = production_of(item);
+    made(alloc, topology, name, &[production], late)
+}
+
+// The record of a line, as it is produced.
+fn production_of(item: Record) -> Production
+    ensures { result ≡ production_of item }
+{
     let Record {
         key,
         stamp,
         value,
-        late,
+        late: _,
     } = item;
-    let production = Production { key, stamp, value };
-    made(alloc, topology, name, &[production], late)
+    Production { key, stamp, value }
 }

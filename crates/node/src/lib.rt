@@ -27,6 +27,7 @@ mod receiving;
 mod reports;
 mod sends;
 mod settling;
+mod sweeping;
 mod work;
 mod writes;
 mod yields;

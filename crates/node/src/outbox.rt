@@ -1,8 +1,10 @@
 //! What a node has to send, with room that is made beforehand.
 ghost use Rattle.std.specs.Prelude.{◌≡◌, ◌<◌, ◌≤◌, ◌↔◌, ◌+◌, ◌++◌, ◌∷◌, [], IsSome, length, map, OnOk, option_to_list};
+ghost use Rattle.node.specs.Answers.{sent_again};
 ghost use Rattle.node.specs.Outboxes.{numbered};
 
 use crate::outgoing::Outgoing;
+use holdings::Sent;
 use mw_types::NoMemory;
 use std::alloc::Global;
 use std::collections::VecDeque;
@@ -65,6 +67,16 @@ impl Outbox {
         }
     }
 
+    // Puts records that are sent again behind the others, where there is room.
+    pub(crate) fn put_again(&mut self, again: Vec<Sent>)
+        requires room { length again.items ≤ self.old.room }
+        ensures put { self.new.messages ≡ self.old.messages ++ map sent_again again.items }
+    {
+        for sent in again {
+            self.put(sent_again(sent));
+        }
+    }
+
     // Takes the first away.
     pub(crate) fn take_first(&mut self) -> Option<Outgoing>
         ensures first { self.old.messages ≡ option_to_list result ++ self.new.messages }
@@ -79,6 +91,14 @@ impl Outbox {
     {
         self.messages.clear();
     }
+}
+
+// A record that is sent again, as a message.
+fn sent_again(sent: Sent) -> Outgoing
+    ensures { result ≡ sent_again sent }
+{
+    let Sent { sender, delivery } = sent;
+    Outgoing::Deliver { delivery, sender }
 }
 
 // A message whose record is under another commit number.

@@ -1,4 +1,4 @@
-use Rattle.std.proofs.Common.{◌≡◌, ◌∙◌, List, ap, map}
+use Rattle.std.proofs.Common.{◌∙◌, List, ap, map}
 use Rattle.mw_types.specs.declared.delivery.Delivery.{Delivery}
 use Rattle.node.specs.Outboxes.{numbered}
 use Rattle.node.specs.Workers.{messages_from}

@@ -1,7 +1,5 @@
-use Rattle.std.proofs.Common.{◌≡◌, ◌∙◌, ap, subst, sym}
-use Rattle.book.specs.Desks.{DeskView}
-use Rattle.node.specs.Fits.{Fits}
-use Rattle.node.specs.Messages.{IsAddressed, IsDeliverable, IsOutgoing, IsSoBy, IsVouchedFor, ParcelView}
+use Rattle.std.proofs.Common.{subst, sym}
+use Rattle.node.specs.Messages.{IsAddressed, IsOutgoing, IsVouchedFor}
 use Rattle.node.specs.Received.{note_of, outgoing_of}
 use Rattle.node.specs.declared.message.Message.{Message}
 use Rattle.node.specs.declared.outgoing.Outgoing.TheVariants as outgoing
