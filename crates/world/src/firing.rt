@@ -84,7 +84,8 @@ pub(crate) fn fire_first<'a, K: Keeper, C: Computation>(
     book.history();
     let case = book.case();
     for part in case.topology.injectors()..case.topology.parts() {
-        if fire(alloc, book, work, node, part)? {
+        let more = fire(alloc, book, work, node, part)?;
+        if more {
             return Ok(true);
         }
     }

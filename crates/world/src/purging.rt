@@ -34,7 +34,8 @@ pub(crate) fn purge_first<'a, K: Keeper>(
     book.history();
     let case = book.case();
     for interval in 0..case.intervals().count() {
-        if purge(alloc, book, node, interval)? {
+        let more = purge(alloc, book, node, interval)?;
+        if more {
             return Ok(true);
         }
     }
