@@ -1,8 +1,8 @@
-use Rattle.std.proofs.Common.{false, rules, subst, sym}
+use Rattle.std.proofs.Common.{rules, subst, sym}
 use Rattle.std.specs.Prelude.{None}
 use Rattle.world.specs.Drains.{IsDraining}
 use Rattle.world.specs.Turns.{HasTurned}
-use Rattle.world.proofs.GoLaws.{drains-end, drains-first, drains-on, failed-in, gone-step}
+use Rattle.world.proofs.GoLaws.{drains-end, drains-first, drains-on, gone-step}
 use Rattle.world.proofs.draining.turn_all.Goals as goal
 
 -- the drain begins to turn
