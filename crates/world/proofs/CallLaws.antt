@@ -1,6 +1,6 @@
 -- What each call of a worker at work leaves, by the clauses of the call.
-use Rattle.std.proofs.Common.{◌≡◌, ◌<◌, ◌≤◌, ℕ, Bool, true, false, cond, List, [], ◌∷◌, ◌++◌, length, refl, sym, ◌∙◌, ap, subst, arith, inl, inr}
-use Rattle.std.specs.Prelude.{Option, Some, None, IsSome, IfSome, All}
+use Rattle.std.proofs.Common.{◌≡◌, ◌<◌, ◌≤◌, ℕ, false, cond, List, [], ◌∷◌, refl, sym, ◌∙◌, ap, subst, arith}
+use Rattle.std.specs.Prelude.{Option, Some, None, IfSome, All}
 use Rattle.std.specs.Option.{is_some, option_and_then, option_map, option_map_or}
 use Rattle.std.proofs.lemmas.List.Elements.{All-contains}
 use Rattle.mw_types.specs.Outcomes.{Outcome as Effects}
@@ -8,7 +8,6 @@ use Rattle.mw_types.specs.declared.delivery.Delivery.{Delivery}
 use Rattle.mw_types.specs.declared.entry.Entry.TheVariants as entries
 use Rattle.mw_types.specs.declared.identity.RecordId.{RecordId}
 use Rattle.mw_types.specs.declared.identity.RowName.{RowName}
-use Rattle.topology.specs.Rules.{interval_count}
 use Rattle.topology.specs.Shapes.{Shape, parts_of}
 use Rattle.row_parts.specs.Contents.{IsDelivery, is_finished, same_id}
 use Rattle.run_history.specs.Cases.{CaseShape}
@@ -19,25 +18,25 @@ use Rattle.run_history.specs.Runs.{run_of}
 use Rattle.run_history.specs.Watermarks.{least}
 use Rattle.run_history.proofs.Lists.{none_some, some_same}
 use Rattle.watermark.specs.Marks.{marks_of}
-use Rattle.book.specs.Books.{BookView, LeaseView}
+use Rattle.book.specs.Books.{BookView}
 use Rattle.book.specs.Desks.{HasLooked, KeepsMarks}
 use Rattle.book.specs.OwnDesks.{own_view}
 use Rattle.book.specs.declared.proposal.Proposal.{Proposal}
 use Rattle.book.specs.declared.proposal.Proposal.TheVariants as proposals
 use Rattle.holdings.specs.Holding.{HeldView, held_on, row_held}
 use Rattle.node.specs.Answers.{AnswersAck, AnswersAsked, AnswersClaim, AnswersFire, AnswersForget, AnswersPurge, AnswersWrite, received, taken_in}
-use Rattle.node.specs.Asking.{MayAskFire, MayAskForget, MayAskPurge, Request, forgetting, handled_as, line_asked, proposed, settle_asked, settling, work_asked}
+use Rattle.node.specs.Asking.{MayAskFire, MayAskForget, MayAskPurge, Request, handled_as, line_asked, proposed, settle_asked, settling, work_asked}
 use Rattle.node.specs.Fits.{Fits, IsPrepared, IsWork}
 use Rattle.node.specs.Workers.{NodeView, Sending, WorkView, Worker, leases_of, sending_in, sending_of, with_outgoing, with_written, worker_at}
 use Rattle.node.specs.declared.outgoing.Outgoing.TheVariants as outgoing
 use Rattle.node.specs.declared.outcome.Outcome.{Outcome}
 use Rattle.node.specs.declared.outcome.Outcome.TheVariants as outcomes
-use Rattle.world.specs.Turns.{CanBeKept, HasAsked, HasAskedOne, HasFirst, HasHandled, HasStepped, HasTaken, IsAtWork, is_committed, is_finished_at}
+use Rattle.world.specs.Turns.{CanBeKept, HasAsked, HasAskedOne, HasHandled, HasStepped, HasTaken, IsAtWork, is_committed, is_finished_at}
 use Rattle.world.proofs.GoLaws.{claim-taken}
 use Rattle.world.proofs.InjectLaws.{line-own}
 use Rattle.world.proofs.KnownLaws.{held-there}
 use Rattle.world.proofs.NextLaws.{find-has}
-use Rattle.world.proofs.TurnLaws.{IsOwnRequest, asked-at_work, asked-done, at_work-after, current, first-after, sending-none, some-done, stepped-looked, stepped-on, written}
+use Rattle.world.proofs.TurnLaws.{IsOwnRequest, asked-at_work, asked-done, at_work-after, current, sending-none, some-done, stepped-looked, stepped-on, written}
 
 -- ---- what is found
 

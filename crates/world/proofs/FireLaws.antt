@@ -1,11 +1,10 @@
 -- The timer that a turn fires is what comes next in a drain.
-use Rattle.std.proofs.Common.{◌≡◌, ◌≢◌, ◌<◌, ◌≤◌, ◌-◌, ◌⊎◌, ℕ, Bool, true, false, cond, zero, suc, List, [], ◌∷◌, length, refl, sym, ◌∙◌, ap, subst, arith, inl, inr}
+use Rattle.std.proofs.Common.{◌≡◌, ◌<◌, ◌≤◌, ◌-◌, ◌⊎◌, ℕ, Bool, false, cond, zero, suc, List, [], ◌∷◌, refl, sym, ◌∙◌, ap, subst, arith, inl, inr}
 use Rattle.std.specs.Prelude.{Option, Some, None, IsSome, IfSome, Contains, nat_lt, slice_get}
-use Rattle.std.specs.List.{AllByRecursion}
 use Rattle.std.specs.List.Sorted.{IsStrictlySortedBy}
 use Rattle.std.specs.Cmp.{IsTotalOrder, nat_cmp_is, on_total, then_total, tied_itself}
 use Rattle.std.specs.Option.{is_some, option_map}
-use Rattle.std.specs.Ordering.{is_gt, is_lt, nat_cmp, ordering_then}
+use Rattle.std.specs.Ordering.{is_gt, nat_cmp, ordering_then}
 use Rattle.std.specs.declared.cmp.Ordering.{Ordering}
 use Rattle.std.specs.declared.cmp.Ordering.TheVariants.{Less, Equal, Greater}
 use Rattle.std.proofs.lemmas.Bool.{cases_lt}
@@ -13,18 +12,16 @@ use Rattle.std.proofs.lemmas.Cmp.{upto}
 use Rattle.std.proofs.lemmas.Map.Keys.{le_from_not_gt}
 use Rattle.std.proofs.lemmas.List.Elements.{All-contains, All-from_recursion}
 use Rattle.mw_types.specs.Orders.{key_cmp, row_cmp, timer_cmp}
-use Rattle.mw_types.specs.Outcomes.{Outcome as Effects}
 use Rattle.mw_types.specs.declared.entry.Entry.TheVariants as entries
 use Rattle.mw_types.specs.declared.identity.RowName.{RowName}
 use Rattle.mw_types.specs.declared.kind.Kind.{Kind}
 use Rattle.mw_types.specs.declared.timer.Timer.{Timer}
 use Rattle.mw_types.proofs.OrderLaws.{key_cmp-total, row_cmp-total}
 use Rattle.computations.specs.Handlers.{effects_of_timer}
-use Rattle.topology.specs.Shapes.{ComputationShape, Shape, computation_of, injectors_of, kind_of, parts_of}
+use Rattle.topology.specs.Shapes.{ComputationShape, Shape, injectors_of, kind_of}
 use Rattle.row_parts.specs.Contents.{Contents}
 use Rattle.row_parts.specs.Orders.{timer_cmp-total}
-use Rattle.run_history.specs.Cases.{CaseShape}
-use Rattle.run_history.specs.Legal.{IsLegal, timer_outcome}
+use Rattle.run_history.specs.Legal.{IsLegal}
 use Rattle.run_history.specs.Runs.{Run, row_of, run_of}
 use Rattle.run_history.specs.Watermarks.{least, low_watermark}
 use Rattle.run_history.proofs.Lists.{none_some, some_same}
@@ -32,13 +29,13 @@ use Rattle.history_laws.proofs.LowLaws.{AreRowsInOrder, rows-in_order}
 use Rattle.watermark.specs.Marks.{marks_of}
 use Rattle.book.specs.Books.{BookView, core_of}
 use Rattle.book.specs.Lawful.{IsLawful}
-use Rattle.holdings.specs.Holding.{HeldView, held_on, row_held}
+use Rattle.holdings.specs.Holding.{row_held}
 use Rattle.holdings.specs.Timers.{due_cmp}
 use Rattle.node.specs.Asking.{IsNextTimer, IsTimerHeld, MayAskFire, Request}
 use Rattle.node.specs.Messages.{IsComputation}
 use Rattle.node.specs.Workers.{NodeView}
 use Rattle.world.specs.Drains.{HasClaimedAll, IsDue, IsNextEntry}
-use Rattle.world.specs.Turns.{AreExact, HasAsked, HasAskedOne, HasTurned, IsAtWork, IsQuiet, IsQuietAt, IsSettled}
+use Rattle.world.specs.Turns.{AreExact, HasAsked, HasAskedOne, HasTurned, IsAtWork, IsQuietAt, IsSettled}
 use Rattle.world.proofs.Firsts.{tied_both_ways}
 use Rattle.world.proofs.InjectLaws.{slice_get-some}
 use Rattle.world.proofs.KnownLaws.{held-there, row-known}
@@ -46,7 +43,7 @@ use Rattle.world.proofs.NextLaws.{IsLeastDue, none_or_due, not_after-first}
 use Rattle.world.proofs.LawfulRows.{lawful-rows}
 use Rattle.world.proofs.PurgeLaws.{lt-flip, rows-ordered}
 use Rattle.world.proofs.SettleLaws.{turned-asked}
-use Rattle.world.proofs.ThereLaws.{timer-computation, timer-part}
+use Rattle.world.proofs.ThereLaws.{timer-part}
 
 -- ---- the first timer of a row
 

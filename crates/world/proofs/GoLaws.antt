@@ -1,42 +1,33 @@
 -- How a drain goes on: turns one after another, and what holds once each interval is claimed.
-use Rattle.std.proofs.Common.{◌≡◌, ◌<◌, ◌≤◌, ◌-◌, ◌+◌, ◌⊎◌, ℕ, Bool, true, false, not, cond, zero, suc, List, [], ◌∷◌, ◌++◌, length, refl, sym, ◌∙◌, ap, subst, arith, inl, inr}
-use Rattle.std.specs.Prelude.{Option, Some, None, IsSome, IfSome, ◌==◌, slice_get}
-use Rattle.std.specs.Option.{is_some, option_map}
+use Rattle.std.proofs.Common.{◌≡◌, ◌<◌, ◌≤◌, ◌-◌, ◌+◌, ◌⊎◌, ℕ, Bool, true, false, not, cond, List, [], ◌∷◌, length, refl, sym, ◌∙◌, ap, subst, arith, inl, inr}
+use Rattle.std.specs.Prelude.{Option, Some, None, IsSome, IfSome, ◌==◌}
+use Rattle.std.specs.Option.{is_some}
 use Rattle.std.proofs.lemmas.Bool.{cases_lt, le-ltb}
-use Rattle.std.proofs.lemmas.List.{append-nil, length_push}
-use Rattle.mw_types.specs.Causes.{Rose}
+use Rattle.std.proofs.lemmas.List.{length_push}
 use Rattle.mw_types.specs.declared.entry.Entry.{Entry}
 use Rattle.mw_types.specs.declared.entry.Entry.TheVariants as entries
-use Rattle.key_intervals.specs.declared.bounds.Bounds.{Bounds}
 use Rattle.topology.specs.Rules.{interval_count}
-use Rattle.topology.specs.Shapes.{Shape, injectors_of, parts_of}
-use Rattle.run_history.specs.Cases.{CaseShape, intervals_of}
-use Rattle.run_history.specs.Fences.{Begins, is_claim, last_claim}
-use Rattle.run_history.specs.Finished.{all_pending}
-use Rattle.run_history.specs.Legal.{IsLegal}
+use Rattle.topology.specs.Shapes.{injectors_of, parts_of}
+use Rattle.run_history.specs.Cases.{CaseShape}
+use Rattle.run_history.specs.Fences.{Begins, last_claim}
 use Rattle.run_history.specs.Runs.{run_of}
 use Rattle.run_history.specs.Watermarks.{least, low_watermark}
 use Rattle.run_history.proofs.Beginnings.{Begins-itself, Begins-length, Begins-trans}
 use Rattle.run_history.proofs.Claims.{last_claim-push}
-use Rattle.run_history.proofs.Lists.{none_some, some_same}
 use Rattle.watermark.specs.Marks.{marks_of}
 use Rattle.book.specs.Books.{BookView, core_of}
-use Rattle.book.specs.Desks.{HasLooked}
-use Rattle.book.specs.DeskReasons.{HasClaimReason}
 use Rattle.book.specs.Lawful.{IsLawful}
 use Rattle.book.specs.Marks.{AreSafe}
 use Rattle.book.specs.OwnDesks.{own_view}
-use Rattle.book.specs.declared.desk_refusal.DeskRefusal.TheVariants as refusals
-use Rattle.holdings.specs.Holding.{HeldView, held_at}
-use Rattle.node.specs.Answers.{AnswersClaim, refusal_of}
+use Rattle.node.specs.Answers.{AnswersClaim}
 use Rattle.node.specs.Fits.{Fits}
 use Rattle.node.specs.Workers.{NodeView, Worker, goes_into, leases_of, where_passes, with_lease, worker_at}
 use Rattle.node.specs.declared.outcome.NodeFault.{NodeFault}
 use Rattle.node.specs.declared.outcome.Outcome.{Outcome}
 use Rattle.node.specs.declared.outcome.Outcome.TheVariants as outcomes
-use Rattle.world.specs.Drains.{HasClaimedAll, HasEnded, IsDraining, IsNextEntry}
+use Rattle.world.specs.Drains.{HasClaimedAll, HasEnded, IsDraining}
 use Rattle.world.specs.Passes.{pass_of}
-use Rattle.world.specs.Turns.{AreExact, HasFailed, HasFailedIn, HasFirst, HasGone, HasLast, HasStepped, HasTaken, HasTurned, IsAtWork, IsClaiming, IsDrainingOn, IsEndOf, IsNextIn, IsSettled, WhereTold, with_own}
+use Rattle.world.specs.Turns.{AreExact, HasFailed, HasFailedIn, HasFirst, HasGone, HasLast, HasStepped, HasTaken, HasTurned, IsAtWork, IsClaiming, IsDrainingOn, IsEndOf, IsNextIn, IsSettled, with_own}
 use Rattle.world.proofs.PassLaws.{pass-low}
 use Rattle.world.proofs.LawfulRows.{lawful-rows}
 use Rattle.world.proofs.TurnLaws.{free-of, held-leased, lease-held, moved-before, sending-none, stepped-by, stepped-on}

@@ -9,9 +9,9 @@ use Rattle.std.specs.declared.cmp.Ordering.TheVariants.{Less, Equal}
 use Rattle.std.proofs.lemmas.Bool.{both_ways, cases_lt, le-leb, leb-true, lt-ltb, ltb-true}
 use Rattle.std.proofs.lemmas.List.Elements.{All-contains, All-from_recursion, All-contains_itself, recursion_from_All}
 use Rattle.mw_types.specs.declared.entry.Entry.TheVariants as entries
-use Rattle.injector.specs.Sources.{Source, SourceLine, item_at}
+use Rattle.injector.specs.Sources.{SourceLine, item_at}
 use Rattle.injector.specs.declared.item.Item.{Item}
-use Rattle.topology.specs.Shapes.{Shape, injectors_of, parts_of}
+use Rattle.topology.specs.Shapes.{injectors_of}
 use Rattle.row_parts.specs.Contents.{Contents}
 use Rattle.run_history.specs.Cases.{CaseShape, record_of, source_of}
 use Rattle.run_history.specs.Finished.{has_line, injectors_left}
@@ -128,28 +128,35 @@ best-more case node count best is = by_best best is (line_at case node count) re
       least = λ part line less there. elim (last part less) [
         | inl below ↦ is.least part line below there
         | inr same ↦
-            let one : o ≡ line = some_same o line (sym at ∙ ap (line_at case node) (sym same) ∙ there) in
-            (b, refl, subst (IsFirstLine b) one (elim (cases_lt b.0 o.0) [
-              | inl before ↦ inl before
-              | inr after ↦
-                  let most = leb-true b.0 o.0 le in
-                  let below = is.there.0 in
-                  let number = own o at in
-                  inr (omega (arith, most, after), omega (arith, below, number))
-            ]))
+            let one : o ≡ line = some_same o line (sym at ∙ ap (line_at case node) (sym same) ∙ there) in (
+              b,
+              refl,
+              subst (IsFirstLine b) one (elim (cases_lt b.0 o.0) [
+                | inl before ↦ inl before
+                | inr after ↦
+                    let most = leb-true b.0 o.0 le in
+                    let below = is.there.0 in
+                    let number = own o at in
+                    inr (omega (arith, most, after), omega (arith, below, number))
+              ]),
+            )
       ];
     }
     by_both b o is at false le = record {
       there = (let number = own o at in omega (arith, number), ap (line_at case node) (own o at) ∙ at);
-      least = λ part line less there. (o, refl, elim (last part less) [
-        | inl below ↦
-            let first = is.least part line below there in
-            let one : b ≡ first.0 = some_same b first.0 first.1 in
-            before b line (subst (λ (l : ℕ × ℕ). IsFirstLine l line) (sym one) first.2)
-        | inr same ↦
-            let one : o ≡ line = some_same o line (sym at ∙ ap (line_at case node) (sym same) ∙ there) in
-            subst (IsFirstLine o) one (inr (refl, omega arith))
-      ]);
+      least = λ part line less there. (
+        o,
+        refl,
+        elim (last part less) [
+          | inl below ↦
+              let first = is.least part line below there in
+              let one : b ≡ first.0 = some_same b first.0 first.1 in
+              before b line (subst (λ (l : ℕ × ℕ). IsFirstLine l line) (sym one) first.2)
+          | inr same ↦
+              let one : o ≡ line = some_same o line (sym at ∙ ap (line_at case node) (sym same) ∙ there) in
+              subst (IsFirstLine o) one (inr (refl, omega arith))
+        ],
+      );
     }
       where
         less-o : o.0 < b.0
@@ -227,8 +234,7 @@ module _ (book : BookView) (node : NodeView) (at : IsAtWork book node) (told : I
       let there = line-there book.case node part line (ap (line_at book.case node) same ∙ best.there.1) in
       let cursor = cursor-known book node part at told less in
       let lines = there.0 in
-      let count : cursor_at book.case node part ≡ line.0 = ap (λ (l : ℕ × ℕ). l.0) there.1 in
-      (
+      let count : cursor_at book.case node part ≡ line.0 = ap (λ (l : ℕ × ℕ). l.0) there.1 in (
         contains-filter (has_line book.case run) (range_with_len 0 (injectors_of book.case.topology)) part
             (let zero_more : 0 + part ≡ part = omega arith in
             subst (Contains (range_with_len 0 (injectors_of book.case.topology))) zero_more

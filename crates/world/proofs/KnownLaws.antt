@@ -1,17 +1,14 @@
 -- What a worker at work holds is what stands after the history.
-use Rattle.std.proofs.Common.{◌≡◌, ◌<◌, ◌+◌, ℕ, Bool, true, false, cond, List, [], ◌∷◌, length, refl, sym, ◌∙◌, ap, subst}
+use Rattle.std.proofs.Common.{◌≡◌, ◌<◌, ◌+◌, ℕ, Bool, true, false, cond, List, [], ◌∷◌, refl, sym, ◌∙◌, ap}
 use Rattle.std.specs.Prelude.{Option, Some, None, IsSome, IfSome}
 use Rattle.std.specs.List.{AllByRecursion, position_from}
-use Rattle.std.specs.Option.{is_some, option_and_then, option_map, option_map_or}
-use Rattle.std.proofs.lemmas.Bool.{both_ways}
-use Rattle.mw_types.specs.declared.delivery.Delivery.{Delivery}
+use Rattle.std.specs.Option.{option_and_then}
 use Rattle.mw_types.specs.declared.entry.Entry.{Entry}
 use Rattle.mw_types.specs.declared.identity.RowName.{RowName}
 use Rattle.key_intervals.specs.declared.bounds.Bounds.{Bounds}
 use Rattle.key_intervals.specs.Intervals.{covers}
 use Rattle.topology.specs.Shapes.{Shape, parts_of}
-use Rattle.row_parts.specs.Contents.{Contents}
-use Rattle.run_history.specs.Cases.{CaseShape, intervals_of}
+use Rattle.run_history.specs.Cases.{intervals_of}
 use Rattle.run_history.specs.Fences.{interval_of, known}
 use Rattle.run_history.specs.Runs.{row_of, run_of}
 use Rattle.run_history.proofs.Known.{known-last}

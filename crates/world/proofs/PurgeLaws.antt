@@ -1,6 +1,6 @@
 -- The purge with which a drain ends is of the first row, over all intervals, that has seen ids.
-use Rattle.std.proofs.Common.{◌≡◌, ◌≢◌, ◌<◌, ◌≤◌, ◌+◌, ◌⊎◌, ℕ, Bool, true, false, cond, zero, suc, List, [], ◌∷◌, length, refl, sym, ◌∙◌, ap, subst, arith, inl, inr, get_or, fold, map, min, rules}
-use Rattle.std.specs.Prelude.{Option, Some, None, IsSome, IfSome, Contains, MatchOption, slice_get, max, All}
+use Rattle.std.proofs.Common.{◌≡◌, ◌≢◌, ◌<◌, ◌≤◌, ◌+◌, ◌⊎◌, ℕ, Bool, true, false, List, [], ◌∷◌, length, refl, sym, ◌∙◌, ap, subst, arith, inl, inr, get_or, fold, map, min, rules}
+use Rattle.std.specs.Prelude.{Option, Some, None, IsSome, IfSome, Contains, MatchOption, All}
 use Rattle.std.specs.List.{AllByRecursion}
 use Rattle.std.specs.List.Sorted.{IsStrictlySortedBy}
 use Rattle.std.specs.Cmp.{IsTotalOrder}
@@ -19,34 +19,32 @@ use Rattle.mw_types.specs.declared.identity.RecordId.{RecordId}
 use Rattle.mw_types.specs.declared.identity.RowName.{RowName}
 use Rattle.mw_types.proofs.OrderLaws.{key_cmp-total, row_cmp-total}
 use Rattle.key_intervals.specs.declared.bounds.Bounds.{Bounds}
-use Rattle.key_intervals.specs.Intervals.{AreIntervals, HasRow, Meets, covers, ends_after, start_of}
+use Rattle.key_intervals.specs.Intervals.{AreIntervals, Meets, covers, ends_after, start_of}
 use Rattle.key_intervals.proofs.Beginnings.{after_part, begin_in_two, begins_by, key_decides, turned_below}
 use Rattle.key_intervals.proofs.Lookup.{begins_by_row, goes_past, of_part}
 use Rattle.topology.specs.Rules.{IsTopology, interval_count}
-use Rattle.topology.specs.Shapes.{Shape, parts_of}
-use Rattle.row_parts.specs.Contents.{AreSeen, AreTimers, Contents, fresh, same_id}
-use Rattle.run_history.specs.Cases.{CaseShape, fresh_of, intervals_of}
+use Rattle.topology.specs.Shapes.{Shape}
+use Rattle.row_parts.specs.Contents.{AreSeen, AreTimers, Contents, same_id}
+use Rattle.run_history.specs.Cases.{CaseShape, intervals_of}
 use Rattle.run_history.specs.Fences.{interval_of}
 use Rattle.run_history.specs.Finished.{all_pending, is_handled}
 use Rattle.run_history.specs.Legal.{IsLegal, floor_of}
 use Rattle.run_history.specs.Made.{found_delivery}
 use Rattle.run_history.specs.Runs.{Run, row_of, run_of}
 use Rattle.run_history.proofs.IntervalLaws.{are-intervals, interval_of-has}
-use Rattle.run_history.proofs.Lists.{each-weaker, find-each, find-passes, none_some, some_same}
+use Rattle.run_history.proofs.Lists.{each-weaker, find-each, find-passes, some_same}
 use Rattle.history_laws.specs.Ids.{TellsWhatWaits}
 use Rattle.history_laws.proofs.FinishedLaws.{legal-floors}
 use Rattle.history_laws.proofs.IdLaws.{legal-ids, legal-tells, same_id-true}
 use Rattle.history_laws.proofs.LowLaws.{AreRowsInOrder, rows-in_order}
 use Rattle.book.specs.Books.{BookView, core_of}
-use Rattle.row_keeper.specs.Rows.{Rows}
-use Rattle.book.specs.Lawful.{IsHeld, IsKept, IsLawful}
-use Rattle.holdings.specs.Holding.{HeldView, held_at, held_on, row_held}
-use Rattle.node.specs.Asking.{HasToForget, MayAskForget, MayAskPurge, Request, forgetting}
+use Rattle.book.specs.Lawful.{IsKept, IsLawful}
+use Rattle.holdings.specs.Holding.{held_at, held_on}
+use Rattle.node.specs.Asking.{MayAskPurge, Request, forgetting}
 use Rattle.node.specs.Workers.{NodeView}
-use Rattle.world.specs.Drains.{HasClaimedAll, HasInjected, IsNextEntry}
-use Rattle.world.specs.Turns.{HasAsked, HasAskedOne, HasTurned, IsAtWork, HasStepped, IsEmptied, IsEndOf, IsInjected, IsQuiet, IsSettled}
+use Rattle.world.specs.Drains.{IsNextEntry}
+use Rattle.world.specs.Turns.{HasAsked, HasAskedOne, HasTurned, IsAtWork, IsEmptied, IsEndOf, IsInjected, IsQuiet, IsSettled}
 use Rattle.world.proofs.FirstItems.{row_of-named}
-use Rattle.world.proofs.Firsts.{one_row}
 use Rattle.world.proofs.LawfulRows.{lawful-rows}
 use Rattle.world.proofs.KnownLaws.{interval-found, row-known, held-there}
 use Rattle.world.proofs.NextLaws.{IsFirstRow, none_or_seen}

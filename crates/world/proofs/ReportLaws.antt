@@ -1,8 +1,7 @@
 -- What a report leaves of the marks of a book.
-use Rattle.std.proofs.Common.{◌≡◌, ◌<◌, ◌+◌, ℕ, zero, suc, Bool, true, false, List, [], ◌∷◌, ◌++◌, length, refl, sym, ◌∙◌, ap, subst, arith}
-use Rattle.std.specs.Prelude.{Option, Some, None, IsSome, IfSome, slice_get}
+use Rattle.std.proofs.Common.{◌≡◌, ◌<◌, ◌+◌, ℕ, zero, suc, List, [], ◌∷◌, ◌++◌, length, refl, sym, ◌∙◌, ap, subst, arith}
+use Rattle.std.specs.Prelude.{Some, None, IsSome, slice_get}
 use Rattle.mw_types.specs.declared.entry.Entry.{Entry}
-use Rattle.key_intervals.specs.declared.bounds.Bounds.{Bounds}
 use Rattle.topology.specs.Rules.{IsTopology, interval_count}
 use Rattle.run_history.specs.Cases.{CaseShape, intervals_of}
 use Rattle.run_history.specs.Fences.{known, last_claim}
@@ -11,7 +10,7 @@ use Rattle.run_history.specs.Runs.{run_of}
 use Rattle.run_history.proofs.CaseIntervals.{length-intervals}
 use Rattle.run_history.proofs.Known.{known-last}
 use Rattle.run_history.proofs.Lists.{some_same}
-use Rattle.book.specs.Books.{BookView, LeaseView}
+use Rattle.book.specs.Books.{BookView}
 use Rattle.book.specs.Marks.{reported, with_mark}
 use Rattle.book.specs.OwnDesks.{own_view}
 use Rattle.holdings.specs.Holding.{HeldView, IsHeld, held_at}

@@ -1,5 +1,5 @@
 -- What a turn does with the least id that is not acknowledged is what comes next in a drain.
-use Rattle.std.proofs.Common.{◌≡◌, ◌<◌, ◌≤◌, ◌&&◌, ℕ, Bool, true, false, cond, List, [], ◌∷◌, length, refl, sym, ◌∙◌, ap, subst, arith, inl, inr}
+use Rattle.std.proofs.Common.{◌≡◌, ◌<◌, ◌&&◌, ℕ, Bool, true, false, List, length, refl, sym, ◌∙◌, ap, subst, arith, inl}
 use Rattle.std.specs.Prelude.{Option, Some, None, IsSome, IfSome, nat_lt, nat_le}
 use Rattle.std.specs.List.{list_all}
 use Rattle.std.specs.Option.{is_some, option_and_then, option_map, option_map_or}
@@ -17,7 +17,7 @@ use Rattle.run_history.specs.Fits.{is_sent_before, suits_part}
 use Rattle.run_history.specs.Legal.{IsLegal, floor_of}
 use Rattle.run_history.specs.Made.{found_delivery}
 use Rattle.run_history.specs.Runs.{Run, row_of, run_of}
-use Rattle.run_history.proofs.Lists.{find-each, find-passes, none_some, some_same}
+use Rattle.run_history.proofs.Lists.{find-each, find-passes, none_some}
 use Rattle.run_history.proofs.Fitting.{each-passes}
 use Rattle.history_laws.proofs.FinishedLaws.{finished-handled}
 use Rattle.history_laws.proofs.IdLaws.{same_id-true}
@@ -28,12 +28,12 @@ use Rattle.history_laws.proofs.PrintLaws.{legal-on_parts}
 use Rattle.book.specs.Books.{BookView, core_of}
 use Rattle.book.specs.Lawful.{IsLawful}
 use Rattle.book.specs.Senders.{IsLeastSent}
-use Rattle.holdings.specs.Holding.{HeldView, held_at, held_on, row_held}
+use Rattle.holdings.specs.Holding.{HeldView, held_on, row_held}
 use Rattle.node.specs.Asking.{HasToForget, MayAskForget, Request, forgetting, settle_asked, settling}
 use Rattle.node.specs.Messages.{IsComputation, IsSentFrom}
 use Rattle.node.specs.Workers.{NodeView}
 use Rattle.world.specs.Drains.{HasClaimedAll, IsNextEntry, IsToHandle, is_full}
-use Rattle.world.specs.Turns.{HasAsked, HasAskedOne, HasHandled, HasStepped, HasTurned, IsAtWork, IsNextIn, IsToSettle, WhereTold, is_finished_at, sent_at}
+use Rattle.world.specs.Turns.{HasAsked, HasAskedOne, HasHandled, HasTurned, IsAtWork, IsNextIn, IsToSettle, is_finished_at, sent_at}
 use Rattle.world.proofs.LawfulRows.{lawful-rows}
 use Rattle.world.proofs.ThereLaws.{row-there}
 use Rattle.world.proofs.KnownLaws.{held-on-is, held-there, row-known}
@@ -149,8 +149,7 @@ pub ack-asked : (shape : Shape) (node : NodeView) (sender : RowName) (id : Recor
       late = false;
     }))
 ack-asked shape node sender id d sent =
-    let is = sent-held shape node sender id d sent in
-    (
+    let is = sent-held shape node sender id d sent in (
       is.0,
       ap (option_and_then (settling shape sender id)) is.1
           ∙ ap (option_map (λ (e : Delivery). record {

@@ -1,10 +1,9 @@
 -- What the calls of a worker that is at work do to a book: how the history goes on, what the worker is then, and why a call fails.
-use Rattle.std.proofs.Common.{◌≡◌, ◌≤◌, ◌<◌, ℕ, Bool, true, false, cond, List, [], ◌∷◌, ◌++◌, length, refl, sym, ◌∙◌, ap, subst, arith, inl, inr, ◌⊎◌, ◌↔◌}
-use Rattle.std.specs.Prelude.{Option, Some, None, IsSome, IfSome, ◌==◌}
+use Rattle.std.proofs.Common.{◌≡◌, ◌<◌, ℕ, true, false, cond, List, [], ◌∷◌, ◌++◌, length, refl, sym, ◌∙◌, ap, subst, arith, inl, inr, ◌↔◌}
+use Rattle.std.specs.Prelude.{Option, Some, None, IfSome}
 use Rattle.std.specs.Option.{is_some, option_map, option_and_then}
 use Rattle.std.proofs.lemmas.List.{append-nil}
 use Rattle.mw_types.specs.declared.entry.Entry.{Entry}
-use Rattle.mw_types.specs.declared.entry.Entry.TheVariants as entries
 use Rattle.mw_types.specs.declared.identity.RowName.{RowName}
 use Rattle.topology.specs.Rules.{interval_count}
 use Rattle.topology.specs.Shapes.{Shape}
@@ -16,23 +15,22 @@ use Rattle.run_history.specs.Fences.{IsCurrent, interval_of, is_claim, last_clai
 use Rattle.run_history.proofs.Claims.{last_claim-push}
 use Rattle.run_history.proofs.Lists.{some_same, none_some}
 use Rattle.book.specs.Books.{BookView, LeaseView}
-use Rattle.book.specs.DeskReasons.{HasReason, HasClaimReason, IsDamageOf, IsDecided, IsNoDamage}
+use Rattle.book.specs.DeskReasons.{HasClaimReason, IsDamageOf, IsDecided, IsNoDamage}
 use Rattle.book.specs.Desks.{DeskView, HasLooked, HasMoved}
 use Rattle.book.specs.OwnDesks.{own_view, telling}
-use Rattle.book.specs.declared.desk_refusal.DeskRefusal.{DeskRefusal}
 use Rattle.book.specs.declared.desk_refusal.DeskRefusal.TheVariants as refusals
 use Rattle.book.specs.declared.proposal.Proposal.{Proposal}
 use Rattle.book.specs.declared.proposal.Proposal.TheVariants as proposals
 use Rattle.holdings.specs.Holding.{HeldView, held_at, held_on}
-use Rattle.node.specs.Answers.{AnswersAsked, AnswersSome, AnswersWrite, FailsAsked, FailsHeld, HasKept, IsCommitted, IsIdle, IsRefused, refusal_of}
+use Rattle.node.specs.Answers.{AnswersAsked, AnswersSome, AnswersWrite, FailsAsked, FailsHeld, HasKept, IsRefused, refusal_of}
 use Rattle.node.specs.Asking.{Request}
 use Rattle.node.specs.Fits.{Fits, IsWork}
-use Rattle.node.specs.Workers.{NodeView, WorkView, Worker, Sending, leases_of, sending_in, sending_of, worker_at}
+use Rattle.node.specs.Workers.{NodeView, WorkView, Worker, leases_of, sending_in, sending_of, worker_at}
 use Rattle.node.specs.declared.outcome.NodeFault.{NodeFault}
 use Rattle.node.specs.declared.outcome.NodeFault.TheVariants as faults
 use Rattle.node.specs.declared.outcome.Outcome.{Outcome}
 use Rattle.node.specs.declared.outcome.Outcome.TheVariants as outcomes
-use Rattle.world.specs.Turns.{HasAsked, HasAskedOne, HasFailed, HasFirst, HasLast, HasStepped, IsAtWork, is_committed, with_own}
+use Rattle.world.specs.Turns.{HasAsked, HasAskedOne, HasFailed, HasFirst, HasStepped, IsAtWork, is_committed, with_own}
 
 -- ---- how the history goes on
 

@@ -88,13 +88,7 @@ fn lesser(one: Option<(u32, u32)>, other: Option<(u32, u32)>) -> Option<(u32, u3
     ensures { result ≡ lesser_line one other }
 {
     match (one, other) {
-        (Some((a, p)), Some((b, q))) => {
-            if a <= b {
-                Some((a, p))
-            } else {
-                Some((b, q))
-            }
-        }
+        (Some((a, p)), Some((b, q))) => { if a <= b { Some((a, p)) } else { Some((b, q)) } }
         (None, found) => found,
         (found, None) => found,
     }

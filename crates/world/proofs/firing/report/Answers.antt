@@ -1,4 +1,4 @@
-use Rattle.std.proofs.Common.{◌≡◌, rules, subst}
+use Rattle.std.proofs.Common.{rules, subst}
 use Rattle.topology.specs.Rules.{IsTopology}
 use Rattle.run_history.specs.Cases.{CaseShape}
 use Rattle.book.specs.OwnDesks.{own_view}
