@@ -24,3 +24,4 @@ pub mod CallLaws
 pub mod PurgeLoop
 pub mod FireLoop
 pub mod Results
+pub mod DrainLaws

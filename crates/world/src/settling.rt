@@ -47,10 +47,13 @@ pub(crate) fn settle<'a, K: Keeper, C: Computation>(
     // Its clauses say what always holds of a book.
     book.history();
     let case = book.case();
-    if case.topology.parts() <= sender.part {
+    let parts = case.topology.parts();
+    let part = sender.part;
+    if parts <= part {
         return Ok(false);
     }
-    match sent(alloc, case, node, &sender, id)? {
+    let found = sent(alloc, case, node, &sender, id)?;
+    match found {
         Some(delivery) => settle_sent(alloc, book, work, node, sender, delivery),
         None => Ok(false),
     }
@@ -84,7 +87,8 @@ fn settle_sent<'a, K: Keeper, C: Computation>(
     if is_finished(case, node, &delivery) {
         return acknowledge(alloc, book, node, sender, delivery.id);
     }
-    if forget(alloc, book, node, &delivery.to)? {
+    let forgot = forget(alloc, book, node, &delivery.to)?;
+    if forgot {
         return Ok(true);
     }
     handle_left(alloc, book, work, node, sender, delivery)
