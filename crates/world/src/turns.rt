@@ -81,10 +81,12 @@ fn go_on<'a, K: Keeper, C: Computation>(
     // Its clauses say what always holds of a book.
     book.history();
     report_all(alloc, book, node)?;
-    if fire_first(alloc, book, work, node)? {
+    let fired = fire_first(alloc, book, work, node)?;
+    if fired {
         return Ok(true);
     }
-    if inject_next(alloc, book, node)? {
+    let injected = inject_next(alloc, book, node)?;
+    if injected {
         return Ok(true);
     }
     purge_first(alloc, book, node)
