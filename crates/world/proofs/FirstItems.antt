@@ -57,7 +57,7 @@ from_map P f [] each = tt
 from_map P f (x ∷ xs) each = (each.0, from_map P f xs each.1)
 
 -- what holds of each that passes a test holds of each, where that passes
-from_filter : {X : Type 0} (P : X → Type 0) (test : X → Bool) (xs : List X) → AllByRecursion P (filter test xs)
+pub from_filter : {X : Type 0} (P : X → Type 0) (test : X → Bool) (xs : List X) → AllByRecursion P (filter test xs)
     → AllByRecursion (λ x. test x ≡ true → P x) xs
 from_filter P test [] each = tt
 from_filter P test (x ∷ xs) each =

@@ -11,3 +11,17 @@ pub mod Tried
 pub mod DrainedExample
 pub mod Digits
 pub mod Words
+pub mod TurnLaws
+pub mod LawfulRows
+pub mod KnownLaws
+pub mod SettleLaws
+pub mod InjectLaws
+pub mod PurgeLaws
+pub mod FireLaws
+pub mod GoLaws
+pub mod ReportLaws
+pub mod CallLaws
+pub mod PurgeLoop
+pub mod FireLoop
+pub mod Results
+pub mod DrainLaws

@@ -42,7 +42,7 @@ empty_or_not [] = inl refl
 empty_or_not (x ∷ xs) = inr (x, (0, omega arith, refl))
 
 -- what a search finds is an element that passes
-find-has : {X : Type 0} (test : X → Bool) (xs : List X) (d : X) → find test xs ≡ Some d → Contains xs d
+pub find-has : {X : Type 0} (test : X → Bool) (xs : List X) (d : X) → find test xs ≡ Some d → Contains xs d
 find-has test [] d found = absurd (none_some d found)
 find-has test (x ∷ xs) d found =
     elim (test x) as (λ b. cond b (Some x) (find test xs) ≡ Some d → Contains (x ∷ xs) d) [
@@ -72,13 +72,13 @@ has-found test xs d has = All-contains (λ x. test x ≡ true → IsSome (find t
 -- ---- the least of each kind
 
 -- what is not after another in two orders together is not in the first
-not_after-first : (o p : Ordering) → is_gt (ordering_then o p) ≡ false → is_gt o ≡ false
+pub not_after-first : (o p : Ordering) → is_gt (ordering_then o p) ≡ false → is_gt o ≡ false
 not_after-first Less p e = refl
 not_after-first Equal p e = refl
 not_after-first Greater p e = e
 
 -- nor in the second, where the two tie in the first
-not_after-second : (o p : Ordering) → o ≡ Equal → is_gt (ordering_then o p) ≡ false → is_gt p ≡ false
+pub not_after-second : (o p : Ordering) → o ≡ Equal → is_gt (ordering_then o p) ≡ false → is_gt p ≡ false
 not_after-second o p tie e = subst (λ q. is_gt (ordering_then q p) ≡ false) tie e
 
 -- due timers stand by part, time, tag and key
@@ -180,7 +180,7 @@ module _ (case : CaseShape) (run : Run) (order : AreRowsInOrder run) where
   }
 
   -- no timer is due, or there is a first
-  none_or_due : ((row : RowName) (timer : Timer) → IsDue case run row timer → ⊥)
+  pub none_or_due : ((row : RowName) (timer : Timer) → IsDue case run row timer → ⊥)
       ⊎ ((row : RowName) × (timer : Timer) × IsLeastDue row timer)
   none_or_due = by_case (none_or_first (λ (c : Contents). c.timers) (λ name t. nat_le t.time (low_watermark case run name.part))
       case.topology run due_cmp due_cmp-total order (λ s. refl))
@@ -194,16 +194,16 @@ module _ (case : CaseShape) (run : Run) (order : AreRowsInOrder run) where
   -- ---- lines
 
   -- injectors stand by how many lines they have injected, and then by number
-  abbrev lines_cmp : ℕ → ℕ → Ordering
+  abbrev pub lines_cmp : ℕ → ℕ → Ordering
   lines_cmp a b = ordering_then (nat_cmp (cursor_of case run a) (cursor_of case run b)) (nat_cmp a b)
 
   -- an injector that has a line left is the first
-  abbrev IsFirstLeft : ℕ → Type 0
+  abbrev pub IsFirstLeft : ℕ → Type 0
   IsFirstLeft part = Contains (injectors_left case run) part
       × ((other : ℕ) → Contains (injectors_left case run) other → is_gt (lines_cmp part other) ≡ false)
 
   -- no injector has a line left, or there is a first
-  none_or_left : (injectors_left case run ≡ []) ⊎ ((part : ℕ) × IsFirstLeft part)
+  pub none_or_left : (injectors_left case run ≡ []) ⊎ ((part : ℕ) × IsFirstLeft part)
   none_or_left = by_list (injectors_left case run) refl
     where
       left : List ℕ
@@ -236,12 +236,12 @@ module _ (case : CaseShape) (run : Run) (order : AreRowsInOrder run) where
   IsFirstSeen = IsFirst (λ (c : Contents). c.seen) (λ name id. true) case.topology run (λ (a b : RowName × RecordId). row_cmp a.0 b.0)
 
   -- a row that has seen ids is the first by name, whatever the ids
-  abbrev IsFirstRow : RowName → Type 0
+  abbrev pub IsFirstRow : RowName → Type 0
   IsFirstRow row = ((row_of case.topology run row).seen ≢ [])
       × ((other : RowName) → (row_of case.topology run other).seen ≢ [] → is_gt (row_cmp row other) ≡ false)
 
   -- no row has seen an id, or there is a first
-  none_or_seen : ((row : RowName) → (row_of case.topology run row).seen ≡ []) ⊎ ((row : RowName) × IsFirstRow row)
+  pub none_or_seen : ((row : RowName) → (row_of case.topology run row).seen ≡ []) ⊎ ((row : RowName) × IsFirstRow row)
   none_or_seen = by_case (none_or_first (λ (c : Contents). c.seen) (λ name id. true) case.topology run
       (λ (a b : RowName × RecordId). row_cmp a.0 b.0) (on_total (λ (a : RowName × RecordId). a.0) row_cmp-total) order (λ s. refl))
     where

@@ -10,13 +10,21 @@
 //! `specs/Passes.antt`, a pass of reports; `specs/Schedules.antt`, what a schedule says.
 #![tactic(auto)]
 
+mod claiming;
+mod draining;
 mod drains;
 mod examples;
+mod firing;
+mod injecting;
 mod passes;
+mod purging;
 mod schedule;
 mod schedule_lines;
+mod settling;
 mod step;
+mod turns;
 
+pub use draining::drain;
 pub use drains::{
     drained_histories_are_one, drains_go_on_until_they_end, drains_grow_by_their_next_entries,
     drains_leave_no_work, drains_look_at_parts_that_are_there, ended_drains_have_no_next_entry,

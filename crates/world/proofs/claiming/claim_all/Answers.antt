@@ -1,0 +1,15 @@
+use Rattle.std.proofs.Common.{arith, rules}
+use Rattle.world.proofs.GoLaws.{claims-all, claims-on}
+use Rattle.world.proofs.claiming.claim_all.Goals as goal
+
+-- an interval more
+pub loop-interval-preserved : goal.loop-interval-preserved
+loop-interval-preserved g c =
+    claims-on c.args.book.now c.loop-interval.book c.claim.new.book c.loop-interval.node c.claim.new.node c.loop-interval.interval
+    c.loop-interval.invariant (search (rules, arith)) (search rules)
+
+-- after the last the worker is at work
+pub returns-clause-at_work : goal.returns-clause-at_work
+returns-clause-at_work g c =
+    (claims-all c.args.book.now c.loop-interval.book c.loop-interval.node c.loop-interval.interval (search (rules, arith))
+    c.loop-interval.invariant).0

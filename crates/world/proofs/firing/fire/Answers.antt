@@ -1,0 +1,24 @@
+use Rattle.std.proofs.Common.{rules, subst, sym}
+use Rattle.run_history.specs.Watermarks.{least}
+use Rattle.watermark.specs.Marks.{marks_of}
+use Rattle.node.specs.Asking.{MayAskFire}
+use Rattle.world.specs.Turns.{HasAskedOne, IsAtWork}
+use Rattle.world.proofs.CallLaws.{fire-call}
+use Rattle.world.proofs.firing.fire.Goals as goal
+
+-- a timer that may be asked for has fired, if there is one
+pub returns-clause-asked : goal.returns-clause-asked
+returns-clause-asked g c =
+    let done : HasAskedOne c.args.book.now c.fire.new.desk.book.now (MayAskFire c.args.book.now.case c.args.node.now c.args.part
+    (least (marks_of c.args.book.now.case.topology c.args.part c.args.book.now.marks))) c.is_committed.result =
+    subst (HasAskedOne c.args.book.now c.fire.new.desk.book.now (MayAskFire c.args.book.now.case c.args.node.now c.args.part
+    (least (marks_of c.args.book.now.case.topology c.args.part c.args.book.now.marks)))) (sym c.is_committed.ensures)
+    (fire-call c.case-case.result.now c.args.book.now c.fire.new.desk.book.now c.args.node.now c.fire.new.self c.args.part c.in_ok-outcome.outcome
+    c.case-case.ensures.case c.requires.at_work c.in_ok-outcome.ensures.answers c.in_ok-outcome.ensures.marks c.in_ok-outcome.ensures.fits).0 in search rules
+
+-- the worker is at work then
+pub returns-clause-at_work : goal.returns-clause-at_work
+returns-clause-at_work g c =
+    subst (λ b. IsAtWork b c.fire.new.self) (search rules)
+    (fire-call c.case-case.result.now c.args.book.now c.fire.new.desk.book.now c.args.node.now c.fire.new.self c.args.part c.in_ok-outcome.outcome
+    c.case-case.ensures.case c.requires.at_work c.in_ok-outcome.ensures.answers c.in_ok-outcome.ensures.marks c.in_ok-outcome.ensures.fits).1

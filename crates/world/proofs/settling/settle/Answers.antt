@@ -1,0 +1,63 @@
+use Rattle.std.proofs.Common.{◌≡◌, ◌<◌, rules, subst}
+use Rattle.std.specs.Prelude.{IfErr, IfSome, None, Some}
+use Rattle.topology.specs.Shapes.{parts_of}
+use Rattle.node.specs.declared.outcome.NodeFault.TheVariants as faults
+use Rattle.world.specs.Turns.{CanBeKept}
+use Rattle.world.proofs.DrainLaws.{found-least, no-sender, sent-by}
+use Rattle.world.proofs.GoLaws.{turned-stayed}
+use Rattle.world.proofs.Results.{err-then}
+use Rattle.world.proofs.SettleLaws.{pending-sent, sent-own}
+use Rattle.world.proofs.TurnLaws.{failed-not, stepped-not}
+use Rattle.world.proofs.settling.settle.Goals as goal
+
+-- nothing was done
+pub returns-then-parts-part-clause-turned : goal.returns-then-parts-part-clause-turned
+returns-then-parts-part-clause-turned g c = turned-stayed c.args.book.now c.args.book.now (stepped-not c.args.book.now)
+
+-- as there is no such sender where the rows are told
+pub returns-then-parts-part-clause-more : goal.returns-then-parts-part-clause-more
+returns-then-parts-part-clause-more g c = λ told. absurd (no-sender c.args.book.now c.args.sender c.args.id c.parts-parts.result
+    (search rules) c.if-parts-part.true c.history.ensures.lawful c.requires.least told)
+
+-- there was no memory for what was found
+pub returns-in_err-found-clause-failed : goal.returns-in_err-found-clause-failed
+returns-in_err-found-clause-failed g c =
+    let none : IfErr c.from_residual.result (λ why. why ≡ faults.NoMemory) = search rules in
+    err-then c.from_residual.result (λ why is. failed-not c.args.book.now why is) none
+
+-- the least id is that of what was found
+pub settle_sent-requires-clause-least : goal.settle_sent-requires-clause-least
+settle_sent-requires-clause-least g c =
+    found-least c.args.book.now c.args.node.now c.args.sender c.args.id c.in-Some.delivery
+    (sent-by c.case-case.result.now c.args.book.now c.args.node.now c.args.sender c.args.id c.in_ok-found.found (Some c.in-Some.delivery)
+    c.case-case.ensures.case c.in_ok-found.ensures.sent c.in-Some.is) c.requires.least
+
+-- its sender's part is there
+pub settle_sent-requires-clause-part : goal.settle_sent-requires-clause-part
+settle_sent-requires-clause-part g c =
+    let same : c.parts-parts.result ≡ parts_of c.args.book.now.case.topology = search rules in
+    subst (λ n. c.args.sender.part < n) same c.if-parts-part.false
+
+-- it was sent
+pub settle_sent-requires-clause-sent : goal.settle_sent-requires-clause-sent
+settle_sent-requires-clause-sent g c =
+    sent-own c.args.book.now.case.topology c.args.node.now c.args.sender c.args.id c.in-Some.delivery
+    (sent-by c.case-case.result.now c.args.book.now c.args.node.now c.args.sender c.args.id c.in_ok-found.found (Some c.in-Some.delivery)
+    c.case-case.ensures.case c.in_ok-found.ensures.sent c.in-Some.is)
+
+-- and can be kept
+pub settle_sent-requires-clause-kept : goal.settle_sent-requires-clause-kept
+settle_sent-requires-clause-kept g c = subst (λ o. IfSome o CanBeKept) c.in-Some.is c.in_ok-found.ensures.kept
+
+-- nothing was done
+pub returns-in-None-clause-turned : goal.returns-in-None-clause-turned
+returns-in-None-clause-turned g c = turned-stayed c.args.book.now c.args.book.now (stepped-not c.args.book.now)
+
+-- as the least id is pending where the rows are told
+pub returns-in-None-clause-more : goal.returns-in-None-clause-more
+returns-in-None-clause-more g c = λ told.
+    let same : c.parts-parts.result ≡ parts_of c.args.book.now.case.topology = search rules in
+    absurd (pending-sent c.args.book.now c.args.node.now c.args.sender c.args.id c.requires.at_work told
+    (subst (λ n. c.args.sender.part < n) same c.if-parts-part.false) c.requires.least.pending
+    (sent-by c.case-case.result.now c.args.book.now c.args.node.now c.args.sender c.args.id c.in_ok-found.found None
+    c.case-case.ensures.case c.in_ok-found.ensures.sent c.in-None.is))

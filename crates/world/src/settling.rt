@@ -1,0 +1,266 @@
+//! What a drain does with the least id that is not acknowledged.
+ghost use Rattle.std.specs.Prelude.{◌≡◌, ◌<◌, ◌≤◌, ℕ, IfErr, IfOk, IfSome, OnOk, Some, IsSome, true, false, option_copied};
+ghost use Rattle.mw_types.specs.declared.TheConstants.{MAX_STAMP};
+ghost use Rattle.topology.specs.Shapes.{parts_of};
+ghost use Rattle.row_parts.specs.Contents.{IsId, is_finished};
+ghost use Rattle.run_history.specs.Made.{found_delivery};
+ghost use Rattle.run_history.specs.Runs.{run_of};
+ghost use Rattle.book.specs.Senders.{IsLeastSent};
+ghost use Rattle.holdings.specs.Holding.{held_on, row_held};
+ghost use Rattle.node.specs.Works.{IsWorkOf};
+ghost use Rattle.node.specs.Messages.{IsDeliverable, IsSentFrom};
+ghost use Rattle.book.specs.OwnDesks.{own_view};
+ghost use Rattle.run_history.specs.Legal.{floor_of};
+ghost use Rattle.run_history.specs.Finished.{is_handled};
+ghost use Rattle.row_parts.specs.Contents.{same_id};
+ghost use Rattle.node.specs.Asking.{MayAskForget, settle_asked};
+ghost use Rattle.world.specs.Turns.{CanBeKept, HasAsked, HasAskedOne, HasFailed, HasHandled, HasTurned, IsAtWork, IsToSettle, WhereTold, is_committed, is_finished_at, sent_at};
+
+use book::{Book, OwnDesk};
+use computations::Computation;
+use mw_types::{Delivery, Duplicate, NoMemory, RecordId, RowName};
+use node::{Message, Node, NodeFault, Outcome, Parcel, Receipt};
+use row_keeper::Keeper;
+use run_history::Case;
+use std::alloc::Global;
+
+// Settles the least id that is not acknowledged: it is acknowledged, where its record is handled;
+// else its row forgets ids, where it has many; else its record is handled.
+pub(crate) fn settle<'a, K: Keeper, C: Computation>(
+    alloc: Global,
+    book: &mut Book<'a, K>,
+    work: &C,
+    node: &mut Node<u64>,
+    id: RecordId,
+    sender: RowName,
+) -> Result<bool, NodeFault>
+    requires work { IsWorkOf book.old.case.topology (C.has work.now)
+        (C.gives_record work.now) (C.gives_timer work.now) }
+    requires at_work { IsAtWork book.old node.old }
+    requires least { let shape = book.old.case.topology in
+        IsLeastSent shape (run_of shape book.old.history) id sender }
+    ensures turned { IfOk result (HasTurned book.old book.new) }
+    ensures at_work { OnOk result (IsAtWork book.new node.new) }
+    ensures more { IfOk result (λ more. WhereTold book.old (more ≡ true)) }
+    ensures failed { IfErr result (HasFailed book.old book.new) }
+{
+    // Its clauses say what always holds of a book.
+    book.history();
+    let case = book.case();
+    let parts = case.topology.parts();
+    let part = sender.part;
+    if parts <= part {
+        return Ok(false);
+    }
+    let found = sent(alloc, case, node, &sender, id)?;
+    match found {
+        Some(delivery) => settle_sent(alloc, book, work, node, sender, delivery),
+        None => Ok(false),
+    }
+}
+
+// Settles what a row has pending.
+fn settle_sent<'a, K: Keeper, C: Computation>(
+    alloc: Global,
+    book: &mut Book<'a, K>,
+    work: &C,
+    node: &mut Node<u64>,
+    sender: RowName,
+    delivery: Delivery,
+) -> Result<bool, NodeFault>
+    requires work { IsWorkOf book.old.case.topology (C.has work.now)
+        (C.gives_record work.now) (C.gives_timer work.now) }
+    requires at_work { IsAtWork book.old node.old }
+    requires least { let shape = book.old.case.topology in
+        IsLeastSent shape (run_of shape book.old.history) delivery.id sender }
+    requires part { sender.part < parts_of book.old.case.topology }
+    requires sent { sent_at book.old.case.topology node.old sender delivery.id ≡ Some delivery }
+    requires kept { CanBeKept delivery }
+    ensures turned { IfOk result (HasTurned book.old book.new) }
+    ensures more { IfOk result (λ more. WhereTold book.old (more ≡ true)) }
+    ensures at_work { OnOk result (IsAtWork book.new node.new) }
+    ensures failed { IfErr result (HasFailed book.old book.new) }
+{
+    // Its clauses say what always holds of a book.
+    book.history();
+    let case = book.case();
+    if is_finished(case, node, &delivery) {
+        return acknowledge(alloc, book, node, sender, delivery.id);
+    }
+    let forgot = forget(alloc, book, node, &delivery.to)?;
+    if forgot {
+        return Ok(true);
+    }
+    handle_left(alloc, book, work, node, sender, delivery)
+}
+
+// Handles a record that is not finished in its row.
+fn handle_left<'a, K: Keeper, C: Computation>(
+    alloc: Global,
+    book: &mut Book<'a, K>,
+    work: &C,
+    node: &mut Node<u64>,
+    sender: RowName,
+    delivery: Delivery,
+) -> Result<bool, NodeFault>
+    requires work { IsWorkOf book.old.case.topology (C.has work.now)
+        (C.gives_record work.now) (C.gives_timer work.now) }
+    requires at_work { IsAtWork book.old node.old }
+    requires deliverable { IsDeliverable book.old.case.topology delivery sender }
+    requires least { let shape = book.old.case.topology in
+        IsLeastSent shape (run_of shape book.old.history) delivery.id sender }
+    requires settles { WhereTold book.old
+        (IsToSettle book.old.case book.old.history sender delivery) }
+    ensures turned { IfOk result (HasTurned book.old book.new) }
+    ensures more { IfOk result (λ more. WhereTold book.old (more ≡ true)) }
+    ensures at_work { OnOk result (IsAtWork book.new node.new) }
+    ensures failed { IfErr result (HasFailed book.old book.new) }
+{
+    // Its clauses say what always holds of a book.
+    book.history();
+    // Only over a keeper whose rows no contract can see.
+    if is_finished(book.case(), node, &delivery) {
+        return Ok(false);
+    }
+    handle(alloc, book, work, node, sender, delivery)
+}
+
+// What a row has pending under an id.
+fn sent(
+    alloc: Global,
+    case: &Case,
+    node: &Node<u64>,
+    sender: &RowName,
+    id: RecordId,
+) -> Result<Option<Delivery>, NoMemory>
+    requires part { sender.now.part < parts_of case.now.topology }
+    ensures sent { IfOk result (λ found.
+        found ≡ sent_at case.now.topology node.now sender.now id) }
+    ensures kept { IfOk result (λ found. IfSome found CanBeKept) }
+{
+    let Some(row) = node.row(case, sender) else {
+        return Ok(None);
+    };
+    match found(row.pending.as_slice(), id) {
+        Some(delivery) => Ok(Some(delivery.copy(alloc)?)),
+        None => Ok(None),
+    }
+}
+
+// The delivery of an id among these.
+fn found(deliveries: &[Delivery], id: RecordId) -> Option<&Delivery>
+    ensures { option_copied result ≡ found_delivery id deliveries.now }
+{
+    deliveries.iter().find(|d| is_same(d.id, id))
+}
+
+// Whether two ids are the same.
+fn is_same(a: RecordId, b: RecordId) -> bool
+    ensures { result ≡ same_id a b }
+{
+    a.commit == b.commit && a.index == b.index
+}
+
+// Whether a record is finished in its row.
+fn is_finished(case: &Case, node: &Node<u64>, delivery: &Delivery) -> bool
+    requires part { delivery.now.to.part < parts_of case.now.topology }
+    ensures { result ≡ is_finished_at case.now.topology node.now delivery.now }
+{
+    match node.row(case, &delivery.to) {
+        Some(row) => row.is_finished(delivery.id),
+        None => false,
+    }
+}
+
+// Tells a row that what it sent was handled.
+fn acknowledge<'a, K: Keeper>(
+    alloc: Global,
+    book: &mut Book<'a, K>,
+    node: &mut Node<u64>,
+    sender: RowName,
+    id: RecordId,
+) -> Result<bool, NodeFault>
+    requires at_work { IsAtWork book.old node.old }
+    requires part { sender.part < parts_of book.old.case.topology }
+    requires handled { WhereTold book.old (is_handled id book.old.history ≡ true) }
+    ensures asked { let asked = settle_asked book.old.case.topology node.old sender id in
+        IfOk result (HasAsked book.old book.new asked) }
+    ensures at_work { OnOk result (IsAtWork book.new node.new) }
+    ensures failed { IfErr result (HasFailed book.old book.new) }
+{
+    let case = book.case();
+    let note = book.history().len() as u64;
+    let mut desk = OwnDesk { book };
+    let receipt = Receipt {
+        to: sender,
+        id,
+        note,
+    };
+    let outcome = node.take_ack(alloc, &mut desk, case, Message::Ack { receipt })?;
+    Ok(is_committed(outcome))
+}
+
+// Has a row that has 64 ids or more forget those that no sender sends again.
+fn forget<'a, K: Keeper>(
+    alloc: Global,
+    book: &mut Book<'a, K>,
+    node: &mut Node<u64>,
+    name: &RowName,
+) -> Result<bool, NodeFault>
+    requires at_work { IsAtWork book.old node.old }
+    requires part { name.now.part < parts_of book.old.case.topology }
+    ensures asked { let shape = book.old.case.topology in
+        let floor = floor_of (run_of shape book.old.history) in
+        IfOk result (HasAskedOne book.old book.new
+        (MayAskForget shape node.old 64 floor name.now)) }
+    ensures at_work { OnOk result (IsAtWork book.new node.new) }
+    ensures failed { IfErr result (HasFailed book.old book.new) }
+{
+    let case = book.case();
+    let mut desk = OwnDesk { book };
+    let outcome = node.purge_row(alloc, &mut desk, case, name, 64)?;
+    Ok(is_committed(outcome))
+}
+
+// Handles a record, and writes that.
+fn handle<'a, K: Keeper, C: Computation>(
+    alloc: Global,
+    book: &mut Book<'a, K>,
+    work: &C,
+    node: &mut Node<u64>,
+    sender: RowName,
+    delivery: Delivery,
+) -> Result<bool, NodeFault>
+    requires work { IsWorkOf book.old.case.topology (C.has work.now)
+        (C.gives_record work.now) (C.gives_timer work.now) }
+    requires at_work { IsAtWork book.old node.old }
+    requires deliverable { IsDeliverable book.old.case.topology delivery sender }
+    requires sent { WhereTold book.old
+        (IsSentFrom book.old.case book.old.history sender delivery) }
+    requires unfinished { is_finished_at book.old.case.topology node.old delivery ≡ false }
+    ensures handled { IfOk result (HasHandled book.old book.new delivery) }
+    ensures at_work { OnOk result (IsAtWork book.new node.new) }
+    ensures failed { IfErr result (HasFailed book.old book.new) }
+{
+    let case = book.case();
+    let note = book.history().len() as u64;
+    let mut desk = OwnDesk { book };
+    let parcel = Parcel {
+        delivery,
+        sender,
+        note,
+    };
+    node.prepare(alloc, &mut desk, case, work, Message::Deliver { parcel })?;
+    let outcome = node.commit(alloc, &mut desk, case)?;
+    Ok(is_committed(outcome))
+}
+
+// Whether an entry was written.
+pub(crate) fn is_committed(outcome: Outcome) -> bool
+    ensures { result ≡ is_committed outcome }
+{
+    match outcome {
+        Outcome::Committed { commit: _ } => true,
+        _ => false,
+    }
+}
