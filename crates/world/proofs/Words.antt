@@ -10,7 +10,7 @@ use Rattle.json_reading.specs.Refusals.{IsRefusalOf}
 use Rattle.topology.specs.Shapes.{Shape}
 use Rattle.mw_types.specs.declared.refusal.PlanRefusal.{PlanRefusal}
 use Rattle.mw_types.specs.declared.refusal.PlanRefusal.TheVariants.{NoMemory}
-use Rattle.world.specs.declared.step.Step.{Step}
+use Rattle.scripts.specs.declared.step.Step.{Step}
 use Rattle.world.specs.Schedules.{words_of, step_of}
 use Rattle.world.specs.Reading.{followed_by}
 

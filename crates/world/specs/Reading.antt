@@ -4,7 +4,7 @@ use Rattle.json_reading.specs.Refusals.{IsRefusalOf}
 use Rattle.topology.specs.Shapes.{Shape}
 use Rattle.mw_types.specs.declared.refusal.PlanRefusal.{PlanRefusal}
 use Rattle.mw_types.specs.declared.refusal.PlanRefusal.TheVariants.{NoMemory}
-use Rattle.world.specs.declared.step.Step.{Step}
+use Rattle.scripts.specs.declared.step.Step.{Step}
 use Rattle.world.specs.Schedules.{with_line}
 
 -- these steps, and then what follows them

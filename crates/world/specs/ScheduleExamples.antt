@@ -3,8 +3,8 @@ use Rattle.std.specs.Prelude.{ℕ, List, [], ◌∷◌, ◌++◌, codes, Result,
 use Rattle.topology.specs.Samples.{one_count}
 use Rattle.mw_types.specs.declared.refusal.PlanRefusal.{PlanRefusal}
 use Rattle.mw_types.specs.declared.refusal.PlanRefusal.TheVariants.{Line}
-use Rattle.world.specs.declared.step.Step.{Step}
-use Rattle.world.specs.declared.step.Step.TheVariants as steps
+use Rattle.scripts.specs.declared.step.Step.{Step}
+use Rattle.scripts.specs.declared.step.Step.TheVariants as steps
 use Rattle.world.specs.Schedules.{schedule_of}
 
 -- what a schedule of the example says

@@ -10,8 +10,8 @@ use Rattle.topology.specs.Shapes.{Shape, injectors_of, parts_of}
 use Rattle.topology.specs.Rules.{interval_count}
 use Rattle.mw_types.specs.declared.refusal.PlanRefusal.{PlanRefusal}
 use Rattle.mw_types.specs.declared.refusal.PlanRefusal.TheVariants.{Line}
-use Rattle.world.specs.declared.step.Step.{Step}
-use Rattle.world.specs.declared.step.Step.TheVariants as steps
+use Rattle.scripts.specs.declared.step.Step.{Step}
+use Rattle.scripts.specs.declared.step.Step.TheVariants as steps
 
 -- the number that a word of one to ten digits is
 abbrev pub number_in : List ℕ → Option ℕ

@@ -21,7 +21,6 @@ mod purging;
 mod schedule;
 mod schedule_lines;
 mod settling;
-mod step;
 mod turns;
 
 pub use draining::drain;
@@ -33,4 +32,4 @@ pub use drains::{
 pub use examples::{drained_example_is_drained, schedule_examples};
 pub use passes::{a_pass_finds_low_watermarks, a_pass_leaves_the_greatest_safe_marks};
 pub use schedule::{Schedule, read_schedule};
-pub use step::Step;
+pub use scripts::Step;

@@ -5,7 +5,7 @@ ghost use Rattle.world.specs.Schedules.{schedule_of, IsStep};
 ghost use Rattle.world.specs.Reading.{TakesIn, Refuses};
 
 use crate::schedule_lines::{first_line, is_skipped, step_in};
-use crate::step::Step;
+use scripts::Step;
 use mw_types::{PlanRefusal, Seq};
 use run_history::Case;
 use std::alloc::Global;
@@ -19,7 +19,7 @@ pub struct Schedule {
 
 impl Model for Schedule {
     ghost use Rattle.std.specs.Prelude.{List};
-    ghost use Rattle.world.specs.declared.step.Step.{Step};
+    ghost use Rattle.scripts.specs.declared.step.Step.{Step};
 
     ghost Value = { List Step };
 

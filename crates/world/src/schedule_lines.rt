@@ -5,7 +5,7 @@ ghost use Rattle.topology.specs.Rules.{interval_count};
 ghost use Rattle.topology.specs.Shapes.{injectors_of, parts_of};
 ghost use Rattle.world.specs.Schedules.{number_in, between, worker_in, message_in, interval_in, injector_in, computation_in, step_of_one, step_of_two, step_of, words_of, is_skipped, IsStep};
 
-use crate::step::Step;
+use scripts::Step;
 use memchr::memchr;
 use run_history::Case;
 
