@@ -1,13 +1,16 @@
-//! The order in which one thread works everything off, with its laws, and the reader of schedules.
+//! The order in which one thread works everything off, the drain that does it, the laws of that order, and the
+//! reader of schedules.
 //!
-//! A drain claims each interval, and then writes the one entry that its rules name, until none is
-//! left to write. Each law of drains and of passes is the contract of a function with an empty body.
-//! Stands on `book` and the crates below it. Public contract: until it ends a drain has a next entry,
-//! and at most one that leaves the history legal and fenced; so two legal and fenced histories that
-//! are drained from one beginning are the same; no work is left when a legal one ends; one pass of
-//! reports finds exactly the low watermarks where nothing is pending. A schedule is read exactly, or
-//! its first line that is no step is named. Definitions: `specs/Drains.antt`, what a drain writes;
-//! `specs/Passes.antt`, a pass of reports; `specs/Schedules.antt`, what a schedule says.
+//! A drain claims each interval, and then writes the one entry that its rules name, until none is left
+//! to write. Each law of drains and of passes is the contract of a function with an empty body. Stands
+//! on `node` and `scripts` and the crates below them. Public contract: `drain` returns over every
+//! keeper, and where a contract can see the keeper's rows it writes exactly the entries of that order,
+//! and after Ok none is left; until it ends a drain has a next entry, and at most one that leaves the
+//! history legal and fenced; so two legal and fenced histories that are drained from one beginning are
+//! the same; no work is left when a legal one ends; one pass of reports finds exactly the low watermarks
+//! where nothing is pending. A schedule is read exactly, or its first line that is no step is named.
+//! Definitions: `specs/Drains.antt`, what a drain writes; `specs/Passes.antt`, a pass of reports;
+//! `specs/Schedules.antt`, what a schedule says.
 #![tactic(auto)]
 
 mod claiming;
