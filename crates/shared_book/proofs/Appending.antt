@@ -260,7 +260,7 @@ appends_one basis slots id v b e turn live may longer below lawful limit told s 
         homes = s.homes;
         views = slice_set s.views id (after v e);
       })) (sym next) (appended basis s f id v b e at turn live may longer lawful limit told),
-      (found ∙ sym front, λ i. (is i, (0, Some b) ∷ [])),
+      ((refl, refl, refl), found ∙ sym front, λ i. (is i, (0, Some b) ∷ [])),
     )
 
 -- ---- the turn is given back
@@ -324,7 +324,7 @@ gives_turn basis slots id v b turn live core room s f homes at small =
         owned = λ k p q. somewhere_set (λ x. IsIn k x.own) s.views id v w at (λ y. y) (f.owned k p q);
         numbered = λ n p. somewhere_set (λ x. IsIn n x.numbers) s.views id v w at (λ y. y) (f.numbered n p);
       },
-      refl,
+      ((refl, refl, refl), refl),
     )
 
 -- ---- a fault is noted
@@ -388,7 +388,7 @@ faults_one basis slots id v b turn more rose s f homes at small =
         owned = λ k p q. somewhere_set (λ x. IsIn k x.own) s.views id v w at (λ y. y) (f.owned k p q);
         numbered = λ n p. somewhere_set (λ x. IsIn n x.numbers) s.views id v w at (λ y. y) (f.numbered n p);
       },
-      refl,
+      ((refl, refl, refl), refl),
     )
 
 -- ---- a look
@@ -416,6 +416,7 @@ looks_on basis slots id v l live s f homes at small =
       tt,
       still basis s f id v at,
       (
+        (refl, refl, refl),
         refl,
         record {
           fenced = subst (λ (z : Basis). IsFenced z.case.topology v.front) base

@@ -1,5 +1,5 @@
 -- Splits and joins keep the fence law.
-use Rattle.std.proofs.Common.{inl, inr, ◌≡◌, ◌⊎◌, ℕ, zero, suc, ◌+◌, ◌-◌, ◌<◌, List, [], ◌∷◌, ◌++◌, true, false, refl, sym, ap, ◌∙◌, subst, ⊎_elim, arith}
+use Rattle.std.proofs.Common.{inl, inr, ◌≡◌, ◌⊎◌, ℕ, zero, suc, ◌+◌, ◌-◌, ◌<◌, List, [], ◌∷◌, ◌++◌, true, false, refl, sym, ap, ◌∙◌, subst, ⊎_elim, arith, append-nil}
 use Rattle.std.specs.Prelude.{slice_set}
 use mathlib.Core.Option.{some, some-ne-none}
 use lib.ListN.{get_elem?}
@@ -256,3 +256,28 @@ seats_join basis id v other w live quiet still s f at apart there' =
       numbered = λ n p. somewhere_joined (λ x. IsIn n x.numbers) s.views id other v w (joined v w) spent at there apart
           (merged_left n v.numbers w.numbers) (merged_right n v.numbers w.numbers) (f.numbered n p);
     }
+
+-- ---- a note is taken in
+
+-- a seat that took in a note has as many numbers as before
+pub met_numbers : (v w : View) → w ≡ note_of w → (joined v w).numbers ≡ v.numbers
+met_numbers v w bare = ap (λ (x : View). merged v.numbers x.numbers) bare
+
+-- and the entries that it had
+pub met_own : (v w : View) → w ≡ note_of w → (joined v w).own ≡ v.own
+met_own v w bare = ap (λ (x : View). merged v.own x.own) bare
+
+-- and its leases
+pub met_leases : (v w : View) → w ≡ note_of w → (joined v w).leases ≡ v.leases
+met_leases v w bare = ap (λ (x : View). v.leases ++ x.leases) bare ∙ append-nil v.leases
+
+-- and its count of faults
+pub met_faults : (v w : View) → w ≡ note_of w → (joined v w).faults ≡ v.faults
+met_faults v w bare = ap (λ (x : View). v.faults + (x.faults - v.faults)) bare ∙ none_more v.faults
+  where
+    none_more : (n : ℕ) → n + (0 - n) ≡ n
+    none_more n = omega arith
+
+-- a note of a note is a note
+pub note_bare : (v w : View) → w ≡ note_of v → w ≡ note_of w
+note_bare v w e = e ∙ sym (ap note_of e)

@@ -13,7 +13,7 @@ use Rattle.shared_book.specs.declared.views.Basis.{Basis}
 use Rattle.shared_book.specs.declared.views.View.{View}
 use Rattle.shared_book.specs.Lists.{IsIn}
 use Rattle.shared_book.specs.FenceLaw.{Slot, FenceLaw, Fits, AreApart, IsCore, AreClaimed, HasSeenOwn, no_marks}
-use Rattle.shared_book.specs.Steps.{Takes, holding, missing}
+use Rattle.shared_book.specs.Steps.{IsTry, Takes, holding, missing}
 use Rattle.shared_book.proofs.ViewLists.{everywhere_set, pairwise_set, somewhere_set, somewhere_here}
 use Rattle.shared_book.proofs.Histories.{claim_kept, all_below}
 
@@ -63,6 +63,11 @@ fits_on basis h k turn count turn' count' u f quiet grows more seen_own = record
 pub alone : (basis : Basis) (s : State Slot View) (f : FenceLaw basis s) (id : ℕ) (v : View) → get_elem? s.views id ≡ some v
     → v.turn ≡ true → (i : ℕ) (u : View) → i ≢ id → get_elem? s.views i ≡ some u → u.turn ≡ true → ⊥
 alone basis s f id v at t i u o e r = (f.apart id i v u at e (λ x. o (sym x))).turn t r
+
+-- a try for the turn is the step that it is said to be
+tries : (slots number : ℕ) (ns : List ℕ) (v : View) → v.numbers ≡ number ∷ ns → IsTry (step slots 1 0 (number + 1) none) v
+tries slots number ns v num = let next : number + 1 ≡ suc number = omega arith in
+    record { word = refl; from = refl; least = number; others = ns; numbers = num; to = next }
 
 -- what has to be shown of a step that takes the turn, or misses it, where it found this number
 abbrev Taken : Basis → ℕ → ℕ → ℕ → View → State Slot View → ℕ → Type 0
@@ -141,15 +146,18 @@ took basis slots id number ns v num quiet live s f at is =
         numbered = λ n p. somewhere_set (λ x. IsIn n x.numbers) s.views id v w at (λ y. y) (f.numbered n p);
       },
       (
-        b,
-        refl,
-        record {
-          begins = reach;
-          claimed = fit.claimed;
-          seen_own = subst (λ l. HasSeenOwn l v) (sym core.whole) fit.seen_own;
-          core = subst (λ (y : Basis). IsCore y b.history b.faults b) (sym base)
-              (record { whole = refl; enough = omega arith; lawful = core.lawful; limit = core.limit; told = core.told });
-        },
+        tries slots number ns v num,
+        (
+          b,
+          refl,
+          record {
+            begins = reach;
+            claimed = fit.claimed;
+            seen_own = subst (λ l. HasSeenOwn l v) (sym core.whole) fit.seen_own;
+            core = subst (λ (y : Basis). IsCore y b.history b.faults b) (sym base)
+                (record { whole = refl; enough = omega arith; lawful = core.lawful; limit = core.limit; told = core.told });
+          },
+        ),
       ),
     )
 
@@ -205,7 +213,7 @@ taken basis slots id number ns v num quiet live s f at (suc m) is =
         owned = λ k p q. somewhere_set (λ x. IsIn k x.own) s.views id v w at (λ y. y) (f.owned k p q);
         numbered = λ n p. somewhere_set (λ x. IsIn n x.numbers) s.views id v w at (λ y. y) (f.numbered n p);
       },
-      refl,
+      (tries slots number ns v num, refl),
     )
 
 -- a seat without the turn may try to take it
