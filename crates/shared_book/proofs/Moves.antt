@@ -1,7 +1,7 @@
 -- Taking the turn, or missing it, keeps the fence law.
 use Rattle.std.proofs.Common.{◌≡◌, ◌≢◌, ℕ, zero, suc, ◌+◌, ◌≤◌, List, [], ◌∷◌, length, Some, true, false, true≢false, refl, sym, ap, ◌∙◌, subst, arith, eqb, ne_eqb}
 use Rattle.std.specs.Prelude.{slice_index, slice_set}
-use mathlib.Core.Option.{some, none, some-ne-none}
+use mathlib.Core.Option.{Option, some, none, some-ne-none}
 use prog.Atomic.{either}
 use lib.ListN.{get_elem?}
 use Rattle.atomic_table.specs.Table.{State, Act, keeps, takes, stepped, step, Allows, Valid, carried_after}
@@ -43,7 +43,7 @@ pub fits_on : (basis : Basis) (h k : List Entry) (turn count turn' count' : ℕ)
     → (u.turn ≡ true → ⊥) → Begins h k → count ≤ count' → HasSeenOwn k u → Fits basis k turn' count' u
 fits_on basis h k turn count turn' count' u f quiet grows more seen_own = record {
   same = f.same;
-  spent = f.spent;
+  gone = f.gone;
   begins = Begins-trans u.front h k f.begins grows;
   reaches = f.reaches;
   met = f.met;
@@ -63,6 +63,12 @@ fits_on basis h k turn count turn' count' u f quiet grows more seen_own = record
 pub alone : (basis : Basis) (s : State Slot View) (f : FenceLaw basis s) (id : ℕ) (v : View) → get_elem? s.views id ≡ some v
     → v.turn ≡ true → (i : ℕ) (u : View) → i ≢ id → get_elem? s.views i ≡ some u → u.turn ≡ true → ⊥
 alone basis s f id v at t i u o e r = (f.apart id i v u at e (λ x. o (sym x))).turn t r
+
+-- the first place has what it was set to
+place_set : (homes : List (Option Slot)) (x y : Option Slot) → get_elem? homes 0 ≡ some x
+    → get_elem? (slice_set homes 0 y) 0 ≡ some y
+place_set [] x y e = absurd (some-ne-none x (sym e))
+place_set (h ∷ homes) x y e = refl
 
 -- a try for the turn is the step that it is said to be
 tries : (slots number : ℕ) (ns : List ℕ) (v : View) → v.numbers ≡ number ∷ ns → IsTry (step slots 1 0 (number + 1) none) v
@@ -108,6 +114,7 @@ took basis slots id number ns v num quiet live s f at is =
         words = ap (λ l. slice_set l 1 (number + 1)) f.words;
         holder = λ z. somewhere_here (λ x. x.turn ≡ true) s.views id v w at refl;
         home = λ z. absurd (omega arith);
+        out = λ z. place_set s.homes (some (Some b)) none home.1;
         fenced = f.fenced;
         legal = f.legal;
         few = f.few;
@@ -116,7 +123,7 @@ took basis slots id number ns v num quiet live s f at is =
         views = everywhere_set (Fits basis h (number + 1) b.faults) s.views id w
             (record {
               same = fit.same;
-              spent = fit.spent;
+              gone = λ e. absurd (off (sym e ∙ live));
               begins = subst (λ l. Begins l h) (sym core.whole) (Begins-itself h);
               reaches = λ x. let o = fit.reaches x in omega (arith, o, longer);
               met = Begins-trans v.met v.front b.history fit.met reach;
@@ -182,6 +189,7 @@ taken basis slots id number ns v num quiet live s f at (suc m) is =
             (same_words s.words (length f.history) f.turn f.words);
         holder = λ z. somewhere_set (λ x. x.turn ≡ true) s.views id v w at (λ y. y) (f.holder z);
         home = f.home;
+        out = f.out;
         fenced = f.fenced;
         legal = f.legal;
         few = f.few;
@@ -190,7 +198,7 @@ taken basis slots id number ns v num quiet live s f at (suc m) is =
         views = everywhere_set (Fits basis f.history f.turn f.count) s.views id w
             (record {
               same = fit.same;
-              spent = fit.spent;
+              gone = λ e. absurd (off (sym e ∙ live));
               begins = fit.begins;
               reaches = fit.reaches;
               met = fit.met;

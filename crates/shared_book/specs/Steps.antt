@@ -11,7 +11,7 @@ use Rattle.run_history.specs.Fences.{Begins, IsFenced, sequencer_of}
 use Rattle.book.specs.Books.{CoreView, LeaseView}
 use Rattle.shared_book.specs.declared.views.View.{View}
 use Rattle.shared_book.specs.Lists.{Ascends, IsIn}
-use Rattle.shared_book.specs.FenceLaw.{Slot, IsCore, AreClaimed, HasSeenOwn, seqs}
+use Rattle.shared_book.specs.FenceLaw.{Slot, IsCore, AreClaimed, HasSeenOwn, sequencers}
 
 -- a seat, as a step sees it: its view, and the places that it holds with what they hold
 abbrev pub SeatView : Type 0
@@ -89,7 +89,7 @@ Appends step seat found after = IsStep step 0 1 × (found ≡ length seat.0.fron
 
 -- an entry may be appended by a seat: where it carries a sequencer, that is one of the seat's leases
 abbrev pub IsOwnEntry : View → Entry → Type 0
-IsOwnEntry v entry = (seq : ℕ) → sequencer_of entry ≡ Some seq → IsIn seq (seqs v.leases)
+IsOwnEntry v entry = (seq : ℕ) → sequencer_of entry ≡ Some seq → IsIn seq (sequencers v.leases)
 
 -- a history has one entry more than the seat has seen, which the seat may append
 abbrev pub IsNext : View → List Entry → Type 0
@@ -134,4 +134,5 @@ pub record HasSeenLawful (v : View) : Type 0 where
 
 -- a seat looks, by a load of word 0, and learns what it has seen
 abbrev pub Looks : Step Slot → SeatView → ℕ → SeatView → Type 0
-Looks step seat found after = IsStep step 0 0 × (after ≡ seat) × HasSeenLawful seat.0 × Begins seat.0.met seat.0.front
+Looks step seat found after = IsStep step 0 0 × (after ≡ seat) × HasSeenLawful seat.0
+    × Begins seat.0.met seat.0.front
