@@ -24,7 +24,7 @@ use Rattle.book.proofs.SeenRows.{told-then}
 use Rattle.shared_book.specs.declared.views.Basis.{Basis}
 use Rattle.shared_book.specs.declared.views.View.{View}
 use Rattle.shared_book.specs.Lists.{IsIn, AreDistinct}
-use Rattle.shared_book.specs.FenceLaw.{Slot, FenceLaw, Fits, AreApart, IsCore, AreClaimed, CarriesBelow, seqs, no_marks}
+use Rattle.shared_book.specs.FenceLaw.{Slot, FenceLaw, Fits, AreApart, IsCore, AreClaimed, CarriesBelow, sequencers, no_marks}
 use Rattle.shared_book.specs.Steps.{Appends, Gives, Faults, Looks, IsOwnEntry, lease_in, grown, idle, faulted}
 use Rattle.shared_book.proofs.Lists.{in_append, in_left, in_right, ascends_push, distinct_append, drop_front}
 use Rattle.shared_book.proofs.ViewLists.{everywhere_set, pairwise_set, somewhere_set, somewhere_here}
@@ -34,22 +34,22 @@ use Rattle.shared_book.proofs.Moves.{off, apart_sym, fits_on, alone}
 -- ---- leases and their sequencers
 
 -- the sequencers of two lists of leases
-pub seqs_append : (a b : List LeaseView) → seqs (a ++ b) ≡ seqs a ++ seqs b
-seqs_append [] b = refl
-seqs_append (x ∷ a) b = ap (λ l. x.seq ∷ l) (seqs_append a b)
+pub sequencers_append : (a b : List LeaseView) → sequencers (a ++ b) ≡ sequencers a ++ sequencers b
+sequencers_append [] b = refl
+sequencers_append (x ∷ a) b = ap (λ l. x.seq ∷ l) (sequencers_append a b)
 
 -- a sequencer is that of a lease
-pub lease_with : (s : ℕ) (ls : List LeaseView) → IsIn s (seqs ls) → (l : LeaseView) × IsIn l ls × (l.seq ≡ s)
+pub lease_with : (s : ℕ) (ls : List LeaseView) → IsIn s (sequencers ls) → (l : LeaseView) × IsIn l ls × (l.seq ≡ s)
 lease_with s [] p = absurd p
 lease_with s (x ∷ xs) p = ⊎_elim (λ e. (x, inl refl, sym e)) (λ q. let r = lease_with s xs q in (r.0, inr r.1, r.2)) p
 
 -- and a lease has a sequencer
-pub seq_of_lease : (l : LeaseView) (ls : List LeaseView) → IsIn l ls → IsIn l.seq (seqs ls)
+pub seq_of_lease : (l : LeaseView) (ls : List LeaseView) → IsIn l ls → IsIn l.seq (sequencers ls)
 seq_of_lease l [] p = absurd p
 seq_of_lease l (x ∷ xs) p = ⊎_elim (λ e. inl (ap (λ (y : LeaseView). y.seq) e)) (λ q. inr (seq_of_lease l xs q)) p
 
 -- a lease's sequencer is below the length of what was seen
-pub seq_below : (front : List Entry) (ls : List LeaseView) (s : ℕ) → AreClaimed front ls → IsIn s (seqs ls) → s < length front
+pub seq_below : (front : List Entry) (ls : List LeaseView) (s : ℕ) → AreClaimed front ls → IsIn s (sequencers ls) → s < length front
 seq_below front ls s h p =
     let l = lease_with s ls p in
     subst (λ (z : ℕ). z < length front) l.2 (claim_within front l.0.interval l.0.seq (h l.0 l.1))
@@ -61,7 +61,7 @@ abbrev news : View → Entry → List LeaseView
 news v e = lease_in (e ∷ []) (length v.front)
 
 -- a lease that an entry gives has the entry's number
-new_seq : (v : View) (e : Entry) (s : ℕ) → IsIn s (seqs (news v e)) → s ≡ length v.front
+new_seq : (v : View) (e : Entry) (s : ℕ) → IsIn s (sequencers (news v e)) → s ≡ length v.front
 new_seq v (Claim w i) s p = ⊎_elim (λ x. x) (λ x. absurd x) p
 new_seq v (Inject q part line item) s p = absurd p
 new_seq v (Handle q row id effects) s p = absurd p
@@ -70,7 +70,7 @@ new_seq v (Ack q row id) s p = absurd p
 new_seq v (Purge q row floor) s p = absurd p
 
 -- an entry gives at most one lease
-news_distinct : (v : View) (e : Entry) → AreDistinct (seqs (news v e))
+news_distinct : (v : View) (e : Entry) → AreDistinct (sequencers (news v e))
 news_distinct v (Claim w i) = ((λ x. x), tt)
 news_distinct v (Inject q part line item) = tt
 news_distinct v (Handle q row id effects) = tt
@@ -137,7 +137,7 @@ grown_fits basis s f id v e at turn live =
     let len : length v.front ≡ length f.history = ap length whole in
     record {
       same = fit.same;
-      spent = fit.spent;
+      gone = λ e. absurd (off (sym e ∙ live));
       begins = Begins-itself h';
       reaches = λ x. let o = fit.reaches x in omega (arith, o, more);
       met = Begins-trans v.met v.front h' fit.met (begins_more v.front e);
@@ -145,8 +145,8 @@ grown_fits basis s f id v e at turn live =
       claimed = λ l p. ⊎_elim
           (λ q. claim_kept v.front h' l.interval l.seq (begins_more v.front e) (fit.claimed l q))
           (λ q. news_claimed v e l q) (in_append l v.leases (news v e) p);
-      once = subst AreDistinct (sym (seqs_append v.leases (news v e)))
-          (distinct_append (seqs v.leases) (seqs (news v e)) fit.once (news_distinct v e)
+      once = subst AreDistinct (sym (sequencers_append v.leases (news v e)))
+          (distinct_append (sequencers v.leases) (sequencers (news v e)) fit.once (news_distinct v e)
           (λ x p q. let b = seq_below v.front v.leases x fit.claimed p in let c = new_seq v e x q in omega (arith, b, c)));
       seen_own = λ q p. all_below h' h' q refl;
       own = λ k p. ⊎_elim (λ q. let o = fit.own k q in (o.0, omega (arith, o.1, more)))
@@ -169,9 +169,9 @@ grown_apart basis s f id v e at turn i u o g =
     let a = f.apart id i v u at g (λ x. o (sym x)) in
     let fu = f.views i u g in
     let short = Begins-length u.front f.history fu.begins in
-    let there : (q : ℕ) → IsIn q (seqs (v.leases ++ news v e)) → IsIn q (seqs v.leases) ⊎ (q ≡ length v.front) = λ q p.
+    let there : (q : ℕ) → IsIn q (sequencers (v.leases ++ news v e)) → IsIn q (sequencers v.leases) ⊎ (q ≡ length v.front) = λ q p.
     ⊎_elim (λ y. inl y) (λ y. inr (new_seq v e q y))
-    (in_append q (seqs v.leases) (seqs (news v e)) (subst (IsIn q) (seqs_append v.leases (news v e)) p)) in
+    (in_append q (sequencers v.leases) (sequencers (news v e)) (subst (IsIn q) (sequencers_append v.leases (news v e)) p)) in
     record {
       turn = a.turn;
       leases = λ q p r. ⊎_elim (λ y. a.leases q y r)
@@ -211,6 +211,7 @@ appended basis s f id v b e at turn live may longer lawful limit told =
       words = ap (λ l. slice_set l 0 (length h')) f.words;
       holder = λ z. somewhere_here (λ x. x.turn ≡ true) s.views id v w at turn;
       home = λ z. absurd (omega (arith, mine.3, z));
+      out = f.out;
       fenced = subst (IsFenced basis.case.topology) longer lawful'.fenced;
       legal = lawful_legal basis h' b lawful' longer (told ∙ ap (λ (z : Basis). z.told) base);
       few = omega (arith, room, limit, ap length longer, ap (λ (z : Basis). z.limit) base);
@@ -260,7 +261,7 @@ appends_one basis slots id v b e turn live may longer below lawful limit told s 
         homes = s.homes;
         views = slice_set s.views id (after v e);
       })) (sym next) (appended basis s f id v b e at turn live may longer lawful limit told),
-      (found ∙ sym front, λ i. (is i, (0, Some b) ∷ [])),
+      ((refl, refl, refl), found ∙ sym front, λ i. (is i, (0, Some b) ∷ [])),
     )
 
 -- ---- the turn is given back
@@ -288,6 +289,7 @@ gives_turn basis slots id v b turn live core room s f homes at small =
           set_here s.homes 0 (some (Some b)) (omega (arith, homes)),
           subst (λ (z : Basis × List Entry × ℕ). IsCore z.0 z.1 z.2 b) (λ i. (fit.same live i, mine.4 i, mine.5 i)) core,
         );
+        out = λ z. absurd (omega (arith, z));
         fenced = f.fenced;
         legal = f.legal;
         few = f.few;
@@ -296,7 +298,7 @@ gives_turn basis slots id v b turn live core room s f homes at small =
         views = everywhere_set (Fits basis f.history 0 f.count) s.views id w
             (record {
               same = fit.same;
-              spent = fit.spent;
+              gone = λ e. absurd (off (sym e ∙ live));
               begins = fit.begins;
               reaches = fit.reaches;
               met = fit.met;
@@ -324,7 +326,7 @@ gives_turn basis slots id v b turn live core room s f homes at small =
         owned = λ k p q. somewhere_set (λ x. IsIn k x.own) s.views id v w at (λ y. y) (f.owned k p q);
         numbered = λ n p. somewhere_set (λ x. IsIn n x.numbers) s.views id v w at (λ y. y) (f.numbered n p);
       },
-      refl,
+      ((refl, refl, refl), refl),
     )
 
 -- ---- a fault is noted
@@ -356,6 +358,7 @@ faults_one basis slots id v b turn more rose s f homes at small =
         words = same_first basis s f;
         holder = λ z. somewhere_here (λ x. x.turn ≡ true) s.views id v w at turn;
         home = λ z. absurd (omega (arith, mine.3, z));
+        out = f.out;
         fenced = f.fenced;
         legal = f.legal;
         few = f.few;
@@ -364,7 +367,7 @@ faults_one basis slots id v b turn more rose s f homes at small =
         views = everywhere_set (Fits basis f.history f.turn b.faults) s.views id w
             (record {
               same = fit.same;
-              spent = fit.spent;
+              gone = λ e. absurd (off (sym (ap (λ (x : View). x.turn) (fit.gone e)) ∙ turn));
               begins = fit.begins;
               reaches = fit.reaches;
               met = fit.met;
@@ -388,7 +391,7 @@ faults_one basis slots id v b turn more rose s f homes at small =
         owned = λ k p q. somewhere_set (λ x. IsIn k x.own) s.views id v w at (λ y. y) (f.owned k p q);
         numbered = λ n p. somewhere_set (λ x. IsIn n x.numbers) s.views id v w at (λ y. y) (f.numbered n p);
       },
-      refl,
+      ((refl, refl, refl), refl),
     )
 
 -- ---- a look
@@ -416,6 +419,7 @@ looks_on basis slots id v l live s f homes at small =
       tt,
       still basis s f id v at,
       (
+        (refl, refl, refl),
         refl,
         record {
           fenced = subst (λ (z : Basis). IsFenced z.case.topology v.front) base

@@ -30,7 +30,7 @@ use Rattle.book.proofs.DeskLaws.{telling-if, if-telling, telling-same, IsWritten
 use Rattle.book.proofs.OwnLaws.{claimed-is_claimed, may-use, may-settle, row-seen}
 use Rattle.shared_book.specs.declared.views.View.{View}
 use Rattle.shared_book.specs.Lists.{IsIn}
-use Rattle.shared_book.specs.FenceLaw.{IsCore, AreClaimed, seqs}
+use Rattle.shared_book.specs.FenceLaw.{IsCore, AreClaimed, sequencers}
 use Rattle.shared_book.specs.Steps.{SeatView, IsOwnEntry, grown}
 use Rattle.shared_book.specs.Turns.{HasClaimedIn, HasStoredIn, HasWrittenIn, IsGrown, MayWrite, IsRowHeld, IsProposedIn}
 use Rattle.shared_book.proofs.Appending.{seq_of_lease}
@@ -43,7 +43,7 @@ claim_own v worker interval seq carries = absurd (none_some seq carries)
 pub lease_own : (v : View) (lease : LeaseView) (entry : Entry) → IsIn lease v.leases → sequencer_of entry ≡ Some lease.seq
     → IsOwnEntry v entry
 lease_own v lease entry held carries seq other =
-    subst (λ (s : ℕ). IsIn s (seqs v.leases)) (some_same lease.seq seq (sym carries ∙ other)) (seq_of_lease lease v.leases held)
+    subst (λ (s : ℕ). IsIn s (sequencers v.leases)) (some_same lease.seq seq (sym carries ∙ other)) (seq_of_lease lease v.leases held)
 
 -- the entry of a proposal carries the sequencer that it was made under
 pub entry_carries : (case : CaseShape) (seq : ℕ) (name : RowName) (proposal : Proposal) (entry : Entry)

@@ -1,5 +1,5 @@
 -- Splits and joins keep the fence law.
-use Rattle.std.proofs.Common.{inl, inr, ◌≡◌, ◌⊎◌, ℕ, zero, suc, ◌+◌, ◌-◌, ◌<◌, List, [], ◌∷◌, ◌++◌, true, false, refl, sym, ap, ◌∙◌, subst, ⊎_elim, arith}
+use Rattle.std.proofs.Common.{inl, inr, ◌≡◌, ◌⊎◌, ℕ, zero, suc, ◌+◌, ◌-◌, ◌<◌, List, [], ◌∷◌, ◌++◌, true, false, refl, sym, ap, ◌∙◌, subst, ⊎_elim, arith, append-nil}
 use Rattle.std.specs.Prelude.{slice_set}
 use mathlib.Core.Option.{some, some-ne-none}
 use lib.ListN.{get_elem?}
@@ -9,13 +9,13 @@ use Rattle.run_history.proofs.Beginnings.{Begins-length}
 use Rattle.shared_book.specs.declared.views.Basis.{Basis}
 use Rattle.shared_book.specs.declared.views.View.{View}
 use Rattle.shared_book.specs.Lists.{IsIn, Ascends, AreDistinct}
-use Rattle.shared_book.specs.FenceLaw.{Slot, FenceLaw, Fits, AreApart, seqs}
+use Rattle.shared_book.specs.FenceLaw.{Slot, FenceLaw, Fits, AreApart, sequencers}
 use Rattle.shared_book.specs.Joins.{note_of, first_of, others_of, stays, leaves, longer, merged, joined, spent}
 use Rattle.shared_book.proofs.Lists.{in_append, distinct_append, no_members}
 use Rattle.shared_book.proofs.ViewLists.{everywhere_set, pairwise_set, everywhere_snoc, pairwise_snoc, somewhere_split, somewhere_joined, everywhere_joined, pairwise_joined}
 use Rattle.shared_book.proofs.Histories.{claim_kept}
 use Rattle.shared_book.proofs.Moves.{off, apart_sym}
-use Rattle.shared_book.proofs.Appending.{seqs_append}
+use Rattle.shared_book.proofs.Appending.{sequencers_append}
 use Rattle.shared_book.proofs.Merging.{in_merged, merged_left, merged_right, merged_ascends}
 use Rattle.shared_book.proofs.Fronts.{is_longer}
 
@@ -36,6 +36,7 @@ split_law basis s f id v left right at fl fr lr others turn own numbers = record
   words = f.words;
   holder = λ z. somewhere_split (λ x. x.turn ≡ true) s.views id v left right at (λ t. inl (turn t)) (f.holder z);
   home = f.home;
+  out = f.out;
   fenced = f.fenced;
   legal = f.legal;
   few = f.few;
@@ -57,7 +58,7 @@ nothing : (v u : View) → v.turn ≡ false → v.leases ≡ [] → v.own ≡ []
     → AreApart v u
 nothing v u t l o n = record {
   turn = λ x y. absurd (off (sym t ∙ x));
-  leases = λ s x y. subst (λ z. IsIn s (seqs z)) l x;
+  leases = λ s x y. subst (λ z. IsIn s (sequencers z)) l x;
   own = λ k x y. subst (IsIn k) o x;
   numbers = n;
 }
@@ -69,7 +70,7 @@ note_splits basis id v s f at =
     split_law basis s f id v v (note_of v) at fit
     (record {
       same = fit.same;
-      spent = λ e. refl;
+      gone = λ e. ap note_of (fit.gone e);
       begins = fit.begins;
       reaches = fit.reaches;
       met = (v.front, refl);
@@ -105,7 +106,8 @@ seat_splits basis id n m ms v is quiet s f at =
     split_law basis s f id v (stays v) (leaves v) at
     (record {
       same = fit.same;
-      spent = λ e. ap others_of (fit.spent e);
+      gone = λ e. absurd (some-ne-none n
+          (sym (ap (λ (l : List ℕ). get_elem? l 0) (sym (ap (λ (x : View). x.numbers) (fit.gone e)) ∙ is))));
       begins = fit.begins;
       reaches = fit.reaches;
       met = fit.met;
@@ -122,7 +124,8 @@ seat_splits basis id n m ms v is quiet s f at =
     })
     (record {
       same = fit.same;
-      spent = λ e. ap first_of (fit.spent e);
+      gone = λ e. absurd (some-ne-none n
+          (sym (ap (λ (l : List ℕ). get_elem? l 0) (sym (ap (λ (x : View). x.numbers) (fit.gone e)) ∙ is))));
       begins = fit.begins;
       reaches = fit.reaches;
       met = (v.front, refl);
@@ -161,11 +164,11 @@ joined_fits basis s f v w fv fw a live quiet =
     let far = is_longer v.front w.front f.history fv.begins fw.begins in
     let p_len = Begins-length v.front (longer v.front w.front) far.left in
     let q_len = Begins-length w.front (longer v.front w.front) far.right in
-    let in_seqs : (q : ℕ) → IsIn q (seqs (v.leases ++ w.leases)) → IsIn q (seqs v.leases) ⊎ IsIn q (seqs w.leases) =
-    λ q p. in_append q (seqs v.leases) (seqs w.leases) (subst (IsIn q) (seqs_append v.leases w.leases) p) in
+    let in_either : (q : ℕ) → IsIn q (sequencers (v.leases ++ w.leases)) → IsIn q (sequencers v.leases) ⊎ IsIn q (sequencers w.leases) =
+    λ q p. in_append q (sequencers v.leases) (sequencers w.leases) (subst (IsIn q) (sequencers_append v.leases w.leases) p) in
     record {
       same = fv.same;
-      spent = λ e. absurd (off (sym e ∙ live));
+      gone = λ e. absurd (off (sym e ∙ live));
       begins = far.whole;
       reaches = λ x. let o = fv.reaches x in omega (arith, o, p_len);
       met = far.right;
@@ -174,12 +177,12 @@ joined_fits basis s f v w fv fw a live quiet =
           (λ q. claim_kept v.front (longer v.front w.front) l.interval l.seq far.left (fv.claimed l q))
           (λ q. claim_kept w.front (longer v.front w.front) l.interval l.seq far.right (fw.claimed l q))
           (in_append l v.leases w.leases p);
-      once = subst AreDistinct (sym (seqs_append v.leases w.leases))
-          (distinct_append (seqs v.leases) (seqs w.leases) fv.once fw.once a.leases);
+      once = subst AreDistinct (sym (sequencers_append v.leases w.leases))
+          (distinct_append (sequencers v.leases) (sequencers w.leases) fv.once fw.once a.leases);
       seen_own = λ q p j e there carries. ⊎_elim
           (λ y. let b = fv.seen_own q y j e there carries in omega (arith, b, p_len))
           (λ y. let b = fw.seen_own q y j e there carries in omega (arith, b, q_len))
-          (in_seqs q p);
+          (in_either q p);
       own = λ k p. ⊎_elim
           (λ y. let b = fv.own k y in (b.0, omega (arith, b.1, p_len)))
           (λ y. let b = fw.own k y in (b.0, omega (arith, b.1, q_len)))
@@ -198,7 +201,7 @@ joined_fits basis s f v w fv fw a live quiet =
 spent_fits : (basis : Basis) (s : State Slot View) (f : FenceLaw basis s) → Fits basis f.history f.turn f.count spent
 spent_fits basis s f = record {
   same = λ e. absurd (off e);
-  spent = λ e. refl;
+  gone = λ e. refl;
   begins = (f.history, refl);
   reaches = λ e. absurd (off e);
   met = ([], refl);
@@ -219,7 +222,7 @@ joined_apart : (v w u : View) → AreApart v u → AreApart w u → AreApart (jo
 joined_apart v w u b c = record {
   turn = b.turn;
   leases = λ q p r. ⊎_elim (λ y. b.leases q y r) (λ y. c.leases q y r)
-      (in_append q (seqs v.leases) (seqs w.leases) (subst (IsIn q) (seqs_append v.leases w.leases) p));
+      (in_append q (sequencers v.leases) (sequencers w.leases) (subst (IsIn q) (sequencers_append v.leases w.leases) p));
   own = λ k p r. ⊎_elim (λ y. b.own k y r) (λ y. c.own k y r) (in_merged k v.own w.own p);
   numbers = λ k p r. ⊎_elim (λ y. b.numbers k y r) (λ y. c.numbers k y r) (in_merged k v.numbers w.numbers p);
 }
@@ -241,6 +244,7 @@ seats_join basis id v other w live quiet still s f at apart there' =
       holder = λ z. somewhere_joined (λ x. x.turn ≡ true) s.views id other v w (joined v w) spent at there apart
           (λ t. t) (λ t. absurd (off (sym still ∙ t))) (f.holder z);
       home = f.home;
+      out = f.out;
       fenced = f.fenced;
       legal = f.legal;
       few = f.few;
@@ -256,3 +260,28 @@ seats_join basis id v other w live quiet still s f at apart there' =
       numbered = λ n p. somewhere_joined (λ x. IsIn n x.numbers) s.views id other v w (joined v w) spent at there apart
           (merged_left n v.numbers w.numbers) (merged_right n v.numbers w.numbers) (f.numbered n p);
     }
+
+-- ---- a note is taken in
+
+-- a seat that took in a note has as many numbers as before
+pub met_numbers : (v w : View) → w ≡ note_of w → (joined v w).numbers ≡ v.numbers
+met_numbers v w bare = ap (λ (x : View). merged v.numbers x.numbers) bare
+
+-- and the entries that it had
+pub met_own : (v w : View) → w ≡ note_of w → (joined v w).own ≡ v.own
+met_own v w bare = ap (λ (x : View). merged v.own x.own) bare
+
+-- and its leases
+pub met_leases : (v w : View) → w ≡ note_of w → (joined v w).leases ≡ v.leases
+met_leases v w bare = ap (λ (x : View). v.leases ++ x.leases) bare ∙ append-nil v.leases
+
+-- and its count of faults
+pub met_faults : (v w : View) → w ≡ note_of w → (joined v w).faults ≡ v.faults
+met_faults v w bare = ap (λ (x : View). v.faults + (x.faults - v.faults)) bare ∙ none_more v.faults
+  where
+    none_more : (n : ℕ) → n + (0 - n) ≡ n
+    none_more n = omega arith
+
+-- a note of a note is a note
+pub note_bare : (v w : View) → w ≡ note_of v → w ≡ note_of w
+note_bare v w e = e ∙ sym (ap note_of e)

@@ -1,7 +1,7 @@
 -- Taking the turn, or missing it, keeps the fence law.
 use Rattle.std.proofs.Common.{◌≡◌, ◌≢◌, ℕ, zero, suc, ◌+◌, ◌≤◌, List, [], ◌∷◌, length, Some, true, false, true≢false, refl, sym, ap, ◌∙◌, subst, arith, eqb, ne_eqb}
 use Rattle.std.specs.Prelude.{slice_index, slice_set}
-use mathlib.Core.Option.{some, none, some-ne-none}
+use mathlib.Core.Option.{Option, some, none, some-ne-none}
 use prog.Atomic.{either}
 use lib.ListN.{get_elem?}
 use Rattle.atomic_table.specs.Table.{State, Act, keeps, takes, stepped, step, Allows, Valid, carried_after}
@@ -13,7 +13,7 @@ use Rattle.shared_book.specs.declared.views.Basis.{Basis}
 use Rattle.shared_book.specs.declared.views.View.{View}
 use Rattle.shared_book.specs.Lists.{IsIn}
 use Rattle.shared_book.specs.FenceLaw.{Slot, FenceLaw, Fits, AreApart, IsCore, AreClaimed, HasSeenOwn, no_marks}
-use Rattle.shared_book.specs.Steps.{Takes, holding, missing}
+use Rattle.shared_book.specs.Steps.{IsTry, Takes, holding, missing}
 use Rattle.shared_book.proofs.ViewLists.{everywhere_set, pairwise_set, somewhere_set, somewhere_here}
 use Rattle.shared_book.proofs.Histories.{claim_kept, all_below}
 
@@ -43,7 +43,7 @@ pub fits_on : (basis : Basis) (h k : List Entry) (turn count turn' count' : ℕ)
     → (u.turn ≡ true → ⊥) → Begins h k → count ≤ count' → HasSeenOwn k u → Fits basis k turn' count' u
 fits_on basis h k turn count turn' count' u f quiet grows more seen_own = record {
   same = f.same;
-  spent = f.spent;
+  gone = f.gone;
   begins = Begins-trans u.front h k f.begins grows;
   reaches = f.reaches;
   met = f.met;
@@ -63,6 +63,17 @@ fits_on basis h k turn count turn' count' u f quiet grows more seen_own = record
 pub alone : (basis : Basis) (s : State Slot View) (f : FenceLaw basis s) (id : ℕ) (v : View) → get_elem? s.views id ≡ some v
     → v.turn ≡ true → (i : ℕ) (u : View) → i ≢ id → get_elem? s.views i ≡ some u → u.turn ≡ true → ⊥
 alone basis s f id v at t i u o e r = (f.apart id i v u at e (λ x. o (sym x))).turn t r
+
+-- the first place has what it was set to
+place_set : (homes : List (Option Slot)) (x y : Option Slot) → get_elem? homes 0 ≡ some x
+    → get_elem? (slice_set homes 0 y) 0 ≡ some y
+place_set [] x y e = absurd (some-ne-none x (sym e))
+place_set (h ∷ homes) x y e = refl
+
+-- a try for the turn is the step that it is said to be
+tries : (slots number : ℕ) (ns : List ℕ) (v : View) → v.numbers ≡ number ∷ ns → IsTry (step slots 1 0 (number + 1) none) v
+tries slots number ns v num = let next : number + 1 ≡ suc number = omega arith in
+    record { word = refl; from = refl; least = number; others = ns; numbers = num; to = next }
 
 -- what has to be shown of a step that takes the turn, or misses it, where it found this number
 abbrev Taken : Basis → ℕ → ℕ → ℕ → View → State Slot View → ℕ → Type 0
@@ -103,6 +114,7 @@ took basis slots id number ns v num quiet live s f at is =
         words = ap (λ l. slice_set l 1 (number + 1)) f.words;
         holder = λ z. somewhere_here (λ x. x.turn ≡ true) s.views id v w at refl;
         home = λ z. absurd (omega arith);
+        out = λ z. place_set s.homes (some (Some b)) none home.1;
         fenced = f.fenced;
         legal = f.legal;
         few = f.few;
@@ -111,7 +123,7 @@ took basis slots id number ns v num quiet live s f at is =
         views = everywhere_set (Fits basis h (number + 1) b.faults) s.views id w
             (record {
               same = fit.same;
-              spent = fit.spent;
+              gone = λ e. absurd (off (sym e ∙ live));
               begins = subst (λ l. Begins l h) (sym core.whole) (Begins-itself h);
               reaches = λ x. let o = fit.reaches x in omega (arith, o, longer);
               met = Begins-trans v.met v.front b.history fit.met reach;
@@ -141,15 +153,18 @@ took basis slots id number ns v num quiet live s f at is =
         numbered = λ n p. somewhere_set (λ x. IsIn n x.numbers) s.views id v w at (λ y. y) (f.numbered n p);
       },
       (
-        b,
-        refl,
-        record {
-          begins = reach;
-          claimed = fit.claimed;
-          seen_own = subst (λ l. HasSeenOwn l v) (sym core.whole) fit.seen_own;
-          core = subst (λ (y : Basis). IsCore y b.history b.faults b) (sym base)
-              (record { whole = refl; enough = omega arith; lawful = core.lawful; limit = core.limit; told = core.told });
-        },
+        tries slots number ns v num,
+        (
+          b,
+          refl,
+          record {
+            begins = reach;
+            claimed = fit.claimed;
+            seen_own = subst (λ l. HasSeenOwn l v) (sym core.whole) fit.seen_own;
+            core = subst (λ (y : Basis). IsCore y b.history b.faults b) (sym base)
+                (record { whole = refl; enough = omega arith; lawful = core.lawful; limit = core.limit; told = core.told });
+          },
+        ),
       ),
     )
 
@@ -174,6 +189,7 @@ taken basis slots id number ns v num quiet live s f at (suc m) is =
             (same_words s.words (length f.history) f.turn f.words);
         holder = λ z. somewhere_set (λ x. x.turn ≡ true) s.views id v w at (λ y. y) (f.holder z);
         home = f.home;
+        out = f.out;
         fenced = f.fenced;
         legal = f.legal;
         few = f.few;
@@ -182,7 +198,7 @@ taken basis slots id number ns v num quiet live s f at (suc m) is =
         views = everywhere_set (Fits basis f.history f.turn f.count) s.views id w
             (record {
               same = fit.same;
-              spent = fit.spent;
+              gone = λ e. absurd (off (sym e ∙ live));
               begins = fit.begins;
               reaches = fit.reaches;
               met = fit.met;
@@ -205,7 +221,7 @@ taken basis slots id number ns v num quiet live s f at (suc m) is =
         owned = λ k p q. somewhere_set (λ x. IsIn k x.own) s.views id v w at (λ y. y) (f.owned k p q);
         numbered = λ n p. somewhere_set (λ x. IsIn n x.numbers) s.views id v w at (λ y. y) (f.numbered n p);
       },
-      refl,
+      (tries slots number ns v num, refl),
     )
 
 -- a seat without the turn may try to take it

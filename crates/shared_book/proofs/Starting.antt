@@ -65,7 +65,7 @@ lift_join key id v other w both spent live h s r at apart there = ⊎_elim
 no_blank : (basis : Basis) (s : State Slot View) (f : FenceLaw basis s) (case : CaseShape) (seats id : ℕ) (t : Bool)
     → get_elem? s.views id ≡ some (blank case seats t) → ⊥
 no_blank basis s f case seats id t at = some-ne-none 0
-    (sym (ap (λ (l : List ℕ). get_elem? l 0) (sym ((f.views id (blank case seats t) at).spent refl))))
+    (sym (ap (λ (x : View). get_elem? x.numbers 0) (sym ((f.views id (blank case seats t) at).gone refl))))
 
 -- the rule holds of the empty table
 pub starts : (key : Key) → SharedLaw key (opening (0 ∷ 0 ∷ no_marks) (None ∷ []) (blank key.case.now key.seats false))
@@ -144,6 +144,7 @@ newborn_law v b homes some_seat lawful home =
       words = refl;
       holder = λ z. absurd (omega (arith, z));
       home = λ z. (b, home, record { whole = refl; enough = omega arith; lawful = lawful; limit = refl; told = refl });
+      out = λ z. absurd (omega (arith, z));
       fenced = lawful.fenced;
       legal = lawful_legal basis b.history b lawful refl refl;
       few = lawful.few;
@@ -151,7 +152,7 @@ newborn_law v b homes some_seat lawful home =
       counted = omega arith;
       views = λ i u e. let here = one_view (newborn v b) u i e in subst (Fits basis b.history 0 b.faults) here.1 (record {
         same = λ e. refl;
-        spent = λ e. absurd (true≢false e);
+        gone = λ e. absurd (true≢false e);
         begins = Begins-itself b.history;
         reaches = λ e. omega arith;
         met = (b.history, refl);

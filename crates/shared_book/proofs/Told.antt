@@ -18,8 +18,8 @@ use Rattle.shared_book.specs.Lists.{IsIn}
 use Rattle.shared_book.specs.FenceLaw.{Slot, IsCore, AreClaimed}
 use Rattle.shared_book.specs.Joins.{first_of, others_of}
 use Rattle.shared_book.specs.Opening.{SharedLaw}
-use Rattle.shared_book.specs.Steps.{SeatView, HasFound, Takes, Appends, Gives, Faults, Looks, IsNext, faults_in, grown, history_in, faulted, holding, missing, lease_in}
-use Rattle.shared_book.specs.Turns.{IsTold, HasTaken, HasTurn, IsGrown}
+use Rattle.shared_book.specs.Steps.{SeatView, HasFound, Takes, Appends, Gives, Faults, Looks, IsTold, IsNext, faults_in, grown, history_in, faulted, holding, missing, lease_in}
+use Rattle.shared_book.specs.Turns.{HasTaken, HasTurn, IsGrown}
 use Rattle.shared_book.proofs.Lists.{drop_front, in_append}
 use Rattle.shared_book.proofs.Histories.{begins_more, claim_kept, seen_all}
 use Rattle.shared_book.proofs.Moves.{takes_turn}
@@ -119,10 +119,10 @@ taken_of v b found = record {
         (found.seen_own l.seq (seq_of_lease l v.leases p))
 
 -- the step took the turn where it found 0
-pub took_turn : (found : ℕ) (v w : SeatView) → v.1 ≡ [] → IsTold found v w → found ≡ 0
+pub took_turn : (found : ℕ) (v w : SeatView) → v.1 ≡ [] → IsTold v found w → found ≡ 0
     → HasTurn w × HasTaken v.0 w.0 × (w.0.basis ≡ v.0.basis) × (w.0.live ≡ v.0.live) × (w.0.numbers ≡ v.0.numbers)
 took_turn found v w empty told nought =
-    let t : IsTold 0 v w = subst (λ (n : ℕ). IsTold n v w) nought told in
+    let t : IsTold v 0 w = subst (λ (n : ℕ). IsTold v n w) nought told in
     let b = t.0 in
     let is : w ≡ (holding v.0 b, (0, Some b) ∷ []) =
     t.1 ∙ ap (λ (l : List (ℕ × Slot)). (holding v.0 b, (0, Some b) ∷ l)) empty in
@@ -141,7 +141,7 @@ took_turn found v w empty told nought =
     )
 
 -- else it noted what it found
-pub missed_turn : (found : ℕ) (v w : SeatView) → IsTold found v w → (found ≡ 0 → ⊥) → w ≡ (missing v.0 found, v.1)
+pub missed_turn : (found : ℕ) (v w : SeatView) → IsTold v found w → (found ≡ 0 → ⊥) → w ≡ (missing v.0 found, v.1)
 missed_turn found v w told ne =
     subst (λ (b : Bool). MatchBool b
     ((b : CoreView) × (w ≡ (holding v.0 b, (0, Some b) ∷ v.1)) × HasFound v.0 b)
@@ -201,7 +201,7 @@ turn_grown v b t g = record {
 }
 
 -- what the step leaves as it was, whether it took the turn or not
-pub told_same : (found : ℕ) (v w : SeatView) → v.1 ≡ [] → IsTold found v w
+pub told_same : (found : ℕ) (v w : SeatView) → v.1 ≡ [] → IsTold v found w
     → (w.0.basis ≡ v.0.basis) × (w.0.live ≡ v.0.live) × (w.0.numbers ≡ v.0.numbers)
 told_same zero v w empty told = let t = took_turn 0 v w empty told refl in (t.2, t.3, t.4)
 told_same (suc n) v w empty told =

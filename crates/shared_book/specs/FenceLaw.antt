@@ -3,7 +3,7 @@
 -- checked at each write, so that a former owner's write is refused. Own: threads that share one history,
 -- the turn, and what each seat has seen of it.
 use Rattle.std.specs.Prelude.{◌≡◌, ℕ, suc, ◌<◌, ◌≤◌, List, [], ◌∷◌, true, false, Option, Some, IfSome, length, replicate, slice_get}
-use mathlib.Core.Option.{some}
+use mathlib.Core.Option.{some, none}
 use lib.ListN.{get_elem?}
 use Rattle.atomic_table.specs.Table.{State}
 use Rattle.mw_types.specs.Causes.{Rose}
@@ -15,6 +15,7 @@ use Rattle.book.specs.Lawful.{IsLawful}
 use Rattle.book.specs.OwnDesks.{telling}
 use Rattle.shared_book.specs.declared.views.Basis.{Basis}
 use Rattle.shared_book.specs.declared.views.View.{View}
+use Rattle.shared_book.specs.Joins.{spent}
 use Rattle.shared_book.specs.Lists.{IsIn, Ascends, AreDistinct, Somewhere, Everywhere, Pairwise}
 
 -- ---- the words and the place
@@ -44,9 +45,9 @@ IsHome basis history count homes =
 -- ---- what one seat knows
 
 -- the sequencers of leases
-abbrev pub seqs : List LeaseView → List ℕ
-seqs [] = []
-seqs (lease ∷ leases) = lease.seq ∷ seqs leases
+abbrev pub sequencers : List LeaseView → List ℕ
+sequencers [] = []
+sequencers (lease ∷ leases) = lease.seq ∷ sequencers leases
 
 -- the claim of each lease stands in what was seen
 abbrev pub AreClaimed : List Entry → List LeaseView → Type 0
@@ -59,7 +60,7 @@ CarriesBelow history seq number = (at : ℕ) (entry : Entry) → slice_get histo
 
 -- each entry that carries the sequencer of a seat's lease is in what the seat has seen
 abbrev pub HasSeenOwn : List Entry → View → Type 0
-HasSeenOwn history v = (seq : ℕ) → IsIn seq (seqs v.leases) → CarriesBelow history seq (length v.front)
+HasSeenOwn history v = (seq : ℕ) → IsIn seq (sequencers v.leases) → CarriesBelow history seq (length v.front)
 
 -- the seat that has the turn: the word is 1 more than its least number, it has seen all, and it has the
 -- count
@@ -75,8 +76,8 @@ OnlyLooks v = (v.turn ≡ false) × (v.leases ≡ []) × (v.own ≡ [])
 pub record Fits (basis : Basis) (history : List Entry) (turn count : ℕ) (v : View) : Type 0 where
   -- all seats of the book have the same constants
   pub same : v.live ≡ true → v.basis ≡ basis
-  -- a view that is spent has no number: the blank one, from which all begin, has one
-  pub spent : v.live ≡ false → v.numbers ≡ []
+  -- a view that is not live is that of a seat that was taken in: not the blank one, from which all begin
+  pub gone : v.live ≡ false → v ≡ spent
   -- what was seen is a beginning of the history, and not less than what the book began with: else one who
   -- closes it could lack what was there at the start
   pub begins : Begins v.front history
@@ -88,7 +89,7 @@ pub record Fits (basis : Basis) (history : List Entry) (turn count : ℕ) (v : V
   -- leases: each was claimed in what was seen, none stands twice, and all that was written under it was
   -- seen
   pub claimed : AreClaimed v.front v.leases
-  pub once : AreDistinct (seqs v.leases)
+  pub once : AreDistinct (sequencers v.leases)
   pub seen_own : HasSeenOwn history v
   -- own entries came after the start, were seen, and stand in order
   pub own : (commit : ℕ) → IsIn commit v.own → (basis.begin ≤ commit) × (commit < length v.front)
@@ -103,7 +104,7 @@ pub record Fits (basis : Basis) (history : List Entry) (turn count : ℕ) (v : V
 -- no two views share the turn, a sequencer, an own entry or a number
 pub record AreApart (v w : View) : Type 0 where
   pub turn : v.turn ≡ true → w.turn ≡ true → ⊥
-  pub leases : (seq : ℕ) → IsIn seq (seqs v.leases) → IsIn seq (seqs w.leases) → ⊥
+  pub leases : (seq : ℕ) → IsIn seq (sequencers v.leases) → IsIn seq (sequencers w.leases) → ⊥
   pub own : (commit : ℕ) → IsIn commit v.own → IsIn commit w.own → ⊥
   pub numbers : (n : ℕ) → IsIn n v.numbers → IsIn n w.numbers → ⊥
 
@@ -118,8 +119,9 @@ pub record FenceLaw (basis : Basis) (s : State Slot View) : Type 0 where
   pub words : s.words ≡ length history ∷ turn ∷ no_marks
   -- where word 1 is not 0 a seat has the turn: else nobody could tell that the book is at home
   pub holder : 0 < turn → Somewhere s.views (λ v. v.turn ≡ true)
-  -- where word 1 is 0 the book is at home, with this history
+  -- where word 1 is 0 the book is at home, with this history; else its place is empty
   pub home : turn ≡ 0 → IsHome basis history count s.homes
+  pub out : 0 < turn → get_elem? s.homes 0 ≡ some none
   -- the history is fenced, legal where a contract can see the rows, and not shorter than at the start
   pub fenced : IsFenced basis.case.topology history
   pub legal : IfSome basis.told (λ _. IsLegal basis.case history)

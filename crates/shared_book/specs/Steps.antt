@@ -11,11 +11,16 @@ use Rattle.run_history.specs.Fences.{Begins, IsFenced, sequencer_of}
 use Rattle.book.specs.Books.{CoreView, LeaseView}
 use Rattle.shared_book.specs.declared.views.View.{View}
 use Rattle.shared_book.specs.Lists.{Ascends, IsIn}
-use Rattle.shared_book.specs.FenceLaw.{Slot, IsCore, AreClaimed, HasSeenOwn, seqs}
+use Rattle.shared_book.specs.FenceLaw.{Slot, IsCore, AreClaimed, HasSeenOwn, sequencers}
 
 -- a seat, as a step sees it: its view, and the places that it holds with what they hold
 abbrev pub SeatView : Type 0
 SeatView = Me Slot View
+
+-- the step is on this word, with this operand and no second one. A step does not tell by which operation it
+-- was made: the fence law says of each word what it may become
+abbrev pub IsStep : Step Slot → ℕ → ℕ → Type 0
+IsStep step word operand = (step.word ≡ word) × (step.first ≡ operand) × (step.second ≡ 0)
 
 -- ---- the turn is taken, or another has it
 
@@ -34,11 +39,25 @@ pub record HasFound (v : View) (book : CoreView) : Type 0 where
   pub seen_own : HasSeenOwn book.history v
   pub core : IsCore v.basis book.history book.faults book
 
--- a seat takes the turn, and the book with it, where the word is 0; else it notes the word
-abbrev pub Takes : Step Slot → SeatView → ℕ → SeatView → Type 0
-Takes step seat found after = MatchBool (found == 0)
+-- the step of a try for the turn: word 1 goes from 0 to 1 more than the least number of the seat
+pub record IsTry (step : Step Slot) (v : View) : Type 0 where
+  pub word : step.word ≡ 1
+  pub from : step.first ≡ 0
+  pub least : ℕ
+  pub others : List ℕ
+  pub numbers : v.numbers ≡ least ∷ others
+  pub to : step.second ≡ suc least
+
+-- what a try that found this word tells: at 0 the seat has the turn, and the book with it; else it notes the
+-- word
+abbrev pub IsTold : SeatView → ℕ → SeatView → Type 0
+IsTold seat found after = MatchBool (found == 0)
     ((core : CoreView) × (after ≡ (holding seat.0 core, (0, Some core) ∷ seat.1)) × HasFound seat.0 core)
     (after ≡ (missing seat.0 found, seat.1))
+
+-- a seat tries for the turn
+abbrev pub Takes : Step Slot → SeatView → ℕ → SeatView → Type 0
+Takes step seat found after = IsTry step seat.0 × IsTold seat found after
 
 -- ---- an entry is appended
 
@@ -63,14 +82,14 @@ grown v history = record v {
   leases = v.leases ++ lease_in (drop (length v.front) history) (length v.front);
 }
 
--- the seat with the turn appends the entry that the book in its place has more
+-- the seat with the turn appends the entry that the book in its place has more: 1 is added to word 0
 abbrev pub Appends : Step Slot → SeatView → ℕ → SeatView → Type 0
-Appends step seat found after = (found ≡ length seat.0.front)
+Appends step seat found after = IsStep step 0 1 × (found ≡ length seat.0.front)
     × (after ≡ (grown seat.0 (history_in seat.1), seat.1))
 
 -- an entry may be appended by a seat: where it carries a sequencer, that is one of the seat's leases
 abbrev pub IsOwnEntry : View → Entry → Type 0
-IsOwnEntry v entry = (seq : ℕ) → sequencer_of entry ≡ Some seq → IsIn seq (seqs v.leases)
+IsOwnEntry v entry = (seq : ℕ) → sequencer_of entry ≡ Some seq → IsIn seq (sequencers v.leases)
 
 -- a history has one entry more than the seat has seen, which the seat may append
 abbrev pub IsNext : View → List Entry → Type 0
@@ -82,9 +101,9 @@ IsNext v history = (entry : Entry) × (history ≡ v.front ++ entry ∷ []) × I
 abbrev pub idle : View → View
 idle v = record v { turn = false; count = 0 }
 
--- the seat gives the turn back, and the book with it
+-- the seat gives the turn back, and the book with it: word 1 becomes 0
 abbrev pub Gives : Step Slot → SeatView → ℕ → SeatView → Type 0
-Gives step seat found after = after ≡ (idle seat.0, [])
+Gives step seat found after = IsStep step 1 0 × (after ≡ (idle seat.0, []))
 
 -- ---- a fault is noted
 
@@ -98,9 +117,9 @@ faults_in ((at, Some core) ∷ places) = core.faults
 abbrev pub faulted : View → ℕ → View
 faulted v count = record v { faults = suc v.faults; count = count }
 
--- the seat with the turn notes that the keeper failed
+-- the seat with the turn notes that the keeper failed, at a load of word 0
 abbrev pub Faults : Step Slot → SeatView → ℕ → SeatView → Type 0
-Faults step seat found after = after ≡ (faulted seat.0 (faults_in seat.1), seat.1)
+Faults step seat found after = IsStep step 0 0 × (after ≡ (faulted seat.0 (faults_in seat.1), seat.1))
 
 -- ---- a look, which changes nothing
 
@@ -113,6 +132,7 @@ pub record HasSeenLawful (v : View) : Type 0 where
   pub claimed : AreClaimed v.front v.leases
   pub ascend : Ascends v.numbers
 
--- a seat looks, and learns what it has seen
+-- a seat looks, by a load of word 0, and learns what it has seen
 abbrev pub Looks : Step Slot → SeatView → ℕ → SeatView → Type 0
-Looks step seat found after = (after ≡ seat) × HasSeenLawful seat.0 × Begins seat.0.met seat.0.front
+Looks step seat found after = IsStep step 0 0 × (after ≡ seat) × HasSeenLawful seat.0
+    × Begins seat.0.met seat.0.front

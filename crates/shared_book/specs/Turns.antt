@@ -1,8 +1,6 @@
 -- What the calls of a shared book ask of a seat, and what they answer. Akidau et al., VLDB 2013, section
 -- 6.2 for sequencers. Own: the turn, and what a seat's view was before and after.
 use Rattle.std.specs.Prelude.{◌≡◌, ℕ, ◌<◌, ◌≤◌, ◌++◌, ◌∷◌, [], List, true, false, Some, None, IfSome, length}
-use mathlib.Core.Option.{none}
-use Rattle.atomic_table.specs.Table.{step}
 use Rattle.atomic_table.specs.Seated.{TableId}
 use Rattle.atomic_table.specs.declared.shared.Seat.{Seat}
 use Rattle.mw_types.specs.Causes.{Rose}
@@ -26,7 +24,7 @@ use Rattle.book.specs.declared.proposal.Proposal.{Proposal}
 use Rattle.shared_book.specs.declared.views.View.{View}
 use Rattle.shared_book.specs.Lists.{IsIn, Ascends}
 use Rattle.shared_book.specs.FenceLaw.{Slot, IsCore, AreClaimed}
-use Rattle.shared_book.specs.Steps.{SeatView, Takes, IsNext, holding, faulted, grown}
+use Rattle.shared_book.specs.Steps.{SeatView, IsNext, holding, faulted, grown}
 
 -- ---- what a seat is
 
@@ -55,10 +53,6 @@ pub record IsOut (seat : SeatView) : Type 0 where
   pub places : seat.1 ≡ (0, None) ∷ []
 
 -- ---- a turn that was taken
-
--- what a step that took the turn or missed it told
-abbrev pub IsTold : ℕ → SeatView → SeatView → Type 0
-IsTold found before after = Takes (step 1 1 0 0 none) before found after
 
 -- a turn was taken: the seat has seen the whole history now, which goes on from what it had seen, and each
 -- of its leases has its rows as they were, whatever others appended

@@ -29,7 +29,8 @@ impl<'a, K: Keeper> Shared<'a, K> {
         }
     }
 
-    /// The seat comes to see at least what the note has. It holds no turn.
+    /// The seat comes to see at least what the note has, and has its own numbers, entries, leases
+    /// and faults as before. It holds no turn.
     pub fn meet(&self, seat: &mut Seat<K>, note: Note<K>)
         requires here { IsHere self.now.table.shared.table_id self.now.case.now seat.old.place }
         requires idle { IsIdle seat.old.place.me }
@@ -39,6 +40,10 @@ impl<'a, K: Keeper> Shared<'a, K> {
         ensures view { seat.new.place.me ≡ (joined seat.old.place.me.0 note.place.me.0, []) }
         ensures number { seat.new.number ≡ seat.old.number }
         ensures met { Begins note.place.me.0.front seat.new.place.me.0.front }
+        ensures numbers { seat.new.place.me.0.numbers ≡ seat.old.place.me.0.numbers }
+        ensures own { seat.new.place.me.0.own ≡ seat.old.place.me.0.own }
+        ensures leases { seat.new.place.me.0.leases ≡ seat.old.place.me.0.leases }
+        ensures faults { seat.new.place.me.0.faults ≡ seat.old.place.me.0.faults }
         ensures lawful { HasSeenLawful seat.new.place.me.0 }
     {
         let Note { place } = note;

@@ -28,7 +28,7 @@ use std::alloc::Global;
 /// Another seat has the turn.
 #[derive(Debug, Drop)]
 pub struct Busy {
-    /// The word that was found: 1 more than the number of the seat that has the turn.
+    /// The word that was found, which is not 0.
     pub found: u64,
 }
 

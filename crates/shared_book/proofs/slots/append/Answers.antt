@@ -19,4 +19,4 @@ fetch_add-requires g c =
 pub returns-clause-turn : goal.returns-clause-turn
 returns-clause-turn g c =
     turn_appended c.args.place.now.me c.home.new.place.me c.fetch_add.new.seat.me c.args.core c.home.ensures.view
-    c.fetch_add.ensures.2.1 c.requires.out.turn c.requires.grown
+    c.fetch_add.ensures.2.2 c.requires.out.turn c.requires.grown

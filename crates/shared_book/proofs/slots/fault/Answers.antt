@@ -12,5 +12,5 @@ load-requires g c =
 
 pub returns-clause-turn : goal.returns-clause-turn
 returns-clause-turn g c =
-    turn_noted c.args.place.now.me c.home.new.place.me c.load.new.seat.me c.args.core c.home.ensures.view c.load.ensures.2
+    turn_noted c.args.place.now.me c.home.new.place.me c.load.new.seat.me c.args.core c.home.ensures.view c.load.ensures.2.1
     c.requires.out.turn c.requires.core c.requires.claimed

@@ -16,9 +16,9 @@ compare_exchange-requires g c =
 pub returns-clause-turn : goal.returns-clause-turn
 returns-clause-turn g c = λ e.
     let step = c.compare_exchange in
-    (took_turn step.result c.args.seat.now.place.me step.new.seat.me c.requires.idle.places step.ensures.2 e).0
+    (took_turn step.result c.args.seat.now.place.me step.new.seat.me c.requires.idle.places step.ensures.2.1 e).0
 
 pub returns-clause-taken : goal.returns-clause-taken
 returns-clause-taken g c = λ e.
     let step = c.compare_exchange in
-    (took_turn step.result c.args.seat.now.place.me step.new.seat.me c.requires.idle.places step.ensures.2 e).1
+    (took_turn step.result c.args.seat.now.place.me step.new.seat.me c.requires.idle.places step.ensures.2.1 e).1

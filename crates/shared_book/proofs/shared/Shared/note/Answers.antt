@@ -1,7 +1,8 @@
-use Rattle.std.proofs.Common.{arith}
+use Rattle.std.proofs.Common.{arith, ap, ◌∙◌}
 use Rattle.shared_book.specs.Joins.{note_of}
+use Rattle.shared_book.specs.Steps.{SeatView}
 use Rattle.shared_book.proofs.Starting.{lift_split}
-use Rattle.shared_book.proofs.Joining.{note_splits}
+use Rattle.shared_book.proofs.Joining.{note_splits, note_bare}
 use Rattle.shared_book.proofs.shared.Shared.note.Goals as goal
 
 pub split_seat-requires : goal.split_seat-requires
@@ -13,3 +14,13 @@ split_seat-requires g c =
       omega (arith, ids.0),
       lift_split c.args.self.now.table.shared.key s.place.id v v (note_of v) s.live (λ basis. note_splits basis s.place.id v),
     )
+
+pub invariant_of-result : goal.invariant_of-result
+invariant_of-result g c =
+    let s = c.args.seat.now in
+    let e = c.split_seat.ensures.4 in
+    record {
+      bare = note_bare s.place.me.0 c.split_seat.result.me.0 (ap (λ (m : SeatView). m.0) e);
+      empty = ap (λ (m : SeatView). m.1) e;
+      live = ap (λ (m : SeatView). m.0.live) e ∙ s.live;
+    }
