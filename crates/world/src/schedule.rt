@@ -5,9 +5,9 @@ ghost use Rattle.world.specs.Schedules.{schedule_of, IsStep};
 ghost use Rattle.world.specs.Reading.{TakesIn, Refuses};
 
 use crate::schedule_lines::{first_line, is_skipped, step_in};
-use scripts::Step;
 use mw_types::{PlanRefusal, Seq};
 use run_history::Case;
+use scripts::Step;
 use std::alloc::Global;
 use std::marker::Model;
 

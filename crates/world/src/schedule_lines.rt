@@ -5,9 +5,9 @@ ghost use Rattle.topology.specs.Rules.{interval_count};
 ghost use Rattle.topology.specs.Shapes.{injectors_of, parts_of};
 ghost use Rattle.world.specs.Schedules.{number_in, between, worker_in, message_in, interval_in, injector_in, computation_in, step_of_one, step_of_two, step_of, words_of, is_skipped, IsStep};
 
-use scripts::Step;
 use memchr::memchr;
 use run_history::Case;
+use scripts::Step;
 
 // The line without the one carriage return at its end.
 fn without_return(line: &[u8]) -> &[u8]
