@@ -7,7 +7,7 @@ use Rattle.mw_types.specs.declared.entry.Entry.TheVariants as entries
 use Rattle.topology.specs.Shapes.{Shape}
 use Rattle.run_history.specs.Cases.{CaseShape}
 use Rattle.book.specs.Books.{BookView, LeaseView}
-use Rattle.book.specs.Desks.{DeskView, HasLooked}
+use Rattle.book.specs.Desks.{DeskView, HasLooked, IsSound}
 use Rattle.book.specs.OwnDesks.{own_view}
 use Rattle.node.specs.Answers.{HasGrown, HasKept}
 use Rattle.node.specs.Fits.{Fits}
@@ -36,6 +36,9 @@ pub record HasCalled (old new : BookView) (was node : NodeView) : Type 0 where
   pub leases : HasLeases new was node
   pub fits : FitsOwn new node
   pub number : node.number ≡ was.number
+  -- the desk over the book is sound before and after
+  pub was_sound : IsSound (own_view old)
+  pub sound : IsSound (own_view new)
 
 -- a world goes on: its history has grown by one entry at most, its book keeps all else but marks, rows and counts, and
 -- faults never fall
@@ -124,5 +127,5 @@ pub record IsSending (old : BookView) (was : NodeView) (flight : List (Option Ou
 pub record AreNew (count : ℕ) (nodes : List NodeView) : Type 0 where
   pub all : length nodes ≡ count
   pub numbered : (number : ℕ) (node : NodeView) → slice_get nodes number ≡ Some node → node.number ≡ number
-  pub idle : map worker_at nodes ≡ replicate count idle
+  pub have_nothing : map worker_at nodes ≡ replicate count idle
   pub fit : (case : CaseShape) (desk : DeskView) → desk.case ≡ case → All (Fits case desk) nodes

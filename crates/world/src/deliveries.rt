@@ -12,7 +12,7 @@ ghost use Rattle.world.specs.Standing.{FitsOwn};
 ghost use Rattle.world.specs.Turns.{HasFailed};
 ghost use Rattle.world.specs.WorkerCalls.{HasCalled, HasRested, TakesOn, left_by};
 
-use book::{Book, OwnDesk};
+use book::{Book, Desk, OwnDesk};
 use computations::Computation;
 use mw_types::RowName;
 use node::{Message, Node, NodeFault, Outcome, Parcel, Receipt};
@@ -107,7 +107,10 @@ fn handle<'a, K: Keeper, C: Computation>(
     book.history();
     let case = book.case();
     let mut desk = OwnDesk { book };
-    node.prepare(alloc, &mut desk, case, work, Message::Deliver { parcel })
+    desk.sound();
+    let result = node.prepare(alloc, &mut desk, case, work, Message::Deliver { parcel });
+    desk.sound();
+    result
 }
 
 // A worker takes word that a record was handled.
@@ -132,5 +135,8 @@ fn acknowledge<'a, K: Keeper>(
     book.history();
     let case = book.case();
     let mut desk = OwnDesk { book };
-    node.take_ack(alloc, &mut desk, case, Message::Ack { receipt })
+    desk.sound();
+    let result = node.take_ack(alloc, &mut desk, case, Message::Ack { receipt });
+    desk.sound();
+    result
 }

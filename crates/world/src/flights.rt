@@ -77,12 +77,15 @@ pub(crate) fn send<'a, K: Keeper>(
     ensures unchanged { OnErr result (flight.new.items ≡ flight.old.items) }
     ensures no_memory { IfErr result (λ why. why ≡ NodeFault.NoMemory) }
 {
+    // Its clauses say what always holds of a book.
+    book.history();
     let count = node.unsent();
     if !has_numbers(flight, count) {
         return Ok(Outcome::Nothing);
     }
     make_room(flight, count)?;
     send_all(book, node, flight);
+    book.history();
     Ok(Outcome::Sent {
         count: count as u64,
     })

@@ -7,7 +7,7 @@ ghost use Rattle.world.specs.Standing.{FitsOwn};
 ghost use Rattle.world.specs.Turns.{HasFailed};
 ghost use Rattle.world.specs.WorkerCalls.{ActsOn, HasCalled, HasRested};
 
-use book::{Book, OwnDesk};
+use book::{Book, Desk, OwnDesk};
 use computations::Computation;
 use node::{Node, NodeFault, Outcome};
 use row_keeper::Keeper;
@@ -33,7 +33,10 @@ pub(crate) fn claim<'a, K: Keeper>(
     book.history();
     let case = book.case();
     let mut desk = OwnDesk { book };
-    node.claim(alloc, &mut desk, case, interval)
+    desk.sound();
+    let result = node.claim(alloc, &mut desk, case, interval);
+    desk.sound();
+    result
 }
 
 // A worker injects the next line of an injector.
@@ -54,7 +57,10 @@ pub(crate) fn inject<'a, K: Keeper>(
     book.history();
     let case = book.case();
     let mut desk = OwnDesk { book };
-    node.inject(alloc, &mut desk, case, part)
+    desk.sound();
+    let result = node.inject(alloc, &mut desk, case, part);
+    desk.sound();
+    result
 }
 
 // A worker writes what it has prepared.
@@ -74,7 +80,10 @@ pub(crate) fn write<'a, K: Keeper>(
     book.history();
     let case = book.case();
     let mut desk = OwnDesk { book };
-    node.commit(alloc, &mut desk, case)
+    desk.sound();
+    let result = node.commit(alloc, &mut desk, case);
+    desk.sound();
+    result
 }
 
 // A worker fires the next timer of a computation, where it is due.
@@ -99,7 +108,10 @@ pub(crate) fn fire<'a, K: Keeper, C: Computation>(
     book.history();
     let case = book.case();
     let mut desk = OwnDesk { book };
-    node.fire(alloc, &mut desk, case, work, part)
+    desk.sound();
+    let result = node.fire(alloc, &mut desk, case, work, part);
+    desk.sound();
+    result
 }
 
 // A worker reports the own work of an interval.
@@ -121,7 +133,10 @@ pub(crate) fn report<'a, K: Keeper>(
     book.history();
     let case = book.case();
     let mut desk = OwnDesk { book };
-    node.report(alloc, &mut desk, case, interval)
+    desk.sound();
+    let result = node.report(alloc, &mut desk, case, interval);
+    desk.sound();
+    result
 }
 
 // A worker has all that is pending to send once more.
@@ -141,7 +156,10 @@ pub(crate) fn resend<'a, K: Keeper>(
     book.history();
     let case = book.case();
     let desk = OwnDesk { book };
-    node.sweep(alloc, &desk, case)
+    desk.sound();
+    let result = node.sweep(alloc, &desk, case);
+    desk.sound();
+    result
 }
 
 // A worker purges a row of an interval.
@@ -163,5 +181,8 @@ pub(crate) fn purge<'a, K: Keeper>(
     book.history();
     let case = book.case();
     let mut desk = OwnDesk { book };
-    node.purge(alloc, &mut desk, case, interval, 1)
+    desk.sound();
+    let result = node.purge(alloc, &mut desk, case, interval, 1);
+    desk.sound();
+    result
 }
