@@ -5,3 +5,4 @@ pub mod Claims
 pub mod Injects
 pub mod Writes
 pub mod Takes
+pub mod Reports
