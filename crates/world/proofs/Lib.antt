@@ -25,4 +25,5 @@ pub mod PurgeLoop
 pub mod FireLoop
 pub mod Results
 pub mod DrainLaws
+pub mod deeds
 pub mod StandLaws
