@@ -27,3 +27,4 @@ pub mod Results
 pub mod DrainLaws
 pub mod deeds
 pub mod StandLaws
+pub mod WorkerLaws
