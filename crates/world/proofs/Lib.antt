@@ -28,3 +28,4 @@ pub mod DrainLaws
 pub mod deeds
 pub mod StandLaws
 pub mod WorkerLaws
+pub mod StartedWorlds
