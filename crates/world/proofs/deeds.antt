@@ -6,3 +6,12 @@ pub mod Injects
 pub mod Writes
 pub mod Takes
 pub mod Reports
+pub mod Members
+pub mod Picked
+pub mod Ascending
+pub mod KnownRows
+pub mod TimerOrder
+pub mod Timers
+pub mod Chosen
+pub mod Fires
+pub mod Purges
