@@ -2,6 +2,7 @@ pub mod Acting
 pub mod Left
 pub mod Held
 pub mod Claims
+pub mod Crashes
 pub mod Injects
 pub mod Writes
 pub mod Takes
@@ -15,3 +16,5 @@ pub mod Timers
 pub mod Chosen
 pub mod Fires
 pub mod Purges
+pub mod Swept
+pub mod Resends
