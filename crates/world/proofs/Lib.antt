@@ -26,3 +26,7 @@ pub mod FireLoop
 pub mod Results
 pub mod DrainLaws
 pub mod FullLaws
+pub mod deeds
+pub mod StandLaws
+pub mod WorkerLaws
+pub mod StartedWorlds
