@@ -1,0 +1,1 @@
+//! Command lines, each with what it is read as.
