@@ -14,11 +14,14 @@ use Rattle.command_line.specs.declared.line.Line.{Line}
 abbrev pub is_number : List ℕ → Bool
 is_number word = nat_lt 0 (length word) && (nat_le (length word) 10 && all_ascii_digits word)
 
+-- the number that a word is
+abbrev pub number_of : List ℕ → Option ℕ
+number_of word = if is_number word then Some (digits_value 10 word) else None
+
 -- the number that a word is, where it is from the one on and up to the other
 abbrev pub number_in : ℕ → ℕ → List ℕ → Option ℕ
 number_in least most word =
-    if is_number word && (nat_le least (digits_value 10 word) && nat_le (digits_value 10 word) most)
-    then Some (digits_value 10 word) else None
+    option_and_then (λ n. if nat_le least n && nat_le n most then Some n else None) (number_of word)
 
 -- the greatest seed, and the most lines that may be asked for
 abbrev pub seed_limit : ℕ

@@ -1,7 +1,7 @@
 //! What the words of a command line say before its mode is looked at.
-ghost use Rattle.std.specs.Prelude.{◌≡◌, ◌∷◌, [], IfOk, OnOk, None};
+ghost use Rattle.std.specs.Prelude.{◌≡◌, ◌++◌, OnOk};
 ghost use Rattle.std.specs.Option.{option_map};
-ghost use Rattle.command_line.specs.Words.{after_word, first_value, is_end, line_of, no_words, with_flag, with_option, with_positionals};
+ghost use Rattle.command_line.specs.Words.{after_word, first_value, is_end, line_of, no_words, with_flag, with_option};
 ghost use Rattle.command_line.specs.Inside.{Answers};
 
 use crate::refusal::WordsRefusal;
@@ -33,16 +33,6 @@ impl Line {
             keep: None,
             history: false,
         }
-    }
-
-    // Adds these words as positionals.
-    fn add_positionals(&mut self, alloc: Global, words: &[Name]) -> Result<(), NoMemory>
-        ensures { OnOk result (self.new ≡ with_positionals words.now self.old) }
-    {
-        for word in words {
-            self.positionals.push(word.copy(alloc)?)?;
-        }
-        Ok(())
     }
 
     // Adds the flag.
@@ -109,6 +99,16 @@ impl Line {
     }
 }
 
+// Adds these words behind those that are there.
+fn add_all(alloc: Global, positionals: &mut Seq<Name>, words: &[Name]) -> Result<(), NoMemory>
+    ensures { OnOk result (positionals.new ≡ positionals.old ++ words.now) }
+{
+    for word in words {
+        positionals.push(word.copy(alloc)?)?;
+    }
+    Ok(())
+}
+
 // The value of an option that had none before.
 fn first_value(alloc: Global, had: &Option<Name>, value: &str) -> Result<Option<Name>, WordsRefusal>
     ensures { Answers (λ found. found) (first_value value.now had.now) result }
@@ -127,6 +127,7 @@ fn is_end(word: &Name, waiting: Option<&str>) -> bool
 }
 
 /// What the words say, where their options are in order.
+#[tactic(auto, unfolding(crate::specs::Words::line_after))]
 pub(crate) fn line_of(alloc: Global, words: &[Name]) -> Result<Line, WordsRefusal>
     ensures { Answers (λ line. line) (line_of words.now) result }
 {
@@ -135,7 +136,7 @@ pub(crate) fn line_of(alloc: Global, words: &[Name]) -> Result<Line, WordsRefusa
     let mut rest = words;
     while let Some((word, others)) = rest.split_first() {
         if is_end(word, waiting) {
-            line.add_positionals(alloc, others)?;
+            add_all(alloc, &mut line.positionals, others)?;
             return Ok(line);
         }
         waiting = line.add_word(alloc, word, waiting)?;
