@@ -142,8 +142,8 @@ pub(crate) fn line_of(alloc: Global, words: &[Name]) -> Result<Line, WordsRefusa
         waiting = line.add_word(alloc, word, waiting)?;
         rest = others;
     }
-    match waiting {
-        Some(_) => Err(WordsRefusal::Usage),
-        None => Ok(line),
+    if waiting.is_some() {
+        return Err(WordsRefusal::Usage);
     }
+    Ok(line)
 }
