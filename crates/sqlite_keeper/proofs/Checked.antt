@@ -7,7 +7,6 @@ use Rattle.std.specs.Ordering.{is_lt}
 use Rattle.std.specs.declared.cmp.Ordering.{Ordering}
 use Rattle.std.specs.declared.cmp.Ordering.TheVariants.{Less, Equal, Greater}
 use Rattle.std.proofs.lemmas.List.Elements.{All-from_recursion}
-use Rattle.std.proofs.lemmas.Map.Keys.{sorted_head}
 use Rattle.mw_types.proofs.OrderLaws.{row_cmp-total}
 use Rattle.mw_types.specs.Orders.{row_cmp}
 use Rattle.mw_types.specs.declared.identity.RowName.{RowName}
@@ -53,8 +52,7 @@ unfolding IsStrictlySortedBy
 before_ascending row [] below o = (tt, tt)
 before_ascending row (next ∷ rows) below o =
     let less = less_from_test (row_cmp row.name next.name) below in
-    let later = sorted_head {c = row_cmp} next.name (keys_of (map entry_of rows)) o in
-    ((less, below_those row.name next.name (keys_of (map entry_of rows)) less later), o)
+    ((less, below_those row.name next.name (keys_of (map entry_of rows)) less o.0), o)
 
 -- rows that pass the test of their order stand in order
 pub ascending_in_order : (rows : List KeptRow) → do_ascend rows ≡ true → AreInOrder (map entry_of rows)
