@@ -1,6 +1,6 @@
 -- A drain fails since the history is full only where it has not ended: it had a further entry to write.
 use Rattle.std.proofs.Common.{◌≡◌, ◌<◌, ◌≤◌, ◌+◌, ℕ, true, List, ◌∷◌, ◌++◌, [], length, refl, sym, ◌∙◌, ap, subst, arith, inl, inr}
-use Rattle.std.specs.Prelude.{Option, Some, None, IsSome, IfSome, Contains}
+use Rattle.std.specs.Prelude.{Option, Some, None, IsSome, IfSome, Contains, Result, Ok, Err, OnErr}
 use Rattle.std.specs.Option.{is_some}
 use Rattle.mw_types.specs.declared.entry.Entry.{Entry}
 use Rattle.mw_types.specs.declared.identity.RecordId.{RecordId}
@@ -170,3 +170,8 @@ pub full-after : (old mid new : BookView) → HasGone old mid → WhereTold mid 
 full-after old mid new gone unended = told-rows old.rows (λ told.
     subst (λ (c : CaseShape). HasEnded c (length old.history) new.history → ⊥) gone.case
     (unended (gone.tells ∙ told) (length old.history)))
+
+-- what holds whatever the fault holds of a fault
+pub on-err : {A E P : Type 0} → (r : Result A E) → P → OnErr r P
+on-err (Ok x) p = tt
+on-err (Err e) p = p

@@ -1,5 +1,5 @@
 use Rattle.std.proofs.Common.{arith, rules}
-use Rattle.world.proofs.FullLaws.{claims-short}
+use Rattle.world.proofs.FullLaws.{claims-short, on-err}
 use Rattle.world.proofs.GoLaws.{claims-all, claims-on}
 use Rattle.world.proofs.claiming.claim_all.Goals as goal
 
@@ -17,6 +17,6 @@ returns-clause-at_work g c =
 
 -- where a claim failed not each interval is claimed
 pub returns-in_err-claim-clause-short : goal.returns-in_err-claim-clause-short
-returns-in_err-claim-clause-short g c =
-    claims-short c.args.book.now c.loop-interval.book c.claim.new.book c.loop-interval.node c.loop-interval.interval
-    c.loop-interval.invariant (search (rules, arith)) c.in_err-claim.ensures.failed.stepped
+returns-in_err-claim-clause-short g c = on-err _
+    (claims-short c.args.book.now c.loop-interval.book c.claim.new.book c.loop-interval.node c.loop-interval.interval
+    c.loop-interval.invariant (search (rules, arith)) c.in_err-claim.ensures.failed.stepped)

@@ -48,6 +48,6 @@ returns-in_err-turn-clause-draining g c = λ told from claimed draining.
 
 -- which has not ended where the history is full
 pub returns-in_err-turn-clause-more : goal.returns-in_err-turn-clause-more
-returns-in_err-turn-clause-more g c = λ is.
-    turns-full c.args.book.now c.loop.book c.turn.new.book c.loop.node c.in_err-turn.error c.loop.invariant c.in_err-turn.ensures.failed
-    c.in_err-turn.ensures.unended (search rules)
+returns-in_err-turn-clause-more g c = λ full.
+    turns-full c.args.book.now c.loop.book c.turn.new.book c.loop.node c.in_err-turn.field-0.0 c.loop.invariant
+    c.in_err-turn.ensures.failed c.in_err-turn.ensures.unended (search rules)
