@@ -76,6 +76,8 @@ fn turn_all<'a, K: Keeper, C: Computation>(
         length book.new.history ≡ book.new.limit }
     ensures damaged { IfErr result (λ why. IsDamageOf (own_view book.new) (refusal_of why)) }
 {
-    while turn(alloc, book, work, node)? {}
+    while turn(alloc, book, work, node)? {
+        node.drop_messages();
+    }
     Ok(())
 }
