@@ -10,3 +10,7 @@ pub mod Closing
 pub mod Starting
 pub mod Told
 pub mod Calls
+pub mod GoesOn
+pub mod KnownMarks
+pub mod DeskMoves
+pub mod DeskAsks

@@ -5,3 +5,4 @@ pub mod Joins
 pub mod Opening
 pub mod Turns
 pub mod Guards
+pub mod SharedDesks
