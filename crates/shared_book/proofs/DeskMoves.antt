@@ -13,7 +13,9 @@ use Rattle.run_history.specs.Cases.{CaseShape, intervals_of}
 use Rattle.run_history.specs.Runs.{run_of}
 use Rattle.run_history.specs.Legal.{floor_of}
 use Rattle.run_history.specs.Inputs.{IsRunnable}
-use Rattle.run_history.specs.Fences.{Begins, CarryNot, IsCurrent, IsOvertakenBy, sequencer_of}
+use Rattle.run_history.specs.Fences.{Begins, CarryNot, sequencer_of}
+use Rattle.run_history.proofs.CaseIntervals.{intervals-few}
+use Rattle.topology.specs.Rules.{part_cuts_of}
 use Rattle.history_laws.proofs.FloorLaws.{floor_of-below, floor_of-rises}
 use Rattle.history_laws.proofs.IdLaws.{next-length}
 use Rattle.watermark.specs.Marks.{mark_of}
@@ -28,7 +30,7 @@ use Rattle.shared_book.specs.Turns.{HasFaulted, HasMetForeign, HasTaken}
 use Rattle.shared_book.specs.SharedDesks.{IsLearnt, HasLearnt, has_lease, is_lease, raised, seat_view, sight_of}
 use Rattle.shared_book.proofs.Lists.{in_left}
 use Rattle.shared_book.proofs.Moves.{off}
-use Rattle.shared_book.proofs.KnownMarks.{length-raised, mark_of-raised, rise-take}
+use Rattle.shared_book.proofs.KnownMarks.{learnt-more, learnt-on, length-raised, mark_of-raised, rise-take}
 
 -- ---- leases
 
@@ -249,3 +251,27 @@ sound_at v k runs room limit lawful learnt = record {
       let room = lawful.few in omega (arith, low, few, room, limit);
   own_floor = λ e. absurd (off e);
 }
+
+-- ---- a whole call
+
+-- there are at most 61 intervals
+pub few_intervals : (case : CaseShape) → IsRunnable case → length (intervals_of case.topology) ≤ 61
+few_intervals case runs = intervals-few case.topology (part_cuts_of case.topology) runs.topology refl
+
+-- what the desk knows is learnt by what it has seen in its turn
+pub learnt_in : (v t : View) (k l : Known) → IsRunnable v.basis.case → HasTaken v t → IsLearnt v k → HasLearnt t k l → HasSeenLawful t
+    → IsLearnt t l
+learnt_in v t k l runs taken was learns lawful =
+    learnt-more t k l
+    (subst (λ (b : Basis). length (intervals_of b.case.topology) ≤ 61) (sym same) (few_intervals v.basis.case runs))
+    (learnt-on v t k taken.others runs same taken.goes_on lawful was) learns
+  where
+    same : t.basis ≡ v.basis
+    same = ap (λ (x : View). x.basis) taken.view
+
+-- and by what it has seen when it gave the turn back
+pub learnt_after : (v t w : View) (k l : Known) (rest : List Entry) → IsRunnable v.basis.case → HasTaken v t → IsLearnt v k
+    → HasLearnt t k l → HasSeenLawful t → w.basis ≡ t.basis → t.front ++ rest ≡ w.front → HasSeenLawful w → IsLearnt w l
+learnt_after v t w k l rest runs taken was learns lawful basis on after =
+    learnt-on t w l rest (subst (λ (b : Basis). IsRunnable b.case) (sym (ap (λ (x : View). x.basis) taken.view)) runs) basis on after
+    (learnt_in v t k l runs taken was learns lawful)

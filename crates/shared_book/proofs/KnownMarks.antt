@@ -1,6 +1,7 @@
 -- The marks and the floor that a desk knows: none falls, and each is safe by all that was seen.
 use Rattle.std.proofs.Common.{◌≡◌, ◌≢◌, ℕ, zero, suc, ◌+◌, ◌<◌, ◌≤◌, List, [], ◌∷◌, ◌++◌, length, take, refl, sym, ◌∙◌, ap, subst, arith}
 use Rattle.std.specs.Prelude.{Option, Some, None, IfSome, All, max, replicate, slice_get, slice_index, slice_set}
+use Rattle.std.proofs.lemmas.List.{take_all}
 use Rattle.mw_types.specs.declared.entry.Entry.{Entry}
 use Rattle.key_intervals.specs.declared.bounds.Bounds.{Bounds}
 use Rattle.run_history.specs.Cases.{CaseShape, intervals_of}
@@ -38,15 +39,22 @@ mark_of-raised (m ∷ ms) [] interval few = omega arith
 mark_of-raised (m ∷ ms) (f ∷ fs) zero few = refl
 mark_of-raised (m ∷ ms) (f ∷ fs) (suc interval) few = mark_of-raised ms fs interval (omega (arith, few))
 
+-- where none was found they are as before
+pub raised-none : (marks : List ℕ) → raised marks [] ≡ marks
+raised-none [] = refl
+raised-none (m ∷ ms) = refl
+
+-- all that were found
+pub raised-all : (marks found : List ℕ) (i : ℕ) → length found ≤ i → raised marks (take i found) ≡ raised marks found
+raised-all marks found i all = ap (raised marks) (take_all i found all)
+
 -- one more that was found
 pub raised-next : (marks found : List ℕ) (i : ℕ) → i < length found → length found ≤ length marks
     → slice_set (raised marks (take i found)) i (max (mark_of (raised marks (take i found)) i) (slice_index found i))
     ≡ raised marks (take (i + 1) found)
 raised-next marks [] i within few = absurd (omega (arith, within))
 raised-next [] (f ∷ fs) i within few = absurd (omega (arith, few))
-raised-next (m ∷ ms) (f ∷ []) zero within few = refl
-raised-next (m ∷ []) (f ∷ g ∷ fs) zero within few = refl
-raised-next (m ∷ n ∷ ms) (f ∷ g ∷ fs) zero within few = refl
+raised-next (m ∷ ms) (f ∷ fs) zero within few = ap (λ l. max m f ∷ l) (sym (raised-none ms))
 raised-next (m ∷ ms) (f ∷ fs) (suc i) within few = ap (λ l. max m f ∷ l) (raised-next ms fs i (omega (arith, within)) (omega (arith, few)))
 
 -- what a mark is among the first so many

@@ -6,11 +6,14 @@ pub mod Appending
 pub mod Merging
 pub mod Fronts
 pub mod Joining
+pub mod Meeting
 pub mod Closing
 pub mod Starting
 pub mod Told
 pub mod Calls
 pub mod GoesOn
 pub mod KnownMarks
+pub mod BookFindings
 pub mod DeskMoves
 pub mod DeskAsks
+pub mod DeskWhys

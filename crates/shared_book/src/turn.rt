@@ -84,6 +84,9 @@ impl<'s, 'a, K: Keeper> Turn<'s, 'a, K> {
         ensures here { let shared = self.old.shared.now in
             IsHere shared.table.shared.table_id shared.case.now self.new.seat.now.place }
         ensures turn { HasTurn self.new.seat.now.place.me }
+        ensures numbers { self.new.seat.now.place.me.0.numbers
+            ≡ self.old.seat.now.place.me.0.numbers }
+        ensures basis { self.new.seat.now.place.me.0.basis ≡ self.old.seat.now.place.me.0.basis }
         ensures claimed { let old = self.old.seat.now.place.me.0 in
             let new = self.new.seat.now.place.me.0 in
             IfOk result (HasClaimedIn old new worker interval) }
@@ -123,6 +126,9 @@ impl<'s, 'a, K: Keeper> Turn<'s, 'a, K> {
         ensures here { let shared = self.old.shared.now in
             IsHere shared.table.shared.table_id shared.case.now self.new.seat.now.place }
         ensures turn { HasTurn self.new.seat.now.place.me }
+        ensures numbers { self.new.seat.now.place.me.0.numbers
+            ≡ self.old.seat.now.place.me.0.numbers }
+        ensures basis { self.new.seat.now.place.me.0.basis ≡ self.old.seat.now.place.me.0.basis }
         ensures written { let old = self.old.seat.now.place.me.0 in
             let new = self.new.seat.now.place.me.0 in
             IfOk result (HasWrittenIn old new lease.now name.now proposal.now row.now) }
@@ -161,6 +167,9 @@ impl<'s, 'a, K: Keeper> Turn<'s, 'a, K> {
         ensures here { let shared = self.old.shared.now in
             IsHere shared.table.shared.table_id shared.case.now self.new.seat.now.place }
         ensures turn { HasTurn self.new.seat.now.place.me }
+        ensures numbers { self.new.seat.now.place.me.0.numbers
+            ≡ self.old.seat.now.place.me.0.numbers }
+        ensures basis { self.new.seat.now.place.me.0.basis ≡ self.old.seat.now.place.me.0.basis }
         ensures written { let entry = Ack lease.now.seq name.now id in
             let old = self.old.seat.now.place.me.0 in
             let new = self.new.seat.now.place.me.0 in
@@ -200,6 +209,9 @@ impl<'s, 'a, K: Keeper> Turn<'s, 'a, K> {
         ensures here { let shared = self.old.shared.now in
             IsHere shared.table.shared.table_id shared.case.now self.new.seat.now.place }
         ensures turn { HasTurn self.new.seat.now.place.me }
+        ensures numbers { self.new.seat.now.place.me.0.numbers
+            ≡ self.old.seat.now.place.me.0.numbers }
+        ensures basis { self.new.seat.now.place.me.0.basis ≡ self.old.seat.now.place.me.0.basis }
         ensures written { let entry = Purge lease.now.seq name.now floor in
             let old = self.old.seat.now.place.me.0 in
             let new = self.new.seat.now.place.me.0 in
