@@ -55,7 +55,10 @@ pub raised-next : (marks found : List ℕ) (i : ℕ) → i < length found → le
 raised-next marks [] i within few = absurd (omega (arith, within))
 raised-next [] (f ∷ fs) i within few = absurd (omega (arith, few))
 raised-next (m ∷ ms) (f ∷ fs) zero within few = ap (λ l. max m f ∷ l) (sym (raised-none ms))
-raised-next (m ∷ ms) (f ∷ fs) (suc i) within few = ap (λ l. max m f ∷ l) (raised-next ms fs i (omega (arith, within)) (omega (arith, few)))
+raised-next (m ∷ ms) (f ∷ fs) (suc i) within few =
+    let more : suc i + 1 ≡ suc (i + 1) = omega arith in
+    ap (λ l. max m f ∷ l) (raised-next ms fs i (omega (arith, within)) (omega (arith, few)))
+    ∙ ap (λ n. raised (m ∷ ms) (take n (f ∷ fs))) (sym more)
 
 -- what a mark is among the first so many
 pub rise-take : (n : ℕ) (old new : List ℕ) → ((interval : ℕ) → mark_of old interval ≤ mark_of new interval) → length old ≤ length new

@@ -26,4 +26,4 @@ returns-clause-learnt g c =
     let b = c.of-book in
     learnt_by c.args.place.now.me.0 o.result b.result c.args.shared.now.case.now o.ensures.core b.ensures.core b.ensures.case
     c.requires.here.case c.args.known.now _ c.marks.result.now c.marks.ensures.marks c.marks.ensures.one_each c.marks.ensures.safe
-    c.raise.ensures.marks c.floor.ensures.floor
+    c.raise.ensures.marks c.floor-known.ensures.floor
