@@ -11,9 +11,4 @@ pub mod Closing
 pub mod Starting
 pub mod Told
 pub mod Calls
-pub mod GoesOn
-pub mod KnownMarks
-pub mod BookFindings
-pub mod DeskMoves
-pub mod DeskAsks
-pub mod DeskWhys
+pub mod BookReports

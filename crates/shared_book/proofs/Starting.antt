@@ -14,7 +14,7 @@ use Rattle.shared_book.specs.declared.views.View.{View}
 use Rattle.shared_book.specs.declared.shared.Key.{Key}
 use Rattle.shared_book.specs.Lists.{IsIn, Ascends}
 use Rattle.shared_book.specs.FenceLaw.{Slot, FenceLaw, Fits, no_marks}
-use Rattle.shared_book.specs.Steps.{HasSeenLawful, SeatView}
+use Rattle.shared_book.specs.Steps.{SeatView}
 use Rattle.shared_book.specs.Joins.{first_of}
 use Rattle.shared_book.specs.Opening.{blank, span, newborn, IsUnborn, SharedLaw, Fetches, Opens}
 use Rattle.shared_book.proofs.Moves.{off}
@@ -172,16 +172,6 @@ newborn_law v b homes some_seat lawful home =
       owned = λ k p q. absurd (omega (arith, p, q));
       numbered = λ k p. (0, newborn v b, refl, in_span 0 n k (omega arith) (omega (arith, p)));
     }
-
--- the first seat has seen a lawful history
-pub newborn_lawful : (v : View) (b : CoreView) → IsLawful v.basis.case b → HasSeenLawful (newborn v b)
-newborn_lawful v b lawful = record {
-  fenced = lawful.fenced;
-  legal = lawful_legal (newborn v b).basis b.history b lawful refl refl;
-  few = lawful.few;
-  claimed = λ l p. absurd p;
-  ascend = span_ascends 0 v.basis.seats;
-}
 
 -- the first seat may give the place back with the book
 pub opens : (key : Key) (slots id : ℕ) (b : CoreView) (m : ℕ) → m ≡ length b.history → 0 < key.seats → 0 < slots

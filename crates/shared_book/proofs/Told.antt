@@ -14,16 +14,16 @@ use Rattle.book.specs.Lawful.{IsLawful}
 use Rattle.book.specs.OwnDesks.{telling}
 use Rattle.shared_book.specs.declared.views.View.{View}
 use Rattle.shared_book.specs.declared.shared.Key.{Key}
-use Rattle.shared_book.specs.Lists.{IsIn, Ascends}
+use Rattle.shared_book.specs.Lists.{IsIn}
 use Rattle.shared_book.specs.FenceLaw.{Slot, IsCore, AreClaimed}
 use Rattle.shared_book.specs.Joins.{first_of, others_of}
 use Rattle.shared_book.specs.Opening.{SharedLaw}
-use Rattle.shared_book.specs.Steps.{SeatView, HasFound, HasSeenLawful, Takes, Appends, Gives, Faults, Looks, IsTold, IsNext, faults_in, grown, history_in, faulted, holding, idle, missing, lease_in}
+use Rattle.shared_book.specs.Steps.{SeatView, HasFound, Takes, Appends, Gives, Faults, Looks, IsTold, IsNext, faults_in, grown, history_in, faulted, holding, missing, lease_in}
 use Rattle.shared_book.specs.Turns.{HasTaken, HasTurn, IsGrown}
 use Rattle.shared_book.proofs.Lists.{drop_front, in_append}
 use Rattle.shared_book.proofs.Histories.{begins_more, claim_kept, seen_all}
 use Rattle.shared_book.proofs.Moves.{takes_turn}
-use Rattle.shared_book.proofs.Appending.{appends_one, gives_turn, faults_one, lawful_legal, looks_on, news_claimed, seq_of_lease}
+use Rattle.shared_book.proofs.Appending.{appends_one, gives_turn, faults_one, looks_on, news_claimed, seq_of_lease}
 use Rattle.shared_book.proofs.Starting.{lift}
 
 -- ---- what a seat may do
@@ -233,35 +233,8 @@ turn_home old out new a b was is same t core claimed =
     turn_back old new b (is ∙ ap (λ (m : SeatView). (m.0, (0, Some b) ∷ [])) was) t
     (subst (λ (x : CoreView). IsCore old.0.basis old.0.front old.0.count x) (sym same) core) claimed
 
--- ---- what a seat always knows
-
--- a seat with the turn has seen a lawful history
-pub turn_lawful : (m : SeatView) → HasTurn m → Ascends m.0.numbers → HasSeenLawful m.0
-turn_lawful m t ascend = record {
-  fenced = subst (IsFenced m.0.basis.case.topology) t.core.whole t.core.lawful.fenced;
-  legal = lawful_legal m.0.basis m.0.front t.book t.core.lawful t.core.whole t.core.told;
-  few = omega (arith, t.core.lawful.few, ap length t.core.whole, t.core.limit);
-  claimed = t.claimed;
-  ascend = ascend;
-}
-
--- and knows that the limit is not greater than a book's may be
-pub turn_few : (m : SeatView) → HasTurn m → m.0.basis.limit ≤ 2 ^ 32
-turn_few m t = omega (arith, t.core.lawful.limit, t.core.limit)
-
--- what was seen is lawful after a call in a turn, which leaves the numbers
-pub kept_lawful : (m n : SeatView) → HasTurn n → n.0.numbers ≡ m.0.numbers → HasSeenLawful m.0 → HasSeenLawful n.0
-kept_lawful m n t numbers before = turn_lawful n t (subst Ascends (sym numbers) before.ascend)
-
--- it is lawful after a try for the turn
-pub told_lawful : (found : ℕ) (v w : SeatView) → v.1 ≡ [] → IsTold v found w → HasSeenLawful v.0 → HasSeenLawful w.0
-told_lawful zero v w empty told before =
-    let t = took_turn 0 v w empty told refl in kept_lawful v w t.0 t.4 before
-told_lawful (suc n) v w empty told before =
-    subst (λ (m : SeatView). HasSeenLawful m.0) (sym (missed_turn (suc n) v w told (λ z. omega (arith, z))))
-    (record { fenced = before.fenced; legal = before.legal; few = before.few; claimed = before.claimed; ascend = before.ascend })
-
--- and once the turn was given back
-pub idle_lawful : (m n : SeatView) → n ≡ (idle m.0, []) → HasSeenLawful m.0 → HasSeenLawful n.0
-idle_lawful m n is before = subst (λ (x : SeatView). HasSeenLawful x.0) (sym is)
-    (record { fenced = before.fenced; legal = before.legal; few = before.few; claimed = before.claimed; ascend = before.ascend })
+-- a seat with the turn once another book of the same history is in the place
+pub turn_left : (old out new : SeatView) (b : CoreView) → out ≡ (old.0, (0, None) ∷ []) → new ≡ (out.0, (0, Some b) ∷ [])
+    → old.0.turn ≡ true → IsCore old.0.basis old.0.front old.0.count b → AreClaimed old.0.front old.0.leases → HasTurn new
+turn_left old out new b was is t core claimed =
+    turn_back old new b (is ∙ ap (λ (m : SeatView). (m.0, (0, Some b) ∷ [])) was) t core claimed

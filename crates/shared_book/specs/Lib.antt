@@ -5,4 +5,3 @@ pub mod Joins
 pub mod Opening
 pub mod Turns
 pub mod Guards
-pub mod SharedDesks

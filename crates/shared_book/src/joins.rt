@@ -67,11 +67,11 @@ impl<'a, K: Keeper> Shared<'a, K> {
         ensures view { seat.new.place.me ≡ (joined seat.old.place.me.0 other.place.me.0, []) }
     {
         let Seat { place, number } = other;
-        let theirs = place;
+        let mut theirs = place;
+        look(self, &mut theirs);
         self.table
             .shared
             .join_seat::<Joined>(&mut seat.place, theirs);
-        look(self, &mut seat.place);
         if number < seat.number {
             seat.number = number;
         }

@@ -10,17 +10,13 @@
 #![tactic(auto)]
 
 mod claiming;
-mod desk_calls;
-mod desk_looks;
 mod in_turn;
 mod joins;
-mod known;
-mod learning;
 mod opening;
+mod reporting;
 mod rule;
 mod seats;
 mod shared;
-mod shared_desk;
 mod slots;
 mod storing;
 mod turn;
@@ -28,10 +24,8 @@ mod turn_calls;
 mod views;
 
 pub use opening::SharedRefusal;
-pub use known::Known;
 pub use rule::{Append, Dealt, Fault, Fetch, Give, Joined, Law, Look, Noted, Open, Take};
 pub use seats::{Note, Seat};
 pub use shared::{Key, Shared};
-pub use shared_desk::SharedDesk;
 pub use turn::{Busy, Turn};
 pub use views::{Basis, View};

@@ -1,7 +1,6 @@
 //! Seats.
-ghost use Rattle.std.specs.Prelude.{◌≡◌, ◌<◌, ◌≤◌, ◌^◌, ◌∷◌, [], true};
+ghost use Rattle.std.specs.Prelude.{◌≡◌, ◌<◌, ◌∷◌, [], true};
 ghost use Rattle.shared_book.specs.Joins.{first_of, note_of};
-ghost use Rattle.shared_book.specs.Steps.{HasSeenLawful};
 
 use crate::views::View;
 use atomic_table::Seat as Place;
@@ -17,8 +16,6 @@ pub struct Seat<K: Keeper> {
     ghost numbered: { first_of place.me.0.numbers ≡ number ∷ [] },
     ghost small: { number < 64 },
     ghost live: { place.me.0.live ≡ true },
-    ghost seen: { HasSeenLawful place.me.0 },
-    ghost few: { place.me.0.basis.limit ≤ 2 ^ 32 },
 }
 
 /// What a seat had seen of the history when it was made. It has no number, no turn, no lease and no

@@ -2,7 +2,6 @@ use Rattle.std.proofs.Common.{arith, ◌+◌}
 use Rattle.shared_book.specs.Joins.{stays, leaves}
 use Rattle.shared_book.proofs.Starting.{lift_split}
 use Rattle.shared_book.proofs.Joining.{seat_splits}
-use Rattle.shared_book.proofs.Meeting.{leaves_lawful, stays_lawful}
 use Rattle.shared_book.proofs.Told.{two_numbers}
 use Rattle.shared_book.proofs.shared.Shared.deal.Goals as goal
 

@@ -1,25 +1,19 @@
--- What a turn of a desk finds in the book, and what a report leaves of it.
+-- What a report in a turn asks, and what it leaves of the book.
 use Rattle.std.proofs.Common.{◌≡◌, ℕ, ◌≤◌, List, length, Option, Some, None, refl, sym, ap, ◌∙◌, subst, arith}
 use Rattle.std.specs.Prelude.{IfSome, Result, Ok, Err, IfOk, OnOk, OnErr, IsErrOf, ◌↔◌}
 use Rattle.mw_types.specs.declared.entry.Entry.{Entry}
-use Rattle.run_history.specs.Cases.{CaseShape, intervals_of}
-use Rattle.run_history.specs.Runs.{run_of}
-use Rattle.run_history.specs.Legal.{floor_of}
+use Rattle.run_history.specs.Cases.{CaseShape}
 use Rattle.run_history.specs.Fences.{IsClaimed, IsCurrent}
 use Rattle.book.specs.Answers.{IsStaleReport}
 use Rattle.book.specs.Books.{CoreView, BookView, LeaseView, core_of}
 use Rattle.book.specs.Conditions.{HasSeenAllAt, IsOwnWork, IsOwnWorkAt}
 use Rattle.book.specs.Lawful.{IsLawful}
-use Rattle.book.specs.Marks.{AreSafe}
 use Rattle.book.specs.OwnDesks.{telling}
 use Rattle.book.specs.declared.refusals.Stale.{Stale}
-use Rattle.book.proofs.DeskLaws.{telling-if}
 use Rattle.book.proofs.OwnLaws.{claimed-is_claimed, own-work, seen-all}
-use Rattle.shared_book.specs.declared.known.Known.{Known}
 use Rattle.shared_book.specs.declared.views.View.{View}
 use Rattle.shared_book.specs.Lists.{IsIn}
 use Rattle.shared_book.specs.FenceLaw.{IsCore, AreClaimed}
-use Rattle.shared_book.specs.SharedDesks.{HasLearnt, raised}
 use Rattle.shared_book.proofs.Calls.{seen_history, seen_told, seen_case, seen_limit}
 
 -- a report leaves all of a book but the marks
@@ -39,19 +33,6 @@ module _ (v : View) (a : CoreView) (old : BookView) (z : CaseShape) (core : IsCo
 
   told_is : telling old.rows ≡ v.basis.told
   told_is = seen_told v a old z core is of_case here
-
-  -- the book's marks and its floor are learnt
-  pub learnt_by : (k l : Known) (found : List ℕ) → found ≡ old.marks → length old.marks ≡ length (intervals_of old.case.topology)
-      → IfSome old.rows (λ _. AreSafe old.case (run_of old.case.topology old.history) old.marks)
-      → l.marks ≡ raised k.marks found → l.floor ≡ floor_of (run_of old.case.topology old.history) → HasLearnt v k l
-  learnt_by k l found marks one_each safe raises floor = record {
-    found = found;
-    marks = raises;
-    one_each = ap length marks ∙ one_each ∙ ap (λ (c : CaseShape). length (intervals_of c.topology)) case_is;
-    safe = subst (λ (t : CaseShape × Option Unit × List Entry × List ℕ). IfSome t.1 (λ _. AreSafe t.0 (run_of t.0.topology t.2) t.3))
-        (λ i. (case_is i, told_is i, history_is i, sym marks i)) (telling-if old.rows _ safe);
-    floor = floor ∙ ap (λ (t : CaseShape × List Entry). floor_of (run_of t.0.topology t.1)) (λ i. (case_is i, history_is i));
-  }
 
   -- a lease of the seat was seen, with all under it
   pub report_seen : (lease : LeaseView) (front : ℕ) → AreClaimed v.front v.leases → front ≡ length old.history → IsIn lease v.leases
