@@ -11,5 +11,5 @@ use Rattle.shared_book.specs.Turns.{IsHere, IsIdle}
 pub record IsAtRest (id : TableId) (shape : CaseShape) (seats : ℕ) (numbers : List ℕ) (seat : Seat Slot View) : Type 0 where
   pub here : IsHere id shape seat
   pub idle : IsIdle seat.me
-  pub seats : seat.me.0.basis.seats ≡ seats
-  pub numbers : seat.me.0.numbers ≡ numbers
+  pub of_seats : seat.me.0.basis.seats ≡ seats
+  pub has_numbers : seat.me.0.numbers ≡ numbers
