@@ -1,6 +1,6 @@
 -- What a report in a turn asks, and what it leaves of the book.
-use Rattle.std.proofs.Common.{◌≡◌, ℕ, ◌≤◌, List, length, Option, Some, None, refl, sym, ap, ◌∙◌, subst, arith}
-use Rattle.std.specs.Prelude.{IfSome, Result, Ok, Err, IfOk, OnOk, OnErr, IsErrOf, ◌↔◌}
+use Rattle.std.proofs.Common.{◌≡◌, ℕ, List, length, Option, sym, ap, ◌∙◌, subst, arith}
+use Rattle.std.specs.Prelude.{Result, Ok, Err, IfOk, OnOk, OnErr}
 use Rattle.mw_types.specs.declared.entry.Entry.{Entry}
 use Rattle.run_history.specs.Cases.{CaseShape}
 use Rattle.run_history.specs.Fences.{IsClaimed, IsCurrent}
@@ -52,8 +52,13 @@ module _ (v : View) (a : CoreView) (old : BookView) (z : CaseShape) (core : IsCo
       → c ≡ core_of new → w ≡ new.case → IsLawful w c → IsCore v.basis v.front v.count c
   report_core new c w same parts is_case lawful = record {
     whole = ap (λ (b : CoreView). b.history) parts ∙ ap (λ (b : BookView). b.history) same.1 ∙ history_is;
-    enough = omega (arith, core.enough, ap (λ (b : CoreView). b.faults) is, ap (λ (b : CoreView). b.faults) parts,
-        ap (λ (b : BookView). b.faults) same.1);
+    enough = omega (
+      arith,
+      core.enough,
+      ap (λ (b : CoreView). b.faults) is,
+      ap (λ (b : CoreView). b.faults) parts,
+      ap (λ (b : BookView). b.faults) same.1,
+    );
     lawful = subst (λ (y : CaseShape). IsLawful y c) (is_case ∙ ap (λ (b : BookView). b.case) same.1 ∙ case_is) lawful;
     limit = ap (λ (b : CoreView). b.limit) parts ∙ ap (λ (b : BookView). b.limit) same.1
         ∙ seen_limit v a old z core is of_case here;

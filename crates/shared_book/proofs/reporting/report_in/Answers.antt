@@ -1,6 +1,5 @@
-use Rattle.std.proofs.Common.{ap, length, sym, subst, ◌∙◌}
+use Rattle.std.proofs.Common.{ap, length, ◌∙◌}
 use Rattle.book.specs.Marks.{with_mark}
-use Rattle.shared_book.specs.Steps.{SeatView}
 use Rattle.shared_book.proofs.BookReports.{only_marks, report_core, report_last, report_own, report_seen, report_stale}
 use Rattle.shared_book.proofs.Told.{turn_left}
 use Rattle.shared_book.proofs.reporting.report_in.Goals as goal
