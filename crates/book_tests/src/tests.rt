@@ -8,6 +8,5 @@ mod overtaken;
 mod refusals;
 mod rising;
 mod seats;
-mod threads;
 mod trials;
 mod turns;

@@ -53,16 +53,23 @@ fn all_seats<K: Keeper>(rt: &impl Abort, alloc: Global, shared: Shared<'_, K>, s
     assert_eq!(rt; book.history().len(), 17);
 }
 
+// The book is shared.
+fn shared<K: Keeper>(rt: &impl Abort, alloc: Global, book: Book<'_, K>)
+    requires case { book.case ≡ rise_case }
+{
+    match Shared::start(alloc, book, 17) {
+        Ok((shared, seat)) => all_seats(rt, alloc, shared, seat),
+        Err(_refusal) => assert!(rt; false),
+    }
+}
+
 #[test]
 fn seventeen_seats_join_and_close(rt: HostRuntime) -> Result<(), Fail> {
     let alloc = rt.alloc();
     let case = two_line_case(alloc)?;
     let keeper = MemKeeper::new(alloc, CallList::new(alloc));
     match Book::start(alloc, &case, keeper, 17) {
-        Ok(book) => match Shared::start(alloc, book, 17) {
-            Ok((shared, seat)) => all_seats(&rt, alloc, shared, seat),
-            Err(_) => assert!(rt; false),
-        },
+        Ok(book) => shared(&rt, alloc, book),
         Err(_) => assert!(rt; false),
     }
     Ok(())

@@ -1,11 +1,12 @@
 //! What the tests do with a seat of a shared book: each call is one turn.
 ghost use Rattle.std.specs.Prelude.{◌≡◌, ℕ, List};
 ghost use Rattle.run_history.specs.Legal.{MayClaim};
+ghost use Rattle.shared_book.specs.Turns.{HasTurn, IsHere};
 ghost use Rattle.book_tests.specs.TestSeats.{IsAtRest};
 
 use book::Claimed;
 use row_keeper::Keeper;
-use shared_book::{Seat, Shared};
+use shared_book::{Seat, Shared, Turn};
 use std::alloc::Global;
 
 // What came of a try for the turn.
@@ -17,6 +18,32 @@ pub(crate) enum Tried {
     Claimed { seq: u64 },
     // The turn was there, and the book refused.
     Refused,
+}
+
+// A claim in a turn.
+fn claim_with<K: Keeper>(
+    alloc: Global,
+    turn: &mut Turn<'_, '_, K>,
+    worker: u32,
+    interval: u32,
+) -> Tried
+    requires here { let shared = turn.old.shared.now in
+        IsHere shared.table.shared.table_id shared.case.now turn.old.seat.now.place }
+    requires turn { HasTurn turn.old.seat.now.place.me }
+    requires may { MayClaim turn.old.shared.now.case.now worker interval }
+    ensures loan { turn.new.seat.ghost_name ≡ turn.old.seat.ghost_name }
+    ensures shared { turn.new.shared.now ≡ turn.old.shared.now }
+    ensures here { let shared = turn.old.shared.now in
+        IsHere shared.table.shared.table_id shared.case.now turn.new.seat.now.place }
+    ensures turn { HasTurn turn.new.seat.now.place.me }
+    ensures numbers { turn.new.seat.now.place.me.0.numbers
+        ≡ turn.old.seat.now.place.me.0.numbers }
+    ensures basis { turn.new.seat.now.place.me.0.basis ≡ turn.old.seat.now.place.me.0.basis }
+{
+    match turn.claim(alloc, worker, interval) {
+        Ok(Claimed { lease, rows: _rows }) => Tried::Claimed { seq: lease.seq() },
+        Err(_why) => Tried::Refused,
+    }
 }
 
 // One try for the turn, and a claim in it.
@@ -36,12 +63,9 @@ pub(crate) fn claim_once<K: Keeper>(
     match seat.try_turn(&*shared) {
         Ok(turn) => {
             let mut turn = turn;
-            let claimed = turn.claim(alloc, worker, interval);
+            let tried = claim_with(alloc, &mut turn, worker, interval);
             turn.release();
-            match claimed {
-                Ok(Claimed { lease, rows: _ }) => Tried::Claimed { seq: lease.seq() },
-                Err(_) => Tried::Refused,
-            }
+            tried
         }
         Err(busy) => Tried::Busy { found: busy.found },
     }

@@ -76,16 +76,23 @@ fn two_seats<K: Keeper>(rt: &impl Abort, alloc: Global, shared: Shared<'_, K>, s
     assert_eq!(rt; book.history().len(), 3);
 }
 
+// The book is shared.
+fn shared<K: Keeper>(rt: &impl Abort, alloc: Global, book: Book<'_, K>)
+    requires case { book.case ≡ rise_case }
+{
+    match Shared::start(alloc, book, 2) {
+        Ok((shared, seat)) => two_seats(rt, alloc, shared, seat),
+        Err(_refusal) => assert!(rt; false),
+    }
+}
+
 #[test]
 fn turn_is_busy(rt: HostRuntime) -> Result<(), Fail> {
     let alloc = rt.alloc();
     let case = two_line_case(alloc)?;
     let keeper = MemKeeper::new(alloc, CallList::new(alloc));
     match Book::start(alloc, &case, keeper, 8) {
-        Ok(book) => match Shared::start(alloc, book, 2) {
-            Ok((shared, seat)) => two_seats(&rt, alloc, shared, seat),
-            Err(_) => assert!(rt; false),
-        },
+        Ok(book) => shared(&rt, alloc, book),
         Err(_) => assert!(rt; false),
     }
     Ok(())
