@@ -11,14 +11,21 @@
 #![tactic(auto)]
 
 mod alone;
+mod asked;
+mod call;
 mod form;
+mod load;
 mod reading;
 mod refusal;
 mod run;
 mod saying;
 mod status;
-mod words;
+mod summary;
+mod task;
+mod text;
 
 pub use alone::{Done, millwheel_alone};
+pub use asked::keep_name;
+pub use load::load_lines;
 pub use saying::{say, tell};
 pub use status::Status;

@@ -10,11 +10,11 @@ run_work-requires g c =
     let made = c.in-Ok.ensures in
     let same = ap (λ (k : CaseShape). k.topology) c.case.view_is in
     record {
-      work = kinds_work c.args.case.now.topology c.in-Ok.work (made.injectors ∙ ap injectors_of same)
+      work = kinds_work c.args.task.now.case.topology c.in-Ok.work (made.injectors ∙ ap injectors_of same)
           (made.kinds ∙ ap (λ (s : Shape). map (λ (k : ComputationShape). k.kind) s.computations) same) made.within;
     }
 
 pub returns-in-Err-clause-left : goal.returns-in-Err-clause-left
 returns-in-Err-clause-left g c =
-    unwanted _ _ _ _ c.unbegun.ensures.status
+    unwanted _ _ _ c.unbegun.ensures.status
     (record { empty = c.unbegun.ensures.history; same_rows = ap g.K.Keeper.rows c.unbegun.ensures.keeper; unwritten = refl })
