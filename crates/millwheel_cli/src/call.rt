@@ -43,7 +43,8 @@ fn read_solo<S: Shelf>(alloc: Global, shelf: &mut S, inputs: &Inputs) -> Result<
     } in IfErr result (UnlessWant (IsRefused seen inputs.now)) }
 {
     let events = inputs.events.as_slice();
-    let topology = read_topology(alloc, shelf, count_of(events)?, &inputs.topology)?;
+    let count = count_of(events)?;
+    let topology = read_topology(alloc, shelf, count, &inputs.topology)?;
     let sources = read_sources(alloc, shelf, events)?;
     let case = Case::of(alloc, topology, sources)?;
     let wanted = wanted_of(inputs.history);

@@ -1,5 +1,5 @@
 //! What the mode `load` runs.
-ghost use Rattle.std.specs.Prelude.{◌≡◌, ◌<◌, ◌++◌, [], ◌∷◌, Ok, Err, OnOk, IfOk, IfErr};
+ghost use Rattle.std.specs.Prelude.{◌≡◌, ◌<◌, ◌+◌, ◌*◌, ◌%◌, ◌++◌, [], ◌∷◌, Ok, Err, OnOk, IfOk, IfErr};
 ghost use Rattle.topology.specs.Shapes.{injectors_of};
 ghost use Rattle.millwheel_cli.specs.Limits.{lines_limit};
 ghost use Rattle.millwheel_cli.specs.Files.{source_taken};
@@ -30,17 +30,18 @@ pub fn load_case(alloc: Global, seed: u32, lines: u32) -> Result<Case, Refusal>
     ensures made { IfOk result (IsLoadCase seed lines) }
     ensures refused { IfErr result (UnlessWant (λ status. load_taken seed lines ≡ Err status)) }
 {
-    let topology = topology_of(alloc, 1, load_topology().as_bytes())?;
+    let text = load_topology();
+    let topology = topology_of(alloc, 1, text)?;
     let items = load_items(alloc, seed, lines)?;
     let case = one_source(alloc, topology, items)?;
     Ok(case)
 }
 
 // The topology of load, as its file would have it.
-fn load_topology() -> &'static str
+fn load_topology() -> &'static [u8]
     ensures { result.now ≡ load_topology }
 {
-    TOPOLOGY
+    TOPOLOGY.as_bytes()
 }
 
 // What the one event file of load holds. A file of 2^32 bytes, which no number of lines makes that words
@@ -97,12 +98,26 @@ fn drawn_after(number: u32) -> u32
 fn write_record(alloc: Global, text: &mut Vec<u8>, line: u32, number: u32) -> Result<(), NoMemory>
     ensures { OnOk result (text.new.items ≡ text.old.items ++ record_line line number) }
 {
-    let stamp = 10 * u64::from(line) + u64::from(number % 100);
+    let stamp = stamp_of(line, number);
     let rest = format!(in alloc; "\",\"ts\":{stamp}}}\n")?;
     text.extend_from_slice(b"{\"key\":\"".as_slice())?;
-    text.push(b'a' + (number % 26) as u8)?;
+    text.push(letter_of(number))?;
     text.extend_from_slice(rest.as_bytes())?;
     Ok(())
+}
+
+// The timestamp of the record line of this number, by the number that is drawn for it.
+fn stamp_of(line: u32, number: u32) -> u64
+    ensures { result ≡ 10 * line + number % 100 }
+{
+    10 * u64::from(line) + u64::from(number % 100)
+}
+
+// The letter that is the key of a line, by the number that is drawn for it.
+fn letter_of(number: u32) -> u8
+    ensures { result ≡ 97 + number % 26 }
+{
+    b'a' + (number % 26) as u8
 }
 
 // Appends what stands behind the record line of this number.

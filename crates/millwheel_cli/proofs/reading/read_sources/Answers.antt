@@ -1,5 +1,5 @@
 use Rattle.std.proofs.Common.{◌≡◌, ◌∙◌, ◌+◌, ◌-◌, ◌++◌, ℕ, List, [], ◌∷◌, length, drop, Option, refl, sym, ap, subst, rules, arith}
-use Rattle.std.proofs.lemmas.List.{append-nil, drop_all}
+use Rattle.std.proofs.lemmas.List.{append-nil, drop_all, drop_more, length-append}
 use Rattle.mw_ports.specs.Shelves.{Files}
 use Rattle.injector.specs.Sources.{Source}
 use Rattle.millwheel_cli.specs.Limits.{lines_limit}
@@ -18,14 +18,15 @@ loop-name-preserved g c =
     let name = c.name-item.result in
     let more = drop (l.name-index + 1) names in
     let source = c.in_ok-items.items in
-    let left : drop l.name-index names ≡ name ∷ more = search rules in
+    let left : drop l.name-index names ≡ name ∷ more =
+    drop_more names l.name-index name (omega (arith, c.loop-name-test.true)) ∙ ap (λ n. n ∷ more) (sym c.name-item.is) in
     let room : c.saturating_sub-room.result ≡ l.room - length source =
     c.saturating_sub-room.ensures ∙ ap (λ n. l.room - n) c.count.ensures.count in
     let holds : HoldsSource files l.file l.room name source =
     subst (λ (fs : Option Files). HoldsSource fs l.file l.room name source) i.files c.in_ok-items.ensures.source in
     record {
       number = search rules;
-      count = search rules;
+      count = ap length c.in_ok-push.ensures.appended ∙ length-append l.sources (source ∷ []) ∙ ap (λ n. n + 1) i.count;
       files = c.in_ok-items.ensures.files ∙ i.files;
       faults = search rules;
       lacks = search rules;

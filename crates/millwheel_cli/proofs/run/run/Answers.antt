@@ -8,7 +8,7 @@ use Rattle.millwheel_cli.proofs.run.run.Goals as goal
 pub run_work-requires : goal.run_work-requires
 run_work-requires g c =
     let made = c.in-Ok.ensures in
-    let same = ap (λ (k : CaseShape). k.topology) c.case.view_is in
+    let same = ap (λ (k : CaseShape). k.topology) c.task.view_is in
     record {
       work = kinds_work c.args.task.now.case.topology c.in-Ok.work (made.injectors ∙ ap injectors_of same)
           (made.kinds ∙ ap (λ (s : Shape). map (λ (k : ComputationShape). k.kind) s.computations) same) made.within;

@@ -1,0 +1,30 @@
+use Rattle.std.proofs.Common.{◌≡◌, ◌∙◌, refl, sym, ap, subst}
+use Rattle.std.specs.Option.{is_some}
+use Rattle.millwheel_cli.specs.Reasons.{ShelfSeen, HasReason}
+use Rattle.millwheel_cli.specs.Answers.{Left, IsUnbegun, HasLeft}
+use Rattle.millwheel_cli.proofs.Reasons.{call_reason}
+use Rattle.millwheel_cli.proofs.Statuses.{refusal_keeper, refusal_sink}
+use Rattle.millwheel_cli.proofs.Leaving.{left_of_refusal, left_of_run, run_reason}
+use Rattle.millwheel_cli.proofs.Telling.{told_answer}
+use Rattle.millwheel_cli.proofs.alone.millwheel_alone.Goals as goal
+
+pub returns-in-Ok-read_task-clause-answer : goal.returns-in-Ok-read_task-clause-answer
+returns-in-Ok-read_task-clause-answer g c held rows told seen_rows well kept written =
+    let seen : ShelfSeen = record {
+      files = g.S.Shelf.files c.args.shelf.now;
+      faults = (g.S.Shelf.faults c.args.shelf.now, g.S.Shelf.faults c.read_task.new.shelf);
+      lacks = (g.S.Shelf.lacks c.args.shelf.now, g.S.Shelf.lacks c.read_task.new.shelf);
+    } in
+    let left : Left = record {
+      rows = (g.K.Keeper.rows c.args.keeper, g.K.Keeper.rows c.run.result.keeper);
+      text = (g.O.Sink.text c.args.out.now, g.O.Sink.text c.run.new.out);
+      history = c.run.result.history;
+    } in
+    told_answer seen c.args.words.now left _ _ _ _ held rows c.run.result.status
+    (run_reason seen c.args.words.now _ _ _ c.run.ensures.left)
+    (left_of_run seen.files c.args.words.now c.in-Ok.command c.in-Ok-read_task.task left _ c.in-Ok.ensures.command
+    c.in-Ok-read_task.ensures.asked c.run.ensures.left)
+    c.run.ensures.keeper_fault c.run.ensures.sink_fault c.run.ensures.tells told seen_rows well kept written
+
+pub returns-in-Ok-clause-answer : goal.returns-in-Ok-clause-answer
+returns-in-Ok-clause-answer g c held rows told seen_rows well kept written = ?
