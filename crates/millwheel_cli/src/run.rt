@@ -24,12 +24,7 @@ use world::{drain, drains_leave_no_work};
 const HISTORY_MAX: u64 = 1 << 32;
 
 /// Runs a task over a keeper to its end, and writes its text.
-pub fn run<K: Keeper, O: Sink>(
-    alloc: Global,
-    task: &Task,
-    keeper: K,
-    out: &mut O,
-) -> Done<K>
+pub fn run<K: Keeper, O: Sink>(alloc: Global, task: &Task, keeper: K, out: &mut O) -> Done<K>
     ensures keeper_fault { result.status ≡ Status.KeeperFault →
         Rose (K.faults keeper) (K.faults result.keeper) }
     ensures sink_fault { result.status ≡ Status.SinkFault →
