@@ -29,3 +29,4 @@ pub mod deeds
 pub mod StandLaws
 pub mod WorkerLaws
 pub mod StartedWorlds
+pub mod ActsOnLaws
