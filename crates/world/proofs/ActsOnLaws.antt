@@ -112,4 +112,5 @@ answer_or d (Err e) = d
 
 -- an answer is one
 pub same-answer : (r : Result Outcome NodeFault) (one other : Outcome) → r ≡ Ok one → r ≡ Ok other → one ≡ other
+unfolding answer_or
 same-answer r one other is are = ap (answer_or one) (sym is ∙ are)

@@ -30,3 +30,5 @@ pub mod StandLaws
 pub mod WorkerLaws
 pub mod StartedWorlds
 pub mod ActsOnLaws
+pub mod WorldSteps
+pub mod CrashLaws

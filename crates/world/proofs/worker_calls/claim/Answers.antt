@@ -7,11 +7,11 @@ use Rattle.world.proofs.worker_calls.claim.Goals as goal
 pub returns-clause-called : goal.returns-clause-called
 returns-clause-called g c =
     let old = c.args.book.now in
-    let new = c.claim.new.desk.book.now in
+    let new = c.claim-result.new.desk.book.now in
     let was = c.args.node.now in
-    let node = c.claim.new.self in
+    let node = c.claim-result.new.self in
     let called : HasCalled old new was node =
     called-by c.case-case.result.now old new was node c.case-case.ensures.case c.sound.ensures.sound c.sound-2.ensures.sound
-    c.claim.ensures.grown c.claim.ensures.fits c.claim.ensures.number
-    (by-result c.claim.result (λ outcome answers. leases-claim c.case-case.result.now.topology old new c.args.interval was node outcome answers)
-    (leases-same new was node) c.claim.ensures.answers c.claim.ensures.kept) in search rules
+    c.claim-result.ensures.grown c.claim-result.ensures.fits c.claim-result.ensures.number
+    (by-result c.claim-result.result (λ outcome answers. leases-claim c.case-case.result.now.topology old new c.args.interval was node outcome answers)
+    (leases-same new was node) c.claim-result.ensures.answers c.claim-result.ensures.kept) in search rules

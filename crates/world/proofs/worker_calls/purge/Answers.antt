@@ -12,22 +12,22 @@ use Rattle.world.proofs.worker_calls.purge.Goals as goal
 pub returns-clause-called : goal.returns-clause-called
 returns-clause-called g c =
     let old = c.args.book.now in
-    let new = c.purge.new.desk.book.now in
+    let new = c.purge-result.new.desk.book.now in
     let was = c.args.node.now in
-    let node = c.purge.new.self in
+    let node = c.purge-result.new.self in
     let called : HasCalled old new was node =
     called-by c.case-case.result.now old new was node c.case-case.ensures.case c.sound.ensures.sound c.sound-2.ensures.sound
-    c.purge.ensures.grown c.purge.ensures.fits c.purge.ensures.number
-    (by-result c.purge.result (λ outcome answers. leases-some c.case-case.result.now.topology old new
+    c.purge-result.ensures.grown c.purge-result.ensures.fits c.purge-result.ensures.number
+    (by-result c.purge-result.result (λ outcome answers. leases-some c.case-case.result.now.topology old new
     (MayAskPurge c.case-case.result.now.topology was c.args.interval 1 answers.floor) was node outcome answers.answers)
-    (leases-same new was node) c.purge.ensures.answers c.purge.ensures.kept) in search rules
+    (leases-same new was node) c.purge-result.ensures.answers c.purge-result.ensures.kept) in search rules
 
 -- as the script does
 pub returns-clause-acted : goal.returns-clause-acted
 returns-clause-acted g c =
     let old = c.args.book.now in
-    let new = c.purge.new.desk.book.now in
+    let new = c.purge-result.new.desk.book.now in
     let was = c.args.node.now in
-    let node = c.purge.new.self in
-    let acted : IfOk c.purge.result (ActsOn (steps.Purge was.number c.args.interval) old was new node) =
-    ok-then c.purge.result (λ outcome answers. purge-on c.case-case.result.now old new was node c.args.interval outcome c.case-case.ensures.case c.history.ensures.lawful c.purge.ensures.marks c.requires.fits answers) c.purge.ensures.answers in search rules
+    let node = c.purge-result.new.self in
+    let acted : IfOk c.purge-result.result (ActsOn (steps.Purge was.number c.args.interval) old was new node) =
+    ok-then c.purge-result.result (λ outcome answers. purge-on c.case-case.result.now old new was node c.args.interval outcome c.case-case.ensures.case c.history.ensures.lawful c.purge-result.ensures.marks c.requires.fits answers) c.purge-result.ensures.answers in search rules

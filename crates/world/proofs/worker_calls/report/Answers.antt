@@ -12,23 +12,23 @@ use Rattle.world.proofs.worker_calls.report.Goals as goal
 pub returns-clause-called : goal.returns-clause-called
 returns-clause-called g c =
     let old = c.args.book.now in
-    let new = c.report.new.desk.book.now in
+    let new = c.report-result.new.desk.book.now in
     let was = c.args.node.now in
-    let node = c.report.new.self in
+    let node = c.report-result.new.self in
     let called : HasCalled old new was node =
     called-by c.case-case.result.now old new was node c.case-case.ensures.case c.sound.ensures.sound c.sound-2.ensures.sound
-    c.report.ensures.grown c.report.ensures.fits c.report.ensures.number
-    (by-result c.report.result (λ outcome answers. leases-report c.case-case.result.now old new (held_at was.held c.args.interval) was node outcome answers)
-    (leases-same new was node) c.report.ensures.answers c.report.ensures.kept) in search rules
+    c.report-result.ensures.grown c.report-result.ensures.fits c.report-result.ensures.number
+    (by-result c.report-result.result (λ outcome answers. leases-report c.case-case.result.now old new (held_at was.held c.args.interval) was node outcome answers)
+    (leases-same new was node) c.report-result.ensures.answers c.report-result.ensures.kept) in search rules
 
 -- as the script does
 pub returns-clause-acted : goal.returns-clause-acted
 returns-clause-acted g c =
     let old = c.args.book.now in
-    let new = c.report.new.desk.book.now in
+    let new = c.report-result.new.desk.book.now in
     let was = c.args.node.now in
-    let node = c.report.new.self in
-    let acted : IfOk c.report.result (ActsOn (steps.Report was.number c.args.interval) old was new node) =
-    ok-is c.report.result (λ outcome is answers. report-on c.case-case.result.now old new was node c.args.interval outcome c.case-case.ensures.case
-    c.history.ensures.lawful (λ unmarked. c.report.ensures.unchanged refl (λ mark marked. unmarked mark (same-answer c.report.result outcome _ is marked)))
-    c.requires.fits c.requires.there answers) c.report.ensures.answers in search rules
+    let node = c.report-result.new.self in
+    let acted : IfOk c.report-result.result (ActsOn (steps.Report was.number c.args.interval) old was new node) =
+    ok-is c.report-result.result (λ outcome is answers. report-on c.case-case.result.now old new was node c.args.interval outcome c.case-case.ensures.case
+    c.history.ensures.lawful (λ unmarked. c.report-result.ensures.unchanged refl (λ mark marked. unmarked mark (same-answer c.report-result.result outcome _ is marked)))
+    c.requires.fits c.requires.there answers) c.report-result.ensures.answers in search rules
