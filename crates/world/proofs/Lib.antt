@@ -32,3 +32,4 @@ pub mod StartedWorlds
 pub mod ActsOnLaws
 pub mod WorldSteps
 pub mod CrashLaws
+pub mod TakeLaws

@@ -264,3 +264,8 @@ failed-report old new (Some held) why looked fails = failed-refused old new held
 pub failed-only-memory : (old new : BookView) (why : NodeFault) → HasLooked (own_view old) (own_view new)
     → why ≡ faults.NoMemory → HasFailed old new why
 failed-only-memory old new why looked is = subst (HasFailed old new) (sym is) (failed-memory old new looked)
+
+-- of what a refusal leaves
+pub err-left : {T E : Type 0} {Q S : Type 0} (r : Result T E) → (Q → S) → OnErr r Q → OnErr r S
+err-left (Ok x) f one = tt
+err-left (Err e) f one = f one
