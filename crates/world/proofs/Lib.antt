@@ -33,3 +33,6 @@ pub mod ActsOnLaws
 pub mod WorldSteps
 pub mod CrashLaws
 pub mod TakeLaws
+pub mod RunLaws
+pub mod FlightLaws
+pub mod TakeSteps

@@ -117,7 +117,7 @@ pub left-none : (shape : Shape) (node : NodeView) (taken : Outgoing) → left_by
 unfolding left-tests
 left-none shape node taken none =
     let tests = by_tests (must_wait (worker_at node) taken) (is_some (lease_on shape (worker_at node) (row_of_message taken)))
-        (sym (left-is shape (worker_at node) taken) ∙ none) in
+    (sym (left-is shape (worker_at node) taken) ∙ none) in
     (tests.0, sym (lease-held-on shape node (row_of_message taken)) ∙ tests.1)
   where
     by_tests : (b has : Bool) → left-tests b has ≡ None → (b ≡ false) × (has ≡ true)

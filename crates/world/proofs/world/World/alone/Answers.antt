@@ -33,8 +33,7 @@ invariant_of-self g c =
     let state : WorldState = record { book = c.self.inside.book; nodes = c.self.inside.nodes.items; flight = c.self.inside.flight.items } in
     let was = c.index_mut-node.result.now in
     let at = at-index state c.args.worker was c.self.invariant.0 c.requires.worker c.index_mut-node.ensures.value in
-    let called = c.alone.ensures.called in
-    (
+    let called = c.alone.ensures.called in (
       stands-at state c.alone.new.book c.args.worker was c.alone.new.node c.self.invariant.0 at called,
       work-moved state.book.case c.alone.new.book.case called.grown.moved.case c.self.invariant.1,
     )
