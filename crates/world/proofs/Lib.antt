@@ -36,3 +36,6 @@ pub mod TakeLaws
 pub mod RunLaws
 pub mod FlightLaws
 pub mod TakeSteps
+pub mod SendSteps
+pub mod StepLaws
+pub mod SendWorlds
