@@ -60,7 +60,7 @@ flying-at book flight number message each at = by_place (slice_get flight number
     by_place None there e = absurd cc
     by_place (Some place) there e =
         let found : IsFlying book place = subst (IsFlying book) (get_or_from_slice_get flight number place place there)
-            (All-get_or (IsFlying book) flight number place (slice_get_within flight number place there) each) in
+        (All-get_or (IsFlying book) flight number place (slice_get_within flight number place there) each) in
         subst (IsFlying book) e found
 
 -- ---- what the script does

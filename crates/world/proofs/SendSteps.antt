@@ -83,18 +83,6 @@ sent-flying old new was node flight after fits sending none each =
     (flying-more old new (flight ++ map Some was.outbox) (more-looked (own_view old) (own_view new) sending.looked)
     (All-append (IsFlying old) flight (map Some was.outbox) each (All-map (IsFlying old) Some was.outbox fits.outbox)))
 
--- and has numbers
-pub sent-few : (old new : BookView) (was node : NodeView) (flight after : List (Option (Message ℕ))) (count : ℕ)
-    → IsSending old was (flight_of flight) new node (flight_of after) → node.outbox ≡ [] → count ≡ length was.outbox
-    → nat_le (length flight + count) (2 ^ 32) ≡ true → length after ≤ 2 ^ 32
-sent-few old new was node flight after count sending none counted room =
-    let all = ap length (all-sent old new was node (flight_of flight) (flight_of after) sending none) in
-    let sum = length-append (flight_of flight) (map Some was.outbox) in
-    let one = length-map flight noteless in
-    let two = length-map after noteless in
-    let three : length (map Some was.outbox) ≡ length was.outbox = length-map was.outbox Some in
-    omega (arith, all, sum, one, two, three, counted, room)
-
 -- ---- as the script does
 
 -- the worker of a scripted world
@@ -172,9 +160,12 @@ send-more old new was node flight after count sending none counted room world at
         → f ≡ world.flight ++ map Some (worker_of world was.number).outbox → n ≡ length (worker_of world was.number).outbox
         → (outcomes.Sent n, record { history = h; marks = m; workers = slice_set world.workers was.number w; flight = f })
         ≡ done old.case.topology world (send_all was.number world)
-    left h m w f n hs ms ws fs ns = λ i. (outcomes.Sent (ns i), record {
-      history = hs i;
-      marks = ms i;
-      workers = slice_set world.workers was.number (ws i);
-      flight = fs i;
-    })
+    left h m w f n hs ms ws fs ns = λ i. (
+      outcomes.Sent (ns i),
+      record {
+        history = hs i;
+        marks = ms i;
+        workers = slice_set world.workers was.number (ws i);
+        flight = fs i;
+      },
+    )

@@ -18,7 +18,7 @@ use Rattle.book.specs.DeskReasons.{HasClaimReason}
 use Rattle.book.specs.Desks.{HasLooked, IsSound, KeepsMarks}
 use Rattle.book.specs.OwnDesks.{own_view}
 use Rattle.holdings.specs.Holding.{HeldView, held_on, row_held}
-use Rattle.node.specs.Answers.{AnswersAck, AnswersAckOf, AnswersAsked, AnswersClaim, AnswersFire, AnswersPurge, AnswersReport, AnswersReportOf, AnswersSome, AnswersSweep, AnswersWrite, FailsAsked, FailsHeld, FailsReport, HasGrown, HasKept, received, refusal_of, taken_from, taken_in}
+use Rattle.node.specs.Answers.{AnswersAck, AnswersAckOf, AnswersAsked, AnswersClaim, AnswersFire, AnswersPurge, AnswersReport, AnswersReportOf, AnswersSome, AnswersSweep, AnswersWrite, FailsReport, HasGrown, HasKept, received, refusal_of, taken_from, taken_in}
 use Rattle.node.specs.Asking.{Request, settling}
 use Rattle.node.specs.Fits.{Fits}
 use Rattle.node.specs.Workers.{NodeView, Sending, Worker, leases_of, sending_of, with_lease, with_outgoing, with_written, worker_at}
@@ -279,3 +279,8 @@ ok-with (Err e) f one two = tt
 pub by-either : {T E : Type 0} {P Q R : Type 0} (r : Result T E) → (P → R) → (Q → R) → OnOk r P → OnErr r Q → R
 by-either (Ok x) f g one two = f one
 by-either (Err e) f g one two = g two
+
+-- of three facts that a refusal leaves
+pub err-three : {T E : Type 0} {P Q S R : Type 0} (r : Result T E) → (P → Q → S → R) → OnErr r P → OnErr r Q → OnErr r S → OnErr r R
+err-three (Ok x) f one two three = tt
+err-three (Err e) f one two three = f one two three

@@ -1,5 +1,6 @@
 use Rattle.std.proofs.Common.{◌≡◌, ◌∙◌, ◌+◌, ◌^◌, true, length, ap, subst, sym, rules}
 use Rattle.std.specs.Prelude.{None, Some, All, nat_le, slice_get, unwrap_or}
+use Rattle.node.specs.declared.outcome.Outcome.TheVariants as outcomes
 use Rattle.scripts.specs.declared.step.Step.TheVariants as steps
 use Rattle.world.specs.Standing.{IsFlying}
 use Rattle.world.specs.WorkerCalls.{FliesOn}
@@ -22,7 +23,7 @@ returns-clause-acted c =
     let room : nat_le (length flight + 1) (2 ^ 32) ≡ true = search rules in
     ok-with c.put.result (λ outcome number put.
     subst (λ o. FliesOn (steps.Repeat c.args.message) (flight_of flight) (flight_of c.put.new.flight.items) o) (sym number)
-    (subst (λ f. FliesOn (steps.Repeat c.args.message) (flight_of flight) (flight_of f) _) (sym put)
+    (subst (λ f. FliesOn (steps.Repeat c.args.message) (flight_of flight) (flight_of f) (outcomes.Copied (length flight))) (sym put)
     (repeat-more c.args.message flight c.in_ok-copied.copied (at ∙ ap Some (sym c.in_ok-copied.ensures)) room)))
     c.put.ensures.number c.put.ensures.put
 

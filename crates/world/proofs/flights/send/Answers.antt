@@ -4,7 +4,7 @@ use Rattle.node.specs.declared.outcome.Outcome.TheVariants as outcomes
 use Rattle.world.specs.Standing.{IsFlying}
 use Rattle.world.specs.WorkerCalls.{SendsOn}
 use Rattle.world.specs.WorldStates.{flight_of}
-use Rattle.world.proofs.SendSteps.{send-full, send-more, sent-called, sent-few, sent-flying, unsent-called}
+use Rattle.world.proofs.SendSteps.{send-full, send-more, sent-called, sent-flying, unsent-called}
 use Rattle.world.proofs.flights.send.Goals as goal
 
 -- there are no numbers: nothing was asked
@@ -39,15 +39,6 @@ returns-clause-acted g c =
     (send-more c.args.book.now c.send_all.new.book c.args.node.now c.send_all.new.node c.make_room.new.flight.items
     c.send_all.new.flight.items count c.send_all.ensures.sending c.send_all.ensures.all c.unsent-count.ensures.unsent
     (subst (λ f. nat_le (length f + count) (2 ^ 32) ≡ true) (sym c.make_room.ensures.same) room))
-
--- the messages have numbers
-pub returns-clause-few : goal.returns-clause-few
-returns-clause-few g c =
-    let count = c.unsent-count.result in
-    let room : nat_le (length c.args.flight.now.items + count) (2 ^ 32) ≡ true = search rules in
-    sent-few c.args.book.now c.send_all.new.book c.args.node.now c.send_all.new.node c.make_room.new.flight.items
-    c.send_all.new.flight.items count c.send_all.ensures.sending c.send_all.ensures.all c.unsent-count.ensures.unsent
-    (subst (λ f. nat_le (length f + count) (2 ^ 32) ≡ true) (sym c.make_room.ensures.same) room)
 
 -- and may have been sent
 pub returns-clause-flying : goal.returns-clause-flying

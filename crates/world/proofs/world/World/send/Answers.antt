@@ -1,14 +1,13 @@
 use Rattle.std.proofs.Common.{◌≡◌, subst}
-use Rattle.std.specs.Prelude.{IfErr, IfOk, OnErr}
+use Rattle.std.specs.Prelude.{IfOk, OnErr}
 use Rattle.scripts.specs.declared.step.Step.TheVariants as steps
 use Rattle.world.specs.Stepping.{HasActed}
-use Rattle.world.specs.Turns.{HasFailed}
 use Rattle.world.specs.WorkerCalls.{HasGoneOn}
 use Rattle.world.specs.WorldStates.{WorldState, world_of}
 use Rattle.world.proofs.Results.{ok-then}
-use Rattle.world.proofs.SendWorlds.{failed-same, sent-at, unsent-at}
+use Rattle.world.proofs.SendWorlds.{sent-at, unsent-at}
 use Rattle.world.proofs.StandLaws.{world-after}
-use Rattle.world.proofs.WorkerLaws.{err-both, err-with}
+use Rattle.world.proofs.WorkerLaws.{err-three}
 use Rattle.world.proofs.WorldSteps.{at-index, changed, fits-index, gone-at, work-moved}
 use Rattle.world.proofs.world.World.send.Goals as goal
 
@@ -24,8 +23,7 @@ invariant_of-self g c =
     let state : WorldState = record { book = c.self.inside.book; nodes = c.self.inside.nodes.items; flight = c.self.inside.flight.items } in
     let was = c.index_mut-node.result.now in
     let at = at-index state c.args.worker was c.self.invariant.0 c.requires.worker c.index_mut-node.ensures.value in
-    let called = c.send.ensures.called in
-    (
+    let called = c.send.ensures.called in (
       world-after state c.send.new.book c.args.worker was c.send.new.node c.send.new.flight.items c.self.invariant.0 at called
           c.send.ensures.flying c.send.ensures.few,
       work-moved state.book.case c.send.new.book.case called.grown.moved.case c.self.invariant.1,
@@ -59,7 +57,6 @@ returns-clause-same g c =
     let new = changed state c.send.new.book c.args.worker c.send.new.node c.send.new.flight.items in
     let at = at-index state c.args.worker was c.self.invariant.0 c.requires.worker c.index_mut-node.ensures.value in
     let same : OnErr c.send.result (world_of new ≡ world_of state) =
-    err-both c.send.result (λ unchanged both. unsent-at state c.send.new.book c.args.worker was c.send.new.node c.send.new.flight.items at
-    both.0 both.1 unchanged) c.send.ensures.unchanged
-    (err-both c.send.result (λ unsent kept. (unsent, kept)) c.send.ensures.unsent c.send.ensures.kept) in
+    err-three c.send.result (λ unsent kept unchanged. unsent-at state c.send.new.book c.args.worker was c.send.new.node
+    c.send.new.flight.items at unsent kept unchanged) c.send.ensures.unsent c.send.ensures.kept c.send.ensures.unchanged in
     subst (λ (s : WorldState). OnErr c.send.result (world_of new ≡ world_of s)) c.self.view_is same
