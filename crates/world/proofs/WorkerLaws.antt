@@ -1,6 +1,6 @@
 -- What a call of one worker leaves over every keeper, by the clauses of the call.
 use Rattle.std.proofs.Common.{◌≡◌, ◌∙◌, ◌<◌, ◌++◌, ◌∷◌, ℕ, Bool, true, false, List, [], length, refl, sym, ap, subst, inl, inr}
-use Rattle.std.specs.Prelude.{Option, None, Some, IfErr, IfOk, OnErr, Result, Ok, Err, if◌then◌else◌, slice_get}
+use Rattle.std.specs.Prelude.{Option, None, Some, IfErr, IfOk, OnErr, OnOk, Result, Ok, Err, if◌then◌else◌, slice_get}
 use Rattle.std.specs.Option.{is_some, option_map_or}
 use Rattle.std.proofs.lemmas.Bool.{cases_eq, eq-eqb, ne_eqb}
 use Rattle.mw_types.specs.declared.delivery.Delivery.{Delivery}
@@ -18,7 +18,7 @@ use Rattle.book.specs.DeskReasons.{HasClaimReason}
 use Rattle.book.specs.Desks.{HasLooked, IsSound, KeepsMarks}
 use Rattle.book.specs.OwnDesks.{own_view}
 use Rattle.holdings.specs.Holding.{HeldView, held_on, row_held}
-use Rattle.node.specs.Answers.{AnswersAck, AnswersAckOf, AnswersAsked, AnswersClaim, AnswersFire, AnswersPurge, AnswersReport, AnswersReportOf, AnswersSome, AnswersSweep, AnswersWrite, FailsAsked, FailsHeld, FailsReport, HasGrown, HasKept, received, refusal_of, taken_from, taken_in}
+use Rattle.node.specs.Answers.{AnswersAck, AnswersAckOf, AnswersAsked, AnswersClaim, AnswersFire, AnswersPurge, AnswersReport, AnswersReportOf, AnswersSome, AnswersSweep, AnswersWrite, FailsReport, HasGrown, HasKept, received, refusal_of, taken_from, taken_in}
 use Rattle.node.specs.Asking.{Request, settling}
 use Rattle.node.specs.Fits.{Fits}
 use Rattle.node.specs.Workers.{NodeView, Sending, Worker, leases_of, sending_of, with_lease, with_outgoing, with_written, worker_at}
@@ -123,18 +123,18 @@ leases-some shape old new MayAsk was node outcome answers = by_outcome outcome a
 -- a worker that claimed
 pub leases-claim : (shape : Shape) (old new : BookView) (interval : ℕ) (was node : NodeView) (outcome : Outcome)
     → AnswersClaim shape (own_view old) (own_view new) interval was node outcome → HasLeases new was node
-leases-claim shape old new interval was node (outcomes.Claimed seq) answers i s is = elim (cases_eq i interval) [
+leases-claim shape old new interval was node (outcomes.Claimed seq) answers = λ i s is. elim (cases_eq i interval) [
   | inl same ↦
-      let here = sym (ap (λ b. if b then Some seq else leases_of was.held i) (eq-eqb i interval same)) ∙ sym at_left ∙ is in
+      let here = sym (ap (λ b. if b then Some seq else leases_of was.held i) (eq-eqb i interval same)) ∙ sym (at_left i) ∙ is in
       inr (ap (λ (h : List Entry). slice_get h s) answers.appended
       ∙ ap (slice_get (answers.before ++ entries.Claim was.number interval ∷ [])) (sym (some_same seq s here) ∙ answers.number)
       ∙ slice_get-last answers.before (entries.Claim was.number interval)
       ∙ ap (λ k. Some (entries.Claim was.number k)) (sym same))
-  | inr other ↦ inl (sym (ap (λ b. if b then Some seq else leases_of was.held i) (ne_eqb i interval other)) ∙ sym at_left ∙ is)
+  | inr other ↦ inl (sym (ap (λ b. if b then Some seq else leases_of was.held i) (ne_eqb i interval other)) ∙ sym (at_left i) ∙ is)
 ]
   where
-    at_left : leases_of node.held i ≡ (with_lease shape interval (Some seq) (worker_at was)).leases i
-    at_left = ap (λ (w : Worker). w.leases i) answers.left
+    at_left : (i : ℕ) → leases_of node.held i ≡ (with_lease shape interval (Some seq) (worker_at was)).leases i
+    at_left i = ap (λ (w : Worker). w.leases i) answers.left
 leases-claim shape old new interval was node (outcomes.Busy found) answers = leases-same new was node answers.0.kept
 leases-claim shape old new interval was node (outcomes.Committed commit) answers = absurd answers
 leases-claim shape old new interval was node outcomes.Prepared answers = absurd answers
@@ -188,33 +188,40 @@ pub written-leases : (sending : Option Sending) (worker : Worker) → (with_writ
 written-leases None worker = refl
 written-leases (Some sending) worker = refl
 
+-- the leases that an answer leaves
+abbrev pub leases_left : Outcome × Worker → ℕ → Option ℕ
+leases_left (outcome, worker) = worker.leases
+
 -- a worker that took a record has the leases that it had
-pub taken-leases : (shape : Shape) (was : NodeView) (taken : Outgoing) → (taken_from shape was taken).1.leases ≡ leases_of was.held
+pub taken-leases : (shape : Shape) (was : NodeView) (taken : Outgoing)
+    → leases_left (taken_from shape was taken) ≡ leases_of was.held
 taken-leases shape was (outgoing.Ack to id) = refl
 taken-leases shape was (outgoing.Deliver delivery sender) = by_free (is_some was.prepared)
   where
-    in_row : (held : HeldView) → (received shape was delivery sender held).1.leases ≡ leases_of was.held
-    in_row held = by_finished (is_finished delivery.id (row_held shape held delivery.to))
-      where
-        by_finished : (b : Bool) → (if b
-            then (outcomes.Duplicate, with_outgoing (outgoing.Ack sender delivery.id ∷ []) (worker_at was))
-            else (
-              outcomes.Prepared,
-              record (worker_at was) { prepared = Some (record { delivery = delivery; sender = sender }) },
-            )).1.leases ≡ leases_of was.held
-        by_finished true = refl
-        by_finished false = refl
+    by_finished : (b : Bool) → leases_left (if b
+        then (outcomes.Duplicate, with_outgoing (outgoing.Ack sender delivery.id ∷ []) (worker_at was))
+        else (
+          outcomes.Prepared,
+          record (worker_at was) { prepared = Some (record { delivery = delivery; sender = sender }) },
+        )) ≡ leases_of was.held
+    by_finished true = refl
+    by_finished false = refl
 
-    by_held : (held : Option HeldView) → (option_map_or (received shape was delivery sender) held
-        (outcomes.NotMine, worker_at was)).1.leases ≡ leases_of was.held
+    by_held : (held : Option HeldView) → leases_left (option_map_or (received shape was delivery sender) held
+        (outcomes.NotMine, worker_at was)) ≡ leases_of was.held
     by_held None = refl
-    by_held (Some held) = in_row held
+    by_held (Some held) = by_finished (is_finished delivery.id (row_held shape held delivery.to))
 
-    by_free : (b : Bool) → (if b then (outcomes.Nothing, worker_at was) else
+    by_free : (b : Bool) → leases_left (if b then (outcomes.Nothing, worker_at was) else
         option_map_or (received shape was delivery sender) (held_on shape was.held delivery.to)
-        (outcomes.NotMine, worker_at was)).1.leases ≡ leases_of was.held
+        (outcomes.NotMine, worker_at was)) ≡ leases_of was.held
     by_free true = refl
     by_free false = by_held (held_on shape was.held delivery.to)
+
+-- so has a worker that is left so
+pub leases-taken : (shape : Shape) (new : BookView) (was node : NodeView) (taken : Outgoing) (outcome : Outcome)
+    → (outcome, worker_at node) ≡ taken_from shape was taken → HasLeases new was node
+leases-taken shape new was node taken outcome is = leases-kept new was node (ap leases_left is ∙ taken-leases shape was taken)
 
 -- ---- a call
 
@@ -257,3 +264,23 @@ failed-report old new (Some held) why looked fails = failed-refused old new held
 pub failed-only-memory : (old new : BookView) (why : NodeFault) → HasLooked (own_view old) (own_view new)
     → why ≡ faults.NoMemory → HasFailed old new why
 failed-only-memory old new why looked is = subst (HasFailed old new) (sym is) (failed-memory old new looked)
+
+-- of what a refusal leaves
+pub err-left : {T E : Type 0} {Q S : Type 0} (r : Result T E) → (Q → S) → OnErr r Q → OnErr r S
+err-left (Ok x) f one = tt
+err-left (Err e) f one = f one
+
+-- of what is answered, and what that leaves
+pub ok-with : {T E : Type 0} {P S : T → Type 0} {Q : Type 0} (r : Result T E) → ((x : T) → P x → Q → S x) → IfOk r P → OnOk r Q → IfOk r S
+ok-with (Ok x) f one two = f x one two
+ok-with (Err e) f one two = tt
+
+-- one fact by what either leaves
+pub by-either : {T E : Type 0} {P Q R : Type 0} (r : Result T E) → (P → R) → (Q → R) → OnOk r P → OnErr r Q → R
+by-either (Ok x) f g one two = f one
+by-either (Err e) f g one two = g two
+
+-- of three facts that a refusal leaves
+pub err-three : {T E : Type 0} {P Q S R : Type 0} (r : Result T E) → (P → Q → S → R) → OnErr r P → OnErr r Q → OnErr r S → OnErr r R
+err-three (Ok x) f one two three = tt
+err-three (Err e) f one two three = f one two three
