@@ -25,3 +25,4 @@ pub mod PurgeLoop
 pub mod FireLoop
 pub mod Results
 pub mod DrainLaws
+pub mod FullLaws
