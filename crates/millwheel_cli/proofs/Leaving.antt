@@ -9,6 +9,7 @@ use Rattle.mw_ports.specs.Shelves.{Files}
 use Rattle.row_keeper.specs.Rows.{Rows}
 use Rattle.run_history.specs.Cases.{CaseShape}
 use Rattle.book.specs.Answers.{IsNotEmpty}
+use Rattle.world.specs.Drains.{HasEnded}
 use Rattle.book.specs.Claims.{IsDamagedRow}
 use Rattle.book.specs.declared.refusals.StartWhy.{StartWhy}
 use Rattle.book.specs.declared.refusals.StartWhy.TheVariants as starts
@@ -95,15 +96,16 @@ wrote_as task left history s told run is = wrote task left s run
 -- what a drain that stopped leaves is what its status leaves
 pub stopped : (task : Task) (left : Left) (fault : NodeFault) → IsRun task left → left.text.1 ≡ left.text.0
     → (fault ≡ faults.HistoryFull → length left.history ≡ history_limit)
+    → (fault ≡ faults.HistoryFull → IfSome left.rows.1 (λ _. HasEnded task.case 0 left.history → ⊥))
     → ((name : RowName) (bytes : List ℕ) → fault ≡ faults.RowDamaged name bytes
     → IsDamagedRow task.case left.rows.1 (length left.history) name bytes)
     → RunLeaves task left (of_drain fault)
-stopped task left faults.HistoryFull run same full damaged =
-    record { stopped = record { run = run; unwritten = same }; full = full refl }
-stopped task left faults.KeeperFault run same full damaged = inl (record { run = run; unwritten = same })
-stopped task left (faults.RowDamaged name bytes) run same full damaged =
+stopped task left faults.HistoryFull run same full more damaged =
+    record { stopped = record { run = run; unwritten = same }; full = full refl; more = more refl }
+stopped task left faults.KeeperFault run same full more damaged = inl (record { run = run; unwritten = same })
+stopped task left (faults.RowDamaged name bytes) run same full more damaged =
     record { stopped = record { run = run; unwritten = same }; damaged = damaged name bytes refl }
-stopped task left faults.NoMemory run same full damaged = inr (inl (record { run = run; unwritten = same }))
+stopped task left faults.NoMemory run same full more damaged = inr (inl (record { run = run; unwritten = same }))
 
 -- what is left where no book was begun is what its status leaves
 pub unstarted : (task : Task) (left : Left) (why : StartWhy) → IsUnbegun left → IsNotEmpty left.rows.0 why

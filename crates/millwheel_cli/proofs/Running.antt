@@ -92,6 +92,15 @@ whole_run task case from old left mine run runnable zero law tells ended =
           (λ rows e k. law task.case from left.history (subst IsRunnable mine runnable) k.legal e.earlier) here run.kept;
     }
 
+-- a drain that has more to write has more, in the words of its task
+pub more_seen : (task : Task) (case : CaseShape) (from : ℕ) (history : List Entry) (old new : Option Rows) → case ≡ task.case → from ≡ 0
+    → is_some new ≡ is_some old → IfSome old (λ _. HasEnded case from history → ⊥)
+    → IfSome new (λ _. HasEnded task.case 0 history → ⊥)
+more_seen task case from history old None mine zero tells more = tt
+more_seen task case from history None (Some rows) mine zero tells more = absurd (true≢false tells)
+more_seen task case from history (Some held) (Some rows) mine zero tells more =
+    λ ended. more (subst (λ c. HasEnded c from history) (sym mine) (subst (λ n. HasEnded task.case n history) (sym zero) ended))
+
 -- what a desk does not tell a contract does not see
 untold_of : {X : Type 0} (told : Option X) → IfSome (telling told) (λ _. ⊥) → IfSome told (λ _. ⊥)
 untold_of None is = tt

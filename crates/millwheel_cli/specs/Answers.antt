@@ -16,7 +16,7 @@ use Rattle.run_history.specs.Stored.{stored_rows}
 use Rattle.run_history.specs.HistoryLines.{lines_of_history}
 use Rattle.run_history.specs.Texts.{IsResultText, as_line, summary_data}
 use Rattle.book.specs.Claims.{IsDamagedRow}
-use Rattle.world.specs.Drains.{IsDraining, IsDrained}
+use Rattle.world.specs.Drains.{IsDraining, IsDrained, HasEnded}
 use Rattle.millwheel_cli.specs.declared.status.Status.{Status}
 use Rattle.millwheel_cli.specs.declared.status.Status.TheVariants.{KeeperFault, SinkFault, NoMemory, NotEmpty, HistoryFull, RowDamaged}
 use Rattle.millwheel_cli.specs.declared.status.Status.TheVariants as status
@@ -96,10 +96,11 @@ pub record IsStopped (task : Task) (left : Left) : Type 0 where
   pub run : IsRun task left
   pub unwritten : left.text.1 ≡ left.text.0
 
--- the run stopped since its history has as many entries as one may have
+-- the run stopped since its history has as many entries as one may have, and the drain has more to write
 pub record IsFull (task : Task) (left : Left) : Type 0 where
   pub stopped : IsStopped task left
   pub full : length left.history ≡ history_limit
+  pub more : IfSome left.rows.1 (λ _. HasEnded task.case 0 left.history → ⊥)
 
 -- the run stopped at bytes that the keeper gave, which are those of no row that fits the name; of a keeper
 -- whose rows a contract can see none are

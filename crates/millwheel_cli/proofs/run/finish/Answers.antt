@@ -4,7 +4,7 @@ use Rattle.run_history.specs.Cases.{CaseShape}
 use Rattle.run_history.specs.Printing.{IsPrintable}
 use Rattle.run_history.specs.HistoryLines.{HasLine}
 use Rattle.millwheel_cli.specs.Answers.{RunLeaves}
-use Rattle.millwheel_cli.proofs.Running.{run_of_book, whole_run, same_where_empty, damaged_of}
+use Rattle.millwheel_cli.proofs.Running.{run_of_book, whole_run, same_where_empty, damaged_of, more_seen}
 use Rattle.millwheel_cli.proofs.Statuses.{drain_fault, drain_sink, text_keeper}
 use Rattle.millwheel_cli.proofs.Leaving.{wrote_as, stopped}
 use Rattle.millwheel_cli.proofs.run.finish.Goals as goal
@@ -32,6 +32,8 @@ returns-in-Err-clause-left g c =
     c.history.ensures.lawful c.history-history.ensures.lawful c.requires.empty after.tells after.draining in
     let status = stopped task _ c.in-Err.fault run refl
     (λ e. c.in-Err.ensures.full (ap Err e) ∙ after.limit ∙ c.requires.limit)
+    (λ e. more_seen task old.case _ new.history old.rows new.rows c.requires.case (ap length c.requires.empty) after.tells
+    (c.in-Err.ensures.more (ap Err e)))
     (λ name bytes e. damaged_of new task.case _ name bytes (after.case ∙ c.requires.case) c.in-Err.ensures.damaged e) in
     subst (RunLeaves task _) (sym c.status_of_drain.ensures) status
 
