@@ -1,9 +1,10 @@
 //! Why the files that are asked for are not run.
 ghost use Rattle.std.specs.Prelude.{◌≡◌};
-ghost use Rattle.millwheel_cli.specs.Inside.{status_of};
+ghost use Rattle.millwheel_cli.specs.Inside.{status_of, of_words};
 
 use crate::status::Status;
-use injector::{LineWhy, LinesRefusal};
+use command_line::WordsRefusal;
+use injector::LineWhy;
 use mw_types::{Name, NoMemory};
 use topology::TopologyRefusal;
 
@@ -12,7 +13,7 @@ use topology::TopologyRefusal;
 pub enum Refusal {
     NoFile { name: Name },
     TopologyRefused { why: TopologyRefusal },
-    EventsRefused { line: u32, why: LineWhy },
+    EventsRefused { file: u32, line: u32, why: LineWhy },
     NoMemory,
     ReadFault { name: Name },
     TooLong { name: Name },
@@ -44,20 +45,6 @@ impl From<TopologyRefusal> for Refusal {
     }
 }
 
-impl From<LinesRefusal> for Refusal {
-    ghost use Rattle.std.specs.Prelude.{◌≡◌};
-    ghost use Rattle.millwheel_cli.specs.Inside.{of_lines};
-
-    ghost from_gives = { λ lines refusal. refusal ≡ of_lines lines };
-
-    fn from(lines: LinesRefusal) -> Refusal {
-        match lines {
-            LinesRefusal::Line { line, why } => Refusal::EventsRefused { line, why },
-            LinesRefusal::NoMemory => Refusal::NoMemory,
-        }
-    }
-}
-
 /// The status of a refusal.
 pub fn status_of(refusal: Refusal) -> Status
     ensures { result ≡ status_of refusal }
@@ -65,10 +52,20 @@ pub fn status_of(refusal: Refusal) -> Status
     match refusal {
         Refusal::NoFile { name } => Status::NoFile { name },
         Refusal::TopologyRefused { why } => Status::TopologyRefused { why },
-        Refusal::EventsRefused { line, why } => Status::EventsRefused { file: 0, line, why },
+        Refusal::EventsRefused { file, line, why } => Status::EventsRefused { file, line, why },
         Refusal::NoMemory => Status::NoMemory,
         Refusal::ReadFault { name } => Status::ReadFault { name },
         Refusal::TooLong { name } => Status::TooLong { name },
         Refusal::FileCount { files, injectors } => Status::FileCount { files, injectors },
+    }
+}
+
+/// The status where the words are not read.
+pub fn status_of_words(refusal: WordsRefusal) -> Status
+    ensures { result ≡ of_words refusal }
+{
+    match refusal {
+        WordsRefusal::Usage => Status::Usage,
+        WordsRefusal::NoMemory => Status::NoMemory,
     }
 }
