@@ -40,3 +40,4 @@ pub mod TakeSteps
 pub mod SendSteps
 pub mod StepLaws
 pub mod SendWorlds
+pub mod DrainedWorlds
