@@ -2,6 +2,6 @@
 # Shows a run within a minute, with --history its steps too: the crates are compiled with checks and run, and
 # nothing is proved.
 # What is proved, and by what, README.md says; ./build.sh proves and builds the program itself.
-cd "$(dirname "$0")/crates/millwheel" || exit 1
+cd "$(dirname "$0")/crates/millwheel_in_memory" || exit 1
 echo "compiling without a proof, which takes about a minute the first time ..." >&2
 exec rt try --data t.json=../../examples/t.json --data e=../../examples/e -- solo "$@" t.json e

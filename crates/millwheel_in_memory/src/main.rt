@@ -1,0 +1,84 @@
+//! The program `millwheel` without `--keep`, which is quickly compiled: a newcomer's first run.
+//!
+//! All that it does is `millwheel_alone` of `millwheel_cli`, over a keeper in memory and the files and the
+//! standard output of the runtime, and then `tell`, over its standard error, whose number is the exit
+//! status. With `--keep` it answers Usage.
+#![tactic(auto)]
+
+use millwheel_cli::{Done, Status, keep_name, millwheel_alone, tell};
+use mw_ports::{FileShelf, OutSink};
+use mw_types::{CallList, Name, NoMemory, Seq};
+use row_keeper::MemKeeper;
+use std::alloc::Global;
+use std::io::{Error, ErrorKind};
+use std::process::ExitCode;
+use std::{env, mem};
+
+fn main(rt: HostRuntime) -> ExitCode {
+    let status = status(&rt);
+    let err = rt.stderr();
+    ExitCode::from(tell(rt.alloc(), &status, &mut OutSink::new(&err)))
+}
+
+// Does what the command line says.
+fn status(rt: &HostRuntime) -> Status {
+    let args = match command_line(rt) {
+        Ok(args) => args,
+        Err(error) => return unread(&error),
+    };
+    match named(rt.alloc(), &args) {
+        Ok(words) => run(rt, words.as_slice()),
+        Err(NoMemory) => Status::NoMemory,
+    }
+}
+
+// The command line without the program's name.
+fn command_line(rt: &HostRuntime) -> Result<Vec<String>, Error> {
+    let args = env::args(rt)?.skip(1).collect(rt.alloc())?;
+    Ok(args)
+}
+
+// The words as names.
+fn named(alloc: Global, args: &[String]) -> Result<Seq<Name>, NoMemory> {
+    let mut words = Seq::new(alloc);
+    for word in args {
+        words.push(Name::of(alloc, word.as_str())?)?;
+    }
+    Ok(words)
+}
+
+// The status where the command line was not read: a word that is no text is in no call.
+fn unread(error: &Error) -> Status {
+    if error.kind() == ErrorKind::OutOfMemory {
+        Status::NoMemory
+    } else {
+        Status::Usage
+    }
+}
+
+// Runs these words, which may name no database.
+fn run(rt: &HostRuntime, words: &[Name]) -> Status {
+    match keep_name(rt.alloc(), words) {
+        Ok(None) => run_in_memory(rt, words),
+        Ok(Some(_)) => Status::Usage,
+        Err(NoMemory) => Status::NoMemory,
+    }
+}
+
+// Runs these words over the process's files, its standard output and a keeper of their own.
+fn run_in_memory(rt: &HostRuntime, words: &[Name]) -> Status {
+    let alloc = rt.alloc();
+    let mut shelf = FileShelf::new(rt);
+    let mut out = OutSink::new(rt);
+    let kept = MemKeeper::new(alloc, CallList::new(alloc));
+    let done = millwheel_alone(alloc, words, &mut shelf, kept, &mut out);
+    let Done {
+        status,
+        keeper,
+        history,
+    } = done;
+    // The process ends here, so neither is given back piece by piece.
+    mem::forget(keeper);
+    mem::forget(history);
+    status
+}
