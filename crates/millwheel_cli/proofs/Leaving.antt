@@ -15,7 +15,8 @@ use Rattle.millwheel_cli.specs.declared.status.Status.{Status}
 use Rattle.millwheel_cli.specs.declared.status.Status.TheVariants as status
 use Rattle.millwheel_cli.specs.declared.refusal.Refusal.{Refusal}
 use Rattle.millwheel_cli.specs.declared.refusal.Refusal.TheVariants.{NoFile, TopologyRefused, EventsRefused, NoMemory, ReadFault, TooLong, FileCount}
-use Rattle.millwheel_cli.specs.Words.{Call, history_limit, call_of}
+use Rattle.millwheel_cli.specs.Limits.{history_limit}
+use Rattle.millwheel_cli.specs.Words.{Inputs, call_of}
 use Rattle.millwheel_cli.specs.Files.{IsCaseRead}
 use Rattle.millwheel_cli.specs.Reasons.{ShelfSeen, HasReason}
 use Rattle.millwheel_cli.specs.Answers.{Left, IsUnbegun, IsRun, IsWholeRun, RunLeaves, HasRun, HasLeft}
@@ -26,34 +27,34 @@ pub left_of_refusal : (files : Option Files) (words : List (List ℕ)) (left : L
     → HasLeft files words left (status_of refusal)
 left_of_refusal files words left (NoFile name) is = is
 left_of_refusal files words left (TopologyRefused why) is = is
-left_of_refusal files words left (EventsRefused line why) is = is
+left_of_refusal files words left (EventsRefused file line why) is = is
 left_of_refusal files words left NoMemory is = inr is
 left_of_refusal files words left (ReadFault name) is = is
 left_of_refusal files words left (TooLong name) is = is
 left_of_refusal files words left (FileCount n m) is = is
 
 -- what the run of the case that was read leaves is what the status leaves
-ran : (files : Option Files) (words : List (List ℕ)) (call : Call) (case : CaseShape) (left : Left) (s : Status)
-    → call_of words ≡ Some call → IsCaseRead files call.files case → RunLeaves case call.lines left s → HasRun files words left s
-ran files words call case left s named read leaves = record { call = call; named = named; case = case; read = read; leaves = leaves }
+ran : (files : Option Files) (words : List (List ℕ)) (inputs : Inputs) (case : CaseShape) (left : Left) (s : Status)
+    → call_of words ≡ Some inputs → IsCaseRead files inputs.topology inputs.events case → RunLeaves case inputs.history left s → HasRun files words left s
+ran files words inputs case left s named read leaves = record { inputs = inputs; named = named; case = case; read = read; leaves = leaves }
 
 -- so it is with each status that may come then
-pub left_of_run : (files : Option Files) (words : List (List ℕ)) (call : Call) (case : CaseShape) (left : Left) (s : Status)
-    → call_of words ≡ Some call → IsCaseRead files call.files case → RunLeaves case call.lines left s → HasLeft files words left s
-left_of_run files words call case left status.Ok named read leaves = ran files words call case left _ named read leaves
-left_of_run files words call case left status.Usage named read leaves = absurd leaves
-left_of_run files words call case left (status.NoFile n) named read leaves = absurd leaves
-left_of_run files words call case left (status.TopologyRefused why) named read leaves = absurd leaves
-left_of_run files words call case left (status.EventsRefused file line why) named read leaves = absurd leaves
-left_of_run files words call case left status.KeeperFault named read leaves = ran files words call case left _ named read leaves
-left_of_run files words call case left status.SinkFault named read leaves = ran files words call case left _ named read leaves
-left_of_run files words call case left status.NoMemory named read leaves = inl (ran files words call case left _ named read leaves)
-left_of_run files words call case left (status.NotEmpty name bytes) named read leaves = ran files words call case left _ named read leaves
-left_of_run files words call case left status.HistoryFull named read leaves = ran files words call case left _ named read leaves
-left_of_run files words call case left (status.RowDamaged name bytes) named read leaves = ran files words call case left _ named read leaves
-left_of_run files words call case left (status.ReadFault n) named read leaves = absurd leaves
-left_of_run files words call case left (status.TooLong n) named read leaves = absurd leaves
-left_of_run files words call case left (status.FileCount n m) named read leaves = absurd leaves
+pub left_of_run : (files : Option Files) (words : List (List ℕ)) (inputs : Inputs) (case : CaseShape) (left : Left) (s : Status)
+    → call_of words ≡ Some inputs → IsCaseRead files inputs.topology inputs.events case → RunLeaves case inputs.history left s → HasLeft files words left s
+left_of_run files words inputs case left status.Ok named read leaves = ran files words inputs case left _ named read leaves
+left_of_run files words inputs case left status.Usage named read leaves = absurd leaves
+left_of_run files words inputs case left (status.NoFile n) named read leaves = absurd leaves
+left_of_run files words inputs case left (status.TopologyRefused why) named read leaves = absurd leaves
+left_of_run files words inputs case left (status.EventsRefused file line why) named read leaves = absurd leaves
+left_of_run files words inputs case left status.KeeperFault named read leaves = ran files words inputs case left _ named read leaves
+left_of_run files words inputs case left status.SinkFault named read leaves = ran files words inputs case left _ named read leaves
+left_of_run files words inputs case left status.NoMemory named read leaves = inl (ran files words inputs case left _ named read leaves)
+left_of_run files words inputs case left (status.NotEmpty name bytes) named read leaves = ran files words inputs case left _ named read leaves
+left_of_run files words inputs case left status.HistoryFull named read leaves = ran files words inputs case left _ named read leaves
+left_of_run files words inputs case left (status.RowDamaged name bytes) named read leaves = ran files words inputs case left _ named read leaves
+left_of_run files words inputs case left (status.ReadFault n) named read leaves = absurd leaves
+left_of_run files words inputs case left (status.TooLong n) named read leaves = absurd leaves
+left_of_run files words inputs case left (status.FileCount n m) named read leaves = absurd leaves
 
 -- with Ok that is the whole
 pub ok_of_left : (files : Option Files) (words : List (List ℕ)) (left : Left) (s : Status) → HasLeft files words left s → s ≡ status.Ok
@@ -156,5 +157,5 @@ pub unwanted : (case : CaseShape) (lines : Bool) (left : Left) (s : Status) → 
 unwanted case lines left s is unbegun = subst (λ t. RunLeaves case lines left t) (sym is) (inr (inr unbegun))
 
 -- where words ask for something they do not ask for nothing
-pub not_none : (found : Option Call) (call : Call) → found ≡ Some call → found ≡ None → ⊥
+pub not_none : (found : Option Inputs) (call : Inputs) → found ≡ Some call → found ≡ None → ⊥
 not_none found call named none = grind (arith, named, none)

@@ -1,5 +1,6 @@
 pub mod Refusals
 pub mod Reasons
+pub mod Sources
 pub mod Statuses
 pub mod Works
 pub mod Running

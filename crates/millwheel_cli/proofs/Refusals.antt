@@ -12,7 +12,7 @@ use Rattle.millwheel_cli.specs.Inside.{UnlessWant}
 pub unless_map : (P Q : Status → Type 0) (refusal : Refusal) → ((s : Status) → P s → Q s) → UnlessWant P refusal → UnlessWant Q refusal
 unless_map P Q (NoFile name) f is = f _ is
 unless_map P Q (TopologyRefused why) f is = f _ is
-unless_map P Q (EventsRefused line why) f is = f _ is
+unless_map P Q (EventsRefused file line why) f is = f _ is
 unless_map P Q NoMemory f is = tt
 unless_map P Q (ReadFault name) f is = f _ is
 unless_map P Q (TooLong name) f is = f _ is

@@ -1,19 +1,21 @@
 -- A shelf whose files a contract can see, and a keeper whose rows it can see, decide the answer.
-use Rattle.std.proofs.Common.{◌≡◌, ◌≤◌, ◌<◌, ◌∙◌, ℕ, nat_le, true, false, cond, List, [], ◌∷◌, Option, Some, None, IfSome, IsSomeAnd, Result, Ok, Err, length, slice_get, refl, sym, ap, subst, inl, inr, true≢false, arith}
+use Rattle.std.proofs.Common.{◌≡◌, ◌≤◌, ◌<◌, ◌∙◌, ◌+◌, ◌-◌, ℕ, nat_le, true, false, cond, List, [], ◌∷◌, Option, Some, None, IfSome, IsSomeAnd, Result, Ok, Err, length, slice_get, refl, sym, ap, subst, inl, inr, true≢false, arith}
 use Rattle.std.specs.Option.{option_map_or, is_some}
 use Rattle.std.proofs.lemmas.Option.{same_Some}
 use Rattle.mw_types.specs.Causes.{Rose}
 use Rattle.mw_types.specs.declared.identity.RowName.{RowName}
 use Rattle.mw_ports.specs.Shelves.{Files}
 use Rattle.row_keeper.specs.Rows.{Rows}
+use Rattle.injector.specs.Sources.{Source}
 use Rattle.run_history.specs.Cases.{CaseShape}
 use Rattle.json_reading.specs.Refusals.{and_then}
 use Rattle.millwheel_cli.specs.declared.status.Status.{Status}
 use Rattle.millwheel_cli.specs.declared.status.Status.TheVariants.{Usage, NoFile, TopologyRefused, EventsRefused, KeeperFault, SinkFault, NoMemory, NotEmpty, HistoryFull, RowDamaged, ReadFault, TooLong, FileCount}
 use Rattle.millwheel_cli.specs.declared.status.Status.TheVariants as status
-use Rattle.millwheel_cli.specs.Words.{Call, topology_limit, events_limit, call_of}
-use Rattle.millwheel_cli.specs.Files.{HoldsAs, IsCaseRead, topology_taken, source_taken}
-use Rattle.millwheel_cli.specs.Reasons.{ShelfSeen, IsUnread, IsFileRefused, IsCallRefused, HasReason, file_within, file_as, ended, ran_over, answer_for, answer_of, IsAnswer}
+use Rattle.millwheel_cli.specs.Limits.{topology_limit, events_limit, lines_limit}
+use Rattle.millwheel_cli.specs.Words.{Inputs, call_of}
+use Rattle.millwheel_cli.specs.Files.{HoldsAs, HoldsSources, IsCaseRead, topology_taken, source_taken}
+use Rattle.millwheel_cli.specs.Reasons.{ShelfSeen, IsUnread, IsFileRefused, IsSourceRefused, IsCallRefused, HasReason, file_within, file_as, source_before, sources_taken, ended, ran_over, answer_for, answer_of, IsAnswer}
 use Rattle.millwheel_cli.specs.Answers.{Left, HasRun, HasLeft}
 
 -- what is said of something where it is told is said of it
@@ -89,30 +91,60 @@ refused_as seen held name limit taken s told well is = elim is [
   | inr refused ↦ held_as seen.files held name limit taken (Err s) told refused
 ]
 
--- the answer to words that ask for two files is that for the files
-answer_of-named : (held : Files) (rows : Rows) (words : List (List ℕ)) (call : Call) → call_of words ≡ Some call
-    → answer_of held rows words ≡ answer_for held rows call
-answer_of-named held rows words call named = ap (λ (c : Option Call). option_map_or (answer_for held rows) c Usage) named
+-- event files that were read are taken so
+sources_as : (files : Option Files) (held : Files) (file room : ℕ) (names : List (List ℕ)) (sources : List Source)
+    → files ≡ Some held → HoldsSources files file room names sources → sources_taken held file room names ≡ Ok sources
+sources_as files held file room [] sources told is = ap Ok (sym is)
+sources_as files held file room (name ∷ names) [] told is = absurd is
+sources_as files held file room (name ∷ names) (source ∷ sources) told is =
+    ap (λ (found : Result Source Status). and_then found
+    (λ first. source_before first (sources_taken held (file + 1) (room - length first) names)))
+    (held_as files held name events_limit (source_taken file room) (Ok source) told is.0)
+    ∙ ap (source_before source) (sources_as files held (file + 1) (room - length source) names sources told is.1)
+
+-- event files of which one is refused are refused so
+source_refused_as : (seen : ShelfSeen) (held : Files) (file room : ℕ) (names : List (List ℕ)) (s : Status)
+    → seen.files ≡ Some held → (Rose seen.faults.0 seen.faults.1 → ⊥) → IsSourceRefused seen file room names s
+    → sources_taken held file room names ≡ Err s
+source_refused_as seen held file room [] s told well is = absurd is
+source_refused_as seen held file room (name ∷ names) s told well is = elim is [
+  | inl first ↦ ap (λ (found : Result Source Status). and_then found
+      (λ source. source_before source (sources_taken held (file + 1) (room - length source) names)))
+      (refused_as seen held name events_limit (source_taken file room) s told well first)
+  | inr later ↦ ap (λ (found : Result Source Status). and_then found
+      (λ source. source_before source (sources_taken held (file + 1) (room - length source) names)))
+      (held_as seen.files held name events_limit (source_taken file room) (Ok later.0) told later.1)
+      ∙ ap (source_before later.0)
+      (source_refused_as seen held (file + 1) (room - length later.0) names s told well later.2)
+]
+
+-- the answer to words that ask for files is that for the files
+answer_of-named : (held : Files) (rows : Rows) (words : List (List ℕ)) (inputs : Inputs) → call_of words ≡ Some inputs
+    → answer_of held rows words ≡ answer_for held rows inputs
+answer_of-named held rows words inputs named = ap (λ (c : Option Inputs). option_map_or (answer_for held rows) c Usage) named
 
 -- a refused call is answered so
 answer_refused : (seen : ShelfSeen) (words : List (List ℕ)) (held : Files) (rows : Rows) (s : Status)
     → seen.files ≡ Some held → (Rose seen.faults.0 seen.faults.1 → ⊥) → IsCallRefused seen words s → s ≡ answer_of held rows words
-answer_refused seen words held rows s told well is = sym (answer_of-named held rows words is.call is.named ∙ elim is.why [
-  | inl topology ↦ ap (λ found. ended (and_then found (λ shape. file_as held is.call.files.1 events_limit source_taken)) (ran_over rows))
-      (refused_as seen held is.call.files.0 topology_limit topology_taken s told well topology)
-  | inr source ↦ ap (λ found. ended (and_then found (λ shape. file_as held is.call.files.1 events_limit source_taken)) (ran_over rows))
-      (held_as seen.files held is.call.files.0 topology_limit topology_taken _ told source.topology)
-      ∙ ap (λ found. ended found (ran_over rows)) (refused_as seen held is.call.files.1 events_limit source_taken s told well
-      source.refused)
-])
+answer_refused seen words held rows s told well is =
+    let names = is.inputs.events in
+    let count = length names in
+    sym (answer_of-named held rows words is.inputs is.named ∙ elim is.why [
+      | inl topology ↦ ap (λ found. ended (and_then found (λ shape. sources_taken held 0 lines_limit names)) (ran_over rows))
+          (refused_as seen held is.inputs.topology topology_limit (topology_taken count) s told well topology)
+      | inr events ↦ ap (λ found. ended (and_then found (λ shape. sources_taken held 0 lines_limit names)) (ran_over rows))
+          (held_as seen.files held is.inputs.topology topology_limit (topology_taken count) _ told events.taken)
+          ∙ ap (λ found. ended found (ran_over rows)) (source_refused_as seen held 0 lines_limit names s told well events.refused)
+    ])
 
--- where both files were read the keeper's rows decide the answer
-answer_read : (files : Option Files) (words : List (List ℕ)) (held : Files) (rows : Rows) (call : Call) (case : CaseShape)
-    → files ≡ Some held → call_of words ≡ Some call → IsCaseRead files call.files case → answer_of held rows words ≡ ran_over rows
-answer_read files words held rows call case told named is = answer_of-named held rows words call named
-    ∙ ap (λ found. ended (and_then found (λ shape. file_as held call.files.1 events_limit source_taken)) (ran_over rows))
-    (held_as files held call.files.0 topology_limit topology_taken _ told is.topology)
-    ∙ ap (λ found. ended found (ran_over rows)) (held_as files held call.files.1 events_limit source_taken _ told is.events)
+-- where all files were read the keeper's rows decide the answer
+answer_read : (files : Option Files) (words : List (List ℕ)) (held : Files) (rows : Rows) (inputs : Inputs) (case : CaseShape)
+    → files ≡ Some held → call_of words ≡ Some inputs → IsCaseRead files inputs.topology inputs.events case
+    → answer_of held rows words ≡ ran_over rows
+answer_read files words held rows inputs case told named is = answer_of-named held rows words inputs named
+    ∙ ap (λ found. ended (and_then found (λ shape. sources_taken held 0 lines_limit inputs.events)) (ran_over rows))
+    (held_as files held inputs.topology topology_limit (topology_taken (length inputs.events)) _ told is.topology_read)
+    ∙ ap (λ found. ended found (ran_over rows)) (sources_as files held 0 lines_limit inputs.events case.sources told is.events_read)
 
 -- a run comes to its end over a keeper without rows
 ran_over-empty : (found : Option Rows) (rows : Rows) → found ≡ Some rows → IfSome found (λ rs. rs ≡ []) → ran_over rows ≡ status.Ok
@@ -132,7 +164,7 @@ still_told old (Some held) rows told tells untold = untold
 
 -- words that ask for nothing are answered with Usage
 pub answer_usage : (words : List (List ℕ)) (held : Files) (rows : Rows) → call_of words ≡ None → Usage ≡ answer_of held rows words
-answer_usage words held rows none = sym (ap (λ (c : Option Call). option_map_or (answer_for held rows) c Usage) none)
+answer_usage words held rows none = sym (ap (λ (c : Option Inputs). option_map_or (answer_for held rows) c Usage) none)
 
 -- over files and rows that a contract can see, where nothing failed, the answer is theirs, or memory ran out, or the history is full
 pub told_answer : (seen : ShelfSeen) (words : List (List ℕ)) (left : Left) (k0 k1 f0 f1 : ℕ) (held : Files) (rows : Rows) (s : Status)
@@ -140,7 +172,7 @@ pub told_answer : (seen : ShelfSeen) (words : List (List ℕ)) (left : Left) (k0
     → is_some left.rows.1 ≡ is_some left.rows.0 → seen.files ≡ Some held → left.rows.0 ≡ Some rows
     → (Rose seen.faults.0 seen.faults.1 → ⊥) → (Rose k0 k1 → ⊥) → (Rose f0 f1 → ⊥) → IsAnswer held rows words left.history s
 told_answer seen words left k0 k1 f0 f1 held rows status.Ok why is keeper sink tells told seen_rows well kept written =
-    sym (answer_read seen.files words held rows is.call is.case told is.named is.read
+    sym (answer_read seen.files words held rows is.inputs is.case told is.named is.read
     ∙ ran_over-empty left.rows.0 rows seen_rows is.leaves.run.run.began_empty)
 told_answer seen words left k0 k1 f0 f1 held rows Usage why is keeper sink tells told seen_rows well kept written = answer_usage
     words held rows why
@@ -157,9 +189,9 @@ told_answer seen words left k0 k1 f0 f1 held rows SinkFault why is keeper sink t
 told_answer seen words left k0 k1 f0 f1 held rows NoMemory why is keeper sink tells told seen_rows well kept written = tt
 told_answer seen words left k0 k1 f0 f1 held rows (NotEmpty name bytes) why is keeper sink tells told seen_rows well kept written =
     let first = told_of left.rows.0 rows (λ rs. slice_get rs 0 ≡ Some (name, bytes)) seen_rows is.leaves.first in
-    sym (answer_read seen.files words held rows is.call is.case told is.named is.read ∙ ran_over-first rows name bytes first)
+    sym (answer_read seen.files words held rows is.inputs is.case told is.named is.read ∙ ran_over-first rows name bytes first)
 told_answer seen words left k0 k1 f0 f1 held rows HistoryFull why is keeper sink tells told seen_rows well kept written = (
-  answer_read seen.files words held rows is.call is.case told is.named is.read
+  answer_read seen.files words held rows is.inputs is.case told is.named is.read
       ∙ ran_over-empty left.rows.0 rows seen_rows is.leaves.stopped.run.began_empty,
   is.leaves.full,
 )

@@ -20,7 +20,8 @@ use Rattle.world.specs.Drains.{IsDraining, IsDrained}
 use Rattle.millwheel_cli.specs.declared.status.Status.{Status}
 use Rattle.millwheel_cli.specs.declared.status.Status.TheVariants.{KeeperFault, SinkFault, NoMemory, NotEmpty, HistoryFull, RowDamaged}
 use Rattle.millwheel_cli.specs.declared.status.Status.TheVariants as status
-use Rattle.millwheel_cli.specs.Words.{Call, history_limit, call_of}
+use Rattle.millwheel_cli.specs.Limits.{history_limit}
+use Rattle.millwheel_cli.specs.Words.{Inputs, call_of}
 use Rattle.millwheel_cli.specs.Files.{IsCaseRead}
 
 -- what a call leaves: the keeper's rows and the sink's text, before and after, where a contract can see
@@ -113,14 +114,14 @@ RunLeaves case lines left (RowDamaged name bytes) = IsDamagedAt case left name b
 RunLeaves case lines left (NotEmpty name bytes) = IsHeldBefore left name bytes
 RunLeaves case lines left _ = ⊥
 
--- the words ask for two files that were read, and for their case the status leaves this
+-- the words ask for files that were read, and for their case the status leaves this
 pub record HasRun (files : Option Files) (words : List (List ℕ)) (left : Left)
     (status : Status) : Type 0 where
-  pub call : Call
-  pub named : call_of words ≡ Some call
+  pub inputs : Inputs
+  pub named : call_of words ≡ Some inputs
   pub case : CaseShape
-  pub read : IsCaseRead files call.files case
-  pub leaves : RunLeaves case call.lines left status
+  pub read : IsCaseRead files inputs.topology inputs.events case
+  pub leaves : RunLeaves case inputs.history left status
 
 -- what each status leaves
 abbrev pub HasLeft : Option Files → List (List ℕ) → Left → Status → Type 0

@@ -1,5 +1,6 @@
--- What the bytes of the two files are taken for, what a call was given, and the case of that. Own.
-use Rattle.std.specs.Prelude.{◌≡◌, ◌≤◌, ◌==◌, ℕ, List, [], ◌∷◌, length, if◌then◌else◌, Option, Some, IfSome, Result, Ok, Err}
+-- What the bytes of a topology's file and of event files are taken for, what a call was given, and the case of
+-- that. Own.
+use Rattle.std.specs.Prelude.{◌≡◌, ◌≤◌, ◌==◌, ℕ, ◌+◌, ◌-◌, List, [], ◌∷◌, length, if◌then◌else◌, Option, Some, IfSome, Result, Ok, Err}
 use Rattle.mw_ports.specs.Shelves.{Files}
 use Rattle.topology.specs.declared.refusal.TopologyRefusal.{TopologyRefusal}
 use Rattle.topology.specs.FileRules.{topology_of}
@@ -12,26 +13,33 @@ use Rattle.injector.specs.declared.refusal.LinesRefusal.TheVariants as lines
 use Rattle.run_history.specs.Cases.{CaseShape}
 use Rattle.millwheel_cli.specs.declared.status.Status.{Status}
 use Rattle.millwheel_cli.specs.declared.status.Status.TheVariants.{TopologyRefused, EventsRefused, FileCount, NoMemory}
-use Rattle.millwheel_cli.specs.Words.{Names, topology_limit, events_limit, lines_limit}
+use Rattle.millwheel_cli.specs.Limits.{topology_limit, events_limit, lines_limit}
 
--- a topology that is read is taken where it has one injector, for the one event file
-abbrev pub fed_of : Result Shape TopologyRefusal → Result Shape Status
-fed_of (Err why) = Err (TopologyRefused why)
-fed_of (Ok shape) = if injectors_of shape == 1 then Ok shape else Err (FileCount 1 (injectors_of shape))
+-- ---- what bytes are taken for
 
--- the topology that the bytes of a file are taken for, or the status with which they are refused
-abbrev pub topology_taken : List ℕ → Result Shape Status
-topology_taken bytes = fed_of (topology_of bytes)
+-- a topology that is read is taken where it has as many injectors as there are event files
+abbrev pub fed_of : ℕ → Result Shape TopologyRefusal → Result Shape Status
+fed_of count (Err why) = Err (TopologyRefused why)
+fed_of count (Ok shape) =
+    if injectors_of shape == count then Ok shape else Err (FileCount count (injectors_of shape))
 
--- a source that is read is taken
-abbrev pub read_of : Result Source LinesRefusal → Result Source Status
-read_of (Err (Line line why)) = Err (EventsRefused 0 line why)
-read_of (Err lines.NoMemory) = Err NoMemory
-read_of (Ok source) = Ok source
+-- the topology that the bytes of a file are taken for, with so many event files, or the status with which they
+-- are refused
+abbrev pub topology_taken : ℕ → List ℕ → Result Shape Status
+topology_taken count bytes = fed_of count (topology_of bytes)
 
--- the source that the bytes of an event file are taken for, or the status with which they are refused
-abbrev pub source_taken : List ℕ → Result Source Status
-source_taken bytes = read_of (source_in lines_limit bytes)
+-- a source that is read is taken; `file` is the number of the event file, from 0
+abbrev pub read_of : ℕ → Result Source LinesRefusal → Result Source Status
+read_of file (Err (Line line why)) = Err (EventsRefused file line why)
+read_of file (Err lines.NoMemory) = Err NoMemory
+read_of file (Ok source) = Ok source
+
+-- the source that the bytes of the event file of this number are taken for, with room for so many record
+-- lines, or the status with which they are refused
+abbrev pub source_taken : ℕ → ℕ → List ℕ → Result Source Status
+source_taken file room bytes = read_of file (source_in room bytes)
+
+-- ---- what a call was given
 
 -- the bytes are those of the file of that name, where a contract can see the shelf's files
 abbrev pub IsContent : Option Files → List ℕ → List ℕ → Type 0
@@ -45,17 +53,25 @@ pub record HoldsAs {T : Type 0} (files : Option Files) (name : List ℕ) (limit 
   pub short : length bytes ≤ limit
   pub gives : taken bytes ≡ result
 
--- the file of that name held this topology
-abbrev pub HoldsTopology : Option Files → List ℕ → Shape → Type 0
-HoldsTopology files name shape = HoldsAs files name topology_limit topology_taken (Ok shape)
+-- the file of that name held this topology, for so many event files
+abbrev pub HoldsTopology : Option Files → List ℕ → ℕ → Shape → Type 0
+HoldsTopology files name count shape = HoldsAs files name topology_limit (topology_taken count) (Ok shape)
 
--- the file of that name held this source
-abbrev pub HoldsSource : Option Files → List ℕ → Source → Type 0
-HoldsSource files name source = HoldsAs files name events_limit source_taken (Ok source)
+-- the event file of that name and number held this source, with room for so many record lines
+abbrev pub HoldsSource : Option Files → ℕ → ℕ → List ℕ → Source → Type 0
+HoldsSource files file room name source = HoldsAs files name events_limit (source_taken file room) (Ok source)
 
--- the case is that of the two files of these names
-pub record IsCaseRead (files : Option Files) (names : Names) (case : CaseShape) : Type 0 where
-  pub topology : HoldsTopology files names.0 case.topology
-  pub source : Source
-  pub events : HoldsSource files names.1 source
-  pub sources : case.sources ≡ source ∷ []
+-- the event files of these names, the first of which has this number, held these sources; `room` is how many
+-- record lines there may be in all of them, and each has as much of it as those before it left
+abbrev pub HoldsSources : Option Files → ℕ → ℕ → List (List ℕ) → List Source → Type 0
+HoldsSources files file room [] sources = sources ≡ []
+HoldsSources files file room (name ∷ names) [] = ⊥
+HoldsSources files file room (name ∷ names) (source ∷ sources) =
+    HoldsSource files file room name source
+    × HoldsSources files (file + 1) (room - length source) names sources
+
+-- the case is that of the topology of this name and of the event files of these names, one an injector
+pub record IsCaseRead (files : Option Files) (topology : List ℕ) (events : List (List ℕ))
+    (case : CaseShape) : Type 0 where
+  pub topology_read : HoldsTopology files topology (length events) case.topology
+  pub events_read : HoldsSources files 0 lines_limit events case.sources

@@ -17,22 +17,22 @@ use Rattle.book.specs.declared.refusals.StartWhy.{StartWhy}
 use Rattle.book.specs.declared.refusals.StartWhy.TheVariants as starts
 use Rattle.node.specs.declared.outcome.NodeFault.{NodeFault}
 use Rattle.node.specs.declared.outcome.NodeFault.TheVariants as faults
-use Rattle.millwheel_cli.specs.Words.{Call}
+use Rattle.millwheel_cli.specs.Words.{Inputs}
 use Rattle.millwheel_cli.specs.Answers.{IsWholeText}
 use Rattle.millwheel_cli.specs.declared.status.Status.{Status}
 use Rattle.millwheel_cli.specs.declared.status.Status.TheVariants as status
 use Rattle.millwheel_cli.specs.declared.refusal.Refusal.{Refusal}
 use Rattle.millwheel_cli.specs.declared.refusal.Refusal.TheVariants.{NoFile, TopologyRefused, EventsRefused, NoMemory, ReadFault, TooLong, FileCount}
 
--- what is asked for with these two names, and with this wish for the lines
-abbrev pub asked : List ℕ → List ℕ → Bool → Call
-asked topology events lines = record { files = (topology, events); lines = lines }
+-- what is asked for with these names, and with this wish for the history's lines
+abbrev pub asked : List ℕ → List (List ℕ) → Bool → Inputs
+asked topology events history = record { topology = topology; events = events; history = history }
 
 -- a refusal of the files as a status
 abbrev pub status_of : Refusal → Status
 status_of (NoFile name) = status.NoFile name
 status_of (TopologyRefused why) = status.TopologyRefused why
-status_of (EventsRefused line why) = status.EventsRefused 0 line why
+status_of (EventsRefused file line why) = status.EventsRefused file line why
 status_of NoMemory = status.NoMemory
 status_of (ReadFault name) = status.ReadFault name
 status_of (TooLong name) = status.TooLong name
@@ -48,10 +48,10 @@ abbrev pub of_topology : TopologyRefusal → Refusal
 of_topology topologies.NoMemory = NoMemory
 of_topology why = TopologyRefused why
 
--- the refusal of an event file
-abbrev pub of_lines : LinesRefusal → Refusal
-of_lines (Line line why) = EventsRefused line why
-of_lines lines.NoMemory = NoMemory
+-- the refusal of the event file of this number
+abbrev pub of_lines : ℕ → LinesRefusal → Refusal
+of_lines file (Line line why) = EventsRefused file line why
+of_lines file lines.NoMemory = NoMemory
 
 -- the refusal of a shelf for a file of that name
 abbrev pub of_shelf : List ℕ → ShelfFault → Refusal

@@ -1,18 +1,20 @@
 -- Why each status comes: what the shelf gave or failed to give, and what files and rows make of a call where
 -- a contract can see them. Own.
-use Rattle.std.specs.Prelude.{◌≡◌, ◌<◌, ◌⊎◌, ℕ, ⊤, List, [], ◌∷◌, length, nat_le, if◌then◌else◌, Option, Some, None, IfSome, IsSomeAnd, Result, Ok, Err}
+use Rattle.std.specs.Prelude.{◌≡◌, ◌<◌, ◌⊎◌, ℕ, ◌+◌, ◌-◌, ⊤, List, [], ◌∷◌, length, nat_le, if◌then◌else◌, Option, Some, None, IfSome, IsSomeAnd, Result, Ok, Err}
 use Rattle.std.specs.Option.{option_map_or}
 use Rattle.mw_types.specs.Causes.{Rose}
 use Rattle.mw_types.specs.declared.entry.Entry.{Entry}
 use Rattle.mw_ports.specs.Shelves.{Files}
 use Rattle.json_reading.specs.Refusals.{and_then}
 use Rattle.topology.specs.Shapes.{Shape}
+use Rattle.injector.specs.Sources.{Source}
 use Rattle.row_keeper.specs.Rows.{Rows}
 use Rattle.millwheel_cli.specs.declared.status.Status.{Status}
 use Rattle.millwheel_cli.specs.declared.status.Status.TheVariants.{Usage, NoFile, KeeperFault, SinkFault, NoMemory, NotEmpty, HistoryFull, RowDamaged, ReadFault, TooLong}
 use Rattle.millwheel_cli.specs.declared.status.Status.TheVariants as status
-use Rattle.millwheel_cli.specs.Words.{Names, Call, topology_limit, events_limit, history_limit, call_of}
-use Rattle.millwheel_cli.specs.Files.{topology_taken, source_taken, HoldsAs, HoldsTopology}
+use Rattle.millwheel_cli.specs.Limits.{topology_limit, events_limit, lines_limit, history_limit}
+use Rattle.millwheel_cli.specs.Words.{Inputs, call_of}
+use Rattle.millwheel_cli.specs.Files.{topology_taken, source_taken, HoldsAs, HoldsTopology, HoldsSource}
 
 -- ---- what the shelf gave
 
@@ -40,25 +42,36 @@ abbrev pub IsFileRefused : {T : Type 0} → ShelfSeen → List ℕ → ℕ → (
 IsFileRefused seen name limit taken status =
     IsUnread seen name limit status ⊎ HoldsAs seen.files name limit taken (Err status)
 
--- why the topology's file is refused
-abbrev pub IsTopologyRefused : ShelfSeen → List ℕ → Status → Type 0
-IsTopologyRefused seen name status = IsFileRefused seen name topology_limit topology_taken status
+-- why the topology's file is refused, with so many event files
+abbrev pub IsTopologyRefused : ShelfSeen → ℕ → List ℕ → Status → Type 0
+IsTopologyRefused seen count name status = IsFileRefused seen name topology_limit (topology_taken count) status
 
--- why the event file is refused, which is read only where the topology is taken
-pub record IsSourceRefused (seen : ShelfSeen) (names : Names) (status : Status) : Type 0 where
+-- why one of the event files of these names is refused, the first of which has this number, with room for so
+-- many record lines in all of them: it is the first that is not taken
+abbrev pub IsSourceRefused : ShelfSeen → ℕ → ℕ → List (List ℕ) → Status → Type 0
+IsSourceRefused seen file room [] status = ⊥
+IsSourceRefused seen file room (name ∷ names) status =
+    IsFileRefused seen name events_limit (source_taken file room) status
+    ⊎ ((source : Source) × HoldsSource seen.files file room name source
+    × IsSourceRefused seen (file + 1) (room - length source) names status)
+
+-- why an event file is refused, of which none is read before the topology is taken
+pub record IsEventsRefused (seen : ShelfSeen) (topology : List ℕ) (events : List (List ℕ))
+    (status : Status) : Type 0 where
   pub shape : Shape
-  pub topology : HoldsTopology seen.files names.0 shape
-  pub refused : IsFileRefused seen names.1 events_limit source_taken status
+  pub taken : HoldsTopology seen.files topology (length events) shape
+  pub refused : IsSourceRefused seen 0 lines_limit events status
 
--- one of the two files of these names is refused with the status
-abbrev pub IsRefused : ShelfSeen → Names → Status → Type 0
-IsRefused seen names status = IsTopologyRefused seen names.0 status ⊎ IsSourceRefused seen names status
+-- the topology's file or one of the event files of these names is refused with the status
+abbrev pub IsRefused : ShelfSeen → List ℕ → List (List ℕ) → Status → Type 0
+IsRefused seen topology events status =
+    IsTopologyRefused seen (length events) topology status ⊎ IsEventsRefused seen topology events status
 
--- the words ask for two files, one of which is refused with the status
+-- the words ask for files, one of which is refused with the status
 pub record IsCallRefused (seen : ShelfSeen) (words : List (List ℕ)) (status : Status) : Type 0 where
-  pub call : Call
-  pub named : call_of words ≡ Some call
-  pub why : IsRefused seen call.files status
+  pub inputs : Inputs
+  pub named : call_of words ≡ Some inputs
+  pub why : IsRefused seen inputs.topology inputs.events status
 
 -- why a status came that comes before a run: the words ask for nothing, or a file is refused. What is said of
 -- the other statuses stands in clauses of their own
@@ -85,6 +98,19 @@ file_within held name limit =
 abbrev pub file_as : {T : Type 0} → Files → List ℕ → ℕ → (List ℕ → Result T Status) → Result T Status
 file_as held name limit taken = and_then (file_within held name limit) taken
 
+-- a source before others, or why one of them is refused
+abbrev pub source_before : Source → Result (List Source) Status → Result (List Source) Status
+source_before source (Ok sources) = Ok (source ∷ sources)
+source_before source (Err status) = Err status
+
+-- what the event files of these names are taken for, the first of which has this number, with room for so many
+-- record lines in all of them, or why the first that is not taken is refused
+abbrev pub sources_taken : Files → ℕ → ℕ → List (List ℕ) → Result (List Source) Status
+sources_taken held file room [] = Ok []
+sources_taken held file room (name ∷ names) =
+    and_then (file_as held name events_limit (source_taken file room)) (λ source.
+    source_before source (sources_taken held (file + 1) (room - length source) names))
+
 -- a run is begun and comes to its end over a keeper without rows; another is refused with its first row
 abbrev pub ran_over : Rows → Status
 ran_over [] = status.Ok
@@ -95,11 +121,12 @@ abbrev pub ended : {T : Type 0} → Result T Status → Status → Status
 ended (Ok x) run = run
 ended (Err status) run = status
 
--- the answer for two files of a shelf and the rows of a keeper: the topology is tried first, and the keeper
--- last
-abbrev pub answer_for : Files → Rows → Call → Status
-answer_for held rows call = ended (and_then (file_as held call.files.0 topology_limit topology_taken)
-    (λ shape. file_as held call.files.1 events_limit source_taken)) (ran_over rows)
+-- the answer for these files of a shelf and the rows of a keeper: the topology is tried first, then the event
+-- files in their order, and the keeper last
+abbrev pub answer_for : Files → Rows → Inputs → Status
+answer_for held rows inputs =
+    ended (and_then (file_as held inputs.topology topology_limit (topology_taken (length inputs.events)))
+    (λ shape. sources_taken held 0 lines_limit inputs.events)) (ran_over rows)
 
 -- the answer to these words over a shelf that holds these files and a keeper that holds these rows, where
 -- nothing fails, memory does not run out, and the history has room

@@ -32,8 +32,9 @@ pub struct Done<K> {
 
 /// Does what the words of the command line say, the program's name left out.
 ///
-/// The two files are read and tried one after the other, then they are run over the keeper, which
-/// must have no rows, and then the text is written. A refusal comes at the first step that fails.
+/// The topology and then the event files, one an injector, are read and tried one after the other.
+/// Then they are run over the keeper, which must have no rows, and then the text is written. A
+/// refusal comes at the first step that fails.
 pub fn millwheel_alone<S: Shelf, K: Keeper, O: Sink>(
     alloc: Global,
     words: &[Name],
@@ -41,8 +42,8 @@ pub fn millwheel_alone<S: Shelf, K: Keeper, O: Sink>(
     keeper: K,
     out: &mut O,
 ) -> Done<K>
-    // With Ok the two files' case was run to its end, the keeper has its rows, and all of its text
-    // was written.
+    // With Ok the files' case was run to its end, the keeper has its rows, and all of its text was
+    // written.
     ensures ok { let left : Left = record {
       rows = (K.rows keeper, K.rows result.keeper);
       text = (O.text out.old, O.text out.new);
@@ -79,11 +80,11 @@ pub fn millwheel_alone<S: Shelf, K: Keeper, O: Sink>(
     ensures untouched { result.history ≡ [] → K.rows result.keeper ≡ K.rows keeper }
     ensures tells { is_some (K.rows result.keeper) ≡ is_some (K.rows keeper) }
 {
-    let Some((topology, events, lines)) = call_of(words) else {
+    let Some((topology, events, history)) = call_of(words) else {
         return unbegun(alloc, Status::Usage, keeper);
     };
     match read_case(alloc, shelf, topology, events) {
-        Ok(case) => run(alloc, &case, lines, keeper, out),
+        Ok(case) => run(alloc, &case, history, keeper, out),
         Err(refusal) => unbegun(alloc, status_of(refusal), keeper),
     }
 }

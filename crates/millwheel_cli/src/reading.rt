@@ -1,15 +1,15 @@
-//! The reading of the two files that are asked for.
-ghost use Rattle.std.specs.Prelude.{◌≡◌, ◌≤◌, ◌^◌, [], ◌∷◌, length, IfErr, IfOk};
+//! The reading of the files that are asked for.
+ghost use Rattle.std.specs.Prelude.{◌≡◌, ◌≤◌, ◌<◌, ◌^◌, length, IfErr, IfOk};
 ghost use Rattle.mw_ports.specs.Shelves.{Files};
 ghost use Rattle.topology.specs.Shapes.{injectors_of};
-ghost use Rattle.millwheel_cli.specs.Words.{events_limit};
-ghost use Rattle.millwheel_cli.specs.Files.{source_taken, IsContent, HoldsTopology, HoldsSource, IsCaseRead};
-ghost use Rattle.millwheel_cli.specs.Reasons.{ShelfSeen, IsUnread, IsFileRefused, IsTopologyRefused, IsRefused};
+ghost use Rattle.millwheel_cli.specs.Limits.{events_limit, lines_limit};
+ghost use Rattle.millwheel_cli.specs.Files.{source_taken, IsContent, HoldsTopology, HoldsSource, HoldsSources, IsCaseRead};
+ghost use Rattle.millwheel_cli.specs.Reasons.{ShelfSeen, IsUnread, IsFileRefused, IsTopologyRefused, IsSourceRefused, IsRefused};
 ghost use Rattle.millwheel_cli.specs.Inside.{of_shelf, UnlessWant};
 
 use crate::form::{items_of, topology_of};
 use crate::refusal::Refusal;
-use injector::Items;
+use injector::{Items, ItemsList};
 use mw_ports::{Shelf, ShelfFault};
 use mw_types::{Bytes, Duplicate, Name, NoMemory, Seq};
 use run_history::Case;
@@ -22,58 +22,113 @@ const TOPOLOGY_MAX: u64 = 1 << 20;
 // How many bytes an event file may have.
 const EVENTS_MAX: u64 = 1 << 25;
 
-/// The case of the two files of these names.
+// How many record lines there may be in all event files.
+const LINES_MAX: u32 = 1 << 18;
+
+/// The case of the topology of this name and of the event files of these names.
 pub fn read_case<S: Shelf>(
     alloc: Global,
     shelf: &mut S,
     topology: &Name,
-    events: &Name,
+    events: &[Name],
 ) -> Result<Case, Refusal>
-    ensures read { IfOk result (IsCaseRead (S.files shelf.old) (topology.now, events.now)) }
+    ensures read { IfOk result (IsCaseRead (S.files shelf.old) topology.now events.now) }
     ensures refused { let seen : ShelfSeen = record {
       files = S.files shelf.old;
       faults = (S.faults shelf.old, S.faults shelf.new);
       lacks = (S.lacks shelf.old, S.lacks shelf.new);
-    } in IfErr result (UnlessWant (IsRefused seen (topology.now, events.now))) }
+    } in IfErr result (UnlessWant (IsRefused seen topology.now events.now)) }
 {
-    let topology = read_topology(alloc, shelf, topology)?;
-    let items = read_items(alloc, shelf, events)?;
-    let case = case_of(alloc, topology, items)?;
+    let count = count_of(events)?;
+    let topology = read_topology(alloc, shelf, count, topology)?;
+    let sources = read_sources(alloc, shelf, events)?;
+    let case = Case::of(alloc, topology, sources)?;
     Ok(case)
 }
 
-// The topology in the file of that name.
-fn read_topology<S: Shelf>(alloc: Global, shelf: &mut S, name: &Name) -> Result<Topology, Refusal>
+// How many event files these are. More than a `u32` counts are refused as a want of memory, which
+// their names alone would take.
+fn count_of(events: &[Name]) -> Result<u32, NoMemory>
+    ensures { IfOk result (λ count. count ≡ length events.now) }
+{
+    match u32::try_from(events.len()) {
+        Ok(count) => Ok(count),
+        Err(_) => Err(NoMemory),
+    }
+}
+
+// The topology in the file of that name, for so many event files.
+fn read_topology<S: Shelf>(
+    alloc: Global,
+    shelf: &mut S,
+    count: u32,
+    name: &Name,
+) -> Result<Topology, Refusal>
     ensures files { S.files shelf.new ≡ S.files shelf.old }
     ensures faults_later { S.faults shelf.old ≤ S.faults shelf.new }
     ensures lacks_later { S.lacks shelf.old ≤ S.lacks shelf.new }
-    ensures topology { IfOk result (HoldsTopology (S.files shelf.old) name.now) }
-    ensures injector { IfOk result (λ topology. injectors_of topology ≡ 1) }
+    ensures topology { IfOk result (HoldsTopology (S.files shelf.old) name.now count) }
+    ensures injectors { IfOk result (λ topology. injectors_of topology ≡ count) }
     ensures refused { let seen : ShelfSeen = record {
       files = S.files shelf.old;
       faults = (S.faults shelf.old, S.faults shelf.new);
       lacks = (S.lacks shelf.old, S.lacks shelf.new);
-    } in IfErr result (UnlessWant (IsTopologyRefused seen name.now)) }
+    } in IfErr result (UnlessWant (IsTopologyRefused seen count name.now)) }
 {
     let bytes = read_file(alloc, shelf, name, TOPOLOGY_MAX)?;
-    let topology = topology_of(alloc, bytes.as_slice())?;
+    let topology = topology_of(alloc, count, bytes.as_slice())?;
     Ok(topology)
 }
 
-// What the event file of that name holds.
-fn read_items<S: Shelf>(alloc: Global, shelf: &mut S, name: &Name) -> Result<Items, Refusal>
-    ensures files { S.files shelf.new ≡ S.files shelf.old }
-    ensures faults_later { S.faults shelf.old ≤ S.faults shelf.new }
-    ensures lacks_later { S.lacks shelf.old ≤ S.lacks shelf.new }
-    ensures events { IfOk result (HoldsSource (S.files shelf.old) name.now) }
+// What the event files of these names hold, each with the room for record lines that those before it
+// left.
+fn read_sources<S: Shelf>(
+    alloc: Global,
+    shelf: &mut S,
+    names: &[Name],
+) -> Result<ItemsList, Refusal>
+    requires few { length names.now < 2 ^ 32 }
+
+    ensures sources { IfOk result (HoldsSources (S.files shelf.old) 0 lines_limit names.now) }
     ensures refused { let seen : ShelfSeen = record {
       files = S.files shelf.old;
       faults = (S.faults shelf.old, S.faults shelf.new);
       lacks = (S.lacks shelf.old, S.lacks shelf.new);
-    } in IfErr result (UnlessWant (IsFileRefused seen name.now events_limit source_taken)) }
+    } in IfErr result (UnlessWant (IsSourceRefused seen 0 lines_limit names.now)) }
+{
+    let mut sources = Seq::new(alloc);
+    let mut file: u32 = 0;
+    let mut room = LINES_MAX;
+    for name in names {
+        let items = read_items(alloc, shelf, file, room, name)?;
+        file += 1;
+        room = room.saturating_sub(items.count());
+        sources.push(items)?;
+    }
+    Ok(sources)
+}
+
+// What the event file of that name and number holds, with room for so many record lines.
+fn read_items<S: Shelf>(
+    alloc: Global,
+    shelf: &mut S,
+    file: u32,
+    room: u32,
+    name: &Name,
+) -> Result<Items, Refusal>
+    ensures files { S.files shelf.new ≡ S.files shelf.old }
+    ensures faults_later { S.faults shelf.old ≤ S.faults shelf.new }
+    ensures lacks_later { S.lacks shelf.old ≤ S.lacks shelf.new }
+    ensures source { IfOk result (HoldsSource (S.files shelf.old) file room name.now) }
+    ensures refused { let seen : ShelfSeen = record {
+      files = S.files shelf.old;
+      faults = (S.faults shelf.old, S.faults shelf.new);
+      lacks = (S.lacks shelf.old, S.lacks shelf.new);
+    } in IfErr result (UnlessWant
+        (IsFileRefused seen name.now events_limit (source_taken file room))) }
 {
     let bytes = read_file(alloc, shelf, name, EVENTS_MAX)?;
-    let items = items_of(alloc, bytes.as_slice())?;
+    let items = items_of(alloc, file, room, bytes.as_slice())?;
     Ok(items)
 }
 
@@ -118,14 +173,4 @@ fn refusal_of(alloc: Global, name: &Name, fault: ShelfFault) -> Result<Refusal, 
         ShelfFault::NoMemory => Refusal::NoMemory,
     };
     Ok(refusal)
-}
-
-// The case of a topology of one injector, which has these items.
-fn case_of(alloc: Global, topology: Topology, items: Items) -> Result<Case, NoMemory>
-    requires { injectors_of topology ≡ 1 }
-    ensures { IfOk result (λ case. case ≡ record { topology = topology; sources = items ∷ [] }) }
-{
-    let mut all = Seq::new(alloc);
-    all.push(items)?;
-    Case::of(alloc, topology, all)
 }

@@ -3,7 +3,7 @@ ghost use Rattle.std.specs.Prelude.{◌≡◌};
 ghost use Rattle.millwheel_cli.specs.Inside.{status_of};
 
 use crate::status::Status;
-use injector::{LineWhy, LinesRefusal};
+use injector::LineWhy;
 use mw_types::{Name, NoMemory};
 use topology::TopologyRefusal;
 
@@ -12,7 +12,7 @@ use topology::TopologyRefusal;
 pub enum Refusal {
     NoFile { name: Name },
     TopologyRefused { why: TopologyRefusal },
-    EventsRefused { line: u32, why: LineWhy },
+    EventsRefused { file: u32, line: u32, why: LineWhy },
     NoMemory,
     ReadFault { name: Name },
     TooLong { name: Name },
@@ -44,20 +44,6 @@ impl From<TopologyRefusal> for Refusal {
     }
 }
 
-impl From<LinesRefusal> for Refusal {
-    ghost use Rattle.std.specs.Prelude.{◌≡◌};
-    ghost use Rattle.millwheel_cli.specs.Inside.{of_lines};
-
-    ghost from_gives = { λ lines refusal. refusal ≡ of_lines lines };
-
-    fn from(lines: LinesRefusal) -> Refusal {
-        match lines {
-            LinesRefusal::Line { line, why } => Refusal::EventsRefused { line, why },
-            LinesRefusal::NoMemory => Refusal::NoMemory,
-        }
-    }
-}
-
 /// The status of a refusal.
 pub fn status_of(refusal: Refusal) -> Status
     ensures { result ≡ status_of refusal }
@@ -65,7 +51,7 @@ pub fn status_of(refusal: Refusal) -> Status
     match refusal {
         Refusal::NoFile { name } => Status::NoFile { name },
         Refusal::TopologyRefused { why } => Status::TopologyRefused { why },
-        Refusal::EventsRefused { line, why } => Status::EventsRefused { file: 0, line, why },
+        Refusal::EventsRefused { file, line, why } => Status::EventsRefused { file, line, why },
         Refusal::NoMemory => Status::NoMemory,
         Refusal::ReadFault { name } => Status::ReadFault { name },
         Refusal::TooLong { name } => Status::TooLong { name },

@@ -1,5 +1,5 @@
 use Rattle.std.proofs.Common.{◌≡◌, ◌∙◌, None, Some, refl, sym, ap, subst, rules}
-use Rattle.millwheel_cli.specs.Words.{Call, call_of}
+use Rattle.millwheel_cli.specs.Words.{call_of}
 use Rattle.std.specs.Option.{is_some}
 use Rattle.millwheel_cli.specs.declared.status.Status.TheVariants.{Usage}
 use Rattle.millwheel_cli.specs.Reasons.{ShelfSeen, HasReason, IsAnswer}
@@ -23,12 +23,12 @@ returns-in_default-clause-answer g c held rows told seen well kept written =
 
 pub returns-in-Ok-clause-left : goal.returns-in-Ok-clause-left
 returns-in-Ok-clause-left g c =
-    left_of_run _ _ (asked c.in-Some.topology.now c.in-Some.events.now c.in-Some.lines) _ _ _ (sym c.in-Some.ensures)
+    left_of_run _ _ (asked c.in-Some.topology.now c.in-Some.events.now c.in-Some.history) _ _ _ (sym c.in-Some.ensures)
     c.in-Ok.ensures.read c.run.ensures.left
 
 pub returns-in-Ok-clause-ok : goal.returns-in-Ok-clause-ok
 returns-in-Ok-clause-ok g c is =
-    ok_of_left _ _ _ _ (left_of_run _ _ (asked c.in-Some.topology.now c.in-Some.events.now c.in-Some.lines) _ _ _
+    ok_of_left _ _ _ _ (left_of_run _ _ (asked c.in-Some.topology.now c.in-Some.events.now c.in-Some.history) _ _ _
     (sym c.in-Some.ensures) c.in-Ok.ensures.read c.run.ensures.left) is
 
 pub returns-in-Ok-clause-usage : goal.returns-in-Ok-clause-usage
@@ -46,7 +46,7 @@ returns-in-Ok-clause-reason g c =
 
 pub returns-in-Ok-clause-answer : goal.returns-in-Ok-clause-answer
 returns-in-Ok-clause-answer g c held rows told seen_rows well kept written =
-    let call = asked c.in-Some.topology.now c.in-Some.events.now c.in-Some.lines in
+    let call = asked c.in-Some.topology.now c.in-Some.events.now c.in-Some.history in
     let seen : ShelfSeen = record {
       files = g.S.Shelf.files c.args.shelf.now;
       faults = (g.S.Shelf.faults c.args.shelf.now, g.S.Shelf.faults c.read_case.new.shelf);
@@ -82,7 +82,7 @@ returns-in-Err-clause-sink_fault g c is = absurd (refusal_sink _ (sym (c.unbegun
 
 pub returns-in-Err-clause-reason : goal.returns-in-Err-clause-reason
 returns-in-Err-clause-reason g c =
-    let call = asked c.in-Some.topology.now c.in-Some.events.now c.in-Some.lines in
+    let call = asked c.in-Some.topology.now c.in-Some.events.now c.in-Some.history in
     let seen : ShelfSeen = record {
       files = g.S.Shelf.files c.args.shelf.now;
       faults = (g.S.Shelf.faults c.args.shelf.now, g.S.Shelf.faults c.read_case.new.shelf);
@@ -110,7 +110,7 @@ returns-in-Err-clause-left g c =
 
 pub returns-in-Err-clause-answer : goal.returns-in-Err-clause-answer
 returns-in-Err-clause-answer g c held rows told seen_rows well kept written =
-    let call = asked c.in-Some.topology.now c.in-Some.events.now c.in-Some.lines in
+    let call = asked c.in-Some.topology.now c.in-Some.events.now c.in-Some.history in
     let seen : ShelfSeen = record {
       files = g.S.Shelf.files c.args.shelf.now;
       faults = (g.S.Shelf.faults c.args.shelf.now, g.S.Shelf.faults c.read_case.new.shelf);

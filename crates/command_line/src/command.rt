@@ -1,0 +1,47 @@
+//! What a command asks for.
+
+use mw_types::{Name, Seq};
+
+/// What a run reads, and whether it is to write its history's lines before its result.
+#[derive(Debug, Drop, PartialEq, Eq)]
+pub struct Inputs {
+    /// The name of the topology's file.
+    pub topology: Name,
+    /// The names of the event files, in the order of the injectors. There is one or more.
+    pub events: Seq<Name>,
+    /// Whether the history's lines are wanted.
+    pub history: bool,
+}
+
+/// What is to be done, by the mode of the command line.
+#[derive(Debug, Drop, PartialEq, Eq)]
+pub enum Call {
+    /// The files are worked off by one worker, in the one order that there is without a plan.
+    Solo {
+        /// What it reads.
+        inputs: Inputs,
+    },
+    /// The steps of a plan are done first, and then what is left.
+    Replay {
+        /// The name of the plan's file.
+        plan: Name,
+        /// What it reads.
+        inputs: Inputs,
+    },
+    /// An input of this size is made from a seed and worked off.
+    Load {
+        /// The seed.
+        seed: u32,
+        /// How many lines are made: 1 to 262,144.
+        lines: u32,
+    },
+}
+
+/// A command.
+#[derive(Debug, Drop, PartialEq, Eq)]
+pub struct Command {
+    /// What is to be done.
+    pub call: Call,
+    /// The name of the database in which the rows are to be kept, where they are to outlive the run.
+    pub keep: Option<Name>,
+}

@@ -1,0 +1,21 @@
+//! The command line: which words are a command, and what it asks for.
+//!
+//! The words are positionals, of which the first is the mode, options with one value each, and one flag;
+//! the mode says which of them it takes. Stands on `mw_types`. Public contract: `read_words` answers the
+//! command that the words are, and `Usage` exactly where they are none; want of memory is its one free
+//! answer. Definitions, in the order of reading: `specs/Words.antt`, what the words say before the mode is
+//! looked at; `specs/Grammar.antt`, which commands there are.
+#![tactic(auto)]
+
+mod command;
+mod line;
+mod number;
+mod reader;
+mod refusal;
+#[cfg(test)]
+mod tests;
+mod word;
+
+pub use command::{Call, Command, Inputs};
+pub use reader::read_words;
+pub use refusal::WordsRefusal;

@@ -1,0 +1,18 @@
+-- How long files and histories may be. Own.
+use Rattle.std.specs.Prelude.{ℕ, ◌^◌}
+
+-- how many bytes a topology may have
+abbrev pub topology_limit : ℕ
+topology_limit = 2 ^ 20
+
+-- how many bytes an event file may have
+abbrev pub events_limit : ℕ
+events_limit = 2 ^ 25
+
+-- how many record lines there may be in all event files
+abbrev pub lines_limit : ℕ
+lines_limit = 2 ^ 18
+
+-- how many entries a history may have
+abbrev pub history_limit : ℕ
+history_limit = 2 ^ 32
