@@ -58,14 +58,10 @@ flying-at book flight number message each at = by_place (slice_get flight number
     by_place : (o : Option (Option Outgoing)) → slice_get flight number ≡ o → unwrap_or o None ≡ Some message
         → IsOutgoing book.case (own_view book) message
     by_place None there e = absurd cc
-    by_place (Some place) there e = subst (IsFlying book) e (flying-found place there)
-      where
-        flying-found : (p : Option Outgoing) → slice_get flight number ≡ Some p → IsFlying book p
-        flying-found p found = All-found flight number p found each
-
-    All-found : (xs : List (Option Outgoing)) (n : ℕ) (p : Option Outgoing) → slice_get xs n ≡ Some p → All (IsFlying book) xs → IsFlying book p
-    All-found xs n p found all = subst (IsFlying book) (get_or_from_slice_get xs n p p found)
-        (All-get_or (IsFlying book) xs n p (slice_get_within xs n p found) all)
+    by_place (Some place) there e =
+        let found : IsFlying book place = subst (IsFlying book) (get_or_from_slice_get flight number place place there)
+        (All-get_or (IsFlying book) flight number place (slice_get_within flight number place there) each) in
+        subst (IsFlying book) e found
 
 -- ---- what the script does
 

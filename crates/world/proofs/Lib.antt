@@ -37,3 +37,7 @@ pub mod TakeLaws
 pub mod RunLaws
 pub mod FlightLaws
 pub mod TakeSteps
+pub mod SendSteps
+pub mod StepLaws
+pub mod SendWorlds
+pub mod DrainedWorlds

@@ -31,7 +31,7 @@ use Rattle.world.proofs.WorldSteps.{at-world, changed, rested-at, told-then, wor
 -- ---- a message that stays
 
 -- a deed that changes nothing
-stays-done : (shape : Shape) (world : World) (number : ℕ) (answer : Outcome)
+pub stays-done : (shape : Shape) (world : World) (number : ℕ) (answer : Outcome)
     → (answer, world) ≡ done shape world (stays world number answer)
 stays-done shape world number answer = ap (λ (h : List Entry). (
   answer,

@@ -40,14 +40,14 @@ pub left_by-requires-clause-ready : goal.left_by-requires-clause-ready
 left_by-requires-clause-ready g c =
     let state : WorldState = record { book = c.self.inside.book; nodes = c.self.inside.nodes.items; flight = c.self.inside.flight.items } in
     ready-of state.book.case (own_view state.book) c.index-here.result.now
-    (fits-index state c.args.worker c.index-here.result.now c.self.invariant.0 c.requires.worker c.index-here.ensures.value)
+    (fits-index state c.args.worker c.index-here.result.now c.self.invariant.0 c.requires.worker c.index-here.ensures)
 
 -- the message stays
 pub returns-in-Some-left_by-clause-acted : goal.returns-in-Some-left_by-clause-acted
 returns-in-Some-left_by-clause-acted g c =
     let state : WorldState = record { book = c.self.inside.book; nodes = c.self.inside.nodes.items; flight = c.self.inside.flight.items } in
     let at : unwrap_or (slice_get state.flight c.args.message) None ≡ Some c.in-Some.found.now = search rules in
-    let here = at-index state c.args.worker c.index-here.result.now c.self.invariant.0 c.requires.worker c.index-here.ensures.value in
+    let here = at-index state c.args.worker c.index-here.result.now c.self.invariant.0 c.requires.worker c.index-here.ensures in
     let left : left_by c.case-case.result.now.topology (worker_at c.index-here.result.now) (outgoing_of c.in-Some.found.now)
     ≡ Some c.in-Some-left_by.outcome = search rules in
     subst (λ (s : WorldState). HasActed (steps.Take c.args.worker c.args.message) s s c.in-Some-left_by.outcome) c.self.view_is
@@ -69,8 +69,8 @@ receive-requires-clause-fits g c =
     fits-index state c.args.worker c.index_mut-node.result.now c.self.invariant.0 c.requires.worker c.index_mut-node.ensures.value
 
 -- the world stands
-pub invariant_of-self-2 : goal.invariant_of-self-2
-invariant_of-self-2 g c =
+pub invariant_of-self : goal.invariant_of-self
+invariant_of-self g c =
     let state : WorldState = record { book = c.self.inside.book; nodes = c.self.inside.nodes.items; flight = c.self.inside.flight.items } in
     let was = c.index_mut-node.result.now in
     let here = at-index state c.args.worker was c.self.invariant.0 c.requires.worker c.index_mut-node.ensures.value in
