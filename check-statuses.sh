@@ -36,15 +36,22 @@ expect 0 '' solo --history t.json e
 expect 0 '' solo head.json e
 expect 2 'millwheel: usage: millwheel MODE ARGS'
 expect 2 'millwheel: usage: millwheel MODE ARGS' sing t.json e
-expect 2 'millwheel: usage: millwheel MODE ARGS' solo t.json --history e
+expect 2 'millwheel: usage: millwheel MODE ARGS' solo t.json -e
+expect 0 '' load 7 3
+expect 0 '' solo taps.json e e
+expect 0 '' solo --keep rows.db t.json e
 expect 3 'millwheel: no file missing' solo t.json missing
 expect 4 'millwheel: topology refused: UnknownStream' solo later.json e
 expect 5 'millwheel: events refused: file 0 line 2: NotJson' solo t.json cut
+expect 5 'millwheel: events refused: file 1 line 2: NotJson' solo taps.json e cut
+expect 7 'millwheel: the keeper failed' solo --keep folder t.json e
+expect 10 'millwheel: the keeper is not empty: part 0 key ' solo --keep rows.db t.json e
 out=/dev/full expect 8 'millwheel: the output failed' solo t.json e
 expect 13 "millwheel: can't read folder" solo t.json folder
 expect 14 'millwheel: too long: long.json' solo long.json e
 expect 15 'millwheel: 1 event files for 2 injectors' solo taps.json e
+expect 15 'millwheel: 2 event files for 1 injectors' solo t.json e e
 
-# 7, 10 and 12 can't come of a new keeper in memory, 9 not at will, and 11 not in a shell's time.
+# 12 can't come of a keeper whose rows the program wrote, 9 not at will, and 11 not in a shell's time.
 [ "$failed" = 0 ] && echo "each status that a shell can bring about has its text and its number"
 exit "$failed"

@@ -1,14 +1,15 @@
 //! The program `millwheel`: the command line, the files and the output of its process.
 //!
-//! All that it does is `millwheel_alone` of `millwheel_cli`, over a keeper in memory and the files and the
-//! standard output of the runtime, and then `tell`, over its standard error, whose number is the exit
-//! status.
+//! All that it does is `millwheel_alone` of `millwheel_cli`, over the files and the standard output of the
+//! runtime and over a keeper in memory, or in a database where `keep_name` answers its name; and then
+//! `tell`, over its standard error, whose number is the exit status.
 #![tactic(auto)]
 
-use millwheel_cli::{Done, Status, millwheel_alone, tell};
+use millwheel_cli::{Done, Status, keep_name, millwheel_alone, tell};
 use mw_ports::{FileShelf, OutSink};
 use mw_types::{CallList, Name, NoMemory, Seq};
-use row_keeper::MemKeeper;
+use row_keeper::{Keeper, KeeperFault, MemKeeper};
+use sqlite_keeper::SqliteKeeper;
 use std::alloc::Global;
 use std::io::{Error, ErrorKind};
 use std::process::ExitCode;
@@ -56,13 +57,20 @@ fn unread(error: &Error) -> Status {
     }
 }
 
-// Runs these words over the process's files, its standard output and a keeper of their own.
+// Runs these words over a keeper in memory, or over a database where they name one.
 fn run(rt: &HostRuntime, words: &[Name]) -> Status {
+    match keep_name(rt.alloc(), words) {
+        Ok(Some(name)) => run_kept(rt, words, &name),
+        Ok(None) => run_in_memory(rt, words),
+        Err(NoMemory) => Status::NoMemory,
+    }
+}
+
+// Runs these words over a keeper in memory.
+fn run_in_memory(rt: &HostRuntime, words: &[Name]) -> Status {
     let alloc = rt.alloc();
-    let mut shelf = FileShelf::new(rt);
-    let mut out = OutSink::new(rt);
     let kept = MemKeeper::new(alloc, CallList::new(alloc));
-    let done = millwheel_alone(alloc, words, &mut shelf, kept, &mut out);
+    let done = run_over(rt, words, kept);
     let Done {
         status,
         keeper,
@@ -72,4 +80,20 @@ fn run(rt: &HostRuntime, words: &[Name]) -> Status {
     mem::forget(keeper);
     mem::forget(history);
     status
+}
+
+// Runs these words over the database of that name, which is opened before any file is read.
+fn run_kept(rt: &HostRuntime, words: &[Name], name: &Name) -> Status {
+    match SqliteKeeper::at(rt, name.text()) {
+        Ok(kept) => run_over(rt, words, kept).status,
+        Err(KeeperFault::Failed) => Status::KeeperFault,
+        Err(KeeperFault::NoMemory) => Status::NoMemory,
+    }
+}
+
+// Runs these words over the process's files, its standard output and a keeper.
+fn run_over<K: Keeper>(rt: &HostRuntime, words: &[Name], kept: K) -> Done<K> {
+    let mut shelf = FileShelf::new(rt);
+    let mut out = OutSink::new(rt);
+    millwheel_alone(rt.alloc(), words, &mut shelf, kept, &mut out)
 }

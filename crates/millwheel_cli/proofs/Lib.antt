@@ -1,6 +1,7 @@
 pub mod Refusals
 pub mod Reasons
 pub mod Sources
+pub mod Loading
 pub mod Statuses
 pub mod Works
 pub mod Running

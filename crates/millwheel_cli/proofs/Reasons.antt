@@ -1,16 +1,22 @@
 -- Why a file was refused is why the call was.
-use Rattle.std.proofs.Common.{◌≡◌, ◌≤◌, ◌+◌, ◌-◌, ℕ, List, [], ◌∷◌, length, Option, Some, Result, Err, subst, inl, inr}
+use Rattle.std.proofs.Common.{◌≡◌, ◌∙◌, ◌≤◌, ◌+◌, ◌-◌, ℕ, List, [], ◌∷◌, length, Option, Some, Result, Err, sym, ap, subst, inl, inr}
 use Rattle.mw_types.proofs.CauseLaws.{Rose-before}
+use Rattle.command_line.specs.declared.command.Inputs.{Inputs}
+use Rattle.command_line.specs.declared.command.Command.{Command}
 use Rattle.mw_ports.specs.Shelves.{Files}
 use Rattle.topology.specs.Shapes.{Shape}
+use Rattle.injector.specs.Sources.{Source}
+use Rattle.run_history.specs.Cases.{CaseShape}
+use Rattle.millwheel_cli.specs.declared.task.Task.{Task}
 use Rattle.millwheel_cli.specs.declared.status.Status.{Status}
 use Rattle.millwheel_cli.specs.declared.status.Status.TheVariants as status
 use Rattle.millwheel_cli.specs.declared.refusal.Refusal.{Refusal}
 use Rattle.millwheel_cli.specs.declared.refusal.Refusal.TheVariants.{NoFile, TopologyRefused, EventsRefused, NoMemory, ReadFault, TooLong, FileCount}
 use Rattle.millwheel_cli.specs.Limits.{events_limit, lines_limit}
-use Rattle.millwheel_cli.specs.Words.{Inputs, call_of}
-use Rattle.millwheel_cli.specs.Files.{HoldsTopology, source_taken}
-use Rattle.millwheel_cli.specs.Reasons.{ShelfSeen, IsUnread, IsFileRefused, IsTopologyRefused, IsSourceRefused, IsRefused, IsCallRefused, HasReason}
+use Rattle.millwheel_cli.specs.Asked.{asked_of}
+use Rattle.millwheel_cli.specs.Files.{HoldsTopology, HoldsSources, source_taken}
+use Rattle.millwheel_cli.specs.Tasks.{wanted_of, IsInputsTask}
+use Rattle.millwheel_cli.specs.Reasons.{ShelfSeen, IsUnread, IsFileRefused, IsTopologyRefused, IsSourceRefused, IsRefused, IsCallRefused, IsCommandRefused, HasReason}
 use Rattle.millwheel_cli.specs.Inside.{status_of, UnlessWant}
 use Rattle.millwheel_cli.proofs.Refusals.{unless_map}
 
@@ -51,47 +57,68 @@ pub source_over : (files : Option Files) (f0 f1 f2 l0 l1 l2 file room : ℕ) (na
 source_over files f0 f1 f2 l0 l1 l2 file room [] s f l is = is
 source_over files f0 f1 f2 l0 l1 l2 file room (name ∷ names) s f l is = elim is [
   | inl first ↦ inl (file_over files f0 f1 f2 l0 l1 l2 name events_limit (source_taken file room) s f l first)
-  | inr later ↦ inr (later.0, later.1,
-      source_over files f0 f1 f2 l0 l1 l2 (file + 1) (room - length later.0) names s f l later.2)
+  | inr later ↦ inr (
+    later.0,
+    later.1,
+    source_over files f0 f1 f2 l0 l1 l2 (file + 1) (room - length later.0) names s f l later.2,
+  )
 ]
 
 -- why the topology's file was refused is why one of the files was
-pub topology_refused : (seen : ShelfSeen) (topology : List ℕ) (events : List (List ℕ)) (count : ℕ) (refusal : Refusal)
-    → count ≡ length events → UnlessWant (IsTopologyRefused seen count topology) refusal
-    → UnlessWant (IsRefused seen topology events) refusal
-topology_refused seen topology events count refusal counted is =
-    unless_map (IsTopologyRefused seen count topology) (IsRefused seen topology events) refusal
-    (λ s why. inl (subst (λ n. IsTopologyRefused seen n topology s) counted why)) is
+pub topology_refused : (seen : ShelfSeen) (inputs : Inputs) (names : List (List ℕ)) (count : ℕ) (refusal : Refusal)
+    → names ≡ inputs.events → count ≡ length names → UnlessWant (IsTopologyRefused seen count inputs.topology) refusal
+    → UnlessWant (IsRefused seen inputs) refusal
+topology_refused seen inputs names count refusal same counted is =
+    unless_map (IsTopologyRefused seen count inputs.topology) (IsRefused seen inputs) refusal
+    (λ s why. inl (subst (λ n. IsTopologyRefused seen n inputs.topology s) (counted ∙ ap length same) why)) is
 
 -- why an event file was refused is why one of the files was, where the topology was taken before and the shelf's
 -- files stayed as they were
-pub events_refused : (files later : Option Files) (f0 f1 f2 l0 l1 l2 count : ℕ) (topology : List ℕ) (events : List (List ℕ))
+pub events_refused : (files later : Option Files) (f0 f1 f2 l0 l1 l2 : ℕ) (inputs : Inputs) (names : List (List ℕ)) (count : ℕ)
     (shape : Shape) (refusal : Refusal)
-    → later ≡ files → count ≡ length events → HoldsTopology files topology count shape → f0 ≤ f1 → l0 ≤ l1
-    → UnlessWant (IsSourceRefused (seen_of later f1 f2 l1 l2) 0 lines_limit events) refusal
-    → UnlessWant (IsRefused (seen_of files f0 f2 l0 l2) topology events) refusal
-events_refused files later f0 f1 f2 l0 l1 l2 count topology events shape refusal same counted taken f l is =
-    unless_map (IsSourceRefused (seen_of later f1 f2 l1 l2) 0 lines_limit events) (IsRefused (seen_of files f0 f2 l0 l2) topology events)
+    → names ≡ inputs.events → count ≡ length names → later ≡ files → HoldsTopology files inputs.topology count shape
+    → f0 ≤ f1 → l0 ≤ l1
+    → UnlessWant (IsSourceRefused (seen_of later f1 f2 l1 l2) 0 lines_limit names) refusal
+    → UnlessWant (IsRefused (seen_of files f0 f2 l0 l2) inputs) refusal
+events_refused files later f0 f1 f2 l0 l1 l2 inputs names count shape refusal same counted unchanged taken f l is =
+    unless_map (IsSourceRefused (seen_of later f1 f2 l1 l2) 0 lines_limit names) (IsRefused (seen_of files f0 f2 l0 l2) inputs)
     refusal (λ s why. inr (record {
       shape = shape;
-      taken = subst (λ n. HoldsTopology files topology n shape) counted taken;
-      refused = source_over files f0 f1 f2 l0 l1 l2 0 lines_limit events s f l
-          (subst (λ (fs : Option Files). IsSourceRefused (seen_of fs f1 f2 l1 l2) 0 lines_limit events s) same why);
+      topology_read = subst (λ n. HoldsTopology files inputs.topology n shape) (counted ∙ ap length same) taken;
+      refused = source_over files f0 f1 f2 l0 l1 l2 0 lines_limit inputs.events s f l
+          (subst (λ (fs : Option Files). IsSourceRefused (seen_of fs f1 f2 l1 l2) 0 lines_limit inputs.events s) unchanged
+          (subst (λ (ns : List (List ℕ)). IsSourceRefused (seen_of later f1 f2 l1 l2) 0 lines_limit ns s) same why));
     })) is
 
--- what the words ask for is refused as one of its files is
-called : (seen : ShelfSeen) (words : List (List ℕ)) (inputs : Inputs) (s : Status) → call_of words ≡ Some inputs
-    → IsRefused seen inputs.topology inputs.events s → IsCallRefused seen words s
-called seen words inputs s named is = record { inputs = inputs; named = named; why = is }
+-- what files were read make a task
+pub inputs_task : (files later : Option Files) (inputs : Inputs) (names : List (List ℕ)) (count : ℕ) (shape : Shape)
+    (sources : List Source) (task : Task)
+    → names ≡ inputs.events → count ≡ length names → later ≡ files
+    → task.case ≡ record { topology = shape; sources = sources } → task.wanted ≡ wanted_of inputs.history
+    → HoldsTopology files inputs.topology count shape → HoldsSources later 0 lines_limit names sources
+    → IsInputsTask files inputs task
+inputs_task files later inputs names count shape sources task same counted unchanged made text topology events = record {
+  topology_read = subst (λ (k : CaseShape). HoldsTopology files inputs.topology (length inputs.events) k.topology) (sym made)
+      (subst (λ n. HoldsTopology files inputs.topology n shape) (counted ∙ ap length same) topology);
+  events_read = subst (λ (k : CaseShape). HoldsSources files 0 lines_limit inputs.events k.sources) (sym made)
+      (subst (λ (ns : List (List ℕ)). HoldsSources files 0 lines_limit ns sources) same
+      (subst (λ (fs : Option Files). HoldsSources fs 0 lines_limit names sources) unchanged events));
+  text = text;
+}
+
+-- the words are a command whose call is refused
+called : (seen : ShelfSeen) (words : List (List ℕ)) (command : Command) (s : Status) → asked_of words ≡ Some command
+    → IsCallRefused seen command.call s → IsCommandRefused seen words s
+called seen words command s named is = record { command = command; named = named; why = is }
 
 -- why one of the files was refused is why the call was
-pub call_reason : (seen : ShelfSeen) (words : List (List ℕ)) (inputs : Inputs) (refusal : Refusal)
-    → call_of words ≡ Some inputs → UnlessWant (IsRefused seen inputs.topology inputs.events) refusal
+pub call_reason : (seen : ShelfSeen) (words : List (List ℕ)) (command : Command) (refusal : Refusal)
+    → asked_of words ≡ Some command → UnlessWant (IsCallRefused seen command.call) refusal
     → HasReason seen words (status_of refusal)
-call_reason seen words inputs (NoFile name) named is = called seen words inputs _ named is
-call_reason seen words inputs (TopologyRefused why) named is = called seen words inputs _ named is
-call_reason seen words inputs (EventsRefused file line why) named is = called seen words inputs _ named is
-call_reason seen words inputs NoMemory named is = tt
-call_reason seen words inputs (ReadFault name) named is = called seen words inputs _ named is
-call_reason seen words inputs (TooLong name) named is = called seen words inputs _ named is
-call_reason seen words inputs (FileCount files injectors) named is = called seen words inputs _ named is
+call_reason seen words command (NoFile name) named is = called seen words command _ named is
+call_reason seen words command (TopologyRefused why) named is = called seen words command _ named is
+call_reason seen words command (EventsRefused file line why) named is = called seen words command _ named is
+call_reason seen words command NoMemory named is = tt
+call_reason seen words command (ReadFault name) named is = called seen words command _ named is
+call_reason seen words command (TooLong name) named is = called seen words command _ named is
+call_reason seen words command (FileCount files injectors) named is = called seen words command _ named is

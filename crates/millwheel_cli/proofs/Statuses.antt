@@ -1,6 +1,8 @@
 -- Of what a status comes.
 use Rattle.std.proofs.Common.{◌≡◌, ℕ, Bool, List, Option, refl, subst, arith}
 use Rattle.mw_types.specs.declared.entry.Entry.{Entry}
+use Rattle.command_line.specs.declared.refusal.WordsRefusal.{WordsRefusal}
+use Rattle.command_line.specs.declared.refusal.WordsRefusal.TheVariants as refusals
 use Rattle.mw_ports.specs.declared.sink.SinkFault.{SinkFault}
 use Rattle.mw_ports.specs.declared.sink.SinkFault.TheVariants as sinks
 use Rattle.topology.specs.Shapes.{Shape}
@@ -8,11 +10,12 @@ use Rattle.book.specs.declared.refusals.StartWhy.{StartWhy}
 use Rattle.book.specs.declared.refusals.StartWhy.TheVariants as starts
 use Rattle.node.specs.declared.outcome.NodeFault.{NodeFault}
 use Rattle.node.specs.declared.outcome.NodeFault.TheVariants as faults
+use Rattle.millwheel_cli.specs.declared.task.Wanted.{Wanted}
 use Rattle.millwheel_cli.specs.declared.status.Status.{Status}
 use Rattle.millwheel_cli.specs.declared.status.Status.TheVariants as status
 use Rattle.millwheel_cli.specs.declared.refusal.Refusal.{Refusal}
 use Rattle.millwheel_cli.specs.declared.refusal.Refusal.TheVariants.{NoFile, TopologyRefused, EventsRefused, NoMemory, ReadFault, TooLong, FileCount}
-use Rattle.millwheel_cli.specs.Inside.{HasText, status_of, of_start, of_drain, of_sink}
+use Rattle.millwheel_cli.specs.Inside.{HasText, status_of, of_words, of_start, of_drain, of_sink}
 
 -- a start that says so failed by its keeper
 pub start_fault : (why : StartWhy) → of_start why ≡ status.KeeperFault → why ≡ starts.KeeperFault
@@ -46,9 +49,9 @@ drain_sink (faults.RowDamaged name bytes) is = grind (arith, is)
 drain_sink faults.NoMemory is = grind (arith, is)
 
 -- no writing fails by the keeper
-pub text_keeper : (lines : Bool) (shape : Shape) (history : List Entry) (old new : Option (List ℕ)) (s : Status)
-    → HasText lines shape history old new s → s ≡ status.KeeperFault → ⊥
-text_keeper lines shape history old new s is same = subst (λ t. HasText lines shape history old new t) same is
+pub text_keeper : (wanted : Wanted) (shape : Shape) (history : List Entry) (old new : Option (List ℕ)) (s : Status)
+    → HasText wanted shape history old new s → s ≡ status.KeeperFault → ⊥
+text_keeper wanted shape history old new s is same = subst (λ t. HasText wanted shape history old new t) same is
 
 -- no refusal of the files is one of the words
 pub refusal_usage : (refusal : Refusal) → status_of refusal ≡ status.Usage → ⊥
@@ -89,3 +92,23 @@ refusal_ok NoMemory is = grind (arith, is)
 refusal_ok (ReadFault name) is = grind (arith, is)
 refusal_ok (TooLong name) is = grind (arith, is)
 refusal_ok (FileCount files injectors) is = grind (arith, is)
+
+-- no refusal of the words is the keeper's
+pub words_keeper : (refusal : WordsRefusal) → of_words refusal ≡ status.KeeperFault → ⊥
+words_keeper refusals.Usage is = grind (arith, is)
+words_keeper refusals.NoMemory is = grind (arith, is)
+
+-- no refusal of the words is the sink's
+pub words_sink : (refusal : WordsRefusal) → of_words refusal ≡ status.SinkFault → ⊥
+words_sink refusals.Usage is = grind (arith, is)
+words_sink refusals.NoMemory is = grind (arith, is)
+
+-- no refusal of the words is Ok
+pub words_ok : (refusal : WordsRefusal) → of_words refusal ≡ status.Ok → ⊥
+words_ok refusals.Usage is = grind (arith, is)
+words_ok refusals.NoMemory is = grind (arith, is)
+
+-- a status that says so is a refusal of the words themselves
+pub words_usage : (refusal : WordsRefusal) → of_words refusal ≡ status.Usage → refusal ≡ refusals.Usage
+words_usage refusals.Usage is = refl
+words_usage refusals.NoMemory is = grind (arith, is)

@@ -4,18 +4,25 @@ use Rattle.std.specs.Option.{option_map_or, is_some}
 use Rattle.std.proofs.lemmas.Option.{same_Some}
 use Rattle.mw_types.specs.Causes.{Rose}
 use Rattle.mw_types.specs.declared.identity.RowName.{RowName}
+use Rattle.command_line.specs.declared.command.Inputs.{Inputs}
+use Rattle.command_line.specs.declared.command.Call.{Call}
+use Rattle.command_line.specs.declared.command.Call.TheVariants.{Solo, Replay, Load}
+use Rattle.command_line.specs.declared.command.Command.{Command}
 use Rattle.mw_ports.specs.Shelves.{Files}
 use Rattle.row_keeper.specs.Rows.{Rows}
 use Rattle.injector.specs.Sources.{Source}
-use Rattle.run_history.specs.Cases.{CaseShape}
+use Rattle.topology.specs.Shapes.{Shape}
 use Rattle.json_reading.specs.Refusals.{and_then}
+use Rattle.millwheel_cli.specs.declared.task.Task.{Task}
 use Rattle.millwheel_cli.specs.declared.status.Status.{Status}
 use Rattle.millwheel_cli.specs.declared.status.Status.TheVariants.{Usage, NoFile, TopologyRefused, EventsRefused, KeeperFault, SinkFault, NoMemory, NotEmpty, HistoryFull, RowDamaged, ReadFault, TooLong, FileCount}
 use Rattle.millwheel_cli.specs.declared.status.Status.TheVariants as status
 use Rattle.millwheel_cli.specs.Limits.{topology_limit, events_limit, lines_limit}
-use Rattle.millwheel_cli.specs.Words.{Inputs, call_of}
-use Rattle.millwheel_cli.specs.Files.{HoldsAs, HoldsSources, IsCaseRead, topology_taken, source_taken}
-use Rattle.millwheel_cli.specs.Reasons.{ShelfSeen, IsUnread, IsFileRefused, IsSourceRefused, IsCallRefused, HasReason, file_within, file_as, source_before, sources_taken, ended, ran_over, answer_for, answer_of, IsAnswer}
+use Rattle.millwheel_cli.specs.Asked.{asked_of}
+use Rattle.millwheel_cli.specs.Files.{HoldsAs, HoldsSources, topology_taken, source_taken}
+use Rattle.millwheel_cli.specs.Loads.{load_text}
+use Rattle.millwheel_cli.specs.Tasks.{IsInputsTask, IsLoadTask, IsTask}
+use Rattle.millwheel_cli.specs.Reasons.{ShelfSeen, IsUnread, IsFileRefused, IsSourceRefused, IsRefused, IsCallRefused, IsCommandRefused, HasReason, file_within, file_as, source_before, sources_taken, inputs_taken, load_taken, ended, ran_over, answer_for, answer_of, IsAnswer}
 use Rattle.millwheel_cli.specs.Answers.{Left, HasRun, HasLeft}
 
 -- what is said of something where it is told is said of it
@@ -118,33 +125,70 @@ source_refused_as seen held file room (name ∷ names) s told well is = elim is 
       (source_refused_as seen held (file + 1) (room - length later.0) names s told well later.2)
 ]
 
--- the answer to words that ask for files is that for the files
-answer_of-named : (held : Files) (rows : Rows) (words : List (List ℕ)) (inputs : Inputs) → call_of words ≡ Some inputs
-    → answer_of held rows words ≡ answer_for held rows inputs
-answer_of-named held rows words inputs named = ap (λ (c : Option Inputs). option_map_or (answer_for held rows) c Usage) named
+-- files of which one is refused are refused so
+inputs_refused : (seen : ShelfSeen) (held : Files) (inputs : Inputs) (s : Status)
+    → seen.files ≡ Some held → (Rose seen.faults.0 seen.faults.1 → ⊥) → IsRefused seen inputs s → inputs_taken held inputs ≡ Err s
+inputs_refused seen held inputs s told well is =
+    let names = inputs.events in
+    let count = length names in
+    elim is [
+      | inl topology ↦ ap (λ (found : Result Shape Status). and_then found (λ shape. sources_taken held 0 lines_limit names))
+          (refused_as seen held inputs.topology topology_limit (topology_taken count) s told well topology)
+      | inr events ↦ ap (λ (found : Result Shape Status). and_then found (λ shape. sources_taken held 0 lines_limit names))
+          (held_as seen.files held inputs.topology topology_limit (topology_taken count) _ told events.topology_read)
+          ∙ source_refused_as seen held 0 lines_limit names s told well events.refused
+    ]
+
+-- files that were read are taken so
+inputs_read : (files : Option Files) (held : Files) (inputs : Inputs) (task : Task) → files ≡ Some held → IsInputsTask files inputs task
+    → inputs_taken held inputs ≡ Ok task.case.sources
+inputs_read files held inputs task told is =
+    ap (λ (found : Result Shape Status). and_then found (λ shape. sources_taken held 0 lines_limit inputs.events))
+    (held_as files held inputs.topology topology_limit (topology_taken (length inputs.events)) _ told is.topology_read)
+    ∙ sources_as files held 0 lines_limit inputs.events task.case.sources told is.events_read
+
+-- what load runs is taken so
+load_read : (seed lines : ℕ) (task : Task) → (is : IsLoadTask seed lines task) → load_taken seed lines ≡ Ok is.made.source
+load_read seed lines task is =
+    ap (λ (found : Result Shape Status). and_then found (λ shape. source_taken 0 lines_limit (load_text seed lines)))
+    is.made.topology_read ∙ is.made.events_read
+
+-- the answer to words that are a command is that for its call
+answer_of-named : (held : Files) (rows : Rows) (words : List (List ℕ)) (command : Command) → asked_of words ≡ Some command
+    → answer_of held rows words ≡ answer_for held rows command.call
+answer_of-named held rows words command named =
+    ap (λ (c : Option Command). option_map_or (λ (k : Command). answer_for held rows k.call) c Usage) named
 
 -- a refused call is answered so
-answer_refused : (seen : ShelfSeen) (words : List (List ℕ)) (held : Files) (rows : Rows) (s : Status)
-    → seen.files ≡ Some held → (Rose seen.faults.0 seen.faults.1 → ⊥) → IsCallRefused seen words s → s ≡ answer_of held rows words
-answer_refused seen words held rows s told well is =
-    let names = is.inputs.events in
-    let count = length names in
-    sym (answer_of-named held rows words is.inputs is.named ∙ elim is.why [
-      | inl topology ↦ ap (λ found. ended (and_then found (λ shape. sources_taken held 0 lines_limit names)) (ran_over rows))
-          (refused_as seen held is.inputs.topology topology_limit (topology_taken count) s told well topology)
-      | inr events ↦ ap (λ found. ended (and_then found (λ shape. sources_taken held 0 lines_limit names)) (ran_over rows))
-          (held_as seen.files held is.inputs.topology topology_limit (topology_taken count) _ told events.taken)
-          ∙ ap (λ found. ended found (ran_over rows)) (source_refused_as seen held 0 lines_limit names s told well events.refused)
-    ])
+call_refused : (seen : ShelfSeen) (held : Files) (rows : Rows) (call : Call) (s : Status)
+    → seen.files ≡ Some held → (Rose seen.faults.0 seen.faults.1 → ⊥) → IsCallRefused seen call s → answer_for held rows call ≡ s
+call_refused seen held rows (Solo inputs) s told well is =
+    ap (λ (found : Result (List Source) Status). ended found (ran_over rows)) (inputs_refused seen held inputs s told well is)
+call_refused seen held rows (Replay plan inputs) s told well is = absurd is
+call_refused seen held rows (Load seed lines) s told well is =
+    ap (λ (found : Result Source Status). ended found (ran_over rows)) is
 
--- where all files were read the keeper's rows decide the answer
-answer_read : (files : Option Files) (words : List (List ℕ)) (held : Files) (rows : Rows) (inputs : Inputs) (case : CaseShape)
-    → files ≡ Some held → call_of words ≡ Some inputs → IsCaseRead files inputs.topology inputs.events case
+-- so are the words
+answer_refused : (seen : ShelfSeen) (words : List (List ℕ)) (held : Files) (rows : Rows) (s : Status)
+    → seen.files ≡ Some held → (Rose seen.faults.0 seen.faults.1 → ⊥) → IsCommandRefused seen words s → s ≡ answer_of held rows words
+answer_refused seen words held rows s told well is =
+    sym (answer_of-named held rows words is.command is.named ∙ call_refused seen held rows is.command.call s told well is.why)
+
+-- where all is read the keeper's rows decide the answer
+call_read : (files : Option Files) (held : Files) (rows : Rows) (call : Call) (task : Task)
+    → files ≡ Some held → IsTask files call task → answer_for held rows call ≡ ran_over rows
+call_read files held rows (Solo inputs) task told is =
+    ap (λ (found : Result (List Source) Status). ended found (ran_over rows)) (inputs_read files held inputs task told is)
+call_read files held rows (Replay plan inputs) task told is = absurd is
+call_read files held rows (Load seed lines) task told is =
+    ap (λ (found : Result Source Status). ended found (ran_over rows)) (load_read seed lines task is)
+
+-- so it is of the words
+answer_read : (files : Option Files) (words : List (List ℕ)) (held : Files) (rows : Rows) (command : Command) (task : Task)
+    → files ≡ Some held → asked_of words ≡ Some command → IsTask files command.call task
     → answer_of held rows words ≡ ran_over rows
-answer_read files words held rows inputs case told named is = answer_of-named held rows words inputs named
-    ∙ ap (λ found. ended (and_then found (λ shape. sources_taken held 0 lines_limit inputs.events)) (ran_over rows))
-    (held_as files held inputs.topology topology_limit (topology_taken (length inputs.events)) _ told is.topology_read)
-    ∙ ap (λ found. ended found (ran_over rows)) (sources_as files held 0 lines_limit inputs.events case.sources told is.events_read)
+answer_read files words held rows command task told named is =
+    answer_of-named held rows words command named ∙ call_read files held rows command.call task told is
 
 -- a run comes to its end over a keeper without rows
 ran_over-empty : (found : Option Rows) (rows : Rows) → found ≡ Some rows → IfSome found (λ rs. rs ≡ []) → ran_over rows ≡ status.Ok
@@ -163,8 +207,8 @@ still_told old None rows told tells untold = true≢false (sym (tells ∙ ap is_
 still_told old (Some held) rows told tells untold = untold
 
 -- words that ask for nothing are answered with Usage
-pub answer_usage : (words : List (List ℕ)) (held : Files) (rows : Rows) → call_of words ≡ None → Usage ≡ answer_of held rows words
-answer_usage words held rows none = sym (ap (λ (c : Option Inputs). option_map_or (answer_for held rows) c Usage) none)
+pub answer_usage : (words : List (List ℕ)) (held : Files) (rows : Rows) → asked_of words ≡ None → Usage ≡ answer_of held rows words
+answer_usage words held rows none = sym (ap (λ (c : Option Command). option_map_or (λ (k : Command). answer_for held rows k.call) c Usage) none)
 
 -- over files and rows that a contract can see, where nothing failed, the answer is theirs, or memory ran out, or the history is full
 pub told_answer : (seen : ShelfSeen) (words : List (List ℕ)) (left : Left) (k0 k1 f0 f1 : ℕ) (held : Files) (rows : Rows) (s : Status)
@@ -172,7 +216,7 @@ pub told_answer : (seen : ShelfSeen) (words : List (List ℕ)) (left : Left) (k0
     → is_some left.rows.1 ≡ is_some left.rows.0 → seen.files ≡ Some held → left.rows.0 ≡ Some rows
     → (Rose seen.faults.0 seen.faults.1 → ⊥) → (Rose k0 k1 → ⊥) → (Rose f0 f1 → ⊥) → IsAnswer held rows words left.history s
 told_answer seen words left k0 k1 f0 f1 held rows status.Ok why is keeper sink tells told seen_rows well kept written =
-    sym (answer_read seen.files words held rows is.inputs is.case told is.named is.read
+    sym (answer_read seen.files words held rows is.command is.task told is.named is.asked
     ∙ ran_over-empty left.rows.0 rows seen_rows is.leaves.run.run.began_empty)
 told_answer seen words left k0 k1 f0 f1 held rows Usage why is keeper sink tells told seen_rows well kept written = answer_usage
     words held rows why
@@ -189,9 +233,9 @@ told_answer seen words left k0 k1 f0 f1 held rows SinkFault why is keeper sink t
 told_answer seen words left k0 k1 f0 f1 held rows NoMemory why is keeper sink tells told seen_rows well kept written = tt
 told_answer seen words left k0 k1 f0 f1 held rows (NotEmpty name bytes) why is keeper sink tells told seen_rows well kept written =
     let first = told_of left.rows.0 rows (λ rs. slice_get rs 0 ≡ Some (name, bytes)) seen_rows is.leaves.first in
-    sym (answer_read seen.files words held rows is.inputs is.case told is.named is.read ∙ ran_over-first rows name bytes first)
+    sym (answer_read seen.files words held rows is.command is.task told is.named is.asked ∙ ran_over-first rows name bytes first)
 told_answer seen words left k0 k1 f0 f1 held rows HistoryFull why is keeper sink tells told seen_rows well kept written = (
-  answer_read seen.files words held rows is.inputs is.case told is.named is.read
+  answer_read seen.files words held rows is.command is.task told is.named is.asked
       ∙ ran_over-empty left.rows.0 rows seen_rows is.leaves.stopped.run.began_empty,
   is.leaves.full,
 )

@@ -1,28 +1,31 @@
 -- What each status leaves of the history, of the keeper's rows and of the text. Own.
-use Rattle.std.specs.Prelude.{◌≡◌, ◌⊎◌, ◌++◌, ℕ, Bool, if◌then◌else◌, List, [], length, Option, Some, None, IfSome, slice_get}
+use Rattle.std.specs.Prelude.{◌≡◌, ◌⊎◌, ◌++◌, ℕ, List, [], length, Option, Some, None, IfSome, slice_get}
 use Rattle.std.specs.Io.KnownBytes.{append_known}
 use Rattle.mw_types.specs.declared.identity.RowName.{RowName}
 use Rattle.mw_types.specs.declared.entry.Entry.{Entry}
+use Rattle.command_line.specs.declared.command.Command.{Command}
 use Rattle.mw_ports.specs.Shelves.{Files}
 use Rattle.mw_ports.specs.Sinks.{AppendsPrefix}
 use Rattle.topology.specs.Shapes.{Shape}
 use Rattle.row_keeper.specs.Rows.{Rows}
-use Rattle.run_history.specs.Cases.{CaseShape}
 use Rattle.run_history.specs.Runs.{run_of}
 use Rattle.run_history.specs.Legal.{IsLegal}
 use Rattle.run_history.specs.Fences.{IsFenced}
 use Rattle.run_history.specs.Finished.{IsFinished}
 use Rattle.run_history.specs.Stored.{stored_rows}
 use Rattle.run_history.specs.HistoryLines.{lines_of_history}
-use Rattle.run_history.specs.Texts.{IsResultText}
+use Rattle.run_history.specs.Texts.{IsResultText, as_line, summary_data}
 use Rattle.book.specs.Claims.{IsDamagedRow}
 use Rattle.world.specs.Drains.{IsDraining, IsDrained}
 use Rattle.millwheel_cli.specs.declared.status.Status.{Status}
 use Rattle.millwheel_cli.specs.declared.status.Status.TheVariants.{KeeperFault, SinkFault, NoMemory, NotEmpty, HistoryFull, RowDamaged}
 use Rattle.millwheel_cli.specs.declared.status.Status.TheVariants as status
+use Rattle.millwheel_cli.specs.declared.task.Task.{Task}
+use Rattle.millwheel_cli.specs.declared.task.Wanted.{Wanted}
+use Rattle.millwheel_cli.specs.declared.task.Wanted.TheVariants.{ResultAlone, HistoryFirst, SummaryAlone}
+use Rattle.millwheel_cli.specs.Asked.{asked_of}
 use Rattle.millwheel_cli.specs.Limits.{history_limit}
-use Rattle.millwheel_cli.specs.Words.{Inputs, call_of}
-use Rattle.millwheel_cli.specs.Files.{IsCaseRead}
+use Rattle.millwheel_cli.specs.Tasks.{IsTask}
 
 -- what a call leaves: the keeper's rows and the sink's text, before and after, where a contract can see
 -- them, and the history
@@ -41,62 +44,68 @@ pub record IsUnbegun (left : Left) : Type 0 where
 
 -- rows that a contract can see are those of the history, which is a legal one, and goes as a drain from
 -- nothing does
-pub record IsKeptRun (case : CaseShape) (history : List Entry) (rows : Rows) : Type 0 where
-  pub legal : IsLegal case history
-  pub draining : IsDraining case 0 history
-  pub stored : rows ≡ stored_rows (run_of case.topology history)
+pub record IsKeptRun (task : Task) (history : List Entry) (rows : Rows) : Type 0 where
+  pub legal : IsLegal task.case history
+  pub draining : IsDraining task.case 0 history
+  pub stored : rows ≡ stored_rows (run_of task.case.topology history)
 
--- a run of the case, as far as it came: it was begun over a keeper without rows
-pub record IsRun (case : CaseShape) (left : Left) : Type 0 where
+-- a run of the task, as far as it came: it was begun over a keeper without rows
+pub record IsRun (task : Task) (left : Left) : Type 0 where
   pub began_empty : IfSome left.rows.0 (λ rows. rows ≡ [])
-  pub fenced : IsFenced case.topology left.history
-  pub kept : IfSome left.rows.1 (IsKeptRun case left.history)
+  pub fenced : IsFenced task.case.topology left.history
+  pub kept : IfSome left.rows.1 (IsKeptRun task left.history)
 
 -- a run that came to its end: it is the whole drain, and no work is left
-pub record IsWholeRun (case : CaseShape) (left : Left) : Type 0 where
-  pub run : IsRun case left
-  pub drained : IfSome left.rows.1 (λ _. IsDrained case 0 left.history)
-  pub finished : IfSome left.rows.1 (λ _. IsFinished case (run_of case.topology left.history))
+pub record IsWholeRun (task : Task) (left : Left) : Type 0 where
+  pub run : IsRun task left
+  pub drained : IfSome left.rows.1 (λ _. IsDrained task.case 0 left.history)
+  pub finished : IfSome left.rows.1 (λ _. IsFinished task.case (run_of task.case.topology left.history))
 
 -- ---- the text
 
--- the text of a history: its lines, where they are asked for, and then a result of it
-pub record IsWholeText (lines : Bool) (shape : Shape) (history : List Entry) (text : List ℕ) : Type 0 where
+-- the text of a history: its lines, and then a result of it
+pub record IsLongText (shape : Shape) (history : List Entry) (text : List ℕ) : Type 0 where
   pub result : List ℕ
   pub of_history : IsResultText shape history result
-  pub spelled : text ≡ (if lines then lines_of_history history else []) ++ result
+  pub spelled : text ≡ lines_of_history history ++ result
+
+-- the whole text that is wanted of a history: a result of it, or its lines before that, or the summary line alone
+abbrev pub IsWholeText : Wanted → Shape → List Entry → List ℕ → Type 0
+IsWholeText ResultAlone shape history text = IsResultText shape history text
+IsWholeText HistoryFirst shape history text = IsLongText shape history text
+IsWholeText SummaryAlone shape history text = text ≡ as_line (summary_data history)
 
 -- ---- what each status leaves
 
 -- the run came to its end, and its whole text was written
-pub record IsWhole (case : CaseShape) (lines : Bool) (left : Left) : Type 0 where
-  pub run : IsWholeRun case left
+pub record IsWhole (task : Task) (left : Left) : Type 0 where
+  pub run : IsWholeRun task left
   pub text : List ℕ
-  pub whole : IsWholeText lines case.topology left.history text
+  pub whole : IsWholeText task.wanted task.case.topology left.history text
   pub written : left.text.1 ≡ append_known left.text.0 text
 
 -- the run came to its end, and a beginning of its text was written
-pub record IsPart (case : CaseShape) (lines : Bool) (left : Left) : Type 0 where
-  pub run : IsWholeRun case left
+pub record IsPart (task : Task) (left : Left) : Type 0 where
+  pub run : IsWholeRun task left
   pub text : List ℕ
-  pub whole : IsWholeText lines case.topology left.history text
+  pub whole : IsWholeText task.wanted task.case.topology left.history text
   pub part : AppendsPrefix text left.text.0 left.text.1
 
 -- the run came so far, and nothing was written
-pub record IsStopped (case : CaseShape) (left : Left) : Type 0 where
-  pub run : IsRun case left
+pub record IsStopped (task : Task) (left : Left) : Type 0 where
+  pub run : IsRun task left
   pub unwritten : left.text.1 ≡ left.text.0
 
 -- the run stopped since its history has as many entries as one may have
-pub record IsFull (case : CaseShape) (left : Left) : Type 0 where
-  pub stopped : IsStopped case left
+pub record IsFull (task : Task) (left : Left) : Type 0 where
+  pub stopped : IsStopped task left
   pub full : length left.history ≡ history_limit
 
 -- the run stopped at bytes that the keeper gave, which are those of no row that fits the name; of a keeper
 -- whose rows a contract can see none are
-pub record IsDamagedAt (case : CaseShape) (left : Left) (name : RowName) (bytes : List ℕ) : Type 0 where
-  pub stopped : IsStopped case left
-  pub damaged : IsDamagedRow case left.rows.1 (length left.history) name bytes
+pub record IsDamagedAt (task : Task) (left : Left) (name : RowName) (bytes : List ℕ) : Type 0 where
+  pub stopped : IsStopped task left
+  pub damaged : IsDamagedRow task.case left.rows.1 (length left.history) name bytes
 
 -- no run was begun, since the keeper has rows; this is the first where a contract can see them
 pub record IsHeldBefore (left : Left) (name : RowName) (bytes : List ℕ) : Type 0 where
@@ -104,24 +113,24 @@ pub record IsHeldBefore (left : Left) (name : RowName) (bytes : List ℕ) : Type
   pub first : IfSome left.rows.0 (λ rows. slice_get rows 0 ≡ Some (name, bytes))
 
 -- what each status leaves once the files are read; the others come before that
-abbrev pub RunLeaves : CaseShape → Bool → Left → Status → Type 0
-RunLeaves case lines left status.Ok = IsWhole case lines left
-RunLeaves case lines left SinkFault = IsPart case lines left
-RunLeaves case lines left KeeperFault = IsStopped case left ⊎ IsUnbegun left
-RunLeaves case lines left NoMemory = IsPart case lines left ⊎ (IsStopped case left ⊎ IsUnbegun left)
-RunLeaves case lines left HistoryFull = IsFull case left
-RunLeaves case lines left (RowDamaged name bytes) = IsDamagedAt case left name bytes
-RunLeaves case lines left (NotEmpty name bytes) = IsHeldBefore left name bytes
-RunLeaves case lines left _ = ⊥
+abbrev pub RunLeaves : Task → Left → Status → Type 0
+RunLeaves task left status.Ok = IsWhole task left
+RunLeaves task left SinkFault = IsPart task left
+RunLeaves task left KeeperFault = IsStopped task left ⊎ IsUnbegun left
+RunLeaves task left NoMemory = IsPart task left ⊎ (IsStopped task left ⊎ IsUnbegun left)
+RunLeaves task left HistoryFull = IsFull task left
+RunLeaves task left (RowDamaged name bytes) = IsDamagedAt task left name bytes
+RunLeaves task left (NotEmpty name bytes) = IsHeldBefore left name bytes
+RunLeaves task left _ = ⊥
 
--- the words ask for files that were read, and for their case the status leaves this
+-- the words are a command that is run and asks for a task, and of that the status leaves this
 pub record HasRun (files : Option Files) (words : List (List ℕ)) (left : Left)
     (status : Status) : Type 0 where
-  pub inputs : Inputs
-  pub named : call_of words ≡ Some inputs
-  pub case : CaseShape
-  pub read : IsCaseRead files inputs.topology inputs.events case
-  pub leaves : RunLeaves case inputs.history left status
+  pub command : Command
+  pub named : asked_of words ≡ Some command
+  pub task : Task
+  pub asked : IsTask files command.call task
+  pub leaves : RunLeaves task left status
 
 -- what each status leaves
 abbrev pub HasLeft : Option Files → List (List ℕ) → Left → Status → Type 0

@@ -1,5 +1,4 @@
--- What the bytes of a topology's file and of event files are taken for, what a call was given, and the case of
--- that. Own.
+-- What the bytes of a topology's file and of event files are taken for, and what a call was given. Own.
 use Rattle.std.specs.Prelude.{◌≡◌, ◌≤◌, ◌==◌, ℕ, ◌+◌, ◌-◌, List, [], ◌∷◌, length, if◌then◌else◌, Option, Some, IfSome, Result, Ok, Err}
 use Rattle.mw_ports.specs.Shelves.{Files}
 use Rattle.topology.specs.declared.refusal.TopologyRefusal.{TopologyRefusal}
@@ -10,10 +9,9 @@ use Rattle.injector.specs.EventFiles.{source_in}
 use Rattle.injector.specs.declared.refusal.LinesRefusal.{LinesRefusal}
 use Rattle.injector.specs.declared.refusal.LinesRefusal.TheVariants.{Line}
 use Rattle.injector.specs.declared.refusal.LinesRefusal.TheVariants as lines
-use Rattle.run_history.specs.Cases.{CaseShape}
 use Rattle.millwheel_cli.specs.declared.status.Status.{Status}
 use Rattle.millwheel_cli.specs.declared.status.Status.TheVariants.{TopologyRefused, EventsRefused, FileCount, NoMemory}
-use Rattle.millwheel_cli.specs.Limits.{topology_limit, events_limit, lines_limit}
+use Rattle.millwheel_cli.specs.Limits.{topology_limit, events_limit}
 
 -- ---- what bytes are taken for
 
@@ -69,9 +67,3 @@ HoldsSources files file room (name ∷ names) [] = ⊥
 HoldsSources files file room (name ∷ names) (source ∷ sources) =
     HoldsSource files file room name source
     × HoldsSources files (file + 1) (room - length source) names sources
-
--- the case is that of the topology of this name and of the event files of these names, one an injector
-pub record IsCaseRead (files : Option Files) (topology : List ℕ) (events : List (List ℕ))
-    (case : CaseShape) : Type 0 where
-  pub topology_read : HoldsTopology files topology (length events) case.topology
-  pub events_read : HoldsSources files 0 lines_limit events case.sources

@@ -1,7 +1,9 @@
 -- How the functions behind the public call answer. No public clause cites this module.
-use Rattle.std.specs.Prelude.{◌≡◌, ◌⊎◌, ℕ, ⊤, Bool, List, Option}
+use Rattle.std.specs.Prelude.{◌≡◌, ◌⊎◌, ℕ, ⊤, List, Option}
 use Rattle.std.specs.Io.KnownBytes.{append_known}
 use Rattle.mw_types.specs.declared.entry.Entry.{Entry}
+use Rattle.command_line.specs.declared.refusal.WordsRefusal.{WordsRefusal}
+use Rattle.command_line.specs.declared.refusal.WordsRefusal.TheVariants as words
 use Rattle.mw_ports.specs.declared.shelf.ShelfFault.{ShelfFault}
 use Rattle.mw_ports.specs.declared.shelf.ShelfFault.TheVariants as shelf
 use Rattle.mw_ports.specs.declared.sink.SinkFault.{SinkFault}
@@ -17,16 +19,12 @@ use Rattle.book.specs.declared.refusals.StartWhy.{StartWhy}
 use Rattle.book.specs.declared.refusals.StartWhy.TheVariants as starts
 use Rattle.node.specs.declared.outcome.NodeFault.{NodeFault}
 use Rattle.node.specs.declared.outcome.NodeFault.TheVariants as faults
-use Rattle.millwheel_cli.specs.Words.{Inputs}
+use Rattle.millwheel_cli.specs.declared.task.Wanted.{Wanted}
 use Rattle.millwheel_cli.specs.Answers.{IsWholeText}
 use Rattle.millwheel_cli.specs.declared.status.Status.{Status}
 use Rattle.millwheel_cli.specs.declared.status.Status.TheVariants as status
 use Rattle.millwheel_cli.specs.declared.refusal.Refusal.{Refusal}
 use Rattle.millwheel_cli.specs.declared.refusal.Refusal.TheVariants.{NoFile, TopologyRefused, EventsRefused, NoMemory, ReadFault, TooLong, FileCount}
-
--- what is asked for with these names, and with this wish for the history's lines
-abbrev pub asked : List ℕ → List (List ℕ) → Bool → Inputs
-asked topology events history = record { topology = topology; events = events; history = history }
 
 -- a refusal of the files as a status
 abbrev pub status_of : Refusal → Status
@@ -60,6 +58,11 @@ of_shelf name shelf.Failed = ReadFault name
 of_shelf name shelf.TooLong = TooLong name
 of_shelf name shelf.NoMemory = NoMemory
 
+-- the status where the words are not read
+abbrev pub of_words : WordsRefusal → Status
+of_words words.Usage = status.Usage
+of_words words.NoMemory = status.NoMemory
+
 -- the status where a book was not begun
 abbrev pub of_start : StartWhy → Status
 of_start (starts.NotEmpty name bytes) = status.NotEmpty name bytes
@@ -79,22 +82,22 @@ of_sink sink.Failed = status.SinkFault
 of_sink sink.NoMemory = status.NoMemory
 
 -- the whole text of a history was written
-pub record WritesWhole (lines : Bool) (shape : Shape) (history : List Entry)
+pub record WritesWhole (wanted : Wanted) (shape : Shape) (history : List Entry)
     (old new : Option (List ℕ)) : Type 0 where
   pub text : List ℕ
-  pub whole : IsWholeText lines shape history text
+  pub whole : IsWholeText wanted shape history text
   pub written : new ≡ append_known old text
 
 -- a beginning of the text of a history was written
-pub record WritesPart (lines : Bool) (shape : Shape) (history : List Entry)
+pub record WritesPart (wanted : Wanted) (shape : Shape) (history : List Entry)
     (old new : Option (List ℕ)) : Type 0 where
   pub text : List ℕ
-  pub whole : IsWholeText lines shape history text
+  pub whole : IsWholeText wanted shape history text
   pub part : AppendsPrefix text old new
 
 -- what is written of a history: its whole text, or a beginning, or nothing where memory ran out
-abbrev pub HasText : Bool → Shape → List Entry → Option (List ℕ) → Option (List ℕ) → Status → Type 0
-HasText lines shape history old new status.Ok = WritesWhole lines shape history old new
-HasText lines shape history old new status.SinkFault = WritesPart lines shape history old new
-HasText lines shape history old new status.NoMemory = WritesPart lines shape history old new ⊎ (new ≡ old)
-HasText lines shape history old new _ = ⊥
+abbrev pub HasText : Wanted → Shape → List Entry → Option (List ℕ) → Option (List ℕ) → Status → Type 0
+HasText wanted shape history old new status.Ok = WritesWhole wanted shape history old new
+HasText wanted shape history old new status.SinkFault = WritesPart wanted shape history old new
+HasText wanted shape history old new status.NoMemory = WritesPart wanted shape history old new ⊎ (new ≡ old)
+HasText wanted shape history old new _ = ⊥

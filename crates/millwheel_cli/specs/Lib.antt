@@ -1,6 +1,8 @@
+pub mod Asked
 pub mod Limits
-pub mod Words
 pub mod Files
+pub mod Loads
+pub mod Tasks
 pub mod Reasons
 pub mod Answers
 pub mod Numbers

@@ -4,6 +4,10 @@ use Rattle.std.specs.Prelude.{◌≡◌, ◌<◌, ◌⊎◌, ℕ, ◌+◌, ◌-�
 use Rattle.std.specs.Option.{option_map_or}
 use Rattle.mw_types.specs.Causes.{Rose}
 use Rattle.mw_types.specs.declared.entry.Entry.{Entry}
+use Rattle.command_line.specs.declared.command.Inputs.{Inputs}
+use Rattle.command_line.specs.declared.command.Call.{Call}
+use Rattle.command_line.specs.declared.command.Call.TheVariants.{Solo, Replay, Load}
+use Rattle.command_line.specs.declared.command.Command.{Command}
 use Rattle.mw_ports.specs.Shelves.{Files}
 use Rattle.json_reading.specs.Refusals.{and_then}
 use Rattle.topology.specs.Shapes.{Shape}
@@ -12,9 +16,10 @@ use Rattle.row_keeper.specs.Rows.{Rows}
 use Rattle.millwheel_cli.specs.declared.status.Status.{Status}
 use Rattle.millwheel_cli.specs.declared.status.Status.TheVariants.{Usage, NoFile, KeeperFault, SinkFault, NoMemory, NotEmpty, HistoryFull, RowDamaged, ReadFault, TooLong}
 use Rattle.millwheel_cli.specs.declared.status.Status.TheVariants as status
+use Rattle.millwheel_cli.specs.Asked.{asked_of}
 use Rattle.millwheel_cli.specs.Limits.{topology_limit, events_limit, lines_limit, history_limit}
-use Rattle.millwheel_cli.specs.Words.{Inputs, call_of}
 use Rattle.millwheel_cli.specs.Files.{topology_taken, source_taken, HoldsAs, HoldsTopology, HoldsSource}
+use Rattle.millwheel_cli.specs.Loads.{load_topology, load_text}
 
 -- ---- what the shelf gave
 
@@ -56,24 +61,34 @@ IsSourceRefused seen file room (name ∷ names) status =
     × IsSourceRefused seen (file + 1) (room - length source) names status)
 
 -- why an event file is refused, of which none is read before the topology is taken
-pub record IsEventsRefused (seen : ShelfSeen) (topology : List ℕ) (events : List (List ℕ))
-    (status : Status) : Type 0 where
+pub record IsEventsRefused (seen : ShelfSeen) (inputs : Inputs) (status : Status) : Type 0 where
   pub shape : Shape
-  pub taken : HoldsTopology seen.files topology (length events) shape
-  pub refused : IsSourceRefused seen 0 lines_limit events status
+  pub topology_read : HoldsTopology seen.files inputs.topology (length inputs.events) shape
+  pub refused : IsSourceRefused seen 0 lines_limit inputs.events status
 
--- the topology's file or one of the event files of these names is refused with the status
-abbrev pub IsRefused : ShelfSeen → List ℕ → List (List ℕ) → Status → Type 0
-IsRefused seen topology events status =
-    IsTopologyRefused seen (length events) topology status ⊎ IsEventsRefused seen topology events status
+-- one of the files is refused with the status: the topology's, or an event file
+abbrev pub IsRefused : ShelfSeen → Inputs → Status → Type 0
+IsRefused seen inputs status =
+    IsTopologyRefused seen (length inputs.events) inputs.topology status ⊎ IsEventsRefused seen inputs status
 
--- the words ask for files, one of which is refused with the status
-pub record IsCallRefused (seen : ShelfSeen) (words : List (List ℕ)) (status : Status) : Type 0 where
-  pub inputs : Inputs
-  pub named : call_of words ≡ Some inputs
-  pub why : IsRefused seen inputs.topology inputs.events status
+-- what load runs, or why that is refused: it has a topology and event lines of its own
+abbrev pub load_taken : ℕ → ℕ → Result Source Status
+load_taken seed lines =
+    and_then (topology_taken 1 load_topology) (λ shape. source_taken 0 lines_limit (load_text seed lines))
 
--- why a status came that comes before a run: the words ask for nothing, or a file is refused. What is said of
+-- why a call is refused
+abbrev pub IsCallRefused : ShelfSeen → Call → Status → Type 0
+IsCallRefused seen (Solo inputs) status = IsRefused seen inputs status
+IsCallRefused seen (Replay plan inputs) status = ⊥
+IsCallRefused seen (Load seed lines) status = load_taken seed lines ≡ Err status
+
+-- the words are a command that is run, and its call is refused with the status
+pub record IsCommandRefused (seen : ShelfSeen) (words : List (List ℕ)) (status : Status) : Type 0 where
+  pub command : Command
+  pub named : asked_of words ≡ Some command
+  pub why : IsCallRefused seen command.call status
+
+-- why a status came that comes before a run: the words are no command that is run, or a file is refused. What is said of
 -- the other statuses stands in clauses of their own
 abbrev pub HasReason : ShelfSeen → List (List ℕ) → Status → Type 0
 HasReason seen words status.Ok = ⊤
@@ -83,8 +98,8 @@ HasReason seen words NoMemory = ⊤
 HasReason seen words (NotEmpty name bytes) = ⊤
 HasReason seen words HistoryFull = ⊤
 HasReason seen words (RowDamaged name bytes) = ⊤
-HasReason seen words Usage = call_of words ≡ None
-HasReason seen words status = IsCallRefused seen words status
+HasReason seen words Usage = asked_of words ≡ None
+HasReason seen words status = IsCommandRefused seen words status
 
 -- ---- where a contract can see the files and the rows
 
@@ -121,17 +136,23 @@ abbrev pub ended : {T : Type 0} → Result T Status → Status → Status
 ended (Ok x) run = run
 ended (Err status) run = status
 
--- the answer for these files of a shelf and the rows of a keeper: the topology is tried first, then the event
--- files in their order, and the keeper last
-abbrev pub answer_for : Files → Rows → Inputs → Status
-answer_for held rows inputs =
-    ended (and_then (file_as held inputs.topology topology_limit (topology_taken (length inputs.events)))
-    (λ shape. sources_taken held 0 lines_limit inputs.events)) (ran_over rows)
+-- what files of a shelf are taken for: the topology is tried first, and then the event files in their order
+abbrev pub inputs_taken : Files → Inputs → Result (List Source) Status
+inputs_taken held inputs =
+    and_then (file_as held inputs.topology topology_limit (topology_taken (length inputs.events))) (λ shape.
+    sources_taken held 0 lines_limit inputs.events)
+
+-- how a call ends, by files of a shelf and, last, by the rows of a keeper
+abbrev pub answer_for : Files → Rows → Call → Status
+answer_for held rows (Solo inputs) = ended (inputs_taken held inputs) (ran_over rows)
+answer_for held rows (Replay plan inputs) = Usage
+answer_for held rows (Load seed lines) = ended (load_taken seed lines) (ran_over rows)
 
 -- the answer to these words over a shelf that holds these files and a keeper that holds these rows, where
 -- nothing fails, memory does not run out, and the history has room
 abbrev pub answer_of : Files → Rows → List (List ℕ) → Status
-answer_of held rows words = option_map_or (answer_for held rows) (call_of words) Usage
+answer_of held rows words =
+    option_map_or (λ (command : Command). answer_for held rows command.call) (asked_of words) Usage
 
 -- the status is that answer; only memory may run out in its place, or a run fill the history
 abbrev pub IsAnswer : Files → Rows → List (List ℕ) → List Entry → Status → Type 0

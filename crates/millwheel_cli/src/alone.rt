@@ -1,18 +1,18 @@
 //! The call behind the program.
-ghost use Rattle.std.specs.Prelude.{◌≡◌, ◌↔◌, ◌≤◌, ℕ, List, [], None, Some};
+ghost use Rattle.std.specs.Prelude.{◌≡◌, ◌⊎◌, ◌≤◌, ℕ, List, [], None, Some};
 ghost use Rattle.std.specs.Option.{is_some};
 ghost use Rattle.mw_types.specs.Causes.{Rose};
 ghost use Rattle.mw_ports.specs.Shelves.{Files};
 ghost use Rattle.row_keeper.specs.Rows.{Rows};
-ghost use Rattle.millwheel_cli.specs.Words.{call_of};
+ghost use Rattle.millwheel_cli.specs.Asked.{asked_of};
 ghost use Rattle.millwheel_cli.specs.Reasons.{ShelfSeen, HasReason, IsAnswer};
 ghost use Rattle.millwheel_cli.specs.Answers.{Left, IsUnbegun, HasRun, HasLeft};
 
-use crate::reading::read_case;
-use crate::refusal::status_of;
+use crate::asked::asked;
+use crate::call::read_task;
+use crate::refusal::{status_of, status_of_words};
 use crate::run::run;
 use crate::status::Status;
-use crate::words::call_of;
 use mw_ports::{Shelf, Sink};
 use mw_types::Name;
 use row_keeper::Keeper;
@@ -51,7 +51,9 @@ pub fn millwheel_alone<S: Shelf, K: Keeper, O: Sink>(
     } in result.status ≡ Status.Ok → HasRun (S.files shelf.old) words.now left Status.Ok }
 
     // Each other status has its reason.
-    ensures usage { (result.status ≡ Status.Usage) ↔ (call_of words.now ≡ None) }
+    ensures usage { result.status ≡ Status.Usage → asked_of words.now ≡ None }
+    ensures no_command { asked_of words.now ≡ None →
+        (result.status ≡ Status.Usage) ⊎ (result.status ≡ Status.NoMemory) }
     ensures reason { let seen : ShelfSeen = record {
       files = S.files shelf.old;
       faults = (S.faults shelf.old, S.faults shelf.new);
@@ -80,12 +82,12 @@ pub fn millwheel_alone<S: Shelf, K: Keeper, O: Sink>(
     ensures untouched { result.history ≡ [] → K.rows result.keeper ≡ K.rows keeper }
     ensures tells { is_some (K.rows result.keeper) ≡ is_some (K.rows keeper) }
 {
-    let Some((topology, events, history)) = call_of(words) else {
-        return unbegun(alloc, Status::Usage, keeper);
-    };
-    match read_case(alloc, shelf, topology, events) {
-        Ok(case) => run(alloc, &case, history, keeper, out),
-        Err(refusal) => unbegun(alloc, status_of(refusal), keeper),
+    match asked(alloc, words) {
+        Ok(command) => match read_task(alloc, shelf, &command.call) {
+            Ok(task) => run(alloc, &task, keeper, out),
+            Err(refusal) => unbegun(alloc, status_of(refusal), keeper),
+        },
+        Err(refusal) => unbegun(alloc, status_of_words(refusal), keeper),
     }
 }
 

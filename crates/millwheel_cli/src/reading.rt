@@ -1,10 +1,10 @@
-//! The reading of the files that are asked for.
+//! The reading of files: a topology, and event files.
 ghost use Rattle.std.specs.Prelude.{◌≡◌, ◌≤◌, ◌<◌, ◌^◌, length, IfErr, IfOk};
 ghost use Rattle.mw_ports.specs.Shelves.{Files};
 ghost use Rattle.topology.specs.Shapes.{injectors_of};
 ghost use Rattle.millwheel_cli.specs.Limits.{events_limit, lines_limit};
-ghost use Rattle.millwheel_cli.specs.Files.{source_taken, IsContent, HoldsTopology, HoldsSource, HoldsSources, IsCaseRead};
-ghost use Rattle.millwheel_cli.specs.Reasons.{ShelfSeen, IsUnread, IsFileRefused, IsTopologyRefused, IsSourceRefused, IsRefused};
+ghost use Rattle.millwheel_cli.specs.Files.{source_taken, IsContent, HoldsTopology, HoldsSource, HoldsSources};
+ghost use Rattle.millwheel_cli.specs.Reasons.{ShelfSeen, IsUnread, IsFileRefused, IsTopologyRefused, IsSourceRefused};
 ghost use Rattle.millwheel_cli.specs.Inside.{of_shelf, UnlessWant};
 
 use crate::form::{items_of, topology_of};
@@ -12,7 +12,6 @@ use crate::refusal::Refusal;
 use injector::{Items, ItemsList};
 use mw_ports::{Shelf, ShelfFault};
 use mw_types::{Bytes, Duplicate, Name, NoMemory, Seq};
-use run_history::Case;
 use std::alloc::Global;
 use topology::Topology;
 
@@ -22,43 +21,11 @@ const TOPOLOGY_MAX: u64 = 1 << 20;
 // How many bytes an event file may have.
 const EVENTS_MAX: u64 = 1 << 25;
 
-// How many record lines there may be in all event files.
-const LINES_MAX: u32 = 1 << 18;
+/// How many record lines there may be in all event files.
+pub(crate) const LINES_MAX: u32 = 1 << 18;
 
-/// The case of the topology of this name and of the event files of these names.
-pub fn read_case<S: Shelf>(
-    alloc: Global,
-    shelf: &mut S,
-    topology: &Name,
-    events: &[Name],
-) -> Result<Case, Refusal>
-    ensures read { IfOk result (IsCaseRead (S.files shelf.old) topology.now events.now) }
-    ensures refused { let seen : ShelfSeen = record {
-      files = S.files shelf.old;
-      faults = (S.faults shelf.old, S.faults shelf.new);
-      lacks = (S.lacks shelf.old, S.lacks shelf.new);
-    } in IfErr result (UnlessWant (IsRefused seen topology.now events.now)) }
-{
-    let count = count_of(events)?;
-    let topology = read_topology(alloc, shelf, count, topology)?;
-    let sources = read_sources(alloc, shelf, events)?;
-    let case = Case::of(alloc, topology, sources)?;
-    Ok(case)
-}
-
-// How many event files these are. More than a `u32` counts are refused as a want of memory, which
-// their names alone would take.
-fn count_of(events: &[Name]) -> Result<u32, NoMemory>
-    ensures { IfOk result (λ count. count ≡ length events.now) }
-{
-    match u32::try_from(events.len()) {
-        Ok(count) => Ok(count),
-        Err(_) => Err(NoMemory),
-    }
-}
-
-// The topology in the file of that name, for so many event files.
-fn read_topology<S: Shelf>(
+/// The topology in the file of that name, for so many event files.
+pub fn read_topology<S: Shelf>(
     alloc: Global,
     shelf: &mut S,
     count: u32,
@@ -80,15 +47,16 @@ fn read_topology<S: Shelf>(
     Ok(topology)
 }
 
-// What the event files of these names hold, each with the room for record lines that those before it
-// left.
-fn read_sources<S: Shelf>(
+/// What the event files of these names hold, each with the room for record lines that those before it
+/// left.
+pub fn read_sources<S: Shelf>(
     alloc: Global,
     shelf: &mut S,
     names: &[Name],
 ) -> Result<ItemsList, Refusal>
     requires few { length names.now < 2 ^ 32 }
 
+    ensures count { IfOk result (λ sources. length sources ≡ length names.now) }
     ensures sources { IfOk result (HoldsSources (S.files shelf.old) 0 lines_limit names.now) }
     ensures refused { let seen : ShelfSeen = record {
       files = S.files shelf.old;

@@ -1,8 +1,9 @@
 //! Why the files that are asked for are not run.
 ghost use Rattle.std.specs.Prelude.{◌≡◌};
-ghost use Rattle.millwheel_cli.specs.Inside.{status_of};
+ghost use Rattle.millwheel_cli.specs.Inside.{status_of, of_words};
 
 use crate::status::Status;
+use command_line::WordsRefusal;
 use injector::LineWhy;
 use mw_types::{Name, NoMemory};
 use topology::TopologyRefusal;
@@ -56,5 +57,15 @@ pub fn status_of(refusal: Refusal) -> Status
         Refusal::ReadFault { name } => Status::ReadFault { name },
         Refusal::TooLong { name } => Status::TooLong { name },
         Refusal::FileCount { files, injectors } => Status::FileCount { files, injectors },
+    }
+}
+
+/// The status where the words are not read.
+pub fn status_of_words(refusal: WordsRefusal) -> Status
+    ensures { result ≡ of_words refusal }
+{
+    match refusal {
+        WordsRefusal::Usage => Status::Usage,
+        WordsRefusal::NoMemory => Status::NoMemory,
     }
 }

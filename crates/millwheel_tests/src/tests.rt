@@ -1,8 +1,10 @@
 //! The program's own call, over files, text and rows in memory.
 mod faults;
 mod histories;
+mod loads;
 mod many_lines;
 mod refusals;
+mod several_files;
 mod statuses;
 mod texts;
 mod topologies;

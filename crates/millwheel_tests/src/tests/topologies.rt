@@ -5,6 +5,11 @@ pub const COUNT: &str =
     r#"{"injectors":[{"name":"clicks","stream":"raw"}],"computations":[{"name":"per_minute","kind":"count","size":60,"reads":[{"stream":"raw","by":"key"}],"stream":"windows"}]}
 "#;
 
+// One count over windows of 60, of what two injectors inject.
+pub const TWO: &str =
+    r#"{"injectors":[{"name":"left","stream":"l"},{"name":"right","stream":"r"}],"computations":[{"name":"per_minute","kind":"count","size":60,"reads":[{"stream":"l","by":"key"},{"stream":"r","by":"key"}],"stream":"windows"}]}
+"#;
+
 // A spike behind that count.
 pub const SPIKE: &str =
     r#"{"injectors":[{"name":"clicks","stream":"raw"}],"computations":[{"name":"per_minute","kind":"count","size":60,"reads":[{"stream":"raw","by":"key"}],"stream":"windows"},{"name":"spikes","kind":"spike","last":2,"times":3,"reads":[{"stream":"windows","by":"key"}],"stream":"alerts"}]}

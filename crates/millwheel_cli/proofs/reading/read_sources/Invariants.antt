@@ -1,4 +1,4 @@
-use Rattle.std.proofs.Common.{◌≡◌, ◌≤◌, ◌++◌, ℕ, List, drop}
+use Rattle.std.proofs.Common.{◌≡◌, ◌≤◌, ◌++◌, ℕ, List, length, drop}
 use Rattle.injector.specs.Sources.{Source}
 use Rattle.millwheel_cli.specs.declared.status.Status.{Status}
 use Rattle.millwheel_cli.specs.Limits.{lines_limit}
@@ -11,6 +11,7 @@ use Rattle.millwheel_cli.proofs.reading.read_sources.Given as goal
 abbrev pub invariant-loop-name : goal.invariant-loop-name
 invariant-loop-name g l = record {
   number : l.file ≡ l.name-index;
+  count : length l.sources ≡ l.name-index;
   files : g.S.Shelf.files l.shelf ≡ g.S.Shelf.files l.initial.shelf;
   faults : g.S.Shelf.faults l.initial.shelf ≤ g.S.Shelf.faults l.shelf;
   lacks : g.S.Shelf.lacks l.initial.shelf ≤ g.S.Shelf.lacks l.shelf;

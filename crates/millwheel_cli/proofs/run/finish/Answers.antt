@@ -11,28 +11,29 @@ use Rattle.millwheel_cli.proofs.run.finish.Goals as goal
 
 pub returns-in-Ok-clause-left : goal.returns-in-Ok-clause-left
 returns-in-Ok-clause-left g c =
+    let task = c.args.task.now in
     let old = c.args.book.now in
     let new = c.drain-drained.new.book in
     let after = c.drain-drained.ensures in
-    let run = run_of_book old.case old new (g.O.Sink.text c.args.out.now, g.O.Sink.text c.write.new.out) refl after.case
+    let run = run_of_book task old new (g.O.Sink.text c.args.out.now, g.O.Sink.text c.write.new.out) c.requires.case after.case
     c.history.ensures.lawful c.history-history.ensures.lawful c.requires.empty after.tells after.draining in
-    let whole = whole_run old.case _ old.rows _ run c.history.ensures.lawful.runnable (ap length c.requires.empty)
+    let whole = whole_run task old.case _ old.rows _ c.requires.case run c.history.ensures.lawful.runnable (ap length c.requires.empty)
     c.drains_leave_no_work.ensures.finished after.tells c.in-Ok.ensures.ended in
-    wrote_as old.case _ c.args.lines _ _ _ (c.case.ensures.case ∙ after.case) c.history-history.ensures.history whole
-    c.write.ensures.written
+    wrote_as task _ _ _ c.history-history.ensures.history whole c.write.ensures.written
 
 pub returns-in-Err-clause-left : goal.returns-in-Err-clause-left
 returns-in-Err-clause-left g c =
+    let task = c.args.task.now in
     let old = c.args.book.now in
     let new = c.drain-drained.new.book in
     let after = c.drain-drained.ensures in
     let text = g.O.Sink.text c.args.out.now in
-    let run = run_of_book old.case old new (text, text) refl after.case
+    let run = run_of_book task old new (text, text) c.requires.case after.case
     c.history.ensures.lawful c.history-history.ensures.lawful c.requires.empty after.tells after.draining in
-    let status = stopped old.case c.args.lines _ c.in-Err.fault run refl
+    let status = stopped task _ c.in-Err.fault run refl
     (λ e. c.in-Err.ensures.full (ap Err e) ∙ after.limit ∙ c.requires.limit)
-    (λ name bytes e. damaged_of new old.case _ name bytes after.case c.in-Err.ensures.damaged e) in
-    subst (RunLeaves old.case c.args.lines _) (sym c.status_of_drain.ensures) status
+    (λ name bytes e. damaged_of new task.case _ name bytes (after.case ∙ c.requires.case) c.in-Err.ensures.damaged e) in
+    subst (RunLeaves task _) (sym c.status_of_drain.ensures) status
 
 pub returns-in-Ok-clause-untouched : goal.returns-in-Ok-clause-untouched
 returns-in-Ok-clause-untouched g c empty =
@@ -50,7 +51,7 @@ returns-in-Err-clause-untouched g c empty =
 
 pub write-requires-clause-printable : goal.write-requires-clause-printable
 write-requires-clause-printable g c =
-    subst (λ (k : CaseShape). IsPrintable k.topology c.history-history.result.now) (sym c.case.ensures.case)
+    subst (λ (k : CaseShape). IsPrintable k.topology c.history-history.result.now) (c.drain-drained.ensures.case ∙ c.requires.case)
     (subst (λ (h : List Entry). IsPrintable c.drain-drained.new.book.case.topology h) (sym c.history-history.ensures.history)
     c.history-history.ensures.lawful.printable)
 

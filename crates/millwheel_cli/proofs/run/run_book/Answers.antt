@@ -10,7 +10,7 @@ returns-clause-keeper_fault g c is =
 
 pub returns-clause-left : goal.returns-clause-left
 returns-clause-left g c =
-    same_end _ _ _ _ _ _ _ _ _ c.into_parts-keeper.ensures.rows c.into_parts-keeper.ensures.history c.finish-status.ensures.left
+    same_end _ _ _ _ _ _ _ _ c.into_parts-keeper.ensures.rows c.into_parts-keeper.ensures.history c.finish-status.ensures.left
 
 pub returns-clause-untouched : goal.returns-clause-untouched
 returns-clause-untouched g c empty =

@@ -20,7 +20,7 @@ returns-in-Ok-clause-keeper_fault g c is = Rose-before _ _ _ c.in-Ok.ensures.fau
 
 pub returns-in-Ok-clause-left : goal.returns-in-Ok-clause-left
 returns-in-Ok-clause-left g c =
-    same_run _ _ _ _ _ _ _ _ _ c.in-Ok.ensures.case c.in-Ok.ensures.rows c.run_book.ensures.left
+    same_run _ _ _ _ _ _ _ c.in-Ok.ensures.rows c.run_book.ensures.left
 
 pub returns-in-Ok-clause-untouched : goal.returns-in-Ok-clause-untouched
 returns-in-Ok-clause-untouched g c empty = c.run_book.ensures.untouched empty ∙ c.in-Ok.ensures.rows
@@ -45,8 +45,8 @@ returns-in-Err-clause-left g c =
     } in
     let same = ap g.K.Keeper.rows c.unstarted.ensures.keeper ∙ c.in-Err.ensures.unchanged in
     let unbegun : IsUnbegun left = record { empty = c.unstarted.ensures.history; same_rows = same; unwritten = refl } in
-    subst (λ s. RunLeaves c.args.case.now c.args.lines left s) (sym c.unstarted.ensures.status)
-    (unstarted c.args.case.now c.args.lines left c.in-Err.refusal.why unbegun c.in-Err.ensures.not_empty)
+    subst (λ s. RunLeaves c.args.task.now left s) (sym c.unstarted.ensures.status)
+    (unstarted c.args.task.now left c.in-Err.refusal.why unbegun c.in-Err.ensures.not_empty)
 
 pub returns-in-Err-clause-untouched : goal.returns-in-Err-clause-untouched
 returns-in-Err-clause-untouched g c empty = ap g.K.Keeper.rows c.unstarted.ensures.keeper ∙ c.in-Err.ensures.unchanged
