@@ -5,6 +5,7 @@ mod faults;
 mod fixtures;
 mod leases;
 mod messages;
-mod scripts;
+
 mod tables;
 mod timers;
+mod whole_scripts;
