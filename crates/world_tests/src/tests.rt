@@ -5,7 +5,6 @@ mod faults;
 mod fixtures;
 mod leases;
 mod messages;
-
 mod tables;
 mod timers;
 mod whole_scripts;
