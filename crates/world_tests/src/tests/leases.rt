@@ -29,7 +29,8 @@ count = entries 17";
     plays_all(&rt, rt.alloc(), table)
 }
 
-// Each lease that was overtaken is found stale once, and then lacks; the acknowledgement goes to the new owner.
+// Each lease that was overtaken is found stale once, and is gone then; the new owner takes the
+// acknowledgement.
 #[test]
 fn a_report_is_stale_once(rt: HostRuntime) -> Result<(), Fail> {
     let table = "claim 0 0 = Claimed 0
