@@ -3,7 +3,7 @@
 //! A line of a table is a line of a schedule and, after ` = `, what that step answers. Three more words may
 //! stand for a step: `drain`, after which the world is drained, `count`, beside which stands how many
 //! entries there are, and `last`, beside which stands the last of them.
-ghost use Rattle.std.specs.Prelude.{◌<◌, ◌^◌, IfOk};
+ghost use Rattle.std.specs.Prelude.{◌≤◌, ◌^◌, All, IfOk};
 ghost use Rattle.world.specs.Schedules.{IsStep};
 
 use super::fixtures::{EVENTS, MOST, case, keeper, world};
