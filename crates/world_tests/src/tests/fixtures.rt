@@ -1,5 +1,5 @@
 //! The cases, the keepers and the worlds of the tests.
-ghost use Rattle.std.specs.Prelude.{◌≡◌, ◌≤◌, ◌^◌, IfOk, length};
+ghost use Rattle.std.specs.Prelude.{◌≡◌, ◌≤◌, ◌^◌, IfOk};
 ghost use Rattle.topology.specs.Shapes.{injectors_of};
 ghost use Rattle.node.specs.Works.{IsWorkOf};
 ghost use Rattle.computations.specs.Parts.{HasState, part_record, part_timer};
