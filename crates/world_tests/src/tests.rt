@@ -1,0 +1,10 @@
+//! Schedules over a keeper that tells its rows, over one that does not, and over one that fails, and over a
+//! book that is full.
+mod crashes;
+mod faults;
+mod fixtures;
+mod leases;
+mod messages;
+mod tables;
+mod timers;
+mod whole_scripts;
