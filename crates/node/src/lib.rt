@@ -31,6 +31,7 @@ mod sweeping;
 mod work;
 mod writes;
 mod yields;
+mod unsent;
 
 pub use beside::node_fits_beside;
 pub use message::{Message, Parcel, Receipt};

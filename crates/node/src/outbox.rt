@@ -39,6 +39,13 @@ impl Outbox {
         }
     }
 
+    // How many are to be sent.
+    pub(crate) fn len(&self) -> usize
+        ensures { result ≡ length self.now.messages }
+    {
+        self.messages.len()
+    }
+
     // Makes room for so many more.
     pub(crate) fn make_room(&mut self, more: usize) -> Result<(), NoMemory>
         ensures room { OnOk result (more ≤ self.new.room) }

@@ -25,3 +25,10 @@ pub mod PurgeLoop
 pub mod FireLoop
 pub mod Results
 pub mod DrainLaws
+pub mod deeds
+pub mod StandLaws
+pub mod WorkerLaws
+pub mod StartedWorlds
+pub mod ActsOnLaws
+pub mod WorldSteps
+pub mod CrashLaws

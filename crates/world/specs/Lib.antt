@@ -4,3 +4,8 @@ pub mod Turns
 pub mod Schedules
 pub mod Reading
 pub mod ScheduleExamples
+pub mod WorldStates
+pub mod Stepping
+pub mod Replays
+pub mod Standing
+pub mod WorkerCalls

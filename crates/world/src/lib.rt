@@ -14,17 +14,24 @@
 #![tactic(auto)]
 
 mod claiming;
+mod deliveries;
 mod draining;
 mod drains;
 mod examples;
 mod firing;
+mod flights;
 mod injecting;
 mod passes;
 mod purging;
 mod schedule;
 mod schedule_lines;
+mod script_runs;
 mod settling;
 mod turns;
+mod worker_calls;
+mod world;
+mod world_drains;
+mod world_steps;
 
 pub use draining::drain;
 pub use drains::{
@@ -35,4 +42,6 @@ pub use drains::{
 pub use examples::{drained_example_is_drained, schedule_examples};
 pub use passes::{a_pass_finds_low_watermarks, a_pass_leaves_the_greatest_safe_marks};
 pub use schedule::{Schedule, read_schedule};
+pub use script_runs::run_script;
 pub use scripts::Step;
+pub use world::{World, WorldRefusal};

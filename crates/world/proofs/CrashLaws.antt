@@ -1,0 +1,38 @@
+-- A worker that crashes.
+use Rattle.std.proofs.Common.{◌≡◌, ◌∙◌, ℕ, refl, sym, ap}
+use Rattle.run_history.proofs.Lists.{none_some}
+use Rattle.book.specs.Books.{BookView, core_of}
+use Rattle.book.specs.Lawful.{IsLawful}
+use Rattle.book.specs.OwnDesks.{own_view}
+use Rattle.book.proofs.OwnLaws.{sound}
+use Rattle.node.specs.Workers.{NodeView, Worker, idle, worker_at}
+use Rattle.node.specs.declared.outcome.Outcome.TheVariants as outcomes
+use Rattle.node.proofs.FitLaws.{grown_looked, looked_not}
+use Rattle.scripts.specs.declared.step.Step.TheVariants as steps
+use Rattle.world.specs.Standing.{FitsOwn}
+use Rattle.world.specs.WorkerCalls.{ActsOn, HasCalled, HasLeases, HasRested}
+use Rattle.world.specs.Turns.{HasFailed}
+use Rattle.world.proofs.ActsOnLaws.{acting, when-told}
+use Rattle.world.proofs.deeds.Crashes.{crash-acts}
+
+-- it has no lease
+crash-leases : (book : BookView) (was node : NodeView) → worker_at node ≡ idle → HasLeases book was node
+crash-leases book was node nothing interval seq is = absurd (none_some seq (sym (ap (λ (w : Worker). w.leases interval) nothing) ∙ is))
+
+-- its book is as it was
+pub crash-called : (book : BookView) (was node : NodeView) → IsLawful book.case (core_of book) → node.number ≡ was.number
+    → worker_at node ≡ idle → FitsOwn book node → HasCalled book book was node
+crash-called book was node lawful number nothing fits = record {
+  grown = grown_looked was.held (own_view book) (own_view book) (looked_not (own_view book));
+  leases = crash-leases book was node nothing;
+  fits = fits;
+  number = number;
+  was_sound = sound book lawful;
+  sound = sound book lawful;
+}
+
+-- and it does what a scripted worker does
+pub crash-on : (book : BookView) (was node : NodeView) → IsLawful book.case (core_of book) → FitsOwn book was
+    → worker_at node ≡ idle → ActsOn (steps.Crash was.number) book was book node outcomes.Crashed
+crash-on book was node lawful fits nothing = when-told book.rows (λ told world at.
+    crash-acts book.case book world was.number was node (acting book was world told lawful fits at) nothing)

@@ -1,0 +1,17 @@
+use Rattle.std.proofs.Common.{rules}
+use Rattle.world.specs.WorkerCalls.{HasCalled}
+use Rattle.world.proofs.WorkerLaws.{by-result, called-by, leases-claim, leases-same}
+use Rattle.world.proofs.worker_calls.claim.Goals as goal
+
+-- the worker has called its desk
+pub returns-clause-called : goal.returns-clause-called
+returns-clause-called g c =
+    let old = c.args.book.now in
+    let new = c.claim-result.new.desk.book.now in
+    let was = c.args.node.now in
+    let node = c.claim-result.new.self in
+    let called : HasCalled old new was node =
+    called-by c.case-case.result.now old new was node c.case-case.ensures.case c.sound.ensures.sound c.sound-2.ensures.sound
+    c.claim-result.ensures.grown c.claim-result.ensures.fits c.claim-result.ensures.number
+    (by-result c.claim-result.result (λ outcome answers. leases-claim c.case-case.result.now.topology old new c.args.interval was node outcome answers)
+    (leases-same new was node) c.claim-result.ensures.answers c.claim-result.ensures.kept) in search rules

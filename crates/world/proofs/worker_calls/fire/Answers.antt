@@ -1,0 +1,33 @@
+use Rattle.std.proofs.Common.{refl, rules}
+use Rattle.std.specs.Prelude.{IfOk}
+use Rattle.scripts.specs.declared.step.Step.TheVariants as steps
+use Rattle.world.specs.WorkerCalls.{ActsOn, HasCalled}
+use Rattle.world.proofs.ActsOnLaws.{fire-on}
+use Rattle.world.proofs.Results.{ok-then}
+use Rattle.world.proofs.WorkerLaws.{by-result, called-by, leases-some, leases-same}
+use Rattle.node.specs.Asking.{MayAskFire}
+use Rattle.world.proofs.worker_calls.fire.Goals as goal
+
+-- the worker has called its desk
+pub returns-clause-called : goal.returns-clause-called
+returns-clause-called g c =
+    let old = c.args.book.now in
+    let new = c.fire-result.new.desk.book.now in
+    let was = c.args.node.now in
+    let node = c.fire-result.new.self in
+    let called : HasCalled old new was node =
+    called-by c.case-case.result.now old new was node c.case-case.ensures.case c.sound.ensures.sound c.sound-2.ensures.sound
+    c.fire-result.ensures.grown c.fire-result.ensures.fits c.fire-result.ensures.number
+    (by-result c.fire-result.result (λ outcome answers. leases-some c.case-case.result.now.topology old new
+    (MayAskFire c.case-case.result.now was c.args.part answers.mark) was node outcome answers.answers)
+    (leases-same new was node) c.fire-result.ensures.answers c.fire-result.ensures.kept) in search rules
+
+-- as the script does
+pub returns-clause-acted : goal.returns-clause-acted
+returns-clause-acted g c =
+    let old = c.args.book.now in
+    let new = c.fire-result.new.desk.book.now in
+    let was = c.args.node.now in
+    let node = c.fire-result.new.self in
+    let acted : IfOk c.fire-result.result (ActsOn (steps.Fire was.number c.args.part) old was new node) =
+    ok-then c.fire-result.result (λ outcome answers. fire-on c.case-case.result.now old new was node c.args.part outcome c.case-case.ensures.case c.history.ensures.lawful c.fire-result.ensures.marks c.requires.fits answers) c.fire-result.ensures.answers in search rules

@@ -1,0 +1,33 @@
+use Rattle.std.proofs.Common.{refl, rules}
+use Rattle.std.specs.Prelude.{IfOk}
+use Rattle.scripts.specs.declared.step.Step.TheVariants as steps
+use Rattle.world.specs.WorkerCalls.{ActsOn, HasCalled}
+use Rattle.world.proofs.ActsOnLaws.{purge-on}
+use Rattle.world.proofs.Results.{ok-then}
+use Rattle.world.proofs.WorkerLaws.{by-result, called-by, leases-some, leases-same}
+use Rattle.node.specs.Asking.{MayAskPurge}
+use Rattle.world.proofs.worker_calls.purge.Goals as goal
+
+-- the worker has called its desk
+pub returns-clause-called : goal.returns-clause-called
+returns-clause-called g c =
+    let old = c.args.book.now in
+    let new = c.purge-result.new.desk.book.now in
+    let was = c.args.node.now in
+    let node = c.purge-result.new.self in
+    let called : HasCalled old new was node =
+    called-by c.case-case.result.now old new was node c.case-case.ensures.case c.sound.ensures.sound c.sound-2.ensures.sound
+    c.purge-result.ensures.grown c.purge-result.ensures.fits c.purge-result.ensures.number
+    (by-result c.purge-result.result (λ outcome answers. leases-some c.case-case.result.now.topology old new
+    (MayAskPurge c.case-case.result.now.topology was c.args.interval 1 answers.floor) was node outcome answers.answers)
+    (leases-same new was node) c.purge-result.ensures.answers c.purge-result.ensures.kept) in search rules
+
+-- as the script does
+pub returns-clause-acted : goal.returns-clause-acted
+returns-clause-acted g c =
+    let old = c.args.book.now in
+    let new = c.purge-result.new.desk.book.now in
+    let was = c.args.node.now in
+    let node = c.purge-result.new.self in
+    let acted : IfOk c.purge-result.result (ActsOn (steps.Purge was.number c.args.interval) old was new node) =
+    ok-then c.purge-result.result (λ outcome answers. purge-on c.case-case.result.now old new was node c.args.interval outcome c.case-case.ensures.case c.history.ensures.lawful c.purge-result.ensures.marks c.requires.fits answers) c.purge-result.ensures.answers in search rules

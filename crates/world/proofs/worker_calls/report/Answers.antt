@@ -1,0 +1,34 @@
+use Rattle.std.proofs.Common.{refl, rules}
+use Rattle.std.specs.Prelude.{IfOk}
+use Rattle.scripts.specs.declared.step.Step.TheVariants as steps
+use Rattle.world.specs.WorkerCalls.{ActsOn, HasCalled}
+use Rattle.world.proofs.ActsOnLaws.{report-on}
+use Rattle.world.proofs.ActsOnLaws.{ok-is, same-answer}
+use Rattle.world.proofs.WorkerLaws.{by-result, called-by, leases-report, leases-same}
+use Rattle.holdings.specs.Holding.{held_at}
+use Rattle.world.proofs.worker_calls.report.Goals as goal
+
+-- the worker has called its desk
+pub returns-clause-called : goal.returns-clause-called
+returns-clause-called g c =
+    let old = c.args.book.now in
+    let new = c.report-result.new.desk.book.now in
+    let was = c.args.node.now in
+    let node = c.report-result.new.self in
+    let called : HasCalled old new was node =
+    called-by c.case-case.result.now old new was node c.case-case.ensures.case c.sound.ensures.sound c.sound-2.ensures.sound
+    c.report-result.ensures.grown c.report-result.ensures.fits c.report-result.ensures.number
+    (by-result c.report-result.result (λ outcome answers. leases-report c.case-case.result.now old new (held_at was.held c.args.interval) was node outcome answers)
+    (leases-same new was node) c.report-result.ensures.answers c.report-result.ensures.kept) in search rules
+
+-- as the script does
+pub returns-clause-acted : goal.returns-clause-acted
+returns-clause-acted g c =
+    let old = c.args.book.now in
+    let new = c.report-result.new.desk.book.now in
+    let was = c.args.node.now in
+    let node = c.report-result.new.self in
+    let acted : IfOk c.report-result.result (ActsOn (steps.Report was.number c.args.interval) old was new node) =
+    ok-is c.report-result.result (λ outcome is answers. report-on c.case-case.result.now old new was node c.args.interval outcome c.case-case.ensures.case
+    c.history.ensures.lawful (λ unmarked. c.report-result.ensures.unchanged refl (λ mark marked. unmarked mark (same-answer c.report-result.result outcome _ is marked)))
+    c.requires.fits c.requires.there answers) c.report-result.ensures.answers in search rules

@@ -1,0 +1,32 @@
+use Rattle.std.proofs.Common.{ap, rules}
+use Rattle.std.specs.Prelude.{IfOk}
+use Rattle.book.specs.OwnDesks.{own_view}
+use Rattle.node.specs.Workers.{NodeView, leases_of}
+use Rattle.node.proofs.FitLaws.{grown_looked, looked_not}
+use Rattle.scripts.specs.declared.step.Step.TheVariants as steps
+use Rattle.world.specs.WorkerCalls.{ActsOn, HasCalled}
+use Rattle.world.proofs.ActsOnLaws.{resend-on}
+use Rattle.world.proofs.Results.{ok-then}
+use Rattle.world.proofs.WorkerLaws.{called-by, leases-kept}
+use Rattle.world.proofs.worker_calls.resend.Goals as goal
+
+-- the worker has called its desk
+pub returns-clause-called : goal.returns-clause-called
+returns-clause-called g c =
+    let old = c.args.book.now in
+    let was = c.args.node.now in
+    let node = c.sweep-result.new.self in
+    let called : HasCalled old old was node =
+    called-by c.case-case.result.now old old was node c.case-case.ensures.case c.sound.ensures.sound c.sound.ensures.sound
+    (grown_looked was.held (own_view old) (own_view old) (looked_not (own_view old))) c.sweep-result.ensures.fits c.sweep-result.ensures.number
+    (leases-kept old was node (ap (λ (n : NodeView). leases_of n.held) c.sweep-result.ensures.rest)) in search rules
+
+-- as the script does
+pub returns-clause-acted : goal.returns-clause-acted
+returns-clause-acted g c =
+    let old = c.args.book.now in
+    let was = c.args.node.now in
+    let node = c.sweep-result.new.self in
+    let acted : IfOk c.sweep-result.result (ActsOn (steps.Resend was.number) old was old node) =
+    ok-then c.sweep-result.result (λ outcome answers. resend-on old was node outcome c.history.ensures.lawful c.requires.fits answers)
+    c.sweep-result.ensures.answers in search rules

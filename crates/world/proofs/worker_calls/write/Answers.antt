@@ -1,0 +1,34 @@
+use Rattle.std.proofs.Common.{refl, rules}
+use Rattle.std.specs.Prelude.{IfOk}
+use Rattle.scripts.specs.declared.step.Step.TheVariants as steps
+use Rattle.world.specs.WorkerCalls.{ActsOn, HasCalled}
+use Rattle.world.proofs.ActsOnLaws.{write-on}
+use Rattle.world.proofs.Results.{ok-then}
+use Rattle.world.proofs.WorkerLaws.{by-result, called-by, leases-asked, leases-same, written-leases}
+use Rattle.node.specs.Asking.{work_asked}
+use Rattle.node.specs.Workers.{sending_of, with_written, worker_at}
+use Rattle.world.proofs.worker_calls.write.Goals as goal
+
+-- the worker has called its desk
+pub returns-clause-called : goal.returns-clause-called
+returns-clause-called g c =
+    let old = c.args.book.now in
+    let new = c.commit-result.new.desk.book.now in
+    let was = c.args.node.now in
+    let node = c.commit-result.new.self in
+    let called : HasCalled old new was node =
+    called-by c.case-case.result.now old new was node c.case-case.ensures.case c.sound.ensures.sound c.sound-2.ensures.sound
+    c.commit-result.ensures.grown c.commit-result.ensures.fits c.commit-result.ensures.number
+    (by-result c.commit-result.result (λ outcome answers. leases-asked c.case-case.result.now.topology old new (work_asked c.case-case.result.now.topology was)
+    (with_written (sending_of was) (worker_at was)) was node outcome (written-leases (sending_of was) (worker_at was)) answers)
+    (leases-same new was node) c.commit-result.ensures.answers c.commit-result.ensures.kept) in search rules
+
+-- as the script does
+pub returns-clause-acted : goal.returns-clause-acted
+returns-clause-acted g c =
+    let old = c.args.book.now in
+    let new = c.commit-result.new.desk.book.now in
+    let was = c.args.node.now in
+    let node = c.commit-result.new.self in
+    let acted : IfOk c.commit-result.result (ActsOn (steps.Write was.number) old was new node) =
+    ok-then c.commit-result.result (λ outcome answers. write-on c.case-case.result.now old new was node outcome c.case-case.ensures.case c.history.ensures.lawful c.commit-result.ensures.marks c.requires.fits answers) c.commit-result.ensures.answers in search rules
