@@ -1,11 +1,10 @@
 -- Which command the words of a command line are. Own.
-use Rattle.std.specs.Prelude.{ℕ, ◌^◌, ◌-◌, ◌&&◌, ◌||◌, Bool, true, false, if◌then◌else◌, List, [], ◌∷◌, length, codes, nat_lt, nat_le, Option, Some, None, is_some}
+use Rattle.std.specs.Prelude.{ℕ, ◌^◌, ◌-◌, ◌&&◌, ◌||◌, Bool, if◌then◌else◌, List, [], ◌∷◌, length, codes, nat_lt, nat_le, Option, Some, None, is_some}
 use Rattle.std.specs.Option.{option_map, option_and_then}
 use Rattle.std.specs.Str.{all_ascii_digits}
 use Rattle.std.specs.Str.Parse.{digits_value}
 use Rattle.command_line.specs.Words.{is_word, line_of}
 use Rattle.command_line.specs.declared.command.Inputs.{Inputs}
-use Rattle.command_line.specs.declared.command.Call.{Call}
 use Rattle.command_line.specs.declared.command.Call.TheVariants.{Solo, Replay, Load}
 use Rattle.command_line.specs.declared.command.Command.{Command}
 use Rattle.command_line.specs.declared.line.Line.{Line}

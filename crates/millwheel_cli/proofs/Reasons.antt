@@ -57,8 +57,11 @@ pub source_over : (files : Option Files) (f0 f1 f2 l0 l1 l2 file room : ℕ) (na
 source_over files f0 f1 f2 l0 l1 l2 file room [] s f l is = is
 source_over files f0 f1 f2 l0 l1 l2 file room (name ∷ names) s f l is = elim is [
   | inl first ↦ inl (file_over files f0 f1 f2 l0 l1 l2 name events_limit (source_taken file room) s f l first)
-  | inr later ↦ inr (later.0, later.1,
-      source_over files f0 f1 f2 l0 l1 l2 (file + 1) (room - length later.0) names s f l later.2)
+  | inr later ↦ inr (
+    later.0,
+    later.1,
+    source_over files f0 f1 f2 l0 l1 l2 (file + 1) (room - length later.0) names s f l later.2,
+  )
 ]
 
 -- why the topology's file was refused is why one of the files was

@@ -29,4 +29,4 @@ mark_line line = if (line + 1) % 50 == 0
 -- so many record lines by this seed, with the watermark lines between them
 abbrev pub load_text : ℕ → ℕ → List ℕ
 load_text seed zero = []
-load_text seed (suc n) = load_text seed n ++ (record_line n (drawn seed (n + 1)) ++ mark_line n)
+load_text seed (suc n) = load_text seed n ++ (record_line n (drawn seed (suc n)) ++ mark_line n)

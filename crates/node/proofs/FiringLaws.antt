@@ -1,6 +1,6 @@
 -- What a node leaves when a timer fires.
 use Rattle.std.proofs.Common.{◌≡◌, ◌∙◌, ◌<◌, ◌≤◌, ◌+◌, ◌^◌, ℕ, List, [], ◌∷◌, ◌++◌, length, refl, sym, ap, subst, arith}
-use Rattle.std.specs.Prelude.{All, IfOk, IfSome, Option, Some, None, Result, slice_get, unwrap_or}
+use Rattle.std.specs.Prelude.{All, IfErr, IfOk, IfSome, Option, Some, None, Result, slice_get, unwrap_or}
 use Rattle.std.specs.Option.{option_map}
 use Rattle.std.proofs.lemmas.List.{length-append}
 use Rattle.std.proofs.lemmas.List.Elements.{All-append}
@@ -28,7 +28,7 @@ use Rattle.book.specs.declared.proposal.Proposal.TheVariants as proposals
 use Rattle.book.proofs.ProposalLaws.{timer-suits}
 use Rattle.holdings.specs.Holding.{AreHeld, HeldView, held_at, row_held}
 use Rattle.holdings.specs.declared.first_timer.RowTimer.{RowTimer}
-use Rattle.node.specs.Answers.{AnswersFire, AnswersSome, HasGrown, IsLeastKnown, made_of}
+use Rattle.node.specs.Answers.{AnswersFire, AnswersSome, FailsFire, FailsSome, HasGrown, IsLeastKnown, made_of}
 use Rattle.node.specs.Asking.{IsNextTimer, MayAskFire, Request}
 use Rattle.node.specs.FireSteps.{HoldsFire, IsSetAt, IsTimerToFire}
 use Rattle.node.specs.Fits.{Fits, IsWork}
@@ -41,7 +41,7 @@ use Rattle.node.specs.declared.outcome.Outcome.TheVariants as outcomes
 use Rattle.node.proofs.CommitLaws.{IsAppended, committed, grown-by, leases-written, more-by, told-any}
 use Rattle.node.proofs.FitLaws.{outbox-more}
 use Rattle.node.proofs.PurgeLaws.{held-at-on, ok-answers}
-use Rattle.node.proofs.LookLaws.{some-later}
+use Rattle.node.proofs.LookLaws.{err-fails, fault-later, some-later}
 use Rattle.node.proofs.SendLaws.{made-outgoing}
 use Rattle.node.proofs.StateLaws.{state-held}
 
@@ -233,6 +233,19 @@ fire-nothing case old mid was part mark looked known none = record {
   known = known;
   answers = (λ asked may. none may.name may.timer may.next, record { looked = looked; kept = refl });
 }
+
+-- why none fires where a timer is the next
+pub fire-fails : (case : CaseShape) (old mid new : DeskView) (was : NodeView) (part mark : ℕ) (found : RowTimer)
+    (result : Result Outcome NodeFault) → HasLooked old mid → IsLeastKnown case.topology part old new mark
+    → IsNextTimer case.topology was part mark found.name found.timer
+    → IfErr result (FailsSome mid new (MayAskFire case was found.name.part mark)) → IfErr result (FailsFire case old new part was)
+fire-fails case old mid new was part mark found result looked known next fails =
+    err-fails result (FailsSome mid new (MayAskFire case was part mark)) (FailsFire case old new part was)
+    (λ fault f. record {
+      mark = mark;
+      known = known;
+      fails = fault-later old mid new (MayAskFire case was part mark) fault looked f;
+    }) (subst (λ p. IfErr result (FailsSome mid new (MayAskFire case was p mark))) next.set.of_part fails)
 
 -- the number of an entry that stands can be kept
 pub small-number : (old new : DeskView) (lease : LeaseView) (entry : Entry) (commit : ℕ) → IsSound new

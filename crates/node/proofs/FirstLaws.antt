@@ -1,6 +1,6 @@
 -- Which row of an interval a node may have forget ids first.
-use Rattle.std.proofs.Common.{◌≡◌, ◌∙◌, ◌<◌, ◌≤◌, ◌&&◌, ℕ, Bool, true, false, length, refl, sym, ap, subst, arith}
-use Rattle.std.specs.Prelude.{IfOk, IfSome, IsSome, Option, Some, None, Result, ◌==◌, if◌then◌else◌, max, nat_le, nat_lt, unwrap_or}
+use Rattle.std.proofs.Common.{◌≡◌, ◌∙◌, ◌<◌, ◌≤◌, ◌&&◌, ℕ, Bool, true, false, length, refl, sym, ap, subst, arith, inr}
+use Rattle.std.specs.Prelude.{IfErr, IfOk, IfSome, IsSome, Option, Some, None, Result, ◌==◌, if◌then◌else◌, max, nat_le, nat_lt, unwrap_or}
 use Rattle.std.specs.Ordering.{is_le, is_lt}
 use Rattle.std.specs.declared.cmp.Ordering.{Ordering}
 use Rattle.std.specs.declared.cmp.Ordering.TheVariants.{Less, Equal, Greater}
@@ -21,7 +21,7 @@ use Rattle.book.specs.Desks.{DeskView, HasLooked, IsSound}
 use Rattle.holdings.specs.Firsts.{HasPicked}
 use Rattle.holdings.specs.Holding.{HeldView, held_at, held_on}
 use Rattle.holdings.specs.Purges.{IsFirstToPurge, forgets}
-use Rattle.node.specs.Answers.{AnswersPurge, AnswersWrite, HasGrown}
+use Rattle.node.specs.Answers.{AnswersPurge, AnswersWrite, FailsAsked, FailsPurge, HasGrown}
 use Rattle.node.specs.Asking.{HasToForget, MayAskPurge, forgetting}
 use Rattle.node.specs.Fits.{Fits}
 use Rattle.node.specs.PurgeSteps.{AreRowsWithin, IsToPurge, MayForget}
@@ -30,7 +30,7 @@ use Rattle.node.specs.declared.outcome.NodeFault.{NodeFault}
 use Rattle.node.specs.declared.outcome.Outcome.{Outcome}
 use Rattle.node.specs.declared.outcome.Outcome.TheVariants as outcomes
 use Rattle.node.proofs.PurgeLaws.{held-at-on, held-on-at}
-use Rattle.node.proofs.LookLaws.{answers-later}
+use Rattle.node.proofs.LookLaws.{answers-later, err-fails, fault-later}
 use Rattle.node.proofs.PurgeLaws.{answers-some, floor-known, ok-answers}
 
 -- a row that lies in an interval is of a part that is there
@@ -203,6 +203,26 @@ purge-answers case old mid new was node interval least floor name result sound i
           (subst (MayAskPurge shape was interval least floor) same first.2)
           (answers-later shape old mid new asked (worker_at was) was node outcome looked a);
     }) (answers may.held (subst (λ (n : RowName). held_on shape was.held n ≡ Some may.held) first.3 may.there))
+
+-- and why it did not forget
+pub purge-fails : (case : CaseShape) (old mid new : DeskView) (was : NodeView) (interval least floor : ℕ) (name : RowName)
+    (result : Result Outcome NodeFault) → IsSound old → IsSound mid → HasLooked old mid → floor ≡ mid.floor
+    → HasGrown was.held mid new → IsToPurge case.topology was interval least floor (Some name)
+    → ((held : HeldView) → held_on case.topology was.held name ≡ Some held
+    → IfErr result (FailsAsked mid new (Some (forgetting held name floor))))
+    → IfErr result (FailsPurge case.topology old new interval least was)
+purge-fails case old mid new was interval least floor name result sound is looked at grown first fails =
+    let shape = case.topology in
+    let may = first.2.may in
+    let asked = forgetting may.held name floor in
+    let same : first.1 ≡ asked = may.request ∙ ap (λ (n : RowName). forgetting may.held n floor) first.3 in
+    err-fails result (FailsAsked mid new (Some asked)) (FailsPurge shape old new interval least was)
+    (λ fault f. record {
+      floor = floor;
+      known = floor-known old mid new floor sound is looked at grown.moved.floor;
+      fails = fault-later old mid new (MayAskPurge shape was interval least floor) fault looked
+          (inr (asked, subst (MayAskPurge shape was interval least floor) same first.2, f));
+    }) (fails may.held (subst (λ (n : RowName). held_on shape was.held n ≡ Some may.held) first.3 may.there))
 
 -- where there is none
 pub purge-nothing : (case : CaseShape) (old mid : DeskView) (was : NodeView) (interval least floor : ℕ) → IsSound old → IsSound mid

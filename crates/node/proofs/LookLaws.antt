@@ -8,7 +8,7 @@ use Rattle.book.specs.Books.{LeaseView}
 use Rattle.book.specs.Desks.{DeskView, HasLooked}
 use Rattle.book.specs.declared.desk_refusal.DeskRefusal.{DeskRefusal}
 use Rattle.holdings.specs.Holding.{HeldView, held_on}
-use Rattle.node.specs.Answers.{AnswersAck, AnswersAckOf, AnswersAsked, AnswersSome, AnswersWrite, FailsHeld, HasGrown, IsIdle, IsRefused, refusal_of}
+use Rattle.node.specs.Answers.{AnswersAck, AnswersAckOf, AnswersAsked, AnswersSome, AnswersWrite, FailsSome, HasGrown, IsIdle, IsRefused, refusal_of}
 use Rattle.node.specs.Asking.{Request, settling}
 use Rattle.node.specs.Workers.{NodeView, Worker, worker_at}
 use Rattle.node.specs.declared.outcome.NodeFault.{NodeFault}
@@ -89,17 +89,17 @@ some-later shape old mid new MayAsk was node outcomes.Crashed looked is = absurd
 some-later shape old mid new MayAsk was node outcomes.Nothing looked is = (is.0, idle-later old mid new was node looked is.1)
 
 -- a fault after a look
-fault-later : (old mid new : DeskView) (all : List (Option HeldView)) (fault : NodeFault) → HasLooked old mid
-    → FailsHeld mid new all fault → FailsHeld old new all fault
-fault-later old mid new all fault looked (inl want) = inl want
-fault-later old mid new all fault looked (inr is) =
-    inr (is.0, is.1, is.2, refused-later old mid new is.1.lease (refusal_of fault) looked is.3)
+pub fault-later : (old mid new : DeskView) (MayAsk : Request → Type 0) (fault : NodeFault) → HasLooked old mid
+    → FailsSome mid new MayAsk fault → FailsSome old new MayAsk fault
+fault-later old mid new MayAsk fault looked (inl want) = inl want
+fault-later old mid new MayAsk fault looked (inr is) =
+    inr (is.0, is.1, refused-later old mid new is.0.lease (refusal_of fault) looked is.2)
 
--- and of a result
-pub fails-later : (old mid new : DeskView) (all : List (Option HeldView)) (result : Result Outcome NodeFault) → HasLooked old mid
-    → IfErr result (FailsHeld mid new all) → IfErr result (FailsHeld old new all)
-fails-later old mid new all (Ok outcome) looked is = tt
-fails-later old mid new all (Err fault) looked is = fault-later old mid new all fault looked is
+-- of a result
+pub err-fails : (result : Result Outcome NodeFault) (P Q : NodeFault → Type 0) → ((fault : NodeFault) → P fault → Q fault)
+    → IfErr result P → IfErr result Q
+err-fails (Ok outcome) P Q step is = tt
+err-fails (Err fault) P Q step is = step fault is
 
 -- a look and no entry after a look
 pub looked-later : (old mid new : DeskView) (result : Result Outcome NodeFault) → HasLooked old mid → OnErr result (HasLooked mid new)

@@ -1,6 +1,6 @@
 -- What a node leaves when a row that it holds forgets ids.
 use Rattle.std.proofs.Common.{◌≡◌, ◌∙◌, ◌≤◌, ℕ, fold, List, [], ◌∷◌, ◌++◌, length, refl, sym, ap, subst, arith, inl, inr}
-use Rattle.std.specs.Prelude.{IfOk, IfSome, IsSome, Option, Some, None, Result, Ok, Err, unwrap_or}
+use Rattle.std.specs.Prelude.{IfErr, IfOk, IfSome, IsSome, Option, Some, None, Result, Ok, Err, unwrap_or}
 use Rattle.std.specs.Option.{option_and_then}
 use Rattle.std.proofs.lemmas.List.{append-nil}
 use Rattle.mw_types.specs.declared.entry.Entry.{Entry}
@@ -21,7 +21,7 @@ use Rattle.book.specs.Desks.{DeskView, HasLooked, IsSound}
 use Rattle.book.specs.declared.answers.Written.{Written}
 use Rattle.book.proofs.SeenRows.{told-then}
 use Rattle.holdings.specs.Holding.{AreHeld, HeldView, HoldsEntry, held_at, held_on, row_held}
-use Rattle.node.specs.Answers.{AnswersForget, AnswersSome, AnswersWrite, HasGrown, IsFloorKnown}
+use Rattle.node.specs.Answers.{AnswersForget, AnswersSome, AnswersWrite, FailsAsked, FailsForget, HasGrown, IsFloorKnown}
 use Rattle.node.specs.Asking.{HasToForget, MayAskForget, Request, forgetting}
 use Rattle.node.specs.Fits.{Fits, IsWork}
 use Rattle.node.specs.Workers.{NodeView, WorkView, worker_at}
@@ -30,7 +30,7 @@ use Rattle.node.specs.declared.outcome.Outcome.{Outcome}
 use Rattle.node.specs.declared.outcome.Outcome.TheVariants as outcomes
 use Rattle.node.specs.PurgeSteps.{MayForget}
 use Rattle.node.proofs.FitLaws.{HasMore, more-appended, outbox-more}
-use Rattle.node.proofs.LookLaws.{answers-later}
+use Rattle.node.proofs.LookLaws.{answers-later, err-fails, fault-later}
 
 -- ---- a row that is there
 
@@ -214,3 +214,22 @@ forget-answers case old mid new was node name least floor result sound is looked
           (subst (MayAskForget shape was least floor name) m.request m)
           (answers-later shape old mid new asked (worker_at was) was node outcome looked a);
     }) (answers m.held m.there)
+
+-- why a row did not forget
+pub forget-fails : (case : CaseShape) (old mid new : DeskView) (was : NodeView) (name : RowName) (least floor : ℕ)
+    (result : Result Outcome NodeFault) → IsSound old → IsSound mid → HasLooked old mid → floor ≡ mid.floor
+    → HasGrown was.held mid new → MayForget case.topology was least floor name
+    → ((held : HeldView) → held_on case.topology was.held name ≡ Some held
+    → IfErr result (FailsAsked mid new (Some (forgetting held name floor))))
+    → IfErr result (FailsForget case.topology old new name least was)
+forget-fails case old mid new was name least floor result sound is looked at grown may fails =
+    let m = may.1 in
+    let asked = forgetting m.held name floor in
+    let shape = case.topology in
+    err-fails result (FailsAsked mid new (Some asked)) (FailsForget shape old new name least was)
+    (λ fault f. record {
+      floor = floor;
+      known = floor-known old mid new floor sound is looked at grown.moved.floor;
+      fails = fault-later old mid new (MayAskForget shape was least floor name) fault looked
+          (inr (asked, subst (MayAskForget shape was least floor name) m.request m, f));
+    }) (fails m.held m.there)

@@ -7,7 +7,7 @@ use Rattle.book.specs.DeskReasons.{HasReason}
 use Rattle.book.specs.Desks.{DeskView, HasLooked}
 use Rattle.book.specs.declared.desk_refusal.DeskRefusal.{DeskRefusal}
 use Rattle.holdings.specs.Holding.{HeldView, IsRefusedOf, held_at}
-use Rattle.node.specs.Answers.{AnswersWrite, FailsHeld, HasKept, IsRefused, refusal_of}
+use Rattle.node.specs.Answers.{AnswersWrite, FailsAsked, FailsSome, HasKept}
 use Rattle.node.specs.Asking.{Request}
 use Rattle.node.specs.Fits.{Fits}
 use Rattle.node.specs.Steps.{HasYielded, answered}
@@ -34,15 +34,16 @@ refused-held case old new was mid node interval held asked why fits at lease loo
     (subst (λ (l : LeaseView). HasReason old new l why) (sym lease) (reason-at old new was.held interval held why at reason)) kept
     (subst (λ (n : ℕ). HasYielded case.topology n why mid node) i left)
 
--- a fault under a lease that is held
-fails-held : (old new : DeskView) (all : List (Option HeldView)) (interval : ℕ) (held : HeldView)
-    (result : Result Outcome NodeFault) → held_at all interval ≡ Some held
-    → IfErr result (λ fault. IsRefused old new held.lease (refusal_of fault)) → IfErr result (FailsHeld old new all)
-fails-held old new all interval held (Ok outcome) at is = tt
-fails-held old new all interval held (Err fault) at is = inr (interval, held, at, is)
+-- why a call failed that asked for an entry
+pub fails-at : (old new : DeskView) (all : List (Option HeldView)) (interval : ℕ) (held : HeldView) (asked : Request) (why : DeskRefusal)
+    → held_at all interval ≡ Some held → asked.lease ≡ held.lease → IsRefusedOf old new all interval why
+    → IfErr (answered why) (FailsAsked old new (Some asked))
+fails-at old new all interval held asked why at lease reason =
+    fails-refused old new asked.lease why (subst (λ (l : LeaseView). HasReason old new l why) (sym lease)
+    (reason-at old new all interval held why at reason))
 
--- why a call fails that was refused
-pub fails-at : (old new : DeskView) (all : List (Option HeldView)) (interval : ℕ) (held : HeldView) (why : DeskRefusal)
-    → held_at all interval ≡ Some held → IsRefusedOf old new all interval why → IfErr (answered why) (FailsHeld old new all)
-fails-at old new all interval held why at reason = fails-held old new all interval held (answered why) at
-    (fails-refused old new held.lease why (reason-at old new all interval held why at reason))
+-- it was one for which the node may ask
+pub fails-some : (old new : DeskView) (MayAsk : Request → Type 0) (asked : Request) (result : Result Outcome NodeFault) → MayAsk asked
+    → IfErr result (FailsAsked old new (Some asked)) → IfErr result (FailsSome old new MayAsk)
+fails-some old new MayAsk asked (Ok outcome) may is = tt
+fails-some old new MayAsk asked (Err fault) may is = inr (asked, may, is)

@@ -6,7 +6,7 @@ use Rattle.run_history.specs.Cases.{CaseShape, intervals_of}
 use Rattle.run_history.specs.Marks.{own_work}
 use Rattle.run_history.specs.Runs.{cached}
 use Rattle.watermark.specs.Marks.{mark_of}
-use Rattle.book.specs.DeskReasons.{HasReason}
+use Rattle.book.specs.DeskReasons.{HasReason, IsReportRefusal}
 use Rattle.book.specs.Desking.{IsReported}
 use Rattle.book.specs.Desks.{DeskView, HasLooked}
 use Rattle.book.specs.declared.desk_refusal.DeskRefusal.{DeskRefusal}
@@ -18,6 +18,7 @@ use Rattle.node.specs.Steps.{HasYielded, answered}
 use Rattle.node.specs.Workers.{NodeView, WorkView, worker_at}
 use Rattle.node.specs.declared.outgoing.Outgoing.{Outgoing}
 use Rattle.node.specs.declared.outcome.NodeFault.{NodeFault}
+use Rattle.node.specs.declared.outcome.NodeFault.TheVariants as faults
 use Rattle.node.specs.declared.outcome.Outcome.{Outcome}
 use Rattle.node.proofs.FitLaws.{looked_not, worker-let_go}
 
@@ -73,3 +74,12 @@ pub reason-held : (old new : DeskView) (was : List (Option HeldView)) (interval 
     → IfErr result (FailsReport old new (held_at was interval))
 reason-held old new was interval held result at is =
     subst (λ (o : Option HeldView). IfErr result (FailsReport old new o)) (sym at) is
+
+-- a report that was refused fails for want of memory alone
+pub memory-alone : (why : DeskRefusal) → IsReportRefusal why → IfErr (answered why) (λ fault. fault ≡ faults.NoMemory)
+memory-alone (refusals.Busy found) only = tt
+memory-alone (refusals.Stale newer) only = tt
+memory-alone refusals.HistoryFull only = absurd only
+memory-alone refusals.KeeperFault only = absurd only
+memory-alone (refusals.RowDamaged name bytes) only = absurd only
+memory-alone refusals.NoMemory only = refl

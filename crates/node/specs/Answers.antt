@@ -83,11 +83,10 @@ abbrev pub FailsAsked : DeskView → DeskView → Option Request → NodeFault �
 FailsAsked old new None why = why ≡ faults.NoMemory
 FailsAsked old new (Some asked) why = IsRefused old new asked.lease (refusal_of why)
 
--- a call fails for want of memory, or as its desk does under a lease that is held
-abbrev pub FailsHeld : DeskView → DeskView → List (Option HeldView) → NodeFault → Type 0
-FailsHeld old new all why = (why ≡ faults.NoMemory)
-    ⊎ (interval : ℕ) × (held : HeldView) × (held_at all interval ≡ Some held)
-    × IsRefused old new held.lease (refusal_of why)
+-- a call fails for want of memory, or as its desk does where it asked for an entry for which it may ask
+abbrev pub FailsSome : DeskView → DeskView → (Request → Type 0) → NodeFault → Type 0
+FailsSome old new MayAsk why = (why ≡ faults.NoMemory)
+    ⊎ (asked : Request) × MayAsk asked × IsRefused old new asked.lease (refusal_of why)
 
 -- ---- what a call answers that asks for an entry
 
@@ -248,6 +247,27 @@ pub record AnswersForget (shape : Shape) (old new : DeskView) (name : RowName) (
   pub floor : ℕ
   pub known : IsFloorKnown old new floor
   pub answers : AnswersSome shape old new (MayAskForget shape was many floor name) was node outcome
+
+-- why no timer of a part fires that may fire under the least mark that is known of the part
+pub record FailsFire (case : CaseShape) (old new : DeskView) (part : ℕ) (was : NodeView)
+    (why : NodeFault) : Type 0 where
+  pub mark : ℕ
+  pub known : IsLeastKnown case.topology part old new mark
+  pub fails : FailsSome old new (MayAskFire case was part mark) why
+
+-- why no row of an interval forgets ids that may forget them under the known floor
+pub record FailsPurge (shape : Shape) (old new : DeskView) (interval many : ℕ) (was : NodeView)
+    (why : NodeFault) : Type 0 where
+  pub floor : ℕ
+  pub known : IsFloorKnown old new floor
+  pub fails : FailsSome old new (MayAskPurge shape was interval many floor) why
+
+-- why a row forgets no ids that may forget them under the known floor
+pub record FailsForget (shape : Shape) (old new : DeskView) (name : RowName) (many : ℕ)
+    (was : NodeView) (why : NodeFault) : Type 0 where
+  pub floor : ℕ
+  pub known : IsFloorKnown old new floor
+  pub fails : FailsSome old new (MayAskForget shape was many floor name) why
 
 -- the own work of what is held of an interval is reported, and the interval's mark is answered
 pub record IsMarked (case : CaseShape) (old new : DeskView) (held : HeldView) (was node : NodeView)

@@ -4,7 +4,7 @@ ghost use Rattle.std.specs.Ordering.{is_lt};
 ghost use Rattle.run_history.specs.Cases.{intervals_of};
 ghost use Rattle.book.specs.Desking.{IsDueKnown};
 ghost use Rattle.book.specs.Desks.{HasLooked, KeepsMarks};
-ghost use Rattle.node.specs.Answers.{AnswersFire, AnswersSome, FailsHeld, HasGrown, HasKept};
+ghost use Rattle.node.specs.Answers.{AnswersFire, AnswersSome, FailsFire, FailsSome, HasGrown, HasKept};
 ghost use Rattle.node.specs.Fits.{Fits};
 ghost use Rattle.holdings.specs.Holding.{AreHeld, IsRefusedOf, KeepsHeld};
 ghost use Rattle.holdings.specs.Timers.{due_cmp, pair_of};
@@ -51,8 +51,8 @@ impl<N: Seen> Node<N> {
 
         ensures kept { OnErr result (HasKept self.old self.new) }
         ensures looked { OnErr result (HasLooked (D.view desk.old) (D.view desk.new)) }
-        ensures fault { IfErr result
-            (FailsHeld (D.view desk.old) (D.view desk.new) self.old.held) }
+        ensures fault { IfErr result (FailsFire case.now
+            (D.view desk.old) (D.view desk.new) part self.old) }
 
         ensures grown { HasGrown self.old.held (D.view desk.old) (D.view desk.new) }
         ensures marks { KeepsMarks (D.view desk.old) (D.view desk.new) }
@@ -118,8 +118,8 @@ impl<N: Seen> Node<N> {
 
         ensures kept { OnErr result (HasKept self.old self.new) }
         ensures looked { OnErr result (HasLooked (D.view desk.old) (D.view desk.new)) }
-        ensures fault { IfErr result
-            (FailsHeld (D.view desk.old) (D.view desk.new) self.old.held) }
+        ensures fault { IfErr result (FailsSome (D.view desk.old) (D.view desk.new)
+            (MayAskFire case.now self.old found.now.name.part mark)) }
 
         ensures grown { HasGrown self.old.held (D.view desk.old) (D.view desk.new) }
         ensures marks { KeepsMarks (D.view desk.old) (D.view desk.new) }

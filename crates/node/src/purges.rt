@@ -3,7 +3,7 @@ ghost use Rattle.std.specs.Prelude.{◌≡◌, ◌<◌, ◌≤◌, ◌↔◌, If
 ghost use Rattle.topology.specs.Shapes.{Shape, parts_of};
 ghost use Rattle.book.specs.Desks.{HasLooked, KeepsMarks};
 ghost use Rattle.holdings.specs.Holding.{HeldView, held_at, held_on};
-ghost use Rattle.node.specs.Answers.{AnswersForget, AnswersPurge, AnswersWrite, FailsHeld, HasGrown, HasKept};
+ghost use Rattle.node.specs.Answers.{AnswersForget, AnswersPurge, AnswersWrite, FailsAsked, FailsForget, FailsPurge, HasGrown, HasKept};
 ghost use Rattle.node.specs.Asking.{HasToForget, MayAskForget, Request, forgetting};
 ghost use Rattle.node.specs.Fits.{Fits};
 ghost use Rattle.node.specs.PurgeSteps.{AreRowsWithin, IsToPurge, MayForget};
@@ -39,8 +39,8 @@ impl<N: Seen> Node<N> {
 
         ensures kept { OnErr result (HasKept self.old self.new) }
         ensures looked { OnErr result (HasLooked (D.view desk.old) (D.view desk.new)) }
-        ensures fault { IfErr result
-            (FailsHeld (D.view desk.old) (D.view desk.new) self.old.held) }
+        ensures fault { IfErr result (FailsForget case.now.topology
+            (D.view desk.old) (D.view desk.new) name.now least self.old) }
 
         ensures grown { HasGrown self.old.held (D.view desk.old) (D.view desk.new) }
         ensures marks { KeepsMarks (D.view desk.old) (D.view desk.new) }
@@ -75,8 +75,8 @@ impl<N: Seen> Node<N> {
 
         ensures kept { OnErr result (HasKept self.old self.new) }
         ensures looked { OnErr result (HasLooked (D.view desk.old) (D.view desk.new)) }
-        ensures fault { IfErr result
-            (FailsHeld (D.view desk.old) (D.view desk.new) self.old.held) }
+        ensures fault { IfErr result (FailsPurge case.now.topology
+            (D.view desk.old) (D.view desk.new) interval least self.old) }
 
         ensures grown { HasGrown self.old.held (D.view desk.old) (D.view desk.new) }
         ensures marks { KeepsMarks (D.view desk.old) (D.view desk.new) }
@@ -158,8 +158,10 @@ impl<N: Seen> Node<N> {
 
         ensures kept { OnErr result (HasKept self.old self.new) }
         ensures looked { OnErr result (HasLooked (D.view desk.old) (D.view desk.new)) }
-        ensures fault { IfErr result
-            (FailsHeld (D.view desk.old) (D.view desk.new) self.old.held) }
+        ensures fault { (held : HeldView) →
+            held_on case.now.topology self.old.held name.now ≡ Some held →
+            IfErr result (FailsAsked (D.view desk.old) (D.view desk.new)
+            (Some (forgetting held name.now floor))) }
 
         ensures grown { HasGrown self.old.held (D.view desk.old) (D.view desk.new) }
         ensures marks { KeepsMarks (D.view desk.old) (D.view desk.new) }

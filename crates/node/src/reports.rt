@@ -35,6 +35,7 @@ impl<N: Seen> Node<N> {
         ensures kept { OnErr result (HasKept self.old self.new) }
         ensures fault { let held = held_at self.old.held interval in
             IfErr result (FailsReport (D.view desk.old) (D.view desk.new) held) }
+        ensures memory { IfErr result (λ fault. fault ≡ NodeFault.NoMemory) }
 
         ensures looked { HasLooked (D.view desk.old) (D.view desk.new) }
         ensures grown { HasGrown self.old.held (D.view desk.old) (D.view desk.new) }

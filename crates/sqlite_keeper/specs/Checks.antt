@@ -1,5 +1,5 @@
 -- Which rows of a database may be answered. No public clause cites this module.
-use Rattle.std.specs.Prelude.{ℕ, ◌&&◌, Bool, true, List, [], ◌∷◌}
+use Rattle.std.specs.Prelude.{◌&&◌, Bool, true, List, [], ◌∷◌}
 use Rattle.std.specs.List.{list_all}
 use Rattle.std.specs.Ordering.{is_lt}
 use Rattle.mw_types.specs.Orders.{row_cmp}

@@ -26,7 +26,7 @@ use Rattle.world.proofs.TurnLaws.{stepped-on}
 -- ---- where the rows are told
 
 -- what holds where the rows are told holds of them
-told-rows : {X : Type 0} {F : Type 0} (o : Option X) → (IsSome o → F) → IfSome o (λ _. F)
+pub told-rows : {X : Type 0} {F : Type 0} (o : Option X) → (IsSome o → F) → IfSome o (λ _. F)
 told-rows None f = tt
 told-rows (Some x) f = f refl
 

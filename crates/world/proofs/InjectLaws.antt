@@ -224,7 +224,7 @@ module _ (book : BookView) (node : NodeView) (at : IsAtWork book node) (told : I
       (less, there-line book.case node other (omega (arith, cursor, lines)))
 
   -- the injector that was found has a line left, and comes first
-  found-first : (part : ℕ) → IsNextInjector book.case node (injectors_of book.case.topology) (Some part)
+  pub found-first : (part : ℕ) → IsNextInjector book.case node (injectors_of book.case.topology) (Some part)
       → Contains (injectors_left book.case run) part × ((other : ℕ) → Contains (injectors_left book.case run) other
       → is_gt (ordering_then (nat_cmp (cursor_of book.case run part) (cursor_of book.case run other)) (nat_cmp part other)) ≡ false)
   found-first part (None, best, is) = absurd (none_some part (sym is))

@@ -25,6 +25,7 @@ pub mod PurgeLoop
 pub mod FireLoop
 pub mod Results
 pub mod DrainLaws
+pub mod FullLaws
 pub mod deeds
 pub mod StandLaws
 pub mod WorkerLaws

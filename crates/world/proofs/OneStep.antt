@@ -179,7 +179,7 @@ module _ (case : CaseShape) (from : ℕ) (history : List Entry) where
       (same.0, sym x.to_row ∙ ap (λ (d : Delivery). d.to) one ∙ y.to_row)
 
   -- nothing is least where nothing is unacknowledged
-  none_least : (id : RecordId) (sender : RowName) → IsLeastSent case.topology run id sender → HasAcknowledged case from history → ⊥
+  pub none_least : (id : RecordId) (sender : RowName) → IsLeastSent case.topology run id sender → HasAcknowledged case from history → ⊥
   none_least id sender least done = none (subst (λ l. IsSome (found_delivery id l)) (none-row_of case.topology run sender done.none_pending)
       least.pending)
     where

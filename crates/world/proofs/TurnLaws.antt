@@ -22,7 +22,7 @@ use Rattle.book.specs.declared.desk_refusal.DeskRefusal.TheVariants as refusals
 use Rattle.book.specs.declared.proposal.Proposal.{Proposal}
 use Rattle.book.specs.declared.proposal.Proposal.TheVariants as proposals
 use Rattle.holdings.specs.Holding.{HeldView, held_at, held_on}
-use Rattle.node.specs.Answers.{AnswersAsked, AnswersSome, AnswersWrite, FailsAsked, FailsHeld, HasKept, IsRefused, refusal_of}
+use Rattle.node.specs.Answers.{AnswersAsked, AnswersSome, AnswersWrite, FailsAsked, FailsSome, HasKept, IsRefused, refusal_of}
 use Rattle.node.specs.Asking.{Request}
 use Rattle.node.specs.Fits.{Fits, IsWork}
 use Rattle.node.specs.Workers.{NodeView, WorkView, Worker, leases_of, sending_in, sending_of, worker_at}
@@ -352,11 +352,11 @@ pub failed-asked : (old new : BookView) (asked : Option Request) (why : NodeFaul
 failed-asked old new None why looked fails = subst (HasFailed old new) (sym fails) (failed-memory old new looked)
 failed-asked old new (Some asked) why looked fails = failed-refused old new asked.lease why looked fails
 
--- a fault of a call under a lease that is held
-pub failed-held : (old new : BookView) (all : List (Option HeldView)) (why : NodeFault) → HasLooked (own_view old) (own_view new)
-    → FailsHeld (own_view old) (own_view new) all why → HasFailed old new why
-failed-held old new all why looked (inl fails) = subst (HasFailed old new) (sym fails) (failed-memory old new looked)
-failed-held old new all why looked (inr (interval, held, at, refused)) = failed-refused old new held.lease why looked refused
+-- a fault of a call that asked for some entry
+pub failed-some : (old new : BookView) (MayAsk : Request → Type 0) (why : NodeFault) → HasLooked (own_view old) (own_view new)
+    → FailsSome (own_view old) (own_view new) MayAsk why → HasFailed old new why
+failed-some old new MayAsk why looked (inl fails) = subst (HasFailed old new) (sym fails) (failed-memory old new looked)
+failed-some old new MayAsk why looked (inr (asked, may, refused)) = failed-refused old new asked.lease why looked refused
 
 -- a fault of a claim
 pub failed-claim : (old new : BookView) (why : NodeFault) → HasLooked (own_view old) (own_view new)

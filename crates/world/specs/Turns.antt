@@ -150,6 +150,18 @@ pub record IsDrainingOn (start book : BookView) (node : NodeView) : Type 0 where
   pub goes : WhereTold start ((from : ℕ) → HasClaimedAll start.case from start.history →
       IsDraining start.case from start.history → IsDraining start.case from book.history)
 
+-- no drain has ended at a history
+abbrev pub IsUnended : CaseShape → List Entry → Type 0
+IsUnended case history = (from : ℕ) → HasEnded case from history → ⊥
+
+-- a call fails since the history is full only where it asked for an entry for which it may ask
+abbrev pub IsFullAsking : (Request → Type 0) → NodeFault → Type 0
+IsFullAsking MayAsk why = why ≡ faults.HistoryFull → (asked : Request) × MayAsk asked
+
+-- a call fails since the history is full only where no drain has ended; so where told
+abbrev pub IsFullUnended : BookView → NodeFault → Type 0
+IsFullUnended book why = why ≡ faults.HistoryFull → WhereTold book (IsUnended book.case book.history)
+
 -- whether an entry was written
 abbrev pub is_committed : Outcome → Bool
 is_committed (outcomes.Committed commit) = true

@@ -28,6 +28,8 @@ pub(crate) fn claim_all<'a, K: Keeper>(
     ensures gone { HasGone book.old book.new }
     ensures draining { IsDraining book.old.case (length book.old.history) book.new.history }
     ensures failed { IfErr result (HasFailedIn book.old book.new) }
+    ensures short { OnErr result
+        (HasClaimedAll book.old.case (length book.old.history) book.new.history → ⊥) }
 {
     let case = book.case();
     for interval in 0..case.intervals().count() {

@@ -8,7 +8,7 @@ ghost use Rattle.book.specs.DeskReasons.{IsDamageOf};
 ghost use Rattle.book.specs.OwnDesks.{own_view};
 ghost use Rattle.node.specs.Answers.{refusal_of};
 ghost use Rattle.world.specs.Drains.{HasClaimedAll, HasEnded, IsDraining};
-ghost use Rattle.world.specs.Turns.{HasFailed, HasGone, HasStepped, HasTurned, IsAtWork, IsEndOf, WhereTold};
+ghost use Rattle.world.specs.Turns.{HasFailed, HasGone, HasStepped, HasTurned, IsAtWork, IsEndOf, IsUnended, WhereTold};
 
 use crate::claiming::claim_all;
 use crate::turns::turn;
@@ -45,6 +45,10 @@ pub fn drain<'a, K: Keeper, C: Computation>(
         Rose book.old.faults book.new.faults }
     ensures full { result ≡ Err NodeFault.HistoryFull →
         length book.new.history ≡ book.new.limit }
+
+    // Where a contract can see the keeper's rows, it is full only before the drain has ended.
+    ensures more { result ≡ Err NodeFault.HistoryFull → IfSome book.old.rows
+        (λ _. HasEnded book.old.case (length book.old.history) book.new.history → ⊥) }
     ensures damaged { IfErr result (λ why. IsDamageOf (own_view book.new) (refusal_of why)) }
 {
     let mut node = Node::new(alloc, 0);
@@ -74,6 +78,8 @@ fn turn_all<'a, K: Keeper, C: Computation>(
         Rose book.old.faults book.new.faults }
     ensures full { result ≡ Err NodeFault.HistoryFull →
         length book.new.history ≡ book.new.limit }
+    ensures more { result ≡ Err NodeFault.HistoryFull →
+        WhereTold book.old (IsUnended book.old.case book.new.history) }
     ensures damaged { IfErr result (λ why. IsDamageOf (own_view book.new) (refusal_of why)) }
 {
     while turn(alloc, book, work, node)? {}

@@ -11,7 +11,7 @@ ghost use Rattle.book.specs.Lawful.{IsLawful};
 ghost use Rattle.watermark.specs.Marks.{marks_of};
 ghost use Rattle.node.specs.Asking.{MayAskFire};
 ghost use Rattle.world.specs.Passes.{pass_of};
-ghost use Rattle.world.specs.Turns.{AreExact, HasAskedOne, HasFailed, HasReported, HasStepped, HasTurned, IsAtWork, IsQuiet, IsQuietAt, IsSettled, WhereTold};
+ghost use Rattle.world.specs.Turns.{AreExact, HasAskedOne, HasFailed, HasReported, HasStepped, HasTurned, IsAtWork, IsFullAsking, IsFullUnended, IsQuiet, IsQuietAt, IsSettled, WhereTold};
 
 use crate::settling::is_committed;
 use book::{Book, OwnDesk};
@@ -32,6 +32,7 @@ pub(crate) fn report_all<'a, K: Keeper>(
     ensures passed { OnOk result (WhereTold book.old (book.new.marks
         ≡ pass_of book.old.case (run_of book.old.case.topology book.old.history) book.old.marks)) }
     ensures failed { IfErr result (HasFailed book.old book.new) }
+    ensures memory { IfErr result (λ why. why ≡ NodeFault.NoMemory) }
 {
     let case = book.case();
     for interval in 0..case.intervals().count() {
@@ -53,6 +54,7 @@ fn report<'a, K: Keeper>(
     ensures at_work { OnOk result (IsAtWork book.new node.new) }
     ensures reported { OnOk result (WhereTold book.old (HasReported book.old book.new interval)) }
     ensures failed { IfErr result (HasFailed book.old book.new) }
+    ensures memory { IfErr result (λ why. why ≡ NodeFault.NoMemory) }
 {
     let case = book.case();
     // Every topology keeps the rules that intervals need.
@@ -79,6 +81,7 @@ pub(crate) fn fire_first<'a, K: Keeper, C: Computation>(
     ensures quiet { IfOk result (λ more. more ≡ false →
         WhereTold book.old (IsQuiet book.old.case book.old.history)) }
     ensures failed { IfErr result (HasFailed book.old book.new) }
+    ensures unended { IfErr result (IsFullUnended book.old) }
 {
     // Its clauses say what always holds of a book.
     book.history();
@@ -111,6 +114,9 @@ fn fire<'a, K: Keeper, C: Computation>(
     ensures marks { OnOk result (book.new.marks ≡ book.old.marks) }
     ensures at_work { OnOk result (IsAtWork book.new node.new) }
     ensures failed { IfErr result (HasFailed book.old book.new) }
+    ensures asking { let case = book.old.case in
+        let mark = least (marks_of case.topology part book.old.marks) in
+        IfErr result (IsFullAsking (MayAskFire case node.old part mark)) }
 {
     // Its clauses say what always holds of a book.
     book.history();

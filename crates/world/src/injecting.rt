@@ -4,7 +4,7 @@ ghost use Rattle.topology.specs.Shapes.{injectors_of};
 ghost use Rattle.run_history.specs.Cases.{source_of};
 ghost use Rattle.run_history.specs.Watermarks.{cursor_in};
 ghost use Rattle.node.specs.Asking.{line_asked};
-ghost use Rattle.world.specs.Turns.{HasAsked, HasFailed, HasTurned, IsAtWork, IsInjected, IsNextInjector, IsQuiet, IsSettled, WhereTold, cursor_at, lesser_line, line_at};
+ghost use Rattle.world.specs.Turns.{HasAsked, HasFailed, HasTurned, IsAtWork, IsFullUnended, IsInjected, IsNextInjector, IsQuiet, IsSettled, WhereTold, cursor_at, lesser_line, line_at};
 
 use crate::settling::is_committed;
 use book::{Book, OwnDesk};
@@ -28,6 +28,7 @@ pub(crate) fn inject_next<'a, K: Keeper>(
     ensures injected { IfOk result (λ more. more ≡ false →
         WhereTold book.old (IsInjected book.old.case book.old.history)) }
     ensures failed { IfErr result (HasFailed book.old book.new) }
+    ensures unended { IfErr result (IsFullUnended book.old) }
 {
     let case = book.case();
     match next_injector(alloc, case, node) {

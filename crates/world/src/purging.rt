@@ -6,7 +6,7 @@ ghost use Rattle.book.specs.Books.{core_of};
 ghost use Rattle.book.specs.Lawful.{IsLawful};
 ghost use Rattle.run_history.specs.Runs.{run_of};
 ghost use Rattle.node.specs.Asking.{MayAskPurge};
-ghost use Rattle.world.specs.Turns.{HasAskedOne, HasFailed, HasTurned, IsAtWork, IsEndOf, IsInjected, IsQuiet, IsSettled, WhereTold};
+ghost use Rattle.world.specs.Turns.{HasAskedOne, HasFailed, HasTurned, IsAtWork, IsEndOf, IsFullAsking, IsFullUnended, IsInjected, IsQuiet, IsSettled, WhereTold};
 
 use crate::settling::is_committed;
 use book::{Book, OwnDesk};
@@ -29,6 +29,7 @@ pub(crate) fn purge_first<'a, K: Keeper>(
     ensures ended { IfOk result (λ more. more ≡ false →
         WhereTold book.old (IsEndOf book.old.case book.old.history)) }
     ensures failed { IfErr result (HasFailed book.old book.new) }
+    ensures unended { IfErr result (IsFullUnended book.old) }
 {
     // Its clauses say what always holds of a book.
     book.history();
@@ -58,6 +59,9 @@ fn purge<'a, K: Keeper>(
     ensures lawful { IsLawful book.old.case (core_of book.old) }
     ensures at_work { OnOk result (IsAtWork book.new node.new) }
     ensures failed { IfErr result (HasFailed book.old book.new) }
+    ensures asking { let shape = book.old.case.topology in
+        let floor = floor_of (run_of shape book.old.history) in
+        IfErr result (IsFullAsking (MayAskPurge shape node.old interval 1 floor)) }
 {
     // Its clauses say what always holds of a book.
     book.history();

@@ -1,7 +1,7 @@
 //! One turn of a drain.
 ghost use Rattle.std.specs.Prelude.{◌≡◌, ◌<◌, ◌-◌, ℕ, IfErr, IfOk, OnOk, false, true, length};
 ghost use Rattle.node.specs.Works.{IsWorkOf};
-ghost use Rattle.world.specs.Turns.{HasFailed, HasTurned, IsAtWork, IsEndOf, IsSettled, WhereTold};
+ghost use Rattle.world.specs.Turns.{HasFailed, HasTurned, IsAtWork, IsEndOf, IsFullUnended, IsSettled, WhereTold};
 
 use crate::firing::{fire_first, report_all};
 use crate::injecting::inject_next;
@@ -31,6 +31,7 @@ pub(crate) fn turn<'a, K: Keeper, C: Computation>(
     ensures nearer { IfOk result (λ more. more ≡ true →
         book.new.limit - length book.new.history < book.old.limit - length book.old.history) }
     ensures failed { IfErr result (HasFailed book.old book.new) }
+    ensures unended { IfErr result (IsFullUnended book.old) }
 {
     let turned = turn_once(alloc, book, work, node)?;
     // Its clauses say that the history is within its limit.
@@ -53,6 +54,7 @@ fn turn_once<'a, K: Keeper, C: Computation>(
     ensures ended { IfOk result (λ more. more ≡ false →
         WhereTold book.old (IsEndOf book.old.case book.old.history)) }
     ensures failed { IfErr result (HasFailed book.old book.new) }
+    ensures unended { IfErr result (IsFullUnended book.old) }
 {
     let Some((id, sender)) = book.least_sent() else {
         return go_on(alloc, book, work, node);
@@ -77,6 +79,7 @@ fn go_on<'a, K: Keeper, C: Computation>(
     ensures ended { IfOk result (λ more. more ≡ false →
         WhereTold book.old (IsEndOf book.old.case book.old.history)) }
     ensures failed { IfErr result (HasFailed book.old book.new) }
+    ensures unended { IfErr result (IsFullUnended book.old) }
 {
     // Its clauses say what always holds of a book.
     book.history();

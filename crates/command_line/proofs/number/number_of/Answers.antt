@@ -1,6 +1,4 @@
-use Rattle.std.proofs.Common.{◌∙◌, ap, rules}
-use Rattle.std.specs.Prelude.{if◌then◌else◌, Some, None}
-use Rattle.std.specs.Str.Parse.{digits_value}
+use Rattle.std.proofs.Common.{rules}
 use Rattle.command_line.proofs.Numbers.{number_parses}
 use Rattle.command_line.proofs.number.number_of.Goals as goal
 

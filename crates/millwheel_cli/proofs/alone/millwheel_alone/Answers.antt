@@ -27,4 +27,28 @@ returns-in-Ok-read_task-clause-answer g c held rows told seen_rows well kept wri
     c.run.ensures.keeper_fault c.run.ensures.sink_fault c.run.ensures.tells told seen_rows well kept written
 
 pub returns-in-Ok-clause-answer : goal.returns-in-Ok-clause-answer
-returns-in-Ok-clause-answer g c held rows told seen_rows well kept written = ?
+returns-in-Ok-clause-answer g c held rows told seen_rows well kept written =
+    let seen : ShelfSeen = record {
+      files = g.S.Shelf.files c.args.shelf.now;
+      faults = (g.S.Shelf.faults c.args.shelf.now, g.S.Shelf.faults c.read_task.new.shelf);
+      lacks = (g.S.Shelf.lacks c.args.shelf.now, g.S.Shelf.lacks c.read_task.new.shelf);
+    } in
+    let left : Left = record {
+      rows = (g.K.Keeper.rows c.args.keeper, g.K.Keeper.rows c.unbegun.result.keeper);
+      text = (g.O.Sink.text c.args.out.now, g.O.Sink.text c.args.out.now);
+      history = c.unbegun.result.history;
+    } in
+    let is = c.unbegun.ensures.status ∙ c.status_of.ensures in
+    let unbegun : IsUnbegun left = record {
+      empty = c.unbegun.ensures.history;
+      same_rows = ap g.K.Keeper.rows c.unbegun.ensures.keeper;
+      unwritten = refl;
+    } in
+    let reason = subst (λ s. HasReason seen c.args.words.now s) (sym is)
+    (call_reason seen c.args.words.now c.in-Ok.command c.in-Err-read_task.refusal c.in-Ok.ensures.command
+    c.in-Err-read_task.ensures.refused) in
+    let leaves = subst (λ s. HasLeft seen.files c.args.words.now left s) (sym is)
+    (left_of_refusal seen.files c.args.words.now left c.in-Err-read_task.refusal unbegun) in
+    told_answer seen c.args.words.now left _ _ _ _ held rows c.unbegun.result.status reason leaves
+    (λ e. absurd (refusal_keeper _ (sym is ∙ e))) (λ e. absurd (refusal_sink _ (sym is ∙ e)))
+    (ap is_some unbegun.same_rows) told seen_rows well kept written

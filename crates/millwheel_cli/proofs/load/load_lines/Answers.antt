@@ -1,12 +1,10 @@
-use Rattle.std.proofs.Common.{◌∙◌, ap}
-use Rattle.millwheel_cli.specs.Loads.{drawn_after}
-use Rattle.millwheel_cli.proofs.Loading.{load_text_next}
+use Rattle.millwheel_cli.proofs.Loading.{drawn_next, load_text_next}
 use Rattle.millwheel_cli.proofs.load.load_lines.Goals as goal
 
 pub loop-line-preserved : goal.loop-line-preserved
 loop-line-preserved c =
     let l = c.loop-line in
-    let draws = c.drawn_after-number.ensures.drawn ∙ ap drawn_after l.invariant.number in
+    let draws = drawn_next c.args.seed l.line l.number _ l.invariant.number c.drawn_after-number.ensures.drawn in
     record {
       number = draws;
       range = c.drawn_after-number.ensures.range;

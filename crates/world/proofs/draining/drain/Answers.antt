@@ -2,6 +2,7 @@ use Rattle.std.proofs.Common.{ap, refl}
 use Rattle.book.specs.OwnDesks.{own_view}
 use Rattle.node.specs.Workers.{Worker}
 use Rattle.world.proofs.DrainLaws.{ends-after, goes-after, goes-before, rose-after}
+use Rattle.world.proofs.FullLaws.{full-after, full-before}
 use Rattle.world.proofs.GoLaws.{gone-on}
 use Rattle.world.proofs.Results.{ok-then}
 use Rattle.world.proofs.TurnLaws.{free-of}
@@ -63,3 +64,13 @@ returns-clause-faults g c =
 pub returns-clause-keeper_fault : goal.returns-clause-keeper_fault
 returns-clause-keeper_fault g c = λ is.
     rose-after c.args.book.now c.claim_all.new.book c.turn_all.new.book c.claim_all.ensures.gone (c.turn_all.ensures.keeper_fault is)
+
+-- a drain that is full at its claims has not ended
+pub returns-in_err-claim_all-clause-more : goal.returns-in_err-claim_all-clause-more
+returns-in_err-claim_all-clause-more g c = λ is.
+    full-before c.args.book.now c.claim_all.new.book c.in_err-claim_all.ensures.short
+
+-- nor has one that is full later
+pub returns-clause-more : goal.returns-clause-more
+returns-clause-more g c = λ is.
+    full-after c.args.book.now c.claim_all.new.book c.turn_all.new.book c.claim_all.ensures.gone (c.turn_all.ensures.more is)

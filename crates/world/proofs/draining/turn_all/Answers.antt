@@ -2,6 +2,7 @@ use Rattle.std.proofs.Common.{rules, subst, sym}
 use Rattle.std.specs.Prelude.{None}
 use Rattle.world.specs.Drains.{IsDraining}
 use Rattle.world.specs.Turns.{HasTurned}
+use Rattle.world.proofs.FullLaws.{turns-full}
 use Rattle.world.proofs.GoLaws.{drains-end, drains-first, drains-on, gone-step}
 use Rattle.world.proofs.draining.turn_all.Goals as goal
 
@@ -44,3 +45,9 @@ pub returns-in_err-turn-clause-draining : goal.returns-in_err-turn-clause-draini
 returns-in_err-turn-clause-draining g c = λ told from claimed draining.
     subst (IsDraining c.args.book.now.case from) (sym c.in_err-turn.ensures.failed.stepped.appended)
     (c.loop.invariant.goes told from claimed draining)
+
+-- which has not ended where the history is full
+pub returns-in_err-turn-clause-more : goal.returns-in_err-turn-clause-more
+returns-in_err-turn-clause-more g c = λ full.
+    turns-full c.args.book.now c.loop.book c.turn.new.book c.loop.node c.in_err-turn.field-0.0 c.loop.invariant
+    c.in_err-turn.ensures.failed c.in_err-turn.ensures.unended (search rules)

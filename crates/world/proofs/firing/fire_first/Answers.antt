@@ -1,10 +1,13 @@
 use Rattle.std.proofs.Common.{arith, false, rules, subst, true}
+use Rattle.std.specs.Prelude.{IfErr}
 use Rattle.run_history.specs.Watermarks.{least}
 use Rattle.watermark.specs.Marks.{marks_of}
 use Rattle.node.specs.Asking.{MayAskFire}
 use Rattle.node.specs.Messages.{IsComputation}
-use Rattle.world.specs.Turns.{HasAskedOne}
+use Rattle.world.specs.Turns.{HasAskedOne, IsFullAsking}
+use Rattle.world.proofs.FullLaws.{firing-full}
 use Rattle.world.proofs.FireLoop.{firing-first, firing-on, firing-quiet, firing-turned}
+use Rattle.world.proofs.Results.{err-then}
 use Rattle.world.proofs.firing.fire_first.Goals as goal
 
 -- no injector has a timer
@@ -43,3 +46,17 @@ pub returns-clause-quiet : goal.returns-clause-quiet
 returns-clause-quiet g c = λ none told.
     firing-quiet c.args.book.now c.loop-part.book c.loop-part.node c.loop-part.part (search (rules, arith))
     c.loop-part.invariant (search rules) told
+
+-- a timer that fails since the history is full was due
+pub returns-in_err-more-clause-unended : goal.returns-in_err-more-clause-unended
+returns-in_err-more-clause-unended g c =
+    let r = c.from_residual.result in
+    let start = c.args.book.now in
+    let old = c.loop-part.book in
+    let was = c.loop-part.node in
+    let part = c.loop-part.part in
+    let is : IsComputation old.case.topology part = search (rules, arith) in
+    let asking : IfErr r (IsFullAsking (MayAskFire old.case was part (least (marks_of old.case.topology part old.marks)))) =
+    search rules in
+    err-then r (λ why a. firing-full start old was part why c.loop-part.invariant c.fire.ensures.lawful c.requires.settled
+    c.requires.exact is a) asking

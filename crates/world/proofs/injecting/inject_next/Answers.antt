@@ -3,8 +3,9 @@ use Rattle.std.specs.Prelude.{None, Some}
 use Rattle.topology.specs.Shapes.{injectors_of}
 use Rattle.world.specs.Turns.{IsNextInjector}
 use Rattle.world.proofs.GoLaws.{turned-stayed}
+use Rattle.world.proofs.FullLaws.{line-unended}
 use Rattle.world.proofs.InjectLaws.{inject-none, inject-turned}
-use Rattle.world.proofs.Results.{ok-then}
+use Rattle.world.proofs.Results.{err-then, ok-then}
 use Rattle.world.proofs.TurnLaws.{stepped-not}
 use Rattle.world.proofs.injecting.inject_next.Goals as goal
 
@@ -34,3 +35,11 @@ returns-in-None-clause-injected g c =
     let old = c.args.book.now in
     let next : IsNextInjector old.case c.args.node.now (injectors_of old.case.topology) None = search rules in
     λ none_more told. inject-none old old c.args.node.now None false c.requires.at_work told next tt refl
+
+-- a line is left where one was to be injected
+pub returns-in-Some-clause-unended : goal.returns-in-Some-clause-unended
+returns-in-Some-clause-unended g c =
+    let old = c.args.book.now in
+    let next : IsNextInjector old.case c.args.node.now (injectors_of old.case.topology) (Some c.in-Some.part) = search rules in
+    err-then c.inject.result (λ why failed full. line-unended old c.args.node.now c.in-Some.part c.requires.at_work next)
+    c.inject.ensures.failed

@@ -1,9 +1,12 @@
 use Rattle.std.proofs.Common.{arith, false, rules, subst, true}
+use Rattle.std.specs.Prelude.{IfErr}
 use Rattle.run_history.specs.Legal.{floor_of}
 use Rattle.run_history.specs.Runs.{run_of}
 use Rattle.node.specs.Asking.{MayAskPurge}
-use Rattle.world.specs.Turns.{HasAskedOne}
+use Rattle.world.specs.Turns.{HasAskedOne, IsFullAsking}
+use Rattle.world.proofs.FullLaws.{purging-full}
 use Rattle.world.proofs.PurgeLoop.{purging-ended, purging-first, purging-on, purging-turned}
+use Rattle.world.proofs.Results.{err-then}
 use Rattle.world.proofs.purging.purge_first.Goals as goal
 
 -- no interval is looked at yet
@@ -39,3 +42,16 @@ pub returns-clause-ended : goal.returns-clause-ended
 returns-clause-ended g c = λ none told.
     purging-ended c.args.book.now c.loop-interval.book c.loop-interval.node c.loop-interval.interval (search (rules, arith))
     c.loop-interval.invariant (search rules) told c.requires.settled (c.requires.quiet told) (c.requires.injected told)
+
+-- a purge that fails since the history is full had a row to purge
+pub returns-in_err-more-clause-unended : goal.returns-in_err-more-clause-unended
+returns-in_err-more-clause-unended g c =
+    let r = c.from_residual.result in
+    let start = c.args.book.now in
+    let old = c.loop-interval.book in
+    let was = c.loop-interval.node in
+    let interval = c.loop-interval.interval in
+    let asking : IfErr r (IsFullAsking (MayAskPurge old.case.topology was interval 1 (floor_of (run_of old.case.topology old.history)))) =
+    search rules in
+    err-then r (λ why a. purging-full start old was interval why c.loop-interval.invariant c.purge.ensures.lawful c.requires.settled
+    c.requires.quiet c.requires.injected a) asking

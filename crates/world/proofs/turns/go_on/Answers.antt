@@ -1,7 +1,9 @@
-use Rattle.std.proofs.Common.{◌∙◌, rules, subst, sym, true}
+use Rattle.std.proofs.Common.{◌≡◌, ◌∙◌, rules, subst, sym, true}
 use Rattle.std.specs.Prelude.{IfErr}
-use Rattle.world.specs.Turns.{HasFailed, HasTurned, IsEndOf, IsInjected, IsQuiet, IsSettled}
+use Rattle.node.specs.declared.outcome.NodeFault.TheVariants as faults
+use Rattle.world.specs.Turns.{HasFailed, HasTurned, IsEndOf, IsFullUnended, IsInjected, IsQuiet, IsSettled}
 use Rattle.world.proofs.DrainLaws.{no-more, stayed-on, told-fact-back, told-fact-on}
+use Rattle.world.proofs.FullLaws.{full-not, unended-back}
 use Rattle.world.proofs.GoLaws.{fact-on, failed-on, passed-exact, turned-on}
 use Rattle.world.proofs.Results.{err-then, ok-then}
 use Rattle.world.proofs.turns.go_on.Goals as goal
@@ -119,3 +121,36 @@ returns-clause-failed g c =
     let three = stayed-on c.args.book.now b2 b3 c.in_ok-injected.injected two c.in_ok-injected.ensures.turned c.if-injected.false in
     err-then c.purge_first.result (λ why failed. failed-on c.args.book.now b3 c.purge_first.new.book why three failed)
     c.purge_first.ensures.failed
+
+-- a report fails for want of memory alone
+pub returns-in_err-report_all-clause-unended : goal.returns-in_err-report_all-clause-unended
+returns-in_err-report_all-clause-unended g c =
+    let r = c.from_residual.result in
+    let none : IfErr r (λ why. why ≡ faults.NoMemory) = search rules in
+    err-then r (λ why is. full-not c.args.book.now why is) none
+
+-- a timer that fails since the history is full was due
+pub returns-in_err-fired-clause-unended : goal.returns-in_err-fired-clause-unended
+returns-in_err-fired-clause-unended g c =
+    let b1 = c.report_all.new.book in let r = c.from_residual-in_err-fired.result in
+    let unended : IfErr r (IsFullUnended b1) = search rules in
+    err-then r (λ why is. unended-back c.args.book.now b1 why c.report_all.ensures.stepped is) unended
+
+-- a line that fails so was left
+pub returns-in_err-injected-clause-unended : goal.returns-in_err-injected-clause-unended
+returns-in_err-injected-clause-unended g c =
+    let b1 = c.report_all.new.book in let b2 = c.fire_first.new.book in
+    let two = stayed-on c.args.book.now b1 b2 c.in_ok-fired.fired c.report_all.ensures.stepped c.in_ok-fired.ensures.turned
+    c.if-fired.false in
+    let r = c.from_residual-in_err-injected.result in
+    let unended : IfErr r (IsFullUnended b2) = search rules in
+    err-then r (λ why is. unended-back c.args.book.now b2 why two is) unended
+
+-- a purge that fails so had a row to purge
+pub returns-clause-unended : goal.returns-clause-unended
+returns-clause-unended g c =
+    let b1 = c.report_all.new.book in let b2 = c.fire_first.new.book in let b3 = c.inject_next.new.book in
+    let two = stayed-on c.args.book.now b1 b2 c.in_ok-fired.fired c.report_all.ensures.stepped c.in_ok-fired.ensures.turned
+    c.if-fired.false in
+    let three = stayed-on c.args.book.now b2 b3 c.in_ok-injected.injected two c.in_ok-injected.ensures.turned c.if-injected.false in
+    err-then c.purge_first.result (λ why is. unended-back c.args.book.now b3 why three is) c.purge_first.ensures.unended

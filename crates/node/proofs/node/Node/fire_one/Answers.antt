@@ -10,7 +10,7 @@ use Rattle.node.specs.declared.outcome.NodeFault.{NodeFault}
 use Rattle.node.specs.declared.outcome.Outcome.{Outcome}
 use Rattle.node.specs.declared.outcome.Outcome.TheVariants as outcomes
 use Rattle.node.specs.declared.outgoing.Outgoing.{Outgoing}
-use Rattle.node.specs.Answers.{AnswersSome, AnswersWrite, FailsHeld, HasGrown, HasKept}
+use Rattle.node.specs.Answers.{AnswersSome, AnswersWrite, FailsSome, HasGrown, HasKept}
 use Rattle.node.specs.Asking.{IsNextTimer, MayAskFire}
 use Rattle.node.specs.FireSteps.{HasLeft, IsSetAt}
 use Rattle.node.specs.Fits.{Fits}
@@ -20,7 +20,7 @@ use Rattle.node.specs.Workers.{NodeView, messages_from, worker_at}
 use Rattle.node.proofs.FiringLaws.{Fits-fired, answers-fired, few-fired, fired-last, firing, grown-fired, may-fire, set-at, small-number}
 use Rattle.node.proofs.FitLaws.{Fits-kept, Fits-yielded, keeps-refused, more-looked, worker-kept}
 use Rattle.node.proofs.PurgeLaws.{answers-some, ok-answers}
-use Rattle.node.proofs.RefusedLaws.{fails-at, refused-held}
+use Rattle.node.proofs.RefusedLaws.{fails-at, fails-some, refused-held}
 use Rattle.node.proofs.node.Node.fire_one.Goals as goal
 
 -- the row of the timer is there
@@ -248,8 +248,15 @@ returns-in-Err-clause-fault g c =
     let new = g.D.Desk.view c.write_fire-written.new.desk in
     let interval = c.interval_of-interval.result in
     let was = c.args.self.now in
-    let set = set-at case old was name.part c.args.mark interval name timer c.requires.fits.held c.requires.part
-    c.interval_of-interval.ensures.interval c.requires.next in
+    let covers = c.interval_of-interval.ensures.interval in
+    let set = set-at case old was name.part c.args.mark interval name timer c.requires.fits.held c.requires.part covers c.requires.next in
+    let effects = c.in_ok-effects.effects in
+    let does = subst (λ (n : NodeView). HasLeft case n.held interval name timer effects) c.self.view_is
+    c.in_ok-effects.ensures.does set in
+    let may = may-fire case was c.args.mark interval name timer effects set covers c.requires.next does in
+    let asked = firing name timer c.args.mark effects set.held in
     let reason = subst (λ (n : NodeView). IsRefusedOf old new n.held interval c.in-Err.why) c.self.view_is c.in-Err.ensures.reason in
-    subst (λ (r : Result Outcome NodeFault). IfErr r (FailsHeld old new was.held)) (sym c.yield_to.ensures.answer)
-    (fails-at old new was.held interval set.held c.in-Err.why set.there reason)
+    let MayAsk = MayAskFire case was name.part c.args.mark in
+    subst (λ (r : Result Outcome NodeFault). IfErr r (FailsSome old new MayAsk)) (sym c.yield_to.ensures.answer)
+    (fails-some old new MayAsk asked _ may
+    (fails-at old new was.held interval set.held asked c.in-Err.why set.there refl reason))

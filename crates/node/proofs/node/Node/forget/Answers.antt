@@ -1,10 +1,10 @@
 use Rattle.std.proofs.Common.{◌∙◌, ap, subst, sym, refl}
-use Rattle.std.specs.Prelude.{IfErr, IfOk, IfSome, OnErr, Result}
+use Rattle.std.specs.Prelude.{IfErr, IfOk, IfSome, OnErr, Result, Some}
 use Rattle.book.specs.Desking.{MayPurge}
 use Rattle.holdings.specs.Holding.{IsRefusedOf, held_at, row_held}
 use Rattle.node.specs.declared.outcome.NodeFault.{NodeFault}
 use Rattle.node.specs.declared.outcome.Outcome.{Outcome}
-use Rattle.node.specs.Answers.{AnswersWrite, FailsHeld, HasGrown, HasKept}
+use Rattle.node.specs.Answers.{AnswersWrite, FailsAsked, HasGrown, HasKept}
 use Rattle.node.specs.Asking.{forgetting}
 use Rattle.node.specs.Fits.{Fits}
 use Rattle.node.specs.PurgeSteps.{MayForget}
@@ -113,14 +113,13 @@ returns-in-Err-clause-kept g c =
     (keeps-refused case.topology interval c.args.self.now mid c.yield_to.new.self c.in-Err.why kept c.yield_to.ensures.left)
 
 pub returns-in-Err-clause-fault : goal.returns-in-Err-clause-fault
-returns-in-Err-clause-fault g c =
+returns-in-Err-clause-fault g c held there =
     let case = c.args.case.now in
     let old = g.D.Desk.view c.args.desk.now in
     let new = g.D.Desk.view c.purge.new.desk in
     let interval = c.interval_of-interval.result in
-    let m = c.requires.may.1 in
-    let at = held-at-on case.topology c.args.self.now.held c.args.name.now interval m.held m.there
-    c.interval_of-interval.ensures.interval in
+    let at = held-at-on case.topology c.args.self.now.held c.args.name.now interval held there c.interval_of-interval.ensures.interval in
     let reason = subst (λ (n : NodeView). IsRefusedOf old new n.held interval c.in-Err.why) c.self.view_is c.in-Err.ensures.reason in
-    subst (λ (r : Result Outcome NodeFault). IfErr r (FailsHeld old new c.args.self.now.held)) (sym c.yield_to.ensures.answer)
-    (fails-at old new c.args.self.now.held interval m.held c.in-Err.why at reason)
+    let asked = forgetting held c.args.name.now c.args.floor in
+    subst (λ (r : Result Outcome NodeFault). IfErr r (FailsAsked old new (Some asked))) (sym c.yield_to.ensures.answer)
+    (fails-at old new c.args.self.now.held interval held asked c.in-Err.why at refl reason)

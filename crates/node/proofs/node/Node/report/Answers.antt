@@ -10,6 +10,7 @@ use Rattle.book.specs.DeskReasons.{HasReason}
 use Rattle.book.specs.Desking.{IsReported}
 use Rattle.holdings.specs.Holding.{HeldView, held_at}
 use Rattle.node.specs.declared.outcome.NodeFault.{NodeFault}
+use Rattle.node.specs.declared.outcome.NodeFault.TheVariants as faults
 use Rattle.node.specs.declared.outcome.Outcome.{Outcome}
 use Rattle.node.specs.declared.outcome.Outcome.TheVariants as outcomes
 use Rattle.node.specs.Answers.{AnswersReport, FailsReport}
@@ -18,7 +19,7 @@ use Rattle.node.specs.Steps.{HasYielded, answered}
 use Rattle.node.specs.Workers.{NodeView}
 use Rattle.node.proofs.FitLaws.{Fits-yielded, fails-refused}
 use Rattle.node.proofs.OutLaws.{Fits-looked}
-use Rattle.node.proofs.ReportLaws.{answers-unreported, marked, reason-held, report-at, with_held}
+use Rattle.node.proofs.ReportLaws.{answers-unreported, marked, memory-alone, reason-held, report-at, with_held}
 use Rattle.node.proofs.node.Node.report.Goals as goal
 
 -- once the own work is reported
@@ -142,3 +143,8 @@ returns-in-Err-clause-fault g c =
     subst (λ (r : Result Outcome NodeFault). IfErr r (FailsReport old new (held_at was.held c.args.interval))) (sym
     c.yield_to.ensures.answer)
     (reason-held old new was.held c.args.interval held (answered c.in-Err.why) at (fails-refused old new held.lease c.in-Err.why reason))
+
+pub returns-in-Err-clause-memory : goal.returns-in-Err-clause-memory
+returns-in-Err-clause-memory g c =
+    subst (λ (r : Result Outcome NodeFault). IfErr r (λ fault. fault ≡ faults.NoMemory)) (sym c.yield_to.ensures.answer)
+    (memory-alone c.in-Err.why c.in-Err.ensures.only)
