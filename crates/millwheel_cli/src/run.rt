@@ -232,6 +232,8 @@ fn replay<'a, K: Keeper, C: Computation + Drop>(
         Rose world.old.book.faults world.new.book.faults }
     ensures full { result ≡ Err NodeFault.HistoryFull →
         length world.new.book.history ≡ world.new.book.limit }
+    ensures more { result ≡ Err NodeFault.HistoryFull → IfSome world.old.book.rows
+        (λ _. IsWholeReplay world.old.book.case steps.now world.new.book.history → ⊥) }
     ensures damaged { IfErr result (λ why.
         IsDamageOf (own_view world.new.book) (refusal_of why)) }
 {

@@ -42,6 +42,11 @@ impl<'a, K: Keeper, C: Computation + Drop> World<'a, K, C> {
             Rose self.old.book.faults self.new.book.faults }
         ensures full { result ≡ Err NodeFault.HistoryFull →
             length self.new.book.history ≡ self.new.book.limit }
+
+        // Where a contract can see the keeper's rows, it is full only before the drain has ended.
+        ensures more { result ≡ Err NodeFault.HistoryFull → IfSome self.old.book.rows
+            (λ _. HasEnded self.old.book.case (length self.old.book.history)
+            self.new.book.history → ⊥) }
         ensures damaged { IfErr result (λ why.
             IsDamageOf (own_view self.new.book) (refusal_of why)) }
     {
