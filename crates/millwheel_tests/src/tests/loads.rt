@@ -27,7 +27,11 @@ fn the_lines_of_load(rt: HostRuntime) -> Result<(), Fail> {
     let text = load_lines(rt.alloc(), 7, 3)?;
     assert_eq!(rt; text.as_slice(), three.as_bytes());
     let fifty = load_lines(rt.alloc(), 7, 50)?;
-    assert!(rt; fifty.as_slice().ends_with(b"{\"watermark\":520}\n".as_slice()));
+    assert!(rt;
+        fifty
+            .as_slice()
+            .ends_with(b"{\"watermark\":520}\n".as_slice())
+    );
     Ok(())
 }
 
