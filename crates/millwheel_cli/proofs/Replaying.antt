@@ -2,7 +2,8 @@
 use Rattle.std.proofs.Common.{◌≡◌, ◌∙◌, ◌≤◌, ◌<◌, ◌+◌, ◌++◌, List, length, Option, Some, None, IfSome, sym, ap, subst, inl, inr, true≢false, arith}
 use Rattle.std.specs.Option.{is_some}
 use Rattle.mw_types.specs.declared.entry.Entry.{Entry}
-use Rattle.topology.specs.Rules.{interval_count}
+use Rattle.std.proofs.lemmas.List.{length-append}
+use Rattle.topology.specs.Rules.{IsTopology, interval_count}
 use Rattle.row_keeper.specs.Rows.{Rows}
 use Rattle.run_history.specs.Cases.{CaseShape}
 use Rattle.run_history.specs.Fences.{Begins}
@@ -77,3 +78,27 @@ unended_behind case other (Some rows) (Some held) world after steps front histor
     sym at ∙ ap (λ (w : World). w.history) done ∙ ap (λ (w : World). (world_after case w steps).history) begun in
     λ whole. more (subst (λ c. HasEnded c (length front) history) (sym same)
     (subst (λ (f : List Entry). HasEnded case (length f) history) (sym written) whole.drained.ended))
+
+-- a script that stopped on its way has not written the whole: a drain behind it has intervals to claim
+pub script_unended : (case : CaseShape) (found : Option Rows) (world : World) (steps : List Step) (history : List Entry)
+    → IsTopology case.topology → world ≡ empty_world case.topology
+    → IfSome found (λ _. Begins history (world_after case world steps).history)
+    → IfSome found (λ _. IsWholeReplay case steps history → ⊥)
+script_unended case None world steps history rules same is = tt
+script_unended case (Some rows) world steps history rules same is = λ whole.
+    let begins : Begins history (scripted_history case steps) =
+    subst (λ (w : World). Begins history (world_after case w steps).history) same is in
+    let longer : length history ≤ length (scripted_history case steps) = omega (
+      arith,
+      ap length begins.1,
+      length-append history begins.0,
+    ) in
+    let claimed : length (scripted_history case steps) + interval_count case.topology ≤ length history =
+    whole.drained.ended.earlier.earlier.earlier.claimed in
+    omega (arith, longer, claimed, rules.some_injector)
+
+-- what goes on from a script is a replay of it
+pub replayed_of : (case : CaseShape) (found : Option Rows) (steps : List Step) (history : List Entry)
+    → IfSome found (λ _. GoesOn case (scripted_history case steps) history) → IfSome found (λ _. IsReplayed case steps history)
+replayed_of case None steps history is = tt
+replayed_of case (Some rows) steps history is = inr is

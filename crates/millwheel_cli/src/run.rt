@@ -3,7 +3,9 @@ ghost use Rattle.std.specs.Prelude.{◌≡◌, [], All, Err, IfErr, IfSome, OnOk
 ghost use Rattle.std.specs.Option.{is_some};
 ghost use Rattle.mw_types.specs.Causes.{Rose};
 ghost use Rattle.run_history.specs.Cases.{intervals_of};
+ghost use Rattle.book.specs.Books.{core_of};
 ghost use Rattle.book.specs.DeskReasons.{IsDamageOf};
+ghost use Rattle.book.specs.Lawful.{IsLawful};
 ghost use Rattle.book.specs.OwnDesks.{own_view};
 ghost use Rattle.node.specs.Answers.{refusal_of};
 ghost use Rattle.node.specs.Works.{IsWorkOf};
@@ -201,9 +203,9 @@ fn finish<'a, K: Keeper, C: Computation + Drop, O: Sink>(
     ensures untouched { world.new.book.history ≡ [] → world.new.book.rows ≡ world.old.book.rows }
     ensures tells { is_some world.new.book.rows ≡ is_some world.old.book.rows }
 {
-    // What holds of every book is known of it before and after.
-    world.book().history();
+    look(world);
     let replayed = replay(alloc, world, task.steps.steps());
+    look(world);
     let history = world.book().history();
     drains_leave_no_work();
     match replayed {
@@ -237,8 +239,16 @@ fn replay<'a, K: Keeper, C: Computation + Drop>(
     ensures damaged { IfErr result (λ why.
         IsDamageOf (own_view world.new.book) (refusal_of why)) }
 {
+    look(world);
     run_script(alloc, world, steps)?;
     world.drain(alloc)
+}
+
+// What holds of every book is known of a world's.
+fn look<'a, K: Keeper, C: Computation + Drop>(world: &World<'a, K, C>)
+    ensures lawful { IsLawful world.now.book.case (core_of world.now.book) }
+{
+    world.book().history();
 }
 
 // The status where a book was not begun.
