@@ -33,3 +33,11 @@ pub mod StartedWorlds
 pub mod ActsOnLaws
 pub mod WorldSteps
 pub mod CrashLaws
+pub mod TakeLaws
+pub mod RunLaws
+pub mod FlightLaws
+pub mod TakeSteps
+pub mod SendSteps
+pub mod StepLaws
+pub mod SendWorlds
+pub mod DrainedWorlds

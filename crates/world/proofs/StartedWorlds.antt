@@ -43,8 +43,8 @@ new-more count nodes node new number nothing fits = record {
         let all = new.all in
         let last : n ≡ length nodes = omega (arith, within, size, past, all) in
         let is_node : node ≡ x = sym (get_or-append_seam nodes node [] node)
-            ∙ ap (λ k. get_or (nodes ++ node ∷ []) k node) (sym last)
-            ∙ get_or_from_slice_get (nodes ++ node ∷ []) n x node found in
+        ∙ ap (λ k. get_or (nodes ++ node ∷ []) k node) (sym last)
+        ∙ get_or_from_slice_get (nodes ++ node ∷ []) n x node found in
         sym (ap (λ (m : NodeView). m.number) is_node) ∙ number ∙ sym all ∙ sym last
   ];
   have_nothing = map-append worker_at nodes (node ∷ []) ∙ ap (λ (ws : List Worker). ws ++ worker_at node ∷ []) new.have_nothing

@@ -1,6 +1,6 @@
 -- What a call of one worker leaves over every keeper, by the clauses of the call.
 use Rattle.std.proofs.Common.{◌≡◌, ◌∙◌, ◌<◌, ◌++◌, ◌∷◌, ℕ, Bool, true, false, List, [], length, refl, sym, ap, subst, inl, inr}
-use Rattle.std.specs.Prelude.{Option, None, Some, IfErr, IfOk, OnErr, Result, Ok, Err, if◌then◌else◌, slice_get}
+use Rattle.std.specs.Prelude.{Option, None, Some, IfErr, IfOk, OnErr, OnOk, Result, Ok, Err, if◌then◌else◌, slice_get}
 use Rattle.std.specs.Option.{is_some, option_map_or}
 use Rattle.std.proofs.lemmas.Bool.{cases_eq, eq-eqb, ne_eqb}
 use Rattle.mw_types.specs.declared.delivery.Delivery.{Delivery}
@@ -18,7 +18,7 @@ use Rattle.book.specs.DeskReasons.{HasClaimReason}
 use Rattle.book.specs.Desks.{HasLooked, IsSound, KeepsMarks}
 use Rattle.book.specs.OwnDesks.{own_view}
 use Rattle.holdings.specs.Holding.{HeldView, held_on, row_held}
-use Rattle.node.specs.Answers.{AnswersAck, AnswersAckOf, AnswersAsked, AnswersClaim, AnswersFire, AnswersPurge, AnswersReport, AnswersReportOf, AnswersSome, AnswersSweep, AnswersWrite, FailsAsked, FailsHeld, FailsReport, HasGrown, HasKept, received, refusal_of, taken_from, taken_in}
+use Rattle.node.specs.Answers.{AnswersAck, AnswersAckOf, AnswersAsked, AnswersClaim, AnswersFire, AnswersPurge, AnswersReport, AnswersReportOf, AnswersSome, AnswersSweep, AnswersWrite, FailsReport, HasGrown, HasKept, received, refusal_of, taken_from, taken_in}
 use Rattle.node.specs.Asking.{Request, settling}
 use Rattle.node.specs.Fits.{Fits}
 use Rattle.node.specs.Workers.{NodeView, Sending, Worker, leases_of, sending_of, with_lease, with_outgoing, with_written, worker_at}
@@ -264,3 +264,23 @@ failed-report old new (Some held) why looked fails = failed-refused old new held
 pub failed-only-memory : (old new : BookView) (why : NodeFault) → HasLooked (own_view old) (own_view new)
     → why ≡ faults.NoMemory → HasFailed old new why
 failed-only-memory old new why looked is = subst (HasFailed old new) (sym is) (failed-memory old new looked)
+
+-- of what a refusal leaves
+pub err-left : {T E : Type 0} {Q S : Type 0} (r : Result T E) → (Q → S) → OnErr r Q → OnErr r S
+err-left (Ok x) f one = tt
+err-left (Err e) f one = f one
+
+-- of what is answered, and what that leaves
+pub ok-with : {T E : Type 0} {P S : T → Type 0} {Q : Type 0} (r : Result T E) → ((x : T) → P x → Q → S x) → IfOk r P → OnOk r Q → IfOk r S
+ok-with (Ok x) f one two = f x one two
+ok-with (Err e) f one two = tt
+
+-- one fact by what either leaves
+pub by-either : {T E : Type 0} {P Q R : Type 0} (r : Result T E) → (P → R) → (Q → R) → OnOk r P → OnErr r Q → R
+by-either (Ok x) f g one two = f one
+by-either (Err e) f g one two = g two
+
+-- of three facts that a refusal leaves
+pub err-three : {T E : Type 0} {P Q S R : Type 0} (r : Result T E) → (P → Q → S → R) → OnErr r P → OnErr r Q → OnErr r S → OnErr r R
+err-three (Ok x) f one two three = tt
+err-three (Err e) f one two three = f one two three

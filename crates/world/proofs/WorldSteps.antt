@@ -71,7 +71,7 @@ world-changed state book number node flight = ap (λ (ws : List Worker). record 
 }) (map-set worker_at state.nodes number node)
 
 -- a fact where something is told, by another
-told-then : {X : Type 0} {P Q : Type 0} (o : Option X) → (P → Q) → IfSome o (λ _. P) → IfSome o (λ _. Q)
+pub told-then : {X : Type 0} {P Q : Type 0} (o : Option X) → (P → Q) → IfSome o (λ _. P) → IfSome o (λ _. Q)
 told-then None f is = tt
 told-then (Some x) f is = f is
 

@@ -9,3 +9,4 @@ pub mod Stepping
 pub mod Replays
 pub mod Standing
 pub mod WorkerCalls
+pub mod ScriptRuns

@@ -11,7 +11,7 @@ use Rattle.book.specs.Desks.{DeskView, HasLooked, IsSound}
 use Rattle.book.specs.OwnDesks.{own_view}
 use Rattle.node.specs.Answers.{HasGrown, HasKept}
 use Rattle.node.specs.Fits.{Fits}
-use Rattle.node.specs.Workers.{NodeView, Worker, idle, leases_of, worker_at}
+use Rattle.node.specs.Workers.{IsHandle, NodeView, WorkView, Worker, idle, leases_of, worker_at}
 use Rattle.node.specs.declared.outcome.Outcome.{Outcome}
 use Rattle.node.specs.declared.outcome.Outcome.TheVariants as outcomes
 use Rattle.node.specs.declared.outgoing.Outgoing.{Outgoing}
@@ -105,6 +105,10 @@ IsAlone number (steps.Resend worker) = worker ≡ number
 IsAlone number (steps.Purge worker interval) = worker ≡ number
 IsAlone number (steps.Crash worker) = worker ≡ number
 IsAlone number _ = ⊥
+
+-- what a worker has prepared, if anything, is a record that was handled
+abbrev pub IsReady : NodeView → Type 0
+IsReady node = IfSome node.prepared (λ (work : WorkView). IsHandle work.proposal)
 
 -- what a worker answers that leaves a message in flight, if it does: it has to wait while another record is prepared,
 -- or the message is for a row that it lacks

@@ -10,7 +10,7 @@ ghost use Rattle.scripts.specs.Acts.{must_wait};
 ghost use Rattle.scripts.specs.Worlds.{row_of_message};
 ghost use Rattle.world.specs.Standing.{FitsOwn};
 ghost use Rattle.world.specs.Turns.{HasFailed};
-ghost use Rattle.world.specs.WorkerCalls.{HasCalled, HasRested, TakesOn, left_by};
+ghost use Rattle.world.specs.WorkerCalls.{HasCalled, HasRested, IsReady, TakesOn, left_by};
 
 use book::{Book, Desk, OwnDesk};
 use computations::Computation;
@@ -23,6 +23,7 @@ use std::alloc::Global;
 // What a worker answers that leaves a message in flight, if it does.
 pub(crate) fn left_by(case: &Case, node: &Node<u64>, message: &Message<u64>) -> Option<Outcome>
     requires addressed { IsAddressed case.now.topology (outgoing_of message.now) }
+    requires ready { IsReady node.now }
     ensures { result
         ≡ left_by case.now.topology (worker_at node.now) (outgoing_of message.now) }
 {
@@ -38,6 +39,7 @@ pub(crate) fn left_by(case: &Case, node: &Node<u64>, message: &Message<u64>) -> 
 
 // Whether a message has to wait until what is prepared is written.
 fn must_wait(node: &Node<u64>, message: &Message<u64>) -> bool
+    requires ready { IsReady node.now }
     ensures { result ≡ must_wait (worker_at node.now) (outgoing_of message.now) }
 {
     match message {

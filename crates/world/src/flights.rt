@@ -1,5 +1,5 @@
 //! Messages in flight, each found by its number.
-ghost use Rattle.std.specs.Prelude.{◌≡◌, ◌≤◌, ◌+◌, ◌++◌, ◌^◌, [], nat_le, length, map, All, IfErr, IfOk, IsFalse, IsSome, IsTrue, None, OnErr, OnOk, Some, option_copied, slice_get, slice_set, unwrap_or};
+ghost use Rattle.std.specs.Prelude.{◌≡◌, ◌≤◌, ◌+◌, ◌++◌, ◌∷◌, ◌^◌, [], nat_le, length, map, All, IfErr, IfOk, IsFalse, IsSome, IsTrue, None, OnErr, OnOk, Some, option_copied, slice_get, slice_set, unwrap_or};
 ghost use Rattle.std.specs.Option.{option_map};
 ghost use Rattle.std.specs.Vec.{vec_capacity};
 ghost use Rattle.book.specs.Books.{BookView};

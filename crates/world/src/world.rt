@@ -73,7 +73,7 @@ impl<'a, K: Keeper, C: Computation + Drop> World<'a, K, C> {
             world_of world ≡ empty_world shape) }
 
         ensures kept_book { IfErr result (λ refusal. refusal.book ≡ book.entry) }
-        ensures kept_work { IfErr result (λ refusal. refusal.work ≡ work.entry) }
+        ensures kept_work { IfErr result (λ refusal. refusal.work ≡ work) }
     {
         match sixteen(alloc) {
             Ok(nodes) => Ok(World {

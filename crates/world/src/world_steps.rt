@@ -130,11 +130,12 @@ impl<'a, K: Keeper, C: Computation + Drop> World<'a, K, C> {
         let Some(found) = find(&self.flight, message) else {
             return Ok(Outcome::Nothing);
         };
-        let node = &mut self.nodes[worker as usize];
-        if let Some(outcome) = left_by(case, node, found) {
+        let here = &self.nodes[worker as usize];
+        if let Some(outcome) = left_by(case, here, found) {
             return Ok(outcome);
         }
         let taken = take_out(&mut self.flight, message);
+        let node = &mut self.nodes[worker as usize];
         receive(alloc, &mut self.book, &self.work, node, taken)
     }
 
@@ -175,6 +176,8 @@ fn alone<'a, K: Keeper, C: Computation>(
     ensures rested { OnErr result (HasRested book.old book.new node.old node.new) }
     ensures failed { IfErr result (HasFailed book.old book.new) }
 {
+    // Its clauses say what always holds of a book.
+    book.history();
     match step {
         Step::Claim {
             worker: _,

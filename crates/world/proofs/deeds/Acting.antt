@@ -27,20 +27,26 @@ pub record IsActing (case : CaseShape) (old : BookView) (world : World) (number 
 
 -- the worker acted as the scripted one does
 abbrev pub Acts : CaseShape → BookView → World → ℕ → NodeView → Step → Outcome → Type 0
-Acts case new world number node step outcome = (outcome, record world {
-  history = new.history;
-  marks = new.marks;
-  workers = slice_set world.workers number (worker_at node);
-}) ≡ act case world step
+Acts case new world number node step outcome = (
+  outcome,
+  record world {
+    history = new.history;
+    marks = new.marks;
+    workers = slice_set world.workers number (worker_at node);
+  },
+) ≡ act case world step
 
 -- and, with a message gone
 abbrev pub ActsWithout : CaseShape → BookView → World → ℕ → NodeView → ℕ → Outcome → Type 0
-ActsWithout case new world number node message outcome = (outcome, record world {
-  history = new.history;
-  marks = new.marks;
-  workers = slice_set world.workers number (worker_at node);
-  flight = without_message message world.flight;
-}) ≡ act case world (steps.Take number message)
+ActsWithout case new world number node message outcome = (
+  outcome,
+  record world {
+    history = new.history;
+    marks = new.marks;
+    workers = slice_set world.workers number (worker_at node);
+    flight = without_message message world.flight;
+  },
+) ≡ act case world (steps.Take number message)
 
 -- the worker of this number is the one that acts
 pub acting-worker : (case : CaseShape) (old : BookView) (world : World) (number : ℕ) (was : NodeView)

@@ -70,111 +70,111 @@ pending-is shape history lease name d e made found =
 
 module _ (case : CaseShape) (old : BookView) (world : World) (number : ℕ) (was : NodeView) (acting : IsActing case old world number was)
   where
-  -- the row that made a record, where the worker knows the record as pending there
-  abbrev sender : Delivery → Option RowName
-  sender = sender_known case.topology world (worker_of world number)
+    -- the row that made a record, where the worker knows the record as pending there
+    abbrev sender : Delivery → Option RowName
+    sender = sender_known case.topology world (worker_of world number)
 
-  -- all that was made
-  abbrev made : List Delivery
-  made = (run_of case.topology world.history).made
+    -- all that was made
+    abbrev made : List Delivery
+    made = (run_of case.topology world.history).made
 
-  -- what is pending in what is held is known as pending
-  held-known : (s : Sent) → IsPendingHeld was.held s → IsIn s (sent_of_known sender made)
-  held-known s is =
-      let shape = case.topology in
-      let d = s.delivery in
-      let here = acting.fits.held.each is.interval is.held is.there in
-      let lies : interval_of shape s.sender ≡ Some is.interval =
-      here.rows.within s.sender (subst IsSome (sym is.pending.there) refl) ∙ ap Some here.of_interval in
-      let on : held_on shape was.held s.sender ≡ Some is.held = ap (option_and_then (held_at was.held)) lies ∙ is.there in
-      let so = subst (λ t. IfSome t (λ _. IsSentFrom case old.history s.sender d)) (tells old.rows acting.told)
-      (sent-so case (own_view old) was.held is.interval s acting.fits.held
-      (record { held = is.held; there = is.there; pending = is.pending })) in
-      let in_made = (found-of (λ (e : Delivery). same_id e.id d.id) d (run_of shape old.history).made so.made).1 in
-      let row : row_known shape world is.held.lease s.sender ≡ is.pending.row =
-      row-held case old world number was is.held s.sender acting on
-      ∙ ap (λ o. unwrap_or o (fresh (fresh_of shape s.sender.part))) is.pending.there in
-      let pending : is_pending_on shape world (worker_of world number) d.id s.sender ≡ true =
-      ap (λ o. option_map_or (is_pending_in shape world d.id s.sender) o false)
-      (lease_on-held case old world number was s.sender acting ∙ ap (option_map lease_held) on)
-      ∙ ap (λ (r : Contents). is_some (found_delivery d.id r.pending)) row
-      ∙ in-found d is.pending.row.pending (in-contained d is.pending.row.pending is.pending.pending) in
-      let of_entry : option_and_then row_written (slice_get world.history d.id.commit) ≡ Some s.sender =
-      ap (λ h. option_and_then row_written (slice_get h d.id.commit)) acting.history
-      ∙ ap (option_and_then row_written) so.on_sender.numbered ∙ so.on_sender.on_row in
-      in-filter_map (λ (e : Delivery). option_map (sent_from e) (sender e)) d made s
-      (subst (λ h. IsIn d (run_of shape h).made) (sym acting.history) in_made)
-      (ap (option_map (sent_from d)) (passes-where (is_pending_on shape world (worker_of world number) d.id)
-      (option_and_then row_written (slice_get world.history d.id.commit)) s.sender of_entry pending))
+    -- what is pending in what is held is known as pending
+    held-known : (s : Sent) → IsPendingHeld was.held s → IsIn s (sent_of_known sender made)
+    held-known s is =
+        let shape = case.topology in
+        let d = s.delivery in
+        let here = acting.fits.held.each is.interval is.held is.there in
+        let lies : interval_of shape s.sender ≡ Some is.interval =
+        here.rows.within s.sender (subst IsSome (sym is.pending.there) refl) ∙ ap Some here.of_interval in
+        let on : held_on shape was.held s.sender ≡ Some is.held = ap (option_and_then (held_at was.held)) lies ∙ is.there in
+        let so = subst (λ t. IfSome t (λ _. IsSentFrom case old.history s.sender d)) (tells old.rows acting.told)
+        (sent-so case (own_view old) was.held is.interval s acting.fits.held
+        (record { held = is.held; there = is.there; pending = is.pending })) in
+        let in_made = (found-of (λ (e : Delivery). same_id e.id d.id) d (run_of shape old.history).made so.made).1 in
+        let row : row_known shape world is.held.lease s.sender ≡ is.pending.row =
+        row-held case old world number was is.held s.sender acting on
+        ∙ ap (λ o. unwrap_or o (fresh (fresh_of shape s.sender.part))) is.pending.there in
+        let pending : is_pending_on shape world (worker_of world number) d.id s.sender ≡ true =
+        ap (λ o. option_map_or (is_pending_in shape world d.id s.sender) o false)
+        (lease_on-held case old world number was s.sender acting ∙ ap (option_map lease_held) on)
+        ∙ ap (λ (r : Contents). is_some (found_delivery d.id r.pending)) row
+        ∙ in-found d is.pending.row.pending (in-contained d is.pending.row.pending is.pending.pending) in
+        let of_entry : option_and_then row_written (slice_get world.history d.id.commit) ≡ Some s.sender =
+        ap (λ h. option_and_then row_written (slice_get h d.id.commit)) acting.history
+        ∙ ap (option_and_then row_written) so.on_sender.numbered ∙ so.on_sender.on_row in
+        in-filter_map (λ (e : Delivery). option_map (sent_from e) (sender e)) d made s
+        (subst (λ h. IsIn d (run_of shape h).made) (sym acting.history) in_made)
+        (ap (option_map (sent_from d)) (passes-where (is_pending_on shape world (worker_of world number) d.id)
+        (option_and_then row_written (slice_get world.history d.id.commit)) s.sender of_entry pending))
 
-  -- a record that is found pending in a row that is held is pending there
-  found-held : (d : Delivery) (name : RowName) (held : HeldView) → IsIn d made → held_on case.topology was.held name ≡ Some held
-      → is_some (found_delivery d.id (row_known case.topology world held.lease name).pending) ≡ true
-      → IsPendingHeld was.held (sent_from d name)
-  found-held d name held in_made on some =
-      let lies = held-lies case.topology was.held name held on in
-      by_row lies.0 lies.2 (row_in (cached held.rows) name) refl
-      (by_found (found_delivery d.id (row_known case.topology world held.lease name).pending) refl some)
-    where
-      by_found : (o : Option Delivery) → found_delivery d.id (row_known case.topology world held.lease name).pending ≡ o
-          → is_some o ≡ true → IsIn d (row_held case.topology held name).pending
-      by_found None is there = absurd (cc)
-      by_found (Some e) is there = subst (λ (r : Contents). IsIn d r.pending)
-          (row-held case old world number was held name acting on)
-          (subst (λ (f : Delivery). IsIn f (row_known case.topology world held.lease name).pending)
-          (pending-is case.topology world.history held.lease name d e in_made is)
-          (found-of (λ (f : Delivery). same_id f.id d.id) e (row_known case.topology world held.lease name).pending is).1)
+    -- a record that is found pending in a row that is held is pending there
+    found-held : (d : Delivery) (name : RowName) (held : HeldView) → IsIn d made → held_on case.topology was.held name ≡ Some held
+        → is_some (found_delivery d.id (row_known case.topology world held.lease name).pending) ≡ true
+        → IsPendingHeld was.held (sent_from d name)
+    found-held d name held in_made on some =
+        let lies = held-lies case.topology was.held name held on in
+        by_row lies.0 lies.2 (row_in (cached held.rows) name) refl
+        (by_found (found_delivery d.id (row_known case.topology world held.lease name).pending) refl some)
+      where
+        by_found : (o : Option Delivery) → found_delivery d.id (row_known case.topology world held.lease name).pending ≡ o
+            → is_some o ≡ true → IsIn d (row_held case.topology held name).pending
+        by_found None is there = absurd (cc)
+        by_found (Some e) is there = subst (λ (r : Contents). IsIn d r.pending)
+            (row-held case old world number was held name acting on)
+            (subst (λ (f : Delivery). IsIn f (row_known case.topology world held.lease name).pending)
+            (pending-is case.topology world.history held.lease name d e in_made is)
+            (found-of (λ (f : Delivery). same_id f.id d.id) e (row_known case.topology world held.lease name).pending is).1)
 
-      by_row : (i : ℕ) → held_at was.held i ≡ Some held → (o : Option Contents) → row_in (cached held.rows) name ≡ o
-          → IsIn d (row_held case.topology held name).pending → IsPendingHeld was.held (sent_from d name)
-      by_row i at None is there = absurd (subst (λ o. IsIn d (unwrap_or o (fresh (fresh_of case.topology name.part))).pending) is there)
-      by_row i at (Some row) is there = record {
-        interval = i;
-        held = held;
-        there = at;
-        pending = record {
-          row = row;
-          there = is;
-          pending = contained-in d row.pending
-              (subst (λ o. IsIn d (unwrap_or o (fresh (fresh_of case.topology name.part))).pending) is there);
-        };
-      }
+        by_row : (i : ℕ) → held_at was.held i ≡ Some held → (o : Option Contents) → row_in (cached held.rows) name ≡ o
+            → IsIn d (row_held case.topology held name).pending → IsPendingHeld was.held (sent_from d name)
+        by_row i at None is there = absurd (subst (λ o. IsIn d (unwrap_or o (fresh (fresh_of case.topology name.part))).pending) is there)
+        by_row i at (Some row) is there = record {
+          interval = i;
+          held = held;
+          there = at;
+          pending = record {
+            row = row;
+            there = is;
+            pending = contained-in d row.pending
+                (subst (λ o. IsIn d (unwrap_or o (fresh (fresh_of case.topology name.part))).pending) is there);
+          };
+        }
 
-  -- what is known as pending is pending in what is held
-  known-held : (s : Sent) → IsIn s (sent_of_known sender made) → IsPendingHeld was.held s
-  known-held s here =
-      let one = filter_map-in (λ (e : Delivery). option_map (sent_from e) (sender e)) made s here in
-      by_sender one.0 one.1 (sender one.0) refl one.2
-    where
-      by_held : (d : Delivery) (name : RowName) → IsIn d made → (o : Option HeldView) → held_on case.topology was.held name ≡ o
-          → option_map_or (is_pending_in case.topology world d.id name) (option_map lease_held o) false ≡ true
-          → IsPendingHeld was.held (sent_from d name)
-      by_held d name in_made None on pending = absurd (cc)
-      by_held d name in_made (Some held) on pending = found-held d name held in_made on pending
+    -- what is known as pending is pending in what is held
+    known-held : (s : Sent) → IsIn s (sent_of_known sender made) → IsPendingHeld was.held s
+    known-held s here =
+        let one = filter_map-in (λ (e : Delivery). option_map (sent_from e) (sender e)) made s here in
+        by_sender one.0 one.1 (sender one.0) refl one.2
+      where
+        by_held : (d : Delivery) (name : RowName) → IsIn d made → (o : Option HeldView) → held_on case.topology was.held name ≡ o
+            → option_map_or (is_pending_in case.topology world d.id name) (option_map lease_held o) false ≡ true
+            → IsPendingHeld was.held (sent_from d name)
+        by_held d name in_made None on pending = absurd (cc)
+        by_held d name in_made (Some held) on pending = found-held d name held in_made on pending
 
-      by_sender : (d : Delivery) → IsIn d made → (o : Option RowName) → sender d ≡ o → option_map (sent_from d) o ≡ Some s
-          → IsPendingHeld was.held s
-      by_sender d in_made None is same = absurd (none_some s same)
-      by_sender d in_made (Some name) is same =
-          let passes = where-passes (is_pending_on case.topology world (worker_of world number) d.id)
-          (option_and_then row_written (slice_get world.history d.id.commit)) name is in
-          subst (IsPendingHeld was.held) (some_same (sent_from d name) s same)
-          (by_held d name in_made (held_on case.topology was.held name) refl
-          (subst (λ o. option_map_or (is_pending_in case.topology world d.id name) o false ≡ true)
-          (lease_on-held case old world number was name acting) passes.1))
+        by_sender : (d : Delivery) → IsIn d made → (o : Option RowName) → sender d ≡ o → option_map (sent_from d) o ≡ Some s
+            → IsPendingHeld was.held s
+        by_sender d in_made None is same = absurd (none_some s same)
+        by_sender d in_made (Some name) is same =
+            let passes = where-passes (is_pending_on case.topology world (worker_of world number) d.id)
+            (option_and_then row_written (slice_get world.history d.id.commit)) name is in
+            subst (IsPendingHeld was.held) (some_same (sent_from d name) s same)
+            (by_held d name in_made (held_on case.topology was.held name) refl
+            (subst (λ o. option_map_or (is_pending_in case.topology world d.id name) o false ≡ true)
+            (lease_on-held case old world number was name acting) passes.1))
 
-  -- what is swept is what is known as pending
-  pub swept-known : (node : NodeView) (count : ℕ) → (is : IsSwept (own_view old) was node count)
-      → map sent_again is.again ≡ pending_known case.topology world (worker_of world number)
-  swept-known node count is =
-      let told = subst (λ t. IfSome t (λ _. IsStrictlySortedBy id_cmp (map (λ (s : Sent). s.delivery.id) is.again)))
-      (tells old.rows acting.told) is.told in
-      ap (map sent_again) (same-ascending by_id (λ s t. id_cmp-total.antisymm s.delivery.id t.delivery.id) is.again
-      (sent_of_known sender made) (ids-ascend is.again told)
-      (known-ascends sender made (made-in_order case.topology world.history).ascending)
-      (λ s here. held-known s ((is.sweep.each s).0 (contained-in s is.again here)))
-      (λ s here. in-contained s is.again ((is.sweep.each s).1 (known-held s here))))
-      ∙ known-again sender made
+    -- what is swept is what is known as pending
+    pub swept-known : (node : NodeView) (count : ℕ) → (is : IsSwept (own_view old) was node count)
+        → map sent_again is.again ≡ pending_known case.topology world (worker_of world number)
+    swept-known node count is =
+        let told = subst (λ t. IfSome t (λ _. IsStrictlySortedBy id_cmp (map (λ (s : Sent). s.delivery.id) is.again)))
+        (tells old.rows acting.told) is.told in
+        ap (map sent_again) (same-ascending by_id (λ s t. id_cmp-total.antisymm s.delivery.id t.delivery.id) is.again
+        (sent_of_known sender made) (ids-ascend is.again told)
+        (known-ascends sender made (made-in_order case.topology world.history).ascending)
+        (λ s here. held-known s ((is.sweep.each s).0 (contained-in s is.again here)))
+        (λ s here. in-contained s is.again ((is.sweep.each s).1 (known-held s here))))
+        ∙ known-again sender made
 
 -- what is pending is sent again
 swept-acts : (case : CaseShape) (old : BookView) (world : World) (number : ℕ) (was node : NodeView) (count : ℕ)

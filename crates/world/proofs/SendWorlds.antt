@@ -1,0 +1,48 @@
+-- A world in which a worker has sent all that it had to send.
+use Rattle.std.proofs.Common.{◌≡◌, ◌∙◌, ℕ, List, refl, sym, ap, subst}
+use Rattle.std.specs.Prelude.{Option, Some, slice_get}
+use Rattle.book.specs.Books.{BookView}
+use Rattle.node.specs.Workers.{NodeView, worker_at}
+use Rattle.node.specs.declared.message.Message.{Message}
+use Rattle.node.specs.declared.outcome.NodeFault.{NodeFault}
+use Rattle.node.specs.declared.outcome.NodeFault.TheVariants as faults
+use Rattle.node.specs.declared.outcome.Outcome.{Outcome}
+use Rattle.scripts.specs.Acts.{act}
+use Rattle.scripts.specs.Worlds.{World}
+use Rattle.scripts.specs.declared.step.Step.TheVariants as steps
+use Rattle.world.specs.Standing.{IsWorld}
+use Rattle.world.specs.Stepping.{HasActed}
+use Rattle.world.specs.Turns.{HasFailed}
+use Rattle.world.specs.WorkerCalls.{SendsOn, world_with}
+use Rattle.world.specs.WorldStates.{WorldState, flight_of, world_of}
+use Rattle.world.proofs.ActsOnLaws.{when-told}
+use Rattle.world.proofs.TurnLaws.{failed-not}
+use Rattle.world.proofs.WorldSteps.{at-world, changed, rested-at, world-changed}
+
+-- it did as in the script
+pub sent-at : (state : WorldState) (book : BookView) (number : ℕ) (was node : NodeView) (after : List (Option (Message ℕ)))
+    (outcome : Outcome) → IsWorld state → slice_get state.nodes number ≡ Some was
+    → SendsOn state.book was (flight_of state.flight) book node (flight_of after) outcome
+    → HasActed (steps.Send number) state (changed state book number node after) outcome
+sent-at state book number was node after outcome is at sends = when-told state.book.rows
+    (λ told. ap (λ (w : World). (outcome, w)) (world-changed state book number node after
+    ∙ ap (λ (n : ℕ). let w : World = record (world_with book n node (world_of state)) { flight = flight_of after } in w)
+    (sym (is.numbered number was at)))
+    ∙ sends (world_of state) (at-world state number was is at) refl
+    ∙ ap (λ (n : ℕ). act state.book.case (world_of state) (steps.Send n)) (is.numbered number was at))
+
+-- nothing was done
+pub unsent-at : (state : WorldState) (book : BookView) (number : ℕ) (was node : NodeView) (after : List (Option (Message ℕ)))
+    → slice_get state.nodes number ≡ Some was → book ≡ state.book → node ≡ was → after ≡ state.flight
+    → world_of (changed state book number node after) ≡ world_of state
+unsent-at state book number was node after at same kept unchanged =
+    rested-at state book number was node after at (record {
+      history = ap (λ (b : BookView). b.history) same;
+      marks = ap (λ (b : BookView). b.marks) same;
+      kept = ap worker_at kept;
+    })
+    ∙ ap (λ (f : List (Option (Message ℕ))). let w : World = record (world_of state) { flight = flight_of f } in w) unchanged
+
+-- a want of memory, where the book is as it was
+pub failed-same : (old new : BookView) (why : NodeFault) → new ≡ old → why ≡ faults.NoMemory → HasFailed old new why
+failed-same old new why same is = subst (λ (b : BookView). HasFailed old b why) (sym same) (failed-not old why is)
