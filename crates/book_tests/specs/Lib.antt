@@ -1,1 +1,2 @@
 pub mod TestBooks
+pub mod TestSeats

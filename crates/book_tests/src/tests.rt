@@ -1,9 +1,12 @@
-//! Books over a keeper that tells its rows, and over one that does not: what is answered, and what
-//! is refused.
+//! Books over a keeper that tells its rows, and over one that does not, and books that threads share:
+//! what is answered, and what is refused.
 mod calls;
 mod example;
 mod hands;
+mod many_seats;
 mod overtaken;
 mod refusals;
 mod rising;
+mod seats;
 mod trials;
+mod turns;

@@ -18,7 +18,7 @@ use Rattle.row_parts.specs.Contents.{Contents}
 use Rattle.run_history.specs.Runs.{cached, row_in}
 use Rattle.run_history.proofs.Lists.{none_some, some_same}
 use Rattle.history_laws.proofs.RowSteps.{same_row}
-use Rattle.holdings.specs.Dues.{AreDues, due_at, due_name, due_of, due_order}
+use Rattle.holdings.specs.Dues.{AreDues, due_at, due_name, due_of, due_order, is_same_due}
 use Rattle.holdings.specs.Firsts.{HasPicked}
 use Rattle.holdings.specs.Keyed.{has_key, ties}
 use Rattle.holdings.specs.Timers.{IsFirstTimer, row_timer, timer_of}
@@ -40,6 +40,17 @@ then-equal Greater p tie = absurd (true≢false (sym tie))
 -- numbers that compare as equal are the same
 same_number : (x y : ℕ) → is_eq (nat_cmp x y) ≡ true → x ≡ y
 same_number x y h = grind (arith, nat_tests, h)
+
+-- timers of one row that stand at the same place are the same to the order
+pub same_due : (name : RowName) (before after : Option Timer) → is_same_due before after ≡ true
+    → option_map (due_at name) before ≡ option_map (due_at name) after
+same_due name None None is = refl
+same_due name None (Some b) is = absurd (true≢false (sym is))
+same_due name (Some a) None is = absurd (true≢false (sym is))
+same_due name (Some a) (Some b) is =
+    let time : a.time ≡ b.time = grind (arith, nat_tests, is) in
+    let tag : a.tag ≡ b.tag = grind (arith, nat_tests, is) in
+    ap (λ t. Some (due_at name (record a { time = t }))) time ∙ ap (λ t. Some (due_at name (record b { tag = t }))) tag
 
 -- timers of rows that tie are the same
 pub due_tie : (a b : Due) → is_at (due_order a) b ≡ true → a ≡ b

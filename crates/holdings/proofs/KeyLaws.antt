@@ -24,7 +24,7 @@ use Rattle.history_laws.proofs.RowSteps.{same_row}
 use Rattle.book.specs.Claims.{named}
 use Rattle.book.specs.declared.answers.NamedRow.{NamedRow}
 use Rattle.holdings.specs.Caching.{AreOrdered, merged}
-use Rattle.holdings.specs.Keyed.{AreKeys, AreKeysLeft, HasKeyed, HasRekeyed, has_any, has_key, ties}
+use Rattle.holdings.specs.Keyed.{AreKeys, AreKeysLeft, HasKeyed, HasRekeyed, IsThere, has_any, has_key, ties}
 use Rattle.holdings.proofs.CacheLaws.{lookup-behind, lookup-merged}
 use Rattle.holdings.proofs.WorkLaws.{before-none}
 
@@ -98,42 +98,19 @@ module _ {K : Type 0} (cmp : K → K → Ordering) (place : K → RowName) (key 
           ∙ ap (λ b. not b && is_some (lookup (is_at (cmp k)) old)) (apart-before name (row_in (cached rows) name) k apart)
           ∙ are.each k
 
-  -- a key that is taken away, whether it is that of the row that was there or that of no row
-  pub rekeyed-before : (rows : List (RowName × Contents)) (name : RowName) (taken : K) (after : Option K) (old new : List (K × Unit {0}))
-      → place taken ≡ name → ((row : Contents) (k : K) → key name row ≡ Some k → k ≡ taken)
-      → AreKeys cmp place key rows old → HasRekeyed cmp (Some taken) after old new
-      → HasRekeyed cmp (option_and_then (key name) (row_in (cached rows) name)) after old new
-  rekeyed-before rows name taken after old new at only are has = record {
-    ordered = has.ordered;
-    each = λ k. has.each k ∙ ap (λ b. ties cmp k after || b) (other_way k);
+  -- the key of the row that is there, if there is one, is among the keys
+  pub keys-there : (rows : List (RowName × Contents)) (name : RowName) (before : Option Contents) (keys : List (K × Unit {0}))
+      → AreKeys cmp place key rows keys → before ≡ row_in (cached rows) name → IsThere cmp (option_and_then (key name) before) keys
+  keys-there rows name before keys are is = record {
+    there = λ k tie.
+        are.each k ∙ ap (λ n. has_key cmp key k n (row_in (cached rows) n)) (at before k tie)
+        ∙ ap (has_key cmp key k name) (sym is) ∙ has-before k before name ∙ tie;
   }
     where
-      -- where the row that was there has a key, it is the one that is taken away
-      there : (before : Option Contents) (k : K) → is_at (cmp k) taken ≡ false → ties cmp k (option_and_then (key name) before) ≡ false
-      there None k apart = refl
-      there (Some row) k apart = by_key (key name row) refl
-        where
-          by_key : (o : Option K) → key name row ≡ o → ties cmp k o ≡ false
-          by_key None is = refl
-          by_key (Some j) is = ap (is_at (cmp k)) (only row j is) ∙ apart
-
-      none_both : (b : Bool) → false ≡ (not b && b)
-      none_both true = refl
-      none_both false = refl
-
-      other_way : (k : K) → (not (is_at (cmp k) taken) && is_some (lookup (is_at (cmp k)) old))
-          ≡ (not (ties cmp k (option_and_then (key name) (row_in (cached rows) name))) && is_some (lookup (is_at (cmp k)) old))
-      other_way k = elim (is_at (cmp k) taken) as (λ b. is_at (cmp k) taken ≡ b
-          → (not b && is_some (lookup (is_at (cmp k)) old))
-          ≡ (not (ties cmp k (option_and_then (key name) (row_in (cached rows) name))) && is_some (lookup (is_at (cmp k)) old))) [
-            | true ↦ λ tie.
-                let was : is_some (lookup (is_at (cmp k)) old) ≡ ties cmp k (option_and_then (key name) (row_in (cached rows) name)) =
-                are.each k ∙ ap (λ n. has_key cmp key k n (row_in (cached rows) n)) (ap place (same k taken tie) ∙ at)
-                ∙ has-before k (row_in (cached rows) name) name in
-                none_both (ties cmp k (option_and_then (key name) (row_in (cached rows) name)))
-                ∙ ap (λ b. not (ties cmp k (option_and_then (key name) (row_in (cached rows) name))) && b) (sym was)
-            | false ↦ λ apart. ap (λ b. not b && is_some (lookup (is_at (cmp k)) old)) (sym (there (row_in (cached rows) name) k apart))
-          ] refl
+      -- a key that ties with it is of the row's name
+      at : (before : Option Contents) (k : K) → ties cmp k (option_and_then (key name) before) ≡ true → place k ≡ name
+      at None k tie = absurd (true≢false (sym tie))
+      at (Some row) k tie = tied-place name row k (key name row) refl tie
 
 -- ---- one key
 
@@ -180,6 +157,18 @@ module _ {K : Type 0} (cmp : K → K → Ordering) (total : IsTotalOrder cmp) (s
 pub rekeyed-none : {K : Type 0} (cmp : K → K → Ordering) (old : List (K × Unit {0})) → IsStrictlySortedBy cmp (keys_of old)
     → HasRekeyed cmp None None old old
 rekeyed-none cmp old ordered = record { ordered = ordered; each = λ k. refl }
+
+-- a key is taken away and put again, which changes nothing where it was there
+pub rekeyed-same : {K : Type 0} (cmp : K → K → Ordering) (key : Option K) (old : List (K × Unit {0})) → IsStrictlySortedBy cmp (keys_of old)
+    → IsThere cmp key old → HasRekeyed cmp key key old old
+rekeyed-same cmp key old ordered is = record {
+  ordered = ordered;
+  each = λ k. by_tie (ties cmp k key) (is_some (lookup (is_at (cmp k)) old)) (is.there k);
+}
+  where
+    by_tie : (t s : Bool) → (t ≡ true → s ≡ true) → s ≡ (t || (not t && s))
+    by_tie true s there = there refl
+    by_tie false s there = refl
 
 -- one key is taken away, then one is put
 pub rekeyed-both : {K : Type 0} (cmp : K → K → Ordering) (before after : Option K) (old mid new : List (K × Unit {0}))

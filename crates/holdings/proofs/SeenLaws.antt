@@ -4,7 +4,7 @@ use Rattle.std.specs.Prelude.{None, Option, Some, max, nat_le, nat_lt}
 use Rattle.std.specs.Option.{is_some, option_and_then}
 use Rattle.std.specs.Cmp.{tied_itself}
 use Rattle.std.specs.Map.{keys_of, lookup}
-use Rattle.std.specs.BTreeMap.{insert_entry, is_at}
+use Rattle.std.specs.BTreeMap.{is_at}
 use Rattle.std.specs.Ordering.{is_eq}
 use Rattle.std.proofs.lemmas.Bool.Decides.{nat_tests}
 use Rattle.std.proofs.lemmas.Map.Keys.{sorted_tail}
@@ -15,10 +15,10 @@ use Rattle.row_parts.specs.Contents.{Contents}
 use Rattle.run_history.specs.Runs.{cached, row_in}
 use Rattle.run_history.proofs.Lists.{none_some, some_same}
 use Rattle.history_laws.proofs.RowSteps.{same_row}
-use Rattle.holdings.specs.Keyed.{HasRekeyed, has_key, ties}
+use Rattle.holdings.specs.Keyed.{has_key, ties}
 use Rattle.holdings.specs.Purges.{IsFirstToPurge, forgets}
-use Rattle.holdings.specs.Seens.{AreSeen, AreSeenLeft, own_name, seen_of}
-use Rattle.holdings.proofs.KeyLaws.{first-least, keys-put, rekeyed-before}
+use Rattle.holdings.specs.Seens.{AreSeen, AreSeenLeft, had_seen, name_if, own_name, seen_of}
+use Rattle.holdings.proofs.KeyLaws.{first-least}
 
 -- a name of a row that has seen ids is the row's
 pub seen_placed : (n : RowName) (row : Contents) (k : RowName) → seen_of n row ≡ Some k → own_name k ≡ n
@@ -28,11 +28,10 @@ seen_placed n row k is = by_test (nat_lt 0 (length row.seen)) is
     by_test true e = sym (some_same n k e)
     by_test false e = absurd (none_some k e)
 
--- the names stay those of the rows once a row is put
-pub seen-put : (rows : List (RowName × Contents)) (name : RowName) (row : Contents) (old new : List (RowName × Unit {0}))
-    → AreSeen rows old → HasRekeyed row_cmp (Some name) (seen_of name row) old new → AreSeen (insert_entry row_cmp rows name row) new
-seen-put rows name row old new are has = keys-put row_cmp own_name seen_of seen_placed same_row rows name row old new are
-    (rekeyed-before row_cmp own_name seen_of seen_placed same_row rows name name (seen_of name row) old new refl (seen_placed name) are has)
+-- a name of a row that has seen ids is there where it has
+pub seen_of-before : (name : RowName) (before : Option Contents) → option_and_then (seen_of name) before ≡ name_if (had_seen before) name
+seen_of-before name None = refl
+seen_of-before name (Some row) = refl
 
 -- a row that may forget ids has some
 has-some : (floor least : ℕ) (row : Contents) → forgets floor least row ≡ Some (tt {0}) → nat_lt 0 (length row.seen) ≡ true

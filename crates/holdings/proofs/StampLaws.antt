@@ -15,6 +15,7 @@ use Rattle.mw_types.specs.declared.identity.RowName.{RowName}
 use Rattle.mw_types.specs.declared.memory.NoMemory.{NoMemory}
 use Rattle.mw_types.specs.Orders.{row_cmp}
 use Rattle.mw_types.proofs.OrderLaws.{row_cmp-total}
+use Rattle.history_laws.proofs.RowSteps.{same_row}
 use Rattle.row_parts.specs.Contents.{Contents}
 use Rattle.run_history.specs.Marks.{row_marks}
 use Rattle.run_history.specs.Runs.{cached, row_in}
@@ -27,13 +28,13 @@ use Rattle.holdings.specs.Caching.{AreOrdered, merged}
 use Rattle.holdings.specs.Dues.{due_name, due_of, due_order}
 use Rattle.holdings.specs.Keyed.{HasRekeyed}
 use Rattle.holdings.specs.Indexes.{AreLeft, AreStamps, HasRestamped, HasStamped, IsIndexOf, IsIndexed, work_of}
-use Rattle.holdings.specs.Seens.{seen_of}
+use Rattle.holdings.specs.Seens.{own_name, seen_of}
 use Rattle.holdings.specs.declared.index.Index.{Index}
 use Rattle.holdings.proofs.CacheLaws.{lookup-behind, lookup-merged, merged-ordered}
 use Rattle.holdings.proofs.DueLaws.{due_placed, due_tie}
 use Rattle.holdings.proofs.KeyLaws.{keys-put}
 use Rattle.holdings.proofs.HeldPlaces.{number_or_not}
-use Rattle.holdings.proofs.SeenLaws.{seen-put}
+use Rattle.holdings.proofs.SeenLaws.{seen_placed}
 use Rattle.holdings.proofs.WorkLaws.{before-none, least-flat_map}
 
 -- ---- lists of which all sums are the same
@@ -238,17 +239,19 @@ pub index-put : (rows : List (RowName × Contents)) (name : RowName) (row : Cont
     → before ≡ row_in (cached rows) name
     → IfOk result (λ new. HasRestamped (option_map work_of before) (work_of row) old.work new.work)
     → IfOk result (λ new. HasRekeyed due_order (option_and_then (due_of name) before) (due_of name row) old.dues.entries new.dues.entries)
-    → IfOk result (λ new. HasRekeyed row_cmp (Some name) (seen_of name row) old.seen.entries new.seen.entries)
+    → IfOk result (λ new. HasRekeyed row_cmp (option_and_then (seen_of name) before) (seen_of name row) old.seen.entries new.seen.entries)
     → IfSome (result_ok result) (IsIndexOf (insert_entry row_cmp rows name row))
-index-put rows name row before old (Ok new) ordered are is has keyed named = record {
+index-put rows name row before old (Ok new) ordered are is has keyed rekeyed = record {
   work = stamps-put rows name row old.work new.work ordered are.work
       (subst (λ (o : Option Contents). HasRestamped (option_map work_of o) (work_of row) old.work new.work) is has);
   dues = keys-put due_order due_name due_of due_placed due_tie rows name row old.dues.entries new.dues.entries are.dues
       (subst (λ (o : Option Contents). HasRekeyed due_order (option_and_then (due_of name) o) (due_of name row) old.dues.entries new.dues.entries)
       is keyed);
-  seen = seen-put rows name row old.seen.entries new.seen.entries are.seen named;
+  seen = keys-put row_cmp own_name seen_of seen_placed same_row rows name row old.seen.entries new.seen.entries are.seen
+      (subst (λ (o : Option Contents). HasRekeyed row_cmp (option_and_then (seen_of name) o) (seen_of name row) old.seen.entries new.seen.entries)
+      is rekeyed);
 }
-index-put rows name row before old (Err want) ordered are is has keyed named = tt
+index-put rows name row before old (Err want) ordered are is has keyed rekeyed = tt
 
 -- rows and index after a row is put
 pub indexed-put : (rows after : List (RowName × Contents)) (name : RowName) (row : Contents) (index : Option Index)

@@ -1,5 +1,5 @@
 -- The first timers of rows, in the order in which they are due. No public clause cites this module.
-use Rattle.std.specs.Prelude.{List, Option}
+use Rattle.std.specs.Prelude.{Bool, true, false, ◌&&◌, ◌==◌, List, Option, Some, None}
 use Rattle.std.specs.Option.{option_map}
 use Rattle.std.specs.Ordering.{nat_cmp, ordering_then}
 use Rattle.std.specs.declared.cmp.Ordering.{Ordering}
@@ -27,6 +27,12 @@ due_name due = due.name
 -- the first timer of a row of this name, if it has one
 abbrev pub due_of : RowName → Contents → Option Due
 due_of name row = option_map (due_at name) (timer_of row)
+
+-- whether two timers of one row stand at the same place, or neither is there
+abbrev pub is_same_due : Option Timer → Option Timer → Bool
+is_same_due None None = true
+is_same_due (Some a) (Some b) = (a.time == b.time) && (a.tag == b.tag)
+is_same_due _ _ = false
 
 -- these are the first timers of the rows
 abbrev pub AreDues : List (RowName × Contents) → List (Due × Unit {0}) → Type 0

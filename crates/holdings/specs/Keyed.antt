@@ -1,5 +1,5 @@
 -- Keys that are made of rows, at most one of each row, in an order of their own. No public clause cites this module.
-use Rattle.std.specs.Prelude.{◌≡◌, Bool, false, not, ◌&&◌, ◌||◌, List, Option, Some, None}
+use Rattle.std.specs.Prelude.{◌≡◌, Bool, true, false, not, ◌&&◌, ◌||◌, List, Option, Some, None}
 use Rattle.std.specs.Option.{is_some}
 use Rattle.std.specs.List.{list_any}
 use Rattle.std.specs.List.Sorted.{IsStrictlySortedBy}
@@ -33,6 +33,10 @@ pub record HasRekeyed {K : Type 0} (cmp : K → K → Ordering) (before after : 
   pub ordered : IsStrictlySortedBy cmp (keys_of new)
   pub each : (k : K) → is_some (lookup (is_at (cmp k)) new)
       ≡ (ties cmp k after || (not (ties cmp k before) && is_some (lookup (is_at (cmp k)) old)))
+
+-- a key is among some, if there is one
+pub record IsThere {K : Type 0} (cmp : K → K → Ordering) (key : Option K) (keys : List (K × Unit {0})) : Type 0 where
+  pub there : (k : K) → ties cmp k key ≡ true → is_some (lookup (is_at (cmp k)) keys) ≡ true
 
 -- whether a key is that of any of some rows
 abbrev pub has_any : {K : Type 0} → (K → K → Ordering) → (RowName → Contents → Option K) → K → List (RowName × Contents) → Bool

@@ -1,5 +1,5 @@
 -- The names of the rows that have seen ids. No public clause cites this module.
-use Rattle.std.specs.Prelude.{◌≡◌, ℕ, true, List, Option, Some, None, length, nat_lt, if◌then◌else◌}
+use Rattle.std.specs.Prelude.{◌≡◌, ℕ, Bool, true, false, List, Option, Some, None, length, nat_lt, if◌then◌else◌}
 use Rattle.std.specs.Option.{is_some}
 use Rattle.std.specs.List.Sorted.{IsStrictlySortedBy}
 use Rattle.std.specs.Map.{keys_of, lookup}
@@ -14,6 +14,15 @@ use Rattle.holdings.specs.Purges.{forgets}
 -- the name of a row, if the row has seen ids
 abbrev pub seen_of : RowName → Contents → Option RowName
 seen_of name row = if nat_lt 0 (length row.seen) then Some name else None
+
+-- a name, if its row has seen ids
+abbrev pub name_if : Bool → RowName → Option RowName
+name_if seen name = if seen then Some name else None
+
+-- whether a row has seen ids, if there is one
+abbrev pub had_seen : Option Contents → Bool
+had_seen None = false
+had_seen (Some row) = nat_lt 0 (length row.seen)
 
 -- a name is that of its row
 abbrev pub own_name : RowName → RowName

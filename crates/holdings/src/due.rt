@@ -3,8 +3,8 @@ ghost use Rattle.std.specs.Prelude.{◌≡◌, IfOk, None, OnOk, option_copied, 
 ghost use Rattle.std.specs.Option.{option_and_then, option_map};
 ghost use Rattle.std.specs.List.Sorted.{IsStrictlySortedBy};
 ghost use Rattle.std.specs.Map.{keys_of};
-ghost use Rattle.holdings.specs.Dues.{AreDues, due_at, due_order};
-ghost use Rattle.holdings.specs.Keyed.{HasRekeyed};
+ghost use Rattle.holdings.specs.Dues.{AreDues, due_at, due_order, is_same_due};
+ghost use Rattle.holdings.specs.Keyed.{HasRekeyed, IsThere};
 ghost use Rattle.holdings.specs.Timers.{IsFirstTimer};
 
 use crate::cache::Cache;
@@ -30,8 +30,39 @@ pub(crate) struct Due {
 // The first timers of rows, of which the first is asked.
 pub(crate) type Dues = BTreeMap<Due, ()>;
 
-// One first timer in the place of another, of a row that may have none.
+// One first timer in the place of another, of a row that may have none. Most writes leave a row's
+// first timer as it was, and those change nothing.
 pub(crate) fn set_due(
+    alloc: Global,
+    dues: &mut Dues,
+    name: &RowName,
+    before: Option<Timer>,
+    after: Option<Timer>,
+) -> Result<(), NoMemory>
+    requires ordered { IsStrictlySortedBy due_order (keys_of dues.old.entries) }
+    requires there { IsThere due_order (option_map (due_at name.now) before) dues.old.entries }
+    ensures set { OnOk result (HasRekeyed due_order (option_map (due_at name.now) before)
+        (option_map (due_at name.now) after) dues.old.entries dues.new.entries) }
+{
+    if is_same(before, after) {
+        return Ok(());
+    }
+    change_due(alloc, dues, name, before, after)
+}
+
+// Whether two timers of one row stand at the same place, or neither is there.
+fn is_same(before: Option<Timer>, after: Option<Timer>) -> bool
+    ensures { result ≡ is_same_due before after }
+{
+    match (before, after) {
+        (Some(a), Some(b)) => a.time == b.time && a.tag == b.tag,
+        (None, None) => true,
+        _ => false,
+    }
+}
+
+// One first timer is gone, then another is there.
+fn change_due(
     alloc: Global,
     dues: &mut Dues,
     name: &RowName,

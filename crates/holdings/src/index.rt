@@ -7,15 +7,15 @@ ghost use Rattle.std.specs.BTreeMap.{insert_entry};
 ghost use Rattle.mw_types.specs.Orders.{row_cmp};
 ghost use Rattle.row_parts.specs.Contents.{Contents};
 ghost use Rattle.holdings.specs.Dues.{due_of, due_order};
-ghost use Rattle.holdings.specs.Keyed.{HasRekeyed};
+ghost use Rattle.holdings.specs.Keyed.{HasRekeyed, IsThere};
 ghost use Rattle.holdings.specs.Timers.{timer_of};
 ghost use Rattle.holdings.specs.Indexes.{HasRestamped, IsIndexOf, work_of};
-ghost use Rattle.holdings.specs.Seens.{seen_of};
+ghost use Rattle.holdings.specs.Seens.{had_seen, seen_of};
 
 use crate::cache::Cache;
 use crate::due::{Dues, add_due, set_due};
 use crate::row_work::row_work;
-use crate::seen::{Names, add_seen, set_seen};
+use crate::seen::{Names, add_seen, has_seen, set_seen};
 use mw_types::{NoMemory, RowName, Timer};
 use row_parts::Row;
 use std::alloc::Global;
@@ -73,12 +73,17 @@ impl Index {
         requires held { IfSome (option_copied before) (λ b. Contains self.work (work_of b)) }
         requires ordered { IsStrictlySortedBy due_order (keys_of self.dues.entries) }
         requires ascending { IsStrictlySortedBy row_cmp (keys_of self.seen.entries) }
+        requires due { IsThere due_order
+            (option_and_then (due_of name.now) (option_copied before)) self.dues.entries }
+        requires named { IsThere row_cmp
+            (option_and_then (seen_of name.now) (option_copied before)) self.seen.entries }
         ensures work { IfOk result (λ new. HasRestamped
             (option_map work_of (option_copied before.entry)) (work_of row.now) self.work new.work) }
         ensures dues { IfOk result (λ new. HasRekeyed due_order
             (option_and_then (due_of name.now) (option_copied before.entry))
             (due_of name.now row.now) self.dues.entries new.dues.entries) }
-        ensures seen { IfOk result (λ new. HasRekeyed row_cmp (Some name.now)
+        ensures seen { IfOk result (λ new. HasRekeyed row_cmp
+            (option_and_then (seen_of name.now) (option_copied before.entry))
             (seen_of name.now row.now) self.seen.entries new.seen.entries) }
     {
         let mut index = self;
@@ -86,7 +91,8 @@ impl Index {
         restamp(&mut index.work, old, row_work(row))?;
         let old = timer_before(before);
         set_due(alloc, &mut index.dues, name, old, row.least_timer())?;
-        set_seen(alloc, &mut index.seen, name, row)?;
+        let old = seen_before(before);
+        set_seen(alloc, &mut index.seen, name, old, has_seen(row))?;
         Ok(index)
     }
 }
@@ -126,6 +132,16 @@ fn timer_before(before: Option<&Row>) -> Option<Timer>
     match before {
         Some(row) => row.least_timer(),
         None => None,
+    }
+}
+
+// Whether a row had seen ids, if there is one.
+fn seen_before(before: Option<&Row>) -> bool
+    ensures { result ≡ had_seen (option_copied before.entry) }
+{
+    match before {
+        Some(row) => has_seen(row),
+        None => false,
     }
 }
 

@@ -1,12 +1,12 @@
 //! The names of the rows that have seen ids.
-ghost use Rattle.std.specs.Prelude.{◌≡◌, IfOk, None, OnOk, Some, option_copied};
+ghost use Rattle.std.specs.Prelude.{◌≡◌, IfOk, None, OnOk, Some, length, nat_lt, option_copied};
 ghost use Rattle.std.specs.Option.{is_some, option_and_then};
 ghost use Rattle.std.specs.List.Sorted.{IsStrictlySortedBy};
 ghost use Rattle.std.specs.Map.{keys_of};
 ghost use Rattle.mw_types.specs.Orders.{row_cmp};
-ghost use Rattle.holdings.specs.Keyed.{HasRekeyed};
+ghost use Rattle.holdings.specs.Keyed.{HasRekeyed, IsThere};
 ghost use Rattle.holdings.specs.Purges.{IsFirstToPurge, forgets};
-ghost use Rattle.holdings.specs.Seens.{AreSeen, seen_of};
+ghost use Rattle.holdings.specs.Seens.{AreSeen, name_if, seen_of};
 
 use crate::cache::Cache;
 use mw_types::{Duplicate, NoMemory, RowName};
@@ -17,19 +17,27 @@ use std::collections::BTreeMap;
 // Names of rows, in their order.
 pub(crate) type Names = BTreeMap<RowName, ()>;
 
-// The name of a row that was put, whether it was there or not.
+// The name of a row that was put, where its row has seen ids and had not, or the other way round.
 pub(crate) fn set_seen(
     alloc: Global,
     names: &mut Names,
     name: &RowName,
-    row: &Row,
+    before: bool,
+    after: bool,
 ) -> Result<(), NoMemory>
     requires ordered { IsStrictlySortedBy row_cmp (keys_of names.old.entries) }
-    ensures set { OnOk result (HasRekeyed row_cmp (Some name.now) (seen_of name.now row.now)
-        names.old.entries names.new.entries) }
+    requires there { IsThere row_cmp (name_if before name.now) names.old.entries }
+    ensures set { OnOk result (HasRekeyed row_cmp (name_if before name.now)
+        (name_if after name.now) names.old.entries names.new.entries) }
 {
-    drop_seen(names, name);
-    add_seen(alloc, names, name, row)
+    match (before, after) {
+        (false, true) => add_name(alloc, names, name),
+        (true, false) => {
+            drop_seen(names, name);
+            Ok(())
+        }
+        _ => Ok(()),
+    }
 }
 
 // A name is gone, if it was there.
@@ -51,11 +59,18 @@ pub(crate) fn add_seen(
     ensures added { OnOk result (HasRekeyed row_cmp None (seen_of name.now row.now)
         names.old.entries names.new.entries) }
 {
-    if 0 < row.seen.len() {
+    if has_seen(row) {
         add_name(alloc, names, name)
     } else {
         Ok(())
     }
+}
+
+// Whether a row has seen ids.
+pub(crate) fn has_seen(row: &Row) -> bool
+    ensures { result ≡ nat_lt 0 (length row.now.seen) }
+{
+    0 < row.seen.len()
 }
 
 // One more name.

@@ -28,10 +28,10 @@ mod reports;
 mod sends;
 mod settling;
 mod sweeping;
+mod unsent;
 mod work;
 mod writes;
 mod yields;
-mod unsent;
 
 pub use beside::node_fits_beside;
 pub use message::{Message, Parcel, Receipt};

@@ -1,5 +1,5 @@
 //! One worker.
-ghost use Rattle.std.specs.Prelude.{◌≡◌, ◌<◌, ◌↔◌, ℕ, List, Option, IsSome, IfSome, IsNone, IsTrue, None, Some};
+ghost use Rattle.std.specs.Prelude.{◌≡◌, ◌<◌, ◌↔◌, [], ℕ, List, Option, IsSome, IfSome, IsNone, IsTrue, None, Some};
 ghost use Rattle.run_history.specs.Cases.{CaseShape};
 ghost use Rattle.run_history.specs.Runs.{cached, row_in};
 ghost use Rattle.book.specs.Desks.{DeskView};
@@ -79,6 +79,16 @@ impl<N: Seen> Node<N> {
         ensures prepared { IsTrue result ↔ IsSome self.now.prepared }
     {
         self.prepared.is_some()
+    }
+
+    /// Forgets what it has to send: one that takes in each record from the rows that it holds, as a
+    /// drain does, sends none.
+    pub fn drop_messages(&mut self)
+        ensures gone { self.new ≡ record self.old { outbox = [] } }
+        ensures fits { (case : CaseShape) (desk : DeskView) → Fits case desk self.old →
+            Fits case desk self.new }
+    {
+        self.outbox.clear();
     }
 
     /// Forgets all, as a worker does that was started anew.

@@ -2,6 +2,7 @@
 -- does a look, which any seat may take.
 use Rattle.std.proofs.Common.{inl, inr, ◌≡◌, ◌≢◌, ◌⊎◌, ℕ, ◌+◌, ◌%◌, ◌^◌, ◌<◌, ◌≤◌, List, [], ◌∷◌, ◌++◌, length, Option, Some, true, refl, sym, ap, ◌∙◌, subst, ⊎_elim, arith, length-append}
 use Rattle.std.specs.Prelude.{slice_index, slice_set, slice_get, IfSome}
+use Rattle.std.proofs.lemmas.Option.{slice_get_within}
 use mathlib.Core.Option.{some, none}
 use mathlib.Core.Logic.{dite}
 use native.Mathlib.Decide.{ℕ_discrete}
@@ -12,9 +13,10 @@ use Rattle.mw_types.specs.Causes.{Rose}
 use Rattle.mw_types.proofs.CauseLaws.{Rose-before}
 use Rattle.mw_types.specs.declared.entry.Entry.{Entry}
 use Rattle.mw_types.specs.declared.entry.Entry.TheVariants.{Claim, Inject, Handle, Fire, Ack, Purge}
+use Rattle.topology.specs.Shapes.{Shape}
 use Rattle.run_history.specs.Legal.{IsLegal}
-use Rattle.run_history.specs.Fences.{Begins, IsFenced}
-use Rattle.run_history.proofs.Beginnings.{Begins-itself, Begins-trans, Begins-length, slice_get-last}
+use Rattle.run_history.specs.Fences.{Begins, IsFenced, sequencer_of}
+use Rattle.run_history.proofs.Beginnings.{Begins-itself, Begins-trans, Begins-length, Begins-at, slice_get-last}
 use Rattle.run_history.proofs.Fenced.{IsFenced-begins}
 use Rattle.book.specs.Books.{CoreView, LeaseView}
 use Rattle.book.specs.Lawful.{IsLawful, IsHeld}
@@ -28,7 +30,7 @@ use Rattle.shared_book.specs.FenceLaw.{Slot, FenceLaw, Fits, AreApart, IsCore, A
 use Rattle.shared_book.specs.Steps.{Appends, Gives, Faults, Looks, IsOwnEntry, lease_in, grown, idle, faulted}
 use Rattle.shared_book.proofs.Lists.{in_append, in_left, in_right, ascends_push, distinct_append, drop_front}
 use Rattle.shared_book.proofs.ViewLists.{everywhere_set, pairwise_set, somewhere_set, somewhere_here}
-use Rattle.shared_book.proofs.Histories.{begins_more, claim_kept, claim_within, all_below, below_push, legal_begins}
+use Rattle.shared_book.proofs.Histories.{begins_more, claim_kept, claim_within, entry_at_end, all_below, below_push, carried_below, legal_begins}
 use Rattle.shared_book.proofs.Moves.{off, apart_sym, fits_on, alone}
 
 -- ---- leases and their sequencers
@@ -124,6 +126,21 @@ lawful_legal basis h b lawful same told =
     (subst (λ (o : Option Unit). IfSome o (λ _. IsLegal basis.case b.history)) told
     (telling-if b.rows _ (told-then b.rows (IsHeld basis.case b.history) _ lawful.held (λ r held. held.legal))))
 
+-- each entry under a lease of the seat that appends is its own: the new entry is, and nothing carries the number
+-- of a lease that it gives
+all_written : (shape : Shape) (v : View) (e : Entry) (q : ℕ) → IsFenced shape v.front
+    → (IsIn q (sequencers v.leases) → (k : ℕ) (x : Entry) → slice_get v.front k ≡ Some x → sequencer_of x ≡ Some q → IsIn k v.own)
+    → IsIn q (sequencers v.leases) ⊎ IsIn q (sequencers (news v e))
+    → (k : ℕ) (x : Entry) → slice_get (v.front ++ e ∷ []) k ≡ Some x → sequencer_of x ≡ Some q → IsIn k (v.own ++ length v.front ∷ [])
+all_written shape v e q fenced before p k x there carries = ⊎_elim
+    (λ y. in_left k v.own (length v.front ∷ []) (⊎_elim
+    (λ r. before r k x y carries)
+    (λ r. let is = new_seq v e q r in
+    let below = carried_below shape v.front k q x fenced y carries in
+    let within = slice_get_within v.front k x y in absurd (omega (arith, is, below, within))) p))
+    (λ y. in_right k v.own (length v.front ∷ []) (inl y.0))
+    (entry_at_end v.front e x k there)
+
 -- the view of the seat that appends
 grown_fits : (basis : Basis) (s : State Slot View) (f : FenceLaw basis s) (id : ℕ) (v : View) (e : Entry)
     → get_elem? s.views id ≡ some v → v.turn ≡ true → v.live ≡ true
@@ -149,6 +166,10 @@ grown_fits basis s f id v e at turn live =
           (distinct_append (sequencers v.leases) (sequencers (news v e)) fit.once (news_distinct v e)
           (λ x p q. let b = seq_below v.front v.leases x fit.claimed p in let c = new_seq v e x q in omega (arith, b, c)));
       seen_own = λ q p. all_below h' h' q refl;
+      written = λ q p. all_written basis.case.topology v e q (subst (IsFenced basis.case.topology) (sym whole) f.fenced)
+          (λ r k x there carries. fit.written q r k x (subst (λ l. slice_get l k ≡ Some x) whole there) carries)
+          (in_append q (sequencers v.leases) (sequencers (news v e))
+          (subst (IsIn q) (sequencers_append v.leases (news v e)) p));
       own = λ k p. ⊎_elim (λ q. let o = fit.own k q in (o.0, omega (arith, o.1, more)))
           (λ q. ⊎_elim (λ x. (omega (arith, x, f.started, len), omega (arith, x, more))) (λ x. absurd x) q)
           (in_append k v.own (length v.front ∷ []) p);
@@ -223,7 +244,11 @@ appended basis s f id v b e at turn live may longer lawful limit told =
           fits_on basis f.history h' f.turn f.count f.turn f.count u fu (free i u o g) grows (omega arith)
           (λ q p. below_push v.front e q (length u.front)
           (subst (λ l. CarriesBelow l q (length u.front)) (sym whole) (fu.seen_own q p))
-          (λ carries. a.leases q (may q carries) p)));
+          (λ carries. a.leases q (may q carries) p))
+          (λ q p k x there carries. ⊎_elim
+          (λ y. fu.written q p k x (subst (λ l. slice_get l k ≡ Some x) whole y) carries)
+          (λ y. absurd (a.leases q (may q (ap sequencer_of y.1 ∙ carries)) p))
+          (entry_at_end v.front e x k there)));
       apart = pairwise_set AreApart s.views id w f.apart
           (λ i u o g. let n = grown_apart basis s f id v e at turn i u o g in (n, apart_sym w u n));
       owned = λ k p q. ⊎_elim
@@ -306,6 +331,7 @@ gives_turn basis slots id v b turn live core room s f homes at small =
               claimed = fit.claimed;
               once = fit.once;
               seen_own = fit.seen_own;
+              written = fit.written;
               own = fit.own;
               own_ascend = fit.own_ascend;
               numbers = fit.numbers;
@@ -314,7 +340,7 @@ gives_turn basis slots id v b turn live core room s f homes at small =
               failed = fit.failed;
             })
             (λ i u o e. fits_on basis f.history f.history f.turn f.count 0 f.count u (f.views i u e) (free i u o e)
-            (Begins-itself f.history) (omega arith) (f.views i u e).seen_own);
+            (Begins-itself f.history) (omega arith) (f.views i u e).seen_own (f.views i u e).written);
         apart = pairwise_set AreApart s.views id w f.apart
             (λ i u o e. let a = f.apart id i v u at e (λ x. o (sym x)) in
             let n : AreApart w u = record {
@@ -375,6 +401,7 @@ faults_one basis slots id v b turn more rose s f homes at small =
               claimed = fit.claimed;
               once = fit.once;
               seen_own = fit.seen_own;
+              written = fit.written;
               own = fit.own;
               own_ascend = fit.own_ascend;
               numbers = fit.numbers;
@@ -383,7 +410,7 @@ faults_one basis slots id v b turn more rose s f homes at small =
               failed = λ p. Rose-before basis.count v.count b.faults low rose;
             })
             (λ i u o e. fits_on basis f.history f.history f.turn f.count f.turn b.faults u (f.views i u e) (free i u o e)
-            (Begins-itself f.history) up (f.views i u e).seen_own);
+            (Begins-itself f.history) up (f.views i u e).seen_own (f.views i u e).written);
         apart = pairwise_set AreApart s.views id w f.apart
             (λ i u o e. let a = f.apart id i v u at e (λ x. o (sym x)) in
             let n : AreApart w u = record { turn = a.turn; leases = a.leases; own = a.own; numbers = a.numbers } in
@@ -432,5 +459,9 @@ looks_on basis slots id v l live s f homes at small =
           ascend = fit.numbers_ascend;
         },
         fit.met,
+        record {
+          own = λ k p. (fit.own k p).1;
+          written = λ q p k x there carries. fit.written q p k x (Begins-at v.front f.history k x fit.begins there) carries;
+        },
       ),
     )

@@ -1,15 +1,23 @@
 -- Beginnings of a history, and which of its entries carry a sequencer.
-use Rattle.std.proofs.Common.{inl, inr, ◌≡◌, ◌≢◌, ◌⊎◌, ℕ, zero, suc, ◌<◌, ◌≤◌, List, [], ◌∷◌, ◌++◌, length, refl, sym, ap, ◌∙◌, subst, ⊎_elim, arith, append_assoc, length-append}
-use Rattle.std.specs.Prelude.{Some, slice_get}
+use Rattle.std.proofs.Common.{inl, inr, ◌≡◌, ◌≢◌, ◌⊎◌, ℕ, zero, suc, ◌<◌, ◌≤◌, List, [], ◌∷◌, ◌++◌, length, take, refl, sym, ap, ◌∙◌, subst, ⊎_elim, arith, append_assoc, length-append}
+use Rattle.std.specs.Prelude.{Option, Some, None, slice_get}
+use Rattle.std.specs.Option.{option_and_then}
 use Rattle.std.specs.List.{AllByRecursion}
 use Rattle.std.proofs.lemmas.Option.{slice_get_within}
+use Rattle.std.proofs.lemmas.List.{length-take}
 use Rattle.std.proofs.lemmas.List.Elements.{All-from_recursion}
+use Rattle.mw_types.specs.declared.identity.RowName.{RowName}
 use Rattle.mw_types.specs.declared.entry.Entry.{Entry}
+use Rattle.mw_types.specs.declared.entry.Entry.TheVariants.{Claim, Inject, Handle, Fire, Ack, Purge}
+use Rattle.topology.specs.Shapes.{Shape}
+use Rattle.run_history.specs.Made.{row_written}
 use Rattle.run_history.specs.Cases.{CaseShape}
 use Rattle.run_history.specs.Runs.{Run, empty_run, followed}
 use Rattle.run_history.specs.Legal.{IsLegal, AreLegal}
-use Rattle.run_history.specs.Fences.{Begins, IsClaimed, HasSeenAll, sequencer_of}
+use Rattle.run_history.specs.Fences.{Begins, IsClaimed, IsFenced, HasSeenAll, interval_of, last_claim, sequencer_of}
 use Rattle.run_history.proofs.Lists.{some_same, none_some}
+use Rattle.run_history.proofs.Claims.{last_claim-within}
+use Rattle.run_history.proofs.Fenced.{IsFenced-at}
 use Rattle.run_history.proofs.Beginnings.{Begins-at, slice_get-more, slice_get-last}
 use Rattle.shared_book.specs.FenceLaw.{CarriesBelow}
 
@@ -46,6 +54,29 @@ below_push history last seq number below other at entry there carries = ⊎_elim
     (λ p. below at entry p carries)
     (λ p. absurd (other (ap sequencer_of p.1 ∙ carries)))
     (entry_at_end history last entry at there)
+
+-- an entry that carries a sequencer is on a row
+on_row : (entry : Entry) (seq : ℕ) → sequencer_of entry ≡ Some seq → (name : RowName) × (row_written entry ≡ Some name)
+on_row (Claim worker interval) seq carries = absurd (none_some seq carries)
+on_row (Inject q part line item) seq carries = (_, refl)
+on_row (Handle q row id effects) seq carries = (_, refl)
+on_row (Fire q row timer mark effects) seq carries = (_, refl)
+on_row (Ack q row id) seq carries = (_, refl)
+on_row (Purge q row floor) seq carries = (_, refl)
+
+-- a sequencer is below the number of each entry of a fenced history that carries it
+pub carried_below : (shape : Shape) (history : List Entry) (at seq : ℕ) (entry : Entry) → IsFenced shape history
+    → slice_get history at ≡ Some entry → sequencer_of entry ≡ Some seq → seq < at
+carried_below shape history at seq entry fenced there carries =
+    let on = on_row entry seq carries in
+    by_interval (interval_of shape on.0) (IsFenced-at shape history at entry fenced there on.0 on.1 ∙ carries)
+  where
+    by_interval : (o : Option ℕ) → option_and_then (λ (i : ℕ). last_claim i (take at history)) o ≡ Some seq → seq < at
+    by_interval None is = absurd (none_some seq is)
+    by_interval (Some i) is =
+        let within = last_claim-within i seq (take at history) is in
+        let short = length-take at history in
+        let there = slice_get_within history at entry there in omega (arith, within, short, there)
 
 -- entries behind what was seen do not carry a sequencer all of whose entries were seen
 rest_carry_not : (seq number : ℕ) (rest front : List Entry) → number ≤ length front → CarriesBelow (front ++ rest) seq number

@@ -78,6 +78,7 @@ note_splits basis id v s f at =
       claimed = λ l p. absurd p;
       once = tt;
       seen_own = λ q p. absurd p;
+      written = λ q p. absurd p;
       own = λ k p. absurd p;
       own_ascend = tt;
       numbers = λ n p. absurd p;
@@ -115,6 +116,7 @@ seat_splits basis id n m ms v is quiet s f at =
       claimed = fit.claimed;
       once = fit.once;
       seen_own = fit.seen_own;
+      written = fit.written;
       own = fit.own;
       own_ascend = fit.own_ascend;
       numbers = λ k p. fit.numbers k (others k p);
@@ -133,6 +135,7 @@ seat_splits basis id n m ms v is quiet s f at =
       claimed = λ l p. absurd p;
       once = tt;
       seen_own = λ q p. absurd p;
+      written = λ q p. absurd p;
       own = λ k p. absurd p;
       own_ascend = tt;
       numbers = λ k p. fit.numbers k (first k p);
@@ -183,6 +186,10 @@ joined_fits basis s f v w fv fw a live quiet =
           (λ y. let b = fv.seen_own q y j e there carries in omega (arith, b, p_len))
           (λ y. let b = fw.seen_own q y j e there carries in omega (arith, b, q_len))
           (in_either q p);
+      written = λ q p k x there carries. ⊎_elim
+          (λ y. merged_left k v.own w.own (fv.written q y k x there carries))
+          (λ y. merged_right k v.own w.own (fw.written q y k x there carries))
+          (in_either q p);
       own = λ k p. ⊎_elim
           (λ y. let b = fv.own k y in (b.0, omega (arith, b.1, p_len)))
           (λ y. let b = fw.own k y in (b.0, omega (arith, b.1, q_len)))
@@ -209,6 +216,7 @@ spent_fits basis s f = record {
   claimed = λ l p. absurd p;
   once = tt;
   seen_own = λ q p. absurd p;
+  written = λ q p. absurd p;
   own = λ k p. absurd p;
   own_ascend = tt;
   numbers = λ k p. absurd p;

@@ -6,7 +6,9 @@ pub mod Appending
 pub mod Merging
 pub mod Fronts
 pub mod Joining
+pub mod Meeting
 pub mod Closing
 pub mod Starting
 pub mod Told
 pub mod Calls
+pub mod BookReports

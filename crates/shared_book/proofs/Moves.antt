@@ -12,7 +12,7 @@ use Rattle.run_history.proofs.Beginnings.{Begins-itself, Begins-trans, Begins-le
 use Rattle.shared_book.specs.declared.views.Basis.{Basis}
 use Rattle.shared_book.specs.declared.views.View.{View}
 use Rattle.shared_book.specs.Lists.{IsIn}
-use Rattle.shared_book.specs.FenceLaw.{Slot, FenceLaw, Fits, AreApart, IsCore, AreClaimed, HasSeenOwn, no_marks}
+use Rattle.shared_book.specs.FenceLaw.{Slot, FenceLaw, Fits, AreApart, IsCore, AreClaimed, HasSeenOwn, HasWrittenAll, no_marks}
 use Rattle.shared_book.specs.Steps.{IsTry, Takes, holding, missing}
 use Rattle.shared_book.proofs.ViewLists.{everywhere_set, pairwise_set, somewhere_set, somewhere_here}
 use Rattle.shared_book.proofs.Histories.{claim_kept, all_below}
@@ -40,8 +40,8 @@ apart_sym v w a = record {
 
 -- a view without the turn still fits where the history goes on and the count does not fall
 pub fits_on : (basis : Basis) (h k : List Entry) (turn count turn' count' : ℕ) (u : View) → Fits basis h turn count u
-    → (u.turn ≡ true → ⊥) → Begins h k → count ≤ count' → HasSeenOwn k u → Fits basis k turn' count' u
-fits_on basis h k turn count turn' count' u f quiet grows more seen_own = record {
+    → (u.turn ≡ true → ⊥) → Begins h k → count ≤ count' → HasSeenOwn k u → HasWrittenAll k u → Fits basis k turn' count' u
+fits_on basis h k turn count turn' count' u f quiet grows more seen_own written = record {
   same = f.same;
   gone = f.gone;
   begins = Begins-trans u.front h k f.begins grows;
@@ -51,6 +51,7 @@ fits_on basis h k turn count turn' count' u f quiet grows more seen_own = record
   claimed = f.claimed;
   once = f.once;
   seen_own = seen_own;
+  written = written;
   own = f.own;
   own_ascend = f.own_ascend;
   numbers = f.numbers;
@@ -131,6 +132,7 @@ took basis slots id number ns v num quiet live s f at is =
               claimed = claimed;
               once = fit.once;
               seen_own = λ q p. all_below h b.history q core.whole;
+              written = fit.written;
               own = λ k p. let o = fit.own k p in (o.0, omega (arith, o.1, longer));
               own_ascend = fit.own_ascend;
               numbers = fit.numbers;
@@ -140,7 +142,7 @@ took basis slots id number ns v num quiet live s f at is =
               failed = λ p. rose_on basis.count f.count b.faults (fit.failed p) core.enough;
             })
             (λ i u o e. fits_on basis h h f.turn f.count (number + 1) b.faults u (f.views i u e) (free i u e)
-            (Begins-itself h) core.enough (f.views i u e).seen_own);
+            (Begins-itself h) core.enough (f.views i u e).seen_own (f.views i u e).written);
         apart = pairwise_set AreApart s.views id w f.apart
             (λ i u o e. let a = f.apart id i v u at e (λ x. o (sym x)) in
             let n : AreApart w u = record {
@@ -206,6 +208,7 @@ taken basis slots id number ns v num quiet live s f at (suc m) is =
               claimed = fit.claimed;
               once = fit.once;
               seen_own = fit.seen_own;
+              written = fit.written;
               own = fit.own;
               own_ascend = fit.own_ascend;
               numbers = fit.numbers;

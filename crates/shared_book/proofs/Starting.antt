@@ -160,6 +160,7 @@ newborn_law v b homes some_seat lawful home =
         claimed = λ l p. absurd p;
         once = tt;
         seen_own = λ q p. absurd p;
+        written = λ q p. absurd p;
         own = λ k p. absurd p;
         own_ascend = tt;
         numbers = λ k p. let c = (span_in 0 n k p).1 in omega (arith, c);

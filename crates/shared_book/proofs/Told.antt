@@ -232,3 +232,9 @@ pub turn_home : (old out new : SeatView) (a b : CoreView) → out ≡ (old.0, (0
 turn_home old out new a b was is same t core claimed =
     turn_back old new b (is ∙ ap (λ (m : SeatView). (m.0, (0, Some b) ∷ [])) was) t
     (subst (λ (x : CoreView). IsCore old.0.basis old.0.front old.0.count x) (sym same) core) claimed
+
+-- a seat with the turn once another book of the same history is in the place
+pub turn_left : (old out new : SeatView) (b : CoreView) → out ≡ (old.0, (0, None) ∷ []) → new ≡ (out.0, (0, Some b) ∷ [])
+    → old.0.turn ≡ true → IsCore old.0.basis old.0.front old.0.count b → AreClaimed old.0.front old.0.leases → HasTurn new
+turn_left old out new b was is t core claimed =
+    turn_back old new b (is ∙ ap (λ (m : SeatView). (m.0, (0, Some b) ∷ [])) was) t core claimed

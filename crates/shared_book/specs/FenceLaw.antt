@@ -62,6 +62,11 @@ CarriesBelow history seq number = (at : ℕ) (entry : Entry) → slice_get histo
 abbrev pub HasSeenOwn : List Entry → View → Type 0
 HasSeenOwn history v = (seq : ℕ) → IsIn seq (sequencers v.leases) → CarriesBelow history seq (length v.front)
 
+-- each entry that carries the sequencer of a lease of the seat is the seat's own
+abbrev pub HasWrittenAll : List Entry → View → Type 0
+HasWrittenAll history v = (seq : ℕ) → IsIn seq (sequencers v.leases) → (at : ℕ) (entry : Entry) →
+    slice_get history at ≡ Some entry → sequencer_of entry ≡ Some seq → IsIn at v.own
+
 -- the seat that has the turn: the word is 1 more than its least number, it has seen all, and it has the
 -- count
 abbrev pub HoldsTurn : List Entry → ℕ → ℕ → View → Type 0
@@ -91,6 +96,8 @@ pub record Fits (basis : Basis) (history : List Entry) (turn count : ℕ) (v : V
   pub claimed : AreClaimed v.front v.leases
   pub once : AreDistinct (sequencers v.leases)
   pub seen_own : HasSeenOwn history v
+  -- and it alone wrote that
+  pub written : HasWrittenAll history v
   -- own entries came after the start, were seen, and stand in order
   pub own : (commit : ℕ) → IsIn commit v.own → (basis.begin ≤ commit) × (commit < length v.front)
   pub own_ascend : Ascends v.own

@@ -2,7 +2,7 @@
 -- found, and the seat's view before and after, each with the places that the seat holds. Own. A step reads
 -- the book where the seat holds its place: so an entry is appended, and a fault noted, while the longer
 -- history, or the higher count, already lies there.
-use Rattle.std.specs.Prelude.{◌≡◌, ℕ, suc, ◌==◌, List, [], ◌∷◌, ◌++◌, true, false, IfSome, Some, None, length, drop, MatchBool, ◌≤◌}
+use Rattle.std.specs.Prelude.{◌≡◌, ℕ, suc, ◌==◌, List, [], ◌∷◌, ◌++◌, true, false, IfSome, Some, None, length, drop, MatchBool, ◌<◌, ◌≤◌}
 use Rattle.atomic_table.specs.Table.{Me, Step}
 use Rattle.mw_types.specs.declared.entry.Entry.{Entry}
 use Rattle.mw_types.specs.declared.entry.Entry.TheVariants.{Claim}
@@ -11,7 +11,7 @@ use Rattle.run_history.specs.Fences.{Begins, IsFenced, sequencer_of}
 use Rattle.book.specs.Books.{CoreView, LeaseView}
 use Rattle.shared_book.specs.declared.views.View.{View}
 use Rattle.shared_book.specs.Lists.{Ascends, IsIn}
-use Rattle.shared_book.specs.FenceLaw.{Slot, IsCore, AreClaimed, HasSeenOwn, sequencers}
+use Rattle.shared_book.specs.FenceLaw.{Slot, IsCore, AreClaimed, HasSeenOwn, HasWrittenAll, sequencers}
 
 -- a seat, as a step sees it: its view, and the places that it holds with what they hold
 abbrev pub SeatView : Type 0
@@ -132,7 +132,12 @@ pub record HasSeenLawful (v : View) : Type 0 where
   pub claimed : AreClaimed v.front v.leases
   pub ascend : Ascends v.numbers
 
+-- a seat has seen what it appended, and of what it has seen each entry under one of its leases is its own
+pub record HasSeenWritten (v : View) : Type 0 where
+  pub own : (commit : ℕ) → IsIn commit v.own → commit < length v.front
+  pub written : HasWrittenAll v.front v
+
 -- a seat looks, by a load of word 0, and learns what it has seen
 abbrev pub Looks : Step Slot → SeatView → ℕ → SeatView → Type 0
 Looks step seat found after = IsStep step 0 0 × (after ≡ seat) × HasSeenLawful seat.0
-    × Begins seat.0.met seat.0.front
+    × Begins seat.0.met seat.0.front × HasSeenWritten seat.0

@@ -68,6 +68,13 @@ pub record HasTaken (old new : View) : Type 0 where
       row_in (run_of old.basis.case.topology (known lease.interval lease.seq new.front)) name
       ≡ row_in (run_of old.basis.case.topology (known lease.interval lease.seq old.front)) name
 
+-- a note was met: what was seen goes on, and nothing that came to be seen was written under a lease of the seat
+pub record HasMetForeign (old new : View) : Type 0 where
+  pub others : List Entry
+  pub goes_on : old.front ++ others ≡ new.front
+  pub seen_all : (lease : LeaseView) → IsIn lease old.leases →
+      HasSeenAll lease.interval lease.seq old.front others
+
 -- ---- what a call in a turn asks
 
 -- a lease of the seat covers a name

@@ -31,6 +31,7 @@ pub(crate) fn claim_in<K: Keeper>(
     ensures here { IsHere shared.now.table.shared.table_id shared.now.case.now place.new }
     ensures turn { HasTurn place.new.me }
     ensures numbers { place.new.me.0.numbers ≡ place.old.me.0.numbers }
+    ensures basis { place.new.me.0.basis ≡ place.old.me.0.basis }
     ensures claimed { IfOk result
         (HasClaimedIn place.old.me.0 place.new.me.0 worker interval) }
     ensures full { IsErrOf result ClaimRefusal.HistoryFull ↔

@@ -37,6 +37,7 @@ pub(crate) fn write_in<K: Keeper>(
     ensures here { IsHere shared.now.table.shared.table_id shared.now.case.now place.new }
     ensures turn { HasTurn place.new.me }
     ensures numbers { place.new.me.0.numbers ≡ place.old.me.0.numbers }
+    ensures basis { place.new.me.0.basis ≡ place.old.me.0.basis }
     ensures written { IfOk result
         (HasWrittenIn place.old.me.0 place.new.me.0 lease.now name.now proposal.now row.now) }
     ensures stale { IsStaleWhere place.old.me.0.front lease.now result }

@@ -5,7 +5,7 @@ ghost use Rattle.book.specs.Books.{core_of};
 ghost use Rattle.shared_book.specs.Joins.{joined, note_of};
 ghost use Rattle.shared_book.specs.Lists.{IsIn};
 ghost use Rattle.shared_book.specs.Steps.{HasSeenLawful};
-ghost use Rattle.shared_book.specs.Turns.{IsClosed, IsHere, IsIdle};
+ghost use Rattle.shared_book.specs.Turns.{HasMetForeign, IsClosed, IsHere, IsIdle};
 
 use crate::rule::{Joined, Noted};
 use crate::seats::{Note, Seat};
@@ -45,8 +45,10 @@ impl<'a, K: Keeper> Shared<'a, K> {
         ensures leases { seat.new.place.me.0.leases ≡ seat.old.place.me.0.leases }
         ensures faults { seat.new.place.me.0.faults ≡ seat.old.place.me.0.faults }
         ensures lawful { HasSeenLawful seat.new.place.me.0 }
+        ensures foreign { HasMetForeign seat.old.place.me.0 seat.new.place.me.0 }
     {
         let Note { place } = note;
+        look(self, &mut seat.place);
         self.table
             .shared
             .join_seat::<Joined>(&mut seat.place, place);

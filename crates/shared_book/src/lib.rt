@@ -13,6 +13,7 @@ mod claiming;
 mod in_turn;
 mod joins;
 mod opening;
+mod reporting;
 mod rule;
 mod seats;
 mod shared;

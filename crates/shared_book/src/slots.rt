@@ -3,7 +3,7 @@ ghost use Rattle.std.specs.Prelude.{◌≡◌, ◌≢◌, ◌∷◌, [], None, S
 ghost use Rattle.mw_types.specs.Causes.{Rose};
 ghost use Rattle.run_history.specs.Fences.{Begins};
 ghost use Rattle.shared_book.specs.FenceLaw.{AreClaimed, IsCore};
-ghost use Rattle.shared_book.specs.Steps.{HasSeenLawful, faulted, grown, idle, missing};
+ghost use Rattle.shared_book.specs.Steps.{HasSeenLawful, HasSeenWritten, faulted, grown, idle, missing};
 ghost use Rattle.shared_book.specs.Turns.{HasTaken, HasTurn, IsGrown, IsHere, IsIdle, IsOut};
 
 use crate::rule::{Append, Fault, Give, Look, Take};
@@ -119,6 +119,7 @@ pub(crate) fn look<K: Keeper>(shared: &Shared<'_, K>, place: &mut Place<Option<C
     ensures same { place.new.me ≡ place.old.me }
     ensures seen { HasSeenLawful place.old.me.0 }
     ensures met { Begins place.old.me.0.met place.old.me.0.front }
+    ensures written { HasSeenWritten place.old.me.0 }
 {
     shared.table.shared.load::<Look>(place, 0);
 }

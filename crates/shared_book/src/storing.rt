@@ -36,6 +36,7 @@ pub(crate) fn settle_in<K: Keeper>(
     ensures here { IsHere shared.now.table.shared.table_id shared.now.case.now place.new }
     ensures turn { HasTurn place.new.me }
     ensures numbers { place.new.me.0.numbers ≡ place.old.me.0.numbers }
+    ensures basis { place.new.me.0.basis ≡ place.old.me.0.basis }
     ensures written { let entry = Ack lease.now.seq name.now id in IfOk result
         (HasStoredIn place.old.me.0 place.new.me.0 lease.now name.now entry row.now) }
     ensures stale { IsStaleWhere place.old.me.0.front lease.now result }
@@ -82,6 +83,7 @@ pub(crate) fn purge_in<K: Keeper>(
     ensures here { IsHere shared.now.table.shared.table_id shared.now.case.now place.new }
     ensures turn { HasTurn place.new.me }
     ensures numbers { place.new.me.0.numbers ≡ place.old.me.0.numbers }
+    ensures basis { place.new.me.0.basis ≡ place.old.me.0.basis }
     ensures written { let entry = Purge lease.now.seq name.now floor in IfOk result
         (HasStoredIn place.old.me.0 place.new.me.0 lease.now name.now entry row.now) }
     ensures stale { IsStaleWhere place.old.me.0.front lease.now result }

@@ -39,6 +39,8 @@ pub(crate) fn claim_at<K: Keeper>(
 
     ensures here { IsHere shared.now.table.shared.table_id shared.now.case.now seat.new.place }
     ensures turn { HasTurn seat.new.place.me }
+    ensures numbers { seat.new.place.me.0.numbers ≡ seat.old.place.me.0.numbers }
+    ensures basis { seat.new.place.me.0.basis ≡ seat.old.place.me.0.basis }
     ensures claimed { IfOk result
         (HasClaimedIn seat.old.place.me.0 seat.new.place.me.0 worker interval) }
     ensures full { IsErrOf result ClaimRefusal.HistoryFull ↔
@@ -72,6 +74,8 @@ pub(crate) fn write_at<K: Keeper>(
 
     ensures here { IsHere shared.now.table.shared.table_id shared.now.case.now seat.new.place }
     ensures turn { HasTurn seat.new.place.me }
+    ensures numbers { seat.new.place.me.0.numbers ≡ seat.old.place.me.0.numbers }
+    ensures basis { seat.new.place.me.0.basis ≡ seat.old.place.me.0.basis }
     ensures written { IfOk result (HasWrittenIn seat.old.place.me.0 seat.new.place.me.0
         lease.now name.now proposal.now row.now) }
     ensures stale { IsStaleWhere seat.old.place.me.0.front lease.now result }
@@ -103,6 +107,8 @@ pub(crate) fn settle_at<K: Keeper>(
 
     ensures here { IsHere shared.now.table.shared.table_id shared.now.case.now seat.new.place }
     ensures turn { HasTurn seat.new.place.me }
+    ensures numbers { seat.new.place.me.0.numbers ≡ seat.old.place.me.0.numbers }
+    ensures basis { seat.new.place.me.0.basis ≡ seat.old.place.me.0.basis }
     ensures written { let entry = Ack lease.now.seq name.now id in IfOk result
         (HasStoredIn seat.old.place.me.0 seat.new.place.me.0 lease.now name.now entry row.now) }
     ensures stale { IsStaleWhere seat.old.place.me.0.front lease.now result }
@@ -135,6 +141,8 @@ pub(crate) fn purge_at<K: Keeper>(
 
     ensures here { IsHere shared.now.table.shared.table_id shared.now.case.now seat.new.place }
     ensures turn { HasTurn seat.new.place.me }
+    ensures numbers { seat.new.place.me.0.numbers ≡ seat.old.place.me.0.numbers }
+    ensures basis { seat.new.place.me.0.basis ≡ seat.old.place.me.0.basis }
     ensures written { let entry = Purge lease.now.seq name.now floor in IfOk result
         (HasStoredIn seat.old.place.me.0 seat.new.place.me.0 lease.now name.now entry row.now) }
     ensures stale { IsStaleWhere seat.old.place.me.0.front lease.now result }
@@ -167,6 +175,7 @@ pub(crate) fn give_at<K: Keeper>(shared: &Shared<'_, K>, seat: &mut Seat<K>)
     requires here { IsHere shared.now.table.shared.table_id shared.now.case.now seat.old.place }
     requires turn { HasTurn seat.old.place.me }
     ensures table { seat.new.place.table_id ≡ seat.old.place.table_id }
+    ensures here { IsHere shared.now.table.shared.table_id shared.now.case.now seat.new.place }
     ensures view { seat.new.place.me ≡ (idle seat.old.place.me.0, []) }
 {
     give(shared, &mut seat.place);

@@ -153,6 +153,15 @@ drains-on start old new was node more on turned at = record {
         (subst (λ (c : CaseShape). IsNextIn c old.history entry) on.gone.case next from
         (claimed-more start.case from start.history old.history on.gone.grown claimed))
 
+-- a worker that forgets what it has to send is still at work
+pub at_work-emptied : (book : BookView) (was node : NodeView) → IsAtWork book was → node ≡ record was { outbox = [] }
+    → Fits book.case (own_view book) node → IsAtWork book node
+at_work-emptied book was node at is fits = record {
+  fits = fits;
+  free = ap (λ (n : NodeView). n.prepared) is ∙ at.free;
+  each = subst (λ (n : NodeView). HasFirst book.history n.held (interval_count book.case.topology)) (sym is) at.each;
+}
+
 -- a drain has ended where a turn wrote nothing
 pub drains-end : (start old new : BookView) (was : NodeView) → IsDrainingOn start old was → HasTurned old new false
     → (IsSome old.rows → IsEndOf old.case old.history) → IsSome start.rows → (from : ℕ) → HasClaimedAll start.case from start.history

@@ -40,4 +40,3 @@ pub mod TakeSteps
 pub mod SendSteps
 pub mod StepLaws
 pub mod SendWorlds
-pub mod DrainedWorlds

@@ -82,6 +82,8 @@ fn turn_all<'a, K: Keeper, C: Computation>(
         WhereTold book.old (IsUnended book.old.case book.new.history) }
     ensures damaged { IfErr result (λ why. IsDamageOf (own_view book.new) (refusal_of why)) }
 {
-    while turn(alloc, book, work, node)? {}
+    while turn(alloc, book, work, node)? {
+        node.drop_messages();
+    }
     Ok(())
 }

@@ -108,7 +108,7 @@ impl<'a, K: Keeper, C: Computation + Drop> World<'a, K, C> {
 }
 
 // Sixteen workers that have nothing, by their numbers.
-fn sixteen(alloc: Global) -> Result<Vec<Node<u64>>, NoMemory>
+pub(crate) fn sixteen(alloc: Global) -> Result<Vec<Node<u64>>, NoMemory>
     ensures { IfOk result (λ nodes. AreNew 16 nodes.items) }
 {
     let mut nodes = Vec::new(alloc);

@@ -1,11 +1,14 @@
 use Rattle.std.proofs.Common.{refl, rules}
-use Rattle.std.specs.Prelude.{IfOk}
+use Rattle.std.specs.Prelude.{IfErr, IfOk}
 use Rattle.scripts.specs.declared.step.Step.TheVariants as steps
 use Rattle.world.specs.WorkerCalls.{ActsOn, HasCalled}
 use Rattle.world.proofs.ActsOnLaws.{fire-on}
 use Rattle.world.proofs.Results.{ok-then}
 use Rattle.world.proofs.WorkerLaws.{by-result, called-by, leases-some, leases-same}
 use Rattle.node.specs.Asking.{MayAskFire}
+use Rattle.world.specs.Turns.{HasFailed}
+use Rattle.world.proofs.TurnLaws.{failed-some}
+use Rattle.world.proofs.WorkerLaws.{err-with}
 use Rattle.world.proofs.worker_calls.fire.Goals as goal
 
 -- the worker has called its desk
@@ -31,3 +34,13 @@ returns-clause-acted g c =
     let node = c.fire-result.new.self in
     let acted : IfOk c.fire-result.result (ActsOn (steps.Fire was.number c.args.part) old was new node) =
     ok-then c.fire-result.result (λ outcome answers. fire-on c.case-case.result.now old new was node c.args.part outcome c.case-case.ensures.case c.history.ensures.lawful c.fire-result.ensures.marks c.requires.fits answers) c.fire-result.ensures.answers in search rules
+
+-- a refusal has its cause
+pub returns-clause-failed : goal.returns-clause-failed
+returns-clause-failed g c =
+    let old = c.args.book.now in
+    let new = c.fire-result.new.desk.book.now in
+    let failed : IfErr c.fire-result.result (HasFailed old new) =
+    err-with c.fire-result.result (λ why fails looked. failed-some old new
+    (MayAskFire c.case-case.result.now c.args.node.now c.args.part fails.mark) why looked fails.fails) c.fire-result.ensures.fault
+    c.fire-result.ensures.looked in search rules

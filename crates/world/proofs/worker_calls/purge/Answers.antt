@@ -1,11 +1,14 @@
 use Rattle.std.proofs.Common.{refl, rules}
-use Rattle.std.specs.Prelude.{IfOk}
+use Rattle.std.specs.Prelude.{IfErr, IfOk}
 use Rattle.scripts.specs.declared.step.Step.TheVariants as steps
 use Rattle.world.specs.WorkerCalls.{ActsOn, HasCalled}
 use Rattle.world.proofs.ActsOnLaws.{purge-on}
 use Rattle.world.proofs.Results.{ok-then}
 use Rattle.world.proofs.WorkerLaws.{by-result, called-by, leases-some, leases-same}
 use Rattle.node.specs.Asking.{MayAskPurge}
+use Rattle.world.specs.Turns.{HasFailed}
+use Rattle.world.proofs.TurnLaws.{failed-some}
+use Rattle.world.proofs.WorkerLaws.{err-with}
 use Rattle.world.proofs.worker_calls.purge.Goals as goal
 
 -- the worker has called its desk
@@ -31,3 +34,13 @@ returns-clause-acted g c =
     let node = c.purge-result.new.self in
     let acted : IfOk c.purge-result.result (ActsOn (steps.Purge was.number c.args.interval) old was new node) =
     ok-then c.purge-result.result (λ outcome answers. purge-on c.case-case.result.now old new was node c.args.interval outcome c.case-case.ensures.case c.history.ensures.lawful c.purge-result.ensures.marks c.requires.fits answers) c.purge-result.ensures.answers in search rules
+
+-- a refusal has its cause
+pub returns-clause-failed : goal.returns-clause-failed
+returns-clause-failed g c =
+    let old = c.args.book.now in
+    let new = c.purge-result.new.desk.book.now in
+    let failed : IfErr c.purge-result.result (HasFailed old new) =
+    err-with c.purge-result.result (λ why fails looked. failed-some old new
+    (MayAskPurge c.case-case.result.now.topology c.args.node.now c.args.interval 1 fails.floor) why looked fails.fails)
+    c.purge-result.ensures.fault c.purge-result.ensures.looked in search rules

@@ -1,11 +1,14 @@
 use Rattle.std.proofs.Common.{refl, rules}
-use Rattle.std.specs.Prelude.{IfOk}
+use Rattle.std.specs.Prelude.{IfErr, IfOk}
 use Rattle.scripts.specs.declared.step.Step.TheVariants as steps
 use Rattle.world.specs.WorkerCalls.{ActsOn, HasCalled}
 use Rattle.world.proofs.ActsOnLaws.{report-on}
 use Rattle.world.proofs.ActsOnLaws.{ok-is, same-answer}
 use Rattle.world.proofs.WorkerLaws.{by-result, called-by, leases-report, leases-same}
 use Rattle.holdings.specs.Holding.{held_at}
+use Rattle.world.specs.Turns.{HasFailed}
+use Rattle.world.proofs.Results.{err-then}
+use Rattle.world.proofs.WorkerLaws.{failed-only-memory}
 use Rattle.world.proofs.worker_calls.report.Goals as goal
 
 -- the worker has called its desk
@@ -32,3 +35,12 @@ returns-clause-acted g c =
     ok-is c.report-result.result (λ outcome is answers. report-on c.case-case.result.now old new was node c.args.interval outcome c.case-case.ensures.case
     c.history.ensures.lawful (λ unmarked. c.report-result.ensures.unchanged refl (λ mark marked. unmarked mark (same-answer c.report-result.result outcome _ is marked)))
     c.requires.fits c.requires.there answers) c.report-result.ensures.answers in search rules
+
+-- a refusal has its cause
+pub returns-clause-failed : goal.returns-clause-failed
+returns-clause-failed g c =
+    let old = c.args.book.now in
+    let new = c.report-result.new.desk.book.now in
+    let failed : IfErr c.report-result.result (HasFailed old new) =
+    err-then c.report-result.result (λ why is. failed-only-memory old new why c.report-result.ensures.looked is)
+    c.report-result.ensures.memory in search rules
