@@ -1,5 +1,5 @@
 -- What a book that was worked off leaves, as a run.
-use Rattle.std.proofs.Common.{◌≡◌, ◌∙◌, ◌⊎◌, ◌≤◌, ℕ, true, false, List, [], length, Option, Some, None, IfSome, refl, sym, ap, subst, inl, inr, true≢false, arith}
+use Rattle.std.proofs.Common.{◌≡◌, ◌∙◌, ℕ, List, [], length, Option, Some, None, IfSome, refl, sym, ap, subst, true≢false}
 use Rattle.std.specs.Option.{is_some}
 use Rattle.mw_types.specs.declared.entry.Entry.{Entry}
 use Rattle.mw_types.specs.declared.identity.RowName.{RowName}
@@ -18,7 +18,7 @@ use Rattle.book.specs.OwnDesks.{own_view, telling}
 use Rattle.node.specs.Answers.{refusal_of}
 use Rattle.node.specs.declared.outcome.NodeFault.{NodeFault}
 use Rattle.node.specs.declared.outcome.NodeFault.TheVariants as faults
-use Rattle.world.specs.Drains.{IsDraining, IsDrained, HasEnded, HasInjected}
+use Rattle.world.specs.Drains.{IsDraining, HasEnded, HasInjected}
 use Rattle.millwheel_cli.specs.declared.task.Task.{Task}
 use Rattle.millwheel_cli.specs.Answers.{Left, IsKeptRun, IsRun, IsWholeRun}
 

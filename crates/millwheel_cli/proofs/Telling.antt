@@ -23,7 +23,7 @@ use Rattle.millwheel_cli.specs.Files.{HoldsAs, HoldsSources, topology_taken, sou
 use Rattle.millwheel_cli.specs.Loads.{load_text}
 use Rattle.millwheel_cli.specs.Tasks.{IsInputsTask, IsLoadTask, IsTask}
 use Rattle.millwheel_cli.specs.Reasons.{ShelfSeen, IsUnread, IsFileRefused, IsSourceRefused, IsRefused, IsCallRefused, IsCommandRefused, HasReason, file_within, file_as, source_before, sources_taken, inputs_taken, load_taken, ended, ran_over, answer_for, answer_of, IsAnswer}
-use Rattle.millwheel_cli.specs.Answers.{Left, HasRun, HasLeft}
+use Rattle.millwheel_cli.specs.Answers.{Left, HasLeft}
 
 -- what is said of something where it is told is said of it
 told_of : {T : Type 0} (found : Option T) (held : T) (P : T → Type 0) → found ≡ Some held → IfSome found P → P held

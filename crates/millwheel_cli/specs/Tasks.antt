@@ -1,5 +1,5 @@
 -- What a command is to do, once its files are read: the case of a run, and what is to be written of it. Own.
-use Rattle.std.specs.Prelude.{◌≡◌, ℕ, Bool, List, [], ◌∷◌, length, if◌then◌else◌, Option, Ok}
+use Rattle.std.specs.Prelude.{◌≡◌, ℕ, Bool, [], ◌∷◌, length, if◌then◌else◌, Option, Ok}
 use Rattle.command_line.specs.declared.command.Inputs.{Inputs}
 use Rattle.command_line.specs.declared.command.Call.{Call}
 use Rattle.command_line.specs.declared.command.Call.TheVariants.{Solo, Replay, Load}
