@@ -88,8 +88,8 @@ pub record IsCommandRefused (seen : ShelfSeen) (words : List (List ℕ)) (status
   pub named : asked_of words ≡ Some command
   pub why : IsCallRefused seen command.call status
 
--- why a status came that comes before a run: the words are no command that is run, or a file is refused. What is said of
--- the other statuses stands in clauses of their own
+-- why a status came that comes before a run: the words are no command that is run, or a file is refused. What
+-- is said of the other statuses stands in clauses of their own
 abbrev pub HasReason : ShelfSeen → List (List ℕ) → Status → Type 0
 HasReason seen words status.Ok = ⊤
 HasReason seen words KeeperFault = ⊤

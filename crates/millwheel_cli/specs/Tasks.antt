@@ -23,8 +23,8 @@ pub record IsInputsTask (files : Option Files) (inputs : Inputs) (task : Task) :
   pub events_read : HoldsSources files 0 lines_limit inputs.events task.case.sources
   pub text : task.wanted ≡ wanted_of inputs.history
 
--- the case is that of load, by this seed and with so many lines: what solo makes of its topology and of one event
--- file with its lines
+-- the case is that of load, by this seed and with so many lines: what solo makes of its topology and of one
+-- event file with its lines
 pub record IsLoadCase (seed lines : ℕ) (case : CaseShape) : Type 0 where
   pub topology_read : topology_taken 1 load_topology ≡ Ok case.topology
   pub source : Source
