@@ -1,5 +1,5 @@
 -- What a run leaves, or where none was begun, is what the status leaves.
-use Rattle.std.proofs.Common.{◌≡◌, ℕ, Bool, List, length, Option, Some, None, IfSome, refl, inl, inr, sym, subst, arith}
+use Rattle.std.proofs.Common.{◌≡◌, ℕ, List, length, Option, Some, None, IfSome, refl, inl, inr, sym, subst, arith}
 use Rattle.mw_types.specs.declared.identity.RowName.{RowName}
 use Rattle.mw_types.specs.declared.entry.Entry.{Entry}
 use Rattle.command_line.specs.declared.command.Command.{Command}
@@ -7,7 +7,6 @@ use Rattle.command_line.specs.declared.refusal.WordsRefusal.{WordsRefusal}
 use Rattle.command_line.specs.declared.refusal.WordsRefusal.TheVariants as refusals
 use Rattle.mw_ports.specs.Shelves.{Files}
 use Rattle.row_keeper.specs.Rows.{Rows}
-use Rattle.run_history.specs.Cases.{CaseShape}
 use Rattle.book.specs.Answers.{IsNotEmpty}
 use Rattle.world.specs.Replays.{IsWholeReplay}
 use Rattle.book.specs.Claims.{IsDamagedRow}

@@ -1,5 +1,5 @@
 -- Of what a status comes.
-use Rattle.std.proofs.Common.{◌≡◌, ℕ, Bool, List, Option, refl, subst, arith}
+use Rattle.std.proofs.Common.{◌≡◌, ℕ, List, Option, refl, subst, arith}
 use Rattle.mw_types.specs.declared.entry.Entry.{Entry}
 use Rattle.command_line.specs.declared.refusal.WordsRefusal.{WordsRefusal}
 use Rattle.command_line.specs.declared.refusal.WordsRefusal.TheVariants as refusals

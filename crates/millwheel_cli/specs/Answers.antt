@@ -1,5 +1,5 @@
 -- What each status leaves of the history, of the keeper's rows and of the text. Own.
-use Rattle.std.specs.Prelude.{◌≡◌, ◌⊎◌, ◌++◌, ℕ, List, [], length, Option, Some, None, IfSome, slice_get}
+use Rattle.std.specs.Prelude.{◌≡◌, ◌⊎◌, ◌++◌, ℕ, List, [], length, Option, Some, IfSome, slice_get}
 use Rattle.std.specs.Io.KnownBytes.{append_known}
 use Rattle.mw_types.specs.declared.identity.RowName.{RowName}
 use Rattle.mw_types.specs.declared.entry.Entry.{Entry}
@@ -69,7 +69,8 @@ pub record IsLongText (shape : Shape) (history : List Entry) (text : List ℕ) :
   pub of_history : IsResultText shape history result
   pub spelled : text ≡ lines_of_history history ++ result
 
--- the whole text that is wanted of a history: a result of it, or its lines before that, or the summary line alone
+-- the whole text that is wanted of a history: a result of it, or its lines before that, or the summary line
+-- alone
 abbrev pub IsWholeText : Wanted → Shape → List Entry → List ℕ → Type 0
 IsWholeText ResultAlone shape history text = IsResultText shape history text
 IsWholeText HistoryFirst shape history text = IsLongText shape history text
