@@ -79,10 +79,10 @@ whole_run task old left run runnable law tells whole = record {
 }
 
 -- a run that is not the whole is not, where rows are seen after
-pub more_seen : {A : Type 0} (old new : Option Rows) → is_some new ≡ is_some old → IfSome old (λ _. A → ⊥) → IfSome new (λ _. A → ⊥)
-more_seen old None tells more = tt
-more_seen None (Some rows) tells more = absurd (true≢false tells)
-more_seen (Some held) (Some rows) tells more = more
+pub more_seen : (A : Type 0) (old new : Option Rows) → is_some new ≡ is_some old → IfSome old (λ _. A → ⊥) → IfSome new (λ _. A → ⊥)
+more_seen A old None tells more = tt
+more_seen A None (Some rows) tells more = absurd (true≢false tells)
+more_seen A (Some held) (Some rows) tells more = more
 
 -- what a desk does not tell a contract does not see
 untold_of : {X : Type 0} (told : Option X) → IfSome (telling told) (λ _. ⊥) → IfSome told (λ _. ⊥)

@@ -26,8 +26,8 @@ returns-in-Ok-clause-left g c =
     (subst (λ (ss : List Step). IfSome old.rows (λ _. IsWholeReplay old.case ss new.history)) c.steps.ensures.steps
     c.in-Ok.ensures.whole) in
     let run = run_of_book task old new (g.O.Sink.text c.args.out.now, g.O.Sink.text c.write.new.out) c.requires.case after.case
-    c.look.ensures c.look-2.ensures empty after.tells replayed in
-    let whole = whole_run task old.rows _ run (subst IsRunnable c.requires.case c.look.ensures.runnable)
+    c.look.ensures.lawful c.look-2.ensures.lawful empty after.tells replayed in
+    let whole = whole_run task old.rows _ run (subst IsRunnable c.requires.case c.look.ensures.lawful.runnable)
     c.drains_leave_no_work.ensures.finished after.tells all in
     wrote_as task _ _ _ c.history-history.ensures.history whole c.write.ensures.written
 
@@ -42,10 +42,10 @@ returns-in-Err-clause-left g c =
     let replayed = subst (λ (k : CaseShape). IfSome old.rows (λ _. IsReplayed k task.steps new.history)) c.requires.case
     (subst (λ (ss : List Step). IfSome old.rows (λ _. IsReplayed old.case ss new.history)) c.steps.ensures.steps after.replayed) in
     let run = run_of_book task old new (text, text) c.requires.case after.case
-    c.look.ensures c.look-2.ensures empty after.tells replayed in
+    c.look.ensures.lawful c.look-2.ensures.lawful empty after.tells replayed in
     let status = stopped task _ c.in-Err.fault run refl
     (λ e. c.in-Err.ensures.full (ap Err e) ∙ after.limit ∙ c.requires.limit)
-    (λ e. more_seen old.rows new.rows after.tells
+    (λ e. more_seen _ old.rows new.rows after.tells
     (subst (λ (k : CaseShape). IfSome old.rows (λ _. IsWholeReplay k task.steps new.history → ⊥)) c.requires.case
     (subst (λ (ss : List Step). IfSome old.rows (λ _. IsWholeReplay old.case ss new.history → ⊥)) c.steps.ensures.steps
     (c.in-Err.ensures.more (ap Err e)))))
@@ -54,8 +54,8 @@ returns-in-Err-clause-left g c =
 
 pub returns-in-Ok-clause-untouched : goal.returns-in-Ok-clause-untouched
 returns-in-Ok-clause-untouched g c empty =
-    let before = c.look.ensures in
-    let after = c.look-2.ensures in
+    let before = c.look.ensures.lawful in
+    let after = c.look-2.ensures.lawful in
     let old = c.args.world.now.book in
     let new = c.replay-replayed.new.world.book in
     same_where_empty old.case new.case old.history new.history old.rows new.rows c.replay-replayed.ensures.tells
@@ -63,8 +63,8 @@ returns-in-Ok-clause-untouched g c empty =
 
 pub returns-in-Err-clause-untouched : goal.returns-in-Err-clause-untouched
 returns-in-Err-clause-untouched g c empty =
-    let before = c.look.ensures in
-    let after = c.look-2.ensures in
+    let before = c.look.ensures.lawful in
+    let after = c.look-2.ensures.lawful in
     let old = c.args.world.now.book in
     let new = c.replay-replayed.new.world.book in
     same_where_empty old.case new.case old.history new.history old.rows new.rows c.replay-replayed.ensures.tells
@@ -74,10 +74,10 @@ pub write-requires-clause-printable : goal.write-requires-clause-printable
 write-requires-clause-printable g c =
     subst (λ (k : CaseShape). IsPrintable k.topology c.history-history.result.now) (c.replay-replayed.ensures.case ∙ c.requires.case)
     (subst (λ (h : List Entry). IsPrintable c.replay-replayed.new.world.book.case.topology h) (sym c.history-history.ensures.history)
-    c.look-2.ensures.printable)
+    c.look-2.ensures.lawful.printable)
 
 pub write-requires-clause-lines : goal.write-requires-clause-lines
-write-requires-clause-lines g c = subst (All HasLine) (sym c.history-history.ensures.history) c.look-2.ensures.lines
+write-requires-clause-lines g c = subst (All HasLine) (sym c.history-history.ensures.history) c.look-2.ensures.lawful.lines
 
 pub returns-in-Ok-clause-keeper_fault : goal.returns-in-Ok-clause-keeper_fault
 returns-in-Ok-clause-keeper_fault g c is = absurd (text_keeper _ _ _ _ _ _ c.write.ensures.written is)

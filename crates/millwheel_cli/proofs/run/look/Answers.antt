@@ -3,5 +3,5 @@ use Rattle.book.specs.Books.{BookView, core_of}
 use Rattle.book.specs.Lawful.{IsLawful}
 use Rattle.millwheel_cli.proofs.run.look.Goals as goal
 
-pub returns-clause-lawful : goal.returns-clause-lawful
-returns-clause-lawful g c = subst (λ (b : BookView). IsLawful b.case (core_of b)) c.book.ensures.book c.history.ensures.lawful
+pub returns : goal.returns
+returns g c = record { lawful = subst (λ (b : BookView). IsLawful b.case (core_of b)) c.book.ensures.book c.history.ensures.lawful }

@@ -14,7 +14,7 @@ returns-in_err-run_script-clause-replayed g c =
 pub returns-in_err-run_script-clause-more : goal.returns-in_err-run_script-clause-more
 returns-in_err-run_script-clause-more g c is =
     let old = c.args.world.now.book in
-    script_unended old.case old.rows _ c.args.steps.now _ c.look.ensures.runnable.topology c.requires.begun
+    script_unended old.case old.rows _ c.args.steps.now _ c.look.ensures.lawful.runnable.topology c.requires.begun
     c.in_err-run_script.ensures.begun
 
 -- ---- the script was done
@@ -33,7 +33,7 @@ returns-clause-replayed g c =
     let old = c.args.world.now.book in
     let mid = c.run_script.new.world.book in
     let script = c.in_ok-run_script.ensures in
-    replayed_of _ _ _ _ (drained_behind old.case mid.case old.rows mid.rows _ _ c.args.steps.now mid.history _ script.case script.tells
+    replayed_of old.case old.rows c.args.steps.now _ (drained_behind old.case mid.case old.rows mid.rows _ _ c.args.steps.now mid.history _ script.case script.tells
     c.requires.begun script.done refl c.drain.ensures.grown c.drain.ensures.draining)
 
 pub returns-clause-keeper_fault : goal.returns-clause-keeper_fault
