@@ -112,6 +112,11 @@ events_refused files later f0 f1 f2 l0 l1 l2 plan inputs names count shape steps
           (subst (λ (ns : List (List ℕ)). IsSourceRefused (seen_of later f1 f2 l1 l2) 0 lines_limit ns s) same why));
     }))) is
 
+-- a plan that was held is held by the same files
+pub plan_same : (files later : Option Files) (plan : Option (List ℕ)) (shape : Shape) (steps : List Step) → later ≡ files
+    → HoldsPlan later plan shape steps → HoldsPlan files plan shape steps
+plan_same files later plan shape steps same is = subst (λ (fs : Option Files). HoldsPlan fs plan shape steps) same is
+
 -- what files were read make a task
 pub inputs_task : (files later : Option Files) (plan : Option (List ℕ)) (inputs : Inputs) (names : List (List ℕ)) (count : ℕ)
     (shape : Shape) (sources : List Source) (task : Task)

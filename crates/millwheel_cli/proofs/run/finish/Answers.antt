@@ -1,5 +1,6 @@
 use Rattle.std.proofs.Common.{◌≡◌, ◌∙◌, Err, List, All, IfSome, refl, sym, ap, subst}
 use Rattle.mw_types.specs.declared.entry.Entry.{Entry}
+use Rattle.book.specs.Books.{BookView}
 use Rattle.run_history.specs.Cases.{CaseShape}
 use Rattle.run_history.specs.Printing.{IsPrintable}
 use Rattle.run_history.specs.HistoryLines.{HasLine}
@@ -29,7 +30,8 @@ returns-in-Ok-clause-left g c =
     c.look.ensures.lawful c.look-2.ensures.lawful empty after.tells replayed in
     let whole = whole_run task old.rows _ run (subst IsRunnable c.requires.case c.look.ensures.lawful.runnable)
     c.drains_leave_no_work.ensures.finished after.tells all in
-    wrote_as task _ _ _ c.history-history.ensures.history whole c.write.ensures.written
+    let told = c.history-history.ensures.history ∙ ap (λ (b : BookView). b.history) c.book.ensures.book in
+    wrote_as task _ _ _ told whole c.write.ensures.written
 
 pub returns-in-Err-clause-left : goal.returns-in-Err-clause-left
 returns-in-Err-clause-left g c =
@@ -73,11 +75,11 @@ returns-in-Err-clause-untouched g c empty =
 pub write-requires-clause-printable : goal.write-requires-clause-printable
 write-requires-clause-printable g c =
     subst (λ (k : CaseShape). IsPrintable k.topology c.history-history.result.now) (c.replay-replayed.ensures.case ∙ c.requires.case)
-    (subst (λ (h : List Entry). IsPrintable c.replay-replayed.new.world.book.case.topology h) (sym c.history-history.ensures.history)
+    (subst (λ (h : List Entry). IsPrintable c.replay-replayed.new.world.book.case.topology h) (sym (c.history-history.ensures.history ∙ ap (λ (b : BookView). b.history) c.book.ensures.book))
     c.look-2.ensures.lawful.printable)
 
 pub write-requires-clause-lines : goal.write-requires-clause-lines
-write-requires-clause-lines g c = subst (All HasLine) (sym c.history-history.ensures.history) c.look-2.ensures.lawful.lines
+write-requires-clause-lines g c = subst (All HasLine) (sym (c.history-history.ensures.history ∙ ap (λ (b : BookView). b.history) c.book.ensures.book)) c.look-2.ensures.lawful.lines
 
 pub returns-in-Ok-clause-keeper_fault : goal.returns-in-Ok-clause-keeper_fault
 returns-in-Ok-clause-keeper_fault g c is = absurd (text_keeper _ _ _ _ _ _ c.write.ensures.written is)
