@@ -31,7 +31,13 @@ fn replayed(alloc: Global, plan: &str, out: &mut MemSink) -> Result<Done<MemKeep
     files.push(file(alloc, "p", plan)?)?;
     files.push(file(alloc, "e", EVENTS)?)?;
     let mut shelf = MemShelf::of(files, CallList::new(alloc));
-    called(alloc, "replay --plan p t.json e", &mut shelf, keeper(alloc), out)
+    called(
+        alloc,
+        "replay --plan p t.json e",
+        &mut shelf,
+        keeper(alloc),
+        out,
+    )
 }
 
 #[test]
