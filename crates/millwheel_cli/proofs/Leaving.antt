@@ -1,5 +1,5 @@
 -- What a run leaves, or where none was begun, is what the status leaves.
-use Rattle.std.proofs.Common.{◌≡◌, ℕ, Bool, List, length, Option, Some, None, IfSome, refl, inl, inr, sym, subst, arith}
+use Rattle.std.proofs.Common.{◌≡◌, ℕ, List, length, Option, Some, None, IfSome, refl, inl, inr, sym, subst, arith}
 use Rattle.mw_types.specs.declared.identity.RowName.{RowName}
 use Rattle.mw_types.specs.declared.entry.Entry.{Entry}
 use Rattle.command_line.specs.declared.command.Command.{Command}
@@ -7,9 +7,8 @@ use Rattle.command_line.specs.declared.refusal.WordsRefusal.{WordsRefusal}
 use Rattle.command_line.specs.declared.refusal.WordsRefusal.TheVariants as refusals
 use Rattle.mw_ports.specs.Shelves.{Files}
 use Rattle.row_keeper.specs.Rows.{Rows}
-use Rattle.run_history.specs.Cases.{CaseShape}
 use Rattle.book.specs.Answers.{IsNotEmpty}
-use Rattle.world.specs.Drains.{HasEnded}
+use Rattle.world.specs.Replays.{IsWholeReplay}
 use Rattle.book.specs.Claims.{IsDamagedRow}
 use Rattle.book.specs.declared.refusals.StartWhy.{StartWhy}
 use Rattle.book.specs.declared.refusals.StartWhy.TheVariants as starts
@@ -19,9 +18,9 @@ use Rattle.millwheel_cli.specs.declared.status.Status.{Status}
 use Rattle.millwheel_cli.specs.declared.status.Status.TheVariants as status
 use Rattle.millwheel_cli.specs.declared.task.Task.{Task}
 use Rattle.millwheel_cli.specs.declared.refusal.Refusal.{Refusal}
-use Rattle.millwheel_cli.specs.declared.refusal.Refusal.TheVariants.{NoFile, TopologyRefused, EventsRefused, NoMemory, ReadFault, TooLong, FileCount}
+use Rattle.millwheel_cli.specs.declared.refusal.Refusal.TheVariants.{NoFile, TopologyRefused, EventsRefused, PlanRefused, NoMemory, ReadFault, TooLong, FileCount}
 use Rattle.millwheel_cli.specs.Limits.{history_limit}
-use Rattle.millwheel_cli.specs.Asked.{asked_of}
+use Rattle.command_line.specs.Grammar.{command_of}
 use Rattle.millwheel_cli.specs.Tasks.{IsTask}
 use Rattle.millwheel_cli.specs.Reasons.{ShelfSeen, HasReason}
 use Rattle.millwheel_cli.specs.Answers.{Left, IsUnbegun, IsRun, IsWholeRun, RunLeaves, HasRun, HasLeft}
@@ -33,6 +32,7 @@ pub left_of_refusal : (files : Option Files) (words : List (List ℕ)) (left : L
 left_of_refusal files words left (NoFile name) is = is
 left_of_refusal files words left (TopologyRefused why) is = is
 left_of_refusal files words left (EventsRefused file line why) is = is
+left_of_refusal files words left (PlanRefused line) is = is
 left_of_refusal files words left NoMemory is = inr is
 left_of_refusal files words left (ReadFault name) is = is
 left_of_refusal files words left (TooLong name) is = is
@@ -40,17 +40,18 @@ left_of_refusal files words left (FileCount n m) is = is
 
 -- what the run of a task leaves is what the status leaves
 ran : (files : Option Files) (words : List (List ℕ)) (command : Command) (task : Task) (left : Left) (s : Status)
-    → asked_of words ≡ Some command → IsTask files command.call task → RunLeaves task left s → HasRun files words left s
+    → command_of words ≡ Some command → IsTask files command.call task → RunLeaves task left s → HasRun files words left s
 ran files words command task left s named asked leaves = record { command = command; named = named; task = task; asked = asked; leaves = leaves }
 
 -- so it is with each status that may come then
 pub left_of_run : (files : Option Files) (words : List (List ℕ)) (command : Command) (task : Task) (left : Left) (s : Status)
-    → asked_of words ≡ Some command → IsTask files command.call task → RunLeaves task left s → HasLeft files words left s
+    → command_of words ≡ Some command → IsTask files command.call task → RunLeaves task left s → HasLeft files words left s
 left_of_run files words command task left status.Ok named asked leaves = ran files words command task left _ named asked leaves
 left_of_run files words command task left status.Usage named asked leaves = absurd leaves
 left_of_run files words command task left (status.NoFile n) named asked leaves = absurd leaves
 left_of_run files words command task left (status.TopologyRefused why) named asked leaves = absurd leaves
 left_of_run files words command task left (status.EventsRefused file line why) named asked leaves = absurd leaves
+left_of_run files words command task left (status.PlanRefused line) named asked leaves = absurd leaves
 left_of_run files words command task left status.KeeperFault named asked leaves = ran files words command task left _ named asked leaves
 left_of_run files words command task left status.SinkFault named asked leaves = ran files words command task left _ named asked leaves
 left_of_run files words command task left status.NoMemory named asked leaves = inl (ran files words command task left _ named asked leaves)
@@ -74,6 +75,7 @@ wrote task left status.Usage run is = absurd is
 wrote task left (status.NoFile n) run is = absurd is
 wrote task left (status.TopologyRefused why) run is = absurd is
 wrote task left (status.EventsRefused file line why) run is = absurd is
+wrote task left (status.PlanRefused line) run is = absurd is
 wrote task left status.KeeperFault run is = absurd is
 wrote task left status.SinkFault run is = record { run = run; text = is.text; whole = is.whole; part = is.part }
 wrote task left status.NoMemory run is = elim is [
@@ -96,7 +98,7 @@ wrote_as task left history s told run is = wrote task left s run
 -- what a drain that stopped leaves is what its status leaves
 pub stopped : (task : Task) (left : Left) (fault : NodeFault) → IsRun task left → left.text.1 ≡ left.text.0
     → (fault ≡ faults.HistoryFull → length left.history ≡ history_limit)
-    → (fault ≡ faults.HistoryFull → IfSome left.rows.1 (λ _. HasEnded task.case 0 left.history → ⊥))
+    → (fault ≡ faults.HistoryFull → IfSome left.rows.1 (λ _. IsWholeReplay task.case task.steps left.history → ⊥))
     → ((name : RowName) (bytes : List ℕ) → fault ≡ faults.RowDamaged name bytes
     → IsDamagedRow task.case left.rows.1 (length left.history) name bytes)
     → RunLeaves task left (of_drain fault)
@@ -123,6 +125,7 @@ run_reason seen words task left status.Usage leaves = absurd leaves
 run_reason seen words task left (status.NoFile n) leaves = absurd leaves
 run_reason seen words task left (status.TopologyRefused why) leaves = absurd leaves
 run_reason seen words task left (status.EventsRefused file line why) leaves = absurd leaves
+run_reason seen words task left (status.PlanRefused line) leaves = absurd leaves
 run_reason seen words task left status.KeeperFault leaves = tt
 run_reason seen words task left status.SinkFault leaves = tt
 run_reason seen words task left status.NoMemory leaves = tt
@@ -171,6 +174,6 @@ left_of_words files words left refusals.NoMemory is = inr is
 
 -- and its reason
 pub words_reason : (seen : ShelfSeen) (words : List (List ℕ)) (refusal : WordsRefusal)
-    → (refusal ≡ refusals.Usage → asked_of words ≡ None) → HasReason seen words (of_words refusal)
+    → (refusal ≡ refusals.Usage → command_of words ≡ None) → HasReason seen words (of_words refusal)
 words_reason seen words refusals.Usage none = none refl
 words_reason seen words refusals.NoMemory none = tt

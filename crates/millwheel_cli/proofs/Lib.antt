@@ -4,6 +4,7 @@ pub mod Sources
 pub mod Loading
 pub mod Statuses
 pub mod Works
+pub mod Replaying
 pub mod Running
 pub mod Leaving
 pub mod Telling

@@ -3,7 +3,7 @@ use Rattle.std.proofs.Common.{◌≡◌, ◌≤◌, ◌∙◌, ℕ, List, length
 use Rattle.mw_ports.specs.Shelves.{Files}
 use Rattle.millwheel_cli.specs.declared.status.Status.{Status}
 use Rattle.millwheel_cli.specs.declared.refusal.Refusal.{Refusal}
-use Rattle.millwheel_cli.specs.declared.refusal.Refusal.TheVariants.{NoFile, TopologyRefused, EventsRefused, NoMemory, ReadFault, TooLong, FileCount}
+use Rattle.millwheel_cli.specs.declared.refusal.Refusal.TheVariants.{NoFile, TopologyRefused, EventsRefused, PlanRefused, NoMemory, ReadFault, TooLong, FileCount}
 use Rattle.millwheel_cli.specs.Files.{IsContent, HoldsAs}
 use Rattle.millwheel_cli.specs.Reasons.{ShelfSeen, IsUnread, IsFileRefused}
 use Rattle.millwheel_cli.specs.Inside.{UnlessWant}
@@ -13,6 +13,7 @@ pub unless_map : (P Q : Status → Type 0) (refusal : Refusal) → ((s : Status)
 unless_map P Q (NoFile name) f is = f _ is
 unless_map P Q (TopologyRefused why) f is = f _ is
 unless_map P Q (EventsRefused file line why) f is = f _ is
+unless_map P Q (PlanRefused line) f is = f _ is
 unless_map P Q NoMemory f is = tt
 unless_map P Q (ReadFault name) f is = f _ is
 unless_map P Q (TooLong name) f is = f _ is

@@ -18,7 +18,8 @@ use Rattle.book.specs.OwnDesks.{own_view, telling}
 use Rattle.node.specs.Answers.{refusal_of}
 use Rattle.node.specs.declared.outcome.NodeFault.{NodeFault}
 use Rattle.node.specs.declared.outcome.NodeFault.TheVariants as faults
-use Rattle.world.specs.Drains.{IsDraining, IsDrained, HasEnded, HasInjected}
+use Rattle.world.specs.Drains.{HasInjected}
+use Rattle.world.specs.Replays.{IsReplayed, IsWholeReplay}
 use Rattle.millwheel_cli.specs.declared.task.Task.{Task}
 use Rattle.millwheel_cli.specs.Answers.{Left, IsKeptRun, IsRun, IsWholeRun}
 
@@ -49,57 +50,39 @@ seen_again None (Some rows) tells f a p = absurd (true≢false tells)
 seen_again (Some held) (Some rows) tells f a p = f rows a p
 
 -- rows that a book has are those of a run
-kept_run : (task : Task) (from : ℕ) (history : List Entry) (rows : Rows) → from ≡ 0 → IsDraining task.case from history
-    → IsHeld task.case history rows
-    → IsKeptRun task history rows
-kept_run task from history rows zero draining held = record {
-  legal = held.legal;
-  draining = subst (λ n. IsDraining task.case n history) zero draining;
-  stored = held.stored;
-}
+kept_run : (task : Task) (history : List Entry) (rows : Rows) → IsReplayed task.case task.steps history
+    → IsHeld task.case history rows → IsKeptRun task history rows
+kept_run task history rows replayed held = record { legal = held.legal; replayed = replayed; stored = held.stored }
 
--- a book that began with nothing and went on as a drain does has a run
+-- a book that began with nothing and went on as the steps and a drain do has a run
 pub run_of_book : (task : Task) (old new : BookView) (text : Option (List ℕ) × Option (List ℕ))
     → old.case ≡ task.case → new.case ≡ old.case → IsLawful old.case (core_of old) → IsLawful new.case (core_of new) → old.history ≡ []
-    → is_some new.rows ≡ is_some old.rows → IfSome old.rows (λ _. IsDraining old.case (length old.history) new.history)
+    → is_some new.rows ≡ is_some old.rows → IfSome old.rows (λ _. IsReplayed task.case task.steps new.history)
     → IsRun task (record { rows = (old.rows, new.rows); text = text; history = new.history })
-run_of_book task old new text mine same before after empty tells draining =
+run_of_book task old new text mine same before after empty tells replayed =
     let lawful : IsLawful task.case (core_of new) = subst (λ c. IsLawful c (core_of new)) (same ∙ mine) after in
-    let drains : IfSome old.rows (λ _. IsDraining task.case (length old.history) new.history) =
-    subst (λ c. IfSome old.rows (λ _. IsDraining c (length old.history) new.history)) mine draining in
     record {
       began_empty = none_kept old.case old.history old.rows empty before.held;
       fenced = lawful.fenced;
-      kept = seen_again old.rows new.rows tells (λ rows d h. kept_run task (length old.history) new.history rows (ap length empty) d
-          h) drains lawful.held;
+      kept = seen_again old.rows new.rows tells (λ rows r h. kept_run task new.history rows r h) replayed lawful.held;
     }
 
 -- a run that went to the drain's end is a whole one
-pub whole_run : (task : Task) (case : CaseShape) (from : ℕ) (old : Option Rows) (left : Left) → case ≡ task.case → IsRun task left
-    → IsRunnable case → from ≡ 0
+pub whole_run : (task : Task) (old : Option Rows) (left : Left) → IsRun task left → IsRunnable task.case
     → ((c : CaseShape) (n : ℕ) (h : List Entry) → IsRunnable c → IsLegal c h → HasInjected c n h → IsFinished c (run_of c.topology h))
-    → is_some left.rows.1 ≡ is_some old → IfSome old (λ _. HasEnded case from left.history) → IsWholeRun task left
-whole_run task case from old left mine run runnable zero law tells ended =
-    let here : IfSome old (λ _. HasEnded task.case from left.history) =
-    subst (λ c. IfSome old (λ _. HasEnded c from left.history)) mine ended in
-    record {
-      run = run;
-      drained = seen_again old left.rows.1 tells (λ rows e k. record {
-        draining = k.draining;
-        ended = subst (λ n. HasEnded task.case n left.history) zero e;
-      }) here run.kept;
-      finished = seen_again old left.rows.1 tells
-          (λ rows e k. law task.case from left.history (subst IsRunnable mine runnable) k.legal e.earlier) here run.kept;
-    }
+    → is_some left.rows.1 ≡ is_some old → IfSome old (λ _. IsWholeReplay task.case task.steps left.history) → IsWholeRun task left
+whole_run task old left run runnable law tells whole = record {
+  run = run;
+  whole = seen_again old left.rows.1 tells (λ rows w k. w) whole run.kept;
+  finished = seen_again old left.rows.1 tells
+      (λ rows w k. law task.case _ left.history runnable k.legal w.drained.ended.earlier) whole run.kept;
+}
 
--- a drain that has more to write has more, in the words of its task
-pub more_seen : (task : Task) (case : CaseShape) (from : ℕ) (history : List Entry) (old new : Option Rows) → case ≡ task.case → from ≡ 0
-    → is_some new ≡ is_some old → IfSome old (λ _. HasEnded case from history → ⊥)
-    → IfSome new (λ _. HasEnded task.case 0 history → ⊥)
-more_seen task case from history old None mine zero tells more = tt
-more_seen task case from history None (Some rows) mine zero tells more = absurd (true≢false tells)
-more_seen task case from history (Some held) (Some rows) mine zero tells more =
-    λ ended. more (subst (λ c. HasEnded c from history) (sym mine) (subst (λ n. HasEnded task.case n history) (sym zero) ended))
+-- a run that is not the whole is not, where rows are seen after
+pub more_seen : (A : Type 0) (old new : Option Rows) → is_some new ≡ is_some old → IfSome old (λ _. A → ⊥) → IfSome new (λ _. A → ⊥)
+more_seen A old None tells more = tt
+more_seen A None (Some rows) tells more = absurd (true≢false tells)
+more_seen A (Some held) (Some rows) tells more = more
 
 -- what a desk does not tell a contract does not see
 untold_of : {X : Type 0} (told : Option X) → IfSome (telling told) (λ _. ⊥) → IfSome told (λ _. ⊥)

@@ -1,5 +1,5 @@
 -- Of what a status comes.
-use Rattle.std.proofs.Common.{◌≡◌, ℕ, Bool, List, Option, refl, subst, arith}
+use Rattle.std.proofs.Common.{◌≡◌, ℕ, List, Option, refl, subst, arith}
 use Rattle.mw_types.specs.declared.entry.Entry.{Entry}
 use Rattle.command_line.specs.declared.refusal.WordsRefusal.{WordsRefusal}
 use Rattle.command_line.specs.declared.refusal.WordsRefusal.TheVariants as refusals
@@ -14,7 +14,7 @@ use Rattle.millwheel_cli.specs.declared.task.Wanted.{Wanted}
 use Rattle.millwheel_cli.specs.declared.status.Status.{Status}
 use Rattle.millwheel_cli.specs.declared.status.Status.TheVariants as status
 use Rattle.millwheel_cli.specs.declared.refusal.Refusal.{Refusal}
-use Rattle.millwheel_cli.specs.declared.refusal.Refusal.TheVariants.{NoFile, TopologyRefused, EventsRefused, NoMemory, ReadFault, TooLong, FileCount}
+use Rattle.millwheel_cli.specs.declared.refusal.Refusal.TheVariants.{NoFile, TopologyRefused, EventsRefused, PlanRefused, NoMemory, ReadFault, TooLong, FileCount}
 use Rattle.millwheel_cli.specs.Inside.{HasText, status_of, of_words, of_start, of_drain, of_sink}
 
 -- a start that says so failed by its keeper
@@ -58,6 +58,7 @@ pub refusal_usage : (refusal : Refusal) → status_of refusal ≡ status.Usage �
 refusal_usage (NoFile name) is = grind (arith, is)
 refusal_usage (TopologyRefused why) is = grind (arith, is)
 refusal_usage (EventsRefused file line why) is = grind (arith, is)
+refusal_usage (PlanRefused line) is = grind (arith, is)
 refusal_usage NoMemory is = grind (arith, is)
 refusal_usage (ReadFault name) is = grind (arith, is)
 refusal_usage (TooLong name) is = grind (arith, is)
@@ -68,6 +69,7 @@ pub refusal_keeper : (refusal : Refusal) → status_of refusal ≡ status.Keeper
 refusal_keeper (NoFile name) is = grind (arith, is)
 refusal_keeper (TopologyRefused why) is = grind (arith, is)
 refusal_keeper (EventsRefused file line why) is = grind (arith, is)
+refusal_keeper (PlanRefused line) is = grind (arith, is)
 refusal_keeper NoMemory is = grind (arith, is)
 refusal_keeper (ReadFault name) is = grind (arith, is)
 refusal_keeper (TooLong name) is = grind (arith, is)
@@ -78,6 +80,7 @@ pub refusal_sink : (refusal : Refusal) → status_of refusal ≡ status.SinkFaul
 refusal_sink (NoFile name) is = grind (arith, is)
 refusal_sink (TopologyRefused why) is = grind (arith, is)
 refusal_sink (EventsRefused file line why) is = grind (arith, is)
+refusal_sink (PlanRefused line) is = grind (arith, is)
 refusal_sink NoMemory is = grind (arith, is)
 refusal_sink (ReadFault name) is = grind (arith, is)
 refusal_sink (TooLong name) is = grind (arith, is)
@@ -88,6 +91,7 @@ pub refusal_ok : (refusal : Refusal) → status_of refusal ≡ status.Ok → ⊥
 refusal_ok (NoFile name) is = grind (arith, is)
 refusal_ok (TopologyRefused why) is = grind (arith, is)
 refusal_ok (EventsRefused file line why) is = grind (arith, is)
+refusal_ok (PlanRefused line) is = grind (arith, is)
 refusal_ok NoMemory is = grind (arith, is)
 refusal_ok (ReadFault name) is = grind (arith, is)
 refusal_ok (TooLong name) is = grind (arith, is)

@@ -12,17 +12,18 @@ use Rattle.mw_ports.specs.Shelves.{Files}
 use Rattle.row_keeper.specs.Rows.{Rows}
 use Rattle.injector.specs.Sources.{Source}
 use Rattle.topology.specs.Shapes.{Shape}
+use Rattle.scripts.specs.declared.step.Step.{Step}
 use Rattle.json_reading.specs.Refusals.{and_then}
 use Rattle.millwheel_cli.specs.declared.task.Task.{Task}
 use Rattle.millwheel_cli.specs.declared.status.Status.{Status}
-use Rattle.millwheel_cli.specs.declared.status.Status.TheVariants.{Usage, NoFile, TopologyRefused, EventsRefused, KeeperFault, SinkFault, NoMemory, NotEmpty, HistoryFull, RowDamaged, ReadFault, TooLong, FileCount}
+use Rattle.millwheel_cli.specs.declared.status.Status.TheVariants.{Usage, NoFile, TopologyRefused, EventsRefused, PlanRefused, KeeperFault, SinkFault, NoMemory, NotEmpty, HistoryFull, RowDamaged, ReadFault, TooLong, FileCount}
 use Rattle.millwheel_cli.specs.declared.status.Status.TheVariants as status
-use Rattle.millwheel_cli.specs.Limits.{topology_limit, events_limit, lines_limit}
-use Rattle.millwheel_cli.specs.Asked.{asked_of}
+use Rattle.millwheel_cli.specs.Limits.{topology_limit, plan_limit, events_limit, lines_limit}
+use Rattle.command_line.specs.Grammar.{command_of}
 use Rattle.millwheel_cli.specs.Files.{HoldsAs, HoldsSources, topology_taken, source_taken}
 use Rattle.millwheel_cli.specs.Loads.{load_text}
-use Rattle.millwheel_cli.specs.Tasks.{IsInputsTask, IsLoadTask, IsTask}
-use Rattle.millwheel_cli.specs.Reasons.{ShelfSeen, IsUnread, IsFileRefused, IsSourceRefused, IsRefused, IsCallRefused, IsCommandRefused, HasReason, file_within, file_as, source_before, sources_taken, inputs_taken, load_taken, ended, ran_over, answer_for, answer_of, IsAnswer}
+use Rattle.millwheel_cli.specs.Tasks.{plan_taken, HoldsPlan, IsInputsTask, IsLoadTask, IsTask}
+use Rattle.millwheel_cli.specs.Reasons.{ShelfSeen, IsUnread, IsFileRefused, IsPlanRefused, IsSourceRefused, IsRefused, IsCallRefused, IsCommandRefused, HasReason, file_within, file_as, source_before, sources_taken, steps_taken, inputs_taken, load_taken, ended, ran_over, answer_for, answer_of, IsAnswer}
 use Rattle.millwheel_cli.specs.Answers.{Left, HasRun, HasLeft}
 
 -- what is said of something where it is told is said of it
@@ -76,6 +77,7 @@ unread_as seen held name limit taken (NoFile n) told well is =
     ∙ ap (λ m. Err (NoFile m)) (sym is.0)
 unread_as seen held name limit taken (TopologyRefused why) told well is = absurd is
 unread_as seen held name limit taken (EventsRefused file line why) told well is = absurd is
+unread_as seen held name limit taken (PlanRefused line) told well is = absurd is
 unread_as seen held name limit taken KeeperFault told well is = absurd is
 unread_as seen held name limit taken SinkFault told well is = absurd is
 unread_as seen held name limit taken NoMemory told well is = absurd is
@@ -125,26 +127,54 @@ source_refused_as seen held file room (name ∷ names) s told well is = elim is 
       (source_refused_as seen held (file + 1) (room - length later.0) names s told well later.2)
 ]
 
+-- what comes behind the topology, and behind the plan
+abbrev behind_topology : Files → Option (List ℕ) → Inputs → Result Shape Status → Result (List Source) Status
+behind_topology held plan inputs found = and_then found (λ shape.
+    and_then (steps_taken held plan shape) (λ steps. sources_taken held 0 lines_limit inputs.events))
+
+-- so behind the plan
+abbrev behind_plan : Files → Inputs → Result (List Step) Status → Result (List Source) Status
+behind_plan held inputs found = and_then found (λ steps. sources_taken held 0 lines_limit inputs.events)
+
+-- a plan that was read is taken so
+steps_read : (files : Option Files) (held : Files) (plan : Option (List ℕ)) (shape : Shape) (steps : List Step) → files ≡ Some held
+    → HoldsPlan files plan shape steps → steps_taken held plan shape ≡ Ok steps
+steps_read files held None shape steps told is = ap Ok (sym is)
+steps_read files held (Some name) shape steps told is = held_as files held name plan_limit (plan_taken shape) (Ok steps) told is
+
+-- a plan that is refused is refused so
+steps_refused : (seen : ShelfSeen) (held : Files) (plan : Option (List ℕ)) (shape : Shape) (s : Status) → seen.files ≡ Some held
+    → (Rose seen.faults.0 seen.faults.1 → ⊥) → IsPlanRefused seen plan shape s → steps_taken held plan shape ≡ Err s
+steps_refused seen held None shape s told well is = absurd is
+steps_refused seen held (Some name) shape s told well is = refused_as seen held name plan_limit (plan_taken shape) s told well is
+
 -- files of which one is refused are refused so
-inputs_refused : (seen : ShelfSeen) (held : Files) (inputs : Inputs) (s : Status)
-    → seen.files ≡ Some held → (Rose seen.faults.0 seen.faults.1 → ⊥) → IsRefused seen inputs s → inputs_taken held inputs ≡ Err s
-inputs_refused seen held inputs s told well is =
-    let names = inputs.events in
-    let count = length names in
+inputs_refused : (seen : ShelfSeen) (held : Files) (plan : Option (List ℕ)) (inputs : Inputs) (s : Status)
+    → seen.files ≡ Some held → (Rose seen.faults.0 seen.faults.1 → ⊥) → IsRefused seen plan inputs s
+    → inputs_taken held plan inputs ≡ Err s
+inputs_refused seen held plan inputs s told well is =
+    let count = length inputs.events in
     elim is [
-      | inl topology ↦ ap (λ (found : Result Shape Status). and_then found (λ shape. sources_taken held 0 lines_limit names))
+      | inl topology ↦ ap (behind_topology held plan inputs)
           (refused_as seen held inputs.topology topology_limit (topology_taken count) s told well topology)
-      | inr events ↦ ap (λ (found : Result Shape Status). and_then found (λ shape. sources_taken held 0 lines_limit names))
-          (held_as seen.files held inputs.topology topology_limit (topology_taken count) _ told events.topology_read)
-          ∙ source_refused_as seen held 0 lines_limit names s told well events.refused
+      | inr later ↦ elim later [
+        | inl planned ↦ ap (behind_topology held plan inputs)
+            (held_as seen.files held inputs.topology topology_limit (topology_taken count) _ told planned.topology_read)
+            ∙ ap (behind_plan held inputs) (steps_refused seen held plan planned.shape s told well planned.refused)
+        | inr events ↦ ap (behind_topology held plan inputs)
+            (held_as seen.files held inputs.topology topology_limit (topology_taken count) _ told events.topology_read)
+            ∙ ap (behind_plan held inputs) (steps_read seen.files held plan events.shape events.steps told events.plan_read)
+            ∙ source_refused_as seen held 0 lines_limit inputs.events s told well events.refused
+      ]
     ]
 
 -- files that were read are taken so
-inputs_read : (files : Option Files) (held : Files) (inputs : Inputs) (task : Task) → files ≡ Some held → IsInputsTask files inputs task
-    → inputs_taken held inputs ≡ Ok task.case.sources
-inputs_read files held inputs task told is =
-    ap (λ (found : Result Shape Status). and_then found (λ shape. sources_taken held 0 lines_limit inputs.events))
+inputs_read : (files : Option Files) (held : Files) (plan : Option (List ℕ)) (inputs : Inputs) (task : Task) → files ≡ Some held
+    → IsInputsTask files plan inputs task → inputs_taken held plan inputs ≡ Ok task.case.sources
+inputs_read files held plan inputs task told is =
+    ap (behind_topology held plan inputs)
     (held_as files held inputs.topology topology_limit (topology_taken (length inputs.events)) _ told is.topology_read)
+    ∙ ap (behind_plan held inputs) (steps_read files held plan task.case.topology task.steps told is.plan_read)
     ∙ sources_as files held 0 lines_limit inputs.events task.case.sources told is.events_read
 
 -- what load runs is taken so
@@ -154,7 +184,7 @@ load_read seed lines task is =
     is.made.topology_read ∙ is.made.events_read
 
 -- the answer to words that are a command is that for its call
-answer_of-named : (held : Files) (rows : Rows) (words : List (List ℕ)) (command : Command) → asked_of words ≡ Some command
+answer_of-named : (held : Files) (rows : Rows) (words : List (List ℕ)) (command : Command) → command_of words ≡ Some command
     → answer_of held rows words ≡ answer_for held rows command.call
 answer_of-named held rows words command named =
     ap (λ (c : Option Command). option_map_or (λ (k : Command). answer_for held rows k.call) c Usage) named
@@ -163,8 +193,9 @@ answer_of-named held rows words command named =
 call_refused : (seen : ShelfSeen) (held : Files) (rows : Rows) (call : Call) (s : Status)
     → seen.files ≡ Some held → (Rose seen.faults.0 seen.faults.1 → ⊥) → IsCallRefused seen call s → answer_for held rows call ≡ s
 call_refused seen held rows (Solo inputs) s told well is =
-    ap (λ (found : Result (List Source) Status). ended found (ran_over rows)) (inputs_refused seen held inputs s told well is)
-call_refused seen held rows (Replay plan inputs) s told well is = absurd is
+    ap (λ (found : Result (List Source) Status). ended found (ran_over rows)) (inputs_refused seen held None inputs s told well is)
+call_refused seen held rows (Replay plan inputs) s told well is =
+    ap (λ (found : Result (List Source) Status). ended found (ran_over rows)) (inputs_refused seen held (Some plan) inputs s told well is)
 call_refused seen held rows (Load seed lines) s told well is =
     ap (λ (found : Result Source Status). ended found (ran_over rows)) is
 
@@ -178,14 +209,15 @@ answer_refused seen words held rows s told well is =
 call_read : (files : Option Files) (held : Files) (rows : Rows) (call : Call) (task : Task)
     → files ≡ Some held → IsTask files call task → answer_for held rows call ≡ ran_over rows
 call_read files held rows (Solo inputs) task told is =
-    ap (λ (found : Result (List Source) Status). ended found (ran_over rows)) (inputs_read files held inputs task told is)
-call_read files held rows (Replay plan inputs) task told is = absurd is
+    ap (λ (found : Result (List Source) Status). ended found (ran_over rows)) (inputs_read files held None inputs task told is)
+call_read files held rows (Replay plan inputs) task told is =
+    ap (λ (found : Result (List Source) Status). ended found (ran_over rows)) (inputs_read files held (Some plan) inputs task told is)
 call_read files held rows (Load seed lines) task told is =
     ap (λ (found : Result Source Status). ended found (ran_over rows)) (load_read seed lines task is)
 
 -- so it is of the words
 answer_read : (files : Option Files) (words : List (List ℕ)) (held : Files) (rows : Rows) (command : Command) (task : Task)
-    → files ≡ Some held → asked_of words ≡ Some command → IsTask files command.call task
+    → files ≡ Some held → command_of words ≡ Some command → IsTask files command.call task
     → answer_of held rows words ≡ ran_over rows
 answer_read files words held rows command task told named is =
     answer_of-named held rows words command named ∙ call_read files held rows command.call task told is
@@ -207,7 +239,7 @@ still_told old None rows told tells untold = true≢false (sym (tells ∙ ap is_
 still_told old (Some held) rows told tells untold = untold
 
 -- words that ask for nothing are answered with Usage
-pub answer_usage : (words : List (List ℕ)) (held : Files) (rows : Rows) → asked_of words ≡ None → Usage ≡ answer_of held rows words
+pub answer_usage : (words : List (List ℕ)) (held : Files) (rows : Rows) → command_of words ≡ None → Usage ≡ answer_of held rows words
 answer_usage words held rows none = sym (ap (λ (c : Option Command). option_map_or (λ (k : Command). answer_for held rows k.call) c Usage) none)
 
 -- over files and rows that a contract can see, where nothing failed, the answer is theirs, or memory ran out, or the history is full
@@ -225,6 +257,8 @@ told_answer seen words left k0 k1 f0 f1 held rows (NoFile name) why is keeper si
 told_answer seen words left k0 k1 f0 f1 held rows (TopologyRefused r) why is keeper sink tells told seen_rows well kept written =
     answer_refused seen words held rows _ told well why
 told_answer seen words left k0 k1 f0 f1 held rows (EventsRefused file line r) why is keeper sink tells told seen_rows well kept written =
+    answer_refused seen words held rows _ told well why
+told_answer seen words left k0 k1 f0 f1 held rows (PlanRefused line) why is keeper sink tells told seen_rows well kept written =
     answer_refused seen words held rows _ told well why
 told_answer seen words left k0 k1 f0 f1 held rows KeeperFault why is keeper sink tells told seen_rows well kept written = absurd
     (kept (keeper refl))

@@ -1,5 +1,5 @@
 -- The computations of a topology's kinds do what a worker asks of computations.
-use Rattle.std.proofs.Common.{◌≡◌, ◌∙◌, ◌-◌, ℕ, Bool, true, false, cond, nat_lt, List, map, slice_get, All, Option, Some, None, refl, ap, subst, arith}
+use Rattle.std.proofs.Common.{◌≡◌, ◌∙◌, ◌-◌, ℕ, Bool, true, false, cond, nat_lt, List, map, slice_get, All, Some, None, refl, ap, subst, arith}
 use Rattle.std.specs.Option.{option_map, option_map_or}
 use Rattle.std.proofs.lemmas.Option.{slice_get-map, slice_get_within, get_or_from_slice_get}
 use Rattle.mw_types.specs.Kinds.{IsKind}

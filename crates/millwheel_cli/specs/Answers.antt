@@ -1,9 +1,10 @@
 -- What each status leaves of the history, of the keeper's rows and of the text. Own.
-use Rattle.std.specs.Prelude.{◌≡◌, ◌⊎◌, ◌++◌, ℕ, List, [], length, Option, Some, None, IfSome, slice_get}
+use Rattle.std.specs.Prelude.{◌≡◌, ◌⊎◌, ◌++◌, ℕ, List, [], length, Option, Some, IfSome, slice_get}
 use Rattle.std.specs.Io.KnownBytes.{append_known}
 use Rattle.mw_types.specs.declared.identity.RowName.{RowName}
 use Rattle.mw_types.specs.declared.entry.Entry.{Entry}
 use Rattle.command_line.specs.declared.command.Command.{Command}
+use Rattle.command_line.specs.Grammar.{command_of}
 use Rattle.mw_ports.specs.Shelves.{Files}
 use Rattle.mw_ports.specs.Sinks.{AppendsPrefix}
 use Rattle.topology.specs.Shapes.{Shape}
@@ -16,14 +17,13 @@ use Rattle.run_history.specs.Stored.{stored_rows}
 use Rattle.run_history.specs.HistoryLines.{lines_of_history}
 use Rattle.run_history.specs.Texts.{IsResultText, as_line, summary_data}
 use Rattle.book.specs.Claims.{IsDamagedRow}
-use Rattle.world.specs.Drains.{IsDraining, IsDrained, HasEnded}
+use Rattle.world.specs.Replays.{IsReplayed, IsWholeReplay}
 use Rattle.millwheel_cli.specs.declared.status.Status.{Status}
 use Rattle.millwheel_cli.specs.declared.status.Status.TheVariants.{KeeperFault, SinkFault, NoMemory, NotEmpty, HistoryFull, RowDamaged}
 use Rattle.millwheel_cli.specs.declared.status.Status.TheVariants as status
 use Rattle.millwheel_cli.specs.declared.task.Task.{Task}
 use Rattle.millwheel_cli.specs.declared.task.Wanted.{Wanted}
 use Rattle.millwheel_cli.specs.declared.task.Wanted.TheVariants.{ResultAlone, HistoryFirst, SummaryAlone}
-use Rattle.millwheel_cli.specs.Asked.{asked_of}
 use Rattle.millwheel_cli.specs.Limits.{history_limit}
 use Rattle.millwheel_cli.specs.Tasks.{IsTask}
 
@@ -42,11 +42,11 @@ pub record IsUnbegun (left : Left) : Type 0 where
   pub same_rows : left.rows.1 ≡ left.rows.0
   pub unwritten : left.text.1 ≡ left.text.0
 
--- rows that a contract can see are those of the history, which is a legal one, and goes as a drain from
--- nothing does
+-- rows that a contract can see are those of the history, which is a legal one, and goes as the steps of the task do
+-- and as a drain does behind them
 pub record IsKeptRun (task : Task) (history : List Entry) (rows : Rows) : Type 0 where
   pub legal : IsLegal task.case history
-  pub draining : IsDraining task.case 0 history
+  pub replayed : IsReplayed task.case task.steps history
   pub stored : rows ≡ stored_rows (run_of task.case.topology history)
 
 -- a run of the task, as far as it came: it was begun over a keeper without rows
@@ -55,10 +55,10 @@ pub record IsRun (task : Task) (left : Left) : Type 0 where
   pub fenced : IsFenced task.case.topology left.history
   pub kept : IfSome left.rows.1 (IsKeptRun task left.history)
 
--- a run that came to its end: it is the whole drain, and no work is left
+-- a run that came to its end: it is all that the steps write, and the whole drain behind them, and no work is left
 pub record IsWholeRun (task : Task) (left : Left) : Type 0 where
   pub run : IsRun task left
-  pub drained : IfSome left.rows.1 (λ _. IsDrained task.case 0 left.history)
+  pub whole : IfSome left.rows.1 (λ _. IsWholeReplay task.case task.steps left.history)
   pub finished : IfSome left.rows.1 (λ _. IsFinished task.case (run_of task.case.topology left.history))
 
 -- ---- the text
@@ -69,7 +69,8 @@ pub record IsLongText (shape : Shape) (history : List Entry) (text : List ℕ) :
   pub of_history : IsResultText shape history result
   pub spelled : text ≡ lines_of_history history ++ result
 
--- the whole text that is wanted of a history: a result of it, or its lines before that, or the summary line alone
+-- the whole text that is wanted of a history: a result of it, or its lines before that, or the summary line
+-- alone
 abbrev pub IsWholeText : Wanted → Shape → List Entry → List ℕ → Type 0
 IsWholeText ResultAlone shape history text = IsResultText shape history text
 IsWholeText HistoryFirst shape history text = IsLongText shape history text
@@ -96,11 +97,11 @@ pub record IsStopped (task : Task) (left : Left) : Type 0 where
   pub run : IsRun task left
   pub unwritten : left.text.1 ≡ left.text.0
 
--- the run stopped since its history has as many entries as one may have, and the drain has more to write
+-- the run stopped since its history has as many entries as one may have, and has more to come
 pub record IsFull (task : Task) (left : Left) : Type 0 where
   pub stopped : IsStopped task left
   pub full : length left.history ≡ history_limit
-  pub more : IfSome left.rows.1 (λ _. HasEnded task.case 0 left.history → ⊥)
+  pub more : IfSome left.rows.1 (λ _. IsWholeReplay task.case task.steps left.history → ⊥)
 
 -- the run stopped at bytes that the keeper gave, which are those of no row that fits the name; of a keeper
 -- whose rows a contract can see none are
@@ -124,11 +125,11 @@ RunLeaves task left (RowDamaged name bytes) = IsDamagedAt task left name bytes
 RunLeaves task left (NotEmpty name bytes) = IsHeldBefore left name bytes
 RunLeaves task left _ = ⊥
 
--- the words are a command that is run and asks for a task, and of that the status leaves this
+-- the words are a command that asks for a task, and of that the status leaves this
 pub record HasRun (files : Option Files) (words : List (List ℕ)) (left : Left)
     (status : Status) : Type 0 where
   pub command : Command
-  pub named : asked_of words ≡ Some command
+  pub named : command_of words ≡ Some command
   pub task : Task
   pub asked : IsTask files command.call task
   pub leaves : RunLeaves task left status

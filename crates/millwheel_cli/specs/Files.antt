@@ -21,8 +21,8 @@ fed_of count (Err why) = Err (TopologyRefused why)
 fed_of count (Ok shape) =
     if injectors_of shape == count then Ok shape else Err (FileCount count (injectors_of shape))
 
--- the topology that the bytes of a file are taken for, with so many event files, or the status with which they
--- are refused
+-- the topology that the bytes of a file are taken for, with so many event files, or the status with which
+-- they are refused
 abbrev pub topology_taken : ℕ → List ℕ → Result Shape Status
 topology_taken count bytes = fed_of count (topology_of bytes)
 

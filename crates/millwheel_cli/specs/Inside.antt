@@ -2,6 +2,8 @@
 use Rattle.std.specs.Prelude.{◌≡◌, ◌⊎◌, ℕ, ⊤, List, Option}
 use Rattle.std.specs.Io.KnownBytes.{append_known}
 use Rattle.mw_types.specs.declared.entry.Entry.{Entry}
+use Rattle.mw_types.specs.declared.refusal.PlanRefusal.{PlanRefusal}
+use Rattle.mw_types.specs.declared.refusal.PlanRefusal.TheVariants as plans
 use Rattle.command_line.specs.declared.refusal.WordsRefusal.{WordsRefusal}
 use Rattle.command_line.specs.declared.refusal.WordsRefusal.TheVariants as words
 use Rattle.mw_ports.specs.declared.shelf.ShelfFault.{ShelfFault}
@@ -24,13 +26,14 @@ use Rattle.millwheel_cli.specs.Answers.{IsWholeText}
 use Rattle.millwheel_cli.specs.declared.status.Status.{Status}
 use Rattle.millwheel_cli.specs.declared.status.Status.TheVariants as status
 use Rattle.millwheel_cli.specs.declared.refusal.Refusal.{Refusal}
-use Rattle.millwheel_cli.specs.declared.refusal.Refusal.TheVariants.{NoFile, TopologyRefused, EventsRefused, NoMemory, ReadFault, TooLong, FileCount}
+use Rattle.millwheel_cli.specs.declared.refusal.Refusal.TheVariants.{NoFile, TopologyRefused, EventsRefused, PlanRefused, NoMemory, ReadFault, TooLong, FileCount}
 
 -- a refusal of the files as a status
 abbrev pub status_of : Refusal → Status
 status_of (NoFile name) = status.NoFile name
 status_of (TopologyRefused why) = status.TopologyRefused why
 status_of (EventsRefused file line why) = status.EventsRefused file line why
+status_of (PlanRefused line) = status.PlanRefused line
 status_of NoMemory = status.NoMemory
 status_of (ReadFault name) = status.ReadFault name
 status_of (TooLong name) = status.TooLong name
@@ -50,6 +53,11 @@ of_topology why = TopologyRefused why
 abbrev pub of_lines : ℕ → LinesRefusal → Refusal
 of_lines file (Line line why) = EventsRefused file line why
 of_lines file lines.NoMemory = NoMemory
+
+-- the refusal of a plan
+abbrev pub of_plan : PlanRefusal → Refusal
+of_plan (plans.Line line) = PlanRefused line
+of_plan plans.NoMemory = NoMemory
 
 -- the refusal of a shelf for a file of that name
 abbrev pub of_shelf : List ℕ → ShelfFault → Refusal

@@ -5,6 +5,10 @@ use Rattle.std.specs.Prelude.{ℕ, ◌^◌}
 abbrev pub topology_limit : ℕ
 topology_limit = 2 ^ 20
 
+-- how many bytes a plan may have
+abbrev pub plan_limit : ℕ
+plan_limit = 2 ^ 20
+
 -- how many bytes an event file may have
 abbrev pub events_limit : ℕ
 events_limit = 2 ^ 25

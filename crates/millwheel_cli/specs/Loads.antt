@@ -15,11 +15,12 @@ abbrev pub drawn : ℕ → ℕ → ℕ
 drawn seed zero = seed % 65537
 drawn seed (suc n) = drawn_after (drawn seed n)
 
--- the record line of this number, from 0, by the number that is drawn for it: its key is one of the letters from a
--- to z, and its timestamp lies less than 100 behind ten times its number
+-- the record line of this number, from 0, by the number that is drawn for it: its key is one of the letters
+-- from a to z, and its timestamp lies less than 100 behind ten times its number
 abbrev pub record_line : ℕ → ℕ → List ℕ
 record_line line number =
-    codes "{\"key\":\"" ++ ((97 + number % 26) ∷ (codes "\",\"ts\":" ++ (decimal (10 * line + number % 100) ++ codes "}\n")))
+    codes "{\"key\":\"" ++ ((97 + number % 26)
+    ∷ (codes "\",\"ts\":" ++ (decimal (10 * line + number % 100) ++ codes "}\n")))
 
 -- what stands behind the record line of this number: a watermark line after each fifty
 abbrev pub mark_line : ℕ → List ℕ

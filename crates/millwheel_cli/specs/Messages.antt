@@ -5,7 +5,7 @@ use Rattle.topology.specs.declared.refusal.TopologyRefusal.TheVariants as topolo
 use Rattle.injector.specs.declared.refusal.LineWhy.{LineWhy}
 use Rattle.injector.specs.declared.refusal.LineWhy.TheVariants as lines
 use Rattle.millwheel_cli.specs.declared.status.Status.{Status}
-use Rattle.millwheel_cli.specs.declared.status.Status.TheVariants.{Ok, Usage, NoFile, TopologyRefused, EventsRefused, KeeperFault, SinkFault, NoMemory, NotEmpty, HistoryFull, RowDamaged, ReadFault, TooLong, FileCount}
+use Rattle.millwheel_cli.specs.declared.status.Status.TheVariants.{Ok, Usage, NoFile, TopologyRefused, EventsRefused, PlanRefused, KeeperFault, SinkFault, NoMemory, NotEmpty, HistoryFull, RowDamaged, ReadFault, TooLong, FileCount}
 
 -- the name of a rule of topology files
 abbrev pub topology_rule : TopologyRefusal → List ℕ
@@ -38,6 +38,7 @@ message_of (TopologyRefused why) = codes "topology refused: " ++ topology_rule w
 message_of (EventsRefused file line why) =
     codes "events refused: file " ++ decimal file ++ codes " line " ++ decimal line ++ codes ": "
     ++ line_rule why
+message_of (PlanRefused line) = codes "plan refused: line " ++ decimal line
 message_of KeeperFault = codes "the keeper failed"
 message_of SinkFault = codes "the output failed"
 message_of NoMemory = codes "out of memory"

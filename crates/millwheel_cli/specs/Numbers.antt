@@ -1,7 +1,7 @@
 -- The exit status of the program for each status. Own.
 use Rattle.std.specs.Prelude.{ℕ}
 use Rattle.millwheel_cli.specs.declared.status.Status.{Status}
-use Rattle.millwheel_cli.specs.declared.status.Status.TheVariants.{Ok, Usage, NoFile, TopologyRefused, EventsRefused, KeeperFault, SinkFault, NoMemory, NotEmpty, HistoryFull, RowDamaged, ReadFault, TooLong, FileCount}
+use Rattle.millwheel_cli.specs.declared.status.Status.TheVariants.{Ok, Usage, NoFile, TopologyRefused, EventsRefused, PlanRefused, KeeperFault, SinkFault, NoMemory, NotEmpty, HistoryFull, RowDamaged, ReadFault, TooLong, FileCount}
 
 -- the number with which the program ends
 abbrev pub number_of : Status → ℕ
@@ -10,6 +10,7 @@ number_of Usage = 2
 number_of (NoFile name) = 3
 number_of (TopologyRefused why) = 4
 number_of (EventsRefused file line why) = 5
+number_of (PlanRefused line) = 6
 number_of KeeperFault = 7
 number_of SinkFault = 8
 number_of NoMemory = 9

@@ -8,18 +8,20 @@ use Rattle.command_line.specs.declared.command.Inputs.{Inputs}
 use Rattle.command_line.specs.declared.command.Call.{Call}
 use Rattle.command_line.specs.declared.command.Call.TheVariants.{Solo, Replay, Load}
 use Rattle.command_line.specs.declared.command.Command.{Command}
+use Rattle.command_line.specs.Grammar.{command_of}
 use Rattle.mw_ports.specs.Shelves.{Files}
 use Rattle.json_reading.specs.Refusals.{and_then}
 use Rattle.topology.specs.Shapes.{Shape}
 use Rattle.injector.specs.Sources.{Source}
+use Rattle.scripts.specs.declared.step.Step.{Step}
 use Rattle.row_keeper.specs.Rows.{Rows}
 use Rattle.millwheel_cli.specs.declared.status.Status.{Status}
 use Rattle.millwheel_cli.specs.declared.status.Status.TheVariants.{Usage, NoFile, KeeperFault, SinkFault, NoMemory, NotEmpty, HistoryFull, RowDamaged, ReadFault, TooLong}
 use Rattle.millwheel_cli.specs.declared.status.Status.TheVariants as status
-use Rattle.millwheel_cli.specs.Asked.{asked_of}
-use Rattle.millwheel_cli.specs.Limits.{topology_limit, events_limit, lines_limit, history_limit}
+use Rattle.millwheel_cli.specs.Limits.{topology_limit, plan_limit, events_limit, lines_limit, history_limit}
 use Rattle.millwheel_cli.specs.Files.{topology_taken, source_taken, HoldsAs, HoldsTopology, HoldsSource}
 use Rattle.millwheel_cli.specs.Loads.{load_topology, load_text}
+use Rattle.millwheel_cli.specs.Tasks.{plan_taken, HoldsPlan}
 
 -- ---- what the shelf gave
 
@@ -60,16 +62,32 @@ IsSourceRefused seen file room (name ∷ names) status =
     ⊎ ((source : Source) × HoldsSource seen.files file room name source
     × IsSourceRefused seen (file + 1) (room - length source) names status)
 
--- why an event file is refused, of which none is read before the topology is taken
-pub record IsEventsRefused (seen : ShelfSeen) (inputs : Inputs) (status : Status) : Type 0 where
+-- why the plan's file is refused, where there is one
+abbrev pub IsPlanRefused : ShelfSeen → Option (List ℕ) → Shape → Status → Type 0
+IsPlanRefused seen None shape status = ⊥
+IsPlanRefused seen (Some name) shape status = IsFileRefused seen name plan_limit (plan_taken shape) status
+
+-- why the plan is refused, which is not read before the topology is taken
+pub record IsPlanRefusedBehind (seen : ShelfSeen) (plan : Option (List ℕ)) (inputs : Inputs)
+    (status : Status) : Type 0 where
   pub shape : Shape
   pub topology_read : HoldsTopology seen.files inputs.topology (length inputs.events) shape
+  pub refused : IsPlanRefused seen plan shape status
+
+-- why an event file is refused, of which none is read before the topology and the plan are taken
+pub record IsEventsRefusedBehind (seen : ShelfSeen) (plan : Option (List ℕ)) (inputs : Inputs)
+    (status : Status) : Type 0 where
+  pub shape : Shape
+  pub topology_read : HoldsTopology seen.files inputs.topology (length inputs.events) shape
+  pub steps : List Step
+  pub plan_read : HoldsPlan seen.files plan shape steps
   pub refused : IsSourceRefused seen 0 lines_limit inputs.events status
 
--- one of the files is refused with the status: the topology's, or an event file
-abbrev pub IsRefused : ShelfSeen → Inputs → Status → Type 0
-IsRefused seen inputs status =
-    IsTopologyRefused seen (length inputs.events) inputs.topology status ⊎ IsEventsRefused seen inputs status
+-- one of the files is refused with the status: the topology's, the plan's, or an event file
+abbrev pub IsRefused : ShelfSeen → Option (List ℕ) → Inputs → Status → Type 0
+IsRefused seen plan inputs status =
+    IsTopologyRefused seen (length inputs.events) inputs.topology status
+    ⊎ (IsPlanRefusedBehind seen plan inputs status ⊎ IsEventsRefusedBehind seen plan inputs status)
 
 -- what load runs, or why that is refused: it has a topology and event lines of its own
 abbrev pub load_taken : ℕ → ℕ → Result Source Status
@@ -78,17 +96,17 @@ load_taken seed lines =
 
 -- why a call is refused
 abbrev pub IsCallRefused : ShelfSeen → Call → Status → Type 0
-IsCallRefused seen (Solo inputs) status = IsRefused seen inputs status
-IsCallRefused seen (Replay plan inputs) status = ⊥
+IsCallRefused seen (Solo inputs) status = IsRefused seen None inputs status
+IsCallRefused seen (Replay plan inputs) status = IsRefused seen (Some plan) inputs status
 IsCallRefused seen (Load seed lines) status = load_taken seed lines ≡ Err status
 
--- the words are a command that is run, and its call is refused with the status
+-- the words are a command whose call is refused with the status
 pub record IsCommandRefused (seen : ShelfSeen) (words : List (List ℕ)) (status : Status) : Type 0 where
   pub command : Command
-  pub named : asked_of words ≡ Some command
+  pub named : command_of words ≡ Some command
   pub why : IsCallRefused seen command.call status
 
--- why a status came that comes before a run: the words are no command that is run, or a file is refused. What is said of
+-- why a status came that comes before a run: the words are no command, or a file is refused. What is said of
 -- the other statuses stands in clauses of their own
 abbrev pub HasReason : ShelfSeen → List (List ℕ) → Status → Type 0
 HasReason seen words status.Ok = ⊤
@@ -98,7 +116,7 @@ HasReason seen words NoMemory = ⊤
 HasReason seen words (NotEmpty name bytes) = ⊤
 HasReason seen words HistoryFull = ⊤
 HasReason seen words (RowDamaged name bytes) = ⊤
-HasReason seen words Usage = asked_of words ≡ None
+HasReason seen words Usage = command_of words ≡ None
 HasReason seen words status = IsCommandRefused seen words status
 
 -- ---- where a contract can see the files and the rows
@@ -136,23 +154,29 @@ abbrev pub ended : {T : Type 0} → Result T Status → Status → Status
 ended (Ok x) run = run
 ended (Err status) run = status
 
--- what files of a shelf are taken for: the topology is tried first, and then the event files in their order
-abbrev pub inputs_taken : Files → Inputs → Result (List Source) Status
-inputs_taken held inputs =
+-- what the plan's file is taken for, where there is one
+abbrev pub steps_taken : Files → Option (List ℕ) → Shape → Result (List Step) Status
+steps_taken held None shape = Ok []
+steps_taken held (Some name) shape = file_as held name plan_limit (plan_taken shape)
+
+-- what files of a shelf are taken for: the topology is tried first, then the plan, and then the event files in
+-- their order
+abbrev pub inputs_taken : Files → Option (List ℕ) → Inputs → Result (List Source) Status
+inputs_taken held plan inputs =
     and_then (file_as held inputs.topology topology_limit (topology_taken (length inputs.events))) (λ shape.
-    sources_taken held 0 lines_limit inputs.events)
+    and_then (steps_taken held plan shape) (λ steps. sources_taken held 0 lines_limit inputs.events))
 
 -- how a call ends, by files of a shelf and, last, by the rows of a keeper
 abbrev pub answer_for : Files → Rows → Call → Status
-answer_for held rows (Solo inputs) = ended (inputs_taken held inputs) (ran_over rows)
-answer_for held rows (Replay plan inputs) = Usage
+answer_for held rows (Solo inputs) = ended (inputs_taken held None inputs) (ran_over rows)
+answer_for held rows (Replay plan inputs) = ended (inputs_taken held (Some plan) inputs) (ran_over rows)
 answer_for held rows (Load seed lines) = ended (load_taken seed lines) (ran_over rows)
 
 -- the answer to these words over a shelf that holds these files and a keeper that holds these rows, where
 -- nothing fails, memory does not run out, and the history has room
 abbrev pub answer_of : Files → Rows → List (List ℕ) → Status
 answer_of held rows words =
-    option_map_or (λ (command : Command). answer_for held rows command.call) (asked_of words) Usage
+    option_map_or (λ (command : Command). answer_for held rows command.call) (command_of words) Usage
 
 -- the status is that answer; only memory may run out in its place, or a run fill the history
 abbrev pub IsAnswer : Files → Rows → List (List ℕ) → List Entry → Status → Type 0

@@ -4,15 +4,15 @@ ghost use Rattle.std.specs.Option.{is_some};
 ghost use Rattle.mw_types.specs.Causes.{Rose};
 ghost use Rattle.mw_ports.specs.Shelves.{Files};
 ghost use Rattle.row_keeper.specs.Rows.{Rows};
-ghost use Rattle.millwheel_cli.specs.Asked.{asked_of};
+ghost use Rattle.command_line.specs.Grammar.{command_of};
 ghost use Rattle.millwheel_cli.specs.Reasons.{ShelfSeen, HasReason, IsAnswer};
 ghost use Rattle.millwheel_cli.specs.Answers.{Left, IsUnbegun, HasRun, HasLeft};
 
-use crate::asked::asked;
 use crate::call::read_task;
 use crate::refusal::{status_of, status_of_words};
 use crate::run::run;
 use crate::status::Status;
+use command_line::read_words;
 use mw_ports::{Shelf, Sink};
 use mw_types::Name;
 use row_keeper::Keeper;
@@ -32,9 +32,10 @@ pub struct Done<K> {
 
 /// Does what the words of the command line say, the program's name left out.
 ///
-/// The topology and then the event files, one an injector, are read and tried one after the other.
-/// Then they are run over the keeper, which must have no rows, and then the text is written. A
-/// refusal comes at the first step that fails.
+/// The topology, then the plan, where there is one, and then the event files, one an injector, are
+/// read and tried one after the other. Then the steps of the plan are done over the keeper, which must
+/// have no rows, all that is left is worked off, and then the text is written. A refusal comes at the
+/// first step that fails.
 pub fn millwheel_alone<S: Shelf, K: Keeper, O: Sink>(
     alloc: Global,
     words: &[Name],
@@ -51,8 +52,8 @@ pub fn millwheel_alone<S: Shelf, K: Keeper, O: Sink>(
     } in result.status ≡ Status.Ok → HasRun (S.files shelf.old) words.now left Status.Ok }
 
     // Each other status has its reason.
-    ensures usage { result.status ≡ Status.Usage → asked_of words.now ≡ None }
-    ensures no_command { asked_of words.now ≡ None →
+    ensures usage { result.status ≡ Status.Usage → command_of words.now ≡ None }
+    ensures no_command { command_of words.now ≡ None →
         (result.status ≡ Status.Usage) ⊎ (result.status ≡ Status.NoMemory) }
     ensures reason { let seen : ShelfSeen = record {
       files = S.files shelf.old;
@@ -82,7 +83,7 @@ pub fn millwheel_alone<S: Shelf, K: Keeper, O: Sink>(
     ensures untouched { result.history ≡ [] → K.rows result.keeper ≡ K.rows keeper }
     ensures tells { is_some (K.rows result.keeper) ≡ is_some (K.rows keeper) }
 {
-    match asked(alloc, words) {
+    match read_words(alloc, words) {
         Ok(command) => match read_task(alloc, shelf, &command.call) {
             Ok(task) => run(alloc, &task, keeper, out),
             Err(refusal) => unbegun(alloc, status_of(refusal), keeper),

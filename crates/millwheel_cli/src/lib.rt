@@ -1,15 +1,15 @@
 //! The program `millwheel` as a library: from the words of the command line to the text and the status.
 //!
 //! `solo T E..` reads a topology and event files, one an injector, works them off on one thread over a keeper
-//! of rows, and writes the result, and with `--history` the history before it. `load SEED LINES` does so with
-//! a topology of its own and with lines that the seed decides, and writes the summary line alone. Stands on
-//! `command_line` and `world`, and reaches files and output by `mw_ports`. Public contract: with Ok the history
-//! of `millwheel_alone` is fenced, and exactly its text was written; where a contract can see the keeper's rows
-//! it is the whole drain of the files' case, legal and finished, and the rows are its rows. Every other status
-//! has its reason, and leaves what the clauses say. Definitions, in the order of reading: `specs/Asked.antt`,
-//! which words are run; `specs/Files.antt`, what was read; `specs/Loads.antt`, what load makes;
-//! `specs/Tasks.antt`, what is to be done; `specs/Reasons.antt`, why each status comes; `specs/Answers.antt`,
-//! what it leaves.
+//! of rows, and writes the result, and with `--history` the history before it. `replay --plan P T E..` does
+//! the steps of a plan first. `load SEED LINES` is `solo` with a topology of its own and with lines that the
+//! seed decides, and writes the summary line alone. Stands on `command_line` and `world`, and reaches files
+//! and output by `mw_ports`. Public contract: with Ok the history of `millwheel_alone` is fenced, and exactly
+//! its text was written; where a contract can see the keeper's rows it is what the plan's steps write, and then
+//! the whole drain, legal and finished, and the rows are its rows. Every other status has its reason, and
+//! leaves what the clauses say. Definitions, in the order of reading: `specs/Asked.antt`, where rows are kept;
+//! `specs/Files.antt`, what was read; `specs/Loads.antt`, what load makes; `specs/Tasks.antt`, what is to be
+//! done; `specs/Reasons.antt`, why each status comes; `specs/Answers.antt`, what it leaves.
 #![tactic(auto)]
 
 mod alone;

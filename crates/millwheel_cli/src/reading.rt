@@ -1,22 +1,28 @@
-//! The reading of files: a topology, and event files.
-ghost use Rattle.std.specs.Prelude.{◌≡◌, ◌≤◌, ◌<◌, ◌^◌, length, IfErr, IfOk};
+//! The reading of files: a topology, a plan, event files.
+ghost use Rattle.std.specs.Prelude.{◌≡◌, ◌≤◌, ◌<◌, ◌^◌, All, length, Some, IfErr, IfOk};
 ghost use Rattle.mw_ports.specs.Shelves.{Files};
 ghost use Rattle.topology.specs.Shapes.{injectors_of};
+ghost use Rattle.world.specs.Schedules.{IsStep};
 ghost use Rattle.millwheel_cli.specs.Limits.{events_limit, lines_limit};
 ghost use Rattle.millwheel_cli.specs.Files.{source_taken, IsContent, HoldsTopology, HoldsSource, HoldsSources};
-ghost use Rattle.millwheel_cli.specs.Reasons.{ShelfSeen, IsUnread, IsFileRefused, IsTopologyRefused, IsSourceRefused};
+ghost use Rattle.millwheel_cli.specs.Tasks.{HoldsPlan};
+ghost use Rattle.millwheel_cli.specs.Reasons.{ShelfSeen, IsUnread, IsFileRefused, IsTopologyRefused, IsPlanRefused, IsSourceRefused};
 ghost use Rattle.millwheel_cli.specs.Inside.{of_shelf, UnlessWant};
 
-use crate::form::{items_of, topology_of};
+use crate::form::{items_of, steps_of, topology_of};
 use crate::refusal::Refusal;
 use injector::{Items, ItemsList};
 use mw_ports::{Shelf, ShelfFault};
 use mw_types::{Bytes, Duplicate, Name, NoMemory, Seq};
 use std::alloc::Global;
 use topology::Topology;
+use world::Schedule;
 
 // How many bytes a topology may have.
 const TOPOLOGY_MAX: u64 = 1 << 20;
+
+// How many bytes a plan may have.
+const PLAN_MAX: u64 = 1 << 20;
 
 // How many bytes an event file may have.
 const EVENTS_MAX: u64 = 1 << 25;
@@ -45,6 +51,31 @@ pub fn read_topology<S: Shelf>(
     let bytes = read_file(alloc, shelf, name, TOPOLOGY_MAX)?;
     let topology = topology_of(alloc, count, bytes.as_slice())?;
     Ok(topology)
+}
+
+/// The steps in the plan's file of that name, over a topology, which is handed back.
+pub fn read_plan<S: Shelf>(
+    alloc: Global,
+    shelf: &mut S,
+    topology: Topology,
+    name: &Name,
+) -> Result<(Topology, Schedule), Refusal>
+    ensures files { S.files shelf.new ≡ S.files shelf.old }
+    ensures faults_later { S.faults shelf.old ≤ S.faults shelf.new }
+    ensures lacks_later { S.lacks shelf.old ≤ S.lacks shelf.new }
+    ensures topology { IfOk result (λ read. read.0 ≡ topology) }
+    ensures plan { IfOk result (λ read.
+        HoldsPlan (S.files shelf.old) (Some name.now) topology read.1) }
+    ensures steps { IfOk result (λ read. All (IsStep topology) read.1) }
+    ensures refused { let seen : ShelfSeen = record {
+      files = S.files shelf.old;
+      faults = (S.faults shelf.old, S.faults shelf.new);
+      lacks = (S.lacks shelf.old, S.lacks shelf.new);
+    } in IfErr result (UnlessWant (IsPlanRefused seen (Some name.now) topology)) }
+{
+    let bytes = read_file(alloc, shelf, name, PLAN_MAX)?;
+    let read = steps_of(alloc, topology, bytes.as_slice())?;
+    Ok(read)
 }
 
 /// What the event files of these names hold, each with the room for record lines that those before it

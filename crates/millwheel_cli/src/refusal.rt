@@ -5,7 +5,7 @@ ghost use Rattle.millwheel_cli.specs.Inside.{status_of, of_words};
 use crate::status::Status;
 use command_line::WordsRefusal;
 use injector::LineWhy;
-use mw_types::{Name, NoMemory};
+use mw_types::{Name, NoMemory, PlanRefusal};
 use topology::TopologyRefusal;
 
 /// Why the files that are asked for are not run: each status that can come of reading them.
@@ -14,6 +14,7 @@ pub enum Refusal {
     NoFile { name: Name },
     TopologyRefused { why: TopologyRefusal },
     EventsRefused { file: u32, line: u32, why: LineWhy },
+    PlanRefused { line: u32 },
     NoMemory,
     ReadFault { name: Name },
     TooLong { name: Name },
@@ -45,6 +46,20 @@ impl From<TopologyRefusal> for Refusal {
     }
 }
 
+impl From<PlanRefusal> for Refusal {
+    ghost use Rattle.std.specs.Prelude.{◌≡◌};
+    ghost use Rattle.millwheel_cli.specs.Inside.{of_plan};
+
+    ghost from_gives = { λ plan refusal. refusal ≡ of_plan plan };
+
+    fn from(plan: PlanRefusal) -> Refusal {
+        match plan {
+            PlanRefusal::Line { line } => Refusal::PlanRefused { line },
+            PlanRefusal::NoMemory => Refusal::NoMemory,
+        }
+    }
+}
+
 /// The status of a refusal.
 pub fn status_of(refusal: Refusal) -> Status
     ensures { result ≡ status_of refusal }
@@ -53,6 +68,7 @@ pub fn status_of(refusal: Refusal) -> Status
         Refusal::NoFile { name } => Status::NoFile { name },
         Refusal::TopologyRefused { why } => Status::TopologyRefused { why },
         Refusal::EventsRefused { file, line, why } => Status::EventsRefused { file, line, why },
+        Refusal::PlanRefused { line } => Status::PlanRefused { line },
         Refusal::NoMemory => Status::NoMemory,
         Refusal::ReadFault { name } => Status::ReadFault { name },
         Refusal::TooLong { name } => Status::TooLong { name },

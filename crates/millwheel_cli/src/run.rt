@@ -1,8 +1,18 @@
 //! The run of a task over a keeper, and the writing of its text.
-ghost use Rattle.std.specs.Prelude.{◌≡◌, []};
+ghost use Rattle.std.specs.Prelude.{◌≡◌, [], All, Err, IfErr, IfSome, OnOk, length, replicate};
 ghost use Rattle.std.specs.Option.{is_some};
 ghost use Rattle.mw_types.specs.Causes.{Rose};
+ghost use Rattle.run_history.specs.Cases.{intervals_of};
+ghost use Rattle.book.specs.Books.{core_of};
+ghost use Rattle.book.specs.DeskReasons.{IsDamageOf};
+ghost use Rattle.book.specs.Lawful.{IsLawful};
+ghost use Rattle.book.specs.OwnDesks.{own_view};
+ghost use Rattle.node.specs.Answers.{refusal_of};
 ghost use Rattle.node.specs.Works.{IsWorkOf};
+ghost use Rattle.scripts.specs.Worlds.{empty_world};
+ghost use Rattle.world.specs.Replays.{IsReplayed, IsWholeReplay};
+ghost use Rattle.world.specs.Schedules.{IsStep};
+ghost use Rattle.world.specs.WorldStates.{world_of};
 ghost use Rattle.millwheel_cli.specs.Limits.{history_limit};
 ghost use Rattle.millwheel_cli.specs.Answers.{Left, RunLeaves};
 ghost use Rattle.millwheel_cli.specs.Inside.{of_start, of_drain};
@@ -18,13 +28,15 @@ use mw_types::NoMemory;
 use node::NodeFault;
 use row_keeper::Keeper;
 use std::alloc::Global;
-use world::{drain, drains_leave_no_work};
+use world::{Step, World, WorldRefusal, drains_leave_no_work, run_script};
 
 // How many entries a history may have.
 const HISTORY_MAX: u64 = 1 << 32;
 
 /// Runs a task over a keeper to its end, and writes its text.
 pub fn run<K: Keeper, O: Sink>(alloc: Global, task: &Task, keeper: K, out: &mut O) -> Done<K>
+    requires steps { All (IsStep task.now.case.topology) task.now.steps }
+
     ensures keeper_fault { result.status ≡ Status.KeeperFault →
         Rose (K.faults keeper) (K.faults result.keeper) }
     ensures sink_fault { result.status ≡ Status.SinkFault →
@@ -38,21 +50,22 @@ pub fn run<K: Keeper, O: Sink>(alloc: Global, task: &Task, keeper: K, out: &mut 
     ensures tells { is_some (K.rows result.keeper) ≡ is_some (K.rows keeper) }
 {
     match Kinds::of(alloc, &task.case.topology) {
-        Ok(work) => run_work(alloc, task, &work, keeper, out),
+        Ok(work) => run_work(alloc, task, work, keeper, out),
         Err(NoMemory) => unbegun(alloc, Status::NoMemory, keeper),
     }
 }
 
 // Runs a task over a keeper to its end, with these computations, and writes its text.
-fn run_work<K: Keeper, C: Computation, O: Sink>(
+fn run_work<K: Keeper, C: Computation + Drop, O: Sink>(
     alloc: Global,
     task: &Task,
-    work: &C,
+    work: C,
     keeper: K,
     out: &mut O,
 ) -> Done<K>
-    requires work { IsWorkOf task.now.case.topology (C.has work.now)
-        (C.gives_record work.now) (C.gives_timer work.now) }
+    requires work { IsWorkOf task.now.case.topology (C.has work)
+        (C.gives_record work) (C.gives_timer work) }
+    requires steps { All (IsStep task.now.case.topology) task.now.steps }
 
     ensures keeper_fault { result.status ≡ Status.KeeperFault →
         Rose (K.faults keeper) (K.faults result.keeper) }
@@ -82,18 +95,21 @@ fn unstarted<K: Keeper>(alloc: Global, refusal: StartRefusal<K>) -> Done<K>
     unbegun(alloc, status_of_start(why), keeper)
 }
 
-// Runs a new book to its end, and writes its text.
-fn run_book<K: Keeper, C: Computation, O: Sink>(
+// Runs a new book to its end, in a world of its own, and writes its text.
+fn run_book<'a, K: Keeper, C: Computation + Drop, O: Sink>(
     alloc: Global,
-    book: Book<'_, K>,
-    work: &C,
+    book: Book<'a, K>,
+    work: C,
     task: &Task,
     out: &mut O,
 ) -> Done<K>
-    requires work { IsWorkOf book.case.topology (C.has work.now)
-        (C.gives_record work.now) (C.gives_timer work.now) }
+    requires work { IsWorkOf book.case.topology (C.has work)
+        (C.gives_record work) (C.gives_timer work) }
     requires case { book.case ≡ task.now.case }
+    requires steps { All (IsStep task.now.case.topology) task.now.steps }
     requires empty { book.history ≡ [] }
+    requires marks { let shape = book.case.topology in
+        book.marks ≡ replicate (length (intervals_of shape)) 0 }
     requires limit { book.limit ≡ history_limit }
 
     ensures keeper_fault { result.status ≡ Status.KeeperFault →
@@ -108,9 +124,21 @@ fn run_book<K: Keeper, C: Computation, O: Sink>(
     ensures untouched { result.history ≡ [] → K.rows result.keeper ≡ book.entry.rows }
     ensures tells { is_some (K.rows result.keeper) ≡ is_some book.entry.rows }
 {
-    let mut book = book;
-    let status = finish(alloc, &mut book, work, task, out);
+    match World::start(alloc, book, work) {
+        Ok(world) => run_world(alloc, world, task, out),
+        Err(refusal) => unworlded(refusal),
+    }
+}
+
+// What a call leaves that began no world.
+fn unworlded<'a, K: Keeper, C: Computation + Drop>(refusal: WorldRefusal<'a, K, C>) -> Done<K>
+    ensures status { result.status ≡ Status.NoMemory }
+    ensures rows { K.rows result.keeper ≡ refusal.entry.book.rows }
+    ensures history { result.history ≡ refusal.entry.book.history }
+{
+    let WorldRefusal { book, work: _ } = refusal;
     let (keeper, history) = book.into_parts();
+    let status = Status::NoMemory;
     Done {
         status,
         keeper,
@@ -118,39 +146,109 @@ fn run_book<K: Keeper, C: Computation, O: Sink>(
     }
 }
 
-// Works all off that a book has to do, and writes its text.
-fn finish<K: Keeper, C: Computation, O: Sink>(
+// Runs a new world to its end, and writes its text.
+fn run_world<'a, K: Keeper, C: Computation + Drop, O: Sink>(
     alloc: Global,
-    book: &mut Book<'_, K>,
-    work: &C,
+    world: World<'a, K, C>,
+    task: &Task,
+    out: &mut O,
+) -> Done<K>
+    requires case { world.book.case ≡ task.now.case }
+    requires steps { All (IsStep task.now.case.topology) task.now.steps }
+    requires begun { world_of world ≡ empty_world task.now.case.topology }
+    requires limit { world.book.limit ≡ history_limit }
+
+    ensures keeper_fault { result.status ≡ Status.KeeperFault →
+        Rose world.entry.book.faults (K.faults result.keeper) }
+    ensures sink_fault { result.status ≡ Status.SinkFault →
+        Rose (O.faults out.old) (O.faults out.new) }
+    ensures left { let left : Left = record {
+      rows = (world.entry.book.rows, K.rows result.keeper);
+      text = (O.text out.old, O.text out.new);
+      history = result.history;
+    } in RunLeaves task.now left result.status }
+    ensures untouched { result.history ≡ [] → K.rows result.keeper ≡ world.entry.book.rows }
+    ensures tells { is_some (K.rows result.keeper) ≡ is_some world.entry.book.rows }
+{
+    let mut world = world;
+    let status = finish(alloc, &mut world, task, out);
+    let (keeper, history) = world.into_book().into_parts();
+    Done {
+        status,
+        keeper,
+        history,
+    }
+}
+
+// Does the steps of a task in a new world, works all off that is left, and writes its text.
+fn finish<'a, K: Keeper, C: Computation + Drop, O: Sink>(
+    alloc: Global,
+    world: &mut World<'a, K, C>,
     task: &Task,
     out: &mut O,
 ) -> Status
-    requires work { IsWorkOf book.old.case.topology (C.has work.now)
-        (C.gives_record work.now) (C.gives_timer work.now) }
-    requires case { book.old.case ≡ task.now.case }
-    requires empty { book.old.history ≡ [] }
-    requires limit { book.old.limit ≡ history_limit }
+    requires case { world.old.book.case ≡ task.now.case }
+    requires steps { All (IsStep task.now.case.topology) task.now.steps }
+    requires begun { world_of world.old ≡ empty_world task.now.case.topology }
+    requires limit { world.old.book.limit ≡ history_limit }
 
-    ensures keeper_fault { result ≡ Status.KeeperFault → Rose book.old.faults book.new.faults }
+    ensures keeper_fault { result ≡ Status.KeeperFault →
+        Rose world.old.book.faults world.new.book.faults }
     ensures sink_fault { result ≡ Status.SinkFault → Rose (O.faults out.old) (O.faults out.new) }
     ensures left { let left : Left = record {
-      rows = (book.old.rows, book.new.rows);
+      rows = (world.old.book.rows, world.new.book.rows);
       text = (O.text out.old, O.text out.new);
-      history = book.new.history;
+      history = world.new.book.history;
     } in RunLeaves task.now left result }
-    ensures untouched { book.new.history ≡ [] → book.new.rows ≡ book.old.rows }
-    ensures tells { is_some book.new.rows ≡ is_some book.old.rows }
+    ensures untouched { world.new.book.history ≡ [] → world.new.book.rows ≡ world.old.book.rows }
+    ensures tells { is_some world.new.book.rows ≡ is_some world.old.book.rows }
 {
-    // What holds of every book is known of it before and after.
-    book.history();
-    let drained = drain(alloc, book, work);
-    let history = book.history();
+    look(world);
+    let replayed = replay(alloc, world, task.steps.steps());
+    look(world);
+    let history = world.book().history();
     drains_leave_no_work();
-    match drained {
+    match replayed {
         Ok(()) => write(alloc, task, history, out),
         Err(fault) => status_of_drain(fault),
     }
+}
+
+// Does the steps of a script in a new world, and works all off that is left.
+fn replay<'a, K: Keeper, C: Computation + Drop>(
+    alloc: Global,
+    world: &mut World<'a, K, C>,
+    steps: &[Step],
+) -> Result<(), NodeFault>
+    requires steps { All (IsStep world.old.book.case.topology) steps.now }
+    requires begun { world_of world.old ≡ empty_world world.old.book.case.topology }
+
+    ensures case { world.new.book.case ≡ world.old.book.case }
+    ensures limit { world.new.book.limit ≡ world.old.book.limit }
+    ensures tells { is_some world.new.book.rows ≡ is_some world.old.book.rows }
+    ensures replayed { IfSome world.old.book.rows
+        (λ _. IsReplayed world.old.book.case steps.now world.new.book.history) }
+    ensures whole { OnOk result (IfSome world.old.book.rows
+        (λ _. IsWholeReplay world.old.book.case steps.now world.new.book.history)) }
+    ensures keeper_fault { result ≡ Err NodeFault.KeeperFault →
+        Rose world.old.book.faults world.new.book.faults }
+    ensures full { result ≡ Err NodeFault.HistoryFull →
+        length world.new.book.history ≡ world.new.book.limit }
+    ensures more { result ≡ Err NodeFault.HistoryFull → IfSome world.old.book.rows
+        (λ _. IsWholeReplay world.old.book.case steps.now world.new.book.history → ⊥) }
+    ensures damaged { IfErr result (λ why.
+        IsDamageOf (own_view world.new.book) (refusal_of why)) }
+{
+    look(world);
+    run_script(alloc, world, steps)?;
+    world.drain(alloc)
+}
+
+// What holds of every book is known of a world's.
+fn look<'a, K: Keeper, C: Computation + Drop>(world: &World<'a, K, C>)
+    ensures lawful { IsLawful world.now.book.case (core_of world.now.book) }
+{
+    world.book().history();
 }
 
 // The status where a book was not begun.

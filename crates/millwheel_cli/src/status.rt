@@ -34,6 +34,11 @@ pub enum Status {
         /// The first rule that the line breaks.
         why: LineWhy,
     },
+    /// A line of the plan is no step.
+    PlanRefused {
+        /// The number of its first such line, from 1.
+        line: u32,
+    },
     /// The keeper failed.
     KeeperFault,
     /// The output failed.
@@ -96,6 +101,7 @@ impl Status {
             Status::NoFile { .. } => 3,
             Status::TopologyRefused { .. } => 4,
             Status::EventsRefused { .. } => 5,
+            Status::PlanRefused { .. } => 6,
             Status::KeeperFault => 7,
             Status::SinkFault => 8,
             Status::NoMemory => 9,
@@ -128,6 +134,7 @@ impl fmt::Display for Status {
                 let rule = line_rule(*why);
                 write!(f, "events refused: file {file} line {line}: {rule}")
             }
+            Status::PlanRefused { line } => write!(f, "plan refused: line {line}"),
             Status::KeeperFault => f.write_str("the keeper failed"),
             Status::SinkFault => f.write_str("the output failed"),
             Status::NoMemory => f.write_str("out of memory"),

@@ -3,6 +3,7 @@ ghost use Rattle.std.specs.Prelude.{◌≡◌};
 ghost use Rattle.millwheel_cli.specs.Tasks.{wanted_of};
 
 use run_history::Case;
+use world::Schedule;
 
 /// What is to be written of a run.
 #[derive(Debug, Drop, Clone, Copy)]
@@ -15,11 +16,13 @@ pub enum Wanted {
     SummaryAlone,
 }
 
-/// The case of a run, and what is to be written of it.
+/// The case of a run, the steps that come before its drain, and what is to be written of it.
 #[derive(Debug, Drop)]
 pub struct Task {
     /// What is run.
     pub case: Case,
+    /// The steps of a plan. Without one there are none.
+    pub steps: Schedule,
     /// What is to be written.
     pub wanted: Wanted,
 }

@@ -4,6 +4,7 @@ mod histories;
 mod loads;
 mod many_lines;
 mod refusals;
+mod replays;
 mod several_files;
 mod statuses;
 mod texts;

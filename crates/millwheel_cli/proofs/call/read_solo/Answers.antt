@@ -1,4 +1,4 @@
-use Rattle.std.proofs.Common.{rules}
+use Rattle.std.proofs.Common.{[], None, refl, rules}
 use Rattle.millwheel_cli.proofs.Reasons.{events_refused}
 use Rattle.millwheel_cli.proofs.call.read_solo.Goals as goal
 
@@ -7,6 +7,6 @@ returns-in_err-sources-clause-refused g c =
     let before = c.in_ok-topology.ensures in
     search (
       rules,
-      events_refused _ _ _ _ _ _ _ _ c.args.inputs.now _ _ _ _ c.as_slice-events.ensures.elements c.in_ok-count.ensures before.files
-          before.topology before.faults_later before.lacks_later c.in_err-sources.ensures.refused,
+      events_refused _ _ _ _ _ _ _ _ None c.args.inputs.now _ _ _ [] _ c.as_slice-events.ensures.elements c.in_ok-count.ensures
+          before.files before.topology refl before.faults_later before.lacks_later c.in_err-sources.ensures.refused,
     )

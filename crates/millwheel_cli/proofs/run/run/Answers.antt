@@ -3,13 +3,11 @@ use Rattle.millwheel_cli.proofs.Works.{kinds_work}
 use Rattle.millwheel_cli.proofs.Leaving.{unwanted}
 use Rattle.millwheel_cli.proofs.run.run.Goals as goal
 
-pub run_work-requires : goal.run_work-requires
-run_work-requires g c =
+pub run_work-requires-clause-work : goal.run_work-requires-clause-work
+run_work-requires-clause-work g c =
     let made = c.in-Ok.ensures in
-    record {
-      work = kinds_work c.args.task.now.case.topology c.in-Ok.work (made.injectors ∙ search (rules, c.task.view_is))
-          (made.kinds ∙ search (rules, c.task.view_is)) made.within;
-    }
+    kinds_work c.args.task.now.case.topology c.in-Ok.work (made.injectors ∙ search (rules, c.task.view_is))
+    (made.kinds ∙ search (rules, c.task.view_is)) made.within
 
 pub returns-in-Err-clause-left : goal.returns-in-Err-clause-left
 returns-in-Err-clause-left g c =

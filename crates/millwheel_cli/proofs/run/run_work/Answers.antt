@@ -1,8 +1,9 @@
-use Rattle.std.proofs.Common.{◌∙◌, refl, sym, ap, subst}
+use Rattle.std.proofs.Common.{◌∙◌, length, refl, sym, ap, subst}
+use Rattle.std.specs.Prelude.{replicate}
 use Rattle.std.specs.Option.{is_some}
 use Rattle.mw_types.specs.Causes.{Rose}
 use Rattle.mw_types.proofs.CauseLaws.{Rose-before}
-use Rattle.run_history.specs.Cases.{CaseShape}
+use Rattle.run_history.specs.Cases.{CaseShape, intervals_of}
 use Rattle.node.specs.Works.{IsWorkOf}
 use Rattle.millwheel_cli.specs.Answers.{Left, IsUnbegun, RunLeaves}
 use Rattle.millwheel_cli.proofs.Statuses.{start_fault, start_sink}
@@ -11,9 +12,13 @@ use Rattle.millwheel_cli.proofs.run.run_work.Goals as goal
 
 pub run_book-requires-clause-work : goal.run_book-requires-clause-work
 run_book-requires-clause-work g c =
-    let work = c.args.work.now in
+    let work = c.args.work in
     subst (λ (case : CaseShape). IsWorkOf case.topology (g.C.Computation.has work) (g.C.Computation.gives_record work)
     (g.C.Computation.gives_timer work)) (sym c.in-Ok.ensures.case) c.requires.work
+
+pub run_book-requires-clause-marks : goal.run_book-requires-clause-marks
+run_book-requires-clause-marks g c =
+    c.in-Ok.ensures.marks ∙ ap (λ (k : CaseShape). replicate (length (intervals_of k.topology)) 0) (sym c.in-Ok.ensures.case)
 
 pub returns-in-Ok-clause-keeper_fault : goal.returns-in-Ok-clause-keeper_fault
 returns-in-Ok-clause-keeper_fault g c is = Rose-before _ _ _ c.in-Ok.ensures.faults (c.run_book.ensures.keeper_fault is)
