@@ -95,7 +95,10 @@ fn work(alloc: Global, case: &Case) -> Result<Kinds, NoMemory>
     ensures { IfOk result (λ kinds. IsWorkOf case.now.topology
         (HasState kinds) (part_record kinds) (part_timer kinds)) }
 {
-    Kinds::of(alloc, &case.topology)
+    match Kinds::of(alloc, &case.topology) {
+        Ok(kinds) => Ok(kinds),
+        Err(NoMemory) => Err(NoMemory),
+    }
 }
 
 // A world over a new book of a case, which takes so many entries.
