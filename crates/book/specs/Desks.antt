@@ -26,6 +26,11 @@ pub record DeskView : Type 0 where
   pub faults : ℕ
   pub alone : Bool
 
+-- where a desk stands among those of its book: the numbers that name the book, and those of the desk's own seats
+pub record Home : Type 0 where
+  pub book : List ℕ
+  pub seats : List ℕ
+
 -- what a note tells: a case, and what was seen of a history of it
 pub record Sight : Type 0 where
   pub case : CaseShape

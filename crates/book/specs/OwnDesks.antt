@@ -6,7 +6,7 @@ use Rattle.run_history.specs.Runs.{run_of}
 use Rattle.run_history.specs.Legal.{floor_of}
 use Rattle.run_history.specs.Fences.{is_claim}
 use Rattle.book.specs.Books.{BookView, LeaseView}
-use Rattle.book.specs.Desks.{DeskView}
+use Rattle.book.specs.Desks.{DeskView, Home}
 
 -- whether something is told, and no more
 abbrev pub telling : {X : Type 0} → Option X → Option Unit
@@ -31,3 +31,7 @@ own_view book = record {
   faults = book.faults;
   alone = true;
 }
+
+-- a desk that is alone needs no number
+abbrev pub own_home : Home
+own_home = record { book = []; seats = [] }

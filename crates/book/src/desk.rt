@@ -1,5 +1,5 @@
 //! What a worker needs of a history: a desk, over a book of its own or one that others share.
-ghost use Rattle.std.specs.Prelude.{◌≡◌, ◌<◌, ◌≤◌, ℕ, [], true, Option, IfErr, IfOk, IfSome, OnErr, length};
+ghost use Rattle.std.specs.Prelude.{◌≡◌, ◌<◌, ◌≤◌, ℕ, List, [], true, Option, IfErr, IfOk, IfSome, OnErr, length};
 ghost use Rattle.mw_types.specs.declared.entry.Entry.TheVariants.{Ack, Purge};
 ghost use Rattle.run_history.specs.Cases.{intervals_of};
 ghost use Rattle.run_history.specs.Legal.{MayClaim};
@@ -8,7 +8,7 @@ ghost use Rattle.watermark.specs.Marks.{mark_of};
 ghost use Rattle.book.specs.Conditions.{IsOwnWork, MaySettle};
 ghost use Rattle.book.specs.Desking.{HasClaimed, HasStored, HasWritten, IsKnownOf, IsReported, IsRowKnown, MayAsk, MayPurge};
 ghost use Rattle.book.specs.DeskReasons.{HasClaimReason, HasReason, IsReportRefusal};
-ghost use Rattle.book.specs.Desks.{DeskView, HasLooked, HasMet, IsNoteOf, IsSound, KeepsMarks, Sight};
+ghost use Rattle.book.specs.Desks.{DeskView, HasLooked, HasMet, Home, IsNoteOf, IsSound, KeepsMarks, Sight};
 ghost use Rattle.book.specs.Proposals.{IsProposable};
 
 use crate::answers::{Claimed, Written};
@@ -23,6 +23,9 @@ use std::alloc::Global;
 pub trait Seen: Drop {
     /// The case, and the beginning of the history that was seen, where it tells.
     ghost sight: { Self → Option Sight };
+
+    /// The book of which it is, by its numbers.
+    ghost book: { Self → List ℕ };
 }
 
 /// What a worker may ask of a history. Each call sees at least what was seen before, and appends at
@@ -34,11 +37,11 @@ pub trait Desk: Drop {
     /// What it knows.
     ghost view: { Self → DeskView };
 
-    /// Whether a note is of the desk's own book.
-    ghost knows: { Self → Self.Note → Type 0 };
-
     /// The borrow on which it rests.
     ghost loan: { Self → ℕ };
+
+    /// Its place among the desks of its book.
+    ghost home: { Self → Home };
 
     /// What always holds of a desk. It does nothing when it runs.
     fn sound(&self)
@@ -53,7 +56,8 @@ pub trait Desk: Drop {
         ensures looked { OnErr result (HasLooked (view self.old) (view self.new)) }
         ensures reason { IfErr result (HasClaimReason (view self.old) (view self.new)) }
         ensures marks { KeepsMarks (view self.old) (view self.new) }
-        ensures loan { loan self.new ≡ loan self.old };
+        ensures loan { loan self.new ≡ loan self.old }
+        ensures home { home self.new ≡ home self.old };
 
     /// A row is written anew: an injector's next line is injected, a record was handled, or a timer
     /// fired.
@@ -75,7 +79,8 @@ pub trait Desk: Drop {
         ensures looked { OnErr result (HasLooked (view self.old) (view self.new)) }
         ensures reason { IfErr result (HasReason (view self.old) (view self.new) lease.now) }
         ensures marks { KeepsMarks (view self.old) (view self.new) }
-        ensures loan { loan self.new ≡ loan self.old };
+        ensures loan { loan self.new ≡ loan self.old }
+        ensures home { home self.new ≡ home self.old };
 
     /// A sender learns that what it made was handled: the row no longer waits for the id.
     fn settle(
@@ -96,7 +101,8 @@ pub trait Desk: Drop {
         ensures looked { OnErr result (HasLooked (view self.old) (view self.new)) }
         ensures reason { IfErr result (HasReason (view self.old) (view self.new) lease.now) }
         ensures marks { KeepsMarks (view self.old) (view self.new) }
-        ensures loan { loan self.new ≡ loan self.old };
+        ensures loan { loan self.new ≡ loan self.old }
+        ensures home { home self.new ≡ home self.old };
 
     /// A row forgets the ids of records that are finished: those below the floor.
     fn purge(
@@ -117,7 +123,8 @@ pub trait Desk: Drop {
         ensures looked { OnErr result (HasLooked (view self.old) (view self.new)) }
         ensures reason { IfErr result (HasReason (view self.old) (view self.new) lease.now) }
         ensures marks { KeepsMarks (view self.old) (view self.new) }
-        ensures loan { loan self.new ≡ loan self.old };
+        ensures loan { loan self.new ≡ loan self.old }
+        ensures home { home self.new ≡ home self.old };
 
     /// A worker reports the own work of an interval that it has, in whole microseconds: the oldest that
     /// is left in the interval's rows, or the end where there is none. The interval's mark, which may
@@ -140,7 +147,8 @@ pub trait Desk: Drop {
             (λ mark. IsReported (view self.old) (view self.new) lease.now own mark) }
         ensures unchanged { (view self.old).alone ≡ true →
             OnErr result ((view self.new).marks ≡ (view self.old).marks) }
-        ensures loan { loan self.new ≡ loan self.old };
+        ensures loan { loan self.new ≡ loan self.old }
+        ensures home { home self.new ≡ home self.old };
 
     /// The known mark of an interval, in whole microseconds. It never falls.
     fn mark(&mut self, interval: u32) -> u64
@@ -148,28 +156,32 @@ pub trait Desk: Drop {
         ensures mark { result ≡ mark_of (view self.new).marks interval }
         ensures looked { HasLooked (view self.old) (view self.new) }
         ensures marks { KeepsMarks (view self.old) (view self.new) }
-        ensures loan { loan self.new ≡ loan self.old };
+        ensures loan { loan self.new ≡ loan self.old }
+        ensures home { home self.new ≡ home self.old };
 
     /// The known floor, which never falls: of a desk that is alone that of what it has seen.
     fn floor(&mut self) -> u64
         ensures floor { result ≡ (view self.new).floor }
         ensures looked { HasLooked (view self.old) (view self.new) }
         ensures marks { KeepsMarks (view self.old) (view self.new) }
-        ensures loan { loan self.new ≡ loan self.old };
+        ensures loan { loan self.new ≡ loan self.old }
+        ensures home { home self.new ≡ home self.old };
 
     /// What the desk has seen, for a message to carry.
     fn note(&mut self) -> Self::Note
         ensures note { IsNoteOf (view self.new) (Self.Note.sight result) }
-        ensures known { knows self.new result }
+        ensures known { Self.Note.book result ≡ (home self.new).book }
         ensures looked { HasLooked (view self.old) (view self.new) }
         ensures marks { KeepsMarks (view self.old) (view self.new) }
-        ensures loan { loan self.new ≡ loan self.old };
+        ensures loan { loan self.new ≡ loan self.old }
+        ensures home { home self.new ≡ home self.old };
 
     /// The desk comes to see at least what a note of its own book tells.
     fn meet(&mut self, note: Self::Note)
-        requires known { knows self.old note }
+        requires known { Self.Note.book note ≡ (home self.old).book }
         ensures met { HasMet (Self.Note.sight note) (view self.new) }
         ensures looked { HasLooked (view self.old) (view self.new) }
         ensures marks { KeepsMarks (view self.old) (view self.new) }
-        ensures loan { loan self.new ≡ loan self.old };
+        ensures loan { loan self.new ≡ loan self.old }
+        ensures home { home self.new ≡ home self.old };
 }

@@ -14,9 +14,11 @@ use row_parts::Row;
 use std::alloc::Global;
 
 impl Seen for u64 {
-    ghost use Rattle.std.specs.Prelude.{None};
+    ghost use Rattle.std.specs.Prelude.{None, []};
 
     ghost sight = { λ _. None };
+
+    ghost book = { λ _. [] };
 }
 
 /// A desk over a book that nobody else writes while the desk is there. Its notes are lengths of the
@@ -37,16 +39,15 @@ impl<'b, 'a, K: Keeper> OwnDesk<'b, 'a, K> {
 }
 
 impl<'b, 'a, K: Keeper> Desk for OwnDesk<'b, 'a, K> {
-    ghost use Rattle.std.specs.Prelude.{⊤};
-    ghost use Rattle.book.specs.OwnDesks.{own_view};
+    ghost use Rattle.book.specs.OwnDesks.{own_home, own_view};
 
     type Note = u64;
 
     ghost view = { λ desk. own_view desk.book.now };
 
-    ghost knows = { λ _ _. ⊤ };
-
     ghost loan = { λ desk. desk.book.ghost_name };
+
+    ghost home = { λ _. own_home };
 
     fn sound(&self) {
         // Their clauses say what always holds of the book.

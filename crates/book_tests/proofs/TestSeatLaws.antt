@@ -1,10 +1,20 @@
--- The numbers of the seats of the tests.
-use Rattle.std.proofs.Common.{inl, inr, ◌≡◌, ◌⊎◌, ◌==◌, ℕ, zero, suc, ◌+◌, ◌-◌, ◌<◌, ◌≤◌, List, [], ◌∷◌, refl, sym, ap, ◌∙◌, subst, ⊎_elim, arith}
+-- The seats of the tests: their numbers, and what a desk leaves of them.
+use Rattle.std.proofs.Common.{inl, inr, true, false, ◌≡◌, ℕ, zero, suc, ◌+◌, ◌<◌, ◌≤◌, List, [], ◌∷◌, sym, ap, ◌∙◌, subst, arith}
 use mathlib.Core.Logic.{dite}
 use native.Mathlib.Decide.{ℕ_discrete}
+use Rattle.atomic_table.specs.Seated.{TableId}
+use Rattle.atomic_table.specs.declared.shared.Seat.{Seat}
+use Rattle.run_history.specs.Cases.{CaseShape}
+use Rattle.book.specs.Desks.{Home}
+use Rattle.shared_book.specs.declared.views.View.{View}
+use Rattle.shared_book.specs.FenceLaw.{Slot}
 use Rattle.shared_book.specs.Joins.{first_of, others_of}
 use Rattle.shared_book.specs.Lists.{IsIn}
 use Rattle.shared_book.specs.Opening.{span}
+use Rattle.shared_book.specs.SharedDesks.{shared_home}
+use Rattle.shared_book.specs.Steps.{SeatView}
+use Rattle.shared_book.proofs.DeskFacts.{one-table}
+use Rattle.book_tests.specs.TestSeats.{IsAtRest}
 
 -- each number of a span is in it
 pub in_span : (from count n : ℕ) → from ≤ n → n < from + count → IsIn n (span from count)
@@ -31,3 +41,47 @@ next_number numbers n m (suc left) is first some =
     head : List ℕ → ℕ
     head [] = 0
     head (x ∷ xs) = x
+
+-- ---- what a desk leaves of a seat
+
+abbrev head : List ℕ → ℕ
+head [] = 0
+head (x ∷ xs) = x
+
+abbrev tail : List ℕ → List ℕ
+tail [] = []
+tail (x ∷ xs) = xs
+
+-- a seat with the same view at this table is at rest as well
+pub rest_moved : (id : TableId) (shape : CaseShape) (seats : ℕ) (numbers : List ℕ) (old new : Seat Slot View)
+    → IsAtRest id shape seats numbers old → new.me ≡ old.me → new.table_id ≡ id → IsAtRest id shape seats numbers new
+rest_moved id shape seats numbers old new rest same table = record {
+  here = record {
+    table = table;
+    live = ap (λ (m : SeatView). m.0.live) same ∙ rest.here.live;
+    case = ap (λ (m : SeatView). m.0.basis.case) same ∙ rest.here.case;
+  };
+  idle = record {
+    turn = ap (λ (m : SeatView). m.0.turn) same ∙ rest.idle.turn;
+    places = ap (λ (m : SeatView). m.1) same ∙ rest.idle.places;
+  };
+  of_seats = ap (λ (m : SeatView). m.0.basis.seats) same ∙ rest.of_seats;
+  has_numbers = ap (λ (m : SeatView). m.0.numbers) same ∙ rest.has_numbers;
+}
+
+-- a desk that keeps its place leaves its seat at rest
+pub rest_behind : (id : TableId) (shape : CaseShape) (seats : ℕ) (numbers : List ℕ) (old new : Seat Slot View)
+    → IsAtRest id shape seats numbers old → shared_home new ≡ shared_home old
+    → new.me.0.basis.case ≡ old.me.0.basis.case → new.me.0.live ≡ true → new.me.0.turn ≡ false → new.me.1 ≡ []
+    → IsAtRest id shape seats numbers new
+rest_behind id shape seats numbers old new rest home case live turn places =
+    let same = ap (λ (h : Home). h.seats) home in record {
+      here = record {
+        table = one-table new.table_id old.table_id (ap (λ (h : Home). h.book) home) ∙ rest.here.table;
+        live = live;
+        case = case ∙ rest.here.case;
+      };
+      idle = record { turn = turn; places = places };
+      of_seats = ap head same ∙ rest.of_seats;
+      has_numbers = ap tail same ∙ rest.has_numbers;
+    }

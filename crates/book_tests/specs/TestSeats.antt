@@ -1,5 +1,5 @@
 -- The seats of the tests. Only tests cite this module.
-use Rattle.std.specs.Prelude.{◌≡◌, ℕ, List, [], ◌∷◌}
+use Rattle.std.specs.Prelude.{◌≡◌, ℕ, List}
 use Rattle.atomic_table.specs.Seated.{TableId}
 use Rattle.run_history.specs.Cases.{CaseShape}
 use Rattle.shared_book.specs.declared.views.View.{View}

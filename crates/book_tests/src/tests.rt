@@ -1,6 +1,7 @@
 //! Books over a keeper that tells its rows, and over one that does not, and books that threads share:
 //! what is answered, and what is refused.
 mod calls;
+mod desks;
 mod example;
 mod hands;
 mod many_seats;

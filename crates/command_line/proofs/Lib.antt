@@ -1,1 +1,10 @@
 pub mod Numbers
+pub mod Rules
+pub mod Rows
+pub mod Lines
+pub mod Steps
+pub mod States
+pub mod Forms
+pub mod Reading
+pub mod Short
+pub mod Found

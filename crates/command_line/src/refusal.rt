@@ -1,6 +1,7 @@
 //! Why words are not read.
 
 use mw_types::NoMemory;
+use std::alloc::AllocError;
 
 /// Why there is no command.
 #[derive(Clone, Copy, Debug, PartialEq, Eq)]
@@ -18,6 +19,17 @@ impl From<NoMemory> for WordsRefusal {
     ghost from_gives = { λ _ refusal. refusal ≡ refusals.NoMemory };
 
     fn from(_want: NoMemory) -> WordsRefusal {
+        WordsRefusal::NoMemory
+    }
+}
+
+impl From<AllocError> for WordsRefusal {
+    ghost use Rattle.std.specs.Prelude.{◌≡◌};
+    ghost use Rattle.command_line.specs.declared.refusal.WordsRefusal.TheVariants as refusals;
+
+    ghost from_gives = { λ _ refusal. refusal ≡ refusals.NoMemory };
+
+    fn from(_want: AllocError) -> WordsRefusal {
         WordsRefusal::NoMemory
     }
 }

@@ -1,5 +1,4 @@
-//! Command lines, each with what it is read as, and what `clap` makes of it.
-mod by_clap;
+//! Command lines, each with what it is read as.
 mod lines;
 
 use crate::command::{Call, Command, Inputs};
@@ -70,7 +69,7 @@ fn read_by(alloc: Global, inputs: &Inputs) -> Result<String, Fail> {
 
 #[test]
 fn each_line_is_its_command(rt: HostRuntime) -> Result<(), Fail> {
-    for (line, wanted, _) in LINES {
+    for (line, wanted) in LINES {
         let words = words_of(rt.alloc(), line)?;
         let names = names_of(rt.alloc(), words.as_slice())?;
         let said = said_of(rt.alloc(), names.as_slice())?;

@@ -1,21 +1,44 @@
-//! What one word is.
+//! The rule on words that stands beside `clap`.
 ghost use Rattle.std.specs.Prelude.{◌≡◌};
-ghost use Rattle.std.specs.Option.{option_map};
-ghost use Rattle.command_line.specs.Words.{assigned, is_dashed};
+ghost use Rattle.command_line.specs.Clap.{has_short, is_short};
+ghost use Rattle.command_line.specs.Words.{is_dashed};
 
-/// Whether a word begins with `-`.
-pub(crate) fn is_dashed(word: &str) -> bool
-    ensures { result ≡ is_dashed word.now }
+use mw_types::Name;
+
+// Whether bytes begin with `-`.
+fn is_dashed(bytes: &[u8]) -> bool
+    ensures { result ≡ is_dashed bytes.now }
 {
-    match word.as_bytes() {
+    match bytes {
         [first, ..] => *first == b'-',
         [] => false,
     }
 }
 
-/// The option's name and its value, where a word has both, with the first `=` between them.
-pub(crate) fn assigned(word: &str) -> Option<(&str, &str)>
-    ensures { option_map (λ parts. (parts.0.now, parts.1.now)) result ≡ assigned word.now }
+// Whether bytes begin with one `-` alone.
+fn is_short(bytes: &[u8]) -> bool
+    ensures { result ≡ is_short bytes.now }
 {
-    word.split_once('=')
+    match bytes {
+        [first, rest @ ..] => *first == b'-' && !is_dashed(rest),
+        [] => false,
+    }
+}
+
+/// Whether a word before the first `--` begins with one `-` alone. `clap` takes a lone `-` as a name or a
+/// value, and there are no options of one letter.
+pub(crate) fn has_short(words: &[Name]) -> bool
+    ensures { result ≡ has_short words.now }
+{
+    let mut rest = words;
+    while let Some((word, others)) = rest.split_first() {
+        if word.text() == "--" {
+            return false;
+        }
+        if is_short(word.text().as_bytes()) {
+            return true;
+        }
+        rest = others;
+    }
+    false
 }

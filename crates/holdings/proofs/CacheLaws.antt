@@ -1,19 +1,17 @@
 -- The rows that are cached, by their names.
-use Rattle.std.proofs.Common.{◌≡◌, ◌<◌, ℕ, zero, suc, Bool, true, false, cond, List, [], ◌∷◌, ◌++◌, length, map, take, drop, get_or, refl, sym, ◌∙◌, ap, subst, arith, Result}
-use Rattle.std.specs.Prelude.{Some, None, IsSome, slice_set}
+use Rattle.std.proofs.Common.{◌≡◌, ◌<◌, ℕ, zero, suc, true, false, cond, List, [], ◌∷◌, ◌++◌, length, map, take, drop, get_or, refl, sym, ◌∙◌, ap, subst, arith, Result}
+use Rattle.std.specs.Prelude.{Some, None, slice_set}
 use Rattle.std.specs.List.{AllByRecursion}
 use Rattle.std.specs.List.Sorted.{IsStrictlySortedBy, IsBinarySearchResult, IsSearchInRange}
-use Rattle.std.specs.Map.{lookup, keys_of, set_value}
+use Rattle.std.specs.Map.{lookup, keys_of}
 use Rattle.std.specs.BTreeMap.{insert_entry, is_at}
 use Rattle.std.specs.Ordering.{is_eq, on, ordering_reverse}
 use Rattle.std.specs.Cmp.{tied_itself}
 use Rattle.std.specs.declared.cmp.Ordering.{Ordering}
 use Rattle.std.specs.declared.cmp.Ordering.TheVariants.{Less, Equal, Greater}
 use Rattle.std.proofs.lemmas.Bool.{both_ways}
-use Rattle.std.proofs.lemmas.Cmp.{eq_by_cmp_equiv}
 use Rattle.std.proofs.lemmas.List.{take-append-drop}
 use Rattle.std.proofs.lemmas.List.Elements.{recursion_from_All}
-use Rattle.std.proofs.lemmas.Map.{lookup-set_value, keys-set_value}
 use Rattle.mw_types.specs.Orders.{row_cmp}
 use Rattle.mw_types.specs.declared.identity.RowName.{RowName}
 use Rattle.mw_types.proofs.OrderLaws.{row_cmp-total}
@@ -148,27 +146,6 @@ merged-insert answered others name row ordered none =
     ∙ ap (cond (is_at (row_cmp q) name) (Some row)) (sym (lookup-merged q answered others))
     ∙ sym (lookup-insert_entry row_cmp-total (merged answered others) name row q))
 
--- a value that is set at a key that is there is put there
-pub set_value-insert : (es : List (RowName × Contents)) (name : RowName) (row : Contents) → IsStrictlySortedBy row_cmp (keys_of es)
-    → IsSome (lookup (is_at (row_cmp name)) es) → set_value (is_at (row_cmp name)) es row ≡ insert_entry row_cmp es name row
-set_value-insert es name row ordered there =
-    same_entries row_cmp-total tied_row (set_value (is_at (row_cmp name)) es row) (insert_entry row_cmp es name row)
-    (subst (IsStrictlySortedBy row_cmp) (sym (keys-set_value (is_at (row_cmp name)) es row)) ordered)
-    (sorted-insert_entry row_cmp-total es name row ordered)
-    (λ q. lookup-set_value (eq_by_cmp_equiv row_cmp-total) (is_at (row_cmp name))
-    (λ x y e. ap (λ (n : RowName). is_at (row_cmp n) y) (same_row name x e)) q row es there
-    ∙ ap (λ b. cond b (Some row) (lookup (is_at (row_cmp q)) es)) (turned q)
-    ∙ sym (lookup-insert_entry row_cmp-total es name row q))
-  where
-    -- two names tie in either order
-    turned : (q : RowName) → is_at (row_cmp name) q ≡ is_at (row_cmp q) name
-    turned q = ap is_eq (row_cmp-total.antisymm name q) ∙ reversed (row_cmp q name)
-      where
-        reversed : (o : Ordering) → is_eq (ordering_reverse o) ≡ is_eq o
-        reversed Less = refl
-        reversed Equal = refl
-        reversed Greater = refl
-
 -- ---- a row of the list
 
 -- no row of a list is of a name that would stand in a gap of it
@@ -285,27 +262,6 @@ apart-add answered others name row none apart = both answered (none-each name an
           ∙ ap (λ b. cond b (Some row) (lookup (is_at (row_cmp x.name)) others)) (turned x.name name ∙ other.0) ∙ each.0,
       both xs other.1 each.1,
     )
-
--- another row beside the list, under the same name
-pub apart-set_value : (answered : List NamedRow) (others : List (RowName × Contents)) (test : RowName → Bool) (row : Contents)
-    → AllByRecursion (λ (r : NamedRow). lookup (is_at (row_cmp r.name)) others ≡ None) answered
-    → AllByRecursion (λ (r : NamedRow). lookup (is_at (row_cmp r.name)) (set_value test others row) ≡ None) answered
-apart-set_value answered others test row apart =
-    each-weaker (λ (r : NamedRow). lookup (is_at (row_cmp r.name)) others ≡ None)
-    (λ (r : NamedRow). lookup (is_at (row_cmp r.name)) (set_value test others row) ≡ None) (λ r none. still r.name others none) answered apart
-  where
-    still : (q : RowName) (es : List (RowName × Contents)) → lookup (is_at (row_cmp q)) es ≡ None
-        → lookup (is_at (row_cmp q)) (set_value test es row) ≡ None
-    still q [] none = refl
-    still q (e ∷ es) none =
-        elim (is_at (row_cmp q) e.0) as (λ b. is_at (row_cmp q) e.0 ≡ b → cond b (Some e.1) (lookup (is_at (row_cmp q)) es) ≡ None
-        → lookup (is_at (row_cmp q)) (cond (test e.0) ((e.0, row) ∷ es) (e ∷ set_value test es row)) ≡ None) [
-          | true ↦ λ _ some. absurd (none_some e.1 (sym some))
-          | false ↦ λ other rest. elim (test e.0) as (λ t. lookup (is_at (row_cmp q)) (cond t ((e.0, row) ∷ es) (e ∷ set_value test es row)) ≡ None) [
-            | true ↦ ap (λ b. cond b (Some row) (lookup (is_at (row_cmp q)) es)) other ∙ rest
-            | false ↦ ap (λ b. cond b (Some e.1) (lookup (is_at (row_cmp q)) (set_value test es row))) other ∙ still q es rest
-          ]
-        ] refl none
 
 -- what holds of each name of a list holds where another row stands at a place
 pub names-each_set : (P : RowName → Type 0) (rows : List NamedRow) (at : ℕ) (row : Contents) (d : NamedRow) → at < length rows

@@ -1,6 +1,6 @@
 -- The stamps of rows, one a row: they are changed with one row, and the least of them is the oldest work.
 use Rattle.std.proofs.Common.{◌≡◌, ◌≢◌, ◌<◌, ◌≤◌, ◌+◌, ◌-◌, ℕ, zero, suc, List, [], ◌∷◌, length, map, refl, sym, ◌∙◌, ap, subst, arith, inl, inr, sum_by}
-use Rattle.std.specs.Prelude.{Contains, Err, IfOk, IfSome, None, Ok, OnOk, Option, Result, Some, unwrap_or}
+use Rattle.std.specs.Prelude.{Box, Contains, Err, IfOk, IfSome, None, Ok, OnOk, Option, Result, Some, unwrap_or}
 use Rattle.std.specs.Option.{option_and_then, option_map}
 use Rattle.std.specs.Result.{result_ok}
 use Rattle.std.specs.List.{flat_map}
@@ -254,10 +254,15 @@ index-put rows name row before old (Ok new) ordered are is has keyed rekeyed = r
 index-put rows name row before old (Err want) ordered are is has keyed rekeyed = tt
 
 -- rows and index after a row is put
-pub indexed-put : (rows after : List (RowName × Contents)) (name : RowName) (row : Contents) (index : Option Index)
+pub indexed-put : {A : Type 0} (rows after : List (RowName × Contents)) (name : RowName) (row : Contents) (index : Option (Box Index A))
     → IsStrictlySortedBy row_cmp (keys_of rows) → after ≡ insert_entry row_cmp rows name row
-    → IfSome index (IsIndexOf (insert_entry row_cmp rows name row)) → IsIndexed after index
+    → IfSome index (λ (b : Box Index A). IsIndexOf (insert_entry row_cmp rows name row) b.value) → IsIndexed after index
 indexed-put rows after name row index ordered is kept = subst (λ (l : List (RowName × Contents)). IsIndexed l index) (sym is) (record {
   ordered = sorted-insert_entry row_cmp-total rows name row ordered;
   kept = kept;
 })
+
+-- an index that is there is that of the rows
+pub index-there : {A : Type 0} (rows : List (RowName × Contents)) (o : Option (Box Index A)) (b : Box Index A) → o ≡ Some b
+    → IfSome o (λ (i : Box Index A). IsIndexOf rows i.value) → IsIndexOf rows b.value
+index-there {A} rows o b is kept = subst (λ (p : Option (Box Index A)). IfSome p (λ (i : Box Index A). IsIndexOf rows i.value)) is kept

@@ -1,6 +1,6 @@
 -- What is kept beside the rows of an interval, so that no step goes over all of them. No public clause cites this
 -- module.
-use Rattle.std.specs.Prelude.{◌≡◌, ℕ, ◌+◌, IfSome, List, Option, sum_by, unwrap_or}
+use Rattle.std.specs.Prelude.{◌≡◌, ℕ, ◌+◌, Box, IfSome, List, Option, sum_by, unwrap_or}
 use Rattle.std.specs.Option.{option_map}
 use Rattle.std.specs.List.Sorted.{IsStrictlySortedBy}
 use Rattle.std.specs.Map.{keys_of, values_of}
@@ -45,6 +45,6 @@ pub record IsIndexOf (rows : List (RowName × Contents)) (index : Index) : Type 
   pub seen : AreSeen rows index.seen.entries
 
 -- rows stand in order of their names, and the index, where there is one, is theirs
-pub record IsIndexed (rows : List (RowName × Contents)) (index : Option Index) : Type 0 where
+pub record IsIndexed {A : Type 0} (rows : List (RowName × Contents)) (index : Option (Box Index A)) : Type 0 where
   pub ordered : IsStrictlySortedBy row_cmp (keys_of rows)
-  pub kept : IfSome index (IsIndexOf rows)
+  pub kept : IfSome index (λ (b : Box Index A). IsIndexOf rows b.value)

@@ -1,5 +1,6 @@
 pub mod Holding
 pub mod Caching
+pub mod Slots
 pub mod Steps
 pub mod Firsts
 pub mod Timers

@@ -21,12 +21,12 @@ ghost use Rattle.holdings.specs.Seens.{seen_of};
 
 use crate::index::Index;
 use crate::pending::{SentList, push_row};
+use crate::slots::{Slots, index_beside, purge_beside, push_beside};
 use crate::to_purge::earlier_name;
 use book::{NamedRow, NamedRowList};
 use mw_types::{NoMemory, RowName};
 use row_parts::Row;
 use std::alloc::Global;
-use std::collections::BTreeMap;
 use std::marker::Model;
 
 // Rows by their names: the list that a claim answered, as it is, so that a claim takes no memory
@@ -34,7 +34,7 @@ use std::marker::Model;
 #[derive(Drop)]
 pub(crate) struct Cache {
     answered: Vec<NamedRow>,
-    others: BTreeMap<RowName, Row>,
+    others: Slots,
 }
 
 impl Model for Cache {
@@ -45,9 +45,9 @@ impl Model for Cache {
 
     ghost Value = { List (RowName × Contents) };
 
-    ghost view = { λ cache. merged cache.answered.items cache.others.entries };
+    ghost view = { λ cache. merged cache.answered.items cache.others };
 
-    ghost invariant = { λ cache. AreOrdered cache.answered.items cache.others.entries };
+    ghost invariant = { λ cache. AreOrdered cache.answered.items cache.others };
 }
 
 impl Cache {
@@ -58,7 +58,7 @@ impl Cache {
     {
         Cache {
             answered: rows.into_vec(),
-            others: BTreeMap::new(alloc),
+            others: Slots::new(alloc),
         }
     }
 
@@ -73,12 +73,12 @@ impl Cache {
     }
 
     // Puts a row that is not cached yet.
-    pub(crate) fn add(&mut self, name: RowName, row: Row) -> Result<(), NoMemory>
+    pub(crate) fn add(&mut self, alloc: Global, name: RowName, row: Row) -> Result<(), NoMemory>
         requires new { row_in (cached self.old) name ≡ None }
         ensures added { OnOk result (self.new ≡ insert_entry row_cmp self.old name row) }
         ensures unchanged { OnErr result (self.new ≡ self.old) }
     {
-        self.others.insert(name, row)?;
+        self.others.add(alloc, name, row)?;
         Ok(())
     }
 
@@ -89,7 +89,7 @@ impl Cache {
     {
         match place_of(&self.answered, name) {
             Ok(at) => set_at(&mut self.answered[at], row),
-            Err(_) => set_in(&mut self.others, name, row),
+            Err(_) => self.others.set(name, row),
         }
     }
 
@@ -132,20 +132,6 @@ fn push_in(alloc: Global, sent: &mut SentList, rows: &[NamedRow]) -> Result<(), 
     Ok(())
 }
 
-// Appends what is pending in the rows of a map.
-fn push_beside(
-    alloc: Global,
-    sent: &mut SentList,
-    rows: &BTreeMap<RowName, Row>,
-) -> Result<(), NoMemory>
-    ensures { OnOk result (sent.new ≡ sent.old ++ flat_map sent_in rows.now.entries) }
-{
-    for (name, row) in rows {
-        push_row(alloc, sent, name, row)?;
-    }
-    Ok(())
-}
-
 // The name of the first row of a list that may forget ids.
 fn purge_in(rows: &[NamedRow], floor: u64, least: u64) -> Option<&RowName>
     ensures { seen_name result
@@ -154,23 +140,6 @@ fn purge_in(rows: &[NamedRow], floor: u64, least: u64) -> Option<&RowName>
     let mut best = None;
     for row in rows {
         best = earlier_name(best, &row.name, &row.row, floor, least);
-    }
-    best
-}
-
-// The earlier of a name and that of the first row of a map that may forget ids.
-fn purge_beside<'a>(
-    rows: &'a BTreeMap<RowName, Row>,
-    first: Option<&'a RowName>,
-    floor: u64,
-    least: u64,
-) -> Option<&'a RowName>
-    ensures { seen_name result
-        ≡ fold (earlier (forgets floor least) by_name) (seen_name first.entry) rows.now.entries }
-{
-    let mut best = first;
-    for (name, row) in rows {
-        best = earlier_name(best, name, row, floor, least);
     }
     best
 }
@@ -191,26 +160,6 @@ fn index_in(alloc: Global, index: &mut Index, rows: &[NamedRow]) -> Result<(), N
     Ok(())
 }
 
-// Keeps what there is of the rows of a map.
-fn index_beside(
-    alloc: Global,
-    index: &mut Index,
-    rows: &BTreeMap<RowName, Row>,
-) -> Result<(), NoMemory>
-    requires ordered { IsStrictlySortedBy due_order (keys_of index.old.dues.entries) }
-    requires ascending { IsStrictlySortedBy row_cmp (keys_of index.old.seen.entries) }
-    ensures work { OnOk result (HasStamped rows.now.entries index.old.work index.new.work) }
-    ensures dues { OnOk result (HasKeyed due_order due_of rows.now.entries
-        index.old.dues.entries index.new.dues.entries) }
-    ensures seen { OnOk result (HasKeyed row_cmp seen_of rows.now.entries
-        index.old.seen.entries index.new.seen.entries) }
-{
-    for (name, row) in rows {
-        index.add(alloc, name, row)?;
-    }
-    Ok(())
-}
-
 // The place of a name's row among rows that ascend by name; `Err` has the place where it would
 // stand.
 fn place_of(rows: &[NamedRow], name: &RowName) -> Result<usize, usize>
@@ -225,21 +174,4 @@ fn set_at(place: &mut NamedRow, row: Row)
     ensures { place.new ≡ record place.old { row = row } }
 {
     place.row = row;
-}
-
-// Another row in the place of one that a map has.
-fn set_in(rows: &mut BTreeMap<RowName, Row>, name: &RowName, row: Row)
-    requires { IsSome (lookup (is_at (row_cmp name.now)) rows.old.entries) }
-    ensures { rows.new.entries ≡ set_value (is_at (row_cmp name.now)) rows.old.entries row }
-{
-    if let Some(place) = rows.get_mut(name) {
-        put(place, row);
-    }
-}
-
-// Another row in a place.
-fn put(place: &mut Row, row: Row)
-    ensures { place.new ≡ row }
-{
-    *place = row;
 }

@@ -37,6 +37,7 @@ impl Holdings {
         ensures reason { IfErr result (HasClaimReason (D.view desk.old) (D.view desk.new)) }
         ensures marks { KeepsMarks (D.view desk.old) (D.view desk.new) }
         ensures loan { D.loan desk.new ≡ D.loan desk.old }
+        ensures home { D.home desk.new ≡ D.home desk.old }
     {
         // The place comes first: once the desk has answered, no memory may be wanted.
         self.make_room(interval)?;

@@ -64,53 +64,59 @@ impl Index {
 
     // Keeps what there is of a row in the place of what there was of it before, if it was there.
     fn put(
-        self,
+        &mut self,
         alloc: Global,
         before: Option<&Row>,
         name: &RowName,
         row: &Row,
-    ) -> Result<Index, NoMemory>
-        requires held { IfSome (option_copied before) (λ b. Contains self.work (work_of b)) }
-        requires ordered { IsStrictlySortedBy due_order (keys_of self.dues.entries) }
-        requires ascending { IsStrictlySortedBy row_cmp (keys_of self.seen.entries) }
+    ) -> Result<(), NoMemory>
+        requires held { IfSome (option_copied before) (λ b. Contains self.old.work (work_of b)) }
+        requires ordered { IsStrictlySortedBy due_order (keys_of self.old.dues.entries) }
+        requires ascending { IsStrictlySortedBy row_cmp (keys_of self.old.seen.entries) }
         requires due { IsThere due_order
-            (option_and_then (due_of name.now) (option_copied before)) self.dues.entries }
+            (option_and_then (due_of name.now) (option_copied before)) self.old.dues.entries }
         requires named { IsThere row_cmp
-            (option_and_then (seen_of name.now) (option_copied before)) self.seen.entries }
-        ensures work { IfOk result (λ new. HasRestamped
-            (option_map work_of (option_copied before.entry)) (work_of row.now) self.work new.work) }
-        ensures dues { IfOk result (λ new. HasRekeyed due_order
+            (option_and_then (seen_of name.now) (option_copied before)) self.old.seen.entries }
+        ensures work { OnOk result (HasRestamped
+            (option_map work_of (option_copied before.entry)) (work_of row.now)
+            self.old.work self.new.work) }
+        ensures dues { OnOk result (HasRekeyed due_order
             (option_and_then (due_of name.now) (option_copied before.entry))
-            (due_of name.now row.now) self.dues.entries new.dues.entries) }
-        ensures seen { IfOk result (λ new. HasRekeyed row_cmp
+            (due_of name.now row.now) self.old.dues.entries self.new.dues.entries) }
+        ensures seen { OnOk result (HasRekeyed row_cmp
             (option_and_then (seen_of name.now) (option_copied before.entry))
-            (seen_of name.now row.now) self.seen.entries new.seen.entries) }
+            (seen_of name.now row.now) self.old.seen.entries self.new.seen.entries) }
     {
-        let mut index = self;
         let old = work_before(before);
-        restamp(&mut index.work, old, row_work(row))?;
+        restamp(&mut self.work, old, row_work(row))?;
         let old = timer_before(before);
-        set_due(alloc, &mut index.dues, name, old, row.least_timer())?;
+        set_due(alloc, &mut self.dues, name, old, row.least_timer())?;
         let old = seen_before(before);
-        set_seen(alloc, &mut index.seen, name, old, has_seen(row))?;
-        Ok(index)
+        set_seen(alloc, &mut self.seen, name, old, has_seen(row))
     }
 }
 
 // The index once a row is put among the rows, or none where there was no memory for it.
 pub(crate) fn changed(
     alloc: Global,
-    index: Option<Index>,
+    index: Option<Box<Index>>,
     rows: &Cache,
     name: &RowName,
     row: &Row,
-) -> Option<Index>
+) -> Option<Box<Index>>
     requires ordered { IsStrictlySortedBy row_cmp (keys_of rows.now) }
-    requires index { IfSome index (IsIndexOf rows.now) }
-    ensures { IfSome result (IsIndexOf (insert_entry row_cmp rows.now name.now row.now)) }
+    requires index { IfSome index (λ index. IsIndexOf rows.now index.value) }
+    ensures { IfSome result (λ index.
+        IsIndexOf (insert_entry row_cmp rows.now name.now row.now) index.value) }
 {
     match index {
-        Some(index) => index.put(alloc, rows.get(name), name, row).ok(),
+        Some(index) => {
+            let mut index = index;
+            match index.put(alloc, rows.get(name), name, row) {
+                Ok(()) => Some(index),
+                Err(NoMemory) => None,
+            }
+        }
         None => None,
     }
 }

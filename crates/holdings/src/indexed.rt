@@ -30,11 +30,12 @@ use std::marker::Model;
 use std::mem::replace;
 
 // Rows by their names, with an index of them. There is no index right after a claim, and where there
-// was no memory to change it; it is made anew once it is asked for.
+// was no memory to change it; it is made anew once it is asked for. It lies in a box, since it is
+// taken out and put back at each write.
 #[derive(Drop)]
 pub(crate) struct Indexed {
     rows: Cache,
-    index: Option<Index>,
+    index: Option<Box<Index>>,
 }
 
 impl Model for Indexed {
@@ -77,7 +78,7 @@ impl Indexed {
     {
         let index = replace(&mut self.index, None);
         let index = changed(alloc, index, &self.rows, &name, &row);
-        self.rows.add(name, row)?;
+        self.rows.add(alloc, name, row)?;
         self.index = index;
         Ok(())
     }
@@ -105,13 +106,13 @@ impl Indexed {
     }
 
     // Takes the index, which is made where there is none.
-    fn take_index(&mut self, alloc: Global) -> Result<Index, NoMemory>
-        ensures index { IfOk result (IsIndexOf self.old) }
+    fn take_index(&mut self, alloc: Global) -> Result<Box<Index>, NoMemory>
+        ensures index { IfOk result (λ index. IsIndexOf self.old index.value) }
         ensures same { self.new ≡ self.old }
     {
         match replace(&mut self.index, None) {
             Some(index) => Ok(index),
-            None => self.rows.index(alloc),
+            None => boxed(alloc, self.rows.index(alloc)?),
         }
     }
 
@@ -142,4 +143,11 @@ impl Indexed {
             None => self.rows.to_purge(floor, least),
         }
     }
+}
+
+// An index in a box.
+fn boxed(alloc: Global, index: Index) -> Result<Box<Index>, NoMemory>
+    ensures { IfOk result (λ boxed. boxed.value ≡ index) }
+{
+    Ok(Box::new(alloc, index)?)
 }

@@ -23,6 +23,7 @@ mod own_work;
 mod pending;
 mod row_work;
 mod seen;
+mod slots;
 mod to_purge;
 mod writes;
 

@@ -49,6 +49,7 @@ impl Holdings {
             (IsRefusedOf (D.view desk.old) (D.view desk.new) self.old interval) }
         ensures marks { KeepsMarks (D.view desk.old) (D.view desk.new) }
         ensures loan { D.loan desk.new ≡ D.loan desk.old }
+        ensures home { D.home desk.new ≡ D.home desk.old }
     {
         desk.sound();
         let held = self.ready(alloc, case, interval, name)?;
@@ -90,6 +91,7 @@ impl Holdings {
             (IsRefusedOf (D.view desk.old) (D.view desk.new) self.old interval) }
         ensures marks { KeepsMarks (D.view desk.old) (D.view desk.new) }
         ensures loan { D.loan desk.new ≡ D.loan desk.old }
+        ensures home { D.home desk.new ≡ D.home desk.old }
     {
         desk.sound();
         let held = self.ready(alloc, case, interval, name)?;
@@ -131,6 +133,7 @@ impl Holdings {
             (IsRefusedOf (D.view desk.old) (D.view desk.new) self.old interval) }
         ensures marks { KeepsMarks (D.view desk.old) (D.view desk.new) }
         ensures loan { D.loan desk.new ≡ D.loan desk.old }
+        ensures home { D.home desk.new ≡ D.home desk.old }
     {
         desk.sound();
         let held = self.ready(alloc, case, interval, name)?;

@@ -85,9 +85,27 @@ fn run_in_memory(rt: &HostRuntime, words: &[Name]) -> Status {
 // Runs these words over the database of that name, which is opened before any file is read.
 fn run_kept(rt: &HostRuntime, words: &[Name], name: &Name) -> Status {
     match SqliteKeeper::at(rt, name.text()) {
-        Ok(kept) => run_over(rt, words, kept).status,
-        Err(KeeperFault::Failed) => Status::KeeperFault,
-        Err(KeeperFault::NoMemory) => Status::NoMemory,
+        Ok(kept) => {
+            let Done { status, keeper, .. } = run_over(rt, words, kept);
+            after(status, keeper.close())
+        }
+        Err(fault) => status_of(fault),
+    }
+}
+
+// The status of a run whose keeper was closed: a run that went well did not if its rows are not kept.
+fn after(status: Status, closed: Result<(), KeeperFault>) -> Status {
+    match (status, closed) {
+        (Status::Ok, Err(fault)) => status_of(fault),
+        (status, _) => status,
+    }
+}
+
+// The status where a keeper failed.
+fn status_of(fault: KeeperFault) -> Status {
+    match fault {
+        KeeperFault::Failed => Status::KeeperFault,
+        KeeperFault::NoMemory => Status::NoMemory,
     }
 }
 

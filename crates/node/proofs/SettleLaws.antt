@@ -1,5 +1,6 @@
 -- What a node leaves when word comes that what a row sent was handled.
-use Rattle.std.proofs.Common.{◌≡◌, ◌∙◌, ℕ, ◌||◌, true, false, List, [], ◌∷◌, length, refl, sym, ap, subst, inl, inr}
+use Rattle.std.proofs.Common.{◌≡◌, ◌∙◌, ◌++◌, ℕ, ◌||◌, true, false, List, [], ◌∷◌, length, refl, sym, ap, subst, inl, inr}
+use Rattle.std.proofs.lemmas.List.{append-nil}
 use Rattle.std.specs.List.{list_any}
 use Rattle.std.specs.Prelude.{IfErr, IfOk, IfSome, Option, Some, None, Result, Ok, Err, if◌then◌else◌}
 use Rattle.std.specs.Option.{is_some, option_and_then, option_map}
@@ -26,15 +27,17 @@ use Rattle.book.specs.declared.proposal.Proposal.{Proposal}
 use Rattle.book.specs.declared.proposal.Proposal.TheVariants as proposals
 use Rattle.holdings.specs.Holding.{AreHeld, HeldView, HoldsEntry, IsRefusedOf, held_at, held_on, row_held, with_row}
 use Rattle.holdings.proofs.HeldRows.{name_or_not, row_held-here, row_held-other}
-use Rattle.node.specs.Answers.{AnswersAck, AnswersAsked, AnswersWrite, FailsAsked, HasGrown, HasKept, IsRefused, refusal_of}
+use Rattle.node.specs.Answers.{AnswersAck, AnswersAsked, AnswersWrite, FailsAsked, HasGrown, HasKept, IsRefused, made_of, refusal_of}
 use Rattle.node.specs.Asking.{Request, settle_asked, settling}
 use Rattle.node.specs.Fits.{Fits, IsHandled, IsPrepared, IsWork}
 use Rattle.node.specs.Steps.{HasYielded, answered}
-use Rattle.node.specs.Workers.{NodeView, WorkView, worker_at}
+use Rattle.node.specs.Workers.{NodeView, WorkView, sending_of, with_outgoing, worker_at}
 use Rattle.node.specs.declared.outcome.NodeFault.{NodeFault}
 use Rattle.node.specs.declared.outcome.Outcome.{Outcome}
+use Rattle.node.specs.declared.outcome.Outcome.TheVariants as outcomes
+use Rattle.node.specs.declared.outgoing.Outgoing.{Outgoing}
 use Rattle.node.specs.declared.outgoing.Outgoing.TheVariants as outgoing
-use Rattle.node.proofs.CommitLaws.{IsAppended, grown-by, held-on-at, more-by}
+use Rattle.node.proofs.CommitLaws.{IsAppended, committed, grown-by, held-on-at, leases-written, more-by, told-any}
 use Rattle.node.proofs.FitLaws.{HasMore, fails-refused, held-interval, outbox-more, outgoing-more}
 use Rattle.node.proofs.PurgeLaws.{holding, ok-answers}
 use Rattle.node.proofs.RefusedLaws.{reason-at, refused-held}
@@ -184,6 +187,23 @@ ack-answers shape old new was node to id held outcome there pending is =
     subst (λ (o : Option HeldView). AnswersAck shape old new o to id was node outcome) (sym there)
     (subst (λ (o : Option Request). AnswersAsked shape old new o (worker_at was) was node outcome)
     (sym (pending-asked shape to id held pending)) is)
+
+-- the entry stands: it makes nothing, and the leases are as they were
+pub answers-settled : (case : CaseShape) (old new : DeskView) (node : NodeView) (interval : ℕ) (to : RowName) (id : RecordId) (commit : ℕ)
+    (after : List (Option HeldView)) (h : HoldsAck case.topology old new interval to id commit node.held after)
+    → interval_of case.topology to ≡ Some interval → is_some (found_delivery id (row_held case.topology h.held to).pending) ≡ true
+    → AnswersAck case.topology old new (held_on case.topology node.held to) to id node (holding after node) (outcomes.Committed commit)
+answers-settled case old new node interval to id commit after h covers pending =
+    let shape = case.topology in
+    let asked = settled_as to id h.held in
+    let left : worker_at (holding after node) ≡ with_outgoing (made_of shape asked commit) (worker_at node) =
+    ap (λ (l : ℕ → Option ℕ). record { leases = l; prepared = sending_of node; outbox = node.outbox })
+    (leases-written shape interval to commit _ node.held after h)
+    ∙ ap (λ (o : List Outgoing). record (worker_at node) { outbox = o }) (sym (append-nil node.outbox)) in
+    ack-answers shape old new node (holding after node) to id h.held (outcomes.Committed commit)
+    (held-on-at shape node.held to interval h.held covers h.was) pending
+    (committed shape old new asked (worker_at node) (holding after node) commit
+    (appended-settled shape old new interval to id commit node.held after h) refl (told-any old.told _ refl) left)
 
 -- the desk refused
 pub answers-unsettled : (case : CaseShape) (old new : DeskView) (was mid node : NodeView) (interval : ℕ) (here : HeldView) (to : RowName)

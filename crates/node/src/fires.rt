@@ -57,6 +57,7 @@ impl<N: Seen> Node<N> {
         ensures grown { HasGrown self.old.held (D.view desk.old) (D.view desk.new) }
         ensures marks { KeepsMarks (D.view desk.old) (D.view desk.new) }
         ensures loan { D.loan desk.new ≡ D.loan desk.old }
+        ensures home { D.home desk.new ≡ D.home desk.old }
     {
         desk.sound();
         let mark = least_known(desk, case, part);
@@ -124,6 +125,7 @@ impl<N: Seen> Node<N> {
         ensures grown { HasGrown self.old.held (D.view desk.old) (D.view desk.new) }
         ensures marks { KeepsMarks (D.view desk.old) (D.view desk.new) }
         ensures loan { D.loan desk.new ≡ D.loan desk.old }
+        ensures home { D.home desk.new ≡ D.home desk.old }
     {
         desk.sound();
         let timer = found.timer;
@@ -175,6 +177,7 @@ fn write_fire<D: Desk>(
         (IsRefusedOf (D.view desk.old) (D.view desk.new) held.old interval) }
     ensures marks { KeepsMarks (D.view desk.old) (D.view desk.new) }
     ensures loan { D.loan desk.new ≡ D.loan desk.old }
+    ensures home { D.home desk.new ≡ D.home desk.old }
 {
     let timer = found.timer;
     let proposal = Proposal::Fire {

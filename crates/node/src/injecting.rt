@@ -53,6 +53,7 @@ impl<N: Seen> Node<N> {
         ensures grown { HasGrown self.old.held (D.view desk.old) (D.view desk.new) }
         ensures marks { KeepsMarks (D.view desk.old) (D.view desk.new) }
         ensures loan { D.loan desk.new ≡ D.loan desk.old }
+        ensures home { D.home desk.new ≡ D.home desk.old }
     {
         match self.next_line(alloc, case, part) {
             Some(line) => {
@@ -107,6 +108,7 @@ impl<N: Seen> Node<N> {
         ensures grown { HasGrown self.old.held (D.view desk.old) (D.view desk.new) }
         ensures marks { KeepsMarks (D.view desk.old) (D.view desk.new) }
         ensures loan { D.loan desk.new ≡ D.loan desk.old }
+        ensures home { D.home desk.new ≡ D.home desk.old }
     {
         let item = case.line_record(alloc, part, line)?;
         let made = made_of(alloc, &case.topology, name, item)?;
@@ -153,6 +155,7 @@ fn write_line<D: Desk>(
         (IsRefusedOf (D.view desk.old) (D.view desk.new) held.old interval) }
     ensures marks { KeepsMarks (D.view desk.old) (D.view desk.new) }
     ensures loan { D.loan desk.new ≡ D.loan desk.old }
+    ensures home { D.home desk.new ≡ D.home desk.old }
 {
     let proposal = Proposal::Inject { line };
     held.write(alloc, desk, case, interval, name, &proposal)

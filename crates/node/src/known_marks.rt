@@ -17,6 +17,7 @@ pub(crate) fn least_known<D: Desk>(desk: &mut D, case: &Case, part: u32) -> u64
     ensures looked { HasLooked (D.view desk.old) (D.view desk.new) }
     ensures marks { KeepsMarks (D.view desk.old) (D.view desk.new) }
     ensures loan { D.loan desk.new ≡ D.loan desk.old }
+    ensures home { D.home desk.new ≡ D.home desk.old }
 {
     desk.sound();
     let intervals = case.intervals();
@@ -38,6 +39,7 @@ fn lesser<D: Desk>(desk: &mut D, interval: u32, counts: bool, least: u64) -> u64
     ensures looked { HasLooked (D.view desk.old) (D.view desk.new) }
     ensures marks { KeepsMarks (D.view desk.old) (D.view desk.new) }
     ensures loan { D.loan desk.new ≡ D.loan desk.old }
+    ensures home { D.home desk.new ≡ D.home desk.old }
 {
     let mark = desk.mark(interval);
     if counts { least.min(mark) } else { least }

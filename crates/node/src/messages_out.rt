@@ -25,7 +25,8 @@ impl<N: Seen> Node<N> {
 
         ensures addressed { IfSome result (λ message.
             IsAddressed (D.view desk.old).case.topology (outgoing_of message)) }
-        ensures known { IfSome result (λ message. D.knows desk.new (note_of message)) }
+        ensures known { IfSome result (λ message.
+            N.book (note_of message) ≡ (D.home desk.new).book) }
         ensures note { IfSome result (λ message.
             IsNoteOf (D.view desk.new) (N.sight (note_of message))) }
         ensures vouched { IfSome result (λ message. IsVouchedFor (D.view desk.old).case
@@ -34,6 +35,7 @@ impl<N: Seen> Node<N> {
         ensures looked { HasLooked (D.view desk.old) (D.view desk.new) }
         ensures marks { KeepsMarks (D.view desk.old) (D.view desk.new) }
         ensures loan { D.loan desk.new ≡ D.loan desk.old }
+        ensures home { D.home desk.new ≡ D.home desk.old }
     {
         desk.sound();
         let Some(message) = self.outbox.take_first() else {

@@ -45,6 +45,7 @@ impl<N: Seen> Node<N> {
         ensures grown { HasGrown self.old.held (D.view desk.old) (D.view desk.new) }
         ensures marks { KeepsMarks (D.view desk.old) (D.view desk.new) }
         ensures loan { D.loan desk.new ≡ D.loan desk.old }
+        ensures home { D.home desk.new ≡ D.home desk.old }
     {
         desk.sound();
         let floor = desk.floor();
@@ -81,6 +82,7 @@ impl<N: Seen> Node<N> {
         ensures grown { HasGrown self.old.held (D.view desk.old) (D.view desk.new) }
         ensures marks { KeepsMarks (D.view desk.old) (D.view desk.new) }
         ensures loan { D.loan desk.new ≡ D.loan desk.old }
+        ensures home { D.home desk.new ≡ D.home desk.old }
     {
         desk.sound();
         let floor = desk.floor();
@@ -166,6 +168,7 @@ impl<N: Seen> Node<N> {
         ensures grown { HasGrown self.old.held (D.view desk.old) (D.view desk.new) }
         ensures marks { KeepsMarks (D.view desk.old) (D.view desk.new) }
         ensures loan { D.loan desk.new ≡ D.loan desk.old }
+        ensures home { D.home desk.new ≡ D.home desk.old }
     {
         desk.sound();
         let interval = case.interval_of(name);

@@ -43,7 +43,7 @@ impl<N: Seen> Node<N> {
             (C.gives_record work.now) (C.gives_timer work.now) }
         requires record { IsDeliver (outgoing_of message) }
         requires addressed { IsAddressed case.now.topology (outgoing_of message) }
-        requires known { D.knows desk.old (note_of message) }
+        requires known { N.book (note_of message) ≡ (D.home desk.old).book }
         requires vouched { IsVouchedFor case.now (D.view desk.old)
             (N.sight (note_of message)) (outgoing_of message) }
 
@@ -58,6 +58,7 @@ impl<N: Seen> Node<N> {
         ensures looked { HasLooked (D.view desk.old) (D.view desk.new) }
         ensures marks { KeepsMarks (D.view desk.old) (D.view desk.new) }
         ensures loan { D.loan desk.new ≡ D.loan desk.old }
+        ensures home { D.home desk.new ≡ D.home desk.old }
     {
         match message {
             Message::Deliver { parcel } => {

@@ -45,6 +45,7 @@ impl<N: Seen> Node<N> {
             ((mark : ℕ) → result ≡ Ok (Outcome.Marked mark) → ⊥) →
             (D.view desk.new).marks ≡ (D.view desk.old).marks }
         ensures loan { D.loan desk.new ≡ D.loan desk.old }
+        ensures home { D.home desk.new ≡ D.home desk.old }
     {
         desk.sound();
         if self.held.get(interval).is_none() {

@@ -37,7 +37,7 @@ impl<N: Seen> Node<N> {
         requires fits { Fits case.now (D.view desk.old) self.old }
         requires ack { IsAck (outgoing_of message) }
         requires addressed { IsAddressed case.now.topology (outgoing_of message) }
-        requires known { D.knows desk.old (note_of message) }
+        requires known { N.book (note_of message) ≡ (D.home desk.old).book }
         requires vouched { IsVouchedFor case.now (D.view desk.old)
             (N.sight (note_of message)) (outgoing_of message) }
 
@@ -54,6 +54,7 @@ impl<N: Seen> Node<N> {
         ensures grown { HasGrown self.old.held (D.view desk.old) (D.view desk.new) }
         ensures marks { KeepsMarks (D.view desk.old) (D.view desk.new) }
         ensures loan { D.loan desk.new ≡ D.loan desk.old }
+        ensures home { D.home desk.new ≡ D.home desk.old }
     {
         match message {
             Message::Ack { receipt } => {
@@ -96,6 +97,7 @@ impl<N: Seen> Node<N> {
         ensures grown { HasGrown self.old.held (D.view desk.old) (D.view desk.new) }
         ensures marks { KeepsMarks (D.view desk.old) (D.view desk.new) }
         ensures loan { D.loan desk.new ≡ D.loan desk.old }
+        ensures home { D.home desk.new ≡ D.home desk.old }
     {
         let interval = case.interval_of(to);
         let Some(held) = self.held.get(interval) else {

@@ -41,6 +41,7 @@ impl<N: Seen> Node<N> {
         ensures grown { HasGrown self.old.held (D.view desk.old) (D.view desk.new) }
         ensures marks { KeepsMarks (D.view desk.old) (D.view desk.new) }
         ensures loan { D.loan desk.new ≡ D.loan desk.old }
+        ensures home { D.home desk.new ≡ D.home desk.old }
     {
         let Some(work) = &self.prepared else {
             return Ok(Outcome::Nothing);

@@ -12,12 +12,15 @@ const VERSION: u8 = 1;
 // Room for a row without lists, and some more.
 const ROOM: usize = 256;
 
+// How many bytes an id has.
+const ID_BYTES: usize = 12;
+
 /// The bytes of a row.
 pub fn encode_row(alloc: Global, row: &Row) -> Result<Bytes, NoMemory>
     ensures spelled { IfOk result (λ bytes. bytes ≡ spelling_of row.now) }
     ensures own { OnOk result (IsSpelledRow row.now) }
 {
-    let mut out = Vec::with_capacity(alloc, ROOM)?;
+    let mut out = Vec::with_capacity(alloc, room_of(row))?;
     out.push(VERSION)?;
     row.last.put(&mut out)?;
     row.floor.put(&mut out)?;
@@ -26,4 +29,9 @@ pub fn encode_row(alloc: Global, row: &Row) -> Result<Bytes, NoMemory>
     put_list(&mut out, row.pending.as_slice())?;
     put_list(&mut out, row.seen.as_slice())?;
     Ok(Bytes::from_vec(out))
+}
+
+// Room for a row: the ids that it has seen are the longest of its lists.
+fn room_of(row: &Row) -> usize {
+    row.seen.len().saturating_mul(ID_BYTES).saturating_add(ROOM)
 }

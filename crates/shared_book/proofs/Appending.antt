@@ -158,6 +158,7 @@ grown_fits basis s f id v e at turn live =
       begins = Begins-itself h';
       reaches = λ x. let o = fit.reaches x in omega (arith, o, more);
       met = Begins-trans v.met v.front h' fit.met (begins_more v.front e);
+      met_same = fit.met_same;
       holds = λ r. (mine.0, mine.1, mine.2, mine.3, refl, mine.5);
       claimed = λ l p. ⊎_elim
           (λ q. claim_kept v.front h' l.interval l.seq (begins_more v.front e) (fit.claimed l q))
@@ -236,6 +237,7 @@ appended basis s f id v b e at turn live may longer lawful limit told =
       fenced = subst (IsFenced basis.case.topology) longer lawful'.fenced;
       legal = lawful_legal basis h' b lawful' longer (told ∙ ap (λ (z : Basis). z.told) base);
       few = omega (arith, room, limit, ap length longer, ap (λ (z : Basis). z.limit) base);
+      limit = f.limit;
       started = omega (arith, f.started, more, len);
       counted = f.counted;
       views = everywhere_set (Fits basis h' f.turn f.count) s.views id w (grown_fits basis s f id v e at turn live)
@@ -318,6 +320,7 @@ gives_turn basis slots id v b turn live core room s f homes at small =
         fenced = f.fenced;
         legal = f.legal;
         few = f.few;
+        limit = f.limit;
         started = f.started;
         counted = f.counted;
         views = everywhere_set (Fits basis f.history 0 f.count) s.views id w
@@ -327,6 +330,7 @@ gives_turn basis slots id v b turn live core room s f homes at small =
               begins = fit.begins;
               reaches = fit.reaches;
               met = fit.met;
+              met_same = fit.met_same;
               holds = λ r. absurd (off r);
               claimed = fit.claimed;
               once = fit.once;
@@ -388,6 +392,7 @@ faults_one basis slots id v b turn more rose s f homes at small =
         fenced = f.fenced;
         legal = f.legal;
         few = f.few;
+        limit = f.limit;
         started = f.started;
         counted = omega (arith, f.counted, up);
         views = everywhere_set (Fits basis f.history f.turn b.faults) s.views id w
@@ -397,6 +402,7 @@ faults_one basis slots id v b turn more rose s f homes at small =
               begins = fit.begins;
               reaches = fit.reaches;
               met = fit.met;
+              met_same = fit.met_same;
               holds = λ r. (mine.0, mine.1, mine.2, mine.3, mine.4, refl);
               claimed = fit.claimed;
               once = fit.once;
@@ -455,6 +461,7 @@ looks_on basis slots id v l live s f homes at small =
               (told-then basis.told (λ _. IsLegal basis.case f.history) (λ _. IsLegal basis.case v.front) f.legal
               (λ _ legal. legal_begins basis.case v.front f.history fit.begins legal));
           few = omega (arith, short, f.few, ap (λ (z : Basis). z.limit) base);
+          limit = omega (arith, f.limit, ap (λ (z : Basis). z.limit) base);
           claimed = fit.claimed;
           ascend = fit.numbers_ascend;
         },
@@ -463,5 +470,6 @@ looks_on basis slots id v l live s f homes at small =
           own = λ k p. (fit.own k p).1;
           written = λ q p k x there carries. fit.written q p k x (Begins-at v.front f.history k x fit.begins there) carries;
         },
+        fit.met_same live ∙ base,
       ),
     )

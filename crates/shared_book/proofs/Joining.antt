@@ -40,6 +40,7 @@ split_law basis s f id v left right at fl fr lr others turn own numbers = record
   fenced = f.fenced;
   legal = f.legal;
   few = f.few;
+  limit = f.limit;
   started = f.started;
   counted = f.counted;
   views = everywhere_snoc (Fits basis f.history f.turn f.count) (slice_set s.views id left) right
@@ -74,6 +75,7 @@ note_splits basis id v s f at =
       begins = fit.begins;
       reaches = fit.reaches;
       met = (v.front, refl);
+      met_same = fit.same;
       holds = λ e. absurd (off e);
       claimed = λ l p. absurd p;
       once = tt;
@@ -112,6 +114,7 @@ seat_splits basis id n m ms v is quiet s f at =
       begins = fit.begins;
       reaches = fit.reaches;
       met = fit.met;
+      met_same = fit.met_same;
       holds = λ e. absurd (off (sym quiet ∙ e));
       claimed = fit.claimed;
       once = fit.once;
@@ -131,6 +134,7 @@ seat_splits basis id n m ms v is quiet s f at =
       begins = fit.begins;
       reaches = fit.reaches;
       met = (v.front, refl);
+      met_same = fit.same;
       holds = λ e. absurd (off e);
       claimed = λ l p. absurd p;
       once = tt;
@@ -162,8 +166,8 @@ some_fault (suc x) y h = inl (omega arith)
 -- the view of a seat that took in another fits
 joined_fits : (basis : Basis) (s : State Slot View) (f : FenceLaw basis s) (v w : View)
     → Fits basis f.history f.turn f.count v → Fits basis f.history f.turn f.count w → AreApart v w
-    → v.live ≡ true → v.turn ≡ false → Fits basis f.history f.turn f.count (joined v w)
-joined_fits basis s f v w fv fw a live quiet =
+    → v.live ≡ true → v.turn ≡ false → w.live ≡ true → Fits basis f.history f.turn f.count (joined v w)
+joined_fits basis s f v w fv fw a live quiet joins =
     let far = is_longer v.front w.front f.history fv.begins fw.begins in
     let p_len = Begins-length v.front (longer v.front w.front) far.left in
     let q_len = Begins-length w.front (longer v.front w.front) far.right in
@@ -175,6 +179,7 @@ joined_fits basis s f v w fv fw a live quiet =
       begins = far.whole;
       reaches = λ x. let o = fv.reaches x in omega (arith, o, p_len);
       met = far.right;
+      met_same = λ _. fw.same joins;
       holds = λ e. absurd (off (sym quiet ∙ e));
       claimed = λ l p. ⊎_elim
           (λ q. claim_kept v.front (longer v.front w.front) l.interval l.seq far.left (fv.claimed l q))
@@ -212,6 +217,7 @@ spent_fits basis s f = record {
   begins = (f.history, refl);
   reaches = λ e. absurd (off e);
   met = ([], refl);
+  met_same = λ e. absurd (off e);
   holds = λ e. absurd (off e);
   claimed = λ l p. absurd p;
   once = tt;
@@ -237,8 +243,9 @@ joined_apart v w u b c = record {
 
 -- a seat without the turn may take in another, or a note
 pub seats_join : (basis : Basis) (id : ℕ) (v : View) (other : ℕ) (w : View) → v.live ≡ true → v.turn ≡ false → w.turn ≡ false
+    → w.live ≡ true
     → Joins {S = Slot} (FenceLaw basis) id v other w (joined v w) spent
-seats_join basis id v other w live quiet still s f at apart there' =
+seats_join basis id v other w live quiet still joins s f at apart there' =
     let there : get_elem? s.views other ≡ some w =
     ⊎_elim (λ q. absurd (apart q.0)) (λ q. q.1) (at_set s.views id other (joined v w) w there') in
     let fv = f.views id v at in
@@ -256,10 +263,11 @@ seats_join basis id v other w live quiet still s f at apart there' =
       fenced = f.fenced;
       legal = f.legal;
       few = f.few;
+      limit = f.limit;
       started = f.started;
       counted = f.counted;
       views = everywhere_joined (Fits basis f.history f.turn f.count) s.views id other (joined v w) spent
-          (joined_fits basis s f v w fv fw a live quiet) (spent_fits basis s f) f.views;
+          (joined_fits basis s f v w fv fw a live quiet joins) (spent_fits basis s f) f.views;
       apart = pairwise_joined AreApart s.views id other (joined v w) spent apart_sym f.apart
           (λ i u o n e. joined_apart v w u (f.apart id i v u at e (λ x. o (sym x))) (f.apart other i w u there e (λ x. n (sym x))))
           (λ u. nothing spent u refl refl refl (λ n p q. p));

@@ -12,3 +12,9 @@ pub mod Starting
 pub mod Told
 pub mod Calls
 pub mod BookReports
+pub mod Held
+pub mod KnownMarks
+pub mod Staying
+pub mod Taking
+pub mod DeskSteps
+pub mod DeskFacts

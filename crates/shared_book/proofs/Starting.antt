@@ -148,6 +148,7 @@ newborn_law v b homes some_seat lawful home =
       fenced = lawful.fenced;
       legal = lawful_legal basis b.history b lawful refl refl;
       few = lawful.few;
+      limit = lawful.limit;
       started = omega arith;
       counted = omega arith;
       views = λ i u e. let here = one_view (newborn v b) u i e in subst (Fits basis b.history 0 b.faults) here.1 (record {
@@ -156,6 +157,7 @@ newborn_law v b homes some_seat lawful home =
         begins = Begins-itself b.history;
         reaches = λ e. omega arith;
         met = (b.history, refl);
+        met_same = λ e. refl;
         holds = λ e. absurd (off e);
         claimed = λ l p. absurd p;
         once = tt;

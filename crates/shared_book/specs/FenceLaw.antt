@@ -2,7 +2,7 @@
 -- place in it, and what each seat knows. Akidau et al., VLDB 2013, section 6.2, where a sequencer is
 -- checked at each write, so that a former owner's write is refused. Own: threads that share one history,
 -- the turn, and what each seat has seen of it.
-use Rattle.std.specs.Prelude.{◌≡◌, ℕ, suc, ◌<◌, ◌≤◌, List, [], ◌∷◌, true, false, Option, Some, IfSome, length, replicate, slice_get}
+use Rattle.std.specs.Prelude.{◌≡◌, ℕ, suc, ◌<◌, ◌≤◌, ◌^◌, List, [], ◌∷◌, true, false, Option, Some, IfSome, length, replicate, slice_get}
 use mathlib.Core.Option.{some, none}
 use lib.ListN.{get_elem?}
 use Rattle.atomic_table.specs.Table.{State}
@@ -90,6 +90,8 @@ pub record Fits (basis : Basis) (history : List Entry) (turn count : ℕ) (v : V
   -- what another had seen that was taken in was seen: two views alone do not show which of them has seen
   -- more
   pub met : Begins v.met v.front
+  -- and that was of the same book
+  pub met_same : v.live ≡ true → v.met_basis ≡ basis
   pub holds : v.turn ≡ true → HoldsTurn history turn count v
   -- leases: each was claimed in what was seen, none stands twice, and all that was written under it was
   -- seen
@@ -133,6 +135,7 @@ pub record FenceLaw (basis : Basis) (s : State Slot View) : Type 0 where
   pub fenced : IsFenced basis.case.topology history
   pub legal : IfSome basis.told (λ _. IsLegal basis.case history)
   pub few : length history ≤ basis.limit
+  pub limit : basis.limit ≤ 2 ^ 32
   pub started : basis.begin ≤ length history
   -- the keeper's count that is known is not below that of the start
   pub counted : basis.count ≤ count

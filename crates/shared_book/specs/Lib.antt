@@ -5,3 +5,5 @@ pub mod Joins
 pub mod Opening
 pub mod Turns
 pub mod Guards
+pub mod SharedDesks
+pub mod KeptFacts

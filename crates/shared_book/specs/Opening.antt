@@ -8,6 +8,7 @@ use Rattle.atomic_table.specs.Table.{State, Step}
 use Rattle.run_history.specs.Cases.{CaseShape}
 use Rattle.book.specs.Books.{CoreView}
 use Rattle.book.specs.OwnDesks.{telling}
+use Rattle.shared_book.specs.declared.views.Basis.{Basis}
 use Rattle.shared_book.specs.declared.views.View.{View}
 use Rattle.shared_book.specs.declared.shared.Key.{Key}
 use Rattle.shared_book.specs.FenceLaw.{Slot, FenceLaw, no_marks}
@@ -27,20 +28,25 @@ abbrev pub span : ℕ → ℕ → List ℕ
 span from zero = []
 span from (suc count) = from ∷ span (suc from) count
 
+-- what no step changes, once this book is in the table
+abbrev pub basis_of : View → CoreView → Basis
+basis_of v core = record {
+  case = v.basis.case;
+  limit = core.limit;
+  seats = v.basis.seats;
+  begin = length core.history;
+  count = core.faults;
+  told = telling core.rows;
+}
+
 -- the view of the first seat once this book is in the table: all numbers, and the whole history
 abbrev pub newborn : View → CoreView → View
 newborn v core = record spent {
   live = true;
-  basis = record {
-    case = v.basis.case;
-    limit = core.limit;
-    seats = v.basis.seats;
-    begin = length core.history;
-    count = core.faults;
-    told = telling core.rows;
-  };
+  basis = basis_of v core;
   numbers = span 0 v.basis.seats;
   front = core.history;
+  met_basis = basis_of v core;
 }
 
 -- no book is in the table yet: there is one seat, and nothing in the place

@@ -2,7 +2,7 @@
 -- found, and the seat's view before and after, each with the places that the seat holds. Own. A step reads
 -- the book where the seat holds its place: so an entry is appended, and a fault noted, while the longer
 -- history, or the higher count, already lies there.
-use Rattle.std.specs.Prelude.{◌≡◌, ℕ, suc, ◌==◌, List, [], ◌∷◌, ◌++◌, true, false, IfSome, Some, None, length, drop, MatchBool, ◌<◌, ◌≤◌}
+use Rattle.std.specs.Prelude.{◌≡◌, ℕ, suc, ◌==◌, List, [], ◌∷◌, ◌++◌, true, false, IfSome, Some, None, length, drop, MatchBool, ◌<◌, ◌≤◌, ◌^◌}
 use Rattle.atomic_table.specs.Table.{Me, Step}
 use Rattle.mw_types.specs.declared.entry.Entry.{Entry}
 use Rattle.mw_types.specs.declared.entry.Entry.TheVariants.{Claim}
@@ -129,6 +129,7 @@ pub record HasSeenLawful (v : View) : Type 0 where
   pub fenced : IsFenced v.basis.case.topology v.front
   pub legal : IfSome v.basis.told (λ _. IsLegal v.basis.case v.front)
   pub few : length v.front ≤ v.basis.limit
+  pub limit : v.basis.limit ≤ 2 ^ 32
   pub claimed : AreClaimed v.front v.leases
   pub ascend : Ascends v.numbers
 
@@ -137,7 +138,7 @@ pub record HasSeenWritten (v : View) : Type 0 where
   pub own : (commit : ℕ) → IsIn commit v.own → commit < length v.front
   pub written : HasWrittenAll v.front v
 
--- a seat looks, by a load of word 0, and learns what it has seen
+-- a seat looks, by a load of word 0, and learns what it has seen, and that what it took in was of its own book
 abbrev pub Looks : Step Slot → SeatView → ℕ → SeatView → Type 0
 Looks step seat found after = IsStep step 0 0 × (after ≡ seat) × HasSeenLawful seat.0
-    × Begins seat.0.met seat.0.front × HasSeenWritten seat.0
+    × Begins seat.0.met seat.0.front × HasSeenWritten seat.0 × (seat.0.met_basis ≡ seat.0.basis)

@@ -7,6 +7,7 @@ ghost use Rattle.shared_book.specs.Lists.{IsIn};
 ghost use Rattle.shared_book.specs.Steps.{HasSeenLawful};
 ghost use Rattle.shared_book.specs.Turns.{HasMetForeign, IsClosed, IsHere, IsIdle};
 
+use crate::meets::meet_at;
 use crate::rule::{Joined, Noted};
 use crate::seats::{Note, Seat};
 use crate::shared::Shared;
@@ -47,12 +48,7 @@ impl<'a, K: Keeper> Shared<'a, K> {
         ensures lawful { HasSeenLawful seat.new.place.me.0 }
         ensures foreign { HasMetForeign seat.old.place.me.0 seat.new.place.me.0 }
     {
-        let Note { place } = note;
-        look(self, &mut seat.place);
-        self.table
-            .shared
-            .join_seat::<Joined>(&mut seat.place, place);
-        look(self, &mut seat.place);
+        meet_at(self, seat, note);
     }
 
     /// The seat takes in another of a caller, with its numbers, leases and entries. Neither holds a

@@ -119,6 +119,7 @@ pub(crate) fn look<K: Keeper>(shared: &Shared<'_, K>, place: &mut Place<Option<C
     ensures same { place.new.me ≡ place.old.me }
     ensures seen { HasSeenLawful place.old.me.0 }
     ensures met { Begins place.old.me.0.met place.old.me.0.front }
+    ensures met_same { place.old.me.0.met_basis ≡ place.old.me.0.basis }
     ensures written { HasSeenWritten place.old.me.0 }
 {
     shared.table.shared.load::<Look>(place, 0);

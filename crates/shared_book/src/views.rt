@@ -37,6 +37,8 @@ pub struct View {
     pub front: LinkedList<Entry>,
     /// What the last seat or note had seen that it took in.
     pub met: LinkedList<Entry>,
+    /// What no step changes, of the last seat or note that it took in.
+    pub met_basis: Basis,
     /// The commit numbers of the entries that it appended.
     pub own: LinkedList<u64>,
     /// What it found where another had the turn.

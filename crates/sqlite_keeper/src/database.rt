@@ -1,10 +1,12 @@
-//! The database of a keeper: its table, and its statements.
+//! The database of a keeper: its table, its statements and its transactions.
 //!
 //! Each call of the database stands in a function of its own and promises nothing: what a file holds can't
 //! be said here, and the clauses of several calls together would be carried into every proof.
 
+use crate::fault::fault_of;
 use key_intervals::Bounds;
 use mw_types::RowName;
+use row_keeper::KeeperFault;
 use sqlite::{Connection, Error, File, FileStore, Row, Statement, params};
 
 // The one table. Keys are blobs, since blobs stand in the order of their bytes.
@@ -22,6 +24,10 @@ const RANGE: &str = "SELECT part, key, bytes FROM rows \
 // The row with the least name.
 const FIRST: &str = "SELECT part, key, bytes FROM rows ORDER BY part, key LIMIT 1";
 
+// How many puts are one transaction. A commit waits for the disk, so that a transaction a put would make
+// a run as slow as the disk.
+const PUTS: u32 = 250;
+
 /// A connection to a database with the table, and the statements on it.
 #[derive(Drop)]
 pub(crate) struct Database {
@@ -29,6 +35,10 @@ pub(crate) struct Database {
     put: Statement,
     range: Statement,
     first: Statement,
+    // How many puts are not committed yet.
+    waiting: u32,
+    // Whether puts that were answered are undone, since a transaction failed.
+    undone: bool,
 }
 
 impl Database {
@@ -44,19 +54,109 @@ impl Database {
             put,
             range,
             first,
+            waiting: 0,
+            undone: false,
         })
     }
 
-    /// Sets the bytes of a row, in a transaction of its own.
-    pub(crate) fn put(&mut self, name: &RowName, bytes: &[u8]) -> Result<(), Error> {
+    /// Sets the bytes of a row. So many puts are one transaction, and where one of them fails so that all
+    /// are undone, each later call fails.
+    pub(crate) fn put(&mut self, name: &RowName, bytes: &[u8]) -> Result<(), KeeperFault> {
+        self.standing()?;
+        self.begin()?;
+        if let Err(error) = self.set(name, bytes) {
+            self.undone = self.waiting > 0 && !self.is_open();
+            return Err(fault_of(error));
+        }
+        self.waiting = self.waiting.saturating_add(1);
+        if self.waiting >= PUTS {
+            self.commit()?;
+        }
+        Ok(())
+    }
+
+    /// The rows of an interval.
+    pub(crate) fn range(&mut self, bounds: &Bounds) -> Result<Vec<Row>, KeeperFault> {
+        self.standing()?;
+        match self.read_range(bounds) {
+            Ok(rows) => Ok(rows),
+            Err(error) => Err(fault_of(error)),
+        }
+    }
+
+    /// The row with the least name, as a list of one row or none.
+    pub(crate) fn first(&mut self) -> Result<Vec<Row>, KeeperFault> {
+        self.standing()?;
+        match self.first.query_all(&mut self.connection, &[]) {
+            Ok(rows) => Ok(rows),
+            Err(error) => Err(fault_of(error)),
+        }
+    }
+
+    /// Commits what waits for it, and takes the log into the file.
+    pub(crate) fn close(self) -> Result<(), KeeperFault> {
+        let mut database = self;
+        database.standing()?;
+        if database.waiting > 0 {
+            database.commit()?;
+        }
+        let Database { connection, .. } = database;
+        match connection.close() {
+            Ok(()) => Ok(()),
+            Err(error) => Err(fault_of(error)),
+        }
+    }
+
+    // Fails where puts that were answered are undone.
+    fn standing(&self) -> Result<(), KeeperFault> {
+        if self.undone {
+            Err(KeeperFault::Failed)
+        } else {
+            Ok(())
+        }
+    }
+
+    // Begins a transaction where none is open.
+    fn begin(&mut self) -> Result<(), KeeperFault> {
+        if self.is_open() {
+            return Ok(());
+        }
+        self.run("BEGIN")
+    }
+
+    // Commits the puts that wait for it. They are undone where that fails.
+    fn commit(&mut self) -> Result<(), KeeperFault> {
+        let done = self.run("COMMIT");
+        match &done {
+            Ok(()) => self.waiting = 0,
+            Err(_) => self.undone = true,
+        }
+        done
+    }
+
+    // Whether a transaction is open.
+    fn is_open(&self) -> bool {
+        !self.connection.is_autocommit()
+    }
+
+    // Runs a statement that has no parameter and answers no row.
+    fn run(&mut self, sql: &str) -> Result<(), KeeperFault> {
+        match self.connection.execute(sql, &[]) {
+            Ok(_) => Ok(()),
+            Err(error) => Err(fault_of(error)),
+        }
+    }
+
+    // Sets the bytes of a row, in the open transaction.
+    fn set(&mut self, name: &RowName, bytes: &[u8]) -> Result<(), Error> {
         let key = name.key.text().as_bytes();
         self.put
             .execute(&mut self.connection, params![name.part, key, bytes])?;
         Ok(())
     }
 
-    /// The rows of an interval.
-    pub(crate) fn range(&mut self, bounds: &Bounds) -> Result<Vec<Row>, Error> {
+    // The rows of an interval, as the database answers.
+    fn read_range(&mut self, bounds: &Bounds) -> Result<Vec<Row>, Error> {
         let from = bounds.from.text().as_bytes();
         let to = match &bounds.to {
             Some(key) => Some(key.text().as_bytes()),
@@ -64,11 +164,6 @@ impl Database {
         };
         self.range
             .query_all(&mut self.connection, params![bounds.part, from, to])
-    }
-
-    /// The row with the least name, as a list of one row or none.
-    pub(crate) fn first(&mut self) -> Result<Vec<Row>, Error> {
-        self.first.query_all(&mut self.connection, &[])
     }
 }
 

@@ -7,7 +7,8 @@ ghost use Rattle.row_keeper.specs.declared.keeper.KeptRow.{KeptRow};
 
 use crate::check::checked;
 use crate::database::Database;
-use crate::reading::{fault_of, first_of, range_of};
+use crate::fault::fault_of;
+use crate::reading::{first_of, range_of};
 use key_intervals::Bounds;
 use mw_types::RowName;
 use row_keeper::{Keeper, KeeperFault, KeptRow, KeptRowList};
@@ -46,6 +47,12 @@ impl SqliteKeeper {
             Err(error) => Err(fault_of(error)),
         }
     }
+
+    /// Commits the last puts, and takes the log into the file. `Failed` comes where puts that were answered
+    /// with Ok are not all in the file. A keeper that is dropped instead loses the puts since its last commit.
+    pub fn close(self) -> Result<(), KeeperFault> {
+        self.database.close()
+    }
 }
 
 // The fault of a call, which counts where the keeper failed.
@@ -82,7 +89,7 @@ impl Keeper for SqliteKeeper {
     fn put(&mut self, _alloc: Global, name: &RowName, bytes: &[u8]) -> Result<(), KeeperFault> {
         match self.database.put(name, bytes) {
             Ok(()) => Ok(()),
-            Err(error) => Err(counted(&mut self.faults, fault_of(error))),
+            Err(fault) => Err(counted(&mut self.faults, fault)),
         }
     }
 

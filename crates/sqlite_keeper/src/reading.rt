@@ -1,19 +1,12 @@
 //! What the database answers, as rows.
 
 use crate::database::Database;
+use crate::fault::fault_of;
 use key_intervals::Bounds;
 use mw_types::{Key, KeyRefusal, RowName, Seq};
 use row_keeper::{KeeperFault, KeptRow, KeptRowList};
-use sqlite::{Error, ErrorCode, Row};
+use sqlite::Row;
 use std::alloc::Global;
-
-/// Why the database did not do a call: every refusal but want of memory is a failure.
-pub(crate) fn fault_of(error: Error) -> KeeperFault {
-    match error {
-        Error::SqliteFailure(ErrorCode::OutOfMemory) => KeeperFault::NoMemory,
-        _ => KeeperFault::Failed,
-    }
-}
 
 /// The rows that the database answers for an interval.
 pub(crate) fn range_of(
@@ -21,10 +14,8 @@ pub(crate) fn range_of(
     database: &mut Database,
     bounds: &Bounds,
 ) -> Result<KeptRowList, KeeperFault> {
-    match database.range(bounds) {
-        Ok(rows) => rows_of(alloc, rows.as_slice()),
-        Err(error) => Err(fault_of(error)),
-    }
+    let rows = database.range(bounds)?;
+    rows_of(alloc, rows.as_slice())
 }
 
 /// The row that the database answers as its first.
@@ -32,12 +23,10 @@ pub(crate) fn first_of(
     alloc: Global,
     database: &mut Database,
 ) -> Result<Option<KeptRow>, KeeperFault> {
-    match database.first() {
-        Ok(rows) => match rows.first() {
-            Some(row) => Ok(Some(row_of(alloc, row)?)),
-            None => Ok(None),
-        },
-        Err(error) => Err(fault_of(error)),
+    let rows = database.first()?;
+    match rows.first() {
+        Some(row) => Ok(Some(row_of(alloc, row)?)),
+        None => Ok(None),
     }
 }
 

@@ -87,13 +87,15 @@ fn read_back(rt: &HostRuntime, name: &str) -> Result<(u8, Bytes), KeeperFault> {
     Ok((least, scanned(&mut keeper, rt.alloc())?))
 }
 
-// Makes a file, puts the rows, and lets the connection go.
+// Makes a file, puts the rows, and closes it.
 fn make(rt: &HostRuntime, name: &str) -> Result<(u8, u8, Bytes), KeeperFault> {
     let mut keeper = SqliteKeeper::at(rt, name)?;
     let before = first(&mut keeper, rt.alloc())?;
     fill(&mut keeper, rt.alloc())?;
     let least = first(&mut keeper, rt.alloc())?;
-    Ok((before, least, scanned(&mut keeper, rt.alloc())?))
+    let rows = scanned(&mut keeper, rt.alloc())?;
+    keeper.close()?;
+    Ok((before, least, rows))
 }
 
 #[test]
@@ -104,6 +106,25 @@ fn rows_are_kept_and_read_back(rt: HostRuntime) -> Result<(), Fail> {
     let (least, rows) = read_back(&rt, "k.db")?;
     assert_eq!(rt; least, 5);
     assert_eq!(rt; rows.as_slice(), b"\x07\x04\x02".as_slice());
+    Ok(())
+}
+
+// Puts one row so often, each time with another byte, and lets the keeper go without a close.
+fn put_and_drop(rt: &HostRuntime, name: &str, times: u32) -> Result<(), KeeperFault> {
+    let mut keeper = SqliteKeeper::at(rt, name)?;
+    for time in 0..times {
+        put(&mut keeper, rt.alloc(), "h", (time % 251) as u8)?;
+    }
+    Ok(())
+}
+
+#[test]
+fn a_keeper_that_is_not_closed_leaves_its_last_commit(rt: HostRuntime) -> Result<(), Fail> {
+    put_and_drop(&rt, "few", 249)?;
+    assert_eq!(rt; read_back(&rt, "few")?.0, 0);
+    // The put that ends the first transaction has the byte 249, and the two after it are undone.
+    put_and_drop(&rt, "more", 252)?;
+    assert_eq!(rt; read_back(&rt, "more")?.0, 249);
     Ok(())
 }
 

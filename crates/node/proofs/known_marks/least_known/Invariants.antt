@@ -10,4 +10,5 @@ invariant-loop-interval g l = record {
   looked : HasLooked (g.D.Desk.view l.initial.desk) (g.D.Desk.view l.desk);
   marks : KeepsMarks (g.D.Desk.view l.initial.desk) (g.D.Desk.view l.desk);
   loan : g.D.Desk.loan l.desk ≡ g.D.Desk.loan l.initial.desk;
+  home : g.D.Desk.home l.desk ≡ g.D.Desk.home l.initial.desk;
 }

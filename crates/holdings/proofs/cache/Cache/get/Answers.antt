@@ -16,7 +16,7 @@ pub returns-in-Ok : goal.returns-in-Ok
 returns-in-Ok c =
     let name = c.args.name.now in
     let answered = c.self.inside.answered.items in
-    let others = c.self.inside.others.entries in
+    let others = c.self.inside.others in
     let hit : IsHit (λ (r : NamedRow). row_cmp r.name name) answered c.in-Ok.at =
     subst (λ (l : List NamedRow). IsHit (λ (r : NamedRow). row_cmp r.name name) l c.in-Ok.at) c.deref.ensures.value c.in-Ok.ensures in
     ap (λ (r : NamedRow). Some r.row) c.index.ensures
@@ -29,10 +29,10 @@ pub returns-in-Err : goal.returns-in-Err
 returns-in-Err c =
     let name = c.args.name.now in
     let answered = c.self.inside.answered.items in
-    let others = c.self.inside.others.entries in
+    let others = c.self.inside.others in
     let gap : IsGap (λ (r : NamedRow). row_cmp r.name name) answered c.in-Err.field-0 =
     subst (λ (l : List NamedRow). IsGap (λ (r : NamedRow). row_cmp r.name name) l c.in-Err.field-0) c.deref.ensures.value c.in-Err.ensures in
-    c.get.ensures.value
+    c.get.ensures
     ∙ sym (lookup-behind name (map named answered) others (lookup-gap name answered c.in-Err.field-0 gap))
     ∙ sym (lookup-merged name answered others)
     ∙ ap (λ (l : List (RowName × Contents)). lookup (is_at (row_cmp name)) l) c.self.view_is

@@ -19,7 +19,7 @@ use Rattle.holdings.proofs.cache.Cache.index.Goals as goal
 pub returns : goal.returns
 returns c =
     let answered = c.self.inside.answered.items in
-    let others = c.self.inside.others.entries in
+    let others = c.self.inside.others in
     let start = c.new-index.result.work in
     let mid = c.index_in.new.index.work in
     subst (λ (l : List (RowName × Contents)). IsIndexOf l c.index_beside.new.index) c.self.view_is (record {

@@ -13,7 +13,7 @@ use Rattle.holdings.proofs.cache.Cache.pending.Goals as goal
 pub returns : goal.returns
 returns c =
     let answered = c.self.inside.answered.items in
-    let others = c.self.inside.others.entries in
+    let others = c.self.inside.others in
     subst (λ (l : List (RowName × Contents)). ArePendingIn l c.push_beside.new.sent) c.self.view_is
     (pending-merged answered others c.push_beside.new.sent c.self.invariant
     (c.in_ok-push_beside.ensures

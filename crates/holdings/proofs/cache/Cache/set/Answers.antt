@@ -4,15 +4,16 @@ use Rattle.std.specs.List.{AllByRecursion}
 use Rattle.std.specs.List.Sorted.{IsStrictlySortedBy}
 use Rattle.std.specs.Map.{keys_of, lookup}
 use Rattle.std.specs.BTreeMap.{insert_entry, is_at}
-use Rattle.std.proofs.lemmas.Map.{keys-set_value}
 use Rattle.mw_types.specs.Orders.{row_cmp}
 use Rattle.mw_types.specs.declared.identity.RowName.{RowName}
+use Rattle.mw_types.proofs.OrderLaws.{row_cmp-total}
+use Rattle.run_history.proofs.Lookups.{sorted-insert_entry}
 use Rattle.row_parts.specs.Contents.{Contents}
 use Rattle.row_parts.specs.Places.{IsGap, IsHit}
 use Rattle.book.specs.Claims.{named}
 use Rattle.book.specs.declared.answers.NamedRow.{NamedRow}
 use Rattle.holdings.specs.Caching.{merged}
-use Rattle.holdings.proofs.CacheLaws.{lookup-behind, lookup-gap, lookup-merged, merged-insert, merged-set, names-each_set, names-set, set_value-insert, apart-set_value}
+use Rattle.holdings.proofs.CacheLaws.{apart-add, lookup-behind, lookup-gap, lookup-merged, merged-insert, merged-set, names-each_set, names-set}
 use Rattle.holdings.proofs.cache.Cache.set.Goals as goal
 
 -- another row at a place keeps the names
@@ -28,9 +29,9 @@ invariant_of-self c =
           (sym (ap (λ (r : NamedRow). map (λ (x : NamedRow). x.name) (slice_set answered c.in-Ok.at r)) put
           ∙ names-set answered c.in-Ok.at c.args.row c.index_mut.result.now hit.within)) c.self.invariant.answered_ordered;
       others_ordered = c.self.invariant.others_ordered;
-      apart = subst (λ (x : NamedRow). AllByRecursion (λ (r : NamedRow). lookup (is_at (row_cmp r.name)) c.self.inside.others.entries ≡ None)
+      apart = subst (λ (x : NamedRow). AllByRecursion (λ (r : NamedRow). lookup (is_at (row_cmp r.name)) c.self.inside.others ≡ None)
           (slice_set answered c.in-Ok.at x)) (sym put)
-          (names-each_set (λ n. lookup (is_at (row_cmp n)) c.self.inside.others.entries ≡ None) answered c.in-Ok.at c.args.row
+          (names-each_set (λ n. lookup (is_at (row_cmp n)) c.self.inside.others ≡ None) answered c.in-Ok.at c.args.row
           c.index_mut.result.now hit.within c.self.invariant.apart);
     }
 
@@ -39,7 +40,7 @@ pub returns-in-Ok : goal.returns-in-Ok
 returns-in-Ok c =
     let name = c.args.name.now in
     let answered = c.self.inside.answered.items in
-    let others = c.self.inside.others.entries in
+    let others = c.self.inside.others in
     let hit : IsHit (λ (r : NamedRow). row_cmp r.name name) answered c.in-Ok.at =
     subst (λ (l : List NamedRow). IsHit (λ (r : NamedRow). row_cmp r.name name) l c.in-Ok.at) c.deref.ensures.value c.in-Ok.ensures in
     let put : c.set_at.new.place ≡ record (get_or answered c.in-Ok.at c.index_mut.result.now) { row = c.args.row } =
@@ -49,41 +50,42 @@ returns-in-Ok c =
     ∙ ap (λ (l : List (RowName × Contents)). insert_entry row_cmp l name c.args.row) c.self.view_is
 
 -- a row that is not in the list is beside it
-pub set_in-requires : goal.set_in-requires
-set_in-requires c =
+pub set-requires : goal.set-requires
+set-requires c =
     let name = c.args.name.now in
     let answered = c.self.inside.answered.items in
-    let others = c.self.inside.others.entries in
+    let others = c.self.inside.others in
     let gap : IsGap (λ (r : NamedRow). row_cmp r.name name) answered c.in-Err.field-0 =
-    subst (λ (l : List NamedRow). IsGap (λ (r : NamedRow). row_cmp r.name name) l c.in-Err.field-0) c.deref.ensures.value c.in-Err.ensures in
-    subst IsSome (ap (λ (l : List (RowName × Contents)). lookup (is_at (row_cmp name)) l) (sym c.self.view_is)
-    ∙ lookup-merged name answered others
-    ∙ lookup-behind name (map named answered) others (lookup-gap name answered c.in-Err.field-0 gap)) c.requires.there
+    subst (λ (l : List NamedRow). IsGap (λ (r : NamedRow). row_cmp r.name name) l c.in-Err.field-0) c.deref.ensures.value c.in-Err.ensures in record {
+      there = subst IsSome (ap (λ (l : List (RowName × Contents)). lookup (is_at (row_cmp name)) l) (sym c.self.view_is)
+          ∙ lookup-merged name answered others
+          ∙ lookup-behind name (map named answered) others (lookup-gap name answered c.in-Err.field-0 gap)) c.requires.there;
+    }
 
 -- another row beside the list keeps the names
 pub invariant_of-self-in-Err : goal.invariant_of-self-in-Err
-invariant_of-self-in-Err c = record {
-  answered_ordered = c.self.invariant.answered_ordered;
-  others_ordered = subst (λ (es : List (RowName × Contents)). IsStrictlySortedBy row_cmp (keys_of es)) (sym c.set_in.ensures)
-      (subst (IsStrictlySortedBy row_cmp) (sym (keys-set_value (is_at (row_cmp c.args.name.now)) c.self.inside.others.entries c.args.row))
-      c.self.invariant.others_ordered);
-  apart = subst (λ (es : List (RowName × Contents)). AllByRecursion (λ (r : NamedRow). lookup (is_at (row_cmp r.name)) es ≡ None)
-      c.self.inside.answered.items) (sym c.set_in.ensures)
-      (apart-set_value c.self.inside.answered.items c.self.inside.others.entries (is_at (row_cmp c.args.name.now)) c.args.row
-      c.self.invariant.apart);
-}
+invariant_of-self-in-Err c =
+    let name = c.args.name.now in
+    let answered = c.self.inside.answered.items in
+    let others = c.self.inside.others in
+    let gap : IsGap (λ (r : NamedRow). row_cmp r.name name) answered c.in-Err.field-0 =
+    subst (λ (l : List NamedRow). IsGap (λ (r : NamedRow). row_cmp r.name name) l c.in-Err.field-0) c.deref.ensures.value c.in-Err.ensures in record {
+      answered_ordered = c.self.invariant.answered_ordered;
+      others_ordered = subst (λ (es : List (RowName × Contents)). IsStrictlySortedBy row_cmp (keys_of es)) (sym c.set.ensures)
+          (sorted-insert_entry row_cmp-total others name c.args.row c.self.invariant.others_ordered);
+      apart = subst (λ (es : List (RowName × Contents)). AllByRecursion (λ (r : NamedRow). lookup (is_at (row_cmp r.name)) es ≡ None) answered)
+          (sym c.set.ensures)
+          (apart-add answered others name c.args.row (lookup-gap name answered c.in-Err.field-0 gap) c.self.invariant.apart);
+    }
 
 -- another row beside the list is put among all
 pub returns-in-Err : goal.returns-in-Err
 returns-in-Err c =
     let name = c.args.name.now in
     let answered = c.self.inside.answered.items in
-    let others = c.self.inside.others.entries in
+    let others = c.self.inside.others in
     let gap : IsGap (λ (r : NamedRow). row_cmp r.name name) answered c.in-Err.field-0 =
     subst (λ (l : List NamedRow). IsGap (λ (r : NamedRow). row_cmp r.name name) l c.in-Err.field-0) c.deref.ensures.value c.in-Err.ensures in
-    let none : lookup (is_at (row_cmp name)) (map named answered) ≡ None = lookup-gap name answered c.in-Err.field-0 gap in
-    let there = subst IsSome (ap (λ (l : List (RowName × Contents)). lookup (is_at (row_cmp name)) l) (sym c.self.view_is)
-    ∙ lookup-merged name answered others ∙ lookup-behind name (map named answered) others none) c.requires.there in
-    ap (merged answered) (c.set_in.ensures ∙ set_value-insert others name c.args.row c.self.invariant.others_ordered there)
-    ∙ merged-insert answered others name c.args.row c.self.invariant.others_ordered none
+    ap (merged answered) c.set.ensures
+    ∙ merged-insert answered others name c.args.row c.self.invariant.others_ordered (lookup-gap name answered c.in-Err.field-0 gap)
     ∙ ap (λ (l : List (RowName × Contents)). insert_entry row_cmp l name c.args.row) c.self.view_is

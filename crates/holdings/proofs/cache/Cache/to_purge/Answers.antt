@@ -16,7 +16,7 @@ pub returns : goal.returns
 returns c =
     let pick = forgets c.args.floor c.args.least in
     let answered = c.self.inside.answered.items in
-    let others = c.self.inside.others.entries in
+    let others = c.self.inside.others in
     subst (λ (l : List (RowName × Contents)). IsFirstOf pick by_name l (seen_name c.purge_beside.result)) c.self.view_is
     (first-merged pick by_name (on_total (λ (b : RowName × Unit {0}). b.0) row_cmp-total) answered others c.self.invariant
     (seen_name c.purge_beside.result)

@@ -1,15 +1,19 @@
 use Rattle.std.proofs.Common.{rules, ◌≡◌, ◌∙◌, true, ap, subst, sym, refl}
 use Rattle.std.specs.Prelude.{IfErr, IfOk, OnErr, Some, Result}
-use Rattle.holdings.specs.Holding.{IsRefusedOf, held_at, held_on}
+use Rattle.std.specs.Option.{is_some}
+use Rattle.run_history.specs.Made.{found_delivery}
+use Rattle.run_history.proofs.Lists.{some_same}
+use Rattle.holdings.specs.Holding.{HeldView, IsRefusedOf, held_at, held_on, row_held}
 use Rattle.node.specs.declared.outcome.NodeFault.{NodeFault}
 use Rattle.node.specs.declared.outcome.Outcome.{Outcome}
+use Rattle.node.specs.declared.outcome.Outcome.TheVariants as outcomes
 use Rattle.node.specs.Answers.{AnswersAck, FailsAsked, HasGrown, HasKept}
 use Rattle.node.specs.Asking.{settle_asked}
 use Rattle.node.specs.Fits.{Fits}
 use Rattle.node.specs.Workers.{NodeView, worker_at}
 use Rattle.node.proofs.FitLaws.{Fits-kept, Fits-yielded, keeps-refused, more-looked, worker-kept}
 use Rattle.node.proofs.PurgeLaws.{holding}
-use Rattle.node.proofs.SettleLaws.{Fits-settled, answers-unsettled, fails-unsettled, grown-settled}
+use Rattle.node.proofs.SettleLaws.{Fits-settled, answers-settled, answers-unsettled, fails-unsettled, grown-settled}
 use Rattle.node.proofs.node.Node.settle.Goals as goal
 
 -- once the row has settled
@@ -30,6 +34,25 @@ returns-in-Ok-clause-grown g c =
     subst (λ (n : NodeView). HasGrown n.held old new) c.self.view_is
     (grown-settled c.args.case.now.topology old new c.interval_of-interval.result c.args.to.now c.args.id c.in-Ok.commit
     c.self.inside.held c.settle-settled.new.self c.in-Ok.ensures.settled)
+
+pub returns-in-Ok-clause-answers : goal.returns-in-Ok-clause-answers
+returns-in-Ok-clause-answers g c =
+    let shape = c.args.case.now.topology in
+    let old = g.D.Desk.view c.args.desk.now in
+    let new = g.D.Desk.view c.settle-settled.new.desk in
+    let interval = c.interval_of-interval.result in
+    let to = c.args.to.now in
+    let id = c.args.id in
+    let after = c.settle-settled.new.self in
+    let node : NodeView = record { number = c.self.inside.number; held = c.self.inside.held; prepared = c.self.inside.prepared; outbox = c.self.inside.outbox.messages } in
+    let settled = c.in-Ok.ensures.settled in
+    let same : c.in-Some.held.now ≡ settled.held = some_same c.in-Some.held.now settled.held (c.in-Some.ensures.held ∙ settled.was) in
+    let pending : c.is_pending.result ≡ true = search rules in
+    let there = subst (λ (h : HeldView). is_some (found_delivery id (row_held shape h to).pending) ≡ true) same
+    (sym (c.is_pending.ensures shape) ∙ pending) in
+    subst (λ (n : NodeView). AnswersAck shape old new (held_on shape n.held to) to id n (holding after node) (outcomes.Committed c.in-Ok.commit))
+    c.self.view_is
+    (answers-settled c.args.case.now old new node interval to id c.in-Ok.commit after settled c.interval_of-interval.ensures.interval there)
 
 -- where the desk refused
 pub returns-in-Err-clause-fits : goal.returns-in-Err-clause-fits

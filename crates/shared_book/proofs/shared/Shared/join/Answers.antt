@@ -22,7 +22,8 @@ join_seat-requires g c =
       omega (arith, ids.0),
       lift_join c.args.self.now.table.shared.key s.place.id v n.id w (joined v w) spent s.live
           (λ basis. seats_join basis s.place.id v n.id w s.live c.requires.idle.turn
-          (ap (λ (m : SeatView). m.0.turn) same ∙ c.requires.other_idle.turn)),
+          (ap (λ (m : SeatView). m.0.turn) same ∙ c.requires.other_idle.turn)
+          (ap (λ (m : SeatView). m.0.live) same ∙ c.args.other.live)),
     )
 
 pub invariant_of-seat : goal.invariant_of-seat

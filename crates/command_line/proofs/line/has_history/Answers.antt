@@ -1,0 +1,16 @@
+use Rattle.std.proofs.Common.{◌≡◌, ◌∙◌, Bool, true, false, Some, codes}
+use Rattle.clap.specs.Matches.{found_of, one_text}
+use Rattle.clap.specs.Walk.{rows_of}
+use Rattle.clap.specs.declared.parser.matches.Found.{Found}
+use Rattle.clap.proofs.WalkLemmas.{one_text-rows}
+use Rattle.command_line.specs.Clap.{IsFlagIn}
+use Rattle.command_line.proofs.line.has_history.Goals as goal
+
+flag_read : (f : Found) (read : Bool) → (one_text f (codes "history") ≡ Some (codes "true") → read ≡ true)
+    → (one_text f (codes "history") ≡ Some (codes "false") → read ≡ false)
+    → (flag : Bool) → IsFlagIn (rows_of f) flag → read ≡ flag
+flag_read f read given left_out true is = given (one_text-rows f (codes "history") ∙ is)
+flag_read f read given left_out false is = left_out (one_text-rows f (codes "history") ∙ is)
+
+pub returns : goal.returns
+returns c = flag_read (found_of c.args.matches.now) c.get_flag.result c.get_flag.ensures.value c.get_flag.ensures.other

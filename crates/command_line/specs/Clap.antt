@@ -1,0 +1,68 @@
+-- What `clap` is told of the words, what it then finds, and the rule on words that stands beside it. No public
+-- clause cites this module.
+use Rattle.std.specs.Prelude.{◌≡◌, ◌==◌, ◌++◌, ◌&&◌, ◌||◌, Bool, false, true, not, if◌then◌else◌, List, [], ◌∷◌, codes, Some, ℕ}
+use Rattle.std.specs.Option.{unwrap_or}
+use Rattle.clap.specs.Walk.{Row, Rule, Text, all_of, first_of, one_of, rows_of}
+use Rattle.clap.specs.Matches.{found_of}
+use Rattle.clap.specs.Simple.{App, new_app, new_rule, on_top, with_rule}
+use Rattle.clap.specs.declared.parser.matches.ArgMatches.{ArgMatches}
+use Rattle.clap.specs.declared.builder.action.ArgAction.TheVariants.{Append, Set, SetTrue}
+use Rattle.command_line.specs.Words.{is_dashed, is_word}
+use Rattle.command_line.specs.declared.line.Line.{Line}
+
+-- whether a word begins with one `-` alone
+abbrev pub is_short : List ℕ → Bool
+is_short [] = false
+is_short (c ∷ cs) = c == 45 && not (is_dashed cs)
+
+-- whether such a word stands before the first `--`
+abbrev pub has_short : List (List ℕ) → Bool
+has_short [] = false
+has_short (word ∷ words) = if is_word word (codes "--") then false else is_short word || has_short words
+
+-- an option with one value
+abbrev pub option_rule : Text → Rule
+option_rule name = record (new_rule name) { long = Some name; action = Some Set }
+
+-- the mode, the arguments behind it, and the flag
+abbrev pub mode_rule : Rule
+mode_rule = new_rule (codes "mode")
+
+abbrev pub args_rule : Rule
+args_rule = record (new_rule (codes "args")) { action = Some Append }
+
+abbrev pub history_rule : Rule
+history_rule = record (new_rule (codes "history")) { long = Some (codes "history"); action = Some SetTrue }
+
+-- the command before it has an argument
+abbrev pub mill_top : App
+mill_top = on_top (λ top. record top { no_binary_name = true; disable_help_flag = true })
+    (new_app (codes "millwheel"))
+
+-- what `clap` is told: a mode, its arguments, four options with one value each, and one flag
+abbrev pub mill_app : App
+mill_app = with_rule (with_rule (with_rule (with_rule (with_rule (with_rule (with_rule
+    mill_top mode_rule) args_rule)
+    (option_rule (codes "plan"))) (option_rule (codes "workers")))
+    (option_rule (codes "rounds"))) (option_rule (codes "keep"))) history_rule
+
+-- what `clap` found
+abbrev pub rows_in : ArgMatches → List Row
+rows_in matches = rows_of (found_of matches)
+
+-- the values that it found for an argument
+abbrev pub values_in : List Row → Text → List Text
+values_in rows id = unwrap_or (all_of id rows) []
+
+-- the flag reads so
+abbrev pub IsFlagIn : List Row → Bool → Type 0
+IsFlagIn rows flag = one_of (codes "history") rows ≡ Some (if flag then codes "true" else codes "false")
+
+-- the line is what `clap` found
+pub record IsLineIn (rows : List Row) (line : Line) : Type 0 where
+  pub positionals : values_in rows (codes "mode") ++ values_in rows (codes "args") ≡ line.positionals
+  pub plan : first_of (codes "plan") rows ≡ line.plan
+  pub workers : first_of (codes "workers") rows ≡ line.workers
+  pub rounds : first_of (codes "rounds") rows ≡ line.rounds
+  pub keep : first_of (codes "keep") rows ≡ line.keep
+  pub history : IsFlagIn rows line.history

@@ -1,0 +1,37 @@
+//! The words as `clap` is told to read them.
+ghost use Rattle.std.specs.Prelude.{◌≡◌, IfOk, false};
+ghost use Rattle.clap.specs.Simple.{app_of};
+ghost use Rattle.clap.specs.Walk.{rule_of};
+ghost use Rattle.command_line.specs.Clap.{mill_app, option_rule};
+
+use clap::{Arg, ArgAction, Command};
+use std::alloc::{AllocError, Global};
+
+// An option with one value, which is given once at most.
+fn valued<'a>(alloc: Global, name: &'a str) -> Arg<'a>
+    ensures rule { rule_of result ≡ option_rule name.entry.now }
+    ensures local { result.global ≡ false }
+{
+    Arg::new(alloc, name).long(name).action(ArgAction::Set)
+}
+
+/// One simple command: a mode, its arguments, four options with one value each, and one flag. How many
+/// arguments there are is left to the mode.
+pub(crate) fn parser<'a>(alloc: Global) -> Result<Command<'a>, AllocError>
+    ensures { IfOk result (λ command. app_of command ≡ mill_app) }
+{
+    Command::new(alloc, "millwheel")
+        .no_binary_name(true)
+        .disable_help_flag(true)
+        .arg(Arg::new(alloc, "mode"))?
+        .arg(Arg::new(alloc, "args").action(ArgAction::Append))?
+        .arg(valued(alloc, "plan"))?
+        .arg(valued(alloc, "workers"))?
+        .arg(valued(alloc, "rounds"))?
+        .arg(valued(alloc, "keep"))?
+        .arg(
+            Arg::new(alloc, "history")
+                .long("history")
+                .action(ArgAction::SetTrue),
+        )
+}

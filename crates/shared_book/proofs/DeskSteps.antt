@@ -1,0 +1,386 @@
+-- What the calls of a desk leave, by what they did in a turn.
+use Rattle.std.proofs.Common.{inl, inr, ◌≡◌, ◌≢◌, ◌⊎◌, ◌∙◌, ◌≤◌, ◌++◌, ◌∷◌, ℕ, suc, Bool, true, false, List, [], length, drop, refl, sym, ap, subst, ⊎_elim, arith}
+use Rattle.std.specs.Prelude.{◌↔◌, Err, IfErr, IfOk, IfSome, IsErrOf, None, Ok, OnOk, Option, Result, Some}
+use Rattle.std.proofs.lemmas.List.{append-nil}
+use Rattle.std.proofs.lemmas.List.Elements.{All-nil}
+use Rattle.mw_types.specs.Causes.{HasCause, Rose}
+use Rattle.mw_types.specs.declared.entry.Entry.{Entry}
+use Rattle.mw_types.specs.declared.entry.Entry.TheVariants.{Claim}
+use Rattle.mw_types.specs.declared.identity.RowName.{RowName}
+use Rattle.row_keeper.specs.Rows.{Rows}
+use Rattle.row_parts.specs.Contents.{Contents}
+use Rattle.run_history.specs.Cases.{CaseShape}
+use Rattle.run_history.specs.Fences.{Begins, CarryNot, sequencer_of}
+use Rattle.run_history.specs.Legal.{floor_of}
+use Rattle.run_history.specs.Runs.{run_of, written_row}
+use Rattle.run_history.proofs.Beginnings.{Begins-itself, Begins-trans}
+use Rattle.history_laws.proofs.FloorLaws.{floor_of-rises}
+use Rattle.watermark.specs.Marks.{mark_of}
+use Rattle.book.specs.Answers.{HasStayed, IsFullWhere, IsSameBook, IsStaleReport, IsStaleWhere, IsWritten}
+use Rattle.book.specs.Books.{BookView, LeaseView}
+use Rattle.book.specs.Claims.{AreRowsOf, IsDamaged, IsDamagedRow}
+use Rattle.book.specs.Conditions.{IsRowOf}
+use Rattle.book.specs.DeskReasons.{HasClaimReason, HasReason, IsDamageOf, of_claim, of_write}
+use Rattle.book.specs.Desking.{HasClaimed, HasStored, HasWritten}
+use Rattle.book.specs.Desks.{HasLooked, HasMoved, KeepsMarks}
+use Rattle.book.specs.Proposals.{IsWrittenBy}
+use Rattle.book.specs.declared.answers.Claimed.{Claimed}
+use Rattle.book.specs.declared.answers.Written.{Written}
+use Rattle.book.specs.declared.desk_refusal.DeskRefusal.TheVariants as refusals
+use Rattle.book.specs.declared.proposal.Proposal.{Proposal}
+use Rattle.book.specs.declared.refusals.ClaimRefusal.{ClaimRefusal}
+use Rattle.book.specs.declared.refusals.ClaimRefusal.TheVariants as claims
+use Rattle.book.specs.declared.refusals.Stale.{Stale}
+use Rattle.book.specs.declared.refusals.WriteRefusal.{WriteRefusal}
+use Rattle.book.specs.declared.refusals.WriteRefusal.TheVariants as writes
+use Rattle.book.proofs.ClaimLaws.{err-is}
+use Rattle.book.proofs.OwnReasons.{claim-reason, reason, report-reason}
+use Rattle.shared_book.specs.declared.views.Basis.{Basis}
+use Rattle.shared_book.specs.declared.views.View.{View}
+use Rattle.shared_book.specs.Lists.{IsIn}
+use Rattle.shared_book.specs.SharedDesks.{IsKnown, KnownView, is_held, shared_view}
+use Rattle.shared_book.specs.Steps.{SeatView, faulted, grown, idle, lease_in, missing}
+use Rattle.shared_book.specs.Turns.{HasClaimedIn, HasFaulted, HasStoredIn, HasTaken, HasWrittenIn}
+use Rattle.shared_book.proofs.Held.{held-in, held-more, in-held}
+use Rattle.shared_book.proofs.Lists.{drop_front, in_right}
+use Rattle.shared_book.proofs.Moves.{off}
+use Rattle.shared_book.proofs.Taking.{basis-taken, leases-taken}
+
+-- ---- another has the turn
+
+-- no entry carries a sequencer among none
+none-carried : (seq : ℕ) → CarryNot seq []
+none-carried seq = All-nil (λ (e : Entry). sequencer_of e ≢ Some seq)
+
+-- a desk that noted what it found has seen no more
+looked-busy : (v : View) (known : KnownView) (found : ℕ) → HasLooked (shared_view v known) (shared_view (missing v found) known)
+looked-busy v known found = record {
+  case = refl;
+  limit = refl;
+  told = refl;
+  alone = refl;
+  others = [];
+  more = sym (append-nil v.front);
+  foreign = λ lease may. none-carried lease.seq;
+  none = λ alone. refl;
+  leases = λ lease may. may;
+  floor = omega arith;
+  faults = omega arith;
+}
+
+-- the number that a refusal names
+busy-number : (m n : ℕ) → refusals.Busy m ≡ refusals.Busy n → m ≡ n
+busy-number m n e = cc
+
+-- what was found is what is answered
+reason-busy : (v : View) (known : KnownView) (lease : LeaseView) (found : ℕ)
+    → HasReason (shared_view v known) (shared_view (missing v found) known) lease (refusals.Busy found)
+reason-busy v known lease found = record {
+  stale = λ decided. absurd decided;
+  full = λ decided. absurd decided;
+  counts = record {
+    keeper = λ e. absurd cc;
+    busy = λ n e. ap (λ k. v.missed ++ k ∷ []) (busy-number found n e);
+  };
+  no_row = tt;
+}
+
+-- and so of a claim
+claim-reason-busy : (v : View) (known : KnownView) (found : ℕ)
+    → HasClaimReason (shared_view v known) (shared_view (missing v found) known) (refusals.Busy found)
+claim-reason-busy v known found = record {
+  full = λ decided. absurd decided;
+  never_stale = λ newer e. cc;
+  counts = record {
+    keeper = λ e. absurd cc;
+    busy = λ n e. ap (λ k. v.missed ++ k ∷ []) (busy-number found n e);
+  };
+  damaged = tt;
+}
+
+-- the same, of the seat
+module _ (old new : SeatView) (known : KnownView) (found : ℕ) (is : new ≡ (missing old.0 found, old.1)) where
+  pub busy-looked : HasLooked (shared_view old.0 known) (shared_view new.0 known)
+  busy-looked = subst (λ (m : SeatView). HasLooked (shared_view old.0 known) (shared_view m.0 known)) (sym is)
+      (looked-busy old.0 known found)
+
+  pub busy-reason : (lease : LeaseView) → HasReason (shared_view old.0 known) (shared_view new.0 known) lease (refusals.Busy found)
+  busy-reason lease = subst (λ (m : SeatView). HasReason (shared_view old.0 known) (shared_view m.0 known) lease (refusals.Busy found)) (sym is)
+      (reason-busy old.0 known lease found)
+
+  pub busy-claim_reason : HasClaimReason (shared_view old.0 known) (shared_view new.0 known) (refusals.Busy found)
+  busy-claim_reason = subst (λ (m : SeatView). HasClaimReason (shared_view old.0 known) (shared_view m.0 known) (refusals.Busy found)) (sym is)
+      (claim-reason-busy old.0 known found)
+
+-- ---- no mark falls
+
+pub marks-kept : (v w : View) (old new : KnownView) → ((interval : ℕ) → mark_of old.marks interval ≤ mark_of new.marks interval)
+    → KeepsMarks (shared_view v old) (shared_view w new)
+marks-kept v w old new rise = record { rise = rise; same = λ alone. absurd (off alone) }
+
+-- ---- what a call in the turn left
+
+-- the view of a seat whose call was refused: its keeper may have failed once more
+pub record IsRefused (t w : View) : Type 0 where
+  pub basis : w.basis ≡ t.basis
+  pub front : w.front ≡ t.front
+  pub leases : w.leases ≡ t.leases
+  pub faults : t.faults ≤ w.faults
+
+-- nothing was changed
+pub refused-same : (t w : View) → w ≡ t → IsRefused t w
+refused-same t w is = record {
+  basis = ap (λ (x : View). x.basis) is;
+  front = ap (λ (x : View). x.front) is;
+  leases = ap (λ (x : View). x.leases) is;
+  faults = let same = ap (λ (x : View). x.faults) is in omega (arith, same);
+}
+
+-- a fault was noted
+refused-fault : (t w : View) → HasFaulted t w → IsRefused t w
+refused-fault t w fault = record {
+  basis = ap (λ (x : View). x.basis) fault.2;
+  front = ap (λ (x : View). x.front) fault.2;
+  leases = ap (λ (x : View). x.leases) fault.2;
+  faults = let one = ap (λ (x : View). x.faults) fault.2 in omega (arith, one);
+}
+
+-- a fault that was noted shows in the count
+fault-rose : (t w : View) → HasFaulted t w → Rose t.faults w.faults
+fault-rose t w fault = let one = ap (λ (x : View). x.faults) fault.2 in omega (arith, one)
+
+-- a write that was refused
+pub refused-write : (t w : View) (why : WriteRefusal)
+    → (IsErrOf {T = Written} (Err why) writes.KeeperFault → HasFaulted t w) → ((why ≢ writes.KeeperFault) → w ≡ t) → IsRefused t w
+refused-write t w writes.KeeperFault fault same = refused-fault t w (fault refl)
+refused-write t w (writes.Stale newer) fault same = refused-same t w (same (λ e. cc))
+refused-write t w writes.HistoryFull fault same = refused-same t w (same (λ e. cc))
+refused-write t w writes.NoMemory fault same = refused-same t w (same (λ e. cc))
+
+-- and a claim
+pub refused-claim : (t w : View) (why : ClaimRefusal)
+    → (IsErrOf {T = Claimed} (Err why) claims.KeeperFault → HasFaulted t w) → ((why ≢ claims.KeeperFault) → w ≡ t) → IsRefused t w
+refused-claim t w claims.KeeperFault fault same = refused-fault t w (fault refl)
+refused-claim t w (claims.RowDamaged name bytes) fault same = refused-same t w (same (λ e. cc))
+refused-claim t w claims.HistoryFull fault same = refused-same t w (same (λ e. cc))
+refused-claim t w claims.NoMemory fault same = refused-same t w (same (λ e. cc))
+
+-- what was seen begins what is seen after a call
+pub begins-refused : (t w : View) → IsRefused t w → Begins t.front w.front
+begins-refused t w refused = ([], append-nil t.front ∙ sym refused.front)
+
+-- and so after a write, whatever it answered
+pub begins-write : (t w : View) (front : Written → Type 0) (r : Result Written WriteRefusal)
+    → ((written : Written) → front written → Begins t.front w.front) → IfOk r front
+    → (IsErrOf r writes.KeeperFault → HasFaulted t w) → IfErr r (λ why. (why ≢ writes.KeeperFault) → w ≡ t) → Begins t.front w.front
+begins-write t w front (Ok written) by ok fault same = by written ok
+begins-write t w front (Err why) by ok fault same = begins-refused t w (refused-write t w why fault same)
+
+-- and after a claim
+pub begins-claim : (t w : View) (worker interval : ℕ) (r : Result Claimed ClaimRefusal) → IfOk r (HasClaimedIn t w worker interval)
+    → (IsErrOf r claims.KeeperFault → HasFaulted t w) → IfErr r (λ why. (why ≢ claims.KeeperFault) → w ≡ t) → Begins t.front w.front
+begins-claim t w worker interval (Ok claimed) ok fault same =
+    (Claim worker interval ∷ [], sym (ap (λ (x : View). x.front) ok.view))
+begins-claim t w worker interval (Err why) ok fault same = begins-refused t w (refused-claim t w why fault same)
+
+-- so much of a view as tells why a call was refused
+abbrev book_of : View → BookView
+book_of u = record {
+  case = u.basis.case;
+  history = u.front;
+  limit = u.basis.limit;
+  rows = None;
+  faults = u.faults;
+  work = 0;
+  unacknowledged = [];
+  marks = [];
+}
+
+-- ---- what the whole call left
+
+-- a view before the turn, in it and after the call, and what is known of marks and of the floor before and after
+module _ (v t w : View) (old new : KnownView) (taken : HasTaken v t) (basis : w.basis ≡ t.basis)
+    (low : IsKnown v.basis v.front old) (floor : new.floor ≡ floor_of (run_of w.basis.case.topology w.front)) where
+  -- no constant changed
+  whole : w.basis ≡ v.basis
+  whole = basis ∙ basis-taken v t taken
+
+  -- the desk has seen so much before its own entry
+  moved : (before : List Entry) → before ≡ t.front → Begins t.front w.front
+      → ((lease : LeaseView) → is_held t.leases lease ≡ true → is_held w.leases lease ≡ true) → t.faults ≤ w.faults
+      → HasMoved (shared_view v old) (shared_view w new) before
+  moved before is begins leases faults = record {
+    case = ap (λ (b : Basis). b.case) whole;
+    limit = ap (λ (b : Basis). b.limit) whole;
+    told = ap (λ (b : Basis). b.told) whole;
+    alone = refl;
+    others = taken.others;
+    more = is ∙ sym taken.goes_on;
+    foreign = λ lease may. (taken.seen_all lease (held-in v.leases lease may)).own;
+    none = λ alone. absurd (off alone);
+    leases = λ lease may. leases lease (subst (λ (l : List LeaseView). is_held l lease ≡ true) (sym (leases-taken v t taken)) may);
+    floor = let below = low.floor in
+        let long = Begins-trans v.front t.front w.front (taken.others, taken.goes_on) begins in
+        let rises = floor_of-rises v.basis.case.topology v.front long.0 in
+        let here : floor_of (run_of v.basis.case.topology (v.front ++ long.0)) ≡ floor_of (run_of w.basis.case.topology w.front) =
+        λ i. floor_of (run_of (sym whole i).case.topology (long.1 i)) in omega (arith, below, rises, here, floor);
+    faults = let same = ap (λ (x : View). x.faults) taken.view in omega (arith, same, faults);
+  }
+
+  -- a call that was refused appended nothing
+  pub looked-refused : IsRefused t w → HasLooked (shared_view v old) (shared_view w new)
+  looked-refused refused = moved w.front refused.front (begins-refused t w refused)
+      (λ lease held. subst (λ (l : List LeaseView). is_held l lease ≡ true) (sym refused.leases) held) refused.faults
+
+  -- the view after an own entry
+  grown-leases : w ≡ grown t w.front → (lease : LeaseView) → is_held t.leases lease ≡ true → is_held w.leases lease ≡ true
+  grown-leases is lease held = subst (λ (l : List LeaseView). is_held l lease ≡ true) (sym (ap (λ (x : View). x.leases) is))
+      (held-more t.leases (lease_in (drop (length t.front) w.front) (length t.front)) lease held)
+
+  grown-faults : w ≡ grown t w.front → t.faults ≤ w.faults
+  grown-faults is = let same = ap (λ (x : View). x.faults) is in omega (arith, same)
+
+  -- an entry was stored
+  pub stored : (lease : LeaseView) (name : RowName) (entry : Entry) (row : Contents) (answer : Written)
+      → HasStoredIn t w lease name entry row answer
+      → HasStored (shared_view v old) (shared_view w new) lease name entry row (λ commit. written_row commit entry [] row) answer
+  stored lease name entry row answer is = record {
+    before = t.front;
+    moved = moved t.front refl (entry ∷ [], sym is.written.appended) (grown-leases is.view) (grown-faults is.view);
+    found = subst (λ (b : Basis). IsRowOf b.case b.told t.front name row) (basis-taken v t taken) is.found;
+    written = subst (λ (b : Basis). IsWritten b.case b.told t.front w.front lease name entry (written_row (length t.front) entry [] row) answer)
+        (basis-taken v t taken) is.written;
+  }
+
+  -- a proposal was written
+  pub written-by : (lease : LeaseView) (name : RowName) (proposal : Proposal) (row : Contents) (answer : Written)
+      → HasWrittenIn t w lease name proposal row answer
+      → HasWritten (shared_view v old) (shared_view w new) lease name proposal row answer
+  written-by lease name proposal row answer is = record {
+    before = t.front;
+    moved = moved t.front refl (is.written.entry ∷ [], sym is.written.written.appended) (grown-leases is.view) (grown-faults is.view);
+    found = subst (λ (b : Basis). IsRowOf b.case b.told t.front name row) (basis-taken v t taken) is.found;
+    written = subst (λ (b : Basis). IsWrittenBy b.case b.told t.front w.front lease name proposal row answer)
+        (basis-taken v t taken) is.written;
+  }
+
+  -- an interval was claimed
+  pub claimed : (worker interval : ℕ) (answer : Claimed) → HasClaimedIn t w worker interval answer
+      → HasClaimed (shared_view v old) (shared_view w new) worker interval answer
+  claimed worker interval answer is = record {
+    before = t.front;
+    moved = moved t.front refl (Claim worker interval ∷ [], sym appended) (grown-leases here) (grown-faults here);
+    appended = appended;
+    lease = is.lease;
+    may_use = subst (λ (l : List LeaseView). is_held l answer.lease ≡ true) (sym leases)
+        (subst (λ (l : LeaseView). is_held (t.leases ++ gives ∷ []) l ≡ true) (sym is.lease)
+        (in-held (t.leases ++ gives ∷ []) gives (in_right gives t.leases (gives ∷ []) (inl refl))));
+    rows = subst (λ (b : Basis). AreRowsOf b.case b.told t.front interval answer.rows) (basis-taken v t taken) is.rows;
+  }
+    where
+      appended : w.front ≡ t.front ++ Claim worker interval ∷ []
+      appended = ap (λ (x : View). x.front) is.view
+
+      here : w ≡ grown t w.front
+      here = is.view ∙ ap (grown t) (sym appended)
+
+      gives : LeaseView
+      gives = record { interval = interval; seq = length t.front }
+
+      leases : w.leases ≡ t.leases ++ gives ∷ []
+      leases = ap (λ (x : View). x.leases) is.view
+          ∙ ap (λ l. t.leases ++ lease_in l (length t.front)) (drop_front t.front (Claim worker interval ∷ []))
+
+  -- ---- why it was refused
+
+  stayed : IsRefused t w → HasStayed (book_of t) (book_of w)
+  stayed refused = record { history = refused.front; rows = refl }
+
+  same_book : IsSameBook (book_of t) (book_of w)
+  same_book = record {
+    case = ap (λ (b : Basis). b.case) basis;
+    limit = ap (λ (b : Basis). b.limit) basis;
+    marks = refl;
+    tells = refl;
+  }
+
+  -- a count that rose in the turn rose in the call
+  rose : Rose t.faults w.faults → Rose v.faults w.faults
+  rose up = let same = ap (λ (x : View). x.faults) taken.view in omega (arith, same, up)
+
+  -- nothing is nothing and one more
+  none-found : (found : ℕ) → [] ≡ found ∷ [] → ⊥
+  none-found found e = let long : 0 ≡ 1 = ap length e in omega (arith, long)
+
+  -- a write
+  pub reason-write : (lease : LeaseView) (why : WriteRefusal) → IsRefused t w
+      → (IsErrOf {T = Written} (Err why) writes.KeeperFault → HasFaulted t w)
+      → IsStaleWhere {T = Written} t.front lease (Err why) → IsFullWhere {T = Written} t.basis.limit t.front lease (Err why)
+      → HasReason (shared_view v old) (shared_view w new) lease (of_write why)
+  reason-write lease why refused fault stale full =
+      let cause : HasCause {T = Written} t.faults w.faults (Err why) writes.KeeperFault =
+      record { later = refused.faults; rose = λ e. fault-rose t w (fault e) } in
+      let r = reason (book_of t) (book_of w) lease why (stayed refused) same_book cause stale full in record {
+        stale = r.stale;
+        full = r.full;
+        counts = record {
+          keeper = λ e. rose (r.counts.keeper e);
+          busy = λ found e. absurd (none-found found (r.counts.busy found e));
+        };
+        no_row = r.no_row;
+      }
+
+  -- a row that is damaged is so for the desk
+  damage : (why : ClaimRefusal) → IsRefused t w → IsDamaged t.basis.case t.basis.told (length t.front) why
+      → IsDamageOf (shared_view w new) (of_claim why)
+  damage claims.HistoryFull refused is = tt
+  damage claims.KeeperFault refused is = tt
+  damage claims.NoMemory refused is = tt
+  damage (claims.RowDamaged name bytes) refused is =
+      subst (λ (p : Basis × List Entry). IsDamagedRow p.0.case p.0.told (length p.1) name bytes)
+      (λ i. (sym basis i, sym refused.front i)) is
+
+  -- the same where it is not told
+  untold : (why : ClaimRefusal) → IsDamaged t.basis.case t.basis.told (length t.front) why
+      → IsDamaged {X = Rows} t.basis.case None (length t.front) why
+  untold claims.HistoryFull is = tt
+  untold claims.KeeperFault is = tt
+  untold claims.NoMemory is = tt
+  untold (claims.RowDamaged name bytes) is = record { no_row = is.no_row; untold = tt }
+
+  -- a claim
+  pub reason-claim : (why : ClaimRefusal) → IsRefused t w
+      → (IsErrOf {T = Claimed} (Err why) claims.KeeperFault → HasFaulted t w)
+      → IsErrOf {T = Claimed} (Err why) claims.HistoryFull ↔ (length t.front ≡ t.basis.limit)
+      → IsDamaged t.basis.case t.basis.told (length t.front) why
+      → HasClaimReason (shared_view v old) (shared_view w new) (of_claim why)
+  reason-claim why refused fault full damaged =
+      let cause : HasCause {T = Claimed} t.faults w.faults (Err why) claims.KeeperFault =
+      record { later = refused.faults; rose = λ e. fault-rose t w (fault e) } in
+      let r = claim-reason (book_of t) (book_of w) why (stayed refused) same_book cause full (untold why damaged) in record {
+        full = r.full;
+        never_stale = r.never_stale;
+        counts = record {
+          keeper = λ e. rose (r.counts.keeper e);
+          busy = λ found e. absurd (none-found found (r.counts.busy found e));
+        };
+        damaged = damage why refused damaged;
+      }
+
+  -- a report
+  pub reason-report : (lease : LeaseView) (why : Stale) → w ≡ t → IsStaleReport t.front lease (Err why)
+      → HasReason (shared_view v old) (shared_view w new) lease (refusals.Stale why.newer)
+  reason-report lease why same stale =
+      let r = report-reason (book_of t) (book_of w) lease why (ap book_of same) stale in record {
+        stale = r.stale;
+        full = r.full;
+        counts = record { keeper = λ e. absurd cc; busy = λ found e. absurd cc };
+        no_row = r.no_row;
+      }
+
+  pub looked-report : w ≡ t → HasLooked (shared_view v old) (shared_view w new)
+  looked-report same = looked-refused (refused-same t w same)
+
+-- the turn was given back
+pub given : {X : Type 0} (P : View → X → Type 0) (w x : SeatView) (y : X) → x ≡ (idle w.0, []) → P (idle w.0) y → P x.0 y
+given P w x y is so = subst (λ (m : SeatView). P m.0 y) (sym is) so

@@ -1,0 +1,175 @@
+//! A desk over a seat of a shared book.
+ghost use Rattle.std.specs.Prelude.{◌≡◌, [], false, length, replicate};
+ghost use Rattle.run_history.specs.Cases.{intervals_of};
+ghost use Rattle.shared_book.specs.KeptFacts.{IsKept-prop};
+ghost use Rattle.shared_book.specs.SharedDesks.{HasKept};
+ghost use Rattle.shared_book.specs.Turns.{IsHere, IsIdle};
+
+use crate::beginning::begin;
+use crate::desk_claims::claim_once;
+use crate::desk_reports::report_once;
+use crate::desk_writes::{purge_once, settle_once, write_once};
+use crate::known::Known;
+use crate::meets::meet_once;
+use crate::seats::{Note, Seat};
+use crate::shared::Shared;
+use book::{Claimed, Desk, DeskRefusal, Lease, Proposal, Seen, Written};
+use history_laws::case_is_runnable;
+use mw_types::{RecordId, RowName};
+use row_keeper::Keeper;
+use row_parts::Row;
+use std::alloc::Global;
+
+impl<K: Keeper> Seen for Note<K> {
+    ghost use Rattle.shared_book.specs.SharedDesks.{sight_of, table_numbers};
+
+    ghost sight = { λ note. sight_of note.place.me.0 };
+
+    ghost book = { λ note. table_numbers note.place.table_id };
+}
+
+/// A desk over a seat of a shared book. Each claim, write and report is one try for the turn, the
+/// call and the release; another's turn is answered at once as `Busy`. Of marks and of the floor it
+/// knows what its turns have found.
+#[derive(Drop)]
+pub struct SharedDesk<'s, 'a, K: Keeper> {
+    pub(crate) shared: &'s Shared<'a, K>,
+    pub(crate) seat: &'s mut Seat<K>,
+    pub(crate) known: Known,
+    ghost table: { seat.now.place.table_id ≡ shared.now.table.shared.table_id },
+    ghost case: { seat.now.place.me.0.basis.case ≡ shared.now.case.now },
+    ghost turn: { seat.now.place.me.0.turn ≡ false },
+    ghost places: { seat.now.place.me.1 ≡ [] },
+    ghost kept: { HasKept seat.now.place.me.0 known } by { let v = seat.now.place.me.0 in IsKept-prop v.basis v.front v.leases known },
+}
+
+impl<'s, 'a, K: Keeper> SharedDesk<'s, 'a, K> {
+    /// The desk of a seat that holds no turn. It knows no mark and no floor yet: each is 0 until its
+    /// first turn.
+    pub fn on(shared: &'s Shared<'a, K>, seat: &'s mut Seat<K>) -> SharedDesk<'s, 'a, K>
+        requires here { IsHere shared.now.table.shared.table_id shared.now.case.now
+            seat.old.place }
+        requires idle { IsIdle seat.old.place.me }
+        ensures loan { result.seat.ghost_name ≡ seat.entry.ghost_name }
+        ensures shared { result.shared.now ≡ shared.now }
+        ensures view { result.seat.now.place.me ≡ seat.entry.now.place.me }
+        ensures number { result.seat.now.number ≡ seat.entry.now.number }
+        ensures marks { result.known.marks
+            ≡ replicate (length (intervals_of shared.now.case.now.topology)) 0 }
+        ensures floor { result.known.floor ≡ 0 }
+    {
+        let known = begin(shared, seat);
+        SharedDesk {
+            shared,
+            seat,
+            known,
+        }
+    }
+}
+
+impl<'s, 'a, K: Keeper> Desk for SharedDesk<'s, 'a, K> {
+    ghost use Rattle.shared_book.specs.SharedDesks.{shared_home, shared_view};
+
+    type Note = Note<K>;
+
+    ghost view = { λ desk. shared_view desk.seat.now.place.me.0 desk.known };
+
+    ghost loan = { λ desk. desk.seat.ghost_name };
+
+    ghost home = { λ desk. shared_home desk.seat.now.place };
+
+    fn sound(&self) {
+        case_is_runnable(self.shared.case);
+    }
+
+    fn claim(&mut self, alloc: Global, worker: u32, interval: u32) -> Result<Claimed, DeskRefusal> {
+        let shared = self.shared;
+        claim_once(alloc, shared, self.seat, &mut self.known, worker, interval)
+    }
+
+    fn write(
+        &mut self,
+        alloc: Global,
+        lease: &Lease,
+        name: &RowName,
+        row: &Row,
+        proposal: &Proposal,
+    ) -> Result<Written, DeskRefusal> {
+        let shared = self.shared;
+        write_once(
+            alloc,
+            shared,
+            self.seat,
+            &mut self.known,
+            lease,
+            name,
+            row,
+            proposal,
+        )
+    }
+
+    fn settle(
+        &mut self,
+        alloc: Global,
+        lease: &Lease,
+        name: &RowName,
+        row: &Row,
+        id: RecordId,
+    ) -> Result<Written, DeskRefusal> {
+        let shared = self.shared;
+        settle_once(
+            alloc,
+            shared,
+            self.seat,
+            &mut self.known,
+            lease,
+            name,
+            row,
+            id,
+        )
+    }
+
+    fn purge(
+        &mut self,
+        alloc: Global,
+        lease: &Lease,
+        name: &RowName,
+        row: &Row,
+        floor: u64,
+    ) -> Result<Written, DeskRefusal> {
+        let shared = self.shared;
+        purge_once(
+            alloc,
+            shared,
+            self.seat,
+            &mut self.known,
+            lease,
+            name,
+            row,
+            floor,
+        )
+    }
+
+    fn report(&mut self, lease: &Lease, own: u64) -> Result<u64, DeskRefusal> {
+        let shared = self.shared;
+        report_once(shared, self.seat, &mut self.known, lease, own)
+    }
+
+    fn mark(&mut self, interval: u32) -> u64 {
+        self.known.mark(interval)
+    }
+
+    fn floor(&mut self) -> u64 {
+        self.known.floor()
+    }
+
+    fn note(&mut self) -> Note<K> {
+        let shared = self.shared;
+        shared.note(self.seat)
+    }
+
+    fn meet(&mut self, note: Note<K>) {
+        let shared = self.shared;
+        meet_once(shared, self.seat, &self.known, note);
+    }
+}
