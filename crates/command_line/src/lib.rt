@@ -14,8 +14,6 @@ mod number;
 mod parser;
 mod reader;
 mod refusal;
-#[cfg(test)]
-mod tests;
 mod word;
 
 pub use command::{Call, Command, Inputs};

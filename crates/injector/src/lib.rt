@@ -17,8 +17,6 @@ mod progress;
 mod reading;
 mod refusal;
 mod short_form;
-#[cfg(test)]
-mod tests;
 
 pub use item::Item;
 pub use items::{Items, ItemsList};

@@ -6,8 +6,6 @@
 //! steps that may refuse follow one another, and what a refusal says of the whole.
 #![tactic(auto)]
 
-#[cfg(test)]
-mod tests;
 mod text;
 
 pub use text::json_of;

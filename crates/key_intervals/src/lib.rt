@@ -7,8 +7,6 @@
 
 mod bounds;
 mod intervals;
-#[cfg(test)]
-mod tests;
 
 pub use bounds::Bounds;
 pub use intervals::Intervals;

@@ -17,8 +17,6 @@ mod out_sink;
 mod shelf;
 mod sink;
 mod tally;
-#[cfg(test)]
-mod tests;
 
 pub use file_shelf::FileShelf;
 pub use mem_shelf::{FileList, MemShelf, NamedFile};

@@ -21,8 +21,6 @@ mod seq;
 mod shared_list;
 mod short;
 mod state;
-#[cfg(test)]
-mod tests;
 mod text;
 mod timer;
 mod tree;

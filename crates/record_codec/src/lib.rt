@@ -9,8 +9,6 @@
 mod decode;
 mod encode;
 mod refusal;
-#[cfg(test)]
-mod tests;
 
 pub use decode::decode_row;
 pub use encode::encode_row;

@@ -11,8 +11,6 @@ mod blind_keeper;
 mod calls;
 mod keeper;
 mod mem_keeper;
-#[cfg(test)]
-mod tests;
 
 pub use blind_keeper::BlindKeeper;
 pub use keeper::{Keeper, KeeperFault, KeptRow, KeptRowList};

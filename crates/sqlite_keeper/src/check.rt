@@ -1,5 +1,5 @@
 //! The test of an answer: its rows are in the interval, and ascend.
-ghost use Rattle.std.specs.Prelude.{◌≡◌, All, map, true, IfOk};
+ghost use Rattle.std.specs.Prelude.{◌≡◌, ◌&&◌, All, map, true, is_ok, IfOk};
 ghost use Rattle.key_intervals.specs.Intervals.{covers};
 ghost use Rattle.row_keeper.specs.Rows.{AreInOrder, entry_of};
 ghost use Rattle.row_keeper.specs.declared.keeper.KeptRow.{KeptRow};
@@ -43,6 +43,7 @@ fn do_ascend(rows: &[KeptRow]) -> bool
 /// keeper, or the file is damaged.
 #[tactic(auto, using(crate::proofs::Checked::within_covered, crate::proofs::Checked::ascending_in_order))]
 pub(crate) fn checked(bounds: &Bounds, found: KeptRowList) -> Result<KeptRowList, KeeperFault>
+    ensures exact { is_ok result ≡ are_within bounds.now found && do_ascend found }
     ensures same { IfOk result (λ rows. rows ≡ found) }
     ensures covered { IfOk result (All (λ (row : KeptRow). covers bounds.now row.name ≡ true)) }
     ensures ascending { IfOk result (λ rows. AreInOrder (map entry_of rows)) }

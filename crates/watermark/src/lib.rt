@@ -9,8 +9,6 @@
 
 mod marks;
 mod oldest;
-#[cfg(test)]
-mod tests;
 
 pub use marks::{feeding, inputs, low};
 pub use oldest::Oldest;

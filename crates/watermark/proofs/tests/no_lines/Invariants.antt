@@ -1,6 +1,0 @@
-use Rattle.std.proofs.Common.{◌≡◌, length}
-use Rattle.watermark.proofs.tests.no_lines.Given as goal
-
--- as many as the loop has counted
-abbrev pub invariant-loop : goal.invariant-loop
-invariant-loop l = length l.items ≡ l.counter
