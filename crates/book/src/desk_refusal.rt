@@ -44,26 +44,28 @@ impl From<NoMemory> for DeskRefusal {
     }
 }
 
-// What a refused write is to a desk.
-pub(crate) fn of_write(why: WriteRefusal) -> DeskRefusal
-    ensures { result ≡ of_write why }
-{
-    match why {
-        WriteRefusal::Stale { newer } => DeskRefusal::Stale { newer },
-        WriteRefusal::HistoryFull => DeskRefusal::HistoryFull,
-        WriteRefusal::NoMemory => DeskRefusal::NoMemory,
-        WriteRefusal::KeeperFault => DeskRefusal::KeeperFault,
+impl DeskRefusal {
+    /// What a refused write is to a desk.
+    pub fn of_write(why: WriteRefusal) -> DeskRefusal
+        ensures { result ≡ of_write why }
+    {
+        match why {
+            WriteRefusal::Stale { newer } => DeskRefusal::Stale { newer },
+            WriteRefusal::HistoryFull => DeskRefusal::HistoryFull,
+            WriteRefusal::NoMemory => DeskRefusal::NoMemory,
+            WriteRefusal::KeeperFault => DeskRefusal::KeeperFault,
+        }
     }
-}
 
-// What a refused claim is to a desk.
-pub(crate) fn of_claim(why: ClaimRefusal) -> DeskRefusal
-    ensures { result ≡ of_claim why }
-{
-    match why {
-        ClaimRefusal::HistoryFull => DeskRefusal::HistoryFull,
-        ClaimRefusal::KeeperFault => DeskRefusal::KeeperFault,
-        ClaimRefusal::RowDamaged { name, bytes } => DeskRefusal::RowDamaged { name, bytes },
-        ClaimRefusal::NoMemory => DeskRefusal::NoMemory,
+    /// What a refused claim is to a desk.
+    pub fn of_claim(why: ClaimRefusal) -> DeskRefusal
+        ensures { result ≡ of_claim why }
+    {
+        match why {
+            ClaimRefusal::HistoryFull => DeskRefusal::HistoryFull,
+            ClaimRefusal::KeeperFault => DeskRefusal::KeeperFault,
+            ClaimRefusal::RowDamaged { name, bytes } => DeskRefusal::RowDamaged { name, bytes },
+            ClaimRefusal::NoMemory => DeskRefusal::NoMemory,
+        }
     }
 }

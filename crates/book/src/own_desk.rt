@@ -5,7 +5,7 @@ ghost use Rattle.book.specs.OwnDesks.{own_view};
 use crate::answers::{Claimed, Written};
 use crate::books::Book;
 use crate::desk::{Desk, Seen};
-use crate::desk_refusal::{DeskRefusal, of_claim, of_write};
+use crate::desk_refusal::DeskRefusal;
 use crate::lease::Lease;
 use crate::proposal::Proposal;
 use mw_types::{RecordId, RowName};
@@ -58,7 +58,7 @@ impl<'b, 'a, K: Keeper> Desk for OwnDesk<'b, 'a, K> {
     fn claim(&mut self, alloc: Global, worker: u32, interval: u32) -> Result<Claimed, DeskRefusal> {
         match self.book.claim(alloc, worker, interval) {
             Ok(claimed) => Ok(claimed),
-            Err(why) => Err(of_claim(why)),
+            Err(why) => Err(DeskRefusal::of_claim(why)),
         }
     }
 
@@ -74,7 +74,7 @@ impl<'b, 'a, K: Keeper> Desk for OwnDesk<'b, 'a, K> {
         let front = self.book.history().len() as u64;
         match self.book.write(alloc, lease, front, name, row, proposal) {
             Ok(written) => Ok(written),
-            Err(why) => Err(of_write(why)),
+            Err(why) => Err(DeskRefusal::of_write(why)),
         }
     }
 
@@ -89,7 +89,7 @@ impl<'b, 'a, K: Keeper> Desk for OwnDesk<'b, 'a, K> {
         let front = self.book.history().len() as u64;
         match self.book.settle(alloc, lease, front, name, row, id) {
             Ok(written) => Ok(written),
-            Err(why) => Err(of_write(why)),
+            Err(why) => Err(DeskRefusal::of_write(why)),
         }
     }
 
@@ -104,7 +104,7 @@ impl<'b, 'a, K: Keeper> Desk for OwnDesk<'b, 'a, K> {
         let front = self.book.history().len() as u64;
         match self.book.purge(alloc, lease, front, name, row, floor) {
             Ok(written) => Ok(written),
-            Err(why) => Err(of_write(why)),
+            Err(why) => Err(DeskRefusal::of_write(why)),
         }
     }
 

@@ -7,7 +7,6 @@ ghost use Rattle.book.specs.Desks.{HasLooked, KeepsMarks};
 ghost use Rattle.shared_book.specs.SharedDesks.{HasKept, shared_view};
 ghost use Rattle.shared_book.specs.Turns.{IsHere, IsIdle};
 
-use crate::desk_refusals::of_claim;
 use crate::finishing::finish;
 use crate::known::Known;
 use crate::seats::Seat;
@@ -54,6 +53,6 @@ pub(crate) fn claim_once<K: Keeper>(
     finish(shared, seat, known);
     match result {
         Ok(claimed) => Ok(claimed),
-        Err(why) => Err(of_claim(why)),
+        Err(why) => Err(DeskRefusal::of_claim(why)),
     }
 }

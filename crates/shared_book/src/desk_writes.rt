@@ -10,7 +10,6 @@ ghost use Rattle.book.specs.Proposals.{IsProposable};
 ghost use Rattle.shared_book.specs.SharedDesks.{HasKept, shared_view};
 ghost use Rattle.shared_book.specs.Turns.{IsHere, IsIdle};
 
-use crate::desk_refusals::of_write;
 use crate::finishing::finish;
 use crate::known::Known;
 use crate::seats::Seat;
@@ -66,7 +65,7 @@ pub(crate) fn write_once<K: Keeper>(
     finish(shared, seat, known);
     match result {
         Ok(written) => Ok(written),
-        Err(why) => Err(of_write(why)),
+        Err(why) => Err(DeskRefusal::of_write(why)),
     }
 }
 
@@ -113,7 +112,7 @@ pub(crate) fn settle_once<K: Keeper>(
     finish(shared, seat, known);
     match result {
         Ok(written) => Ok(written),
-        Err(why) => Err(of_write(why)),
+        Err(why) => Err(DeskRefusal::of_write(why)),
     }
 }
 
@@ -161,6 +160,6 @@ pub(crate) fn purge_once<K: Keeper>(
     finish(shared, seat, known);
     match result {
         Ok(written) => Ok(written),
-        Err(why) => Err(of_write(why)),
+        Err(why) => Err(DeskRefusal::of_write(why)),
     }
 }

@@ -13,7 +13,6 @@
 mod beginning;
 mod claiming;
 mod desk_claims;
-mod desk_refusals;
 mod desk_reports;
 mod desk_writes;
 mod finishing;
