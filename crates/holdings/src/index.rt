@@ -51,7 +51,8 @@ impl Index {
     pub(crate) fn add(&mut self, alloc: Global, name: &RowName, row: &Row) -> Result<(), NoMemory>
         requires ordered { IsStrictlySortedBy due_order (keys_of self.old.dues.entries) }
         requires ascending { IsStrictlySortedBy row_cmp (keys_of self.old.seen.entries) }
-        ensures work { OnOk result (HasRestamped None (work_of row.now) self.old.work self.new.work) }
+        ensures work { OnOk result
+            (HasRestamped None (work_of row.now) self.old.work self.new.work) }
         ensures dues { OnOk result (HasRekeyed due_order None (due_of name.now row.now)
             self.old.dues.entries self.new.dues.entries) }
         ensures seen { OnOk result (HasRekeyed row_cmp None (seen_of name.now row.now)

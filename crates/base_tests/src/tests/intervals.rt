@@ -90,7 +90,8 @@ fn whole_parts(alloc: Global, count: u32) -> Result<PartCutsList, NoMemory>
 // The intervals of so many parts without cuts.
 fn whole_intervals(alloc: Global, count: u32) -> Result<Intervals, NoMemory>
     requires { count ≤ INTERVALS_MAX }
-    ensures parts { IfOk result (λ all. (k : ℕ) → k < count → Any (λ (b : Bounds). b.part ≡ k) all) }
+    ensures parts { IfOk result
+        (λ all. (k : ℕ) → k < count → Any (λ (b : Bounds). b.part ≡ k) all) }
     ensures count { IfOk result (λ all. length all ≡ count) }
 {
     let parts = whole_parts(alloc, count)?;
