@@ -3,7 +3,6 @@ pub mod Reasons
 pub mod Sources
 pub mod Loading
 pub mod Statuses
-pub mod Works
 pub mod Replaying
 pub mod Running
 pub mod Leaving

@@ -17,3 +17,4 @@ pub mod CopyLaws
 pub mod ReceiveLaws
 pub mod SettleLaws
 pub mod WrittenLaws
+pub mod KindLaws

@@ -1,5 +1,5 @@
 use Rattle.std.proofs.Common.{◌∙◌, refl, ap, rules}
-use Rattle.millwheel_cli.proofs.Works.{kinds_work}
+use Rattle.node.proofs.KindLaws.{kinds_work}
 use Rattle.millwheel_cli.proofs.Leaving.{unwanted}
 use Rattle.millwheel_cli.proofs.run.run.Goals as goal
 
