@@ -9,11 +9,14 @@ use std::alloc::Global;
 // The version of the form of rows, which is their first byte.
 const VERSION: u8 = 1;
 
-// Room for a row without lists, and some more.
-const ROOM: usize = 256;
+// Room for a row with one delivery under a short key, and some more.
+const ROOM: usize = 128;
 
 // How many bytes an id has.
 const ID_BYTES: usize = 12;
+
+// How many bytes a timer and the open window that it closes have.
+const TIMER_BYTES: usize = 33;
 
 /// The bytes of a row.
 pub fn encode_row(alloc: Global, row: &Row) -> Result<Bytes, NoMemory>
@@ -31,7 +34,9 @@ pub fn encode_row(alloc: Global, row: &Row) -> Result<Bytes, NoMemory>
     Ok(Bytes::from_vec(out))
 }
 
-// Room for a row: the ids that it has seen are the longest of its lists.
+// Room for a row: its timers, and the ids that it has seen, are the longest of its lists.
 fn room_of(row: &Row) -> usize {
-    row.seen.len().saturating_mul(ID_BYTES).saturating_add(ROOM)
+    let timers = row.timers.len().saturating_mul(TIMER_BYTES);
+    let ids = row.seen.len().saturating_mul(ID_BYTES);
+    ROOM.saturating_add(timers).saturating_add(ids)
 }
