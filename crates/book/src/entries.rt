@@ -10,7 +10,8 @@ ghost use Rattle.book.specs.Proposals.{IsEntryOf, IsFiring, IsHandling, IsNextLi
 use crate::pending::with_sent;
 use crate::proposal::Proposal;
 use mw_types::{
-    Delivery, Duplicate, Effects, Entry, NoMemory, Production, RecordId, RowName, State, Timer,
+    Delivery, Duplicate, Effects, Entry, IdList, NoMemory, Production, RecordId, RowName, State,
+    Timer,
 };
 use row_parts::Row;
 use run_history::Case;
@@ -156,11 +157,26 @@ fn noted(alloc: Global, row: &Row, id: RecordId, effects: &Effects) -> Result<Ro
       seen = with_id id row.now.seen;
     }) }
 {
-    let mut noted = row.copy(alloc)?;
-    noted.state = effects.state.copy(alloc)?;
+    let mut noted = Row {
+        state: effects.state.copy(alloc)?,
+        timers: row.timers.copy(alloc)?,
+        pending: row.pending.copy(alloc)?,
+        seen: with_room(alloc, row.seen.as_slice())?,
+        floor: row.floor,
+        last: row.last,
+    };
     set_timers(&mut noted, effects.timers.as_slice())?;
     noted.note_handled(id)?;
     Ok(noted)
+}
+
+// These ids, with room for one more.
+fn with_room(alloc: Global, ids: &[RecordId]) -> Result<IdList, NoMemory>
+    ensures { IfOk result (λ list. list ≡ ids.now) }
+{
+    let mut list = Vec::with_capacity(alloc, ids.len().saturating_add(1))?;
+    list.extend_from_slice(ids)?;
+    Ok(IdList::from_vec(list))
 }
 
 // Sets timers of a row, one after another.
@@ -223,8 +239,14 @@ fn taken(alloc: Global, row: &Row, timer: Timer, effects: &Effects) -> Result<Ro
       timers = without_timer timer.tag timer.time row.now.timers;
     }) }
 {
-    let mut taken = row.copy(alloc)?;
-    taken.state = effects.state.copy(alloc)?;
+    let mut taken = Row {
+        state: effects.state.copy(alloc)?,
+        timers: row.timers.copy(alloc)?,
+        pending: row.pending.copy(alloc)?,
+        seen: row.seen.copy(alloc)?,
+        floor: row.floor,
+        last: row.last,
+    };
     taken.take_timer(timer.tag, timer.time);
     Ok(taken)
 }
