@@ -1,0 +1,10 @@
+//! A worker over the desk of a book of its own, over desks of a shared book, and two over the desks of
+//! two seats.
+mod acts;
+mod busy;
+mod entries;
+mod example;
+mod failing;
+mod overtaken;
+mod same_answers;
+mod seats;

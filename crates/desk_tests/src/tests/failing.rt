@@ -1,0 +1,67 @@
+//! A keeper that fails under a worker's turn: the call answers so and appends nothing, the turn is given
+//! back, and the same call does it afterwards.
+use super::acts::{Act, Answer};
+use super::entries::Told;
+use super::example::two_lines_example;
+use super::seats::over_one_seat;
+use book::Book;
+use mw_types::{CallList, NoMemory};
+use row_keeper::MemKeeper;
+use std::alloc::Global;
+use std::test::Fail;
+
+// Call 0 of the keeper is that of the book's start. A claim is one call, which reads the interval's rows, and
+// so is a write, which puts its row; a report and what is refused before the keeper is asked are none. So
+// the first try of each but the acknowledgement fails: that one takes its message with it.
+const FAILING: [u64; 6] = [1, 3, 5, 7, 10, 12];
+
+// Beside each answer stands the number of the call.
+const TABLE: &[(Act, Answer)] = &[
+    (Act::ClaimSource, Answer::KeeperFault), // 1
+    (Act::ClaimSource, Answer::Claimed(0)), // 2
+    (Act::ClaimCount, Answer::KeeperFault), // 3
+    (Act::ClaimCount, Answer::Claimed(1)), // 4
+    (Act::Inject, Answer::KeeperFault), // 5
+    (Act::Inject, Answer::Committed(2)), // 6
+    (Act::Take, Answer::Prepared), // none
+    (Act::Write, Answer::KeeperFault), // 7
+    (Act::Write, Answer::Committed(3)), // 8
+    (Act::Take, Answer::Committed(4)), // 9
+    (Act::ReportSource, Answer::Marked(60)), // none
+    (Act::ReportCount, Answer::Marked(60)), // none
+    (Act::Fire, Answer::KeeperFault), // 10
+    (Act::Fire, Answer::Committed(5)), // 11
+    (Act::Purge, Answer::KeeperFault), // 12
+    (Act::Purge, Answer::Committed(6)), // 13
+];
+
+// What was refused is no entry.
+const ENTRIES: &[Told] = &[
+    Told::Claim(0, 0),
+    Told::Claim(0, 1),
+    Told::Inject(0, 0),
+    Told::Handle(1, 2),
+    Told::Ack(0, 2),
+    Told::Fire(1, 60),
+    Told::Purge(1, 6),
+];
+
+// A keeper in memory whose calls of these numbers fail.
+fn keeper(alloc: Global) -> Result<MemKeeper, NoMemory> {
+    let mut calls = CallList::new(alloc);
+    for number in FAILING {
+        calls.push(number)?;
+    }
+    Ok(MemKeeper::new(alloc, calls))
+}
+
+#[test]
+fn keeper_fails_under_a_turn(rt: HostRuntime) -> Result<(), Fail> {
+    let alloc = rt.alloc();
+    let given = two_lines_example(alloc)?;
+    match Book::start(alloc, &given.case, keeper(alloc)?, 8) {
+        Ok(book) => over_one_seat(&rt, alloc, &given, book, TABLE, ENTRIES),
+        Err(_) => assert!(rt; false),
+    }
+    Ok(())
+}
