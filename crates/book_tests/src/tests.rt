@@ -3,6 +3,7 @@
 mod calls;
 mod desks;
 mod example;
+mod faults;
 mod hands;
 mod many_seats;
 mod overtaken;

@@ -4,7 +4,7 @@ ghost use Rattle.run_history.specs.Legal.{MayClaim};
 ghost use Rattle.shared_book.specs.Turns.{HasTurn, IsHere};
 ghost use Rattle.book_tests.specs.TestSeats.{IsAtRest};
 
-use book::Claimed;
+use book::{ClaimRefusal, Claimed};
 use row_keeper::Keeper;
 use shared_book::{Seat, Shared, Turn};
 use std::alloc::Global;
@@ -16,12 +16,14 @@ pub(crate) enum Tried {
     Busy { found: u64 },
     // The interval was claimed.
     Claimed { seq: u64 },
+    // The turn was there, and the keeper failed.
+    KeeperFault,
     // The turn was there, and the book refused.
     Refused,
 }
 
 // A claim in a turn.
-fn claim_with<K: Keeper>(
+pub(crate) fn claim_with<K: Keeper>(
     alloc: Global,
     turn: &mut Turn<'_, '_, K>,
     worker: u32,
@@ -42,6 +44,7 @@ fn claim_with<K: Keeper>(
 {
     match turn.claim(alloc, worker, interval) {
         Ok(Claimed { lease, rows: _rows }) => Tried::Claimed { seq: lease.seq() },
+        Err(ClaimRefusal::KeeperFault) => Tried::KeeperFault,
         Err(_why) => Tried::Refused,
     }
 }
