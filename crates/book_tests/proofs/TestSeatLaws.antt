@@ -1,5 +1,7 @@
 -- The seats of the tests: their numbers, and what a desk leaves of them.
-use Rattle.std.proofs.Common.{inl, inr, true, false, ◌≡◌, ℕ, zero, suc, ◌+◌, ◌<◌, ◌≤◌, List, [], ◌∷◌, sym, ap, ◌∙◌, subst, arith}
+use Rattle.std.proofs.Common.{inl, inr, true, false, ◌≡◌, ℕ, zero, suc, ◌+◌, ◌<◌, ◌≤◌, List, [], ◌∷◌, Bool, refl, sym, ap, ap₂, ◌∙◌, subst, if◌then◌else◌, arith}
+use Rattle.std.specs.Prelude.{nat_le}
+use Rattle.std.proofs.lemmas.Bool.{leb-false}
 use mathlib.Core.Logic.{dite}
 use native.Mathlib.Decide.{ℕ_discrete}
 use Rattle.atomic_table.specs.Seated.{TableId}
@@ -8,7 +10,7 @@ use Rattle.run_history.specs.Cases.{CaseShape}
 use Rattle.book.specs.Desks.{Home}
 use Rattle.shared_book.specs.declared.views.View.{View}
 use Rattle.shared_book.specs.FenceLaw.{Slot}
-use Rattle.shared_book.specs.Joins.{first_of, others_of}
+use Rattle.shared_book.specs.Joins.{first_of, merged, others_of, placed}
 use Rattle.shared_book.specs.Lists.{IsIn}
 use Rattle.shared_book.specs.Opening.{span}
 use Rattle.shared_book.specs.SharedDesks.{shared_home}
@@ -41,6 +43,20 @@ next_number numbers n m (suc left) is first some =
     head : List ℕ → ℕ
     head [] = 0
     head (x ∷ xs) = x
+
+-- a number below a span's first is put in front of it
+pub put_below : (numbers one : List ℕ) (n m left : ℕ) → numbers ≡ span m left → one ≡ n ∷ [] → m ≡ suc n
+    → merged numbers one ≡ span n (suc left)
+put_below numbers one n m left is first next =
+    ap₂ merged is first ∙ (below left ∙ ap (λ (k : ℕ). n ∷ span k left) next)
+  where
+    kept : (b : Bool) (xs : List ℕ) → nat_le n m ≡ b → (if b then n ∷ m ∷ xs else m ∷ placed n xs) ≡ n ∷ m ∷ xs
+    kept true xs e = refl
+    kept false xs e = let l = leb-false n m e in absurd (omega (arith, l, next))
+
+    below : (count : ℕ) → placed n (span m count) ≡ n ∷ span m count
+    below zero = refl
+    below (suc count) = kept (nat_le n m) (span (suc m) count) refl
 
 -- ---- what a desk leaves of a seat
 

@@ -5,6 +5,7 @@ ghost use Rattle.worked_examples.specs.Rising.{rise_case};
 ghost use Rattle.book_tests.specs.TestSeats.{IsAtRest};
 
 use super::example::two_line_case;
+use super::histories::claim_at;
 use super::seats::{Tried, claim_with};
 use book::Book;
 use mw_types::{CallList, Entry};
@@ -49,14 +50,6 @@ fn claim_twice<K: Keeper>(
             let tried = Tried::Busy { found: busy.found };
             (tried, tried)
         }
-    }
-}
-
-// The worker and the interval of a claim.
-fn claim_at(entries: &[Entry], number: usize) -> Option<(u32, u32)> {
-    match entries.get(number) {
-        Some(Entry::Claim { worker, interval }) => Some((*worker, *interval)),
-        _ => None,
     }
 }
 

@@ -1,0 +1,88 @@
+-- A seat may cross threads where its keeper may.
+use denote.RattleType.{RattleType}
+use denote.Param.Send.{IsSend, IsSync, sendable}
+use denote.Param.SendFields.{declared_sync}
+use denote.Ref.{NamedLft}
+use Rattle.std.proofs.Crossing.{crosses, frees, send, sync}
+use Rattle.std.proofs.MapsCrossing as maps
+use Rattle.atomic_table.proofs.shared.Seat.TheSendSync as places
+use Rattle.row_keeper.specs.declared.keeper.Keeper.{Ghosts}
+use Rattle.mw_types.proofs.tree.Tree.TheLaws.TheKnot as knot
+use Rattle.mw_types.proofs.state.Window.TheSendSync as windows
+use Rattle.mw_types.proofs.state.HeldTotal.TheSendSync as totals
+use Rattle.mw_types.proofs.seq.Seq.TheSendSync as lists
+use Rattle.mw_types.proofs.timer.Timer.TheSendSync as timers
+use Rattle.mw_types.proofs.record.Production.TheSendSync as productions
+use Rattle.mw_types.proofs.record.Record.TheSendSync as records
+use Rattle.mw_types.proofs.identity.RowName.TheSendSync as names
+use Rattle.mw_types.proofs.identity.RecordId.TheSendSync as ids
+use Rattle.mw_types.specs.contracts.shared_list.SharedList as SharedList
+use Rattle.mw_types.specs.contracts.state.State as State
+use Rattle.mw_types.specs.contracts.effects.Effects as Effects
+use Rattle.mw_types.specs.contracts.seq.Seq as Seq
+use Rattle.mw_types.specs.contracts.timer.Timer as Timer
+use Rattle.mw_types.specs.contracts.record.Production as Production
+use Rattle.mw_types.specs.contracts.entry.Entry as Entry
+use Rattle.run_history.specs.contracts.history.History as History
+use Rattle.book.specs.contracts.book_core.Core as Core
+use Rattle.shared_book.specs.contracts.seats.Seat as Seat
+use Rattle.book_tests.specs.contracts.tests.threads.Ended as Ended
+use Rattle.shared_book.specs.contracts.shared.Shared as Shared
+use Rattle.std.specs.contracts.option.Option as Option
+use Rattle.atomic_table.proofs.owned.Table.TheSendSync as tables
+use Rattle.std.specs.Prelude.{false}
+use Rattle.shared_book.specs.Opening.{SharedLaw, blank}
+use Rattle.shared_book.specs.contracts.views.View as View
+use Rattle.shared_book.specs.contracts.shared.Key as Key
+use Rattle.shared_book.specs.contracts.rule.Law as Law
+use Rattle.std.specs.contracts.alloc.Global as Global
+use Rattle.std.specs.contracts.impls.GlobalAllocator.TheImpl as global
+use Rattle.run_history.proofs.case.Case.TheSendSync as cases
+
+pub list_send : (X : RattleType) → IsSend X → IsSync X → IsSend (SharedList.the_row X)
+list_send X s y = search (sendable, crosses, knot.crosses) depth 30
+
+pub timers_send : IsSend (Seq.the_row Timer.the_row)
+timers_send = search (lists.the_send, timers.the_send) depth 30
+
+pub productions_send : IsSend (Seq.the_row Production.the_row)
+productions_send = search (lists.the_send, productions.the_send) depth 30
+
+pub state_field_send : IsSend (State.the_field).row
+state_field_send = search (sendable, crosses, list_send, windows.the_send, windows.the_sync, totals.the_send, totals.the_sync) depth 30
+
+pub effects_send : IsSend Effects.the_row
+effects_send = search (sendable, state_field_send, timers_send, productions_send) depth 30
+
+pub entry_send : IsSend Entry.the_row
+entry_send = search (sendable, effects_send, timers.the_field_send, records.the_field_send, names.the_field_send, ids.the_field_send) depth 30 fits 100000
+
+pub history_send : IsSend History.the_row
+history_send = search (sendable, crosses, entry_send) depth 30
+
+pub core_send : (K : RattleType) (g : Ghosts K.Denot) → IsSend K → IsSend (Core.the_row K g)
+core_send K g s = search (sendable, crosses, maps.crosses, history_send, names.the_send, ids.the_send) depth 30
+
+pub seat_send : (K : RattleType) (g : Ghosts K.Denot) → IsSend K → IsSend (Seat.the_row K g)
+seat_send K g s = search (sendable, crosses, core_send, places.the_send) depth 30
+
+pub seat_field_send : (K : RattleType) (g : Ghosts K.Denot) → IsSend K → IsSend (Seat.the_field K g).row
+seat_field_send K g s = search (sendable, crosses, core_send, places.the_send) depth 30
+
+pub ended_send : (K : RattleType) (g : Ghosts K.Denot) → IsSend K → IsSend (Ended.the_row K g)
+ended_send K g s = search (sendable, crosses, seat_field_send) depth 30
+
+pub option_send : (K : RattleType) (g : Ghosts K.Denot) → IsSend K → IsSend (Option.the_row (Core.the_row K g))
+option_send K g s = search (sendable, crosses, core_send) depth 30
+
+pub shared_sync : (ℓ : NamedLft) (K : RattleType) (g : Ghosts K.Denot) → IsSend K → IsSync (Shared.the_row ℓ K g)
+shared_sync ℓ K g s =
+    declared_sync (Shared.the_type ℓ K g) (
+      search (sendable, cases.the_sync),
+      (
+        tables.the_sync (Option.the_row (Core.the_row K g)) View.the_row (Key.the_row ℓ) Law.the_row Global.the_row
+            (record { holds = SharedLaw; first = λ key. blank key.case.now key.seats false }) global.ghosts
+            (option_send K g s) send sync frees,
+        tt,
+      ),
+    )
