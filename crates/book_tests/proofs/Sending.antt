@@ -1,4 +1,5 @@
--- A seat may cross threads where its keeper may.
+-- A seat may cross threads where its keeper may. A list that shares memory is recursive, so a search for all of it
+-- at once breaks off: each type has a step of its own.
 use denote.RattleType.{RattleType}
 use denote.Param.Send.{IsSend, IsSync, sendable}
 use denote.Param.SendFields.{declared_sync}
@@ -39,42 +40,57 @@ use Rattle.std.specs.contracts.alloc.Global as Global
 use Rattle.std.specs.contracts.impls.GlobalAllocator.TheImpl as global
 use Rattle.run_history.proofs.case.Case.TheSendSync as cases
 
+-- a list that shares memory, where its elements may cross and be shared
 pub list_send : (X : RattleType) → IsSend X → IsSync X → IsSend (SharedList.the_row X)
 list_send X s y = search (sendable, crosses, knot.crosses) depth 30
 
+-- a list of timers
 pub timers_send : IsSend (Seq.the_row Timer.the_row)
 timers_send = search (lists.the_send, timers.the_send) depth 30
 
+-- a list of productions
 pub productions_send : IsSend (Seq.the_row Production.the_row)
 productions_send = search (lists.the_send, productions.the_send) depth 30
 
+-- a state, as a field
 pub state_field_send : IsSend (State.the_field).row
 state_field_send = search (sendable, crosses, list_send, windows.the_send, windows.the_sync, totals.the_send, totals.the_sync) depth 30
 
+-- what a handler leaves
 pub effects_send : IsSend Effects.the_row
 effects_send = search (sendable, state_field_send, timers_send, productions_send) depth 30
 
+-- an entry
 pub entry_send : IsSend Entry.the_row
-entry_send = search (sendable, effects_send, timers.the_field_send, records.the_field_send, names.the_field_send, ids.the_field_send) depth 30 fits 100000
+entry_send =
+    search (sendable, effects_send, timers.the_field_send, records.the_field_send, names.the_field_send, ids.the_field_send)
+    depth 30 fits 100000
 
+-- a history
 pub history_send : IsSend History.the_row
 history_send = search (sendable, crosses, entry_send) depth 30
 
+-- a book but for its case, where its keeper may cross
 pub core_send : (K : RattleType) (g : Ghosts K.Denot) → IsSend K → IsSend (Core.the_row K g)
 core_send K g s = search (sendable, crosses, maps.crosses, history_send, names.the_send, ids.the_send) depth 30
 
+-- a seat, where its keeper may cross
 pub seat_send : (K : RattleType) (g : Ghosts K.Denot) → IsSend K → IsSend (Seat.the_row K g)
 seat_send K g s = search (sendable, crosses, core_send, places.the_send) depth 30
 
+-- a seat as a field, where its keeper may cross
 pub seat_field_send : (K : RattleType) (g : Ghosts K.Denot) → IsSend K → IsSend (Seat.the_field K g).row
 seat_field_send K g s = search (sendable, crosses, core_send, places.the_send) depth 30
 
+-- what a thread answers, where the keeper may cross
 pub ended_send : (K : RattleType) (g : Ghosts K.Denot) → IsSend K → IsSend (Ended.the_row K g)
 ended_send K g s = search (sendable, crosses, seat_field_send) depth 30
 
+-- the place of the table, where the keeper may cross
 pub option_send : (K : RattleType) (g : Ghosts K.Denot) → IsSend K → IsSend (Option.the_row (Core.the_row K g))
 option_send K g s = search (sendable, crosses, core_send) depth 30
 
+-- threads may share a shared book, where its keeper may cross
 pub shared_sync : (ℓ : NamedLft) (K : RattleType) (g : Ghosts K.Denot) → IsSend K → IsSync (Shared.the_row ℓ K g)
 shared_sync ℓ K g s =
     declared_sync (Shared.the_type ℓ K g) (
