@@ -27,7 +27,6 @@ use Rattle.mw_types.specs.contracts.entry.Entry as Entry
 use Rattle.run_history.specs.contracts.history.History as History
 use Rattle.book.specs.contracts.book_core.Core as Core
 use Rattle.shared_book.specs.contracts.seats.Seat as Seat
-use Rattle.book_tests.specs.contracts.tests.threads.Ended as Ended
 use Rattle.shared_book.specs.contracts.shared.Shared as Shared
 use Rattle.std.specs.contracts.option.Option as Option
 use Rattle.atomic_table.proofs.owned.Table.TheSendSync as tables
@@ -81,10 +80,6 @@ seat_send K g s = search (sendable, crosses, core_send, places.the_send) depth 3
 -- a seat as a field, where its keeper may cross
 pub seat_field_send : (K : RattleType) (g : Ghosts K.Denot) → IsSend K → IsSend (Seat.the_field K g).row
 seat_field_send K g s = search (sendable, crosses, core_send, places.the_send) depth 30
-
--- what a thread answers, where the keeper may cross
-pub ended_send : (K : RattleType) (g : Ghosts K.Denot) → IsSend K → IsSend (Ended.the_row K g)
-ended_send K g s = search (sendable, crosses, seat_field_send) depth 30
 
 -- the place of the table, where the keeper may cross
 pub option_send : (K : RattleType) (g : Ghosts K.Denot) → IsSend K → IsSend (Option.the_row (Core.the_row K g))

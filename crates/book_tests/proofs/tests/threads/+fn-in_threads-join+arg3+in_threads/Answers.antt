@@ -1,9 +1,12 @@
 use Rattle.std.proofs.Common.{◌≡◌, ◌+◌, ◌-◌, suc, ap, ◌∙◌, arith}
 use Rattle.shared_book.specs.Opening.{span}
 use Rattle.shared_book.specs.Steps.{SeatView}
-use denote.Param.Send.{param_send, sendable}
-use Rattle.std.proofs.Crossing.{send}
-use Rattle.book_tests.proofs.Sending.{ended_send, seat_field_send, seat_send, shared_sync}
+use denote.RattleType.{RattleType}
+use denote.Param.Send.{IsSend, param_send, sendable}
+use Rattle.std.proofs.Crossing.{crosses, send}
+use Rattle.row_keeper.specs.declared.keeper.Keeper.{Ghosts}
+use Rattle.book_tests.specs.contracts.tests.threads.Ended as Ended
+use Rattle.book_tests.proofs.Sending.{seat_field_send, seat_send, shared_sync}
 use Rattle.book_tests.proofs.TestSeatLaws.{next_number, put_below}
 use Rattle.book_tests.proofs.tests.threads.+fn-in_threads-join+arg3+in_threads.Goals as goal
 
@@ -12,6 +15,10 @@ pub deal-one-requires-clause-more : goal.deal-one-requires-clause-more
 deal-one-requires-clause-more g t c =
     let seat = c.args.seat in
     next_number seat.place.me.0.numbers seat.number seat.number c.args.left c.requires.rest.has_numbers seat.numbered (omega arith)
+
+-- what a thread answers, where the keeper may cross
+ended_send : (K : RattleType) (g : Ghosts K.Denot) → IsSend K → IsSend (Ended.the_row K g)
+ended_send K g s = search (sendable, crosses, seat_field_send) depth 30
 
 -- what a thread is given may cross to it, and what it answers back
 pub join-first-requires-send-F : goal.join-first-requires-send-F
