@@ -18,6 +18,7 @@ mod row;
 mod spelled;
 mod states;
 mod timers;
+mod words;
 
 pub use lists::{Ranked, put_list, take_ascending, take_list};
 pub use refusal::StateRefusal;

@@ -9,6 +9,7 @@ ghost use Rattle.row_parts.specs.Reading.{Gives, key_at, id_at, window_at, held_
 use crate::lists::Ranked;
 use crate::refusal::StateRefusal;
 use crate::spelled::Spelled;
+use crate::words::{two_words, two_words_and_flag, word_and_half};
 use mw_types::{
     Delivery, HeldTotal, Key, KeyRefusal, MAX_STAMP, NoMemory, Record, RecordId, RowName, Timer,
     Window,
@@ -67,8 +68,7 @@ impl Spelled for RecordId {
     ghost reading = { id_at };
 
     fn put(&self, out: &mut Vec<u8>) -> Result<(), NoMemory> {
-        self.commit.put(out)?;
-        self.index.put(out)?;
+        out.extend_from_slice(&word_and_half(self.commit, self.index))?;
         Ok(())
     }
 
@@ -104,8 +104,7 @@ impl Spelled for Window {
     ghost reading = { window_at };
 
     fn put(&self, out: &mut Vec<u8>) -> Result<(), NoMemory> {
-        self.end.put(out)?;
-        self.count.put(out)?;
+        out.extend_from_slice(&two_words(self.end, self.count))?;
         Ok(())
     }
 
@@ -178,9 +177,7 @@ impl Spelled for Timer {
     ghost reading = { timer_at };
 
     fn put(&self, out: &mut Vec<u8>) -> Result<(), NoMemory> {
-        self.time.put(out)?;
-        self.tag.put(out)?;
-        self.late.put(out)?;
+        out.extend_from_slice(&two_words_and_flag(self.time, self.tag, self.late))?;
         Ok(())
     }
 
