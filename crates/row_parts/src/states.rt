@@ -1,38 +1,63 @@
 //! States that are written to bytes and read from them.
-ghost use Rattle.std.specs.Prelude.{◌≡◌, ◌≢◌, ◌++◌, ◌<◌, ◌≤◌, ◌^◌, length, Ok, IfOk, OnOk, IsErrOf, MatchResult};
+ghost use Rattle.std.specs.Prelude.{◌≡◌, ◌≢◌, ◌++◌, ◌<◌, ◌≤◌, ◌^◌, length, All, Ok, IfOk, IfSome, OnOk, IsErrOf, MatchResult};
 ghost use Rattle.mw_types.specs.declared.state.State.{State};
 ghost use Rattle.mw_types.specs.declared.state.State.TheVariants.{Count, Spike};
 ghost use Rattle.mw_types.specs.Bounds.{IsWithin};
-ghost use Rattle.row_parts.specs.Spelling.{state_spelling, FitsBytes, IsSpelledState};
+ghost use Rattle.row_parts.specs.Spelling.{list_spelling, state_spelling, FitsBytes, IsSpelledState};
 ghost use Rattle.row_parts.specs.Reading.{Gives, injector_at, count_at, spike_at, pass_at, state_of, state_at, whole_state};
 
 use crate::lists::{put_list, take_ascending, take_list};
 use crate::refusal::StateRefusal;
 use crate::spelled::Spelled;
-use mw_types::{Bytes, HeldList, HeldTotal, MAX_STAMP, NoMemory, State, Window, WindowList};
+use mw_types::{
+    Bytes, HeldList, HeldTotal, MAX_STAMP, NoMemory, SharedList, State, Window, WindowList,
+};
 use std::alloc::Global;
 
 // The greatest number of known values.
 const KNOWN_MAX: usize = 64;
 
+// The elements of a list where they lie side by side, as those of a short one do.
+fn side_by_side<X: Copy + Drop>(list: &SharedList<X>) -> Option<&[X]>
+    ensures { IfSome result (λ run. run.now ≡ list.now) }
+{
+    if list.is_empty() {
+        return Some(&[]);
+    }
+    let run = list.run_at(0);
+    if run.len() == list.len() {
+        Some(run)
+    } else {
+        None
+    }
+}
+
+// Appends the bytes of a list that may lie in pieces.
+fn put_shared<X: Spelled + Copy>(out: &mut Vec<u8>, list: &SharedList<X>) -> Result<(), NoMemory>
+    requires { length list.now < 2 ^ 32 }
+    ensures written { let spelt = list_spelling X.spelling list.now in
+        OnOk result (out.new.items ≡ out.old.items ++ spelt) }
+    ensures typed { OnOk result (All X.typed list.now) }
+{
+    match side_by_side(list) {
+        Some(run) => put_list(out, run),
+        None => put_list(out, &list.flat(*out.allocator())?),
+    }
+}
+
 // Appends the bytes of a count's state.
-fn put_count(out: &mut Vec<u8>, late: u64, windows: &[Window]) -> Result<(), NoMemory>
+fn put_count(out: &mut Vec<u8>, late: u64, windows: &WindowList) -> Result<(), NoMemory>
     requires { length windows.now < 2 ^ 32 }
     ensures { let spelt = state_spelling (Count late windows.now) in
         OnOk result (out.new.items ≡ out.old.items ++ spelt) }
 {
     out.push(1)?;
     late.put(out)?;
-    put_list(out, windows)
+    put_shared(out, windows)
 }
 
 // Appends the bytes of a spike's state.
-fn put_spike(
-    out: &mut Vec<u8>,
-    late: u64,
-    held: &[HeldTotal],
-    known: &[i64],
-) -> Result<(), NoMemory>
+fn put_spike(out: &mut Vec<u8>, late: u64, held: &HeldList, known: &[i64]) -> Result<(), NoMemory>
     requires held { length held.now < 2 ^ 32 }
     requires known { length known.now ≤ 64 }
     ensures written { let spelt = state_spelling (Spike late held.now known.now) in
@@ -41,7 +66,7 @@ fn put_spike(
 {
     out.push(2)?;
     late.put(out)?;
-    put_list(out, held)?;
+    put_shared(out, held)?;
     put_list(out, known)?;
     Ok(())
 }
@@ -57,14 +82,8 @@ pub fn put_state(out: &mut Vec<u8>, state: &State) -> Result<(), NoMemory>
             out.push(0)?;
             cursor.put(out)
         }
-        State::Count { late, windows } => {
-            let windows = windows.flat(*out.allocator())?;
-            put_count(out, *late, &windows)
-        }
-        State::Spike { late, held, known } => {
-            let held = held.flat(*out.allocator())?;
-            put_spike(out, *late, &held, known.as_slice())
-        }
+        State::Count { late, windows } => put_count(out, *late, windows),
+        State::Spike { late, held, known } => put_spike(out, *late, held, known.as_slice()),
         State::Pass { late } => {
             out.push(3)?;
             late.put(out)
