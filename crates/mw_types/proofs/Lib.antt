@@ -1,4 +1,5 @@
 pub mod OrderLaws
 pub mod CauseLaws
+mod Fronts
 mod Pairs
 mod Sides

@@ -1,12 +1,16 @@
 //! A short text, which lies in the value itself.
-ghost use Rattle.std.specs.Prelude.{◌≡◌, ◌≤◌, [], length};
+ghost use Rattle.std.specs.Prelude.{◌≡◌, ◌≤◌, ◌<◌, ℕ, [], length, slice_index};
+ghost use Rattle.std.specs.Cmp.Lexicographic.{slice_cmp};
+ghost use Rattle.std.specs.Int.{from_be_bytes, w64};
+ghost use Rattle.std.specs.Ordering.{nat_cmp};
 
+use std::cmp::Ordering;
 use std::marker::Model;
 
 /// The greatest length of a short text, in bytes.
 pub(crate) const SHORT_MAX: usize = 30;
 
-/// A text of at most 30 bytes.
+/// A text of at most 30 bytes, and zeros after it.
 #[derive(Debug, Drop)]
 pub(crate) struct ShortText {
     len: u8,
@@ -14,13 +18,14 @@ pub(crate) struct ShortText {
 }
 
 impl Model for ShortText {
-    ghost use Rattle.std.specs.Prelude.{◌≡◌, ◌≤◌, length, take, List, ℕ, IsUtf8};
+    ghost use Rattle.std.specs.Prelude.{◌≡◌, ◌≤◌, ◌-◌, length, take, drop, replicate, List, ℕ, IsUtf8};
 
     ghost Value = { List ℕ };
 
     ghost view = { λ t. take t.len t.bytes };
 
-    ghost invariant = { λ t. (t.len ≤ 30) × (length t.bytes ≡ 30) × ∥ IsUtf8 (take t.len t.bytes) ∥₁ };
+    ghost invariant = { λ t. (t.len ≤ 30) × (length t.bytes ≡ 30) × ∥ IsUtf8 (take t.len t.bytes) ∥₁
+        × (drop t.len t.bytes ≡ replicate (30 - t.len) 0) };
 }
 
 impl ShortText {
@@ -54,4 +59,39 @@ impl ShortText {
         let bytes = &self.bytes[..self.len as usize];
         unsafe { std::str::from_utf8_unchecked(bytes) }
     }
+
+    // How this text stands to another one. Most texts differ in their first bytes, and a search asks
+    // this at each step, so that much is inlined.
+    #[inline(always)]
+    pub(crate) fn order(&self, other: &ShortText) -> Ordering
+        ensures { result ≡ slice_cmp nat_cmp self.now other.now }
+    {
+        let (one, two) = (front(&self.bytes), front(&other.bytes));
+        if one != two {
+            return one.cmp(&two);
+        }
+        if self.len.min(other.len) <= 8 {
+            return self.len.cmp(&other.len);
+        }
+        self.order_past(other)
+    }
+
+    // How this text stands to another one that has the same first bytes.
+    #[inline(never)]
+    fn order_past(&self, other: &ShortText) -> Ordering
+        ensures { result ≡ slice_cmp nat_cmp self.now other.now }
+    {
+        self.text().cmp(other.text())
+    }
+}
+
+// The first eight bytes as one number.
+#[inline(always)]
+fn front(bytes: &[u8; SHORT_MAX]) -> u64
+    ensures number { result ≡ from_be_bytes w64 bytes.now }
+    ensures bytes { (at : ℕ) → slice_index bytes.now at < 256 }
+{
+    u64::from_be_bytes([
+        bytes[0], bytes[1], bytes[2], bytes[3], bytes[4], bytes[5], bytes[6], bytes[7],
+    ])
 }

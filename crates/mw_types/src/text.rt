@@ -1,5 +1,7 @@
 //! A text in UTF-8, which contracts see as its bytes.
 ghost use Rattle.std.specs.Prelude.{◌≡◌, length, IfOk, []};
+ghost use Rattle.std.specs.Cmp.Lexicographic.{slice_cmp};
+ghost use Rattle.std.specs.Ordering.{nat_cmp};
 
 use crate::memory::{Duplicate, NoMemory};
 use crate::short::{SHORT_MAX, ShortText};
@@ -103,7 +105,7 @@ impl PartialEq for Text {
     ghost laws = { partial_equiv_from_equiv nat_list_eq_equiv };
 
     fn eq(&self, other: &Text) -> bool {
-        self.text() == other.text()
+        self.cmp(other).is_eq()
     }
 }
 
@@ -143,7 +145,19 @@ impl Ord for Text {
 
     ghost matches_eq = { Prim.search (comparing, rules) };
 
+    #[inline(always)]
     fn cmp(&self, other: &Text) -> Ordering {
-        self.text().cmp(other.text())
+        match (&self.held, &other.held) {
+            (Held::Short(one), Held::Short(two)) => one.order(two),
+            _ => order(self, other),
+        }
     }
+}
+
+// How two texts stand of which one is long.
+#[inline(never)]
+fn order(one: &Text, two: &Text) -> Ordering
+    ensures { result ≡ slice_cmp nat_cmp one.now two.now }
+{
+    one.text().cmp(two.text())
 }
