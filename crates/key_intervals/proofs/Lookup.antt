@@ -32,7 +32,7 @@ continues b next = by_end b.to
     by_end (Some end) m = inr m.0
 
 -- some interval at or before each one begins its part
-first_of_part : (all : List Bounds) (d : Bounds) → AreIntervals all → (j : ℕ) → j < length all
+pub first_of_part : (all : List Bounds) (d : Bounds) → AreIntervals all → (j : ℕ) → j < length all
     → (i : ℕ) × (i ≤ j) × ((get_or all i d).part ≡ (get_or all j d).part) × ((get_or all i d).from ≡ [])
 first_of_part all d a zero l = (0, omega arith, refl, first_from all d a.first l)
 first_of_part all d a (suc j) l =
@@ -175,15 +175,15 @@ module _ (all : List Bounds) (name : RowName) (n : ℕ) (d : Bounds) (a : AreInt
             ∙ begins_after (get_or all other d) (get_or all (other + 1) d) name (a.next other d (omega arith)) has))
       ]
 
--- where a search by beginnings ends, the interval before that place has the row, and no other does
-pub record IsFound (all : List Bounds) (name : RowName) (n : ℕ) : Type 0 where
-  pub some : 1 ≤ n
-  pub found : HasRow all (n - 1) name
-  pub only : (other : ℕ) → HasRow all other name → other ≡ n - 1
+-- the interval of this number has the row, and no other does
+pub record IsFound (all : List Bounds) (name : RowName) (number : ℕ) : Type 0 where
+  pub found : HasRow all number name
+  pub only : (other : ℕ) → HasRow all other name → other ≡ number
 
+-- where a search by beginnings ends, the interval before that place has the row
 pub found_at_end : (all : List Bounds) (name : RowName) (n : ℕ) → AreIntervals all → n ≤ length all
     → IsPartitionPoint (λ b. begins_by name b ≡ true) (λ b. begins_by name b ≡ false) all n
-    → Any (λ (b : Bounds). b.part ≡ name.part) all → IsFound all name n
+    → Any (λ (b : Bounds). b.part ≡ name.part) all → IsFound all name (n - 1)
 found_at_end all name n a le point part =
     let d = part.1 in
     let begun : (k : ℕ) → k < n → begins_by name (get_or all k d) ≡ true = λ k h. point.0 k d (omega arith) h in
@@ -191,7 +191,6 @@ found_at_end all name n a le point part =
     let p = part_begun all name n d a begun later part.0 part.2 (ap (λ (b : Bounds). b.part) part.3 ∙ part.4) in
     let short : n - 1 < length all = omega (arith, p.1) in
     record {
-      some = omega (arith, p.1);
       found = (get_or all (n - 1) d, slice_get-get_or all (n - 1) d short, last_has all name n d a begun later le p);
       only = only_last all name n d a begun later le;
     }

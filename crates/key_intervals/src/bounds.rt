@@ -1,7 +1,7 @@
 //! One interval of the keys of one part, and the test whether it has a row.
 ghost use Rattle.std.specs.Prelude.{◌≡◌};
 ghost use Rattle.std.specs.Ordering.{is_le};
-ghost use Rattle.mw_types.specs.Orders.{row_cmp};
+ghost use Rattle.mw_types.specs.Orders.{key_cmp, row_cmp};
 ghost use Rattle.key_intervals.specs.Intervals.{covers, ends_after, start_of};
 
 use mw_types::{Key, RowName};
@@ -31,11 +31,18 @@ impl Bounds {
     pub(crate) fn begins_by(&self, name: &RowName) -> bool
         ensures { result ≡ is_le (row_cmp (start_of self.now) name.now) }
     {
-        self.part
-            .cmp(&name.part)
-            .then(self.from.cmp(&name.key))
-            .is_le()
+        if self.part != name.part {
+            return self.part < name.part;
+        }
+        begins_by(&self.from, &name.key)
     }
+}
+
+// Whether an interval that begins at `from` begins by the key. The empty key is the least of all.
+fn begins_by(from: &Key, key: &Key) -> bool
+    ensures { result ≡ is_le (key_cmp from.now key.now) }
+{
+    from.text().is_empty() || from.cmp(key).is_le()
 }
 
 // Whether an interval that ends there goes on after the key.

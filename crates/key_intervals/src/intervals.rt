@@ -14,18 +14,22 @@ use std::marker::Model;
 #[derive(Debug, Drop)]
 pub struct Intervals {
     all: Vec<Bounds>,
+    // Of each part the number of its first interval, and last how many intervals there are.
+    firsts: Vec<usize>,
 }
 
 impl Model for Intervals {
     ghost use Rattle.std.specs.Prelude.{List};
     ghost use Rattle.key_intervals.specs.declared.bounds.Bounds.{Bounds};
     ghost use Rattle.key_intervals.specs.Intervals.{AreIntervals};
+    ghost use Rattle.key_intervals.specs.Firsts.{AreFirsts};
 
     ghost Value = { List Bounds };
 
     ghost view = { λ intervals. intervals.all.items };
 
-    ghost invariant = { λ intervals. AreIntervals intervals.all.items };
+    ghost invariant = { λ intervals. AreIntervals intervals.all.items
+        × AreFirsts intervals.firsts.items intervals.all.items };
 }
 
 impl Intervals {
@@ -37,10 +41,13 @@ impl Intervals {
         ensures all { IfOk result (λ all. all ≡ bounds_of parts.now) }
     {
         let mut all = Vec::new(alloc);
+        let mut firsts = Vec::new(alloc);
         for part in parts {
+            firsts.push(all.len())?;
             push_part(alloc, &mut all, part)?;
         }
-        Ok(Intervals { all })
+        firsts.push(all.len())?;
+        Ok(Intervals { all, firsts })
     }
 
     /// How many intervals there are.
@@ -57,11 +64,11 @@ impl Intervals {
         ensures found { HasRow self.now result name.now }
         ensures only { (other : ℕ) → HasRow self.now other name.now → other ≡ result }
     {
-        let after = self
-            .all
-            .as_slice()
-            .partition_point(|bounds| bounds.begins_by(name));
-        (after - 1) as u32
+        let first = self.firsts[name.part as usize];
+        let end = self.firsts[name.part as usize + 1];
+        // The first interval of a part has the rows that no other one has.
+        let later = self.all[first + 1..end].partition_point(|bounds| bounds.begins_by(name));
+        (first + later) as u32
     }
 
     /// The interval with this number, which must exist.

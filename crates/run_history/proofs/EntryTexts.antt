@@ -1,5 +1,6 @@
 -- No entry is printed with a float.
 use Rattle.std.proofs.Common.{◌≡◌, ℕ, ℤ, pos, negsuc, false, List, [], ◌∷◌, map, refl}
+use Rattle.std.specs.Fmt.{signed_decimal}
 use Rattle.mw_types.specs.declared.record.Production.{Production}
 use Rattle.mw_types.specs.declared.timer.Timer.{Timer}
 use Rattle.mw_types.specs.declared.entry.Entry.{Entry}
@@ -8,12 +9,17 @@ use Rattle.run_history.specs.HistoryLines.{production_data, timer_data, entry_da
 use Rattle.serde_json.specs.Data.{Data}
 use Rattle.serde_json.specs.Find.{is_float, of_integer}
 use Rattle.serde_json.specs.View.{items_of}
-use Rattle.serde_json.specs.Written.{has_float, items_have_float}
+use Rattle.serde_json.specs.Written.{has_float, items_have_float, number_text}
 
 -- an integer is none
 pub is_float-of_integer : (z : ℤ) → is_float (of_integer z) ≡ false
 is_float-of_integer (pos n) = refl
 is_float-of_integer (negsuc n) = refl
+
+-- the digits of an integer are those that are written of it as a number
+pub signed_decimal-of_integer : (z : ℤ) → signed_decimal z ≡ number_text (of_integer z)
+signed_decimal-of_integer (pos n) = refl
+signed_decimal-of_integer (negsuc n) = refl
 
 -- an array has none where no element has one
 pub items_have_float-map : {X : Type 0} (shown : X → Data) (xs : List X) → ((x : X) → has_float (shown x) ≡ false)

@@ -1,150 +1,179 @@
--- What is known of the deliveries that were made, as more of them are noted.
-use Rattle.std.proofs.Common.{◌≡◌, ℕ, ◌+◌, ◌<◌, ◌==◌, ◌&&◌, Bool, true, false, cond, nat_lt, List, [], ◌∷◌, ◌++◌, length, get_or, take, map, Option, Some, None, refl, sym, ◌∙◌, ap, subst, append_assoc, arith, inl, inr}
-use Rattle.std.specs.Option.{option_map, option_or, is_some}
-use Rattle.std.specs.Map.{lookup}
-use Rattle.std.specs.BTreeMap.{is_at}
-use Rattle.std.specs.Ordering.{nat_cmp, is_eq, ordering_then}
-use Rattle.std.specs.declared.cmp.Ordering.{Ordering}
-use Rattle.std.specs.declared.cmp.Ordering.TheVariants.{Less, Equal, Greater}
+-- What is known of the deliveries that were made, as more of them are made.
+use Rattle.std.proofs.Common.{◌≡◌, ◌≢◌, ℕ, ◌+◌, ◌*◌, ◌≤◌, ◌==◌, ◌&&◌, Bool, true, false, cond, nat_lt, List, [], ◌∷◌, ◌++◌, length, get_or, map, Option, Some, None, refl, sym, ◌∙◌, ap, arith, inl, inr, length-append}
+use Rattle.std.specs.Prelude.{unwrap_or}
+use Rattle.std.specs.Option.{option_map_or, option_or}
+use Rattle.std.specs.List.{AllByRecursion, flat_map, enumerate_from}
+use Rattle.std.proofs.lemmas.Bool.{cases_lt, lt-ltb, le-ltb}
 use Rattle.std.proofs.lemmas.Bool.Decides.{eqb_tells}
-use borrow.Author.Tests.{ltb-true}
-use Rattle.std.specs.List.{flat_map, enumerate_from}
-use Rattle.mw_types.specs.declared.record.Record.{Record}
-use Rattle.std.proofs.lemmas.List.{take_more, append-nil}
+use Rattle.std.proofs.lemmas.List.{get_or_append_left, length-map}
 use Rattle.std.proofs.lemmas.List.Folds.{find-append}
-use Rattle.std.proofs.lemmas.Bool.{eqb-true}
+use Rattle.std.proofs.lemmas.Option.{unwrap_or-slice_get, slice_get_past}
+use Rattle.std.proofs.Math.Seq.{get_or-append_seam}
 use Rattle.mw_types.specs.declared.identity.RecordId.{RecordId}
+use Rattle.mw_types.specs.declared.identity.RowName.{RowName}
+use Rattle.mw_types.specs.declared.record.Record.{Record}
+use Rattle.mw_types.specs.declared.record.Production.{Production}
 use Rattle.mw_types.specs.declared.delivery.Delivery.{Delivery}
-use Rattle.mw_types.specs.Orders.{id_cmp}
+use Rattle.mw_types.specs.declared.entry.Entry.{Entry}
 use Rattle.row_parts.specs.Contents.{same_id}
-use Rattle.run_history.specs.Made.{found_delivery, sends_of, delivery_at, deliveries_to}
-use Rattle.run_history.specs.Printing.{KnowsLate, Learns}
+use Rattle.topology.specs.declared.subscription.Subscription.{Subscription}
+use Rattle.topology.specs.Shapes.{Shape, consumers_of}
+use Rattle.run_history.specs.Made.{produced, sends_of, delivery_at, deliveries_made, deliveries_of, found_delivery, late_cause, productions_of, row_written}
+use Rattle.run_history.specs.Printing.{KnowsLate, sends_made}
+use Rattle.run_history.proofs.Lists.{each-all, each-append, each-map}
 
--- what a choice of three answers, where two of them exclude each other
-tested : (t u : Bool) → (t ≡ true → u ≡ false) → is_eq (cond t Less (cond u Equal Greater)) ≡ u
-tested true u apart = sym (apart refl)
-tested false true apart = refl
-tested false false apart = refl
+-- whether the delivery of an id is late
+abbrev late_of : RecordId → List Delivery → Bool
+late_of id ds = option_map_or (λ (d : Delivery). d.item.late) (found_delivery id ds) false
 
--- the comparison of two numbers tells whether they are equal
-is_eq-nat_cmp : (a b : ℕ) → is_eq (nat_cmp a b) ≡ (a == b)
-is_eq-nat_cmp a b = tested (nat_lt a b) (a == b) (λ less. elim (eqb_tells a b) [
-  | inl w ↦ let below : a < b = ltb-true a b less in let same : a ≡ b = w.1 in absurd (omega arith)
-  | inr w ↦ w.0
-])
+-- a number is equal to itself
+eqb_same : (a b : ℕ) → a ≡ b → (a == b) ≡ true
+eqb_same a b e = elim (eqb_tells a b) [ inl w ↦ w.0 | inr w ↦ absurd (w.1 e) ]
 
--- what two comparisons in turn do not tell apart, neither does
-is_eq-ordering_then : (a b : Ordering) → is_eq (ordering_then a b) ≡ (is_eq a && is_eq b)
-is_eq-ordering_then Less b = refl
-is_eq-ordering_then Equal b = refl
-is_eq-ordering_then Greater b = refl
+eqb_apart : (a b : ℕ) → a ≢ b → (a == b) ≡ false
+eqb_apart a b e = elim (eqb_tells a b) [ inl w ↦ absurd (e w.1) | inr w ↦ w.0 ]
 
--- the order of ids tells apart all that are not the same
-is_eq-id_cmp : (a b : RecordId) → is_eq (id_cmp a b) ≡ same_id a b
-is_eq-id_cmp a b =
-    is_eq-ordering_then (nat_cmp a.commit b.commit) (nat_cmp a.index b.index)
-    ∙ ap (λ t. t && is_eq (nat_cmp a.index b.index)) (is_eq-nat_cmp a.commit b.commit)
-    ∙ ap (λ t. (a.commit == b.commit) && t) (is_eq-nat_cmp a.index b.index)
+-- of the deliveries of one entry, each is late or none is
+late_numbered : (late : Bool) (n k : ℕ) (sends : List (RowName × Record)) (id : RecordId) → id.commit ≡ n → k ≤ id.index
+    → AllByRecursion (λ (s : RowName × Record). s.1.late ≡ late) sends
+    → late_of id (map (delivery_at n) (enumerate_from k sends)) ≡ (late && nat_lt id.index (k + length sends))
+late_numbered late n k [] id same le each = both_false late _ (le-ltb id.index (k + 0) (omega (arith, le)))
+  where
+    both_false : (a b : Bool) → b ≡ false → false ≡ (a && b)
+    both_false true b e = sym e
+    both_false false b e = refl
+late_numbered late n k (s ∷ sends) id same le each =
+    let rest = map (delivery_at n) (enumerate_from (k + 1) sends) in
+    elim (cases_lt k id.index) [
+      | inl less ↦
+          first (n == id.commit) (k == id.index) rest (eqb_apart k id.index (λ e. omega (arith, e, less)))
+          ∙ late_numbered late n (k + 1) sends id same (omega (arith, less)) each.1
+          ∙ ap (λ m. late && nat_lt id.index m) (omega arith)
+      | inr more ↦
+          here (n == id.commit) (k == id.index) rest (eqb_same n id.commit (sym same)) (eqb_same k id.index (omega (arith, le, more)))
+          ∙ each.0 ∙ and_true late _ (lt-ltb id.index (k + length (s ∷ sends)) (omega (arith, more)))
+    ]
+  where
+    first : (t u : Bool) (rest : List Delivery) → u ≡ false
+        → option_map_or (λ (d : Delivery). d.item.late) (cond (t && u) (Some (delivery_at n (k, s))) (found_delivery id rest)) false
+        ≡ late_of id rest
+    first true false rest e = refl
+    first false false rest e = refl
+    first t true rest e = cc
 
--- two tests that pass
-both : (a b : Bool) → (a && b) ≡ true → (a ≡ true) × (b ≡ true)
-both true b e = (refl, e)
-both false b e = (cc, cc)
+    here : (t u : Bool) (rest : List Delivery) → t ≡ true → u ≡ true
+        → option_map_or (λ (d : Delivery). d.item.late) (cond (t && u) (Some (delivery_at n (k, s))) (found_delivery id rest)) false
+        ≡ s.1.late
+    here true true rest e f = refl
+    here false u rest e f = cc
+    here true false rest e f = cc
 
--- ids that are the same are equal
-same_id-true : (a b : RecordId) → same_id a b ≡ true → a ≡ b
-same_id-true a b e =
-    let parts = both (a.commit == b.commit) (a.index == b.index) e in
-    let commit : a.commit ≡ b.commit = eqb-true _ _ parts.0 in
-    let index : a.index ≡ b.index = eqb-true _ _ parts.1 in
-    ap (λ c. record { commit = c; index = a.index }) commit ∙ ap (λ i. record { commit = b.commit; index = i }) index
+    and_true : (a b : Bool) → b ≡ true → a ≡ (a && b)
+    and_true true b e = sym e
+    and_true false b e = refl
 
--- what a choice is, where it is known
-chosen : (t : Bool) (late : Bool) (old : Option Bool) → (t ≡ true → old ≡ None)
-    → cond t (Some late) old ≡ option_or old (cond t (Some late) None)
-chosen true late old none = ap (λ o. option_or o (Some late)) (sym (none refl))
-chosen false late None none = refl
-chosen false late (Some b) none = refl
+-- an entry makes deliveries under its own commit number alone
+none_numbered : (n k : ℕ) (sends : List (RowName × Record)) (id : RecordId) → id.commit ≢ n
+    → found_delivery id (map (delivery_at n) (enumerate_from k sends)) ≡ None
+none_numbered n k [] id apart = refl
+none_numbered n k (s ∷ sends) id apart =
+    passed (n == id.commit) (k == id.index) (eqb_apart n id.commit (λ e. apart (sym e))) ∙ none_numbered n (k + 1) sends id apart
+  where
+    passed : (t u : Bool) → t ≡ false
+        → cond (t && u) (Some (delivery_at n (k, s))) (found_delivery id (map (delivery_at n) (enumerate_from (k + 1) sends)))
+        ≡ found_delivery id (map (delivery_at n) (enumerate_from (k + 1) sends))
+    passed false u e = refl
+    passed true u e = cc
 
--- what is not some is none
-is_some-false : (o : Option Bool) → is_some o ≡ false → o ≡ None
-is_some-false None e = refl
-is_some-false (Some b) e = cc
+-- what is sent is late where its cause is
+sent_late : (late : Bool) (subscriptions : List Subscription) (ps : List Production)
+    → AllByRecursion (λ (s : RowName × Record). s.1.late ≡ late) (flat_map (sends_of subscriptions) (map (produced late) ps))
+sent_late late subscriptions [] = tt
+sent_late late subscriptions (p ∷ ps) =
+    each-append _ (sends_of subscriptions (produced late p)) _
+    (each-map _ _ subscriptions (each-all _ (λ s. refl) subscriptions))
+    (sent_late late subscriptions ps)
 
--- a delivery whose id is new is noted
-pub noted_new : (seen old new : List (RecordId × Bool)) (id : RecordId) (late : Bool) → seen ≡ old
-    → is_some (lookup (is_at (id_cmp id)) old) ≡ false
-    → ((q : RecordId) → lookup (is_at (id_cmp q)) new ≡ cond (is_at (id_cmp id) q) (Some late) (lookup (is_at (id_cmp q)) old))
-    → (q : RecordId) → lookup (is_at (id_cmp q)) new ≡ option_or (lookup (is_at (id_cmp q)) seen) (cond (same_id id q) (Some late) None)
-noted_new seen old new id late same absent updated q =
-    updated q
-    ∙ ap (λ t. cond t (Some late) (lookup (is_at (id_cmp q)) old)) (is_eq-id_cmp id q)
-    ∙ chosen (same_id id q) late (lookup (is_at (id_cmp q)) old)
-    (λ same. subst (λ (r : RecordId). lookup (is_at (id_cmp r)) old ≡ None) (same_id-true id q same) (is_some-false _ absent))
-    ∙ ap (λ l. option_or (lookup (is_at (id_cmp q)) l) (cond (same_id id q) (Some late) None)) (sym same)
+-- how many deliveries productions become
+length-sent : (late : Bool) (subscriptions : List Subscription) (ps : List Production)
+    → length (flat_map (sends_of subscriptions) (map (produced late) ps)) ≡ length ps * length subscriptions
+length-sent late subscriptions [] = omega arith
+length-sent late subscriptions (p ∷ ps) =
+    let rest = flat_map (sends_of subscriptions) (map (produced late) ps) in
+    length-append (sends_of subscriptions (produced late p)) rest
+    ∙ ap (λ m. m + length rest) (length-map subscriptions _)
+    ∙ ap (λ m. length subscriptions + m) (length-sent late subscriptions ps)
+    ∙ omega arith
 
--- the first of two, where there is one
-first_stays : (t : Bool) (late : Bool) (old : Option Bool) → (t ≡ true → is_some old ≡ true)
-    → old ≡ option_or old (cond t (Some late) None)
-first_stays true late None some = let h = some refl in cc
-first_stays true late (Some b) some = refl
-first_stays false late None some = refl
-first_stays false late (Some b) some = refl
+-- what is known of the deliveries of one more entry is known of all
+knows_step : (late : List ℕ) (made sent : List Delivery) (count : ℕ) → KnowsLate late made
+    → ((id : RecordId) → id.commit ≡ length late → late_of id sent ≡ nat_lt id.index count)
+    → ((id : RecordId) → id.commit ≢ length late → found_delivery id sent ≡ None)
+    → KnowsLate (late ++ count ∷ []) (made ++ sent)
+knows_step late made sent count knows own other = record {
+  known = λ id. ap (λ o. option_map_or (λ (d : Delivery). d.item.late) o false)
+      (find-append (λ (d : Delivery). same_id d.id id) made sent)
+      ∙ by_commit id ∙ ap (nat_lt id.index) (sym (unwrap_or-slice_get (late ++ count ∷ []) id.commit 0));
+  so_far = λ id past.
+      let beyond : length late + 1 ≤ id.commit = omega (arith, past, length-append late (count ∷ [])) in
+      find-append (λ (d : Delivery). same_id d.id id) made sent
+      ∙ ap (λ o. option_or o (found_delivery id sent)) (knows.so_far id (omega (arith, beyond)))
+      ∙ other id (λ e. omega (arith, e, beyond));
+}
+  where
+    or_none : (o : Option Delivery) → option_or o None ≡ o
+    or_none None = refl
+    or_none (Some d) = refl
 
--- a delivery whose id is known changes nothing
-pub noted_old : (old : List (RecordId × Bool)) (id : RecordId) (late : Bool) → is_some (lookup (is_at (id_cmp id)) old) ≡ true
-    → (q : RecordId) → lookup (is_at (id_cmp q)) old ≡ option_or (lookup (is_at (id_cmp q)) old) (cond (same_id id q) (Some late) None)
-noted_old old id late present q =
-    first_stays (same_id id q) late (lookup (is_at (id_cmp q)) old)
-    (λ same. subst (λ (r : RecordId). is_some (lookup (is_at (id_cmp r)) old) ≡ true) (same_id-true id q same) present)
+    by_commit : (id : RecordId)
+        → option_map_or (λ (d : Delivery). d.item.late) (option_or (found_delivery id made) (found_delivery id sent)) false
+        ≡ nat_lt id.index (get_or (late ++ count ∷ []) id.commit 0)
+    by_commit id = elim (cases_lt id.commit (length late)) [
+      | inl below ↦
+          ap (λ o. option_map_or (λ (d : Delivery). d.item.late) o false)
+          (ap (λ o. option_or (found_delivery id made) o) (other id (λ e. omega (arith, e, below))) ∙ or_none (found_delivery id made))
+          ∙ knows.known id
+          ∙ ap (nat_lt id.index) (unwrap_or-slice_get late id.commit 0 ∙ sym (get_or_append_left late (count ∷ []) 0 id.commit below))
+      | inr le ↦
+          ap (λ o. option_map_or (λ (d : Delivery). d.item.late) (option_or o (found_delivery id sent)) false) (knows.so_far id le)
+          ∙ behind id le
+    ]
+      where
+        behind : (id : RecordId) → length late ≤ id.commit → late_of id sent ≡ nat_lt id.index (get_or (late ++ count ∷ []) id.commit 0)
+        behind id le = elim (cases_lt (length late) id.commit) [
+          | inl above ↦
+              ap (λ o. option_map_or (λ (d : Delivery). d.item.late) o false) (other id (λ e. omega (arith, e, above)))
+              ∙ sym (le-ltb id.index 0 (omega arith))
+              ∙ ap (nat_lt id.index) (sym (ap (λ o. unwrap_or o 0) (slice_get_past (late ++ count ∷ []) id.commit
+              (omega (arith, above, length-append late (count ∷ []))))) ∙ unwrap_or-slice_get (late ++ count ∷ []) id.commit 0)
+          | inr ge ↦
+              let at : id.commit ≡ length late = omega (arith, le, ge) in
+              own id at ∙ ap (nat_lt id.index) (sym (ap (λ k. get_or (late ++ count ∷ []) k 0) at ∙ get_or-append_seam late count [] 0))
+        ]
 
--- whether the first that is found is late
-late_of_two : (a : Option Delivery) (t : Bool) (d : Delivery)
-    → option_or (option_map (λ (d : Delivery). d.item.late) a) (cond t (Some d.item.late) None)
-    ≡ option_map (λ (d : Delivery). d.item.late) (option_or a (cond t (Some d) None))
-late_of_two None true d = refl
-late_of_two None false d = refl
-late_of_two (Some a) t d = refl
-
--- one more delivery that was made is known
-knows_one : (old new : List (RecordId × Bool)) (made : List Delivery) (d : Delivery) → KnowsLate old made
-    → ((q : RecordId) → lookup (is_at (id_cmp q)) new ≡ option_or (lookup (is_at (id_cmp q)) old)
-    (cond (same_id d.id q) (Some d.item.late) None))
-    → KnowsLate new (made ++ d ∷ [])
-knows_one old new made d knows noted q =
-    let test = λ (e : Delivery). same_id e.id q in
-    noted q
-    ∙ ap (λ o. option_or o (cond (same_id d.id q) (Some d.item.late) None)) (knows q)
-    ∙ late_of_two (found_delivery q made) (same_id d.id q) d
-    ∙ sym (ap (option_map (λ (d : Delivery). d.item.late)) (find-append test made (d ∷ [])))
-
--- one more of the deliveries is known
-pub learns_step : (old mid new : List (RecordId × Bool)) (ds : List Delivery) (i : ℕ) (d : Delivery) → i < length ds → d ≡ get_or ds i d
-    → Learns old mid (take i ds)
-    → ((q : RecordId) → lookup (is_at (id_cmp q)) new ≡ option_or (lookup (is_at (id_cmp q)) mid)
-    (cond (same_id d.id q) (Some d.item.late) None))
-    → Learns old new (take (i + 1) ds)
-learns_step old mid new ds i d within is learns noted made knows =
-    let more : take (i + 1) ds ≡ take i ds ++ d ∷ [] = take_more ds i d within ∙ ap (λ x. take i ds ++ x ∷ []) (sym is) in
-    subst (λ (l : List Delivery). KnowsLate new l)
-    (append_assoc made (take i ds) (d ∷ []) ∙ ap (λ l. made ++ l) (sym more))
-    (knows_one mid new (made ++ take i ds) d (learns made knows) noted)
-
--- records go nowhere where there is no subscription
-no_sends : (items : List Record) → flat_map (sends_of []) items ≡ []
-no_sends [] = refl
-no_sends (item ∷ items) = no_sends items
-
--- nothing is sent where there is no subscription
-pub nothing_sent : (commit : ℕ) (items : List Record) → deliveries_to [] commit items ≡ []
-nothing_sent commit items = ap (λ l. map (delivery_at commit) (enumerate_from 0 l)) (no_sends items)
-
--- no delivery is known already
-pub learns_none : (known : List (RecordId × Bool)) (more : List Delivery) → more ≡ [] → Learns known known more
-learns_none known more none made knows =
-    subst (λ (l : List Delivery). KnowsLate known l) (sym (ap (λ l. made ++ l) none ∙ append-nil made)) knows
-
--- a list whose length is tested to be none
-pub empty_list : {X : Type 0} (xs : List X) → (length xs == 0) ≡ true → xs ≡ []
-empty_list [] none = refl
-empty_list (x ∷ xs) none = absurd (omega (arith, eqb-true (length (x ∷ xs)) 0 none))
+-- what is known once one more entry's late deliveries are counted
+pub knows_more : (shape : Shape) (late : List ℕ) (made : List Delivery) (entry : Entry) → KnowsLate late made
+    → KnowsLate (late ++ cond (late_cause made entry) (sends_made shape entry) 0 ∷ [])
+    (made ++ deliveries_of shape made (length late) entry)
+knows_more shape late made entry knows =
+    by_row (row_written entry) (late_cause made entry) (productions_of entry)
+  where
+    by_row : (o : Option RowName) (is_late : Bool) (ps : List Production)
+        → KnowsLate (late ++ cond is_late (option_map_or (λ (row : RowName). length ps * length (consumers_of shape row.part)) o 0) 0 ∷ [])
+        (made ++ option_map_or (λ (row : RowName). deliveries_made shape row.part ps is_late (length late)) o [])
+    by_row None is_late ps = knows_step late made [] _ knows (λ id at. sym (none_sent is_late id)) (λ id apart. refl)
+      where
+        none_sent : (b : Bool) (id : RecordId) → nat_lt id.index (cond b 0 0) ≡ false
+        none_sent true id = le-ltb id.index 0 (omega arith)
+        none_sent false id = le-ltb id.index 0 (omega arith)
+    by_row (Some row) is_late ps =
+        let subscriptions = consumers_of shape row.part in
+        knows_step late made (deliveries_made shape row.part ps is_late (length late)) _ knows
+        (λ id at. late_numbered is_late (length late) 0 _ id at (omega arith) (sent_late is_late subscriptions ps)
+        ∙ ap (λ m. is_late && nat_lt id.index m) (omega (arith, length-sent is_late subscriptions ps))
+        ∙ counted is_late id (length ps * length subscriptions))
+        (λ id apart. none_numbered (length late) 0 _ id apart)
+      where
+        counted : (b : Bool) (id : RecordId) (m : ℕ) → (b && nat_lt id.index m) ≡ nat_lt id.index (cond b m 0)
+        counted true id m = refl
+        counted false id m = sym (le-ltb id.index 0 (omega arith))

@@ -1,5 +1,5 @@
 -- What holds of each element of a list, where the list is joined, filtered or searched.
-use Rattle.std.proofs.Common.{◌≡◌, ℕ, ◌+◌, Bool, true, false, cond, ◌&&◌, List, [], ◌∷◌, ◌++◌, map, refl, sym, ◌∙◌, ap, subst}
+use Rattle.std.proofs.Common.{◌≡◌, ℕ, ◌+◌, Bool, true, false, cond, ◌&&◌, List, [], ◌∷◌, ◌++◌, map, refl, sym, ◌∙◌, ap, subst, append_assoc}
 use Rattle.std.specs.Prelude.{Some, None, unwrap_or, find, filter}
 use Rattle.std.specs.Option.{option_or}
 use Rattle.std.specs.List.{AllByRecursion, enumerate_from, flat_map}
@@ -54,6 +54,10 @@ found_of_each P test (e ∷ es) d each none =
       | true ↦ each.0
       | false ↦ found_of_each P test es d each.1 none
     ]
+
+-- what is appended in two steps is appended at once
+pub append_then : {X : Type 0} (old mid new xs ys : List X) → mid ≡ old ++ xs → new ≡ mid ++ ys → new ≡ old ++ (xs ++ ys)
+append_then old mid new xs ys first next = next ∙ ap (λ l. l ++ ys) first ∙ append_assoc old xs ys
 
 -- ---- searches
 

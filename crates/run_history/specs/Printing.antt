@@ -1,15 +1,17 @@
 -- Which histories can be printed, and what is remembered of their deliveries while they are gone through. Own.
-use Rattle.std.specs.Prelude.{◌≡◌, ◌<◌, ◌≤◌, ◌^◌, Bool, List, ◌++◌, length, All, IfSome}
-use Rattle.std.specs.Option.{option_map}
-use Rattle.std.specs.Map.{lookup}
-use Rattle.std.specs.BTreeMap.{is_at}
+use Rattle.std.specs.Prelude.{◌≡◌, ◌<◌, ◌≤◌, ◌^◌, ◌*◌, ℕ, Bool, false, nat_lt, List, [], None, length, slice_get, unwrap_or, All, IfSome}
+use Rattle.std.specs.Option.{option_map_or}
 use Rattle.mw_types.specs.declared.identity.RecordId.{RecordId}
 use Rattle.mw_types.specs.declared.identity.RowName.{RowName}
 use Rattle.mw_types.specs.declared.delivery.Delivery.{Delivery}
+use Rattle.mw_types.specs.declared.delivery.Emission.{Emission}
 use Rattle.mw_types.specs.declared.entry.Entry.{Entry}
-use Rattle.mw_types.specs.Orders.{id_cmp}
-use Rattle.topology.specs.Shapes.{Shape, parts_of}
-use Rattle.run_history.specs.Made.{found_delivery, row_written, productions_of}
+use Rattle.topology.specs.Shapes.{Shape, parts_of, consumers_of}
+use Rattle.run_history.specs.Made.{found_delivery, row_written, productions_of, emissions_made}
+use Rattle.json.specs.Token.{Token}
+use Rattle.json.specs.Tree.{json_tokens}
+use Rattle.serde_json.specs.Data.{Data}
+use Rattle.serde_json.specs.Written.{outline}
 
 -- the part that an entry is on is there
 abbrev pub IsOnPart : Shape → Entry → Type 0
@@ -23,11 +25,28 @@ pub record IsPrintable (shape : Shape) (history : List Entry) : Type 0 where
 
 -- ---- what no public clause cites
 
--- of each id that was made it is known whether its delivery is late, and of no other
-abbrev pub KnowsLate : List (RecordId × Bool) → List Delivery → Type 0
-KnowsLate known made = (id : RecordId) →
-    lookup (is_at (id_cmp id)) known ≡ option_map (λ (d : Delivery). d.item.late) (found_delivery id made)
+-- the tokens that are written for a value
+abbrev pub tokens_of : Data → List Token
+tokens_of value = json_tokens (outline value)
 
--- what was known of some deliveries is then known of these too
-abbrev pub Learns : List (RecordId × Bool) → List (RecordId × Bool) → List Delivery → Type 0
-Learns old new more = (made : List Delivery) → KnowsLate old made → KnowsLate new (made ++ more)
+-- how many deliveries an entry makes: one of each production to each consumer of its part
+abbrev pub sends_made : Shape → Entry → ℕ
+sends_made shape entry = option_map_or
+    (λ (row : RowName). length (productions_of entry) * length (consumers_of shape row.part))
+    (row_written entry) 0
+
+-- the emissions that an entry makes, by whether its cause is late
+abbrev pub emissions_by : Shape → Bool → ℕ → Entry → List Emission
+emissions_by shape late commit entry = option_map_or
+    (λ (row : RowName). emissions_made shape row.part (productions_of entry) late commit)
+    (row_written entry) []
+
+-- whether a delivery of this id is late, by how many late deliveries each entry made
+abbrev pub is_late_id : List ℕ → RecordId → Bool
+is_late_id late id = nat_lt id.index (unwrap_or (slice_get late id.commit) 0)
+
+-- each delivery that was made is late or not as these numbers say, one of each entry so far
+pub record KnowsLate (late : List ℕ) (made : List Delivery) : Type 0 where
+  pub known : (id : RecordId) →
+      option_map_or (λ (d : Delivery). d.item.late) (found_delivery id made) false ≡ is_late_id late id
+  pub so_far : (id : RecordId) → length late ≤ id.commit → found_delivery id made ≡ None

@@ -4,8 +4,7 @@ ghost use Rattle.run_history.specs.HistoryLines.{line_of_entry, lines_of_history
 
 use crate::entry_values::entry_value;
 use crate::history::History;
-use crate::text::append;
-use mw_types::{Bytes, Entry, NoMemory, Seq};
+use mw_types::{Bytes, Entry, NoMemory};
 use std::alloc::Global;
 
 /// The line of an entry under its commit number, with its LF.
@@ -14,9 +13,9 @@ pub fn entry_line(alloc: Global, entry: &Entry, n: u64) -> Result<Bytes, NoMemor
 
     ensures written { IfOk result (λ line. line ≡ line_of_entry n entry.now) }
 {
-    let mut line = Seq::new(alloc);
+    let mut line = Vec::new(alloc);
     write_entry(alloc, &mut line, entry, n)?;
-    Ok(line)
+    Ok(Bytes::from_vec(line))
 }
 
 /// The lines of a history, in the order of its entries, which count from 0.
@@ -25,19 +24,20 @@ pub fn history_lines(alloc: Global, history: &History) -> Result<Bytes, NoMemory
 
     ensures written { IfOk result (λ lines. lines ≡ lines_of_history history.now) }
 {
-    let mut lines = Seq::new(alloc);
+    let mut lines = Vec::new(alloc);
     for (n, entry) in history.entries().iter().enumerate() {
         write_entry(alloc, &mut lines, entry, n as u64)?;
     }
-    Ok(lines)
+    Ok(Bytes::from_vec(lines))
 }
 
 // Appends the line of an entry.
-fn write_entry(alloc: Global, lines: &mut Bytes, entry: &Entry, n: u64) -> Result<(), NoMemory>
+fn write_entry(alloc: Global, lines: &mut Vec<u8>, entry: &Entry, n: u64) -> Result<(), NoMemory>
     requires { HasLine entry.now }
-    ensures { OnOk result (lines.new ≡ lines.old ++ line_of_entry n entry.now) }
+    ensures { OnOk result (lines.new.items ≡ lines.old.items ++ line_of_entry n entry.now) }
 {
-    append(lines, entry_text(alloc, entry, n)?.as_bytes())
+    lines.extend_from_slice(entry_text(alloc, entry, n)?.as_bytes())?;
+    Ok(())
 }
 
 // The line of an entry, as a text.

@@ -12,7 +12,6 @@ mod entry_lines;
 mod entry_values;
 mod first;
 mod history;
-mod lateness;
 mod line;
 mod made;
 mod text;

@@ -1,11 +1,11 @@
 //! One line of the result, in its order and as text.
-ghost use Rattle.std.specs.Prelude.{◌≡◌, IfOk, string_bytes};
+ghost use Rattle.std.specs.Prelude.{◌≡◌, ◌++◌, ◌∷◌, [], IfOk, OnOk};
+ghost use Rattle.json.specs.Token.{key, string};
 ghost use Rattle.run_history.specs.Texts.{line_data, as_line};
-ghost use Rattle.serde_json.specs.View.{view};
+ghost use Rattle.run_history.specs.Printing.{tokens_of};
 
+use json::Writer;
 use mw_types::{Key, Name, NoMemory};
-use serde_json::{Value, json};
-use std::alloc::Global;
 use std::marker::Model;
 
 /// What one line of the result tells of an emission. Lines stand in the order of these fields.
@@ -32,23 +32,43 @@ impl Model for ResultLine {
 }
 
 impl ResultLine {
-    // The line's text, with its LF.
-    pub(crate) fn text(&self, alloc: Global) -> Result<String, NoMemory>
-        ensures { IfOk result (λ text. string_bytes text ≡ as_line (line_data self.now)) }
+    // The line's text, with its LF, in a buffer that holds nothing.
+    pub(crate) fn text(&self, buffer: Vec<u8>) -> Result<Vec<u8>, NoMemory>
+        requires { buffer.items ≡ [] }
+        ensures { IfOk result (λ text. text.items ≡ as_line (line_data self.now)) }
     {
-        let mut text = self.object(alloc)?.to_string(alloc)?;
-        text.push('\n')?;
+        let mut writer = Writer::new(buffer);
+        self.write(&mut writer)?;
+        let mut text = writer.into_inner();
+        text.push(b'\n')?;
         Ok(text)
     }
 
-    // The line as an object.
-    fn object(&self, alloc: Global) -> Result<Value, NoMemory>
-        ensures { IfOk result (λ value. view value ≡ line_data self.now) }
+    // Writes the line as an object.
+    fn write(&self, writer: &mut Writer) -> Result<(), NoMemory>
+        ensures before { OnOk result (writer.new.before ≡ writer.old.before) }
+        ensures object { OnOk result
+            (writer.new.tokens ≡ writer.old.tokens ++ tokens_of (line_data self.now)) }
     {
-        let key = self.key.text();
-        let stream = self.stream.text();
-        let value =
-            json!(in alloc; {"key": key, "stream": stream, "ts": self.stamp, "value": self.value})?;
-        Ok(value)
+        writer.begin_object()?;
+        write_text(writer, "key", self.key.text())?;
+        write_text(writer, "stream", self.stream.text())?;
+        writer.key("ts")?;
+        writer.u64(self.stamp)?;
+        writer.key("value")?;
+        writer.i64(self.value)?;
+        writer.end_object()?;
+        Ok(())
     }
+}
+
+// Writes a member that is a text.
+fn write_text(writer: &mut Writer, name: &str, text: &str) -> Result<(), NoMemory>
+    ensures before { OnOk result (writer.new.before ≡ writer.old.before) }
+    ensures member { OnOk result
+        (writer.new.tokens ≡ writer.old.tokens ++ key name.now ∷ string text.now ∷ []) }
+{
+    writer.key(name)?;
+    writer.string(text)?;
+    Ok(())
 }

@@ -78,7 +78,7 @@ pub(crate) fn consumers(topology: &Topology, part: u32) -> &[Subscription]
 }
 
 // The deliveries of productions to consumers.
-pub(crate) fn deliveries(
+fn deliveries(
     alloc: Global,
     consumers: &[Subscription],
     productions: &[Production],

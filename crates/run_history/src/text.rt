@@ -11,10 +11,13 @@ use crate::case::Case;
 use crate::emitted::emissions;
 use crate::history::History;
 use crate::line::ResultLine;
-use mw_types::{Bytes, Duplicate, Emission, Entry, Name, NoMemory, Seq};
+use mw_types::{Bytes, Duplicate, Emission, Entry, Name, NoMemory};
 use serde_json::{Value, json};
 use std::alloc::Global;
 use topology::Topology;
+
+// Room for a line of the usual length.
+const LINE_ROOM: usize = 128;
 
 /// The result of a history: its emissions as sorted lines, and a summary line.
 pub fn result_text(alloc: Global, case: &Case, history: &History) -> Result<Bytes, NoMemory>
@@ -24,10 +27,10 @@ pub fn result_text(alloc: Global, case: &Case, history: &History) -> Result<Byte
 {
     let emissions = emissions(alloc, case, history)?;
     let lines = sorted_lines(alloc, &case.topology, emissions.as_slice())?;
-    let mut text = Seq::new(alloc);
+    let mut text = Vec::new(alloc);
     write_lines(alloc, &mut text, &lines)?;
     write_summary(alloc, &mut text, history.entries())?;
-    Ok(text)
+    Ok(Bytes::from_vec(text))
 }
 
 // The lines of emissions, in order.
@@ -76,33 +79,30 @@ fn line(alloc: Global, topology: &Topology, emission: &Emission) -> Result<Resul
 }
 
 // Appends the texts of lines.
-fn write_lines(alloc: Global, text: &mut Bytes, lines: &[ResultLine]) -> Result<(), NoMemory>
-    ensures { OnOk result
-        (text.new ≡ text.old ++ flat_map (λ line. as_line (line_data line)) lines.now) }
+fn write_lines(alloc: Global, text: &mut Vec<u8>, lines: &[ResultLine]) -> Result<(), NoMemory>
+    ensures { OnOk result (text.new.items
+        ≡ text.old.items ++ flat_map (λ line. as_line (line_data line)) lines.now) }
 {
+    // One buffer serves all lines: a writer clears the room ahead of it.
+    let mut buffer = Vec::with_capacity(alloc, LINE_ROOM)?;
     for line in lines {
-        append(text, line.text(alloc)?.as_bytes())?;
-    }
-    Ok(())
-}
-
-// Appends bytes.
-pub(crate) fn append(text: &mut Bytes, more: &[u8]) -> Result<(), NoMemory>
-    ensures { OnOk result (text.new ≡ text.old ++ more.now) }
-{
-    for byte in more {
-        text.push(*byte)?;
+        let written = line.text(buffer)?;
+        text.extend_from_slice(&written)?;
+        buffer = written;
+        buffer.clear();
     }
     Ok(())
 }
 
 // Appends the summary of entries, with its LF.
-fn write_summary(alloc: Global, text: &mut Bytes, entries: &[Entry]) -> Result<(), NoMemory>
-    ensures { OnOk result (text.new ≡ text.old ++ as_line (summary_data entries.now)) }
+fn write_summary(alloc: Global, text: &mut Vec<u8>, entries: &[Entry]) -> Result<(), NoMemory>
+    ensures { OnOk result (text.new.items
+        ≡ text.old.items ++ as_line (summary_data entries.now)) }
 {
-    let mut line = summary(alloc, entries)?.to_string(alloc)?;
-    line.push('\n')?;
-    append(text, line.as_bytes())
+    let line = summary(alloc, entries)?.to_string(alloc)?;
+    text.extend_from_slice(line.as_bytes())?;
+    text.push(b'\n')?;
+    Ok(())
 }
 
 // The summary of entries, as an object.

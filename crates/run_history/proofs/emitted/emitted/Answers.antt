@@ -5,7 +5,7 @@ use Rattle.run_history.proofs.Reaching.{reached_none, reached_step}
 use Rattle.run_history.proofs.emitted.emitted.Goals as goal
 
 pub loop-commit-init : goal.loop-commit-init
-loop-commit-init c = reached_none _ _ _ _ c.new-lateness.ensures c.new-emissions.ensures.empty
+loop-commit-init c = reached_none _ _ _ _ c.new-late.ensures.empty c.new-emissions.ensures.empty
 
 pub loop-commit-preserved : goal.loop-commit-preserved
 loop-commit-preserved c =
