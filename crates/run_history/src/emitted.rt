@@ -32,7 +32,7 @@ fn emitted(alloc: Global, topology: &Topology, entries: &[Entry]) -> Result<Emis
     ensures emitted { IfOk result (λ all. all ≡ (run_of topology.now entries.now).emissions) }
     ensures parts { IfOk result (λ all. All (λ e. e.part < parts_of topology.now) all) }
 {
-    let mut late = NumberList::new(alloc);
+    let mut late = NumberList::from_vec(Vec::with_capacity(alloc, entries.len())?);
     let mut emissions = Seq::new(alloc);
     for (commit, entry) in entries.iter().enumerate() {
         follow(

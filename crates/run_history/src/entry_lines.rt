@@ -4,6 +4,7 @@ ghost use Rattle.run_history.specs.HistoryLines.{line_of_entry, lines_of_history
 
 use crate::entry_values::entry_value;
 use crate::history::History;
+use crate::text::LINE_ROOM;
 use mw_types::{Bytes, Entry, NoMemory};
 use std::alloc::Global;
 
@@ -24,7 +25,7 @@ pub fn history_lines(alloc: Global, history: &History) -> Result<Bytes, NoMemory
 
     ensures written { IfOk result (λ lines. lines ≡ lines_of_history history.now) }
 {
-    let mut lines = Vec::new(alloc);
+    let mut lines = Vec::with_capacity(alloc, LINE_ROOM)?;
     for (n, entry) in history.entries().iter().enumerate() {
         write_entry(alloc, &mut lines, entry, n as u64)?;
     }

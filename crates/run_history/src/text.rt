@@ -16,8 +16,8 @@ use serde_json::{Value, json};
 use std::alloc::Global;
 use topology::Topology;
 
-// Room for a line of the usual length.
-const LINE_ROOM: usize = 128;
+// Room for a line of the usual length. A text that begins with it grows to powers of two.
+pub(crate) const LINE_ROOM: usize = 128;
 
 /// The result of a history: its emissions as sorted lines, and a summary line.
 pub fn result_text(alloc: Global, case: &Case, history: &History) -> Result<Bytes, NoMemory>
@@ -27,7 +27,7 @@ pub fn result_text(alloc: Global, case: &Case, history: &History) -> Result<Byte
 {
     let emissions = emissions(alloc, case, history)?;
     let lines = sorted_lines(alloc, &case.topology, emissions.as_slice())?;
-    let mut text = Vec::new(alloc);
+    let mut text = Vec::with_capacity(alloc, LINE_ROOM)?;
     write_lines(alloc, &mut text, &lines)?;
     write_summary(alloc, &mut text, history.entries())?;
     Ok(Bytes::from_vec(text))

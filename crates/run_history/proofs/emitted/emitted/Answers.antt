@@ -1,11 +1,11 @@
-use Rattle.std.proofs.Common.{◌<◌, sym, subst, length, arith}
+use Rattle.std.proofs.Common.{◌<◌, ◌∙◌, sym, subst, length, arith}
 use Rattle.mw_types.specs.declared.entry.Entry.{Entry}
 use Rattle.run_history.specs.Printing.{IsOnPart}
 use Rattle.run_history.proofs.Reaching.{reached_none, reached_step}
 use Rattle.run_history.proofs.emitted.emitted.Goals as goal
 
 pub loop-commit-init : goal.loop-commit-init
-loop-commit-init c = reached_none _ _ _ _ c.new-late.ensures.empty c.new-emissions.ensures.empty
+loop-commit-init c = reached_none _ _ _ _ (c.from_vec-late.ensures ∙ c.in_ok-with_capacity.ensures.items) c.new-emissions.ensures.empty
 
 pub loop-commit-preserved : goal.loop-commit-preserved
 loop-commit-preserved c =
