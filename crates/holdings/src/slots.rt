@@ -86,6 +86,7 @@ impl Slots {
             self.rows.pop();
             return Err(NoMemory);
         }
+        self.last.set(at);
         Ok(())
     }
 

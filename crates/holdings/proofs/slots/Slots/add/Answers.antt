@@ -11,8 +11,8 @@ use Rattle.holdings.proofs.SlotLaws.{no_place, placed-add, slots-add}
 use Rattle.holdings.proofs.slots.Slots.add.Goals as goal
 
 -- the places of the names, with one more
-pub invariant_of-self-in_default : goal.invariant_of-self-in_default
-invariant_of-self-in_default c =
+pub invariant_of-self-2 : goal.invariant_of-self-2
+invariant_of-self-2 c =
     let rows = c.self.inside.rows.items in
     let places = c.self.inside.places.entries in
     let row : NamedRow = record { name = c.args.name; row = c.args.row } in
