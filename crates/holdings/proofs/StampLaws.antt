@@ -1,4 +1,4 @@
--- The stamps of rows, one a row: they are changed with one row, and the least of them is the oldest work.
+-- The stamps of rows, one a row that has work: they are changed with one row, and the least of them is the oldest work.
 use Rattle.std.proofs.Common.{◌≡◌, ◌≢◌, ◌<◌, ◌≤◌, ◌+◌, ◌-◌, ℕ, zero, suc, List, [], ◌∷◌, length, map, refl, sym, ◌∙◌, ap, subst, arith, inl, inr, sum_by}
 use Rattle.std.specs.Prelude.{Box, Contains, Err, IfOk, IfSome, None, Ok, OnOk, Option, Result, Some, unwrap_or}
 use Rattle.std.specs.Option.{option_and_then, option_map}

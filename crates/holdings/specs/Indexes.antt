@@ -14,7 +14,7 @@ use Rattle.holdings.specs.Dues.{AreDues}
 use Rattle.holdings.specs.Seens.{AreSeen}
 use Rattle.holdings.specs.declared.index.Index.{Index}
 
--- ---- the oldest work, one stamp a row
+-- ---- the oldest work, one stamp a row that has any
 
 -- the oldest work of a row, or the end where it has none
 abbrev pub work_of : Contents → ℕ

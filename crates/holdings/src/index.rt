@@ -22,8 +22,8 @@ use std::alloc::Global;
 use std::collections::BTreeMap;
 use watermark::Oldest;
 
-// What is kept beside rows: the oldest work of each that has any, of which the least is asked, the first timer of
-// each, of which the first is asked, and the names of those that have seen ids.
+// What is kept beside rows: the oldest work of each that has any, of which the least is asked, the
+// first timer of each, of which the first is asked, and the names of those that have seen ids.
 #[derive(Drop)]
 pub(crate) struct Index {
     pub(crate) work: Oldest,
@@ -176,8 +176,7 @@ fn change(stamps: &mut Oldest, before: u64, after: u64) -> Result<(), NoMemory>
     add_stamp(stamps, after)
 }
 
-// One stamp more. The end is none, since most rows have no work, and a write that leaves none is to
-// cost nothing here.
+// One stamp more. The end is none: a row without work costs nothing here.
 fn add_stamp(stamps: &mut Oldest, stamp: u64) -> Result<(), NoMemory>
     ensures added { OnOk result (HasRestamped None stamp stamps.old stamps.new) }
 {
