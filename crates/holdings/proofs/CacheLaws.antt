@@ -270,3 +270,15 @@ pub names-each_set : (P : RowName → Type 0) (rows : List NamedRow) (at : ℕ) 
 names-each_set P [] at row d within each = absurd (omega (arith, within))
 names-each_set P (r ∷ rows) zero row d within each = each
 names-each_set P (r ∷ rows) (suc at) row d within each = (each.0, names-each_set P rows at row d (omega (arith, within)) each.1)
+
+-- what is beside a list is none of it
+pub none-beside : (answered : List NamedRow) (others : List (RowName × Contents)) (name : RowName) (row : Contents)
+    → AllByRecursion (λ (r : NamedRow). lookup (is_at (row_cmp r.name)) others ≡ None) answered
+    → lookup (is_at (row_cmp name)) others ≡ Some row → lookup (is_at (row_cmp name)) (map named answered) ≡ None
+none-beside [] others name row apart found = refl
+none-beside (r ∷ answered) others name row apart found =
+    elim (is_at (row_cmp name) r.name) as (λ b. is_at (row_cmp name) r.name ≡ b
+    → cond b (Some r.row) (lookup (is_at (row_cmp name)) (map named answered)) ≡ None) [
+      | true ↦ λ tie. absurd (none_some row (sym apart.0 ∙ ap (λ (n : RowName). lookup (is_at (row_cmp n)) others) (sym (same_row name r.name tie)) ∙ found))
+      | false ↦ λ _. none-beside answered others name row apart.1 found
+    ] refl

@@ -1,12 +1,11 @@
 -- What is held of each interval, by its number.
-use Rattle.std.proofs.Common.{◌≡◌, ◌≢◌, ◌<◌, ◌≤◌, ℕ, zero, suc, List, [], ◌∷◌, ◌++◌, length, get_or, refl, sym, ◌∙◌, ap, subst, arith, inl, inr}
+use Rattle.std.proofs.Common.{◌≡◌, ◌≢◌, ◌<◌, ◌≤◌, ℕ, zero, suc, List, [], ◌∷◌, ◌++◌, length, get_or, refl, sym, ◌∙◌, ap, arith, inl, inr}
 use Rattle.std.specs.Prelude.{Option, Some, None, slice_set, unwrap_or, ◌⊎◌}
 use Rattle.std.proofs.lemmas.Bool.{cases_lt}
 use Rattle.std.proofs.lemmas.List.{length-set, get_or-set_same, get_or-set_other}
 use Rattle.std.proofs.lemmas.Option.{slice_get_past, unwrap_or-slice_get}
 use Rattle.run_history.proofs.Lists.{none_some}
 use Rattle.holdings.specs.Holding.{HeldView, KeepsOthers, held_at}
-use Rattle.holdings.specs.Steps.{KeepsAll}
 
 -- what is held of an interval is what stands at its place
 held-is : (all : List (Option HeldView)) (i : ℕ) → held_at all i ≡ get_or all i None
@@ -47,26 +46,9 @@ number_or_not i j = by_less (cases_lt j i) (cases_lt i j)
     by_less (inr at) (inl more) = inr (λ e. omega (arith, e, more))
     by_less (inr at) (inr most) = inl (omega (arith, at, most))
 
--- what was taken out of its place and put back is held as before
-pub held-back : (all : List (Option HeldView)) (i : ℕ) (held : HeldView) → held_at all i ≡ Some held
-    → KeepsAll all (slice_set (slice_set all i None) i (Some held))
-held-back all i held is j = elim (number_or_not i j) [
-  | inl same ↦ subst (λ n. held_at (slice_set (slice_set all i None) i (Some held)) n ≡ held_at all n) (sym same)
-      (held-here (slice_set all i None) i (Some held)
-      (let within = held-within all i held is in let l = length-set all i None in omega (arith, within, l)) ∙ sym is)
-  | inr apart ↦ held-others (slice_set all i None) i (Some held) j apart ∙ held-others all i None j apart
-]
-
 -- one more free place changes nothing
 pub held-push : (all : List (Option HeldView)) (i : ℕ) → held_at (all ++ None ∷ []) i ≡ held_at all i
 held-push [] zero = refl
 held-push [] (suc i) = refl
 held-push (x ∷ xs) zero = refl
 held-push (x ∷ xs) (suc i) = held-push xs i
-
--- what was taken out of its place and put back leaves all as it was
-pub put-back : (all : List (Option HeldView)) (i : ℕ) (held : HeldView) → held_at all i ≡ Some held
-    → slice_set (slice_set all i None) i (Some held) ≡ all
-put-back [] i held is = absurd (none_some held is)
-put-back (x ∷ all) zero held is = ap (λ (o : Option HeldView). o ∷ all) (sym is)
-put-back (x ∷ all) (suc i) held is = ap (λ (l : List (Option HeldView)). x ∷ l) (put-back all i held is)

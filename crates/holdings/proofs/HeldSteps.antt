@@ -1,12 +1,11 @@
 -- What is held fits its desk after each call.
-use Rattle.std.proofs.Common.{◌≡◌, ◌≢◌, ◌<◌, ℕ, List, [], ◌∷◌, length, refl, sym, ◌∙◌, ap, subst, arith, inl, inr}
+use Rattle.std.proofs.Common.{◌≡◌, ◌≢◌, ◌<◌, ℕ, List, [], ◌∷◌, refl, sym, ◌∙◌, ap, subst, inl, inr}
 use Rattle.std.specs.Prelude.{Err, IfOk, IfSome, IsSome, MatchResult, None, Ok, OnErr, Option, Result, Some, unwrap_or}
 use Rattle.std.specs.Option.{is_some}
 use Rattle.std.specs.BTreeMap.{insert_entry}
 use Rattle.std.specs.Ordering.{match_ordering}
 use Rattle.std.specs.Cmp.{tied_itself}
 use Rattle.std.specs.declared.cmp.Ordering.TheVariants.{Less, Equal, Greater}
-use Rattle.std.proofs.lemmas.List.{length-set}
 use Rattle.mw_types.specs.Orders.{row_cmp}
 use Rattle.mw_types.specs.declared.identity.RowName.{RowName}
 use Rattle.mw_types.proofs.OrderLaws.{row_cmp-total}
@@ -24,7 +23,7 @@ use Rattle.book.specs.declared.desk_refusal.DeskRefusal.{DeskRefusal}
 use Rattle.holdings.specs.Holding.{AreHeld, HasSeenOthers, HeldView, HoldsEntry, IsHeld, KeepsHeld, KeepsOthers, held_at, row_held, with_row}
 use Rattle.holdings.specs.Steps.{IsReady, KeepsAll}
 use Rattle.holdings.proofs.HeldRows.{AreRowsHeld-cached, AreRowsHeld-elsewhere, AreRowsHeld-entered, AreRowsHeld-looked, AreRowsHeld-more, HasEntered, found-here, held-known, row_held-same}
-use Rattle.holdings.proofs.HeldPlaces.{held-others, held-within, number_or_not}
+use Rattle.holdings.proofs.HeldPlaces.{held-here, held-others, held-within, number_or_not}
 
 -- ---- one row put twice
 
@@ -100,18 +99,30 @@ AreHeld-here case desk after i left here fits others = record {
   ];
 }
 
+-- what follows of each value that is there follows where one is
+pub some-so : {T : Type 0} (P : T → Type 0) (o : Option T) → ((x : T) → o ≡ Some x → P x) → IfSome o P
+some-so P (Some x) so = so x refl
+some-so P None so = tt
+
 -- what follows from each acceptance follows from an accepted one
 pub ok-so : {T E : Type 0} (P Q : T → Type 0) (result : Result T E) → ((x : T) → P x → Q x) → IfOk result P → IfOk result Q
 ok-so P Q (Ok x) so is = so x is
 ok-so P Q (Err e) so is = tt
 
-module _ (case : CaseShape) (desk : DeskView) (all gone : List (Option HeldView)) (i : ℕ) (name : RowName) (left : HeldView)
-    (lies : interval_of case.topology name ≡ Some i) (ready : IsReady case.topology i name all gone left) (are : AreHeld case desk all) where
-  -- what is taken out fits, with the row cached
+module _ (case : CaseShape) (desk : DeskView) (all mid : List (Option HeldView)) (i : ℕ) (name : RowName) (left : HeldView)
+    (lies : interval_of case.topology name ≡ Some i) (ready : IsReady case.topology i name all mid) (at : held_at mid i ≡ Some left)
+    (are : AreHeld case desk all) where
+  -- what is held has the row cached, as it was
+  pub left-ready : left ≡ with_row name (row_held case.topology ready.held name) ready.held
+  left-ready = some_same left (with_row name (row_held case.topology ready.held name) ready.held)
+      (sym at ∙ ap (λ l. held_at l i) ready.is
+      ∙ held-here all i (Some (with_row name (row_held case.topology ready.held name) ready.held)) (held-within all i ready.held ready.was))
+
+  -- what is held fits, with the row cached
   pub IsHeld-ready : IsHeld case desk i left
   IsHeld-ready =
       let was = are.each i ready.held ready.was in
-      subst (IsHeld case desk i) (sym ready.is) (record {
+      subst (IsHeld case desk i) (sym left-ready) (record {
         of_interval = was.of_interval;
         may_use = was.may_use;
         rows = AreRowsHeld-cached case desk name ready.held (lies ∙ ap Some (sym was.of_interval)) was.rows;
@@ -123,23 +134,20 @@ module _ (case : CaseShape) (desk : DeskView) (all gone : List (Option HeldView)
 
   -- the row is held as before
   pub row-ready : row_held case.topology left name ≡ row_held case.topology ready.held name
-  row-ready = ap (λ (h : HeldView). row_held case.topology h name) ready.is ∙ row_held-same case.topology name name ready.held
+  row-ready = ap (λ (h : HeldView). row_held case.topology h name) left-ready ∙ row_held-same case.topology name name ready.held
 
   -- the lease is as before
   pub lease-ready : left.lease ≡ ready.held.lease
-  lease-ready = ap (λ (h : HeldView). h.lease) ready.is
+  lease-ready = ap (λ (h : HeldView). h.lease) left-ready
 
   -- the row is cached
   pub there-ready : IsSome (row_in (cached left.rows) name)
-  there-ready = subst (λ (h : HeldView). IsSome (row_in (cached h.rows) name)) (sym ready.is)
+  there-ready = subst (λ (h : HeldView). IsSome (row_in (cached h.rows) name)) (sym left-ready)
       (ap is_some (found-here name (row_held case.topology ready.held name) ready.held))
 
-  -- the place is there
-  pub room-ready : i < length gone
-  room-ready =
-      let within = held-within all i ready.held ready.was in
-      let whole = ap length ready.gone in
-      let same = length-set all i None in omega (arith, within, whole, same)
+  -- the row is cached at the interval's place
+  pub stays-ready : IfSome (held_at mid i) (λ held. IsSome (row_in (cached held.rows) name))
+  stays-ready = subst (λ (o : Option HeldView). IfSome o (λ held. IsSome (row_in (cached held.rows) name))) (sym at) there-ready
 
   -- the row that is read is the one that is held
   pub read-ready : (row : Contents) → row_in (cached left.rows) name ≡ Some row → row ≡ row_held case.topology left name
@@ -164,16 +172,28 @@ module _ (case : CaseShape) (desk : DeskView) (all gone : List (Option HeldView)
   known-ready lease row is same part found = subst (λ (l : LeaseView). IsRowKnown desk l name row) (sym is)
       (held-known case desk name left row same IsHeld-ready.rows lies-ready part (read-ready row found))
 
-module _ (case : CaseShape) (old new : DeskView) (all gone after : List (Option HeldView)) (i : ℕ) (name : RowName) (left : HeldView)
-    (lies : interval_of case.topology name ≡ Some i) (ready : IsReady case.topology i name all gone left) (are : AreHeld case old all)
-    (others : KeepsOthers i gone after) (lease : LeaseView) (lease_is : lease ≡ left.lease) where
+module _ (case : CaseShape) (old new : DeskView) (all mid after : List (Option HeldView)) (i : ℕ) (name : RowName) (left : HeldView)
+    (lies : interval_of case.topology name ≡ Some i) (ready : IsReady case.topology i name all mid) (at : held_at mid i ≡ Some left)
+    (are : AreHeld case old all) (others : KeepsOthers i mid after) (lease : LeaseView) (lease_is : lease ≡ left.lease) where
   -- what is held of the interval fits before the entry
   fits : IsHeld case old i left
-  fits = IsHeld-ready case old all gone i name left lies ready are
+  fits = IsHeld-ready case old all mid i name left lies ready at are
+
+  -- what is held has the row cached
+  is-ready : left ≡ with_row name (row_held case.topology ready.held name) ready.held
+  is-ready = left-ready case old all mid i name left lies ready at are
 
   -- what is held of other intervals is as before
   kept-others : KeepsOthers i all after
-  kept-others j apart = others j apart ∙ ap (λ l. held_at l j) ready.gone ∙ held-others all i None j apart
+  kept-others j apart = others j apart ∙ ap (λ l. held_at l j) ready.is
+      ∙ held-others all i (Some (with_row name (row_held case.topology ready.held name) ready.held)) j apart
+
+  -- what is held of the interval after a write
+  kept-here : (written : Result Written DeskRefusal) → IfSome (held_at mid i) (λ held. MatchResult written
+      (λ (w : Written). held_at after i ≡ Some (with_row name w.row held)) (λ _. held_at after i ≡ Some held))
+      → MatchResult written (λ (w : Written). held_at after i ≡ Some (with_row name w.row left)) (λ _. held_at after i ≡ Some left)
+  kept-here written here = subst (λ (o : Option HeldView). IfSome o (λ held. MatchResult written
+      (λ (w : Written). held_at after i ≡ Some (with_row name w.row held)) (λ _. held_at after i ≡ Some held))) at here
 
   -- all that is held fits after an entry on the row
   AreHeld-entered : old.case ≡ case → IsSound old → IsSound new → (answer : Written) → held_at after i ≡ Some (with_row name answer.row left)
@@ -200,41 +220,41 @@ module _ (case : CaseShape) (old new : DeskView) (all gone after : List (Option 
 
   -- all that is held fits after a write, whatever was answered
   pub AreHeld-kept : old.case ≡ case → IsSound old → IsSound new → (written : Result Written DeskRefusal)
-      → MatchResult written (λ (w : Written). held_at after i ≡ Some (with_row name w.row left)) (λ _. held_at after i ≡ Some left)
-      → IfOk written (HasEntered old new lease name) → OnErr written (HasLooked old new) → AreHeld case new after
-  AreHeld-kept same sound now (Ok answer) here by looked = AreHeld-entered same sound now answer here
+      → IfSome (held_at mid i) (λ held. MatchResult written (λ (w : Written). held_at after i ≡ Some (with_row name w.row held))
+      (λ _. held_at after i ≡ Some held)) → IfOk written (HasEntered old new lease name) → OnErr written (HasLooked old new) → AreHeld case new after
+  AreHeld-kept same sound now (Ok answer) here by looked = AreHeld-entered same sound now answer (kept-here (Ok answer) here)
       (subst (λ (l : LeaseView). HasEntered old new l name answer) lease_is by)
-  AreHeld-kept same sound now (Err why) here by looked = AreHeld-refused same sound now here looked
+  AreHeld-kept same sound now (Err why) here by looked = AreHeld-refused same sound now (kept-here (Err why) here) looked
 
   -- a refused write keeps what is held
   pub KeepsHeld-refused : (written : Result Written DeskRefusal) (result : Result ℕ DeskRefusal)
       → MatchResult written (λ (w : Written). result ≡ Ok w.commit) (λ why. result ≡ Err why)
-      → MatchResult written (λ (w : Written). held_at after i ≡ Some (with_row name w.row left)) (λ _. held_at after i ≡ Some left)
-      → OnErr result (KeepsHeld case.topology all after)
+      → IfSome (held_at mid i) (λ held. MatchResult written (λ (w : Written). held_at after i ≡ Some (with_row name w.row held))
+      (λ _. held_at after i ≡ Some held)) → OnErr result (KeepsHeld case.topology all after)
   KeepsHeld-refused (Ok answer) result is here = subst (λ (r : Result ℕ DeskRefusal). OnErr r (KeepsHeld case.topology all after)) (sym is) tt
   KeepsHeld-refused (Err why) result is here = subst (λ (r : Result ℕ DeskRefusal). OnErr r (KeepsHeld case.topology all after)) (sym is) (record {
-    there = λ j held at. elim (number_or_not i j) [
+    there = λ j held there. elim (number_or_not i j) [
       | inl equal ↦
-          let held_is : ready.held ≡ held = some_same ready.held held (sym ready.was ∙ sym (ap (held_at all) equal) ∙ at) in (
+          let held_is : ready.held ≡ held = some_same ready.held held (sym ready.was ∙ sym (ap (held_at all) equal) ∙ there) in (
             left,
-            ap (held_at after) equal ∙ here,
-            ap (λ (h : HeldView). h.lease) ready.is ∙ ap (λ (h : HeldView). h.lease) held_is,
-            λ other. ap (λ (h : HeldView). row_held case.topology h other) ready.is ∙ row_held-same case.topology name other ready.held
+            ap (held_at after) equal ∙ kept-here (Err why) here,
+            ap (λ (h : HeldView). h.lease) is-ready ∙ ap (λ (h : HeldView). h.lease) held_is,
+            λ other. ap (λ (h : HeldView). row_held case.topology h other) is-ready ∙ row_held-same case.topology name other ready.held
                 ∙ ap (λ (h : HeldView). row_held case.topology h other) held_is,
           )
-      | inr apart ↦ (held, kept-others j apart ∙ at, refl, λ other. refl)
+      | inr apart ↦ (held, kept-others j apart ∙ there, refl, λ other. refl)
     ];
-    none = λ j at. elim (number_or_not i j) [
-      | inl equal ↦ absurd (none_some ready.held (sym at ∙ ap (held_at all) equal ∙ ready.was))
-      | inr apart ↦ kept-others j apart ∙ at
+    none = λ j none. elim (number_or_not i j) [
+      | inl equal ↦ absurd (none_some ready.held (sym none ∙ ap (held_at all) equal ∙ ready.was))
+      | inr apart ↦ kept-others j apart ∙ none
     ];
   })
 
   -- an accepted write is held
   pub HoldsEntry-written : (IsEntry : LeaseView → Contents → Written → Type 0) (row : Contents) (written : Result Written DeskRefusal)
       (result : Result ℕ DeskRefusal) → MatchResult written (λ (w : Written). result ≡ Ok w.commit) (λ why. result ≡ Err why)
-      → MatchResult written (λ (w : Written). held_at after i ≡ Some (with_row name w.row left)) (λ _. held_at after i ≡ Some left)
-      → row ≡ row_held case.topology left name → IfOk written (IsEntry lease row)
+      → IfSome (held_at mid i) (λ held. MatchResult written (λ (w : Written). held_at after i ≡ Some (with_row name w.row held))
+      (λ _. held_at after i ≡ Some held)) → row ≡ row_held case.topology left name → IfOk written (IsEntry lease row)
       → IfOk result (λ commit. HoldsEntry case.topology i name commit IsEntry all after)
   HoldsEntry-written IsEntry row (Err why) result is here row_is by =
       subst (λ (r : Result ℕ DeskRefusal). IfOk r (λ commit. HoldsEntry case.topology i name commit IsEntry all after)) (sym is) tt
@@ -244,10 +264,10 @@ module _ (case : CaseShape) (old new : DeskView) (all gone after : List (Option 
         answer = answer;
         was = ready.was;
         entry = subst (λ (l : LeaseView). IsEntry l (row_held case.topology ready.held name) answer)
-            (lease_is ∙ ap (λ (h : HeldView). h.lease) ready.is)
-            (subst (λ (r : Contents). IsEntry lease r answer) (row_is ∙ row-ready case old all gone i name left lies ready are) by);
+            (lease_is ∙ ap (λ (h : HeldView). h.lease) is-ready)
+            (subst (λ (r : Contents). IsEntry lease r answer) (row_is ∙ row-ready case old all mid i name left lies ready at are) by);
         number = refl;
-        is = here ∙ ap (λ (h : HeldView). Some (with_row name answer.row h)) ready.is
+        is = kept-here (Ok answer) here ∙ ap (λ (h : HeldView). Some (with_row name answer.row h)) is-ready
             ∙ ap Some (with_row-again name (row_held case.topology ready.held name) answer.row ready.held);
         others = kept-others;
       })

@@ -1,4 +1,5 @@
 pub mod CacheLaws
+pub mod PlaceLaws
 pub mod SlotLaws
 pub mod HeldRows
 pub mod HeldPlaces

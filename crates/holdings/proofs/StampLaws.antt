@@ -1,4 +1,4 @@
--- The stamps of rows, one a row: they are changed with one row, and the least of them is the oldest work.
+-- The stamps of rows, one a row that has work: they are changed with one row, and the least of them is the oldest work.
 use Rattle.std.proofs.Common.{◌≡◌, ◌≢◌, ◌<◌, ◌≤◌, ◌+◌, ◌-◌, ℕ, zero, suc, List, [], ◌∷◌, length, map, refl, sym, ◌∙◌, ap, subst, arith, inl, inr, sum_by}
 use Rattle.std.specs.Prelude.{Box, Contains, Err, IfOk, IfSome, None, Ok, OnOk, Option, Result, Some, unwrap_or}
 use Rattle.std.specs.Option.{option_and_then, option_map}
@@ -27,7 +27,7 @@ use Rattle.book.specs.declared.answers.NamedRow.{NamedRow}
 use Rattle.holdings.specs.Caching.{AreOrdered, merged}
 use Rattle.holdings.specs.Dues.{due_name, due_of, due_order}
 use Rattle.holdings.specs.Keyed.{HasRekeyed}
-use Rattle.holdings.specs.Indexes.{AreLeft, AreStamps, HasRestamped, HasStamped, IsIndexOf, IsIndexed, work_of}
+use Rattle.holdings.specs.Indexes.{AreLeft, AreStamps, HasRestamped, HasStamped, HasUnstamped, IsIndexOf, IsIndexed, work_of}
 use Rattle.holdings.specs.Seens.{own_name, seen_of}
 use Rattle.holdings.specs.declared.index.Index.{Index}
 use Rattle.holdings.proofs.CacheLaws.{lookup-behind, lookup-merged, merged-ordered}
@@ -55,18 +55,24 @@ least-bound mark (x ∷ xs) end none =
     let rest = least-bound mark xs end (omega (arith, whole, none)) in
     omega (arith, rest, whole, none)
 
--- lists of which all sums are the same have the same least
-least-sums : (xs ys : List ℕ) → ((weigh : ℕ → ℕ) → sum_by weigh xs ≡ sum_by weigh ys) → least xs ≡ least ys
+-- lists of which all sums are the same, where the end counts nothing, have the same least
+least-sums : (xs ys : List ℕ) → ((weigh : ℕ → ℕ) → weigh END ≡ 0 → sum_by weigh xs ≡ sum_by weigh ys) → least xs ≡ least ys
 least-sums xs ys same =
+    let end_one : least xs - END ≡ 0 = let e = least-end xs in omega (arith, e) in
+    let end_two : least ys - END ≡ 0 = let e = least-end ys in omega (arith, e) in
     let one = least-bound (least xs) ys (least-end xs)
-    (sym (same (λ x. least xs - x)) ∙ none-below (least xs) xs (omega arith)) in
+    (sym (same (λ x. least xs - x) end_one) ∙ none-below (least xs) xs (omega arith)) in
     let two = least-bound (least ys) xs (least-end ys)
-    (same (λ x. least ys - x) ∙ none-below (least ys) ys (omega arith)) in
+    (same (λ x. least ys - x) end_two ∙ none-below (least ys) ys (omega arith)) in
     omega (arith, one, two)
 
 -- 1 for a number, and 0 for each other
 abbrev count_one : ℕ → ℕ → ℕ
 count_one s x = 1 - ((x - s) + (s - x))
+
+-- another number counts nothing
+not_one : (s x : ℕ) → x ≢ s → count_one s x ≡ 0
+not_one s x other = omega (arith, other)
 
 -- a number that is counted is there
 counted-there : (s : ℕ) (xs : List ℕ) → 1 ≤ sum_by (count_one s) xs → Contains xs s
@@ -75,17 +81,10 @@ counted-there s (x ∷ xs) some = elim (number_or_not s x) [
   | inl same ↦ (zero, (let w : zero < length (x ∷ xs) = omega arith in w), same)
   | inr other ↦
       let whole = sum_by-cons (count_one s) x xs in
-      let apart : count_one s x ≡ 0 = not_one other in
+      let apart : count_one s x ≡ 0 = not_one s x other in
       let rest = counted-there s xs (omega (arith, some, whole, apart)) in
       (suc rest.0, (let w : suc rest.0 < length (x ∷ xs) = omega (arith, rest.1) in w), rest.2)
 ]
-  where
-    not_one : x ≢ s → count_one s x ≡ 0
-    not_one other = omega (arith, other)
-
--- what a list contains, it contains behind one more
-pub contains-behind : (x : ℕ) (xs : List ℕ) (s : ℕ) → Contains xs s → Contains (x ∷ xs) s
-contains-behind x xs s (k, within, at) = (suc k, (let w : suc k < length (x ∷ xs) = omega (arith, within) in w), at)
 
 -- ---- the stamps of rows
 
@@ -101,20 +100,20 @@ pub stamps-put : (rows : List (RowName × Contents)) (name : RowName) (row : Con
     → IsStrictlySortedBy row_cmp (keys_of rows) → AreStamps rows old
     → HasRestamped (option_map work_of (row_in (cached rows) name)) (work_of row) old new → AreStamps (insert_entry row_cmp rows name row) new
 stamps-put rows name row old new ordered are has = record {
-  sums = λ weigh.
+  sums = λ weigh end.
       let put = sum_by-insert_entry (λ (r : Contents). weigh (work_of r)) row_cmp-total rows name row ordered in
       let was = weight-work weigh (lookup (is_at (row_cmp name)) rows) in
-      let before = are.sums weigh in
-      let more = has.sums weigh in
+      let before = are.sums weigh end in
+      let more = has.sums weigh end in
       omega (arith, put, was, before, more);
 }
 
--- the stamp of a row that is cached is there
+-- the stamp of a row that is cached and has work is there
 pub stamp-there : (rows : List (RowName × Contents)) (name : RowName) (row : Contents) (stamps : List ℕ) → AreStamps rows stamps
-    → row_in (cached rows) name ≡ Some row → Contains stamps (work_of row)
-stamp-there rows name row stamps are found =
+    → row_in (cached rows) name ≡ Some row → END ≢ work_of row → Contains stamps (work_of row)
+stamp-there rows name row stamps are found some =
     let weigh = λ (r : Contents). count_one (work_of row) (work_of r) in
-    let all = are.sums (count_one (work_of row)) in
+    let all = are.sums (count_one (work_of row)) (not_one (work_of row) END some) in
     let parts = sum_by-remove_entry weigh (is_at (row_cmp name)) rows in
     let one : unwrap_or (option_map weigh (lookup (is_at (row_cmp name)) rows)) 0 ≡ 1 =
     ap (λ (o : Option Contents). unwrap_or (option_map weigh o) 0) found ∙ omega arith in
@@ -132,7 +131,7 @@ sum-values g weigh (r ∷ rows) = sum_by-cons (λ (row : Contents). weigh (g row
 pub least-stamps : (rows : List (RowName × Contents)) (stamps : List ℕ) → AreStamps rows stamps
     → least stamps ≡ least (flat_map (λ (r : RowName × Contents). row_marks r.1) rows)
 least-stamps rows stamps are =
-    least-sums stamps (map (λ (r : RowName × Contents). work_of r.1) rows) (λ weigh. are.sums weigh ∙ sum-values work_of weigh rows)
+    least-sums stamps (map (λ (r : RowName × Contents). work_of r.1) rows) (λ weigh end. are.sums weigh end ∙ sum-values work_of weigh rows)
     ∙ sym (least-flat_map (λ (r : RowName × Contents). row_marks r.1) rows)
 
 -- ---- one stamp
@@ -145,27 +144,42 @@ on-ok (Err e) so is = tt
 -- one stamp more, by what the stamps say
 pub restamped-new : (after : ℕ) (old new : List ℕ) → IsPermutation (after ∷ old) new → HasRestamped None after old new
 restamped-new after old new added = record {
-  sums = λ weigh.
+  sums = λ weigh end.
       let more = sum_by-IsPermutation weigh (after ∷ old) new added in
       let first = sum_by-cons weigh after old in
       omega (arith, more, first);
 }
 
--- one stamp more, then one less
-pub restamped-both : (before after : ℕ) (old mid new : List ℕ) → IsPermutation (after ∷ old) mid → IsPermutation mid (before ∷ new)
+-- the end is no stamp that is added
+pub restamped-end : (after : ℕ) (old : List ℕ) → after ≡ END → HasRestamped None after old old
+restamped-end after old is = record { sums = λ weigh end. let none : weigh after ≡ 0 = ap weigh is ∙ end in omega (arith, none) }
+
+-- one stamp less, by what the stamps say
+pub unstamped-gone : (stamp : ℕ) (old new : List ℕ) → IsPermutation old (stamp ∷ new) → HasUnstamped stamp old new
+unstamped-gone stamp old new removed = record {
+  sums = λ weigh end.
+      let less = sum_by-IsPermutation weigh old (stamp ∷ new) removed in
+      let last = sum_by-cons weigh stamp new in
+      omega (arith, less, last);
+}
+
+-- the end is no stamp that is removed
+pub unstamped-end : (stamp : ℕ) (old : List ℕ) → stamp ≡ END → HasUnstamped stamp old old
+unstamped-end stamp old is = record { sums = λ weigh end. let none : weigh stamp ≡ 0 = ap weigh is ∙ end in omega (arith, none) }
+
+-- one stamp less, then one more
+pub restamped-both : (before after : ℕ) (old mid new : List ℕ) → HasUnstamped before old mid → HasRestamped None after mid new
     → HasRestamped (Some before) after old new
-restamped-both before after old mid new added removed = record {
-  sums = λ weigh.
-      let more = sum_by-IsPermutation weigh (after ∷ old) mid added in
-      let first = sum_by-cons weigh after old in
-      let less = sum_by-IsPermutation weigh mid (before ∷ new) removed in
-      let last = sum_by-cons weigh before new in
-      omega (arith, more, first, less, last);
+restamped-both before after old mid new removed added = record {
+  sums = λ weigh end.
+      let less = removed.sums weigh end in
+      let more = added.sums weigh end in
+      omega (arith, less, more);
 }
 
 -- a stamp in its own place
 pub restamped-same : (stamp after : ℕ) (old : List ℕ) → stamp ≡ after → HasRestamped (Some stamp) after old old
-restamped-same stamp after old same = record { sums = λ weigh. ap (λ n. sum_by weigh old + weigh n) same }
+restamped-same stamp after old same = record { sums = λ weigh end. ap (λ n. sum_by weigh old + weigh n) same }
 
 -- ---- the stamps of all rows, made anew
 
@@ -192,25 +206,25 @@ sum-merged weigh (r ∷ answered) others are =
 pub stamps-merged : (answered : List NamedRow) (others : List (RowName × Contents)) (start mid stamps : List ℕ) → AreOrdered answered others
     → start ≡ [] → HasStamped (map named answered) start mid → HasStamped others mid stamps → AreStamps (merged answered others) stamps
 stamps-merged answered others start mid stamps are none one two = record {
-  sums = λ weigh.
+  sums = λ weigh end.
       let whole = sum-merged (λ (row : Contents). weigh (work_of row)) answered others are in
-      let first = one.sums weigh in
-      let second = two.sums weigh in
+      let first = one.sums weigh end in
+      let second = two.sums weigh end in
       let nothing : sum_by weigh start ≡ 0 = ap (sum_by weigh) none in
       omega (arith, whole, first, second, nothing);
 }
 
 -- all rows are left, and no stamp was added
 pub left-all : (rows : List (RowName × Contents)) (stamps : List ℕ) → AreLeft rows rows stamps stamps
-left-all rows stamps = record { sums = λ weigh. refl }
+left-all rows stamps = record { sums = λ weigh end. refl }
 
 -- one row is past, and its stamp was added
 pub left-one : (row : RowName × Contents) (left all : List (RowName × Contents)) (now new start : List ℕ)
     → HasRestamped None (work_of row.1) now new → AreLeft (row ∷ left) all now start → AreLeft left all new start
 left-one row left all now new start more are = record {
-  sums = λ weigh.
-      let one = more.sums weigh in
-      let before = are.sums weigh in
+  sums = λ weigh end.
+      let one = more.sums weigh end in
+      let before = are.sums weigh end in
       let first = sum_by-cons (λ (r : Contents). weigh (work_of r)) row.1 (values_of left) in
       omega (arith, one, before, first);
 }
@@ -218,8 +232,8 @@ left-one row left all now new start more are = record {
 -- no row is left
 pub left-none : (left all : List (RowName × Contents)) (now start : List ℕ) → left ≡ [] → AreLeft left all now start → HasStamped all start now
 left-none left all now start none are = record {
-  sums = λ weigh.
-      let whole = are.sums weigh in
+  sums = λ weigh end.
+      let whole = are.sums weigh end in
       let nothing : sum_by (λ (row : Contents). weigh (work_of row)) (values_of left) ≡ 0 =
       ap (λ (l : List (RowName × Contents)). sum_by (λ (row : Contents). weigh (work_of row)) (values_of l)) none in
       omega (arith, whole, nothing);
@@ -229,7 +243,7 @@ left-none left all now start none are = record {
 
 -- the stamp of a row that was there is kept
 pub stamp-held : (rows : List (RowName × Contents)) (name : RowName) (before : Option Contents) (stamps : List ℕ) → AreStamps rows stamps
-    → before ≡ row_in (cached rows) name → IfSome before (λ row. Contains stamps (work_of row))
+    → before ≡ row_in (cached rows) name → IfSome before (λ row. END ≢ work_of row → Contains stamps (work_of row))
 stamp-held rows name None stamps are is = tt
 stamp-held rows name (Some row) stamps are is = stamp-there rows name row stamps are (sym is)
 

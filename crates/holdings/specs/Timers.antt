@@ -27,9 +27,3 @@ pair_of found = (found.name, found.timer)
 -- the first timer of rows, or none where no row has one
 abbrev pub IsFirstTimer : List (RowName × Contents) → Option RowTimer → Type 0
 IsFirstTimer rows found = IsFirstOf timer_of due_cmp rows (option_map pair_of found)
-
--- ---- what no public clause cites
-
--- a timer, with the name of its row
-abbrev pub row_timer : RowName → Timer → RowTimer
-row_timer name timer = record { name = name; timer = timer }

@@ -66,6 +66,16 @@ impl Cache {
     pub(crate) fn get(&self, name: &RowName) -> Option<&Row>
         ensures { option_copied result ≡ row_in (cached self.now) name.now }
     {
+        match self.others.tried(name) {
+            Some(row) => Some(row),
+            None => self.sought(name),
+        }
+    }
+
+    // The same where the row is not the one that was found last.
+    fn sought(&self, name: &RowName) -> Option<&Row>
+        ensures { option_copied result ≡ row_in (cached self.now) name.now }
+    {
         match place_of(&self.answered, name) {
             Ok(at) => Some(&self.answered[at].row),
             Err(_) => self.others.get(name),

@@ -1,14 +1,15 @@
 //! The first timers of rows, in the order in which they are due.
-ghost use Rattle.std.specs.Prelude.{◌≡◌, IfOk, None, OnOk, option_copied, slice_get};
-ghost use Rattle.std.specs.Option.{option_and_then, option_map};
+ghost use Rattle.std.specs.Prelude.{◌≡◌, IfOk, List, None, OnOk};
+ghost use Rattle.std.specs.Option.{option_map};
 ghost use Rattle.std.specs.List.Sorted.{IsStrictlySortedBy};
 ghost use Rattle.std.specs.Map.{keys_of};
-ghost use Rattle.holdings.specs.Dues.{AreDues, due_at, due_order, is_same_due};
+ghost use Rattle.mw_types.specs.declared.identity.RowName.{RowName};
+ghost use Rattle.row_parts.specs.Contents.{Contents};
+ghost use Rattle.holdings.specs.Dues.{AreDues, due_at, due_order, is_same_due, timer_at};
 ghost use Rattle.holdings.specs.Keyed.{HasRekeyed, IsThere};
 ghost use Rattle.holdings.specs.Timers.{IsFirstTimer};
 
-use crate::cache::Cache;
-use crate::first_timer::{RowTimer, timer_of};
+use crate::first_timer::RowTimer;
 use mw_types::{Duplicate, NoMemory, RowName, Timer};
 use std::alloc::Global;
 use std::collections::BTreeMap;
@@ -20,11 +21,13 @@ pub(crate) struct Moment {
     pub(crate) tag: u64,
 }
 
-// The first timer of a row: so stand those of several rows.
+// The first timer of a row: so stand those of several rows. Whether it is late stands last, where it
+// orders nothing, since a row has one first timer.
 #[derive(Debug, Drop, PartialEq, Eq, PartialOrd, Ord)]
 pub(crate) struct Due {
     pub(crate) at: Moment,
     pub(crate) name: RowName,
+    pub(crate) late: bool,
 }
 
 // The first timers of rows, of which the first is asked.
@@ -50,12 +53,12 @@ pub(crate) fn set_due(
     change_due(alloc, dues, name, before, after)
 }
 
-// Whether two timers of one row stand at the same place, or neither is there.
+// Whether two timers of one row are the same, or neither is there.
 fn is_same(before: Option<Timer>, after: Option<Timer>) -> bool
     ensures { result ≡ is_same_due before after }
 {
     match (before, after) {
-        (Some(a), Some(b)) => a.time == b.time && a.tag == b.tag,
+        (Some(a), Some(b)) => a.time == b.time && a.tag == b.tag && a.late == b.late,
         (None, None) => true,
         _ => false,
     }
@@ -123,20 +126,31 @@ fn due_of(alloc: Global, name: &RowName, timer: Timer) -> Result<Due, NoMemory>
             tag: timer.tag,
         },
         name: name.copy(alloc)?,
+        late: timer.late,
     })
 }
 
 // The first timer of all rows, with the name of its row, or none where no row has a timer.
-pub(crate) fn first_timer(
-    alloc: Global,
-    dues: &Dues,
-    rows: &Cache,
-) -> Result<Option<RowTimer>, NoMemory>
-    requires { AreDues rows.now dues.now.entries }
-    ensures { IfOk result (IsFirstTimer rows.now) }
+pub(crate) fn first_timer(alloc: Global, dues: &Dues) -> Result<Option<RowTimer>, NoMemory>
+    ensures { (rows : List (RowName × Contents)) → AreDues rows dues.now.entries →
+        IfOk result (IsFirstTimer rows) }
 {
     match dues.first_key_value() {
-        Some((due, _)) => timer_of(alloc, &due.name, rows.get(&due.name)),
+        Some((due, _)) => Ok(Some(row_timer(alloc, due)?)),
         None => Ok(None),
     }
+}
+
+// The timer, with the name of its row.
+fn row_timer(alloc: Global, due: &Due) -> Result<RowTimer, NoMemory>
+    ensures { IfOk result (λ found. found ≡ timer_at due.now) }
+{
+    Ok(RowTimer {
+        name: due.name.copy(alloc)?,
+        timer: Timer {
+            tag: due.at.tag,
+            time: due.at.time,
+            late: due.late,
+        },
+    })
 }

@@ -1,12 +1,11 @@
 //! The first timer of an interval that is held.
-ghost use Rattle.std.specs.Prelude.{◌≡◌, IfOk, IfSome, IsSome, option_copied};
-ghost use Rattle.std.specs.Option.{option_and_then, option_map};
+ghost use Rattle.std.specs.Prelude.{◌≡◌, IfOk, IfSome, IsSome};
 ghost use Rattle.holdings.specs.Holding.{held_at};
-ghost use Rattle.holdings.specs.Timers.{IsFirstTimer, row_timer, timer_of};
+ghost use Rattle.holdings.specs.Timers.{IsFirstTimer};
 
+use crate::held::Held;
 use crate::holdings::Holdings;
-use mw_types::{Duplicate, NoMemory, RowName, Timer};
-use row_parts::Row;
+use mw_types::{NoMemory, RowName, Timer};
 use std::alloc::Global;
 
 /// A timer, with the name of the row that has it.
@@ -31,41 +30,21 @@ impl Holdings {
             IfSome (held_at self.old interval) (λ held. IsFirstTimer held.rows found)) }
         ensures same { self.new ≡ self.old }
     {
-        let mut held = self.take(interval);
-        let found = held.first_timer(alloc);
-        self.put(interval, held);
-        found
+        match self.all.get_mut(interval as usize) {
+            Some(place) => first_in(place, alloc),
+            None => Ok(None),
+        }
     }
 }
 
-// The first timer of a row, with the row's name, or none where there is none.
-pub(crate) fn timer_of(
-    alloc: Global,
-    name: &RowName,
-    row: Option<&Row>,
-) -> Result<Option<RowTimer>, NoMemory>
-    ensures { IfOk result (λ found. found ≡ option_map (row_timer name.now)
-        (option_and_then timer_of (option_copied row.entry))) }
+// The first timer of the rows that are held in a place.
+fn first_in(place: &mut Option<Held>, alloc: Global) -> Result<Option<RowTimer>, NoMemory>
+    ensures first { IfOk result (λ found.
+        IfSome place.old (λ held. IsFirstTimer held.rows found)) }
+    ensures same { place.new ≡ place.old }
 {
-    match row {
-        Some(row) => named_timer(alloc, name, row.least_timer()),
-        None => Ok(None),
-    }
-}
-
-// A timer, with a name of its own, or none where there is none.
-fn named_timer(
-    alloc: Global,
-    name: &RowName,
-    timer: Option<Timer>,
-) -> Result<Option<RowTimer>, NoMemory>
-    ensures { IfOk result (λ found. found ≡ option_map (row_timer name.now) timer) }
-{
-    match timer {
-        Some(timer) => Ok(Some(RowTimer {
-            name: name.copy(alloc)?,
-            timer,
-        })),
+    match place {
+        Some(held) => held.first_timer(alloc),
         None => Ok(None),
     }
 }

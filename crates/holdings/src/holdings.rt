@@ -1,6 +1,7 @@
 //! What a worker holds of each interval.
 ghost use Rattle.std.specs.Prelude.{◌≡◌, ◌<◌, ℕ, [], IfOk, IfSome, IsSome, MatchResult, None, Ok, Err, OnErr, OnOk, Some, length, option_copied, slice_set};
 ghost use Rattle.std.specs.List.Sorted.{IsStrictlySortedBy};
+ghost use Rattle.std.specs.Option.{option_map};
 ghost use Rattle.std.specs.Map.{keys_of};
 ghost use Rattle.mw_types.specs.Orders.{row_cmp};
 ghost use Rattle.run_history.specs.Cases.{CaseShape};
@@ -8,11 +9,12 @@ ghost use Rattle.run_history.specs.Runs.{cached, row_in};
 ghost use Rattle.book.specs.Desks.{DeskView};
 ghost use Rattle.book.specs.declared.answers.Written.{Written};
 ghost use Rattle.holdings.specs.Holding.{AreHeld, HeldView, KeepsOthers, held_at, with_row};
-ghost use Rattle.holdings.specs.Steps.{IsReady, KeepsAll};
+ghost use Rattle.holdings.specs.Steps.{IsReady, KeepsAll, with_cached};
 
 use crate::held::Held;
 use book::{DeskRefusal, Written};
 use mw_types::{NoMemory, RowName};
+use row_parts::Row;
 use run_history::Case;
 use std::alloc::Global;
 use std::marker::Model;
@@ -21,7 +23,7 @@ use std::mem::replace;
 /// What a worker holds of each interval, by the interval's number.
 #[derive(Drop)]
 pub struct Holdings {
-    all: Vec<Option<Held>>,
+    pub(crate) all: Vec<Option<Held>>,
 }
 
 impl Model for Holdings {
@@ -83,15 +85,6 @@ impl Holdings {
         Ok(())
     }
 
-    // Takes what is held of an interval out of its place.
-    pub(crate) fn take(&mut self, interval: u32) -> Held
-        requires there { IsSome (held_at self.old interval) }
-        ensures taken { held_at self.old interval ≡ Some result }
-        ensures gone { self.new ≡ slice_set self.old interval None }
-    {
-        take_in(&mut self.all, interval as usize).unwrap()
-    }
-
     // Puts what is held of an interval in its place.
     pub(crate) fn put(&mut self, interval: u32, held: Held)
         ensures { self.new ≡ slice_set self.old interval (Some held) }
@@ -101,74 +94,95 @@ impl Holdings {
         }
     }
 
-    // Takes what is held of an interval out of its place for a write, with the row cached.
+    // Sees to it that a row of an interval that is held is cached, for a write.
     pub(crate) fn ready(
         &mut self,
         alloc: Global,
         case: &Case,
         interval: u32,
         name: &RowName,
-    ) -> Result<Held, NoMemory>
+    ) -> Result<(), NoMemory>
         requires there { IsSome (held_at self.old interval) }
         requires ordered { (held : HeldView) → held_at self.old interval ≡ Some held →
             IsStrictlySortedBy row_cmp (keys_of held.rows) }
-        ensures ready { IfOk result
+        ensures ready { OnOk result
             (IsReady case.now.topology interval name.now self.old self.new) }
         ensures same { OnErr result (KeepsAll self.old self.new) }
     {
-        let mut held = self.take(interval);
-        if let Err(want) = held.cache(alloc, case, name) {
-            self.put(interval, held);
-            return Err(want);
+        match self.all.get_mut(interval as usize) {
+            Some(place) => cache_in(place, alloc, case, name),
+            None => Ok(()),
         }
-        Ok(held)
     }
 
-    // Puts what is held of an interval back after a write, with the row that the write left.
+    // What is held of an interval.
+    pub(crate) fn held(&self, interval: u32) -> &Held
+        requires there { IsSome (held_at self.now interval) }
+        ensures held { held_at self.now interval ≡ Some result.now }
+    {
+        self.get(interval).unwrap()
+    }
+
+    // Keeps the row that a write left, where it was accepted.
     pub(crate) fn keep(
         &mut self,
         alloc: Global,
         interval: u32,
         name: &RowName,
-        held: Held,
         written: Result<Written, DeskRefusal>,
     ) -> Result<u64, DeskRefusal>
-        requires room { interval < length self.old }
-        requires there { IsSome (row_in (cached held.rows) name.now) }
+        requires there { IfSome (held_at self.old interval)
+            (λ held. IsSome (row_in (cached held.rows) name.now)) }
         ensures result { MatchResult written (λ w. result ≡ Ok w.commit) (λ why. result ≡ Err why) }
-        ensures here { MatchResult written
+        ensures here { IfSome (held_at self.old interval) (λ held. MatchResult written
             (λ w. held_at self.new interval ≡ Some (with_row name.now w.row held))
-            (λ _. held_at self.new interval ≡ Some held) }
+            (λ _. held_at self.new interval ≡ Some held)) }
         ensures others { KeepsOthers interval self.old self.new }
     {
-        match written {
-            Ok(written) => Ok(self.keep_written(alloc, interval, name, held, written)),
-            Err(why) => {
-                self.put(interval, held);
-                Err(why)
-            }
-        }
+        let Written { commit, row } = written?;
+        self.set(alloc, interval, name, row);
+        Ok(commit)
     }
 
-    // The same where the write was accepted.
-    fn keep_written(
-        &mut self,
-        alloc: Global,
-        interval: u32,
-        name: &RowName,
-        held: Held,
-        written: Written,
-    ) -> u64
-        requires there { IsSome (row_in (cached held.rows) name.now) }
-        ensures number { result ≡ written.commit }
-        ensures put { self.new
-            ≡ slice_set self.old interval (Some (with_row name.now written.row held)) }
+    // Puts another row in the place of one that is cached.
+    fn set(&mut self, alloc: Global, interval: u32, name: &RowName, row: Row)
+        requires there { IfSome (held_at self.old interval)
+            (λ held. IsSome (row_in (cached held.rows) name.now)) }
+        ensures { self.new ≡ slice_set self.old interval
+            (option_map (with_row name.now row) (held_at self.old interval)) }
     {
-        let mut held = held;
-        let Written { commit, row } = written;
+        let Some(place) = self.all.get_mut(interval as usize) else {
+            return;
+        };
+        set_in(place, alloc, name, row);
+    }
+}
+
+// Sees to it that a row is cached in a place where something is held.
+fn cache_in(
+    place: &mut Option<Held>,
+    alloc: Global,
+    case: &Case,
+    name: &RowName,
+) -> Result<(), NoMemory>
+    requires ordered { IfSome place.old (λ held. IsStrictlySortedBy row_cmp (keys_of held.rows)) }
+    ensures there { OnOk result
+        (place.new ≡ option_map (with_cached case.now.topology name.now) place.old) }
+    ensures unchanged { OnErr result (place.new ≡ place.old) }
+{
+    match place {
+        Some(held) => held.cache(alloc, case, name),
+        None => Ok(()),
+    }
+}
+
+// Puts another row in the place of one that is cached where something is held.
+fn set_in(place: &mut Option<Held>, alloc: Global, name: &RowName, row: Row)
+    requires there { IfSome place.old (λ held. IsSome (row_in (cached held.rows) name.now)) }
+    ensures { place.new ≡ option_map (with_row name.now row) place.old }
+{
+    if let Some(held) = place {
         held.set(alloc, name, row);
-        self.put(interval, held);
-        commit
     }
 }
 

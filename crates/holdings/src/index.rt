@@ -1,5 +1,5 @@
 //! What is kept beside the rows of an interval, so that no step goes over all of them.
-ghost use Rattle.std.specs.Prelude.{◌≡◌, [], Contains, IfOk, IfSome, None, OnOk, Some, option_copied};
+ghost use Rattle.std.specs.Prelude.{◌≡◌, ◌≢◌, [], Contains, IfOk, IfSome, None, OnOk, Some, option_copied};
 ghost use Rattle.std.specs.Option.{option_and_then, option_map};
 ghost use Rattle.std.specs.List.Sorted.{IsStrictlySortedBy};
 ghost use Rattle.std.specs.Map.{keys_of};
@@ -9,21 +9,21 @@ ghost use Rattle.row_parts.specs.Contents.{Contents};
 ghost use Rattle.holdings.specs.Dues.{due_of, due_order};
 ghost use Rattle.holdings.specs.Keyed.{HasRekeyed, IsThere};
 ghost use Rattle.holdings.specs.Timers.{timer_of};
-ghost use Rattle.holdings.specs.Indexes.{HasRestamped, IsIndexOf, work_of};
+ghost use Rattle.holdings.specs.Indexes.{HasRestamped, HasUnstamped, IsIndexOf, work_of};
 ghost use Rattle.holdings.specs.Seens.{had_seen, seen_of};
 
 use crate::cache::Cache;
 use crate::due::{Dues, add_due, set_due};
 use crate::row_work::row_work;
 use crate::seen::{Names, add_seen, has_seen, set_seen};
-use mw_types::{NoMemory, RowName, Timer};
+use mw_types::{END, NoMemory, RowName, Timer};
 use row_parts::Row;
 use std::alloc::Global;
 use std::collections::BTreeMap;
 use watermark::Oldest;
 
-// What is kept beside rows: the oldest work of each, of which the least is asked, the first timer of
-// each, of which the first is asked, and the names of those that have seen ids.
+// What is kept beside rows: the oldest work of each that has any, of which the least is asked, the
+// first timer of each, of which the first is asked, and the names of those that have seen ids.
 #[derive(Drop)]
 pub(crate) struct Index {
     pub(crate) work: Oldest,
@@ -71,7 +71,8 @@ impl Index {
         name: &RowName,
         row: &Row,
     ) -> Result<(), NoMemory>
-        requires held { IfSome (option_copied before) (λ b. Contains self.old.work (work_of b)) }
+        requires held { IfSome (option_copied before)
+            (λ b. END ≢ work_of b → Contains self.old.work (work_of b)) }
         requires ordered { IsStrictlySortedBy due_order (keys_of self.old.dues.entries) }
         requires ascending { IsStrictlySortedBy row_cmp (keys_of self.old.seen.entries) }
         requires due { IsThere due_order
@@ -154,23 +155,44 @@ fn seen_before(before: Option<&Row>) -> bool
 
 // One stamp more, and one less where there was one.
 fn restamp(stamps: &mut Oldest, before: Option<u64>, after: u64) -> Result<(), NoMemory>
-    requires held { IfSome before (λ b. Contains stamps.old b) }
+    requires held { IfSome before (λ b. END ≢ b → Contains stamps.old b) }
     ensures changed { OnOk result (HasRestamped before after stamps.old stamps.new) }
 {
     match before {
         Some(before) => change(stamps, before, after),
-        None => stamps.add(after),
+        None => add_stamp(stamps, after),
     }
 }
 
 // One stamp in the place of another.
 fn change(stamps: &mut Oldest, before: u64, after: u64) -> Result<(), NoMemory>
-    requires held { Contains stamps.old before }
+    requires held { END ≢ before → Contains stamps.old before }
     ensures changed { OnOk result (HasRestamped (Some before) after stamps.old stamps.new) }
 {
-    if before != after {
-        stamps.add(after)?;
-        stamps.remove(before);
+    if before == after {
+        return Ok(());
     }
-    Ok(())
+    remove_stamp(stamps, before);
+    add_stamp(stamps, after)
+}
+
+// One stamp more. The end is none: a row without work costs nothing here.
+fn add_stamp(stamps: &mut Oldest, stamp: u64) -> Result<(), NoMemory>
+    ensures added { OnOk result (HasRestamped None stamp stamps.old stamps.new) }
+{
+    if stamp == END {
+        return Ok(());
+    }
+    stamps.add(stamp)
+}
+
+// One stamp less.
+fn remove_stamp(stamps: &mut Oldest, stamp: u64)
+    requires held { END ≢ stamp → Contains stamps.old stamp }
+    ensures { HasUnstamped stamp stamps.old stamps.new }
+{
+    if stamp == END {
+        return;
+    }
+    stamps.remove(stamp);
 }

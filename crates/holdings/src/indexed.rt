@@ -99,21 +99,20 @@ impl Indexed {
             oldest ≡ least (flat_map (λ (r : RowName × Contents). row_marks r.1) self.old)) }
         ensures same { self.new ≡ self.old }
     {
-        let index = self.take_index(alloc)?;
+        if let Some(index) = &self.index {
+            return Ok(index.work.least());
+        }
+        let index = self.make_index(alloc)?;
         let oldest = index.work.least();
         self.index = Some(index);
         Ok(oldest)
     }
 
-    // Takes the index, which is made where there is none.
-    fn take_index(&mut self, alloc: Global) -> Result<Box<Index>, NoMemory>
-        ensures index { IfOk result (λ index. IsIndexOf self.old index.value) }
-        ensures same { self.new ≡ self.old }
+    // An index of the rows, made anew.
+    fn make_index(&self, alloc: Global) -> Result<Box<Index>, NoMemory>
+        ensures { IfOk result (λ index. IsIndexOf self.now index.value) }
     {
-        match replace(&mut self.index, None) {
-            Some(index) => Ok(index),
-            None => boxed(alloc, self.rows.index(alloc)?),
-        }
+        boxed(alloc, self.rows.index(alloc)?)
     }
 
     // The first timer of all rows, with the name of its row, or none where no row has a timer.
@@ -121,8 +120,11 @@ impl Indexed {
         ensures first { IfOk result (IsFirstTimer self.old) }
         ensures same { self.new ≡ self.old }
     {
-        let index = self.take_index(alloc)?;
-        let found = first_timer(alloc, &index.dues, &self.rows);
+        if let Some(index) = &self.index {
+            return first_timer(alloc, &index.dues);
+        }
+        let index = self.make_index(alloc)?;
+        let found = first_timer(alloc, &index.dues);
         self.index = Some(index);
         found
     }

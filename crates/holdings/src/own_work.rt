@@ -10,6 +10,7 @@ ghost use Rattle.run_history.specs.Runs.{cached};
 ghost use Rattle.run_history.specs.Watermarks.{least, source_mark};
 ghost use Rattle.book.specs.Conditions.{IsOwnWork};
 ghost use Rattle.holdings.specs.Holding.{AreHeld, HeldView, held_at};
+ghost use Rattle.holdings.specs.Steps.{IsOldest};
 
 use crate::held::Held;
 use crate::holdings::Holdings;
@@ -40,9 +41,7 @@ impl Held {
 
     // The oldest work of all rows, and of an injector the watermark that its file states.
     fn own_work(&mut self, alloc: Global, case: &Case, part: u32) -> Result<u64, NoMemory>
-        ensures own { IfOk result (λ own.
-            own ≡ least (flat_map (λ (r : RowName × Contents). row_marks r.1) self.old.rows
-            ++ stated_marks case.now (cached self.old.rows) part)) }
+        ensures own { IfOk result (IsOldest case.now part self.old) }
         ensures same { self.new ≡ self.old }
     {
         let oldest = self.rows.oldest(alloc)?;
@@ -90,9 +89,40 @@ impl Holdings {
     {
         desk.sound();
         let part = case.intervals().bounds(interval).part;
-        let mut held = self.take(interval);
-        let own = held.own_work(alloc, case, part);
-        self.put(interval, held);
-        own
+        self.oldest(alloc, case, interval, part)
+    }
+
+    // The oldest work of an interval that is held.
+    fn oldest(
+        &mut self,
+        alloc: Global,
+        case: &Case,
+        interval: u32,
+        part: u32,
+    ) -> Result<u64, NoMemory>
+        ensures own { IfOk result (λ own.
+            IfSome (held_at self.old interval) (λ held. IsOldest case.now part held own)) }
+        ensures same { self.new ≡ self.old }
+    {
+        match self.all.get_mut(interval as usize) {
+            Some(place) => oldest_in(place, alloc, case, part),
+            None => Ok(END),
+        }
+    }
+}
+
+// The oldest work of what is held in a place.
+fn oldest_in(
+    place: &mut Option<Held>,
+    alloc: Global,
+    case: &Case,
+    part: u32,
+) -> Result<u64, NoMemory>
+    ensures own { IfOk result (λ own. IfSome place.old (λ held. IsOldest case.now part held own)) }
+    ensures same { place.new ≡ place.old }
+{
+    match place {
+        Some(held) => held.own_work(alloc, case, part),
+        None => Ok(END),
     }
 }

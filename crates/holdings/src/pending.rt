@@ -27,8 +27,7 @@ impl Holdings {
         ensures pending { IfOk result (λ sent.
             IfSome (held_at self.now interval) (λ held. ArePendingIn held.rows sent)) }
     {
-        let held = self.get(interval).unwrap();
-        held.pending(alloc)
+        self.held(interval).pending(alloc)
     }
 }
 

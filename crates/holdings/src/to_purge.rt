@@ -18,8 +18,7 @@ impl Holdings {
         ensures first { IfSome (held_at self.now interval)
             (λ held. IsFirstToPurge floor least held.rows (option_copied result)) }
     {
-        let held = self.get(interval).unwrap();
-        held.to_purge(floor, least)
+        self.held(interval).to_purge(floor, least)
     }
 }
 

@@ -52,10 +52,11 @@ impl Holdings {
         ensures home { D.home desk.new ≡ D.home desk.old }
     {
         desk.sound();
-        let held = self.ready(alloc, case, interval, name)?;
+        self.ready(alloc, case, interval, name)?;
+        let held = self.held(interval);
         let written = desk.write(alloc, held.lease(), name, held.cached(name), proposal);
         desk.sound();
-        self.keep(alloc, interval, name, held, written)
+        self.keep(alloc, interval, name, written)
     }
 
     /// A sender learns that what it made was handled: the row no longer waits for the id. Answers
@@ -94,10 +95,11 @@ impl Holdings {
         ensures home { D.home desk.new ≡ D.home desk.old }
     {
         desk.sound();
-        let held = self.ready(alloc, case, interval, name)?;
+        self.ready(alloc, case, interval, name)?;
+        let held = self.held(interval);
         let written = desk.settle(alloc, held.lease(), name, held.cached(name), id);
         desk.sound();
-        self.keep(alloc, interval, name, held, written)
+        self.keep(alloc, interval, name, written)
     }
 
     /// A row forgets the ids of records that are finished: those below the floor. Answers the
@@ -136,9 +138,10 @@ impl Holdings {
         ensures home { D.home desk.new ≡ D.home desk.old }
     {
         desk.sound();
-        let held = self.ready(alloc, case, interval, name)?;
+        self.ready(alloc, case, interval, name)?;
+        let held = self.held(interval);
         let written = desk.purge(alloc, held.lease(), name, held.cached(name), floor);
         desk.sound();
-        self.keep(alloc, interval, name, held, written)
+        self.keep(alloc, interval, name, written)
     }
 }

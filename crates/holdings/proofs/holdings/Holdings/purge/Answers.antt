@@ -6,7 +6,7 @@ use Rattle.book.specs.Books.{LeaseView}
 use Rattle.book.specs.Desking.{HasStored, MayPurge}
 use Rattle.book.specs.declared.answers.Written.{Written}
 use Rattle.holdings.proofs.HeldRows.{HasEntered, entered-stored}
-use Rattle.holdings.proofs.HeldSteps.{AreHeld-kept, HoldsEntry-written, KeepsHeld-refused, known-ready, may-ready, ok-so, read-ready, room-ready, said-ready, there-ready}
+use Rattle.holdings.proofs.HeldSteps.{AreHeld-kept, HoldsEntry-written, KeepsHeld-refused, known-ready, may-ready, ok-so, read-ready, said-ready, stays-ready, there-ready}
 use Rattle.holdings.proofs.holdings.Holdings.purge.Goals as goal
 
 -- what is held stands in order
@@ -14,44 +14,46 @@ pub ready-requires-clause-ordered : goal.ready-requires-clause-ordered
 ready-requires-clause-ordered g c = λ held is. (c.requires.fits.each c.args.interval held is).rows.ordered
 
 -- a row that could not be cached changes nothing
-pub returns-in_err-held-clause-fits : goal.returns-in_err-held-clause-fits
-returns-in_err-held-clause-fits g c =
-    record { each = λ i held is. c.requires.fits.each i held (sym (c.in_err-held.ensures.same i) ∙ is) }
+pub returns-in_err-ready-clause-fits : goal.returns-in_err-ready-clause-fits
+returns-in_err-ready-clause-fits g c =
+    record { each = λ i held is. c.requires.fits.each i held (sym (c.in_err-ready.ensures.same i) ∙ is) }
 
 -- the row is cached
 pub cached-requires : goal.cached-requires
 cached-requires g c = record {
   there =
       there-ready c.args.case.now (g.D.Desk.view c.args.desk.now) c.args.self.now c.ready.new.self c.args.interval c.args.name.now
-      c.in_ok-held.held c.requires.covers c.in_ok-held.ensures.ready c.requires.fits;
+      c.held-held.result.now c.requires.covers c.in_ok-ready.ensures.ready c.held-held.ensures.held c.requires.fits;
 }
 
 -- the lease may be used on the row
 pub purge-written-requires-clause-lease : goal.purge-written-requires-clause-lease
 purge-written-requires-clause-lease g c =
     may-ready c.args.case.now (g.D.Desk.view c.args.desk.now) c.args.self.now c.ready.new.self c.args.interval c.args.name.now
-    c.in_ok-held.held c.requires.covers c.in_ok-held.ensures.ready c.requires.fits c.lease.result.now c.lease.ensures.lease c.requires.case
+    c.held-held.result.now c.requires.covers c.in_ok-ready.ensures.ready c.held-held.ensures.held c.requires.fits c.lease.result.now c.lease.ensures.lease c.requires.case
 
 -- the row is the one that is known
 pub purge-written-requires-clause-row : goal.purge-written-requires-clause-row
 purge-written-requires-clause-row g c =
     known-ready c.args.case.now (g.D.Desk.view c.args.desk.now) c.args.self.now c.ready.new.self c.args.interval c.args.name.now
-    c.in_ok-held.held c.requires.covers c.in_ok-held.ensures.ready c.requires.fits c.lease.result.now c.cached.result.now
+    c.held-held.result.now c.requires.covers c.in_ok-ready.ensures.ready c.held-held.ensures.held c.requires.fits c.lease.result.now c.cached.result.now
     c.lease.ensures.lease c.requires.case c.requires.part c.cached.ensures.row
 
 -- what is asked of the row is true of it
 pub purge-written-requires-clause-floor : goal.purge-written-requires-clause-floor
 purge-written-requires-clause-floor g c =
     (said-ready c.args.case.now (g.D.Desk.view c.args.desk.now) c.args.self.now c.ready.new.self c.args.interval c.args.name.now
-    c.in_ok-held.held c.requires.covers c.in_ok-held.ensures.ready c.requires.fits
+    c.held-held.result.now c.requires.covers c.in_ok-ready.ensures.ready c.held-held.ensures.held c.requires.fits
     (λ (r : Contents). MayPurge (g.D.Desk.view c.args.desk.now) c.args.name.now r c.args.floor)
     c.cached.result.now c.cached.ensures.row c.requires.floor)
 
--- the place is there
-pub keep-requires-clause-room : goal.keep-requires-clause-room
-keep-requires-clause-room g c =
-    room-ready c.args.case.now (g.D.Desk.view c.args.desk.now) c.args.self.now c.ready.new.self c.args.interval c.args.name.now
-    c.in_ok-held.held c.requires.covers c.in_ok-held.ensures.ready c.requires.fits
+-- the row is still cached
+pub keep-requires : goal.keep-requires
+keep-requires g c = record {
+  there =
+      stays-ready c.args.case.now (g.D.Desk.view c.args.desk.now) c.args.self.now c.ready.new.self c.args.interval c.args.name.now
+      c.held-held.result.now c.requires.covers c.in_ok-ready.ensures.ready c.held-held.ensures.held c.requires.fits;
+}
 
 -- all that is held fits
 pub returns-clause-fits : goal.returns-clause-fits
@@ -60,7 +62,7 @@ returns-clause-fits g c =
     let new = g.D.Desk.view c.purge-written.new.self in
     let lease = c.lease.result.now in
     AreHeld-kept c.args.case.now old new c.args.self.now c.ready.new.self c.keep.new.self c.args.interval c.args.name.now
-    c.in_ok-held.held c.requires.covers c.in_ok-held.ensures.ready c.requires.fits c.keep.ensures.others lease c.lease.ensures.lease
+    c.held-held.result.now c.requires.covers c.in_ok-ready.ensures.ready c.held-held.ensures.held c.requires.fits c.keep.ensures.others lease c.lease.ensures.lease
     c.requires.case c.sound.ensures.sound c.sound-2.ensures.sound c.purge-written.result c.keep.ensures.here
     (ok-so (HasStored old new lease c.args.name.now (Purge lease.seq c.args.name.now c.args.floor) c.cached.result.now
     (λ number. written_row number (Purge lease.seq c.args.name.now c.args.floor) [] c.cached.result.now))
@@ -75,18 +77,18 @@ returns-clause-purged g c =
     let old = g.D.Desk.view c.args.desk.now in
     let new = g.D.Desk.view c.purge-written.new.self in
     HoldsEntry-written c.args.case.now old new c.args.self.now c.ready.new.self c.keep.new.self c.args.interval c.args.name.now
-    c.in_ok-held.held c.requires.covers c.in_ok-held.ensures.ready c.requires.fits c.keep.ensures.others c.lease.result.now c.lease.ensures.lease
+    c.held-held.result.now c.requires.covers c.in_ok-ready.ensures.ready c.held-held.ensures.held c.requires.fits c.keep.ensures.others c.lease.result.now c.lease.ensures.lease
     (λ (l : LeaseView) (r : Contents) (w : Written). HasStored old new l c.args.name.now (Purge l.seq c.args.name.now c.args.floor) r
     (λ number. written_row number (Purge l.seq c.args.name.now c.args.floor) [] r) w)
     c.cached.result.now c.purge-written.result c.keep.result c.keep.ensures.result c.keep.ensures.here
-    (read-ready c.args.case.now old c.args.self.now c.ready.new.self c.args.interval c.args.name.now c.in_ok-held.held
-    c.requires.covers c.in_ok-held.ensures.ready c.requires.fits c.cached.result.now c.cached.ensures.row)
+    (read-ready c.args.case.now old c.args.self.now c.ready.new.self c.args.interval c.args.name.now c.held-held.result.now
+    c.requires.covers c.in_ok-ready.ensures.ready c.held-held.ensures.held c.requires.fits c.cached.result.now c.cached.ensures.row)
     c.purge-written.ensures.written
 
 -- a refusal keeps what is held
 pub returns-clause-kept : goal.returns-clause-kept
 returns-clause-kept g c =
     KeepsHeld-refused c.args.case.now (g.D.Desk.view c.args.desk.now) (g.D.Desk.view c.purge-written.new.self) c.args.self.now
-    c.ready.new.self c.keep.new.self c.args.interval c.args.name.now c.in_ok-held.held c.requires.covers c.in_ok-held.ensures.ready
+    c.ready.new.self c.keep.new.self c.args.interval c.args.name.now c.held-held.result.now c.requires.covers c.in_ok-ready.ensures.ready c.held-held.ensures.held
     c.requires.fits c.keep.ensures.others c.lease.result.now c.lease.ensures.lease c.purge-written.result c.keep.result
     c.keep.ensures.result c.keep.ensures.here
