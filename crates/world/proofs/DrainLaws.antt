@@ -18,7 +18,7 @@ use Rattle.node.specs.Asking.{MayAskForget}
 use Rattle.node.specs.Messages.{IsDeliverable}
 use Rattle.node.specs.Workers.{NodeView}
 use Rattle.world.specs.Drains.{HasClaimedAll, HasEnded, IsDraining}
-use Rattle.world.specs.Turns.{CanBeKept, HasAskedOne, HasGone, HasStepped, HasTurned, IsToSettle, WhereTold, is_finished_at, sent_at}
+use Rattle.world.specs.Turns.{CanBeKept, HasAskedOne, HasGone, HasStepped, HasTurned, IsToSettle, WhereTold, has_room_at, is_finished_at, sent_at}
 use Rattle.world.proofs.GoLaws.{fact-back, fact-on, stayed-turn, told-on}
 use Rattle.world.proofs.SettleLaws.{IsFound, forget-turned, found-handled, found-settles, sender-there, sent-id, sent-to}
 use Rattle.world.proofs.TurnLaws.{stepped-on}
@@ -108,6 +108,12 @@ pub finished-by : (case : CaseShape) (book : BookView) (node : NodeView) (d : De
     → found ≡ is_finished_at case.topology node d → found ≡ b → is_finished_at book.case.topology node d ≡ b
 finished-by case book node d b found same is e =
     subst (λ (k : CaseShape). is_finished_at k.topology node d ≡ b) same (sym is ∙ e)
+
+-- whether a row has room, by the case that a book tells
+pub room-by : (case : CaseShape) (book : BookView) (node : NodeView) (name : RowName) (found : Bool) → case ≡ book.case
+    → found ≡ has_room_at case.topology node name → found ≡ true → has_room_at book.case.topology node name ≡ true
+room-by case book node name found same is e =
+    subst (λ (k : CaseShape). has_room_at k.topology node name ≡ true) same (sym is ∙ e)
 
 -- a record that was found goes to a part that is there
 pub found-part : (case : CaseShape) (book : BookView) (node : NodeView) (sender : RowName) (d : Delivery) → case ≡ book.case

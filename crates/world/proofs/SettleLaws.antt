@@ -33,7 +33,7 @@ use Rattle.node.specs.Asking.{HasToForget, MayAskForget, Request, forgetting, se
 use Rattle.node.specs.Messages.{IsComputation, IsSentFrom}
 use Rattle.node.specs.Workers.{NodeView}
 use Rattle.world.specs.Drains.{HasClaimedAll, IsNextEntry, IsToHandle, is_full}
-use Rattle.world.specs.Turns.{HasAsked, HasAskedOne, HasHandled, HasTurned, IsAtWork, IsNextIn, IsToSettle, is_finished_at, sent_at}
+use Rattle.world.specs.Turns.{HasAsked, HasAskedOne, HasHandled, HasTurned, IsAtWork, IsNextIn, IsToSettle, has_room_at, is_finished_at, sent_at}
 use Rattle.world.proofs.LawfulRows.{lawful-rows}
 use Rattle.world.proofs.ThereLaws.{row-there}
 use Rattle.world.proofs.KnownLaws.{held-on-is, held-there, row-known}
@@ -160,23 +160,64 @@ ack-asked shape node sender id d sent =
           })) is.2,
     )
 
+-- none, where nothing was sent
+ack-none : (shape : Shape) (node : NodeView) (sender : RowName) (id : RecordId) → sent_at shape node sender id ≡ None
+    → settle_asked shape node sender id ≡ None
+ack-none shape node sender id none = by_place (held_on shape node.held sender) none
+  where
+    by_place : (o : Option HeldView)
+        → option_and_then (λ (h : HeldView). found_delivery id (row_held shape h sender).pending) o ≡ None
+        → option_and_then (settling shape sender id) o ≡ None
+    by_place None e = refl
+    by_place (Some held) e = ap (option_map (λ (d : Delivery). record {
+      lease = held.lease;
+      name = sender;
+      entry = entries.Ack held.lease.seq sender id;
+      late = false;
+    })) e
+
 -- an acknowledgement is a turn
-pub ack-turned : (old new : BookView) (node : NodeView) (sender : RowName) (d : Delivery) (more : Bool)
-    → sent_at old.case.topology node sender d.id ≡ Some d
-    → IsLeastSent old.case.topology (run_of old.case.topology old.history) d.id sender
-    → (IsSome old.rows → is_handled d.id old.history ≡ true)
-    → HasAsked old new (settle_asked old.case.topology node sender d.id) more → HasTurned old new more × (more ≡ true)
-ack-turned old new node sender d more sent least handled done =
-    let asked = ack-asked old.case.topology node sender d.id d sent in
+pub ack-turned : (old new : BookView) (node : NodeView) (sender : RowName) (id : RecordId) (d : Delivery) (more : Bool)
+    → sent_at old.case.topology node sender id ≡ Some d
+    → IsLeastSent old.case.topology (run_of old.case.topology old.history) id sender
+    → (IsSome old.rows → is_handled id old.history ≡ true)
+    → HasAsked old new (settle_asked old.case.topology node sender id) more → HasTurned old new more × (more ≡ true)
+ack-turned old new node sender id d more sent least handled done =
+    let asked = ack-asked old.case.topology node sender id d sent in
     let is = subst (λ (o : Option Request). HasAsked old new o more) asked.1 done in (
       turned-asked old new (Some (record {
         lease = asked.0.lease;
         name = sender;
-        entry = entries.Ack asked.0.lease.seq sender d.id;
+        entry = entries.Ack asked.0.lease.seq sender id;
         late = false;
       })) more is (λ told from claimed. record { earlier = claimed; least = least; handled = handled told }),
       sym is.is_more,
     )
+
+-- so is that of the least id, whether it was sent or not
+pub ack-least : (old new : BookView) (node : NodeView) (sender : RowName) (id : RecordId) (more : Bool)
+    → IsLeastSent old.case.topology (run_of old.case.topology old.history) id sender
+    → (IsSome old.rows → is_handled id old.history ≡ true)
+    → HasAsked old new (settle_asked old.case.topology node sender id) more → HasTurned old new more
+ack-least old new node sender id more least handled done = by_sent (sent_at old.case.topology node sender id) refl
+  where
+    by_sent : (o : Option Delivery) → sent_at old.case.topology node sender id ≡ o → HasTurned old new more
+    by_sent None none =
+        turned-asked old new None more
+        (subst (λ (o : Option Request). HasAsked old new o more) (ack-none old.case.topology node sender id none) done) (λ told. tt)
+    by_sent (Some d) sent = (ack-turned old new node sender id d more sent least handled done).0
+
+-- which writes an entry, where the rows are told
+pub ack-more : (old new : BookView) (node : NodeView) (sender : RowName) (id : RecordId) (more : Bool) → IsAtWork old node
+    → sender.part < parts_of old.case.topology
+    → IsLeastSent old.case.topology (run_of old.case.topology old.history) id sender
+    → (IsSome old.rows → is_handled id old.history ≡ true)
+    → HasAsked old new (settle_asked old.case.topology node sender id) more → IsSome old.rows → more ≡ true
+ack-more old new node sender id more at there least handled done told = by_sent (sent_at old.case.topology node sender id) refl
+  where
+    by_sent : (o : Option Delivery) → sent_at old.case.topology node sender id ≡ o → more ≡ true
+    by_sent None none = absurd (pending-sent old node sender id at told there least.pending none)
+    by_sent (Some d) sent = (ack-turned old new node sender id d more sent least handled done).1
 
 -- ---- a record that is to be handled
 
@@ -222,6 +263,29 @@ forgets-full book node name held at told on full =
       many = let many = leb-true 64 (length row.seen) parts.0 in omega (arith, many);
       rises = ltb-true row.floor (floor_of run) parts.1;
     }
+
+-- a row that has fewer than 64 ids is not full
+few-not_full : (run : Run) (row : Contents) → nat_lt (length row.seen) 64 ≡ true → is_full run row ≡ false
+few-not_full run row few = by_many (nat_le 64 (length row.seen)) refl
+  where
+    by_many : (b : Bool) → nat_le 64 (length row.seen) ≡ b → (b && nat_lt row.floor (floor_of run)) ≡ false
+    by_many false is = refl
+    by_many true is =
+        let many = leb-true 64 (length row.seen) is in
+        let less = ltb-true (length row.seen) 64 few in absurd (omega (arith, many, less))
+
+-- nor is one that has room as it is held
+pub room-not_full : (book : BookView) (node : NodeView) (name : RowName) → IsAtWork book node → IsSome book.rows
+    → name.part < parts_of book.case.topology → has_room_at book.case.topology node name ≡ true
+    → let run = run_of book.case.topology book.history in is_full run (row_of book.case.topology run name) ≡ false
+room-not_full book node name at told there room =
+    let shape = book.case.topology in
+    let run = run_of shape book.history in
+    let held = held-there book node name at there in
+    subst (λ (c : Contents). is_full run c ≡ false) (row-known book node name held.0 at told held.1)
+    (few-not_full run (row_held shape held.0 name)
+    (sym (ap (λ (o : Option HeldView). option_map_or (λ (h : HeldView). nat_lt (length (row_held shape h name).seen) 64) o true) held.1)
+    ∙ room))
 
 -- a purge before a record is a turn
 pub forget-turned : (old new : BookView) (node : NodeView) (sender : RowName) (d : Delivery) (more : Bool) → IsAtWork old node
@@ -351,7 +415,17 @@ found-handled book node sender d is b finished told =
     sym (finished-is book node sender d is.at_work told (lawful-rows book.case book.history book.rows told is.lawful.held).0
     (sent-to book node sender d.id d is.at_work is.part is.sent).there is.sent) ∙ finished
 
--- it is to be settled where it is not finished and its row has no ids to forget
+-- it is to be settled where it is not finished and its row has room
+pub room-settles : (book : BookView) (node : NodeView) (sender : RowName) (d : Delivery) → IsFound book node sender d
+    → is_finished_at book.case.topology node d ≡ false → has_room_at book.case.topology node d.to ≡ true
+    → IsSome book.rows → IsToSettle book.case book.history sender d
+room-settles book node sender d is left room told = record {
+  pending = sent-pending book node sender d.id d is.at_work told is.sent;
+  left = found-handled book node sender d is false left told;
+  room = room-not_full book node d.to is.at_work told (sent-to book node sender d.id d is.at_work is.part is.sent).there room;
+}
+
+-- and where it is not finished and its row has no ids to forget
 pub found-settles : (old new : BookView) (node : NodeView) (sender : RowName) (d : Delivery) → IsFound old node sender d
     → is_finished_at old.case.topology node d ≡ false
     → HasAskedOne old new (MayAskForget old.case.topology node 64 (floor_of (run_of old.case.topology old.history)) d.to) false

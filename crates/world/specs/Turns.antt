@@ -205,6 +205,12 @@ is_finished_at shape node delivery =
     option_map_or (λ (h : HeldView). is_finished delivery.id (row_held shape h delivery.to))
     (held_on shape node.held delivery.to) false
 
+-- whether a row, as it is held, has fewer than 64 ids
+abbrev pub has_room_at : Shape → NodeView → RowName → Bool
+has_room_at shape node name =
+    option_map_or (λ (h : HeldView). nat_lt (length (row_held shape h name).seen) 64)
+    (held_on shape node.held name) true
+
 -- a delivery can be kept
 pub record CanBeKept (delivery : Delivery) : Type 0 where
   pub id : IsId delivery.id

@@ -1,5 +1,5 @@
 //! What a drain does with the least id that is not acknowledged.
-ghost use Rattle.std.specs.Prelude.{◌≡◌, ◌<◌, ◌≤◌, ℕ, IfErr, IfOk, IfSome, OnOk, Some, IsSome, true, false, option_copied};
+ghost use Rattle.std.specs.Prelude.{◌≡◌, ◌<◌, ◌≤◌, ℕ, IfErr, IfOk, IfSome, OnOk, Some, IsSome, IsTrue, true, false, option_copied};
 ghost use Rattle.mw_types.specs.declared.TheConstants.{MAX_STAMP};
 ghost use Rattle.topology.specs.Shapes.{parts_of};
 ghost use Rattle.row_parts.specs.Contents.{IsId, is_finished};
@@ -11,17 +11,17 @@ ghost use Rattle.node.specs.Works.{IsWorkOf};
 ghost use Rattle.node.specs.Messages.{IsDeliverable, IsSentFrom};
 ghost use Rattle.book.specs.OwnDesks.{own_view};
 ghost use Rattle.run_history.specs.Legal.{floor_of};
-ghost use Rattle.run_history.specs.Finished.{is_handled};
+ghost use Rattle.run_history.specs.Finished.{handles, is_handled};
 ghost use Rattle.row_parts.specs.Contents.{same_id};
 ghost use Rattle.node.specs.Asking.{MayAskForget, settle_asked};
-ghost use Rattle.world.specs.Turns.{CanBeKept, HasAsked, HasAskedOne, HasFailed, HasHandled, HasTurned, IsAtWork, IsToSettle, WhereTold, is_committed, is_finished_at, sent_at};
+ghost use Rattle.world.specs.Turns.{CanBeKept, HasAsked, HasAskedOne, HasFailed, HasHandled, HasTurned, IsAtWork, IsToSettle, WhereTold, has_room_at, is_committed, is_finished_at, sent_at};
 
 use book::{Book, OwnDesk};
 use computations::Computation;
-use mw_types::{Delivery, Duplicate, NoMemory, RecordId, RowName};
+use mw_types::{Delivery, Duplicate, Entry, NoMemory, RecordId, RowName};
 use node::{Message, Node, NodeFault, Outcome, Parcel, Receipt};
 use row_keeper::Keeper;
-use run_history::Case;
+use run_history::{Case, History};
 use std::alloc::Global;
 
 // Settles the least id that is not acknowledged: it is acknowledged, where its record is handled;
@@ -51,6 +51,10 @@ pub(crate) fn settle<'a, K: Keeper, C: Computation>(
     let part = sender.part;
     if parts <= part {
         return Ok(false);
+    }
+    // Most records were handled right before, and so no row is looked up for them.
+    if is_last_handled(book.history(), id) {
+        return acknowledge(alloc, book, node, sender, id);
     }
     let found = sent(alloc, case, node, &sender, id)?;
     match found {
@@ -84,8 +88,12 @@ fn settle_sent<'a, K: Keeper, C: Computation>(
     // Its clauses say what always holds of a book.
     book.history();
     let case = book.case();
-    if is_finished(case, node, &delivery) {
+    let (finished, room) = standing(case, node, &delivery);
+    if finished {
         return acknowledge(alloc, book, node, sender, delivery.id);
+    }
+    if room {
+        return handle(alloc, book, work, node, sender, delivery);
     }
     let forgot = forget(alloc, book, node, &delivery.to)?;
     if forgot {
@@ -159,6 +167,38 @@ fn is_same(a: RecordId, b: RecordId) -> bool
     ensures { result ≡ same_id a b }
 {
     a.commit == b.commit && a.index == b.index
+}
+
+// Whether the last entry says that the record of an id was handled.
+fn is_last_handled(history: &History, id: RecordId) -> bool
+    ensures { IsTrue result → is_handled id history.now ≡ true }
+{
+    match history.entries().last() {
+        Some(entry) => is_handle_of(entry, id),
+        None => false,
+    }
+}
+
+// Whether an entry says that the record of an id was handled.
+fn is_handle_of(entry: &Entry, id: RecordId) -> bool
+    ensures { result ≡ handles id entry.now }
+{
+    match entry {
+        Entry::Handle { id: handled, .. } => is_same(id, *handled),
+        _ => false,
+    }
+}
+
+// Whether a record is finished in its row, and whether that has fewer than 64 ids, by one look-up.
+fn standing(case: &Case, node: &Node<u64>, delivery: &Delivery) -> (bool, bool)
+    requires part { delivery.now.to.part < parts_of case.now.topology }
+    ensures finished { result.0 ≡ is_finished_at case.now.topology node.now delivery.now }
+    ensures room { result.1 ≡ has_room_at case.now.topology node.now delivery.now.to }
+{
+    match node.row(case, &delivery.to) {
+        Some(row) => (row.is_finished(delivery.id), row.seen.len() < 64),
+        None => (false, true),
+    }
 }
 
 // Whether a record is finished in its row.
