@@ -42,7 +42,7 @@ pub(crate) fn report_all<'a, K: Keeper>(
     Ok(())
 }
 
-// Reports the own work of one interval.
+// Reports the own work of one interval, where that can raise its mark.
 fn report<'a, K: Keeper>(
     alloc: Global,
     book: &mut Book<'a, K>,
