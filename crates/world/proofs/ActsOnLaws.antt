@@ -10,7 +10,7 @@ use Rattle.book.specs.OwnDesks.{own_view}
 use Rattle.holdings.specs.Holding.{held_at}
 use Rattle.node.specs.Answers.{AnswersAsked, AnswersFire, AnswersPurge, AnswersReport, AnswersSweep}
 use Rattle.node.specs.Asking.{line_asked, work_asked}
-use Rattle.node.specs.Workers.{NodeView, idle, sending_of, with_written, worker_at}
+use Rattle.node.specs.Workers.{NodeView, sending_of, with_written, worker_at}
 use Rattle.node.specs.declared.outcome.NodeFault.{NodeFault}
 use Rattle.node.specs.declared.outcome.Outcome.{Outcome}
 use Rattle.node.specs.declared.outcome.Outcome.TheVariants as outcomes

@@ -1,5 +1,5 @@
 -- A worker that crashes.
-use Rattle.std.proofs.Common.{◌≡◌, ◌∙◌, ℕ, refl, sym, ap}
+use Rattle.std.proofs.Common.{◌≡◌, ◌∙◌, sym, ap}
 use Rattle.run_history.proofs.Lists.{none_some}
 use Rattle.book.specs.Books.{BookView, core_of}
 use Rattle.book.specs.Lawful.{IsLawful}
@@ -10,8 +10,7 @@ use Rattle.node.specs.declared.outcome.Outcome.TheVariants as outcomes
 use Rattle.node.proofs.FitLaws.{grown_looked, looked_not}
 use Rattle.scripts.specs.declared.step.Step.TheVariants as steps
 use Rattle.world.specs.Standing.{FitsOwn}
-use Rattle.world.specs.WorkerCalls.{ActsOn, HasCalled, HasLeases, HasRested}
-use Rattle.world.specs.Turns.{HasFailed}
+use Rattle.world.specs.WorkerCalls.{ActsOn, HasCalled, HasLeases}
 use Rattle.world.proofs.ActsOnLaws.{acting, when-told}
 use Rattle.world.proofs.deeds.Crashes.{crash-acts}
 

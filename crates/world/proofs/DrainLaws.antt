@@ -18,9 +18,9 @@ use Rattle.node.specs.Asking.{MayAskForget}
 use Rattle.node.specs.Messages.{IsDeliverable}
 use Rattle.node.specs.Workers.{NodeView}
 use Rattle.world.specs.Drains.{HasClaimedAll, HasEnded, IsDraining}
-use Rattle.world.specs.Turns.{CanBeKept, HasAskedOne, HasGone, HasStepped, HasTurned, IsToSettle, WhereTold, is_finished_at, sent_at}
+use Rattle.world.specs.Turns.{CanBeKept, HasAskedOne, HasGone, HasStepped, HasTurned, WhereTold, is_finished_at, sent_at}
 use Rattle.world.proofs.GoLaws.{fact-back, fact-on, stayed-turn, told-on}
-use Rattle.world.proofs.SettleLaws.{IsFound, forget-turned, found-handled, found-settles, sender-there, sent-id, sent-to}
+use Rattle.world.proofs.SettleLaws.{IsFound, forget-turned, found-handled, sender-there, sent-id, sent-to}
 use Rattle.world.proofs.TurnLaws.{stepped-on}
 
 -- ---- where the rows are told
@@ -40,11 +40,6 @@ pub told-fact-back : (Fact : CaseShape → List Entry → Type 0) (old new : Boo
     → WhereTold new (Fact new.case new.history) → WhereTold old (Fact old.case old.history)
 told-fact-back Fact old new stepped fact = λ told. fact-back Fact old new stepped (fact (told-on old new None stepped told))
 
--- where more is told after a step it was told before
-pub told-more : (old new : BookView) (own : Option Entry) (more : Bool) → HasStepped old new own → WhereTold new (more ≡ true)
-    → WhereTold old (more ≡ true)
-told-more old new own more stepped is = λ told. is (stepped.tells ∙ told)
-
 -- a turn that has more has not come to the end
 pub not-ended : {Fact : Type 0} (book : BookView) (more : Bool) → WhereTold book (more ≡ true) → more ≡ false
     → WhereTold book Fact
@@ -61,16 +56,15 @@ stayed-on one two three more first turned none = stepped-on one two three None f
 
 -- ---- what was found
 
--- a record that was found may be delivered, after a step that wrote nothing
-pub found-deliverable : (old new : BookView) (node : NodeView) (sender : RowName) (d : Delivery) → IsFound old node sender d
-    → CanBeKept d → HasStepped old new None → IsDeliverable new.case.topology d sender
-found-deliverable old new node sender d is kept stepped =
-    subst (λ (c : CaseShape). IsDeliverable c.topology d sender) (sym stepped.case) (record {
-      id = kept.id;
-      stamp = kept.stamp;
-      to = sent-to old node sender d.id d is.at_work is.part is.sent;
-      from = is.part;
-    })
+-- a record that was found may be delivered
+pub found-deliverable : (book : BookView) (node : NodeView) (sender : RowName) (d : Delivery) → IsFound book node sender d
+    → CanBeKept d → IsDeliverable book.case.topology d sender
+found-deliverable book node sender d is kept = record {
+  id = kept.id;
+  stamp = kept.stamp;
+  to = sent-to book node sender d.id d is.at_work is.part is.sent;
+  from = is.part;
+}
 
 -- ---- claims and then turns
 
@@ -103,18 +97,10 @@ rose-after old mid new gone rose = let later = gone.faults in omega (arith, rose
 
 -- ---- a record that was found
 
--- whether a record is finished, by the case that a book tells
-pub finished-by : (case : CaseShape) (book : BookView) (node : NodeView) (d : Delivery) (b found : Bool) → case ≡ book.case
-    → found ≡ is_finished_at case.topology node d → found ≡ b → is_finished_at book.case.topology node d ≡ b
-finished-by case book node d b found same is e =
-    subst (λ (k : CaseShape). is_finished_at k.topology node d ≡ b) same (sym is ∙ e)
-
 -- a record that was found goes to a part that is there
-pub found-part : (case : CaseShape) (book : BookView) (node : NodeView) (sender : RowName) (d : Delivery) → case ≡ book.case
-    → IsFound book node sender d → d.to.part < parts_of case.topology
-found-part case book node sender d same is =
-    subst (λ (k : CaseShape). d.to.part < parts_of k.topology) (sym same)
-    (sent-to book node sender d.id d is.at_work is.part is.sent).there
+pub found-part : (book : BookView) (node : NodeView) (sender : RowName) (d : Delivery) → IsFound book node sender d
+    → d.to.part < parts_of book.case.topology
+found-part book node sender d is = (sent-to book node sender d.id d is.at_work is.part is.sent).there
 
 -- a row that forgets before it handles a record is a turn
 pub forgot-turned : (old new : BookView) (node : NodeView) (sender : RowName) (d : Delivery) (more : Bool) → IsFound old node sender d
@@ -123,32 +109,6 @@ pub forgot-turned : (old new : BookView) (node : NodeView) (sender : RowName) (d
     → HasTurned old new more
 forgot-turned old new node sender d more is left done =
     forget-turned old new node sender d more is.at_work is.sent is.least (found-handled old node sender d is false left) done
-
--- where its row has nothing to forget nothing was written, and the record is to be handled
-pub record HasNotForgot (old new : BookView) (sender : RowName) (d : Delivery) : Type 0 where
-  pub stepped : HasStepped old new None
-  pub settles : WhereTold new (IsToSettle new.case new.history sender d)
-
--- and so it is
-pub not-forgot : (old new : BookView) (node : NodeView) (sender : RowName) (d : Delivery) (more : Bool) → IsFound old node sender d
-    → is_finished_at old.case.topology node d ≡ false
-    → HasAskedOne old new (MayAskForget old.case.topology node 64 (floor_of (run_of old.case.topology old.history)) d.to) more
-    → more ≡ false → HasNotForgot old new sender d
-not-forgot old new node sender d more is left done none =
-    let stepped = no-more old new more (forgot-turned old new node sender d more is left done) none in record {
-      stepped = stepped;
-      settles = told-fact-on (λ (c : CaseShape) (h : List Entry). IsToSettle c h sender d) old new stepped
-          (found-settles old new node sender d is left
-          (subst (HasAskedOne old new
-          (MayAskForget old.case.topology node 64 (floor_of (run_of old.case.topology old.history)) d.to)) none done));
-    }
-
--- the least id is as before
-pub least-on : (old new : BookView) (sender : RowName) (id : RecordId) → HasStepped old new None
-    → IsLeastSent old.case.topology (run_of old.case.topology old.history) id sender
-    → IsLeastSent new.case.topology (run_of new.case.topology new.history) id sender
-least-on old new sender id stepped least =
-    fact-on (λ (c : CaseShape) (h : List Entry). IsLeastSent c.topology (run_of c.topology h) id sender) old new stepped least
 
 -- what was sent, by the case that a book tells
 pub sent-by : (case : CaseShape) (book : BookView) (node : NodeView) (sender : RowName) (id : RecordId) (found o : Option Delivery)

@@ -1,23 +1,21 @@
 -- Messages that come into flight, and that leave it.
-use Rattle.std.proofs.Common.{◌≡◌, ◌∙◌, ◌+◌, ◌<◌, ◌≤◌, ◌^◌, ◌++◌, ◌∷◌, ℕ, Bool, true, false, List, [], length, get_or, refl, sym, ap, subst, arith, append_assoc, length-append}
-use Rattle.std.specs.Prelude.{Option, None, Some, IfSome, All, if◌then◌else◌, map, nat_le, slice_get, slice_set, unwrap_or}
-use Rattle.std.specs.Option.{option_map, option_map_or, option_to_list}
+use Rattle.std.proofs.Common.{◌≡◌, ◌∙◌, ◌+◌, ◌^◌, ◌++◌, ◌∷◌, ℕ, Bool, true, false, List, [], length, refl, sym, ap, subst}
+use Rattle.std.specs.Prelude.{Option, None, Some, All, if◌then◌else◌, nat_le, slice_get, slice_set, unwrap_or}
+use Rattle.std.specs.Option.{option_map, option_map_or}
 use Rattle.std.proofs.lemmas.List.{append-nil, length-map, map-append, map-set}
-use Rattle.std.proofs.lemmas.List.Elements.{All-append, All-from_recursion, All-get_or, All-map, All-push, All-set}
+use Rattle.std.proofs.lemmas.List.Elements.{All-get_or, All-push, All-set}
 use Rattle.std.proofs.lemmas.Option.{get_or_from_slice_get, slice_get-map, slice_get_within}
 use Rattle.mw_types.specs.declared.entry.Entry.{Entry}
 use Rattle.run_history.specs.Cases.{CaseShape}
 use Rattle.book.specs.Books.{BookView}
-use Rattle.book.specs.Desks.{HasLooked}
 use Rattle.book.specs.OwnDesks.{own_view}
 use Rattle.node.specs.Messages.{IsOutgoing}
 use Rattle.node.specs.Received.{outgoing_of}
-use Rattle.node.specs.Workers.{NodeView, Worker, worker_at}
 use Rattle.node.specs.declared.message.Message.{Message}
 use Rattle.node.specs.declared.outcome.Outcome.{Outcome}
 use Rattle.node.specs.declared.outcome.Outcome.TheVariants as outcomes
 use Rattle.node.specs.declared.outgoing.Outgoing.{Outgoing}
-use Rattle.scripts.specs.Acts.{Deed, act, copy_message, done, has_numbers, lose_message, nothing, sent_after, stays, without_message}
+use Rattle.scripts.specs.Acts.{Deed, copy_message, done, has_numbers, lose_message, nothing, sent_after, stays, without_message}
 use Rattle.scripts.specs.Worlds.{World, in_flight}
 use Rattle.scripts.specs.declared.step.Step.TheVariants as steps
 use Rattle.world.specs.Standing.{IsFlying}

@@ -35,6 +35,12 @@ mark-other marks interval other mark differs =
     unwrap_or-slice_get (with_mark interval mark marks) other 0 ∙ get_or-set_other marks interval other mark 0 differs
     ∙ sym (unwrap_or-slice_get marks other 0)
 
+-- and they all are, where it is the mark that the interval had
+pub mark-same : (marks : List ℕ) (interval : ℕ) → with_mark interval (mark_of marks interval) marks ≡ marks
+mark-same [] interval = refl
+mark-same (m ∷ marks) zero = refl
+mark-same (m ∷ marks) (suc interval) = ap (λ ms. m ∷ ms) (mark-same marks interval)
+
 -- ---- numbers of intervals
 
 -- what holds of each of some parts holds of one that is among them

@@ -1,15 +1,17 @@
 -- What a report leaves of the marks of a book.
-use Rattle.std.proofs.Common.{◌≡◌, ◌<◌, ◌+◌, ℕ, zero, suc, List, [], ◌∷◌, ◌++◌, length, refl, sym, ◌∙◌, ap, subst, arith}
-use Rattle.std.specs.Prelude.{Some, None, IsSome, slice_get}
+use Rattle.std.proofs.Common.{◌≡◌, ◌<◌, ◌≤◌, ◌+◌, ℕ, zero, suc, List, [], ◌∷◌, ◌++◌, length, refl, sym, ◌∙◌, ap, subst, arith}
+use Rattle.std.specs.Prelude.{Some, None, IsSome, max, min, slice_get}
 use Rattle.mw_types.specs.declared.entry.Entry.{Entry}
 use Rattle.topology.specs.Rules.{IsTopology, interval_count}
 use Rattle.run_history.specs.Cases.{CaseShape, intervals_of}
 use Rattle.run_history.specs.Fences.{known, last_claim}
 use Rattle.run_history.specs.Marks.{own_work}
 use Rattle.run_history.specs.Runs.{run_of}
+use Rattle.run_history.specs.Watermarks.{least}
 use Rattle.run_history.proofs.CaseIntervals.{length-intervals}
 use Rattle.run_history.proofs.Known.{known-last}
 use Rattle.run_history.proofs.Lists.{some_same}
+use Rattle.watermark.specs.Marks.{feeding_marks, mark_of}
 use Rattle.book.specs.Books.{BookView}
 use Rattle.book.specs.Marks.{reported, with_mark}
 use Rattle.book.specs.OwnDesks.{own_view}
@@ -24,6 +26,7 @@ use Rattle.world.specs.Passes.{pass_of, with_report}
 use Rattle.world.specs.Turns.{HasReported, HasStepped, IsAtWork}
 use Rattle.world.proofs.GoLaws.{told-on}
 use Rattle.world.proofs.KnownLaws.{told-fact}
+use Rattle.world.proofs.Marked.{mark-same}
 use Rattle.world.proofs.PassLaws.{passed, passed-all, passed-next}
 use Rattle.world.proofs.TurnLaws.{at_work-kept, stepped-looked, stepped-not, stepped-on}
 
@@ -53,6 +56,16 @@ marked-reported old new was node interval mark held at rules there less marked t
     ∙ ap (λ (o : ℕ). with_mark held.lease.interval (reported old.case.topology held.lease.interval o old.marks) old.marks) work
     ∙ ap (λ (i : ℕ). with_mark i (reported old.case.topology i (own_work old.case (run_of old.case.topology old.history) bounds) old.marks)
     old.marks) is.of_interval
+
+-- a mark that has come up to those that feed its interval stays, whatever the own work is
+pub high-reported : (book : BookView) (interval : ℕ)
+    → least (feeding_marks book.case.topology interval book.marks) ≤ mark_of book.marks interval → HasReported book book interval
+high-reported book interval high bounds bounded =
+    let mark = mark_of book.marks interval in
+    let own = own_work book.case (run_of book.case.topology book.history) bounds in
+    let inputs = least (feeding_marks book.case.topology interval book.marks) in
+    let stays : max mark (min own inputs) ≡ mark = omega (arith, high) in
+    sym (ap (λ (m : ℕ). with_mark interval m book.marks) stays ∙ mark-same book.marks interval)
 
 -- what a report of a worker at work leaves
 pub record HasGiven (old new : BookView) (interval : ℕ) (node : NodeView) : Type 0 where

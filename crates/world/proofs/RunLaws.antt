@@ -1,13 +1,13 @@
 -- Steps of a script that are done one after another.
-use Rattle.std.proofs.Common.{◌≡◌, ◌∙◌, ◌≤◌, ◌++◌, ◌∷◌, List, [], refl, sym, ap, subst, arith}
-use Rattle.std.specs.Prelude.{Option, None, Some, IsSome, IfSome, drop}
+use Rattle.std.proofs.Common.{◌≡◌, ◌∙◌, ◌≤◌, ◌∷◌, List, refl, sym, ap, subst, arith}
+use Rattle.std.specs.Prelude.{Option, None, Some, IsSome, IfSome}
 use Rattle.std.specs.Option.{is_some, option_to_list}
 use Rattle.mw_types.specs.declared.entry.Entry.{Entry}
 use Rattle.run_history.specs.Cases.{CaseShape}
 use Rattle.run_history.specs.Fences.{Begins}
 use Rattle.run_history.proofs.Beginnings.{Begins-itself, Begins-trans}
 use Rattle.node.specs.declared.outcome.Outcome.{Outcome}
-use Rattle.scripts.specs.Acts.{Acted, act, world_after, world_then}
+use Rattle.scripts.specs.Acts.{Acted, world_after, world_then}
 use Rattle.scripts.specs.Keeping.{AppendsAtMostOne}
 use Rattle.scripts.specs.Worlds.{World}
 use Rattle.scripts.specs.declared.step.Step.{Step}

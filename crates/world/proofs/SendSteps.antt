@@ -1,25 +1,21 @@
 -- The step by which a worker sends all that it has to send.
-use Rattle.std.proofs.Common.{◌≡◌, ◌∙◌, ◌+◌, ◌<◌, ◌≤◌, ◌^◌, ◌++◌, ◌∷◌, ℕ, Bool, true, false, List, [], length, get_or, refl, sym, ap, subst, arith, length-append, le-leb}
-use Rattle.std.specs.Prelude.{Option, None, Some, All, if◌then◌else◌, map, nat_le, slice_get, slice_set, unwrap_or}
+use Rattle.std.proofs.Common.{◌≡◌, ◌∙◌, ◌+◌, ◌^◌, ◌++◌, ℕ, true, false, List, [], length, refl, sym, ap, subst}
+use Rattle.std.specs.Prelude.{Option, Some, All, if◌then◌else◌, map, nat_le, slice_set, unwrap_or}
 use Rattle.std.proofs.lemmas.List.{append-nil, length-map, set-get_or}
 use Rattle.std.proofs.lemmas.List.Elements.{All-append, All-map}
 use Rattle.std.proofs.lemmas.Option.{get_or_from_slice_get}
 use Rattle.mw_types.specs.declared.entry.Entry.{Entry}
-use Rattle.run_history.specs.Cases.{CaseShape}
 use Rattle.book.specs.Books.{BookView, core_of}
-use Rattle.book.specs.Desks.{HasLooked}
 use Rattle.book.specs.Lawful.{IsLawful}
 use Rattle.book.specs.OwnDesks.{own_view}
 use Rattle.book.proofs.OwnLaws.{sound}
 use Rattle.node.specs.Workers.{NodeView, Worker, idle, leases_of, worker_at}
 use Rattle.node.specs.declared.message.Message.{Message}
-use Rattle.node.specs.declared.outcome.Outcome.{Outcome}
 use Rattle.node.specs.declared.outcome.Outcome.TheVariants as outcomes
 use Rattle.node.specs.declared.outgoing.Outgoing.{Outgoing}
 use Rattle.node.proofs.FitLaws.{grown_looked, looked-moved, looked_not, more-looked}
-use Rattle.scripts.specs.Acts.{act, done, has_numbers, nothing, send_all}
+use Rattle.scripts.specs.Acts.{done, has_numbers, nothing, send_all}
 use Rattle.scripts.specs.Worlds.{World, worker_of}
-use Rattle.scripts.specs.declared.step.Step.TheVariants as steps
 use Rattle.world.specs.Standing.{FitsOwn, IsFlying}
 use Rattle.world.specs.WorkerCalls.{HasCalled, IsSending, IsWorldAt, SendsOn, world_with}
 use Rattle.world.specs.WorldStates.{flight_of}

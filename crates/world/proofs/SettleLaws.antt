@@ -3,7 +3,7 @@ use Rattle.std.proofs.Common.{◌≡◌, ◌<◌, ◌&&◌, ℕ, Bool, true, fal
 use Rattle.std.specs.Prelude.{Option, Some, None, IsSome, IfSome, nat_lt, nat_le}
 use Rattle.std.specs.List.{list_all}
 use Rattle.std.specs.Option.{is_some, option_and_then, option_map, option_map_or}
-use Rattle.std.proofs.lemmas.Bool.{and_parts, both_ways, leb-true, ltb-true, le-leb, lt-ltb}
+use Rattle.std.proofs.lemmas.Bool.{and_parts, leb-true, ltb-true, le-leb, lt-ltb}
 use Rattle.mw_types.specs.declared.delivery.Delivery.{Delivery}
 use Rattle.mw_types.specs.declared.entry.Entry.{Entry}
 use Rattle.mw_types.specs.declared.entry.Entry.TheVariants as entries
@@ -33,7 +33,7 @@ use Rattle.node.specs.Asking.{HasToForget, MayAskForget, Request, forgetting, se
 use Rattle.node.specs.Messages.{IsComputation, IsSentFrom}
 use Rattle.node.specs.Workers.{NodeView}
 use Rattle.world.specs.Drains.{HasClaimedAll, IsNextEntry, IsToHandle, is_full}
-use Rattle.world.specs.Turns.{HasAsked, HasAskedOne, HasHandled, HasTurned, IsAtWork, IsNextIn, IsToSettle, is_finished_at, sent_at}
+use Rattle.world.specs.Turns.{HasAsked, HasAskedOne, HasHandled, HasTurned, IsAtWork, IsNextIn, IsToSettle, is_finished_at, is_full_at, sent_at}
 use Rattle.world.proofs.LawfulRows.{lawful-rows}
 use Rattle.world.proofs.ThereLaws.{row-there}
 use Rattle.world.proofs.KnownLaws.{held-on-is, held-there, row-known}
@@ -160,23 +160,64 @@ ack-asked shape node sender id d sent =
           })) is.2,
     )
 
+-- none, where nothing was sent
+ack-none : (shape : Shape) (node : NodeView) (sender : RowName) (id : RecordId) → sent_at shape node sender id ≡ None
+    → settle_asked shape node sender id ≡ None
+ack-none shape node sender id none = by_place (held_on shape node.held sender) none
+  where
+    by_place : (o : Option HeldView)
+        → option_and_then (λ (h : HeldView). found_delivery id (row_held shape h sender).pending) o ≡ None
+        → option_and_then (settling shape sender id) o ≡ None
+    by_place None e = refl
+    by_place (Some held) e = ap (option_map (λ (d : Delivery). record {
+      lease = held.lease;
+      name = sender;
+      entry = entries.Ack held.lease.seq sender id;
+      late = false;
+    })) e
+
 -- an acknowledgement is a turn
-pub ack-turned : (old new : BookView) (node : NodeView) (sender : RowName) (d : Delivery) (more : Bool)
-    → sent_at old.case.topology node sender d.id ≡ Some d
-    → IsLeastSent old.case.topology (run_of old.case.topology old.history) d.id sender
-    → (IsSome old.rows → is_handled d.id old.history ≡ true)
-    → HasAsked old new (settle_asked old.case.topology node sender d.id) more → HasTurned old new more × (more ≡ true)
-ack-turned old new node sender d more sent least handled done =
-    let asked = ack-asked old.case.topology node sender d.id d sent in
+pub ack-turned : (old new : BookView) (node : NodeView) (sender : RowName) (id : RecordId) (d : Delivery) (more : Bool)
+    → sent_at old.case.topology node sender id ≡ Some d
+    → IsLeastSent old.case.topology (run_of old.case.topology old.history) id sender
+    → (IsSome old.rows → is_handled id old.history ≡ true)
+    → HasAsked old new (settle_asked old.case.topology node sender id) more → HasTurned old new more × (more ≡ true)
+ack-turned old new node sender id d more sent least handled done =
+    let asked = ack-asked old.case.topology node sender id d sent in
     let is = subst (λ (o : Option Request). HasAsked old new o more) asked.1 done in (
       turned-asked old new (Some (record {
         lease = asked.0.lease;
         name = sender;
-        entry = entries.Ack asked.0.lease.seq sender d.id;
+        entry = entries.Ack asked.0.lease.seq sender id;
         late = false;
       })) more is (λ told from claimed. record { earlier = claimed; least = least; handled = handled told }),
       sym is.is_more,
     )
+
+-- so is that of the least id, whether it was sent or not
+pub ack-least : (old new : BookView) (node : NodeView) (sender : RowName) (id : RecordId) (more : Bool)
+    → IsLeastSent old.case.topology (run_of old.case.topology old.history) id sender
+    → (IsSome old.rows → is_handled id old.history ≡ true)
+    → HasAsked old new (settle_asked old.case.topology node sender id) more → HasTurned old new more
+ack-least old new node sender id more least handled done = by_sent (sent_at old.case.topology node sender id) refl
+  where
+    by_sent : (o : Option Delivery) → sent_at old.case.topology node sender id ≡ o → HasTurned old new more
+    by_sent None none =
+        turned-asked old new None more
+        (subst (λ (o : Option Request). HasAsked old new o more) (ack-none old.case.topology node sender id none) done) (λ told. tt)
+    by_sent (Some d) sent = (ack-turned old new node sender id d more sent least handled done).0
+
+-- which writes an entry, where the rows are told
+pub ack-more : (old new : BookView) (node : NodeView) (sender : RowName) (id : RecordId) (more : Bool) → IsAtWork old node
+    → sender.part < parts_of old.case.topology
+    → IsLeastSent old.case.topology (run_of old.case.topology old.history) id sender
+    → (IsSome old.rows → is_handled id old.history ≡ true)
+    → HasAsked old new (settle_asked old.case.topology node sender id) more → IsSome old.rows → more ≡ true
+ack-more old new node sender id more at there least handled done told = by_sent (sent_at old.case.topology node sender id) refl
+  where
+    by_sent : (o : Option Delivery) → sent_at old.case.topology node sender id ≡ o → more ≡ true
+    by_sent None none = absurd (pending-sent old node sender id at told there least.pending none)
+    by_sent (Some d) sent = (ack-turned old new node sender id d more sent least handled done).1
 
 -- ---- a record that is to be handled
 
@@ -210,18 +251,21 @@ full-forgets book node name held at told on forgets =
     (le-leb 64 (length (row_held book.case.topology held name).seen) (omega (arith, many)))
     ∙ lt-ltb (row_held book.case.topology held name).floor (floor_of run) rises)
 
--- and back
-pub forgets-full : (book : BookView) (node : NodeView) (name : RowName) (held : HeldView) → IsAtWork book node → IsSome book.rows
-    → held_on book.case.topology node.held name ≡ Some held → let run = run_of book.case.topology book.history in
-    is_full run (row_of book.case.topology run name) ≡ true → HasToForget book.case.topology held 64 (floor_of run) name
-forgets-full book node name held at told on full =
-    let run = run_of book.case.topology book.history in
-    let row = row_held book.case.topology held name in
-    let parts = and_parts (nat_le 64 (length row.seen)) (nat_lt row.floor (floor_of run))
-    (subst (λ (c : Contents). is_full run c ≡ true) (sym (row-known book node name held at told on)) full) in record {
+-- and back, as it is held
+pub forgets-full : (shape : Shape) (run : Run) (held : HeldView) (name : RowName) → is_full run (row_held shape held name) ≡ true
+    → HasToForget shape held 64 (floor_of run) name
+forgets-full shape run held name full =
+    let row = row_held shape held name in
+    let parts = and_parts (nat_le 64 (length row.seen)) (nat_lt row.floor (floor_of run)) full in record {
       many = let many = leb-true 64 (length row.seen) parts.0 in omega (arith, many);
       rises = ltb-true row.floor (floor_of run) parts.1;
     }
+
+-- whether a row is full is whether it is so as it is held
+pub full-held : (shape : Shape) (run : Run) (node : NodeView) (name : RowName) (held : HeldView) (full : Bool)
+    → held_on shape node.held name ≡ Some held → is_full_at shape run node name ≡ full → is_full run (row_held shape held name) ≡ full
+full-held shape run node name held full on is =
+    sym (ap (λ (o : Option HeldView). option_map_or (λ (h : HeldView). is_full run (row_held shape h name)) o false) on) ∙ is
 
 -- a purge before a record is a turn
 pub forget-turned : (old new : BookView) (node : NodeView) (sender : RowName) (d : Delivery) (more : Bool) → IsAtWork old node
@@ -244,44 +288,33 @@ forget-turned old new node sender d more at sent least left done = by_asked done
           to_floor = refl;
         })))
 
--- where there is none, the row is not full
-pub forget-none : (old new : BookView) (node : NodeView) (name : RowName) (more : Bool) → IsAtWork old node → IsSome old.rows
-    → name.part < parts_of old.case.topology → more ≡ false
-    → HasAskedOne old new (MayAskForget old.case.topology node 64 (floor_of (run_of old.case.topology old.history)) name) more
-    → let run = run_of old.case.topology old.history in is_full run (row_of old.case.topology run name) ≡ false
-forget-none old new node name more at told there none_more done =
-    by_full (is_full run (row_of old.case.topology run name)) refl
+-- and one is written, where the row is full
+pub forget-more : (old new : BookView) (node : NodeView) (name : RowName) (more : Bool) → IsAtWork old node
+    → name.part < parts_of old.case.topology → let run = run_of old.case.topology old.history in
+    is_full_at old.case.topology run node name ≡ true
+    → HasAskedOne old new (MayAskForget old.case.topology node 64 (floor_of run) name) more → more ≡ true
+forget-more old new node name true at there full done = refl
+forget-more old new node name false at there full done =
+    absurd (done.none (by_none done.asked done.done.is_more) (forgetting held.0 name (floor_of run)) (record {
+      free = at.free;
+      held = held.0;
+      there = held.1;
+      forgets = forgets-full shape run held.0 name (full-held shape run node name held.0 true held.1 full);
+      request = refl;
+    }))
   where
+    shape : Shape
+    shape = old.case.topology
+
     run : Run
-    run = run_of old.case.topology old.history
+    run = run_of shape old.history
+
+    held : (h : HeldView) × (held_on shape node.held name ≡ Some h)
+    held = held-there old node name at there
 
     by_none : (asked : Option Request) → is_some asked ≡ false → asked ≡ None
     by_none None e = refl
     by_none (Some a) e = absurd (cc)
-
-    by_full : (b : Bool) → is_full run (row_of old.case.topology run name) ≡ b → is_full run (row_of old.case.topology run name) ≡ false
-    by_full false is = is
-    by_full true is =
-        let held = held-there old node name at there in
-        absurd (done.none (by_none done.asked (done.done.is_more ∙ none_more)) (forgetting held.0 name (floor_of run)) (record {
-          free = at.free;
-          held = held.0;
-          there = held.1;
-          forgets = forgets-full old node name held.0 at told held.1 is;
-          request = refl;
-        }))
-
--- whether a record that was made is finished in its row, as that is held, is whether it is handled
-pub finished-made : (book : BookView) (node : NodeView) (d : Delivery) → IsAtWork book node → IsSome book.rows
-    → IsLegal book.case book.history → d.to.part < parts_of book.case.topology
-    → found_delivery d.id (run_of book.case.topology book.history).made ≡ Some d
-    → is_finished_at book.case.topology node d ≡ is_handled d.id book.history
-finished-made book node d at told legal there made =
-    let shape = book.case.topology in
-    let held = held-there book node d.to at there in
-    ap (λ (o : Option HeldView). option_map_or (λ (h : HeldView). is_finished d.id (row_held shape h d.to)) o false) held.1
-    ∙ ap (is_finished d.id) (row-known book node d.to held.0 at told held.1)
-    ∙ finished-handled book.case book.history d legal made
 
 -- that a record was handled is a turn
 pub handle-turned : (old new : BookView) (sender : RowName) (d : Delivery) (more : Bool)
@@ -314,15 +347,6 @@ settles-sent case history sender d is = record {
       (row_of case.topology (run_of case.topology history) sender).pending d ((pending-on case.topology history).each sender) is.pending;
 }
 
--- what is to be settled is not finished, where that is told
-pub settles-left : (book : BookView) (node : NodeView) (sender : RowName) (d : Delivery) → IsAtWork book node
-    → IsLawful book.case (core_of book) → IsSome book.rows → d.to.part < parts_of book.case.topology
-    → IsToSettle book.case book.history sender d → is_finished_at book.case.topology node d ≡ true → ⊥
-settles-left book node sender d at lawful told there is finished =
-    both_ways (is_finished_at book.case.topology node d)
-    (finished-made book node d at told (lawful-rows book.case book.history book.rows told lawful.held).0 there
-    (pending-as_made book.case.topology book.history sender d.id d is.pending) ∙ is.left) finished
-
 -- ---- the sender
 
 -- a row in which an id is pending is of a part that is there, where that is told
@@ -351,13 +375,17 @@ found-handled book node sender d is b finished told =
     sym (finished-is book node sender d is.at_work told (lawful-rows book.case book.history book.rows told is.lawful.held).0
     (sent-to book node sender d.id d is.at_work is.part is.sent).there is.sent) ∙ finished
 
--- it is to be settled where it is not finished and its row has no ids to forget
-pub found-settles : (old new : BookView) (node : NodeView) (sender : RowName) (d : Delivery) → IsFound old node sender d
-    → is_finished_at old.case.topology node d ≡ false
-    → HasAskedOne old new (MayAskForget old.case.topology node 64 (floor_of (run_of old.case.topology old.history)) d.to) false
-    → IsSome old.rows → IsToSettle old.case old.history sender d
-found-settles old new node sender d is left done told = record {
-  pending = sent-pending old node sender d.id d is.at_work told is.sent;
-  left = found-handled old node sender d is false left told;
-  room = forget-none old new node d.to false is.at_work told (sent-to old node sender d.id d is.at_work is.part is.sent).there refl done;
-}
+-- it is to be settled where it is not finished and its row is not full
+pub found-settles : (book : BookView) (node : NodeView) (sender : RowName) (d : Delivery) → IsFound book node sender d
+    → is_finished_at book.case.topology node d ≡ false
+    → is_full_at book.case.topology (run_of book.case.topology book.history) node d.to ≡ false
+    → IsSome book.rows → IsToSettle book.case book.history sender d
+found-settles book node sender d is left few told =
+    let shape = book.case.topology in
+    let run = run_of shape book.history in
+    let held = held-there book node d.to is.at_work (sent-to book node sender d.id d is.at_work is.part is.sent).there in record {
+      pending = sent-pending book node sender d.id d is.at_work told is.sent;
+      left = found-handled book node sender d is false left told;
+      room = subst (λ (c : Contents). is_full run c ≡ false) (row-known book node d.to held.0 is.at_work told held.1)
+          (full-held shape run node d.to held.0 false held.1 few);
+    }

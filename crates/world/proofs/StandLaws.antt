@@ -13,7 +13,7 @@ use Rattle.run_history.proofs.Beginnings.{slice_get-more}
 use Rattle.run_history.proofs.Lists.{none_some, some_same}
 use Rattle.book.specs.Books.{BookView}
 use Rattle.book.specs.OwnDesks.{own_view}
-use Rattle.holdings.specs.Holding.{HasSeenOthers, HeldView, held_at}
+use Rattle.holdings.specs.Holding.{HeldView}
 use Rattle.node.specs.Answers.{HasGrown, IsOwnEntry}
 use Rattle.node.specs.Fits.{Fits}
 use Rattle.node.specs.Messages.{IsOutgoing}
@@ -22,7 +22,6 @@ use Rattle.node.specs.declared.message.Message.{Message}
 use Rattle.node.specs.declared.outgoing.Outgoing.{Outgoing}
 use Rattle.node.proofs.FitLaws.{Fits-beside, HasMore, outgoing-more}
 use Rattle.scripts.specs.Keeping.{AreClaimed}
-use Rattle.scripts.specs.Worlds.{worker_of}
 use Rattle.scripts.proofs.Places.{at-set}
 use Rattle.world.specs.Standing.{FitsOwn, IsFlying, IsWorld}
 use Rattle.world.specs.Turns.{HasStepped, with_own}

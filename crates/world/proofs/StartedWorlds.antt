@@ -1,8 +1,8 @@
 -- New workers, and the world in which a script begins.
-use Rattle.std.proofs.Common.{◌≡◌, ◌∙◌, ◌+◌, ◌<◌, ◌++◌, ◌∷◌, ℕ, suc, List, [], length, get_or, refl, sym, ap, subst, arith, inl, inr, length-append}
-use Rattle.std.specs.Prelude.{Some, All, map, replicate, slice_get}
+use Rattle.std.proofs.Common.{◌≡◌, ◌∙◌, ◌+◌, ◌++◌, ◌∷◌, ℕ, List, [], length, get_or, refl, sym, ap, subst, arith, inl, inr, length-append}
+use Rattle.std.specs.Prelude.{Some, replicate}
 use Rattle.std.proofs.lemmas.Bool.{cases_lt}
-use Rattle.std.proofs.lemmas.List.{append-nil, get_or_append_left, map-append, replicate-append-replicate}
+use Rattle.std.proofs.lemmas.List.{get_or_append_left, map-append, replicate-append-replicate}
 use Rattle.std.proofs.lemmas.List.Elements.{All-from_recursion, All-push}
 use Rattle.std.proofs.lemmas.Option.{get_or_from_slice_get, slice_get-get_or, slice_get_within}
 use Rattle.std.proofs.Math.Seq.{get_or-append_seam}
@@ -13,11 +13,11 @@ use Rattle.book.specs.OwnDesks.{own_view}
 use Rattle.node.specs.Fits.{Fits}
 use Rattle.node.specs.Workers.{NodeView, Worker, idle, worker_at}
 use Rattle.scripts.specs.Keeping.{AreClaimed}
-use Rattle.scripts.specs.Worlds.{World, world_on}
+use Rattle.scripts.specs.Worlds.{world_on}
 use Rattle.scripts.proofs.Leases.{AreClaimed-first}
 use Rattle.world.specs.Standing.{IsFlying, IsWorld}
 use Rattle.world.specs.WorkerCalls.{AreNew}
-use Rattle.world.specs.WorldStates.{WorldState, world_of}
+use Rattle.world.specs.WorldStates.{world_of}
 
 -- no worker yet
 pub new-none : AreNew 0 []

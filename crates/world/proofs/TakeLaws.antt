@@ -1,6 +1,6 @@
 -- When a worker leaves a message in flight, and what it does with one that it takes.
 use Rattle.std.proofs.Common.{◌≡◌, ◌∙◌, ◌↔◌, ℕ, Bool, true, false, refl, sym, ap, subst}
-use Rattle.std.specs.Prelude.{Option, None, Some, IsSome, IfSome, if◌then◌else◌, unwrap_or, slice_get}
+use Rattle.std.specs.Prelude.{Option, None, Some, IsSome, IfSome, if◌then◌else◌}
 use Rattle.std.specs.Option.{is_some, option_and_then, option_map, option_map_or}
 use Rattle.mw_types.specs.declared.delivery.Delivery.{Delivery}
 use Rattle.mw_types.specs.declared.identity.RowName.{RowName}
@@ -16,16 +16,16 @@ use Rattle.book.specs.declared.proposal.Proposal.TheVariants as proposals
 use Rattle.holdings.specs.Holding.{HeldView, held_at, held_on}
 use Rattle.node.specs.Answers.{AnswersAckOf, taken_from}
 use Rattle.node.specs.Fits.{Fits, IsWork}
-use Rattle.node.specs.Received.{IsAck, IsDeliver}
+use Rattle.node.specs.Received.{IsAck}
 use Rattle.node.specs.Workers.{IsHandle, NodeView, WorkView, Worker, sending_in, sending_of, worker_at}
 use Rattle.node.specs.declared.outcome.Outcome.{Outcome}
 use Rattle.node.specs.declared.outcome.Outcome.TheVariants as outcomes
 use Rattle.node.specs.declared.outgoing.Outgoing.{Outgoing}
 use Rattle.node.specs.declared.outgoing.Outgoing.TheVariants as outgoing
 use Rattle.scripts.specs.Acts.{must_wait}
-use Rattle.scripts.specs.Worlds.{World, lease_of, lease_on, row_of_message}
+use Rattle.scripts.specs.Worlds.{lease_of, lease_on, row_of_message}
 use Rattle.world.specs.Standing.{FitsOwn}
-use Rattle.world.specs.WorkerCalls.{IsReady, IsWorldAt, TakesOn, left_by}
+use Rattle.world.specs.WorkerCalls.{IsReady, TakesOn, left_by}
 use Rattle.world.proofs.ActsOnLaws.{acting, when-told}
 use Rattle.world.proofs.TurnLaws.{free-of}
 use Rattle.world.proofs.deeds.Takes.{ack-acts, prepare-acts}

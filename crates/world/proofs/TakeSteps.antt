@@ -1,6 +1,6 @@
 -- The step by which a worker takes a message, in a world.
-use Rattle.std.proofs.Common.{◌≡◌, ◌∙◌, ◌<◌, ◌≤◌, ◌^◌, ◌++◌, ℕ, Bool, true, false, List, [], length, get_or, refl, sym, ap, subst}
-use Rattle.std.specs.Prelude.{Option, None, Some, IfSome, All, if◌then◌else◌, slice_get, slice_set, unwrap_or}
+use Rattle.std.proofs.Common.{◌≡◌, ◌∙◌, ◌≤◌, ◌^◌, ℕ, Bool, true, false, List, sym, ap, subst}
+use Rattle.std.specs.Prelude.{Option, None, Some, if◌then◌else◌, slice_get, slice_set, unwrap_or}
 use Rattle.std.specs.Option.{option_map_or}
 use Rattle.std.proofs.lemmas.List.{append-nil, length-set}
 use Rattle.mw_types.specs.declared.entry.Entry.{Entry}
@@ -19,11 +19,10 @@ use Rattle.node.specs.declared.outgoing.Outgoing.{Outgoing}
 use Rattle.scripts.specs.Acts.{act, done, must_wait, nothing, stays, take_message, take_out, without_message}
 use Rattle.scripts.specs.Worlds.{World, in_flight, lease_on, row_of_message, worker_of}
 use Rattle.scripts.specs.declared.step.Step.TheVariants as steps
-use Rattle.world.specs.Standing.{IsFlying, IsWorld}
+use Rattle.world.specs.Standing.{IsWorld}
 use Rattle.world.specs.Stepping.{HasActed, HasFaulted}
 use Rattle.world.specs.WorkerCalls.{HasCalled, HasRested, TakesOn, left_by, world_with}
 use Rattle.world.specs.WorldStates.{WorldState, flight_of, world_of}
-use Rattle.world.proofs.ActsOnLaws.{when-told}
 use Rattle.world.proofs.FlightLaws.{flight-at, flight-gone, flying-at, flying-gone, noteless}
 use Rattle.world.proofs.StandLaws.{flying-more, more-grown, worker-at, world-after}
 use Rattle.world.proofs.WorldSteps.{at-world, changed, rested-at, told-then, world-changed}

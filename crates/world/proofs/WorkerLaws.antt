@@ -1,27 +1,23 @@
 -- What a call of one worker leaves over every keeper, by the clauses of the call.
-use Rattle.std.proofs.Common.{◌≡◌, ◌∙◌, ◌<◌, ◌++◌, ◌∷◌, ℕ, Bool, true, false, List, [], length, refl, sym, ap, subst, inl, inr}
+use Rattle.std.proofs.Common.{◌≡◌, ◌∙◌, ◌++◌, ◌∷◌, ℕ, Bool, true, false, List, [], refl, sym, ap, subst, inl, inr}
 use Rattle.std.specs.Prelude.{Option, None, Some, IfErr, IfOk, OnErr, OnOk, Result, Ok, Err, if◌then◌else◌, slice_get}
 use Rattle.std.specs.Option.{is_some, option_map_or}
 use Rattle.std.proofs.lemmas.Bool.{cases_eq, eq-eqb, ne_eqb}
-use Rattle.mw_types.specs.declared.delivery.Delivery.{Delivery}
 use Rattle.mw_types.specs.declared.entry.Entry.{Entry}
 use Rattle.mw_types.specs.declared.entry.Entry.TheVariants as entries
-use Rattle.mw_types.specs.declared.identity.RecordId.{RecordId}
-use Rattle.mw_types.specs.declared.identity.RowName.{RowName}
 use Rattle.topology.specs.Shapes.{Shape}
 use Rattle.row_parts.specs.Contents.{is_finished}
 use Rattle.run_history.specs.Cases.{CaseShape}
 use Rattle.run_history.proofs.Beginnings.{slice_get-last}
-use Rattle.run_history.proofs.Lists.{none_some, some_same}
+use Rattle.run_history.proofs.Lists.{some_same}
 use Rattle.book.specs.Books.{BookView}
-use Rattle.book.specs.DeskReasons.{HasClaimReason}
 use Rattle.book.specs.Desks.{HasLooked, IsSound, KeepsMarks}
 use Rattle.book.specs.OwnDesks.{own_view}
 use Rattle.holdings.specs.Holding.{HeldView, held_on, row_held}
-use Rattle.node.specs.Answers.{AnswersAck, AnswersAckOf, AnswersAsked, AnswersClaim, AnswersFire, AnswersPurge, AnswersReport, AnswersReportOf, AnswersSome, AnswersSweep, AnswersWrite, FailsReport, HasGrown, HasKept, received, refusal_of, taken_from, taken_in}
+use Rattle.node.specs.Answers.{AnswersAck, AnswersAckOf, AnswersAsked, AnswersClaim, AnswersReport, AnswersReportOf, AnswersSome, AnswersWrite, FailsReport, HasGrown, HasKept, received, taken_from}
 use Rattle.node.specs.Asking.{Request, settling}
 use Rattle.node.specs.Fits.{Fits}
-use Rattle.node.specs.Workers.{NodeView, Sending, Worker, leases_of, sending_of, with_lease, with_outgoing, with_written, worker_at}
+use Rattle.node.specs.Workers.{NodeView, Sending, Worker, leases_of, with_lease, with_outgoing, with_written, worker_at}
 use Rattle.node.specs.declared.outcome.NodeFault.{NodeFault}
 use Rattle.node.specs.declared.outcome.NodeFault.TheVariants as faults
 use Rattle.node.specs.declared.outcome.Outcome.{Outcome}

@@ -1,6 +1,6 @@
 -- A world in which one worker has acted, as a scripted world.
-use Rattle.std.proofs.Common.{◌≡◌, ◌∙◌, ◌<◌, ◌≤◌, ◌^◌, ◌++◌, ℕ, List, [], length, get_or, refl, sym, ap, subst, arith}
-use Rattle.std.specs.Prelude.{Option, None, Some, IfSome, All, map, slice_get, slice_set}
+use Rattle.std.proofs.Common.{◌≡◌, ◌∙◌, ◌<◌, ℕ, List, get_or, refl, sym, ap, subst, arith}
+use Rattle.std.specs.Prelude.{Option, None, Some, IfSome, map, slice_get, slice_set}
 use Rattle.std.proofs.lemmas.List.{map-set}
 use Rattle.std.proofs.lemmas.List.Elements.{All-get_or}
 use Rattle.std.proofs.lemmas.Option.{get_or_from_slice_get}
@@ -16,10 +16,9 @@ use Rattle.node.specs.Workers.{NodeView, Worker, worker_at}
 use Rattle.node.specs.Works.{IsWorkOf}
 use Rattle.node.specs.declared.message.Message.{Message}
 use Rattle.node.specs.declared.outcome.Outcome.{Outcome}
-use Rattle.scripts.specs.Acts.{act}
 use Rattle.scripts.specs.Worlds.{World}
 use Rattle.scripts.specs.declared.step.Step.{Step}
-use Rattle.world.specs.Standing.{FitsOwn, IsFlying, IsWorld}
+use Rattle.world.specs.Standing.{FitsOwn, IsWorld}
 use Rattle.world.specs.Stepping.{HasActed}
 use Rattle.world.specs.WorkerCalls.{ActsOn, HasCalled, HasGoneOn, HasRested, IsWorldAt, world_with}
 use Rattle.world.specs.WorldStates.{WorldState, flight_of, world_of}

@@ -17,7 +17,7 @@ use Rattle.row_parts.specs.Contents.{IsId, is_finished}
 use Rattle.run_history.specs.Cases.{CaseShape, intervals_of, source_of}
 use Rattle.run_history.specs.Made.{found_delivery}
 use Rattle.run_history.specs.Watermarks.{cursor_in, least, low_watermark}
-use Rattle.run_history.specs.Runs.{row_of, run_of}
+use Rattle.run_history.specs.Runs.{Run, row_of, run_of}
 use Rattle.run_history.specs.Finished.{all_pending, injectors_left, is_handled}
 use Rattle.run_history.specs.Fences.{Begins, IsCurrent, interval_of}
 use Rattle.watermark.specs.Marks.{marks_of}
@@ -204,6 +204,11 @@ abbrev pub is_finished_at : Shape → NodeView → Delivery → Bool
 is_finished_at shape node delivery =
     option_map_or (λ (h : HeldView). is_finished delivery.id (row_held shape h delivery.to))
     (held_on shape node.held delivery.to) false
+
+-- whether a row, as it is held, forgets ids before it handles one more
+abbrev pub is_full_at : Shape → Run → NodeView → RowName → Bool
+is_full_at shape run node name =
+    option_map_or (λ (h : HeldView). is_full run (row_held shape h name)) (held_on shape node.held name) false
 
 -- a delivery can be kept
 pub record CanBeKept (delivery : Delivery) : Type 0 where

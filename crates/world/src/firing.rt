@@ -19,6 +19,7 @@ use computations::Computation;
 use node::{Node, NodeFault};
 use row_keeper::Keeper;
 use std::alloc::Global;
+use watermark::inputs;
 
 // Reports the own work of each interval, in the order of their numbers.
 pub(crate) fn report_all<'a, K: Keeper>(
@@ -41,7 +42,7 @@ pub(crate) fn report_all<'a, K: Keeper>(
     Ok(())
 }
 
-// Reports the own work of one interval.
+// Reports the own work of one interval, where that can raise its mark.
 fn report<'a, K: Keeper>(
     alloc: Global,
     book: &mut Book<'a, K>,
@@ -59,6 +60,13 @@ fn report<'a, K: Keeper>(
     let case = book.case();
     // Every topology keeps the rules that intervals need.
     let _parts = case.topology.parts();
+    let _all = case.intervals();
+    // A mark that has come up to those that feed its interval cannot rise.
+    let most = inputs(case, interval, book.marks());
+    let mark = book.mark(interval);
+    if most <= mark {
+        return Ok(());
+    }
     let mut desk = OwnDesk { book };
     node.report(alloc, &mut desk, case, interval)?;
     Ok(())

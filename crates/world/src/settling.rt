@@ -1,8 +1,7 @@
 //! What a drain does with the least id that is not acknowledged.
-ghost use Rattle.std.specs.Prelude.{◌≡◌, ◌<◌, ◌≤◌, ℕ, IfErr, IfOk, IfSome, OnOk, Some, IsSome, true, false, option_copied};
+ghost use Rattle.std.specs.Prelude.{◌≡◌, ◌<◌, ◌≤◌, ℕ, IfErr, IfOk, IfSome, OnOk, Some, IsSome, IsTrue, true, false, option_copied};
 ghost use Rattle.mw_types.specs.declared.TheConstants.{MAX_STAMP};
 ghost use Rattle.topology.specs.Shapes.{parts_of};
-ghost use Rattle.row_parts.specs.Contents.{IsId, is_finished};
 ghost use Rattle.run_history.specs.Made.{found_delivery};
 ghost use Rattle.run_history.specs.Runs.{run_of};
 ghost use Rattle.book.specs.Senders.{IsLeastSent};
@@ -11,17 +10,19 @@ ghost use Rattle.node.specs.Works.{IsWorkOf};
 ghost use Rattle.node.specs.Messages.{IsDeliverable, IsSentFrom};
 ghost use Rattle.book.specs.OwnDesks.{own_view};
 ghost use Rattle.run_history.specs.Legal.{floor_of};
-ghost use Rattle.run_history.specs.Finished.{is_handled};
+ghost use Rattle.run_history.specs.Finished.{handles, is_handled};
 ghost use Rattle.row_parts.specs.Contents.{same_id};
 ghost use Rattle.node.specs.Asking.{MayAskForget, settle_asked};
-ghost use Rattle.world.specs.Turns.{CanBeKept, HasAsked, HasAskedOne, HasFailed, HasHandled, HasTurned, IsAtWork, IsToSettle, WhereTold, is_committed, is_finished_at, sent_at};
+ghost use Rattle.world.specs.Drains.{is_full};
+ghost use Rattle.world.specs.Turns.{CanBeKept, HasAsked, HasAskedOne, HasFailed, HasHandled, HasTurned, IsAtWork, WhereTold, is_committed, is_finished_at, is_full_at, sent_at};
 
 use book::{Book, OwnDesk};
 use computations::Computation;
-use mw_types::{Delivery, Duplicate, NoMemory, RecordId, RowName};
+use mw_types::{Delivery, Duplicate, Entry, NoMemory, RecordId, RowName};
 use node::{Message, Node, NodeFault, Outcome, Parcel, Receipt};
 use row_keeper::Keeper;
-use run_history::Case;
+use row_parts::Row;
+use run_history::{Case, History};
 use std::alloc::Global;
 
 // Settles the least id that is not acknowledged: it is acknowledged, where its record is handled;
@@ -51,6 +52,10 @@ pub(crate) fn settle<'a, K: Keeper, C: Computation>(
     let part = sender.part;
     if parts <= part {
         return Ok(false);
+    }
+    // Most records were handled right before, and so no row is looked up for them.
+    if is_last_handled(book.history(), id) {
+        return acknowledge(alloc, book, node, sender, id);
     }
     let found = sent(alloc, case, node, &sender, id)?;
     match found {
@@ -83,44 +88,12 @@ fn settle_sent<'a, K: Keeper, C: Computation>(
 {
     // Its clauses say what always holds of a book.
     book.history();
-    let case = book.case();
-    if is_finished(case, node, &delivery) {
+    let (finished, full) = standing(book, node, &delivery);
+    if finished {
         return acknowledge(alloc, book, node, sender, delivery.id);
     }
-    let forgot = forget(alloc, book, node, &delivery.to)?;
-    if forgot {
-        return Ok(true);
-    }
-    handle_left(alloc, book, work, node, sender, delivery)
-}
-
-// Handles a record that is not finished in its row.
-fn handle_left<'a, K: Keeper, C: Computation>(
-    alloc: Global,
-    book: &mut Book<'a, K>,
-    work: &C,
-    node: &mut Node<u64>,
-    sender: RowName,
-    delivery: Delivery,
-) -> Result<bool, NodeFault>
-    requires work { IsWorkOf book.old.case.topology (C.has work.now)
-        (C.gives_record work.now) (C.gives_timer work.now) }
-    requires at_work { IsAtWork book.old node.old }
-    requires deliverable { IsDeliverable book.old.case.topology delivery sender }
-    requires least { let shape = book.old.case.topology in
-        IsLeastSent shape (run_of shape book.old.history) delivery.id sender }
-    requires settles { WhereTold book.old
-        (IsToSettle book.old.case book.old.history sender delivery) }
-    ensures turned { IfOk result (HasTurned book.old book.new) }
-    ensures more { IfOk result (λ more. WhereTold book.old (more ≡ true)) }
-    ensures at_work { OnOk result (IsAtWork book.new node.new) }
-    ensures failed { IfErr result (HasFailed book.old book.new) }
-{
-    // Its clauses say what always holds of a book.
-    book.history();
-    // Only over a keeper whose rows no contract can see.
-    if is_finished(book.case(), node, &delivery) {
-        return Ok(false);
+    if full {
+        return forget(alloc, book, node, &delivery.to);
     }
     handle(alloc, book, work, node, sender, delivery)
 }
@@ -161,15 +134,49 @@ fn is_same(a: RecordId, b: RecordId) -> bool
     a.commit == b.commit && a.index == b.index
 }
 
-// Whether a record is finished in its row.
-fn is_finished(case: &Case, node: &Node<u64>, delivery: &Delivery) -> bool
-    requires part { delivery.now.to.part < parts_of case.now.topology }
-    ensures { result ≡ is_finished_at case.now.topology node.now delivery.now }
+// Whether the last entry says that the record of an id was handled.
+fn is_last_handled(history: &History, id: RecordId) -> bool
+    ensures { IsTrue result → is_handled id history.now ≡ true }
 {
-    match node.row(case, &delivery.to) {
-        Some(row) => row.is_finished(delivery.id),
+    match history.entries().last() {
+        Some(entry) => is_handle_of(entry, id),
         None => false,
     }
+}
+
+// Whether an entry says that the record of an id was handled.
+fn is_handle_of(entry: &Entry, id: RecordId) -> bool
+    ensures { result ≡ handles id entry.now }
+{
+    match entry {
+        Entry::Handle { id: handled, .. } => is_same(id, *handled),
+        _ => false,
+    }
+}
+
+// Whether a record is finished in its row, and whether that forgets ids before it handles one more.
+fn standing<'a, K: Keeper>(
+    book: &Book<'a, K>,
+    node: &Node<u64>,
+    delivery: &Delivery,
+) -> (bool, bool)
+    requires part { delivery.now.to.part < parts_of book.now.case.topology }
+    ensures finished { let shape = book.now.case.topology in
+        result.0 ≡ is_finished_at shape node.now delivery.now }
+    ensures full { let shape = book.now.case.topology in
+        result.1 ≡ is_full_at shape (run_of shape book.now.history) node.now delivery.now.to }
+{
+    match node.row(book.case(), &delivery.to) {
+        Some(row) => (row.is_finished(delivery.id), is_full(book, row)),
+        None => (false, false),
+    }
+}
+
+// Whether a row has 64 ids or more, and can forget some.
+fn is_full<'a, K: Keeper>(book: &Book<'a, K>, row: &Row) -> bool
+    ensures { result ≡ is_full (run_of book.now.case.topology book.now.history) row.now }
+{
+    64 <= row.seen.len() && row.floor < book.floor()
 }
 
 // Tells a row that what it sent was handled.

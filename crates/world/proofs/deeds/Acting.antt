@@ -1,9 +1,8 @@
 -- When a worker of a scripted world is about to act, and when it has acted as the script does.
-use Rattle.std.proofs.Common.{◌≡◌, ◌∙◌, ℕ, [], refl, ap, true}
+use Rattle.std.proofs.Common.{◌≡◌, ℕ, refl, ap}
 use Rattle.std.specs.Prelude.{IsSome, None, Option, Some, slice_get, slice_set, unwrap_or}
 use Rattle.run_history.specs.Cases.{CaseShape}
 use Rattle.book.specs.Books.{BookView, core_of}
-use Rattle.book.specs.Desks.{DeskView}
 use Rattle.book.specs.Lawful.{IsLawful}
 use Rattle.book.specs.OwnDesks.{own_view, telling}
 use Rattle.node.specs.Fits.{Fits}

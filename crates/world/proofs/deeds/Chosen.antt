@@ -1,5 +1,5 @@
 -- What a node answers that asks for one of the entries for which it may ask, as the scripted world does.
-use Rattle.std.proofs.Common.{◌≡◌, ◌∙◌, ℕ, refl, sym, ap, subst}
+use Rattle.std.proofs.Common.{◌≡◌, ◌∙◌, ℕ, refl, sym, ap}
 use Rattle.std.specs.Prelude.{IfSome, None, Option, Some}
 use Rattle.std.specs.Option.{option_and_then}
 use Rattle.mw_types.specs.declared.identity.RowName.{RowName}

@@ -21,11 +21,11 @@ use Rattle.holdings.specs.Holding.{HeldView, held_on, row_held}
 use Rattle.holdings.specs.Timers.{due_cmp}
 use Rattle.holdings.proofs.TimerLaws.{due_cmp-total}
 use Rattle.node.specs.Answers.{AnswersFire, AnswersSome, IsLeastKnown}
-use Rattle.node.specs.Asking.{IsNextTimer, IsTimerHeld, MayAskFire, Request}
-use Rattle.node.specs.Workers.{NodeView, Sending, Worker, sending_of, where_passes, worker_at}
+use Rattle.node.specs.Asking.{IsTimerHeld, MayAskFire, Request}
+use Rattle.node.specs.Workers.{NodeView, Sending, Worker, sending_of, where_passes}
 use Rattle.node.specs.declared.outcome.Outcome.{Outcome}
-use Rattle.scripts.specs.Acts.{Deed, done, fire, fire_due, fire_effects, fire_under, least_timer, nothing, timers_known, writes}
-use Rattle.scripts.specs.Worlds.{World, lease_on, row_known, worker_of}
+use Rattle.scripts.specs.Acts.{Deed, fire, fire_due, fire_effects, fire_under, least_timer, nothing, timers_known, writes}
+use Rattle.scripts.specs.Worlds.{World, lease_on, worker_of}
 use Rattle.scripts.specs.declared.step.Step.TheVariants as steps
 use Rattle.world.proofs.Firsts.{tied_both_ways}
 use Rattle.world.proofs.deeds.Acting.{Acts, IsActing, acting-worker}

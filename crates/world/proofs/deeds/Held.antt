@@ -12,7 +12,7 @@ use Rattle.book.specs.Books.{BookView, LeaseView}
 use Rattle.book.specs.Desks.{DeskView}
 use Rattle.book.specs.OwnDesks.{own_view}
 use Rattle.holdings.specs.Holding.{AreHeld, HeldView, IsHeld, held_at, held_on, row_held}
-use Rattle.node.specs.Workers.{NodeView, leases_of, worker_at}
+use Rattle.node.specs.Workers.{NodeView, leases_of}
 use Rattle.scripts.specs.Worlds.{World, lease_of, lease_on, row_known, worker_of}
 use Rattle.world.proofs.deeds.Acting.{IsActing, acting-worker, tells}
 

@@ -13,11 +13,11 @@ use Rattle.book.specs.Books.{BookView}
 use Rattle.book.specs.OwnDesks.{own_view}
 use Rattle.holdings.specs.Holding.{HeldView, held_on, row_held}
 use Rattle.node.specs.Answers.{AnswersAsked}
-use Rattle.node.specs.Asking.{Request, line_asked, next_line}
+use Rattle.node.specs.Asking.{line_asked, next_line}
 use Rattle.node.specs.Workers.{NodeView, worker_at}
 use Rattle.node.specs.declared.outcome.Outcome.{Outcome}
 use Rattle.scripts.specs.Acts.{Deed, done, inject, inject_item, inject_next, nothing}
-use Rattle.scripts.specs.Worlds.{World, row_known, worker_of}
+use Rattle.scripts.specs.Worlds.{World, worker_of}
 use Rattle.scripts.specs.declared.step.Step.TheVariants as steps
 use Rattle.world.proofs.deeds.Acting.{Acts, IsActing, acting-worker}
 use Rattle.world.proofs.deeds.Held.{lease_held, lease_on-held, row-held}

@@ -1,8 +1,8 @@
 -- What is picked from a list by an order: the least of it, and the first that passes a test.
 use Rattle.std.proofs.Common.{◌≡◌, ◌∙◌, Bool, true, false, cond, List, [], ◌∷◌, fold, refl, sym, ap, subst, inl, inr, is_gt, is_lt}
-use Rattle.std.specs.Prelude.{◌⊎◌, None, Option, Some, find}
+use Rattle.std.specs.Prelude.{◌⊎◌, None, Some, find}
 use Rattle.std.specs.Cmp.{IsTotalOrder, tied_itself, upto}
-use Rattle.std.specs.List.{AllByRecursion, reduce}
+use Rattle.std.specs.List.{reduce}
 use Rattle.std.specs.List.Sorted.{IsStrictlySortedBy}
 use Rattle.std.specs.Map.{keys_of}
 use Rattle.std.specs.Ordering.{min_by_ordering, ordering_reverse}

@@ -1,5 +1,5 @@
 -- What a node answers that has a row of an interval forget ids, as the scripted world does.
-use Rattle.std.proofs.Common.{◌≡◌, ◌∙◌, ◌<◌, ◌≤◌, ◌&&◌, ℕ, Bool, true, false, length, max, refl, sym, ap, subst, arith, is_gt, is_lt}
+use Rattle.std.proofs.Common.{◌≡◌, ◌∙◌, ◌≤◌, ◌&&◌, ℕ, true, false, length, max, refl, sym, ap, subst, arith, is_lt}
 use Rattle.std.specs.Prelude.{if◌then◌else◌, nat_lt, find, None, Option, Some}
 use Rattle.std.specs.Option.{is_some, option_and_then, option_map, option_map_or}
 use Rattle.std.specs.Ordering.{is_eq, ordering_reverse}
@@ -10,8 +10,8 @@ use Rattle.mw_types.specs.Orders.{row_cmp}
 use Rattle.mw_types.specs.declared.identity.RowName.{RowName}
 use Rattle.mw_types.proofs.OrderLaws.{row_cmp-total}
 use Rattle.topology.specs.Shapes.{Shape}
-use Rattle.row_parts.specs.Contents.{Contents, fresh}
-use Rattle.run_history.specs.Cases.{CaseShape, fresh_of}
+use Rattle.row_parts.specs.Contents.{Contents}
+use Rattle.run_history.specs.Cases.{CaseShape}
 use Rattle.run_history.specs.Fences.{interval_of}
 use Rattle.run_history.specs.Legal.{floor_of}
 use Rattle.run_history.specs.Runs.{run_of}
@@ -20,20 +20,20 @@ use Rattle.run_history.proofs.Lists.{some_same}
 use Rattle.history_laws.proofs.RowSteps.{same_row}
 use Rattle.book.specs.Books.{BookView}
 use Rattle.book.specs.OwnDesks.{own_view}
-use Rattle.holdings.specs.Holding.{HeldView, held_at, held_on, row_held}
+use Rattle.holdings.specs.Holding.{HeldView, held_at, row_held}
 use Rattle.node.specs.Answers.{AnswersPurge, AnswersSome, IsFloorKnown}
 use Rattle.node.specs.Asking.{HasToForget, MayAskPurge, Request, forgetting}
-use Rattle.node.specs.Workers.{NodeView, Sending, Worker, sending_of, worker_at}
+use Rattle.node.specs.Workers.{NodeView, Sending, Worker, sending_of}
 use Rattle.node.specs.declared.outcome.Outcome.{Outcome}
-use Rattle.scripts.specs.Acts.{Deed, done, may_forget, nothing, purge, purge_first, purge_row, writes}
-use Rattle.scripts.specs.Worlds.{World, lease_of, rows_known, worker_of}
+use Rattle.scripts.specs.Acts.{Deed, may_forget, nothing, purge, purge_first, purge_row, writes}
+use Rattle.scripts.specs.Worlds.{World, rows_known, worker_of}
 use Rattle.scripts.specs.declared.step.Step.TheVariants as steps
 use Rattle.world.proofs.deeds.Acting.{Acts, IsActing, acting-worker}
-use Rattle.world.proofs.deeds.Held.{held-lies, lease_held, lease_of-held}
-use Rattle.world.proofs.deeds.KnownRows.{IsRowThere, in-known, known-in, known-sorted, row-there, there-unless-fresh}
+use Rattle.world.proofs.deeds.Held.{lease_held, lease_of-held}
+use Rattle.world.proofs.deeds.KnownRows.{in-known, known-in, known-sorted, row-there, there-unless-fresh}
 use Rattle.world.proofs.deeds.Left.{IsOnRow, acting-alone, acting-of}
 use Rattle.world.proofs.deeds.Members.{IsIn}
-use Rattle.world.proofs.deeds.Picked.{IsFirstPassing, find-none, find-picks}
+use Rattle.world.proofs.deeds.Picked.{find-none, find-picks}
 use Rattle.world.proofs.deeds.Chosen.{free-none, some-acts, worker-free}
 
 -- the floor that is known to all

@@ -1,13 +1,12 @@
 -- What a node answers that sends again what is pending, as the scripted world does.
 use Rattle.std.proofs.Common.{◌≡◌, ◌∙◌, ℕ, true, false, cond, List, [], ◌∷◌, length, map, refl, sym, ap, subst, inl, inr}
-use Rattle.std.specs.Prelude.{Contains, IfSome, IsSome, None, Option, Some, slice_get, unwrap_or}
+use Rattle.std.specs.Prelude.{IfSome, IsSome, None, Option, Some, slice_get, unwrap_or}
 use Rattle.std.specs.Option.{is_some, option_and_then, option_map, option_map_or}
 use Rattle.std.specs.List.Sorted.{IsStrictlySortedBy}
 use Rattle.std.proofs.lemmas.List.{length-map}
 use Rattle.mw_types.specs.Orders.{id_cmp}
 use Rattle.mw_types.specs.declared.delivery.Delivery.{Delivery}
 use Rattle.mw_types.specs.declared.entry.Entry.{Entry}
-use Rattle.mw_types.specs.declared.identity.RecordId.{RecordId}
 use Rattle.mw_types.specs.declared.identity.RowName.{RowName}
 use Rattle.mw_types.proofs.OrderLaws.{id_cmp-total}
 use Rattle.topology.specs.Shapes.{Shape}
@@ -18,7 +17,7 @@ use Rattle.run_history.specs.Made.{found_delivery, row_written}
 use Rattle.run_history.specs.Runs.{cached, row_in, row_of, run_of}
 use Rattle.run_history.proofs.Known.{known-begins}
 use Rattle.run_history.proofs.Lists.{none_some, some_same}
-use Rattle.history_laws.proofs.IdLaws.{each_found_delivery, made-in_order, same_id-itself, same_id-true}
+use Rattle.history_laws.proofs.IdLaws.{each_found_delivery, made-in_order, same_id-itself}
 use Rattle.history_laws.proofs.SeenLaws.{found-more}
 use Rattle.history_laws.proofs.SentLaws.{pending-as_made}
 use Rattle.book.specs.Books.{BookView, LeaseView}
@@ -32,7 +31,7 @@ use Rattle.node.specs.declared.outcome.Outcome.{Outcome}
 use Rattle.node.specs.declared.outcome.Outcome.TheVariants as outcomes
 use Rattle.node.proofs.SweepLaws.{sent-so}
 use Rattle.scripts.specs.Acts.{is_pending_in, is_pending_on, pending_known, sender_known}
-use Rattle.scripts.specs.Worlds.{World, lease_on, row_known, worker_of}
+use Rattle.scripts.specs.Worlds.{World, row_known, worker_of}
 use Rattle.scripts.specs.declared.step.Step.TheVariants as steps
 use Rattle.world.proofs.deeds.Acting.{Acts, IsActing, acting-worker, tells}
 use Rattle.world.proofs.deeds.Ascending.{same-ascending}

@@ -10,22 +10,21 @@ use Rattle.topology.specs.Shapes.{Shape}
 use Rattle.row_parts.specs.Contents.{Contents, is_finished}
 use Rattle.run_history.specs.Cases.{CaseShape}
 use Rattle.run_history.specs.Made.{found_delivery}
-use Rattle.run_history.proofs.Lists.{none_some}
 use Rattle.book.specs.Books.{BookView, LeaseView}
 use Rattle.book.specs.Desks.{HasLooked}
 use Rattle.book.specs.OwnDesks.{own_view}
 use Rattle.holdings.specs.Holding.{HeldView, held_on, row_held}
 use Rattle.node.specs.Answers.{AnswersAck, AnswersAckOf, received, taken_from}
-use Rattle.node.specs.Asking.{Request, settling}
+use Rattle.node.specs.Asking.{settling}
 use Rattle.node.specs.Received.{IsAck, IsDeliver}
 use Rattle.node.specs.Workers.{NodeView, WorkView, Worker, sending_in, with_outgoing, worker_at}
 use Rattle.node.specs.declared.outcome.Outcome.{Outcome}
 use Rattle.node.specs.declared.outcome.Outcome.TheVariants as outcomes
 use Rattle.node.specs.declared.outgoing.Outgoing.{Outgoing}
 use Rattle.node.specs.declared.outgoing.Outgoing.TheVariants as outgoing
-use Rattle.scripts.specs.Acts.{Acted, Deed, done, nothing, stays, take, take_again, take_in, take_message, take_new, take_out, without_message, writes}
-use Rattle.scripts.specs.Worlds.{World, in_flight, lease_on, row_known, row_of_message, worker_of}
-use Rattle.world.proofs.deeds.Acting.{Acts, ActsWithout, IsActing, acting-worker}
+use Rattle.scripts.specs.Acts.{Deed, done, nothing, stays, take, take_again, take_message, take_new, take_out, without_message, writes}
+use Rattle.scripts.specs.Worlds.{World, in_flight, lease_on, row_of_message, worker_of}
+use Rattle.world.proofs.deeds.Acting.{ActsWithout, IsActing, acting-worker}
 use Rattle.world.proofs.deeds.Held.{lease_held, lease_on-held, row-held}
 use Rattle.world.proofs.deeds.Left.{IsOnRow, acting-alone, acting-of, asked-acts, becomes-acts, deed_asked, left_world, moved-alone, with_flight}
 

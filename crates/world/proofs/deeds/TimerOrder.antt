@@ -1,6 +1,5 @@
 -- The timers of a row stand in their order after each history.
-use Rattle.std.proofs.Common.{◌≡◌, List, [], ◌∷◌, refl}
-use Rattle.std.specs.Prelude.{Some}
+use Rattle.std.proofs.Common.{List, [], ◌∷◌, refl}
 use Rattle.std.specs.List.{AllByRecursion}
 use Rattle.std.specs.List.Sorted.{IsStrictlySortedBy}
 use Rattle.std.proofs.lemmas.List.Kept.{IsStrictlySortedBy-filter}
@@ -15,10 +14,10 @@ use Rattle.row_parts.specs.Contents.{Contents, fresh, set_again}
 use Rattle.row_parts.specs.Orders.{timer_cmp-total}
 use Rattle.row_parts.proofs.PlaceLemmas.{sorted-put_in}
 use Rattle.run_history.specs.Cases.{fresh_of}
-use Rattle.run_history.specs.Made.{deliveries_of, row_written}
+use Rattle.run_history.specs.Made.{deliveries_of}
 use Rattle.run_history.specs.Runs.{Run, changed, empty_run, followed, row_of, run_of, with_timers}
 use Rattle.history_laws.proofs.Along.{along_any}
-use Rattle.history_laws.proofs.RowSteps.{each_row-followed, made_row, row_of-each}
+use Rattle.history_laws.proofs.RowSteps.{each_row-followed, row_of-each}
 
 -- the timers of a row stand in their order
 abbrev pub AreTimersInOrder : Contents → Type 0

@@ -1,9 +1,8 @@
 -- Which timers a worker knows, by what its node holds.
-use Rattle.std.proofs.Common.{◌≡◌, ◌∙◌, ℕ, true, false, List, [], ◌∷◌, refl, sym, ap, subst, inl, inr, is_gt}
-use Rattle.std.specs.Prelude.{◌==◌, None, Option, Some, filter, slice_get, unwrap_or}
+use Rattle.std.proofs.Common.{◌≡◌, ◌∙◌, ℕ, false, List, [], ◌∷◌, refl, sym, ap, subst, inl, inr, is_gt}
+use Rattle.std.specs.Prelude.{◌==◌, Some, filter, slice_get, unwrap_or}
 use Rattle.std.specs.Cmp.{IsTotalOrder, tied_itself}
 use Rattle.std.specs.List.Sorted.{IsStrictlySortedBy}
-use Rattle.std.specs.Option.{option_and_then}
 use Rattle.std.specs.Ordering.{is_eq, ordering_reverse, ordering_then}
 use Rattle.std.specs.declared.cmp.Ordering.{Ordering}
 use Rattle.std.specs.declared.cmp.Ordering.TheVariants.{Less, Equal, Greater}
@@ -17,7 +16,7 @@ use Rattle.row_parts.specs.Contents.{Contents, fresh}
 use Rattle.row_parts.specs.Orders.{timer_cmp-total}
 use Rattle.run_history.specs.Cases.{CaseShape, fresh_of}
 use Rattle.run_history.specs.Fences.{known}
-use Rattle.run_history.specs.Runs.{row_in, row_of}
+use Rattle.run_history.specs.Runs.{row_in}
 use Rattle.run_history.proofs.Lists.{none_some, some_same}
 use Rattle.history_laws.proofs.RowSteps.{both_Equal, same_row}
 use Rattle.book.specs.Books.{BookView}

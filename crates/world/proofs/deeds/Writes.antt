@@ -15,7 +15,7 @@ use Rattle.book.specs.declared.proposal.Proposal.{Proposal}
 use Rattle.book.specs.declared.proposal.Proposal.TheVariants as proposals
 use Rattle.holdings.specs.Holding.{HeldView, held_on}
 use Rattle.node.specs.Answers.{AnswersAsked}
-use Rattle.node.specs.Asking.{Request, handled_as, proposed, work_asked}
+use Rattle.node.specs.Asking.{handled_as, proposed, work_asked}
 use Rattle.node.specs.Fits.{IsHandled, IsPrepared, IsWork}
 use Rattle.node.specs.Workers.{NodeView, Sending, WorkView, Worker, sending_in, sending_of, with_written, worker_at}
 use Rattle.node.specs.declared.outcome.Outcome.{Outcome}

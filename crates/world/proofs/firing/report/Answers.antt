@@ -1,12 +1,20 @@
-use Rattle.std.proofs.Common.{rules, subst}
+use Rattle.std.proofs.Common.{◌≤◌, rules, subst}
 use Rattle.topology.specs.Rules.{IsTopology}
 use Rattle.run_history.specs.Cases.{CaseShape}
+use Rattle.run_history.specs.Watermarks.{least}
+use Rattle.watermark.specs.Marks.{feeding_marks, mark_of}
 use Rattle.book.specs.OwnDesks.{own_view}
 use Rattle.holdings.specs.Holding.{held_at}
 use Rattle.node.specs.Answers.{AnswersReport}
 use Rattle.node.specs.Fits.{Fits}
-use Rattle.world.proofs.ReportLaws.{HasGiven, report-given}
+use Rattle.world.proofs.ReportLaws.{HasGiven, high-reported, report-given}
 use Rattle.world.proofs.firing.report.Goals as goal
+
+-- a mark that cannot rise is as a report leaves it
+pub returns-then-most-mark-clause-reported : goal.returns-then-most-mark-clause-reported
+returns-then-most-mark-clause-reported g c = λ told. high-reported c.args.book.now c.args.interval
+    (let high : least (feeding_marks c.args.book.now.case.topology c.args.interval c.args.book.now.marks)
+    ≤ mark_of c.args.book.now.marks c.args.interval = search rules in high)
 
 -- the worker is at work then
 pub returns-clause-at_work : goal.returns-clause-at_work

@@ -1,12 +1,13 @@
-use Rattle.std.proofs.Common.{◌≡◌, ◌<◌, rules, subst}
+use Rattle.std.proofs.Common.{◌≡◌, ◌<◌, rules, subst, true}
 use Rattle.std.specs.Prelude.{IfErr, IfSome, None, Some}
 use Rattle.topology.specs.Shapes.{parts_of}
+use Rattle.run_history.specs.Finished.{is_handled}
 use Rattle.node.specs.declared.outcome.NodeFault.TheVariants as faults
 use Rattle.world.specs.Turns.{CanBeKept}
 use Rattle.world.proofs.DrainLaws.{found-least, no-sender, sent-by}
 use Rattle.world.proofs.GoLaws.{turned-stayed}
-use Rattle.world.proofs.Results.{err-then}
-use Rattle.world.proofs.SettleLaws.{pending-sent, sent-own}
+use Rattle.world.proofs.Results.{err-then, ok-then}
+use Rattle.world.proofs.SettleLaws.{ack-least, ack-more, pending-sent, sent-own}
 use Rattle.world.proofs.TurnLaws.{failed-not, stepped-not}
 use Rattle.world.proofs.settling.settle.Goals as goal
 
@@ -18,6 +19,28 @@ returns-then-parts-part-clause-turned g c = turned-stayed c.args.book.now c.args
 pub returns-then-parts-part-clause-more : goal.returns-then-parts-part-clause-more
 returns-then-parts-part-clause-more g c = λ told. absurd (no-sender c.args.book.now c.args.sender c.args.id c.parts-parts.result
     (search rules) c.if-parts-part.true c.history.ensures.lawful c.requires.least told)
+
+-- the sender of a record that was just handled is of a part that is there
+pub acknowledge-requires-clause-part : goal.acknowledge-requires-clause-part
+acknowledge-requires-clause-part g c =
+    let same : c.parts-parts.result ≡ parts_of c.args.book.now.case.topology = search rules in
+    subst (λ n. c.args.sender.part < n) same c.if-parts-part.false
+
+-- word that it was handled is a turn
+pub returns-then-is_last_handled-clause-turned : goal.returns-then-is_last_handled-clause-turned
+returns-then-is_last_handled-clause-turned g c =
+    let handled : is_handled c.args.id c.args.book.now.history ≡ true = search rules in
+    ok-then c.acknowledge.result (λ more done. ack-least c.args.book.now c.acknowledge.new.book c.args.node.now c.args.sender
+    c.args.id more c.requires.least (λ told. handled) done) c.acknowledge.ensures.asked
+
+-- and writes an entry
+pub returns-then-is_last_handled-clause-more : goal.returns-then-is_last_handled-clause-more
+returns-then-is_last_handled-clause-more g c =
+    let handled : is_handled c.args.id c.args.book.now.history ≡ true = search rules in
+    let same : c.parts-parts.result ≡ parts_of c.args.book.now.case.topology = search rules in
+    ok-then c.acknowledge.result (λ more done. ack-more c.args.book.now c.acknowledge.new.book c.args.node.now c.args.sender
+    c.args.id more c.requires.at_work (subst (λ n. c.args.sender.part < n) same c.if-parts-part.false) c.requires.least
+    (λ told. handled) done) c.acknowledge.ensures.asked
 
 -- there was no memory for what was found
 pub returns-in_err-found-clause-failed : goal.returns-in_err-found-clause-failed

@@ -1,4 +1,4 @@
-use Rattle.std.proofs.Common.{◌≡◌, subst, sym, rules}
+use Rattle.std.proofs.Common.{◌≡◌, subst, sym}
 use Rattle.std.specs.Prelude.{IfOk, OnErr}
 use Rattle.world.specs.Schedules.{IsStep}
 use Rattle.world.specs.Stepping.{HasActed}

@@ -1,15 +1,15 @@
-use Rattle.std.proofs.Common.{◌≡◌, ◌∙◌, refl, subst, sym, ap, rules}
+use Rattle.std.proofs.Common.{◌≡◌, subst, sym, rules}
 use Rattle.std.specs.Prelude.{IfOk, None, OnErr, Some, slice_get, slice_set, unwrap_or}
 use Rattle.run_history.specs.Cases.{CaseShape}
 use Rattle.book.specs.OwnDesks.{own_view}
-use Rattle.node.specs.Messages.{IsAddressed, IsOutgoing}
+use Rattle.node.specs.Messages.{IsAddressed}
 use Rattle.node.specs.Received.{outgoing_of}
 use Rattle.node.specs.Workers.{worker_at}
 use Rattle.node.specs.declared.outcome.Outcome.TheVariants as outcomes
 use Rattle.scripts.specs.declared.step.Step.TheVariants as steps
-use Rattle.world.specs.Standing.{FitsOwn, IsWorld}
+use Rattle.world.specs.Standing.{IsWorld}
 use Rattle.world.specs.Stepping.{HasActed, HasFaulted}
-use Rattle.world.specs.WorkerCalls.{IsReady, left_by}
+use Rattle.world.specs.WorkerCalls.{left_by}
 use Rattle.world.specs.WorldStates.{WorldState}
 use Rattle.world.proofs.ActsOnLaws.{when-told}
 use Rattle.world.proofs.Results.{ok-then}
