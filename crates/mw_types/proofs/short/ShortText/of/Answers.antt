@@ -13,7 +13,7 @@ invariant_of-result c =
     let rest : List ℕ = drop n blank in
     let same : text ≡ c.copy_from_slice.new.self = search rules in
     let whole : length (text ++ rest) ≡ 30 =
-        omega (arith, c.requires, length-append text rest, length-drop n blank, length-replicate {A = ℕ} 30 0) in
+    omega (arith, c.requires, length-append text rest, length-drop n blank, length-replicate {A = ℕ} 30 0) in
     let valid : ∥ IsUtf8 (take n (text ++ rest)) ∥₁ = ∣ subst IsUtf8 (sym (take-append_seam text rest)) c.utf8.text ∣₁ in
     let zeros : drop n (text ++ rest) ≡ replicate (30 - n) 0 = drop-append_seam text rest ∙ drop-replicate n 30 0 in
     subst (λ l. (n ≤ 30) × (length (l ++ rest) ≡ 30) × ∥ IsUtf8 (take n (l ++ rest)) ∥₁ × (drop n (l ++ rest) ≡ replicate (30 - n) 0))
