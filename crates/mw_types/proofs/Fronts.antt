@@ -3,7 +3,7 @@ use Rattle.std.proofs.Common.{Ordering, Less, Equal, Greater, arith, ◌≡◌, 
 use Rattle.std.proofs.Common.{List, [], ◌∷◌, length, take, drop, replicate, min, slice_index, refl, sym, ap, ◌∙◌, subst, ⊎_elim}
 use Rattle.std.specs.Cmp.{nat_cmp_is}
 use Rattle.std.specs.Cmp.Lexicographic.{slice_cmp, nat_list_cmp_total}
-use Rattle.std.specs.Int.{from_be_bytes, w64}
+use Rattle.std.specs.Int.{from_be_bytes, w64, w128}
 use Rattle.std.specs.Ordering.{MatchOrdering, nat_cmp, ordering_then, ordering_reverse}
 use Rattle.std.proofs.lemmas.Bool.{cases_order}
 
@@ -113,36 +113,44 @@ padded (suc n) k [] e at = refl
 padded (suc n) k (x ∷ xs) e zero = refl
 padded (suc n) k (x ∷ xs) e (suc at) = padded n k xs e at
 
--- the first eight bytes of a text make this number
-pub record IsFront (text : List ℕ) (number : ℕ) : Type 0 where
+-- the first `n` bytes of a text make this number
+pub record IsFront (n : ℕ) (text : List ℕ) (number : ℕ) : Type 0 where
   pub bytes : AreBytes text
-  pub made : spelt 8 0 0 text ≡ number
+  pub made : spelt n 0 0 text ≡ number
 
--- what is read from eight bytes of an array is the front of the text that lies there with zeros after it
-pub IsFront-read : (n k number : ℕ) (xs text : List ℕ) → take n xs ≡ text → drop n xs ≡ replicate k 0 → AreBytes xs
-    → number ≡ from_be_bytes w64 xs → IsFront text number
-IsFront-read n k number xs text here e small read =
-    let has = padded n k xs e in
-    subst (λ t. IsFront t number) here (record {
-      bytes = λ at. subst (λ z. z < 256) (sym (has at)) (small at);
-      made = omega (arith, read, has 0, has 1, has 2, has 3, has 4, has 5, has 6, has 7);
-    })
+-- what is read from the bytes of an array is the front of the text that lies there with zeros after it
+module _ (n k number : ℕ) (xs text : List ℕ) (here : take n xs ≡ text) (e : drop n xs ≡ replicate k 0) (small : AreBytes xs) where
+  text_bytes : AreBytes (take n xs)
+  text_bytes at = subst (λ z. z < 256) (sym (padded n k xs e at)) (small at)
 
-module _ (xs ys : List ℕ) (p q : ℕ) (left : IsFront xs p) (right : IsFront ys q) where
+  pub IsFront-8 : number ≡ from_be_bytes w64 xs → IsFront 8 text number
+  IsFront-8 read =
+      let has = padded n k xs e in
+      let all : spelt 8 0 0 (take n xs) ≡ number = omega (arith, read, has 0, has 1, has 2, has 3, has 4, has 5, has 6, has 7) in
+      subst (λ t. IsFront 8 t number) here (record { bytes = text_bytes; made = all })
+
+  pub IsFront-16 : number ≡ from_be_bytes w128 xs → IsFront 16 text number
+  IsFront-16 read =
+      let at = padded n k xs e in
+      let all : spelt 16 0 0 (take n xs) ≡ number =
+      omega (arith, read, at 0, at 1, at 2, at 3, at 4, at 5, at 6, at 7, at 8, at 9, at 10, at 11, at 12, at 13, at 14, at 15) in
+      subst (λ t. IsFront 16 t number) here (record { bytes = text_bytes; made = all })
+
+module _ (n : ℕ) (xs ys : List ℕ) (p q : ℕ) (left : IsFront n xs p) (right : IsFront n ys q) where
   -- texts of two fronts stand as those do
   pub slice_cmp-unlike : p ≢ q → nat_cmp p q ≡ slice_cmp nat_cmp xs ys
   slice_cmp-unlike other = ⊎_elim (λ e. absurd (other e)) (⊎_elim smaller greater) (cases_order p q)
     where
       smaller : p < q → nat_cmp p q ≡ slice_cmp nat_cmp xs ys
       smaller l =
-          let sure = below 8 0 xs ys left.bytes right.bytes (omega (arith, l, left.made, right.made)) in
+          let sure = below n 0 xs ys left.bytes right.bytes (omega (arith, l, left.made, right.made)) in
           sym (nat_cmp_is p q Less l) ∙ sym sure
 
       greater : q < p → nat_cmp p q ≡ slice_cmp nat_cmp xs ys
       greater l =
-          let turned = below 8 0 ys xs right.bytes left.bytes (omega (arith, l, left.made, right.made)) in
+          let turned = below n 0 ys xs right.bytes left.bytes (omega (arith, l, left.made, right.made)) in
           sym (nat_cmp_is p q Greater l) ∙ sym (nat_list_cmp_total.antisymm xs ys ∙ ap ordering_reverse turned)
 
   -- texts of one front, the shorter of which is within it, stand by their lengths
-  pub slice_cmp-alike : p ≡ q → min (length xs) (length ys) ≤ 8 → nat_cmp (length xs) (length ys) ≡ slice_cmp nat_cmp xs ys
-  slice_cmp-alike e few = level 8 0 xs ys left.bytes right.bytes (left.made ∙ e ∙ sym right.made) few
+  pub slice_cmp-alike : p ≡ q → min (length xs) (length ys) ≤ n → nat_cmp (length xs) (length ys) ≡ slice_cmp nat_cmp xs ys
+  slice_cmp-alike e few = level n 0 xs ys left.bytes right.bytes (left.made ∙ e ∙ sym right.made) few

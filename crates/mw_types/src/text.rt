@@ -145,6 +145,7 @@ impl Ord for Text {
 
     ghost matches_eq = { Prim.search (comparing, rules) };
 
+    // A search asks this at each step, so it is inlined there.
     #[inline(always)]
     fn cmp(&self, other: &Text) -> Ordering {
         match (&self.held, &other.held) {
@@ -154,7 +155,7 @@ impl Ord for Text {
     }
 }
 
-// How two texts stand of which one is long.
+// How two texts stand of which one is long. It stays out of the searches, which need it seldom.
 #[inline(never)]
 fn order(one: &Text, two: &Text) -> Ordering
     ensures { result ≡ slice_cmp nat_cmp one.now two.now }

@@ -1,0 +1,23 @@
+use Rattle.std.proofs.Common.{arith, rules, ◌≡◌, ◌∙◌, sym, length}
+use Rattle.std.specs.Ordering.{nat_cmp}
+use Rattle.mw_types.proofs.Fronts.{IsFront-16, slice_cmp-unlike, slice_cmp-alike}
+use Rattle.mw_types.proofs.short.ShortText.order_past.Goals as goal
+
+pub returns-then-one-two : goal.returns-then-one-two
+returns-then-one-two c =
+    let one = c.wide_front-one.ensures in
+    let two = c.wide_front-two.ensures in
+    let left = IsFront-16 _ _ _ _ _ c.self.view_is c.self.invariant.3 one.bytes one.number in
+    let right = IsFront-16 _ _ _ _ _ c.other.view_is c.other.invariant.3 two.bytes two.number in
+    c.cmp.ensures ∙ slice_cmp-unlike 16 _ _ _ _ left right c.if-one-two.true
+
+pub returns-then-min-le16 : goal.returns-then-min-le16
+returns-then-min-le16 c =
+    let one = c.wide_front-one.ensures in
+    let two = c.wide_front-two.ensures in
+    let left = IsFront-16 _ _ _ _ _ c.self.view_is c.self.invariant.3 one.bytes one.number in
+    let right = IsFront-16 _ _ _ _ _ c.other.view_is c.other.invariant.3 two.bytes two.number in
+    let long : length c.args.self.now ≡ c.self.inside.len = search rules in
+    let wide : length c.args.other.now ≡ c.other.inside.len = search rules in
+    c.cmp-then-min-le16.ensures ∙ sym (λ i. nat_cmp (long i) (wide i))
+    ∙ slice_cmp-alike 16 _ _ _ _ left right c.if-one-two.false (omega (arith, long, wide, c.min.ensures, c.if-min-le16.true))
