@@ -1,5 +1,4 @@
 pub mod CacheLaws
-pub mod PlaceLaws
 pub mod SlotLaws
 pub mod HeldRows
 pub mod HeldPlaces

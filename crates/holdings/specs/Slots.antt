@@ -1,7 +1,5 @@
 -- How rows lie at places of their own, and how the place of a name is found. No public clause cites this module.
-use Rattle.std.specs.Prelude.{◌≡◌, ◌<◌, ℕ, IsSome, List, [], Some, length, map, slice_index_or}
-use Rattle.std.specs.HashMap.{HashMap, get_by_text}
-use Rattle.std.specs.declared.string.String.{String}
+use Rattle.std.specs.Prelude.{◌≡◌, ◌<◌, ℕ, List, [], Some, length, map, slice_index_or}
 use Rattle.std.specs.List.{AllByRecursion}
 use Rattle.std.specs.List.Sorted.{IsStrictlySortedBy}
 use Rattle.std.specs.Map.{keys_of, lookup}
@@ -38,7 +36,3 @@ pub record AreSlots (rows : List NamedRow) (places : List (RowName × ℕ)) : Ty
 -- each place is one of a row
 pub record AreWithin (rows : List NamedRow) (places : List (RowName × ℕ)) : Type 0 where
   pub each : AllByRecursion (λ (p : RowName × ℕ). p.1 < length rows) places
-
--- of each name that has a place the text of the key is among the texts
-pub record HaveTexts {A S : Type 0} (places : List (RowName × ℕ)) (texts : HashMap (String A) ℕ S) : Type 0 where
-  pub each : (name : RowName) → IsSome (lookup (is_at (row_cmp name)) places) → IsSome (get_by_text texts name.key)

@@ -21,7 +21,6 @@ mod index;
 mod indexed;
 mod own_work;
 mod pending;
-mod places;
 mod row_work;
 mod seen;
 mod slots;

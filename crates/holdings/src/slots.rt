@@ -16,14 +16,17 @@ ghost use Rattle.holdings.specs.Seens.{seen_of};
 
 use crate::index::Index;
 use crate::pending::{SentList, push_row};
-use crate::places::{Places, Tree};
 use crate::to_purge::earlier_name;
 use book::NamedRow;
 use mw_types::{Duplicate, NoMemory, RowName};
 use row_parts::Row;
 use std::alloc::Global;
 use std::cell::Cell;
+use std::collections::BTreeMap;
 use std::marker::Model;
+
+// The place of each name.
+type Places = BTreeMap<RowName, usize>;
 
 // Rows in the order in which they came, and the place of each name. The place that was found last is
 // tried first, since a worker asks for one row several times in a row.
@@ -42,9 +45,9 @@ impl Model for Slots {
 
     ghost Value = { List (RowName × Contents) };
 
-    ghost view = { λ slots. placed slots.rows.items slots.places };
+    ghost view = { λ slots. placed slots.rows.items slots.places.entries };
 
-    ghost invariant = { λ slots. AreSlots slots.rows.items slots.places };
+    ghost invariant = { λ slots. AreSlots slots.rows.items slots.places.entries };
 }
 
 impl Slots {
@@ -55,7 +58,7 @@ impl Slots {
     {
         Slots {
             rows: Vec::new(alloc),
-            places: Places::new(alloc),
+            places: BTreeMap::new(alloc),
             last: Cell::new(0),
         }
     }
@@ -87,10 +90,10 @@ impl Slots {
         ensures entries { OnOk result (self.new ≡ insert_entry row_cmp self.old name row) }
         ensures unchanged { OnErr result (self.new ≡ self.old) }
     {
-        let at = count(&self.rows);
         let key = name.copy(alloc)?;
+        let at = count(&self.rows);
         self.rows.push(NamedRow { name, row })?;
-        if let Err(_) = self.places.add(alloc, key, at) {
+        if let Err(_) = self.places.insert(key, at) {
             self.rows.pop();
             return Err(NoMemory);
         }
@@ -117,14 +120,14 @@ fn count(rows: &[NamedRow]) -> usize
 
 // The place of a name, if it has one.
 fn place_in(rows: &[NamedRow], places: &Places, last: &Cell<usize>, name: &RowName) -> Option<usize>
-    requires slots { AreSlots rows.now places.now }
-    ensures place { result ≡ lookup (is_at (row_cmp name.now)) places.now }
+    requires slots { AreSlots rows.now places.now.entries }
+    ensures place { result ≡ lookup (is_at (row_cmp name.now)) places.now.entries }
 {
     let tried = last.get();
     if is_at_place(rows, tried, name) {
         return Some(tried);
     }
-    let found = places.get(rows, name);
+    let found = places.get(name).copied();
     if let Some(at) = found {
         last.set(at);
     }
@@ -132,7 +135,7 @@ fn place_in(rows: &[NamedRow], places: &Places, last: &Cell<usize>, name: &RowNa
 }
 
 // Whether a row of this name lies at a place.
-pub(crate) fn is_at_place(rows: &[NamedRow], at: usize, name: &RowName) -> bool
+fn is_at_place(rows: &[NamedRow], at: usize, name: &RowName) -> bool
     ensures { IsTrue result → IsPlaceOf rows.now name.now at }
 {
     match rows.get(at) {
@@ -166,7 +169,7 @@ pub(crate) fn index_beside(alloc: Global, index: &mut Index, slots: &Slots) -> R
     ensures seen { OnOk result (HasKeyed row_cmp seen_of slots.now
         index.old.seen.entries index.new.seen.entries) }
 {
-    index_places(alloc, index, &slots.rows, slots.places.tree())
+    index_places(alloc, index, &slots.rows, &slots.places)
 }
 
 // Keeps what there is of the rows at the places of names.
@@ -174,7 +177,7 @@ fn index_places(
     alloc: Global,
     index: &mut Index,
     rows: &[NamedRow],
-    places: &Tree,
+    places: &Places,
 ) -> Result<(), NoMemory>
     requires within { AreWithin rows.now places.now.entries }
     requires ordered { IsStrictlySortedBy due_order (keys_of index.old.dues.entries) }
@@ -196,7 +199,7 @@ fn index_places(
 pub(crate) fn push_beside(alloc: Global, sent: &mut SentList, slots: &Slots) -> Result<(), NoMemory>
     ensures { OnOk result (sent.new ≡ sent.old ++ flat_map sent_in slots.now) }
 {
-    push_places(alloc, sent, &slots.rows, slots.places.tree())
+    push_places(alloc, sent, &slots.rows, &slots.places)
 }
 
 // Appends what is pending in the rows at the places of names.
@@ -204,7 +207,7 @@ fn push_places(
     alloc: Global,
     sent: &mut SentList,
     rows: &[NamedRow],
-    places: &Tree,
+    places: &Places,
 ) -> Result<(), NoMemory>
     requires within { AreWithin rows.now places.now.entries }
     ensures { OnOk result
@@ -226,13 +229,13 @@ pub(crate) fn purge_beside<'a>(
     ensures { seen_name result
         ≡ fold (earlier (forgets floor least) by_name) (seen_name first.entry) slots.now }
 {
-    purge_places(&slots.rows, slots.places.tree(), first, floor, least)
+    purge_places(&slots.rows, &slots.places, first, floor, least)
 }
 
 // The earlier of a name and that of the first row at the places of names that may forget ids.
 fn purge_places<'a>(
     rows: &'a [NamedRow],
-    places: &'a Tree,
+    places: &'a Places,
     first: Option<&'a RowName>,
     floor: u64,
     least: u64,

@@ -6,6 +6,5 @@ use Rattle.holdings.proofs.slots.index_beside.Goals as goal
 
 -- each place is one of a row
 pub index_places-requires-clause-within : goal.index_places-requires-clause-within
-index_places-requires-clause-within c = subst (λ (l : List NamedRow). AreWithin l c.tree.result.now.entries) (sym c.deref.ensures.value)
-    (subst (AreWithin c.slots.inside.rows.items) (sym c.tree.ensures)
-    (each-within c.slots.inside.rows.items c.slots.inside.places c.slots.invariant))
+index_places-requires-clause-within c = subst (λ (l : List NamedRow). AreWithin l c.slots.inside.places.entries) (sym c.deref.ensures.value)
+    (each-within c.slots.inside.rows.items c.slots.inside.places.entries c.slots.invariant)

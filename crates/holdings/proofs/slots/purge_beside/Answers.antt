@@ -7,7 +7,6 @@ use Rattle.holdings.proofs.slots.purge_beside.Goals as goal
 -- each place is one of a row
 pub purge_places-requires : goal.purge_places-requires
 purge_places-requires c = record {
-  within = subst (λ (l : List NamedRow). AreWithin l c.tree.result.now.entries) (sym c.deref.ensures.value)
-      (subst (AreWithin c.slots.inside.rows.items) (sym c.tree.ensures)
-      (each-within c.slots.inside.rows.items c.slots.inside.places c.slots.invariant));
+  within = subst (λ (l : List NamedRow). AreWithin l c.slots.inside.places.entries) (sym c.deref.ensures.value)
+      (each-within c.slots.inside.rows.items c.slots.inside.places.entries c.slots.invariant);
 }

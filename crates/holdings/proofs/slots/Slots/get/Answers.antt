@@ -21,7 +21,7 @@ returns-in-Some c =
     let test = is_at (row_cmp c.args.name.now) in
     ap Some (c.row_in.ensures ∙ ap (λ (l : List NamedRow). row_at l c.in-Some.at) c.deref-in-Some.ensures.value)
     ∙ ap (option_map (row_at c.self.inside.rows.items)) c.in-Some.ensures.place
-    ∙ sym (lookup-placed c.self.inside.rows.items c.self.inside.places test)
+    ∙ sym (lookup-placed c.self.inside.rows.items c.self.inside.places.entries test)
     ∙ ap (λ (l : List (RowName × Contents)). lookup test l) c.self.view_is
 
 -- a name without a place has no row
@@ -29,5 +29,5 @@ pub returns-in-None : goal.returns-in-None
 returns-in-None c =
     let test = is_at (row_cmp c.args.name.now) in
     ap (option_map (row_at c.self.inside.rows.items)) c.in-None.ensures.place
-    ∙ sym (lookup-placed c.self.inside.rows.items c.self.inside.places test)
+    ∙ sym (lookup-placed c.self.inside.rows.items c.self.inside.places.entries test)
     ∙ ap (λ (l : List (RowName × Contents)). lookup test l) c.self.view_is

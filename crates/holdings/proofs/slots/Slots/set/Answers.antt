@@ -14,7 +14,7 @@ use Rattle.holdings.proofs.slots.Slots.set.Goals as goal
 -- a name that has a row has a place
 pub unwrap-at-requires : goal.unwrap-at-requires
 unwrap-at-requires c = subst IsSome (sym c.place_in.ensures.place)
-    (has_place c.self.inside.rows.items c.self.inside.places c.args.name.now
+    (has_place c.self.inside.rows.items c.self.inside.places.entries c.args.name.now
     (subst (λ (l : List (RowName × Contents)). IsSome (lookup (is_at (row_cmp c.args.name.now)) l)) (sym c.self.view_is) c.requires.there))
 
 -- which is one of a row
@@ -28,7 +28,7 @@ index_mut-requires c =
 pub invariant_of-self : goal.invariant_of-self
 invariant_of-self c =
     let rows = c.self.inside.rows.items in
-    let places = c.self.inside.places in
+    let places = c.self.inside.places.entries in
     let is : IsPlaceOf rows c.args.name.now c.unwrap-at.result =
     c.self.invariant.there c.args.name.now c.unwrap-at.result (sym c.place_in.ensures.place ∙ c.unwrap-at.ensures) in
     let name : c.set_at.new.place.name ≡ c.args.name.now =
@@ -41,7 +41,7 @@ invariant_of-self c =
 pub returns : goal.returns
 returns c =
     let rows = c.self.inside.rows.items in
-    let places = c.self.inside.places in
+    let places = c.self.inside.places.entries in
     let is : IsPlaceOf rows c.args.name.now c.unwrap-at.result =
     c.self.invariant.there c.args.name.now c.unwrap-at.result (sym c.place_in.ensures.place ∙ c.unwrap-at.ensures) in
     let name : c.set_at.new.place.name ≡ c.args.name.now =

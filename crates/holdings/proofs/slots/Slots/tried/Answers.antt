@@ -19,6 +19,6 @@ returns-then-is_at_place c =
     let is : IsPlaceOf rows name c.get-at.result =
     subst (λ (l : List NamedRow). IsPlaceOf l name c.get-at.result) c.deref.ensures.value (c.if-is_at_place.ensures refl) in
     sym (ap (λ (l : List (RowName × Contents)). lookup test l) c.self.view_is)
-    ∙ lookup-placed rows c.self.inside.places test
+    ∙ lookup-placed rows c.self.inside.places.entries test
     ∙ ap (option_map (row_at rows)) (c.self.invariant.back name c.get-at.result is)
     ∙ ap Some (sym (c.row_in.ensures ∙ ap (λ (l : List NamedRow). row_at l c.get-at.result) c.deref-then-is_at_place.ensures.value))
