@@ -72,9 +72,17 @@ impl<N: Seen> Node<N> {
             return None;
         }
         let name = injector_row(alloc, part);
-        let interval = case.interval_of(&name);
-        match self.held.get(interval) {
-            Some(held) => line_of(held, case, &name),
+        self.line_on(case, part, &name)
+    }
+
+    // The next line of an injector, whose row has this name, where it is held and has one.
+    fn line_on(&self, case: &Case, part: u32, name: &RowName) -> Option<u32>
+        requires injector { part < injectors_of case.now.topology }
+        requires name { name.now ≡ injector_row part }
+        ensures { IsNextOf case.now self.now part result }
+    {
+        match self.held.get(case.interval_of(name)) {
+            Some(held) => line_of(held, case, name),
             None => None,
         }
     }
