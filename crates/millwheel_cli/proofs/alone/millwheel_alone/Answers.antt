@@ -8,6 +8,25 @@ use Rattle.millwheel_cli.proofs.Leaving.{left_of_refusal, left_of_run, run_reaso
 use Rattle.millwheel_cli.proofs.Telling.{told_answer}
 use Rattle.millwheel_cli.proofs.alone.millwheel_alone.Goals as goal
 
+pub returns-in-Ok-read_task-clause-reason : goal.returns-in-Ok-read_task-clause-reason
+returns-in-Ok-read_task-clause-reason g c =
+    let seen : ShelfSeen = record {
+      files = g.S.Shelf.files c.args.shelf.now;
+      faults = (g.S.Shelf.faults c.args.shelf.now, g.S.Shelf.faults c.read_task.new.shelf);
+      lacks = (g.S.Shelf.lacks c.args.shelf.now, g.S.Shelf.lacks c.read_task.new.shelf);
+    } in
+    run_reason seen c.args.words.now _ _ _ c.run.ensures.left
+
+pub returns-in-Ok-read_task-clause-left : goal.returns-in-Ok-read_task-clause-left
+returns-in-Ok-read_task-clause-left g c =
+    let left : Left = record {
+      rows = (g.K.Keeper.rows c.args.keeper, g.K.Keeper.rows c.run.result.keeper);
+      text = (g.O.Sink.text c.args.out.now, g.O.Sink.text c.run.new.out);
+      history = c.run.result.history;
+    } in
+    left_of_run (g.S.Shelf.files c.args.shelf.now) c.args.words.now c.in-Ok.command c.in-Ok-read_task.task left _
+    c.in-Ok.ensures.command c.in-Ok-read_task.ensures.asked c.run.ensures.left
+
 pub returns-in-Ok-read_task-clause-answer : goal.returns-in-Ok-read_task-clause-answer
 returns-in-Ok-read_task-clause-answer g c held rows told seen_rows well kept written =
     let seen : ShelfSeen = record {
