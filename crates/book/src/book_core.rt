@@ -2,7 +2,6 @@
 ghost use Rattle.std.specs.Prelude.{◌≡◌, ◌++◌, ◌∷◌, ◌<◌, ◌^◌, [], length, max, IfSome, None, OnOk, OnErr, Some, option_map, ◌↔◌};
 ghost use Rattle.mw_types.specs.Causes.{HasCause};
 ghost use Rattle.mw_types.specs.declared.entry.Entry.TheVariants.{Claim};
-ghost use Rattle.row_parts.specs.Spelling.{IsSpelledRow, spelling_of};
 ghost use Rattle.row_keeper.specs.Rows.{AreInOrder, with_row};
 ghost use Rattle.run_history.specs.Made.{row_written};
 ghost use Rattle.run_history.specs.Fences.{last_claim};
@@ -13,9 +12,7 @@ ghost use Rattle.book.specs.Sending.{IsAfterEntry, IsLeastKnown, IsUnsent, Knows
 
 use crate::sender_map::{Senders, forget_sent, note_sent, settle, settled_by};
 use mw_types::{Entry, NoMemory, RecordId, RowName};
-use record_codec::encode_into;
 use row_keeper::{Keeper, KeeperFault};
-use row_parts::Row;
 use run_history::History;
 use std::alloc::Global;
 use std::collections::BTreeMap;
@@ -37,8 +34,6 @@ pub struct Core<K: Keeper> {
     pub(crate) unacknowledged: Senders,
     // The mark of each interval, in whole microseconds.
     pub(crate) marks: Vec<u64>,
-    // Room for the bytes of a row, kept from one write to the next.
-    pub(crate) buffer: Vec<u8>,
 }
 
 impl<K: Keeper> Model for Core<K> {
@@ -77,7 +72,7 @@ impl<K: Keeper> Core<K> {
         alloc: Global,
         entry: Entry,
         name: &RowName,
-        row: &Row,
+        bytes: &[u8],
         work: u64,
         sent: u32,
     ) -> Result<(), KeeperFault>
@@ -85,8 +80,7 @@ impl<K: Keeper> Core<K> {
         requires unsent { IsUnsent (length self.old.history) self.old.unacknowledged }
         ensures appended { OnOk result (self.new.history ≡ self.old.history ++ entry ∷ []) }
         ensures stored { OnOk result
-            (self.new.rows ≡ option_map (with_row name.now (spelling_of row.now)) self.old.rows) }
-        ensures own { OnOk result (IsSpelledRow row.now) }
+            (self.new.rows ≡ option_map (with_row name.now bytes.now) self.old.rows) }
         ensures left { OnOk result (self.new.work ≡ work) }
         ensures senders { OnOk result (IsAfterEntry (length self.old.history) entry name.now sent
             self.old.unacknowledged self.new.unacknowledged) }
@@ -101,13 +95,12 @@ impl<K: Keeper> Core<K> {
     {
         let commit = self.history.len() as u64;
         let settled = settled_by(&entry);
-        encode_into(&mut self.buffer, row)?;
         self.history.push(entry)?;
         if let Err(NoMemory) = note_sent(alloc, &mut self.unacknowledged, commit, sent, name) {
             self.history.pop();
             return Err(KeeperFault::NoMemory);
         }
-        if let Err(fault) = self.keeper.put(alloc, name, &self.buffer) {
+        if let Err(fault) = self.keeper.put(alloc, name, bytes) {
             forget_sent(&mut self.unacknowledged, commit, sent);
             self.history.pop();
             return Err(fault);

@@ -186,7 +186,6 @@ impl<'a, K: Keeper> Book<'a, K> {
             work: _,
             unacknowledged: _,
             marks: _,
-            buffer: _,
         } = core;
         (keeper, history)
     }
@@ -277,7 +276,6 @@ fn begun<'a, K: Keeper>(
             work,
             unacknowledged: BTreeMap::new(alloc),
             marks,
-            buffer: Vec::new(alloc),
         },
     }
 }

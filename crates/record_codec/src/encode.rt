@@ -23,26 +23,15 @@ pub fn encode_row(alloc: Global, row: &Row) -> Result<Bytes, NoMemory>
     ensures spelled { IfOk result (λ bytes. bytes ≡ spelling_of row.now) }
     ensures own { OnOk result (IsSpelledRow row.now) }
 {
-    let mut out = Vec::new(alloc);
-    encode_into(&mut out, row)?;
-    Ok(Bytes::from_vec(out))
-}
-
-/// Writes the bytes of a row in the place of what a buffer has. Refuses only where memory ran out, and
-/// the buffer may then have some of them.
-pub fn encode_into(out: &mut Vec<u8>, row: &Row) -> Result<(), NoMemory>
-    ensures spelled { OnOk result (out.new.items ≡ spelling_of row.now) }
-    ensures own { OnOk result (IsSpelledRow row.now) }
-{
-    out.clear();
-    out.reserve(room_of(row))?;
+    let mut out = Vec::with_capacity(alloc, room_of(row))?;
     out.push(VERSION)?;
-    row.last.put(out)?;
-    row.floor.put(out)?;
-    put_state(out, &row.state)?;
-    put_list(out, row.timers.as_slice())?;
-    put_list(out, row.pending.as_slice())?;
-    put_list(out, row.seen.as_slice())
+    row.last.put(&mut out)?;
+    row.floor.put(&mut out)?;
+    put_state(&mut out, &row.state)?;
+    put_list(&mut out, row.timers.as_slice())?;
+    put_list(&mut out, row.pending.as_slice())?;
+    put_list(&mut out, row.seen.as_slice())?;
+    Ok(Bytes::from_vec(out))
 }
 
 // Room for a row: its timers, and the ids that it has seen, are the longest of its lists.
