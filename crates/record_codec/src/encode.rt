@@ -3,7 +3,7 @@ ghost use Rattle.std.specs.Prelude.{◌≡◌, IfOk, OnOk};
 ghost use Rattle.row_parts.specs.Spelling.{spelling_of, IsSpelledRow};
 
 use mw_types::{Bytes, NoMemory};
-use row_parts::{Row, Spelled, put_list, put_state};
+use row_parts::{Row, Spelled, put_in_fours, put_list, put_state};
 use std::alloc::Global;
 
 // The version of the form of rows, which is their first byte.
@@ -28,9 +28,9 @@ pub fn encode_row(alloc: Global, row: &Row) -> Result<Bytes, NoMemory>
     row.last.put(&mut out)?;
     row.floor.put(&mut out)?;
     put_state(&mut out, &row.state)?;
-    put_list(&mut out, row.timers.as_slice())?;
+    put_in_fours(&mut out, row.timers.as_slice())?;
     put_list(&mut out, row.pending.as_slice())?;
-    put_list(&mut out, row.seen.as_slice())?;
+    put_in_fours(&mut out, row.seen.as_slice())?;
     Ok(Bytes::from_vec(out))
 }
 

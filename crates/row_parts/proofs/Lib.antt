@@ -6,5 +6,6 @@ pub mod Written
 pub mod KeyLemmas
 pub mod Ascending
 pub mod Codec
+pub mod Gathered
 pub mod PartLaws
 pub mod StateLaws

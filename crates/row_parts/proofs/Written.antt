@@ -4,7 +4,7 @@ use Rattle.std.specs.List.{concat}
 use Rattle.std.proofs.lemmas.List.{append-nil}
 
 -- one more write
-one_more : (out pieces last before now : List ℕ) → before ≡ out ++ pieces → now ≡ before ++ last → now ≡ out ++ (pieces ++ last)
+pub one_more : (out pieces last before now : List ℕ) → before ≡ out ++ pieces → now ≡ before ++ last → now ≡ out ++ (pieces ++ last)
 one_more out pieces last before now so_far next = next ∙ ap (λ (l : List ℕ). l ++ last) so_far ∙ append_assoc out pieces last
 
 -- three writes

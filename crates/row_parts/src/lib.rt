@@ -20,7 +20,7 @@ mod states;
 mod timers;
 mod words;
 
-pub use lists::{Ranked, put_list, take_ascending, take_list};
+pub use lists::{InFours, Ranked, put_in_fours, put_list, take_ascending, take_list};
 pub use refusal::StateRefusal;
 pub use row::Row;
 pub use spelled::Spelled;

@@ -1,5 +1,6 @@
 //! Lists that are written to bytes and read from them.
-ghost use Rattle.std.specs.Prelude.{◌≡◌, ◌++◌, ◌<◌, ◌^◌, length, All, OnOk};
+ghost use Rattle.std.specs.Prelude.{◌≡◌, ◌++◌, ◌∷◌, ◌<◌, ◌^◌, [], length, All, OnOk};
+ghost use Rattle.std.specs.List.{flat_map};
 ghost use Rattle.std.specs.Ordering.{is_lt};
 ghost use Rattle.row_parts.specs.Spelling.{list_spelling};
 ghost use Rattle.row_parts.specs.Reading.{Gives, times_at, list_at, ascends, ascending_at};
@@ -33,10 +34,51 @@ pub fn put_list<X: Spelled>(out: &mut Vec<u8>, xs: &[X]) -> Result<(), NoMemory>
     ensures typed { OnOk result (All X.typed xs.now) }
 {
     (xs.len() as u32).put(out)?;
+    put_each(out, xs)
+}
+
+// Appends the bytes of each element.
+fn put_each<X: Spelled>(out: &mut Vec<u8>, xs: &[X]) -> Result<(), NoMemory>
+    ensures written { OnOk result (out.new.items ≡ out.old.items ++ flat_map X.spelling xs.now) }
+    ensures typed { OnOk result (All X.typed xs.now) }
+{
     for x in xs {
         x.put(out)?;
     }
     Ok(())
+}
+
+/// A value whose bytes are written together with those of the next three in its list.
+pub trait InFours: Spelled {
+    /// Appends the bytes of four, this one first.
+    fn put_four(
+        &self,
+        second: &Self,
+        third: &Self,
+        fourth: &Self,
+        out: &mut Vec<u8>,
+    ) -> Result<(), NoMemory>
+        ensures written { let four = self.now ∷ second.now ∷ third.now ∷ fourth.now ∷ [] in
+            OnOk result (out.new.items ≡ out.old.items ++ flat_map Self.spelling four) }
+        ensures typed { let four = self.now ∷ second.now ∷ third.now ∷ fourth.now ∷ [] in
+            OnOk result (All Self.typed four) };
+}
+
+/// Appends the bytes of a list, as `put_list` does, four elements at once. Refuses only where memory ran
+/// out, and may then have appended some.
+pub fn put_in_fours<X: InFours>(out: &mut Vec<u8>, xs: &[X]) -> Result<(), NoMemory>
+    requires { length xs.now < 2 ^ 32 }
+    ensures written { let spelt = list_spelling X.spelling xs.now in
+        OnOk result (out.new.items ≡ out.old.items ++ spelt) }
+    ensures typed { OnOk result (All X.typed xs.now) }
+{
+    (xs.len() as u32).put(out)?;
+    let mut rest = xs;
+    while let [first, second, third, fourth, after @ ..] = rest {
+        first.put_four(second, third, fourth, out)?;
+        rest = after;
+    }
+    put_each(out, rest)
 }
 
 // Reads as many elements as were counted; each is read before room is made for it.

@@ -1,15 +1,18 @@
 //! The parts of a row that are written to bytes and read from them.
-ghost use Rattle.std.specs.Prelude.{◌≡◌, ◌++◌, ◌<◌, ◌≤◌, ◌^◌, ⊤, length, FitsSigned, IfOk, OnOk};
-ghost use Rattle.std.specs.Int.{w64};
+ghost use Rattle.std.specs.Prelude.{◌≡◌, ◌∷◌, ◌++◌, ◌<◌, ◌≤◌, ◌^◌, [], ⊤, length, FitsSigned, IfOk, OnOk};
+ghost use Rattle.std.specs.List.{concat};
+ghost use Rattle.std.specs.Int.{w64, to_be_bytes};
 ghost use Rattle.mw_types.specs.Orders.{id_cmp, timer_cmp};
 ghost use Rattle.row_parts.specs.Contents.{delivery_cmp};
-ghost use Rattle.row_parts.specs.Spelling.{key_spelling, id_spelling, window_spelling, held_spelling, timer_spelling, name_spelling, record_spelling, delivery_spelling, DeliveryFits};
+ghost use Rattle.row_parts.specs.Spelling.{key_spelling, id_spelling, window_spelling, held_spelling, timer_spelling, name_spelling, record_spelling, delivery_spelling, signed_spelling, flag_spelling, DeliveryFits};
 ghost use Rattle.row_parts.specs.Reading.{Gives, key_at, id_at, window_at, held_at, timer_at, name_at, record_at, delivery_at};
 
-use crate::lists::Ranked;
+use crate::lists::{InFours, Ranked};
 use crate::refusal::StateRefusal;
 use crate::spelled::Spelled;
-use crate::words::{two_words, two_words_and_flag, word_and_half};
+use crate::words::{
+    four_of_12, four_of_16, four_of_17, two_words, two_words_and_flag, word_and_half,
+};
 use mw_types::{
     Delivery, HeldTotal, Key, KeyRefusal, MAX_STAMP, NoMemory, Record, RecordId, RowName, Timer,
     Window,
@@ -60,6 +63,13 @@ impl Spelled for Key {
     }
 }
 
+// The bytes of an id.
+fn id_bytes(id: RecordId) -> [u8; 12]
+    ensures { result ≡ id_spelling id }
+{
+    word_and_half(id.commit, id.index)
+}
+
 impl Spelled for RecordId {
     ghost spelling = { id_spelling };
 
@@ -68,7 +78,7 @@ impl Spelled for RecordId {
     ghost reading = { id_at };
 
     fn put(&self, out: &mut Vec<u8>) -> Result<(), NoMemory> {
-        out.extend_from_slice(&word_and_half(self.commit, self.index))?;
+        out.extend_from_slice(&id_bytes(*self))?;
         Ok(())
     }
 
@@ -84,6 +94,24 @@ impl Spelled for RecordId {
     }
 }
 
+impl InFours for RecordId {
+    fn put_four(
+        &self,
+        second: &RecordId,
+        third: &RecordId,
+        fourth: &RecordId,
+        out: &mut Vec<u8>,
+    ) -> Result<(), NoMemory> {
+        out.extend_from_slice(&four_of_12(
+            id_bytes(*self),
+            id_bytes(*second),
+            id_bytes(*third),
+            id_bytes(*fourth),
+        ))?;
+        Ok(())
+    }
+}
+
 impl Ranked for RecordId {
     ghost use Rattle.mw_types.proofs.OrderLaws.{id_cmp-total};
 
@@ -96,6 +124,13 @@ impl Ranked for RecordId {
     ghost total = { id_cmp-total };
 }
 
+// The bytes of an open window.
+fn window_bytes(window: Window) -> [u8; 16]
+    ensures { result ≡ window_spelling window }
+{
+    two_words(window.end, window.count)
+}
+
 impl Spelled for Window {
     ghost spelling = { window_spelling };
 
@@ -104,7 +139,7 @@ impl Spelled for Window {
     ghost reading = { window_at };
 
     fn put(&self, out: &mut Vec<u8>) -> Result<(), NoMemory> {
-        out.extend_from_slice(&two_words(self.end, self.count))?;
+        out.extend_from_slice(&window_bytes(*self))?;
         Ok(())
     }
 
@@ -120,6 +155,24 @@ impl Spelled for Window {
     }
 }
 
+impl InFours for Window {
+    fn put_four(
+        &self,
+        second: &Window,
+        third: &Window,
+        fourth: &Window,
+        out: &mut Vec<u8>,
+    ) -> Result<(), NoMemory> {
+        out.extend_from_slice(&four_of_16(
+            window_bytes(*self),
+            window_bytes(*second),
+            window_bytes(*third),
+            window_bytes(*fourth),
+        ))?;
+        Ok(())
+    }
+}
+
 impl Ranked for Window {
     ghost use Rattle.row_parts.specs.Orders.{window_cmp, window_cmp-total};
 
@@ -132,6 +185,14 @@ impl Ranked for Window {
     ghost total = { window_cmp-total };
 }
 
+// The bytes of a held total.
+fn held_bytes(held: HeldTotal) -> [u8; 16]
+    ensures bytes { result ≡ held_spelling held }
+    ensures value { FitsSigned w64 held.value }
+{
+    two_words(held.stamp, held.value.cast_unsigned())
+}
+
 impl Spelled for HeldTotal {
     ghost spelling = { held_spelling };
 
@@ -140,8 +201,7 @@ impl Spelled for HeldTotal {
     ghost reading = { held_at };
 
     fn put(&self, out: &mut Vec<u8>) -> Result<(), NoMemory> {
-        self.stamp.put(out)?;
-        self.value.put(out)?;
+        out.extend_from_slice(&held_bytes(*self))?;
         Ok(())
     }
 
@@ -157,6 +217,24 @@ impl Spelled for HeldTotal {
     }
 }
 
+impl InFours for HeldTotal {
+    fn put_four(
+        &self,
+        second: &HeldTotal,
+        third: &HeldTotal,
+        fourth: &HeldTotal,
+        out: &mut Vec<u8>,
+    ) -> Result<(), NoMemory> {
+        out.extend_from_slice(&four_of_16(
+            held_bytes(*self),
+            held_bytes(*second),
+            held_bytes(*third),
+            held_bytes(*fourth),
+        ))?;
+        Ok(())
+    }
+}
+
 impl Ranked for HeldTotal {
     ghost use Rattle.row_parts.specs.Orders.{held_cmp, held_cmp-total};
 
@@ -169,6 +247,14 @@ impl Ranked for HeldTotal {
     ghost total = { held_cmp-total };
 }
 
+// The bytes of a timer.
+fn timer_bytes(timer: Timer) -> [u8; 17]
+    ensures bytes { result ≡ timer_spelling timer }
+    ensures tag { timer.tag < 2 ^ 64 }
+{
+    two_words_and_flag(timer.time, timer.tag, timer.late)
+}
+
 impl Spelled for Timer {
     ghost spelling = { timer_spelling };
 
@@ -177,7 +263,7 @@ impl Spelled for Timer {
     ghost reading = { timer_at };
 
     fn put(&self, out: &mut Vec<u8>) -> Result<(), NoMemory> {
-        out.extend_from_slice(&two_words_and_flag(self.time, self.tag, self.late))?;
+        out.extend_from_slice(&timer_bytes(*self))?;
         Ok(())
     }
 
@@ -191,6 +277,24 @@ impl Spelled for Timer {
         } else {
             Err(StateRefusal::Damaged)
         }
+    }
+}
+
+impl InFours for Timer {
+    fn put_four(
+        &self,
+        second: &Timer,
+        third: &Timer,
+        fourth: &Timer,
+        out: &mut Vec<u8>,
+    ) -> Result<(), NoMemory> {
+        out.extend_from_slice(&four_of_17(
+            timer_bytes(*self),
+            timer_bytes(*second),
+            timer_bytes(*third),
+            timer_bytes(*fourth),
+        ))?;
+        Ok(())
     }
 }
 
@@ -227,6 +331,15 @@ impl Spelled for RowName {
     }
 }
 
+// The bytes of a record that follow its key.
+fn bytes_after_key(record: &Record) -> [u8; 17]
+    ensures bytes { let item = record.now in result ≡ concat (to_be_bytes w64 item.stamp
+        ∷ signed_spelling item.value ∷ flag_spelling item.late ∷ []) }
+    ensures value { FitsSigned w64 record.now.value }
+{
+    two_words_and_flag(record.stamp, record.value.cast_unsigned(), record.late)
+}
+
 impl Spelled for Record {
     ghost spelling = { record_spelling };
 
@@ -236,9 +349,7 @@ impl Spelled for Record {
 
     fn put(&self, out: &mut Vec<u8>) -> Result<(), NoMemory> {
         self.key.put(out)?;
-        self.stamp.put(out)?;
-        self.value.put(out)?;
-        self.late.put(out)?;
+        out.extend_from_slice(&bytes_after_key(self))?;
         Ok(())
     }
 

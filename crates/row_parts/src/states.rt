@@ -6,7 +6,7 @@ ghost use Rattle.mw_types.specs.Bounds.{IsWithin};
 ghost use Rattle.row_parts.specs.Spelling.{list_spelling, state_spelling, FitsBytes, IsSpelledState};
 ghost use Rattle.row_parts.specs.Reading.{Gives, injector_at, count_at, spike_at, pass_at, state_of, state_at, whole_state};
 
-use crate::lists::{put_list, take_ascending, take_list};
+use crate::lists::{InFours, put_in_fours, put_list, take_ascending, take_list};
 use crate::refusal::StateRefusal;
 use crate::spelled::Spelled;
 use mw_types::{
@@ -33,15 +33,15 @@ fn side_by_side<X: Copy + Drop>(list: &SharedList<X>) -> Option<&[X]>
 }
 
 // Appends the bytes of a list that may lie in pieces.
-fn put_shared<X: Spelled + Copy>(out: &mut Vec<u8>, list: &SharedList<X>) -> Result<(), NoMemory>
+fn put_shared<X: InFours + Copy>(out: &mut Vec<u8>, list: &SharedList<X>) -> Result<(), NoMemory>
     requires { length list.now < 2 ^ 32 }
     ensures written { let spelt = list_spelling X.spelling list.now in
         OnOk result (out.new.items ≡ out.old.items ++ spelt) }
     ensures typed { OnOk result (All X.typed list.now) }
 {
     match side_by_side(list) {
-        Some(run) => put_list(out, run),
-        None => put_list(out, &list.flat(*out.allocator())?),
+        Some(run) => put_in_fours(out, run),
+        None => put_in_fours(out, &list.flat(*out.allocator())?),
     }
 }
 
