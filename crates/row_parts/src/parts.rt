@@ -332,12 +332,12 @@ impl Spelled for RowName {
 }
 
 // The bytes of a record that follow its key.
-fn bytes_after_key(record: &Record) -> [u8; 17]
-    ensures bytes { let item = record.now in result ≡ concat (to_be_bytes w64 item.stamp
-        ∷ signed_spelling item.value ∷ flag_spelling item.late ∷ []) }
-    ensures value { FitsSigned w64 record.now.value }
+fn bytes_after_key(item: &Record) -> [u8; 17]
+    ensures bytes { result ≡ concat (to_be_bytes w64 item.now.stamp
+        ∷ signed_spelling item.now.value ∷ flag_spelling item.now.late ∷ []) }
+    ensures value { FitsSigned w64 item.now.value }
 {
-    two_words_and_flag(record.stamp, record.value.cast_unsigned(), record.late)
+    two_words_and_flag(item.stamp, item.value.cast_unsigned(), item.late)
 }
 
 impl Spelled for Record {
