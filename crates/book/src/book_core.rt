@@ -2,6 +2,7 @@
 ghost use Rattle.std.specs.Prelude.{◌≡◌, ◌++◌, ◌∷◌, ◌<◌, ◌^◌, [], length, max, IfSome, None, OnOk, OnErr, Some, option_map, ◌↔◌};
 ghost use Rattle.mw_types.specs.Causes.{HasCause};
 ghost use Rattle.mw_types.specs.declared.entry.Entry.TheVariants.{Claim};
+ghost use Rattle.row_parts.specs.Spelling.{IsSpelledRow, spelling_of};
 ghost use Rattle.row_keeper.specs.Rows.{AreInOrder, with_row};
 ghost use Rattle.run_history.specs.Made.{row_written};
 ghost use Rattle.run_history.specs.Fences.{last_claim};
@@ -12,11 +13,14 @@ ghost use Rattle.book.specs.Sending.{IsAfterEntry, IsLeastKnown, IsUnsent, Knows
 
 use crate::sender_map::{Senders, forget_sent, note_sent, settle, settled_by};
 use mw_types::{Entry, NoMemory, RecordId, RowName};
+use record_codec::encode_over;
 use row_keeper::{Keeper, KeeperFault};
+use row_parts::Row;
 use run_history::History;
 use std::alloc::Global;
 use std::collections::BTreeMap;
 use std::marker::Model;
+use std::mem::replace;
 
 /// The history, the keeper, how many entries there may be, the last sequencer of each interval, how
 /// much work is left, the unacknowledged ids, and the marks.
@@ -34,6 +38,8 @@ pub struct Core<K: Keeper> {
     pub(crate) unacknowledged: Senders,
     // The mark of each interval, in whole microseconds.
     pub(crate) marks: Vec<u64>,
+    // Room for the bytes of a row, kept from one write to the next.
+    pub(crate) buffer: Vec<u8>,
 }
 
 impl<K: Keeper> Model for Core<K> {
@@ -72,7 +78,7 @@ impl<K: Keeper> Core<K> {
         alloc: Global,
         entry: Entry,
         name: &RowName,
-        bytes: &[u8],
+        row: &Row,
         work: u64,
         sent: u32,
     ) -> Result<(), KeeperFault>
@@ -80,7 +86,8 @@ impl<K: Keeper> Core<K> {
         requires unsent { IsUnsent (length self.old.history) self.old.unacknowledged }
         ensures appended { OnOk result (self.new.history ≡ self.old.history ++ entry ∷ []) }
         ensures stored { OnOk result
-            (self.new.rows ≡ option_map (with_row name.now bytes.now) self.old.rows) }
+            (self.new.rows ≡ option_map (with_row name.now (spelling_of row.now)) self.old.rows) }
+        ensures own { OnOk result (IsSpelledRow row.now) }
         ensures left { OnOk result (self.new.work ≡ work) }
         ensures senders { OnOk result (IsAfterEntry (length self.old.history) entry name.now sent
             self.old.unacknowledged self.new.unacknowledged) }
@@ -95,18 +102,20 @@ impl<K: Keeper> Core<K> {
     {
         let commit = self.history.len() as u64;
         let settled = settled_by(&entry);
+        let bytes = encode_over(replace(&mut self.buffer, Vec::new(alloc)), row)?;
         self.history.push(entry)?;
         if let Err(NoMemory) = note_sent(alloc, &mut self.unacknowledged, commit, sent, name) {
             self.history.pop();
             return Err(KeeperFault::NoMemory);
         }
-        if let Err(fault) = self.keeper.put(alloc, name, bytes) {
+        if let Err(fault) = self.keeper.put(alloc, name, bytes.as_slice()) {
             forget_sent(&mut self.unacknowledged, commit, sent);
             self.history.pop();
             return Err(fault);
         }
         settle(&mut self.unacknowledged, settled, name);
         self.work = work;
+        self.buffer = bytes.into_vec();
         Ok(())
     }
 

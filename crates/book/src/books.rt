@@ -186,6 +186,7 @@ impl<'a, K: Keeper> Book<'a, K> {
             work: _,
             unacknowledged: _,
             marks: _,
+            buffer: _,
         } = core;
         (keeper, history)
     }
@@ -276,6 +277,7 @@ fn begun<'a, K: Keeper>(
             work,
             unacknowledged: BTreeMap::new(alloc),
             marks,
+            buffer: Vec::new(alloc),
         },
     }
 }

@@ -20,7 +20,6 @@ use crate::refusals::WriteRefusal;
 use crate::rows::{purged, settled};
 use crate::work_left::work_after;
 use mw_types::{Duplicate, Entry, RecordId, RowName};
-use record_codec::encode_row;
 use row_keeper::Keeper;
 use row_parts::Row;
 use std::alloc::Global;
@@ -211,9 +210,7 @@ impl<'a, K: Keeper> Book<'a, K> {
     {
         let commit = self.core.history.len() as u64;
         let work = work_after(self.case, name, before, &row, self.core.work)?;
-        let bytes = encode_row(alloc, &row)?;
-        self.core
-            .append(alloc, entry, name, bytes.as_slice(), work, sent)?;
+        self.core.append(alloc, entry, name, &row, work, sent)?;
         Ok(Written { commit, row })
     }
 }

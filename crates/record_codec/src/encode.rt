@@ -23,7 +23,17 @@ pub fn encode_row(alloc: Global, row: &Row) -> Result<Bytes, NoMemory>
     ensures spelled { IfOk result (λ bytes. bytes ≡ spelling_of row.now) }
     ensures own { OnOk result (IsSpelledRow row.now) }
 {
-    let mut out = Vec::with_capacity(alloc, room_of(row))?;
+    encode_over(Vec::new(alloc), row)
+}
+
+/// The bytes of a row, in the memory of a buffer that is used no more.
+pub fn encode_over(buffer: Vec<u8>, row: &Row) -> Result<Bytes, NoMemory>
+    ensures spelled { IfOk result (λ bytes. bytes ≡ spelling_of row.now) }
+    ensures own { OnOk result (IsSpelledRow row.now) }
+{
+    let mut out = buffer;
+    out.clear();
+    out.reserve(room_of(row))?;
     out.push(VERSION)?;
     row.last.put(&mut out)?;
     row.floor.put(&mut out)?;

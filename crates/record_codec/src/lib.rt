@@ -11,5 +11,5 @@ mod encode;
 mod refusal;
 
 pub use decode::decode_row;
-pub use encode::encode_row;
+pub use encode::{encode_over, encode_row};
 pub use refusal::RowRefusal;

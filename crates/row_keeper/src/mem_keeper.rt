@@ -13,6 +13,10 @@ use mw_types::{Bytes, CallList, Duplicate, NoMemory, RowName};
 use std::alloc::Global;
 use std::collections::BTreeMap;
 use std::marker::Model;
+use std::mem::replace;
+
+// How much more than twice what is needed spare memory may have.
+const SLACK: usize = 64;
 
 // Rows by their names, each with its bytes.
 type RowMap = BTreeMap<RowName, Bytes>;
@@ -22,6 +26,8 @@ type RowMap = BTreeMap<RowName, Bytes>;
 pub struct MemKeeper {
     rows: RowMap,
     calls: Calls,
+    // The memory of the bytes that the last put replaced, for the bytes of the next.
+    spare: Vec<u8>,
 }
 
 impl Model for MemKeeper {
@@ -52,6 +58,7 @@ impl MemKeeper {
                 count: 0,
                 faults: 0,
             },
+            spare: Vec::new(alloc),
         }
     }
 
@@ -81,7 +88,11 @@ impl Keeper for MemKeeper {
         ensures counts { CountsCall self.old self.new result }
     {
         self.calls.begin()?;
-        hold(alloc, &mut self.rows, name, bytes)?;
+        let own_bytes = bytes_over(alloc, &mut self.spare, bytes)?;
+        let replaced = hold(alloc, &mut self.rows, name, own_bytes)?;
+        if let Some(old) = replaced {
+            self.spare = old.into_vec();
+        }
         Ok(())
     }
 
@@ -121,16 +132,35 @@ fn copied(alloc: Global, name: &RowName, bytes: &Bytes) -> Result<KeptRow, NoMem
     })
 }
 
-// Holds these bytes under this name.
-fn hold(alloc: Global, rows: &mut RowMap, name: &RowName, bytes: &[u8]) -> Result<(), NoMemory>
-    ensures held { OnOk result (rows.new.entries ≡ with_row name.now bytes.now rows.old.entries) }
+// Holds these bytes under this name, and answers what was held under it before.
+fn hold(
+    alloc: Global,
+    rows: &mut RowMap,
+    name: &RowName,
+    bytes: Bytes,
+) -> Result<Option<Bytes>, NoMemory>
+    ensures held { OnOk result (rows.new.entries ≡ with_row name.now bytes rows.old.entries) }
     ensures unchanged { OnErr result (rows.new.entries ≡ rows.old.entries) }
     ensures ordered { AreInOrder rows.old.entries → AreInOrder rows.new.entries }
 {
     let own_name = name.copy(alloc)?;
-    let own_bytes = list_of(alloc, bytes)?;
-    rows.insert(own_name, own_bytes)?;
-    Ok(())
+    let replaced = rows.insert(own_name, bytes)?;
+    Ok(replaced)
+}
+
+// These bytes as a list of their own, in spare memory where that has room for them and for not much
+// more than twice as many.
+fn bytes_over(alloc: Global, spare: &mut Vec<u8>, bytes: &[u8]) -> Result<Bytes, NoMemory>
+    ensures { IfOk result (λ list. list ≡ bytes.now) }
+{
+    let room = spare.capacity();
+    if room < bytes.len() || room / 2 > bytes.len() + SLACK {
+        return list_of(alloc, bytes);
+    }
+    let mut list = replace(spare, Vec::new(alloc));
+    list.clear();
+    list.extend_from_slice(bytes)?;
+    Ok(Bytes::from_vec(list))
 }
 
 // These bytes as a list of their own.

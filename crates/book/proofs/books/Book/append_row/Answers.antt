@@ -17,16 +17,14 @@ invariant_of-self-2 g c =
     IsLawful-next c.self.inside.case.now c.self.inside.core c.append.new.self c.args.name.now c.args.entry c.args.before.now c.args.row
     c.self.invariant
     (subst (λ (b : BookView). IsNext b.case (core_of b) c.args.name.now c.args.entry c.args.row) (sym c.self.view_is) c.requires.next)
-    c.in_ok-bytes.ensures.own
+    c.in_ok-append.ensures.own
     (subst (λ (b : BookView). IfSome b.rows (λ _. c.args.before.now ≡ row_of b.case.topology
     (run_of b.case.topology b.history) c.args.name.now)) (sym c.self.view_is) c.requires.was)
     (c.in_ok-append.ensures.left ∙ c.in_ok-work.ensures
     ∙ (λ i. ((c.self-inside.view_is i).core.work + work_in (c.self-inside.view_is i).case.now c.args.name.now c.args.row)
     - work_in (c.self-inside.view_is i).case.now c.args.name.now c.args.before.now))
     c.in_ok-append.ensures.appended
-    (c.in_ok-append.ensures.stored
-    ∙ ap (λ (b : List ℕ). option_map (with_row c.args.name.now b) c.self.inside.core.rows)
-    (c.as_slice.ensures.elements ∙ c.in_ok-bytes.ensures.spelled))
+    c.in_ok-append.ensures.stored
     c.append.ensures.limit
     (subst (λ (h : List Entry). AreSenders c.self.inside.case.now.topology
     (run_of c.self.inside.case.now.topology h) c.append.new.self.unacknowledged)
