@@ -9,7 +9,7 @@ use Rattle.std.proofs.lemmas.List.{take-append-drop}
 use Rattle.std.proofs.lemmas.List.Folds.{list_any_at}
 use Rattle.mw_types.specs.declared.entry.Entry.{Entry}
 use Rattle.key_intervals.specs.declared.bounds.Bounds.{Bounds}
-use Rattle.topology.specs.Shapes.{Shape, feeds_of}
+use Rattle.topology.specs.Shapes.{feeds_of}
 use Rattle.row_keeper.specs.Rows.{Rows}
 use Rattle.run_history.specs.Cases.{CaseShape, is_injector, intervals_of}
 use Rattle.run_history.specs.Runs.{Run, run_of, empty_run}

@@ -4,7 +4,6 @@
 use Rattle.std.specs.Prelude.{◌≡◌, ◌↔◌, ◌++◌, ◌∷◌, [], ℕ, List, length, Option, Some, Result, IsErrOf, IfSome, slice_get, ⊤, true}
 use Rattle.std.specs.Option.{is_some}
 use Rattle.mw_types.specs.declared.identity.RowName.{RowName}
-use Rattle.mw_types.specs.declared.delivery.Delivery.{Delivery}
 use Rattle.mw_types.specs.declared.entry.Entry.{Entry}
 use Rattle.row_parts.specs.Contents.{Contents}
 use Rattle.row_keeper.specs.Rows.{Rows}

@@ -1,9 +1,8 @@
-use Rattle.std.proofs.Common.{◌≡◌, ◌+◌, ◌-◌, List, ℕ, ap, subst, sym, ◌∙◌}
-use Rattle.std.specs.Prelude.{IfSome, option_map}
+use Rattle.std.proofs.Common.{◌≡◌, ◌+◌, ◌-◌, List, subst, sym, ◌∙◌}
+use Rattle.std.specs.Prelude.{IfSome}
 use Rattle.run_history.specs.Runs.{run_of, row_of}
 use Rattle.mw_types.specs.declared.entry.Entry.{Entry}
 use Rattle.run_history.specs.Finished.{work_in}
-use Rattle.row_keeper.specs.Rows.{with_row}
 use Rattle.book.specs.Books.{BookView, core_of}
 use Rattle.book.specs.Appending.{IsNext, sent_by}
 use Rattle.book.specs.Senders.{AreSenders}
