@@ -136,8 +136,8 @@ impl<'a, K: Keeper> Book<'a, K> {
         self.core.first_sent()
     }
 
-    /// The mark of an interval, in whole microseconds: no work that is left in it, and none above it,
-    /// is older.
+    /// The mark of an interval, in whole microseconds. Where a contract can see the keeper's rows, no
+    /// work that is left in the interval, and none above it, is older, as `history` says.
     pub fn mark(&self, interval: u32) -> u64
         requires there { interval < length (intervals_of self.now.case.topology) }
         ensures mark { result ≡ mark_of self.now.marks interval }

@@ -1,4 +1,5 @@
-//! What is kept beside the rows of an interval, so that no step goes over all of them.
+//! What is kept beside the rows of an interval, so that the own work and the first timer of all of
+//! them are found without going over them.
 ghost use Rattle.std.specs.Prelude.{◌≡◌, ◌≢◌, [], Contains, IfOk, IfSome, None, OnOk, Some, option_copied};
 ghost use Rattle.std.specs.Option.{option_and_then, option_map};
 ghost use Rattle.std.specs.List.Sorted.{IsStrictlySortedBy};

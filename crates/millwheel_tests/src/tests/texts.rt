@@ -75,7 +75,7 @@ fn no_spike_at_three_times(rt: HostRuntime) -> Result<(), Fail> {
 
 // A thousand records of four heads and ten tails, with a watermark after each fifty and a blank line
 // after each hundred.
-fn heads(alloc: Global) -> Result<String, NoMemory> {
+pub(super) fn heads(alloc: Global) -> Result<String, NoMemory> {
     let mut events = String::new(alloc);
     for line in 0..1000u32 {
         let (head, tail, next) = (line % 4, line % 10, line + 1);
