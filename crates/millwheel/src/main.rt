@@ -1,14 +1,15 @@
 //! The program `millwheel`: the command line, the files and the output of its process.
 //!
 //! All that it does is `millwheel_alone` of `millwheel_cli`, over the files and the standard output of the
-//! runtime and over a keeper in memory, or in a database where `keep_name` answers its name; and then
-//! `tell`, over its standard error, whose number is the exit status.
+//! runtime and over a keeper in memory, or in a database where `keep_name` answers its name, with
+//! `after_closing` once that is closed; and then `tell`, over its standard error, whose number is the exit
+//! status.
 #![tactic(auto)]
 
-use millwheel_cli::{Done, Status, keep_name, millwheel_alone, tell};
+use millwheel_cli::{Done, Status, after_closing, keep_name, millwheel_alone, tell, unopened};
 use mw_ports::{FileShelf, OutSink};
 use mw_types::{CallList, Name, NoMemory, Seq};
-use row_keeper::{Keeper, KeeperFault, MemKeeper};
+use row_keeper::{Keeper, MemKeeper};
 use sqlite_keeper::SqliteKeeper;
 use std::alloc::Global;
 use std::io::{Error, ErrorKind};
@@ -87,25 +88,9 @@ fn run_kept(rt: &HostRuntime, words: &[Name], name: &Name) -> Status {
     match SqliteKeeper::at(rt, name.text()) {
         Ok(kept) => {
             let Done { status, keeper, .. } = run_over(rt, words, kept);
-            after(status, keeper.close())
+            after_closing(status, keeper.close())
         }
-        Err(fault) => status_of(fault),
-    }
-}
-
-// The status of a run whose keeper was closed: a run that went well did not if its rows are not kept.
-fn after(status: Status, closed: Result<(), KeeperFault>) -> Status {
-    match (status, closed) {
-        (Status::Ok, Err(fault)) => status_of(fault),
-        (status, _) => status,
-    }
-}
-
-// The status where a keeper failed.
-fn status_of(fault: KeeperFault) -> Status {
-    match fault {
-        KeeperFault::Failed => Status::KeeperFault,
-        KeeperFault::NoMemory => Status::NoMemory,
+        Err(fault) => unopened(fault),
     }
 }
 

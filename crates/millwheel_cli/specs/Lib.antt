@@ -8,3 +8,4 @@ pub mod Answers
 pub mod Numbers
 pub mod Messages
 pub mod Inside
+pub mod Closing

@@ -9,12 +9,14 @@
 //! the whole drain, legal and finished, and the rows are its rows. Every other status has its reason, and
 //! leaves what the clauses say. Definitions, in the order of reading: `specs/Asked.antt`, where rows are kept;
 //! `specs/Files.antt`, what was read; `specs/Loads.antt`, what load makes; `specs/Tasks.antt`, what is to be
-//! done; `specs/Reasons.antt`, why each status comes; `specs/Answers.antt`, what it leaves.
+//! done; `specs/Reasons.antt`, why each status comes; `specs/Answers.antt`, what it leaves; `specs/Closing.antt`,
+//! what a keeper's fault before or after a run makes of it.
 #![tactic(auto)]
 
 mod alone;
 mod asked;
 mod call;
+mod closing;
 mod form;
 mod load;
 mod reading;
@@ -28,6 +30,7 @@ mod text;
 
 pub use alone::{Done, millwheel_alone};
 pub use asked::keep_name;
+pub use closing::{after_closing, unopened};
 pub use load::load_lines;
 pub use saying::{say, tell};
 pub use status::Status;

@@ -1,7 +1,7 @@
 //! The first example with its rows in a file, which is read back by the database and by a keeper.
 use super::folder;
 use key_intervals::Bounds;
-use millwheel_cli::{Done, Status, keep_name, millwheel_alone};
+use millwheel_cli::{Done, Status, after_closing, keep_name, millwheel_alone, unopened};
 use mw_ports::{FileList, MemShelf, MemSink, NamedFile};
 use mw_types::{Bytes, CallList, Key, Name, NoMemory, Seq};
 use row_keeper::{Keeper, KeptRowList};
@@ -83,10 +83,12 @@ fn kept(rt: &HostRuntime, store: &str, out: &mut MemSink) -> Result<Status, Fail
     let Some(name) = keep_name(rt.alloc(), words.as_slice())? else {
         return Ok(Status::Usage);
     };
-    let keeper = SqliteKeeper::at(rt, name.text())?;
+    let keeper = match SqliteKeeper::at(rt, name.text()) {
+        Ok(keeper) => keeper,
+        Err(fault) => return Ok(unopened(fault)),
+    };
     let Done { status, keeper, .. } = run(rt.alloc(), words.as_slice(), keeper, out)?;
-    keeper.close()?;
-    Ok(status)
+    Ok(after_closing(status, keeper.close()))
 }
 
 // The rows of a file, as the database has them.
