@@ -35,6 +35,6 @@ pub use books::Book;
 pub use desk::{Desk, Seen};
 pub use desk_refusal::DeskRefusal;
 pub use lease::Lease;
-pub use own_desk::OwnDesk;
+pub use own_desk::{NoNote, OwnDesk};
 pub use proposal::Proposal;
 pub use refusals::{ClaimRefusal, Stale, StartRefusal, StartWhy, WriteRefusal};

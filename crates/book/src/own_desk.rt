@@ -13,7 +13,11 @@ use row_keeper::Keeper;
 use row_parts::Row;
 use std::alloc::Global;
 
-impl Seen for u64 {
+/// The note of a desk that nobody shares a book with. It tells nothing.
+#[derive(Clone, Copy, Drop)]
+pub struct NoNote;
+
+impl Seen for NoNote {
     ghost use Rattle.std.specs.Prelude.{None, []};
 
     ghost sight = { λ _. None };
@@ -21,8 +25,7 @@ impl Seen for u64 {
     ghost book = { λ _. [] };
 }
 
-/// A desk over a book that nobody else writes while the desk is there. Its notes are lengths of the
-/// history, and tell nothing.
+/// A desk over a book that nobody else writes while the desk is there.
 #[derive(Drop)]
 pub struct OwnDesk<'b, 'a, K: Keeper> {
     /// The book.
@@ -41,7 +44,7 @@ impl<'b, 'a, K: Keeper> OwnDesk<'b, 'a, K> {
 impl<'b, 'a, K: Keeper> Desk for OwnDesk<'b, 'a, K> {
     ghost use Rattle.book.specs.OwnDesks.{own_home, own_view};
 
-    type Note = u64;
+    type Note = NoNote;
 
     ghost view = { λ desk. own_view desk.book.now };
 
@@ -124,9 +127,9 @@ impl<'b, 'a, K: Keeper> Desk for OwnDesk<'b, 'a, K> {
         self.book.floor()
     }
 
-    fn note(&mut self) -> u64 {
-        self.book.history().len() as u64
+    fn note(&mut self) -> NoNote {
+        NoNote
     }
 
-    fn meet(&mut self, _note: u64) {}
+    fn meet(&mut self, _note: NoNote) {}
 }

@@ -9,6 +9,7 @@ use Rattle.mw_types.specs.declared.entry.Entry.{Entry}
 use Rattle.run_history.specs.Cases.{CaseShape}
 use Rattle.book.specs.Books.{BookView}
 use Rattle.book.specs.OwnDesks.{own_view}
+use Rattle.book.specs.declared.own_desk.NoNote.{NoNote}
 use Rattle.node.specs.Messages.{IsOutgoing}
 use Rattle.node.specs.Received.{outgoing_of}
 use Rattle.node.specs.declared.message.Message.{Message}
@@ -25,26 +26,26 @@ use Rattle.world.specs.WorldStates.{flight_of}
 -- ---- what stands under a number
 
 -- a place without its note
-abbrev pub noteless : Option (Message ℕ) → Option Outgoing
-noteless m = option_map (λ (message : Message ℕ). outgoing_of message) m
+abbrev pub noteless : Option (Message NoNote) → Option Outgoing
+noteless m = option_map (λ (message : Message NoNote). outgoing_of message) m
 
 -- what is in flight under a number, without its note
-pub flight-at : (flight : List (Option (Message ℕ))) (number : ℕ)
+pub flight-at : (flight : List (Option (Message NoNote))) (number : ℕ)
     → in_flight (flight_of flight) number ≡ noteless (unwrap_or (slice_get flight number) None)
 flight-at flight number =
     ap (λ (o : Option (Option Outgoing)). unwrap_or o None) (slice_get-map noteless flight number) ∙ by_place (slice_get flight number)
   where
-    by_place : (o : Option (Option (Message ℕ))) → unwrap_or (option_map noteless o) None ≡ noteless (unwrap_or o None)
+    by_place : (o : Option (Option (Message NoNote))) → unwrap_or (option_map noteless o) None ≡ noteless (unwrap_or o None)
     by_place None = refl
     by_place (Some place) = refl
 
 -- what is in flight once a place is emptied
-pub flight-gone : (flight : List (Option (Message ℕ))) (number : ℕ)
+pub flight-gone : (flight : List (Option (Message NoNote))) (number : ℕ)
     → flight_of (slice_set flight number None) ≡ without_message number (flight_of flight)
 flight-gone flight number = map-set noteless flight number None
 
 -- what is in flight once one more is
-pub flight-put : (flight : List (Option (Message ℕ))) (message : Message ℕ)
+pub flight-put : (flight : List (Option (Message NoNote))) (message : Message NoNote)
     → flight_of (flight ++ Some message ∷ []) ≡ sent_after (flight_of flight) (outgoing_of message ∷ [])
 flight-put flight message = map-append noteless flight (Some message ∷ [])
 
@@ -77,7 +78,7 @@ flies-done case world answer flight = ap (λ (h : List Entry). (
 )) (sym (append-nil world.history))
 
 -- a message is lost
-pub lose-gone : (number : ℕ) (flight : List (Option (Message ℕ))) (message : Message ℕ)
+pub lose-gone : (number : ℕ) (flight : List (Option (Message NoNote))) (message : Message NoNote)
     → unwrap_or (slice_get flight number) None ≡ Some message
     → FliesOn (steps.Lose number) (flight_of flight) (flight_of (slice_set flight number None)) outcomes.Lost
 lose-gone number flight message at case world same =
@@ -89,7 +90,7 @@ lose-gone number flight message at case world same =
     ∙ ap (λ o. done case.topology world (option_map_or (lose_message number world) o (nothing world 0))) (sym there)
 
 -- no message is lost where none is there
-pub lose-not : (number : ℕ) (flight : List (Option (Message ℕ))) → unwrap_or (slice_get flight number) None ≡ None
+pub lose-not : (number : ℕ) (flight : List (Option (Message NoNote))) → unwrap_or (slice_get flight number) None ≡ None
     → FliesOn (steps.Lose number) (flight_of flight) (flight_of flight) outcomes.Nothing
 lose-not number flight at case world same =
     let there : in_flight world.flight number ≡ None = ap (λ f. in_flight f number) same ∙ flight-at flight number ∙ ap noteless at in
@@ -98,7 +99,7 @@ lose-not number flight at case world same =
     ∙ ap (λ o. done case.topology world (option_map_or (lose_message number world) o (nothing world 0))) (sym there)
 
 -- no message is copied where none is there
-pub repeat-not : (number : ℕ) (flight : List (Option (Message ℕ))) → unwrap_or (slice_get flight number) None ≡ None
+pub repeat-not : (number : ℕ) (flight : List (Option (Message NoNote))) → unwrap_or (slice_get flight number) None ≡ None
     → FliesOn (steps.Repeat number) (flight_of flight) (flight_of flight) outcomes.Nothing
 repeat-not number flight at case world same =
     let there : in_flight world.flight number ≡ None = ap (λ f. in_flight f number) same ∙ flight-at flight number ∙ ap noteless at in
@@ -113,7 +114,7 @@ copied-if world copied b = if b
     else nothing world 0
 
 -- no message is copied where there is no number for it
-pub repeat-full : (number : ℕ) (flight : List (Option (Message ℕ))) (message : Message ℕ)
+pub repeat-full : (number : ℕ) (flight : List (Option (Message NoNote))) (message : Message NoNote)
     → unwrap_or (slice_get flight number) None ≡ Some message → nat_le (length flight + 1) (2 ^ 32) ≡ false
     → FliesOn (steps.Repeat number) (flight_of flight) (flight_of flight) outcomes.Nothing
 unfolding copied-if
@@ -128,7 +129,7 @@ repeat-full number flight message at full case world same =
     ∙ ap (λ o. done case.topology world (option_map_or (copy_message world) o (nothing world 0))) (sym there)
 
 -- a message is copied
-pub repeat-more : (number : ℕ) (flight : List (Option (Message ℕ))) (message : Message ℕ)
+pub repeat-more : (number : ℕ) (flight : List (Option (Message NoNote))) (message : Message NoNote)
     → unwrap_or (slice_get flight number) None ≡ Some message → nat_le (length flight + 1) (2 ^ 32) ≡ true
     → FliesOn (steps.Repeat number) (flight_of flight) (flight_of (flight ++ Some message ∷ [])) (outcomes.Copied (length flight))
 unfolding copied-if
@@ -145,7 +146,7 @@ repeat-more number flight message at room case world same =
     ∙ ap (λ o. done case.topology world (option_map_or (copy_message world) o (nothing world 0))) (sym there)
 
 -- what is copied may have been sent
-pub flying-put : (book : BookView) (flight : List (Option (Message ℕ))) (number : ℕ) (message : Message ℕ)
+pub flying-put : (book : BookView) (flight : List (Option (Message NoNote))) (number : ℕ) (message : Message NoNote)
     → unwrap_or (slice_get flight number) None ≡ Some message → All (IsFlying book) (flight_of flight)
     → All (IsFlying book) (flight_of (flight ++ Some message ∷ []))
 flying-put book flight number message at each =
@@ -154,7 +155,7 @@ flying-put book flight number message at each =
     (flying-at book (flight_of flight) number (outgoing_of message) each (flight-at flight number ∙ ap noteless at)))
 
 -- what is left once one is gone may have been sent
-pub flying-gone : (book : BookView) (flight : List (Option (Message ℕ))) (number : ℕ) → All (IsFlying book) (flight_of flight)
+pub flying-gone : (book : BookView) (flight : List (Option (Message NoNote))) (number : ℕ) → All (IsFlying book) (flight_of flight)
     → All (IsFlying book) (flight_of (slice_set flight number None))
 flying-gone book flight number each =
     subst (All (IsFlying book)) (sym (flight-gone flight number)) (All-set (IsFlying book) (flight_of flight) number None tt each)

@@ -8,6 +8,7 @@ use Rattle.mw_types.specs.declared.entry.Entry.{Entry}
 use Rattle.book.specs.Books.{BookView, core_of}
 use Rattle.book.specs.Lawful.{IsLawful}
 use Rattle.book.specs.OwnDesks.{own_view}
+use Rattle.book.specs.declared.own_desk.NoNote.{NoNote}
 use Rattle.book.proofs.OwnLaws.{sound}
 use Rattle.node.specs.Workers.{NodeView, Worker, idle, leases_of, worker_at}
 use Rattle.node.specs.declared.message.Message.{Message}
@@ -112,7 +113,7 @@ kept-world book was world flight at same =
         ∙ set-get_or world.workers was.number (worker_at was)
 
 -- the numbers that a worker's messages need
-numbers-are : (book : BookView) (was : NodeView) (world : World) (flight : List (Option (Message ℕ))) (count : ℕ)
+numbers-are : (book : BookView) (was : NodeView) (world : World) (flight : List (Option (Message NoNote))) (count : ℕ)
     → IsWorldAt book was world → world.flight ≡ flight_of flight → count ≡ length was.outbox
     → has_numbers world.flight (length (worker_of world was.number).outbox) ≡ nat_le (length flight + count) (2 ^ 32)
 numbers-are book was world flight count at same counted =
@@ -121,7 +122,7 @@ numbers-are book was world flight count at same counted =
     (ap (λ (w : Worker). length w.outbox) (worker-is book was world at) ∙ sym counted)
 
 -- there are no numbers for what it has to send
-pub send-full : (book : BookView) (was : NodeView) (flight : List (Option (Message ℕ))) (count : ℕ) → count ≡ length was.outbox
+pub send-full : (book : BookView) (was : NodeView) (flight : List (Option (Message NoNote))) (count : ℕ) → count ≡ length was.outbox
     → nat_le (length flight + count) (2 ^ 32) ≡ false
     → SendsOn book was (flight_of flight) book was (flight_of flight) outcomes.Nothing
 send-full book was flight count counted full world at same =
@@ -131,7 +132,7 @@ send-full book was flight count counted full world at same =
     (sym (numbers-are book was world flight count at same counted ∙ full))
 
 -- all that it has to send is sent
-pub send-more : (old new : BookView) (was node : NodeView) (flight after : List (Option (Message ℕ))) (count : ℕ)
+pub send-more : (old new : BookView) (was node : NodeView) (flight after : List (Option (Message NoNote))) (count : ℕ)
     → IsSending old was (flight_of flight) new node (flight_of after) → node.outbox ≡ [] → count ≡ length was.outbox
     → nat_le (length flight + count) (2 ^ 32) ≡ true
     → SendsOn old was (flight_of flight) new node (flight_of after) (outcomes.Sent count)

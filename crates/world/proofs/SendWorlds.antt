@@ -2,6 +2,7 @@
 use Rattle.std.proofs.Common.{◌≡◌, ◌∙◌, ℕ, List, refl, sym, ap, subst}
 use Rattle.std.specs.Prelude.{Option, Some, slice_get}
 use Rattle.book.specs.Books.{BookView}
+use Rattle.book.specs.declared.own_desk.NoNote.{NoNote}
 use Rattle.node.specs.Workers.{NodeView, worker_at}
 use Rattle.node.specs.declared.message.Message.{Message}
 use Rattle.node.specs.declared.outcome.NodeFault.{NodeFault}
@@ -20,7 +21,7 @@ use Rattle.world.proofs.TurnLaws.{failed-not}
 use Rattle.world.proofs.WorldSteps.{at-world, changed, rested-at, world-changed}
 
 -- it did as in the script
-pub sent-at : (state : WorldState) (book : BookView) (number : ℕ) (was node : NodeView) (after : List (Option (Message ℕ)))
+pub sent-at : (state : WorldState) (book : BookView) (number : ℕ) (was node : NodeView) (after : List (Option (Message NoNote)))
     (outcome : Outcome) → IsWorld state → slice_get state.nodes number ≡ Some was
     → SendsOn state.book was (flight_of state.flight) book node (flight_of after) outcome
     → HasActed (steps.Send number) state (changed state book number node after) outcome
@@ -32,7 +33,7 @@ sent-at state book number was node after outcome is at sends = when-told state.b
     ∙ ap (λ (n : ℕ). act state.book.case (world_of state) (steps.Send n)) (is.numbered number was at))
 
 -- nothing was done
-pub unsent-at : (state : WorldState) (book : BookView) (number : ℕ) (was node : NodeView) (after : List (Option (Message ℕ)))
+pub unsent-at : (state : WorldState) (book : BookView) (number : ℕ) (was node : NodeView) (after : List (Option (Message NoNote)))
     → slice_get state.nodes number ≡ Some was → book ≡ state.book → node ≡ was → after ≡ state.flight
     → world_of (changed state book number node after) ≡ world_of state
 unsent-at state book number was node after at same kept unchanged =
@@ -41,7 +42,7 @@ unsent-at state book number was node after at same kept unchanged =
       marks = ap (λ (b : BookView). b.marks) same;
       kept = ap worker_at kept;
     })
-    ∙ ap (λ (f : List (Option (Message ℕ))). let w : World = record (world_of state) { flight = flight_of f } in w) unchanged
+    ∙ ap (λ (f : List (Option (Message NoNote))). let w : World = record (world_of state) { flight = flight_of f } in w) unchanged
 
 -- a want of memory, where the book is as it was
 pub failed-same : (old new : BookView) (why : NodeFault) → new ≡ old → why ≡ faults.NoMemory → HasFailed old new why

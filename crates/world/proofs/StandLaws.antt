@@ -13,6 +13,7 @@ use Rattle.run_history.proofs.Beginnings.{slice_get-more}
 use Rattle.run_history.proofs.Lists.{none_some, some_same}
 use Rattle.book.specs.Books.{BookView}
 use Rattle.book.specs.OwnDesks.{own_view}
+use Rattle.book.specs.declared.own_desk.NoNote.{NoNote}
 use Rattle.holdings.specs.Holding.{HeldView}
 use Rattle.node.specs.Answers.{HasGrown, IsOwnEntry}
 use Rattle.node.specs.Fits.{Fits}
@@ -164,7 +165,7 @@ all-numbered state book number was node is at called n x found =
 -- ---- the leases
 
 -- each lease is of a claim of its worker
-all-claimed : (state : WorldState) (book : BookView) (number : ℕ) (was node : NodeView) (flight : List (Option (Message ℕ)))
+all-claimed : (state : WorldState) (book : BookView) (number : ℕ) (was node : NodeView) (flight : List (Option (Message NoNote)))
     → IsWorld state → slice_get state.nodes number ≡ Some was → HasCalled state.book book was node
     → AreClaimed (world_of (record { book = book; nodes = slice_set state.nodes number node; flight = flight }))
 all-claimed state book number was node flight is at called n interval seq lease =
@@ -204,7 +205,7 @@ flying-more old new flight more each = All-weaker (IsFlying old) (IsFlying new) 
 -- ---- the whole
 
 -- a world is one once a worker has acted
-pub world-after : (state : WorldState) (book : BookView) (number : ℕ) (was node : NodeView) (flight : List (Option (Message ℕ)))
+pub world-after : (state : WorldState) (book : BookView) (number : ℕ) (was node : NodeView) (flight : List (Option (Message NoNote)))
     → IsWorld state → slice_get state.nodes number ≡ Some was → HasCalled state.book book was node
     → All (IsFlying book) (flight_of flight) → length flight ≤ 2 ^ 32
     → IsWorld (record { book = book; nodes = slice_set state.nodes number node; flight = flight })

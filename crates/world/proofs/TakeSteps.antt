@@ -9,6 +9,7 @@ use Rattle.run_history.specs.Cases.{CaseShape}
 use Rattle.run_history.proofs.Lists.{some_same}
 use Rattle.book.specs.Books.{BookView, LeaseView}
 use Rattle.book.specs.OwnDesks.{own_view}
+use Rattle.book.specs.declared.own_desk.NoNote.{NoNote}
 use Rattle.node.specs.Messages.{IsOutgoing}
 use Rattle.node.specs.Received.{outgoing_of}
 use Rattle.node.specs.Workers.{NodeView, Worker, idle, worker_at}
@@ -53,7 +54,7 @@ take-not case state number message at =
     (nothing (world_of state) number))) (sym there)
 
 -- a worker leaves it in flight
-pub take-left : (case : CaseShape) (state : WorldState) (number message : ℕ) (node : NodeView) (found : Message ℕ) (answer : Outcome)
+pub take-left : (case : CaseShape) (state : WorldState) (number message : ℕ) (node : NodeView) (found : Message NoNote) (answer : Outcome)
     → slice_get state.nodes number ≡ Some node → unwrap_or (slice_get state.flight message) None ≡ Some found
     → left_by case.topology (worker_at node) (outgoing_of found) ≡ Some answer
     → (answer, world_of state) ≡ act case (world_of state) (steps.Take number message)
@@ -83,14 +84,14 @@ take-left case state number message node found answer at there left =
 -- ---- a message that is taken
 
 -- a message in flight may have been sent
-pub found-sent : (state : WorldState) (message : ℕ) (found : Message ℕ) → IsWorld state
+pub found-sent : (state : WorldState) (message : ℕ) (found : Message NoNote) → IsWorld state
     → unwrap_or (slice_get state.flight message) None ≡ Some found
     → IsOutgoing state.book.case (own_view state.book) (outgoing_of found)
 found-sent state message found is there =
     flying-at state.book (flight_of state.flight) message (outgoing_of found) is.flying (flight-at state.flight message ∙ ap noteless there)
 
 -- it is taken as in the script
-pub taken-at : (state : WorldState) (book : BookView) (number message : ℕ) (was node : NodeView) (found : Message ℕ) (outcome : Outcome)
+pub taken-at : (state : WorldState) (book : BookView) (number message : ℕ) (was node : NodeView) (found : Message NoNote) (outcome : Outcome)
     → IsWorld state → slice_get state.nodes number ≡ Some was → unwrap_or (slice_get state.flight message) None ≡ Some found
     → ((n : ℕ) → TakesOn n (outgoing_of found) state.book was book node outcome)
     → HasActed (steps.Take number message) state (changed state book number node (slice_set state.flight message None)) outcome

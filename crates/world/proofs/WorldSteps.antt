@@ -12,6 +12,7 @@ use Rattle.mw_types.specs.declared.state.State.{State}
 use Rattle.mw_types.specs.declared.timer.Timer.{Timer}
 use Rattle.run_history.specs.Cases.{CaseShape}
 use Rattle.book.specs.Books.{BookView}
+use Rattle.book.specs.declared.own_desk.NoNote.{NoNote}
 use Rattle.node.specs.Workers.{NodeView, Worker, worker_at}
 use Rattle.node.specs.Works.{IsWorkOf}
 use Rattle.node.specs.declared.message.Message.{Message}
@@ -25,7 +26,7 @@ use Rattle.world.specs.WorldStates.{WorldState, flight_of, world_of}
 use Rattle.world.proofs.StandLaws.{flying-more, more-grown, node-at, stepped-grown, worker-at, world-after}
 
 -- a world in which the book, one worker and what is in flight are these
-abbrev pub changed : WorldState → BookView → ℕ → NodeView → List (Option (Message ℕ)) → WorldState
+abbrev pub changed : WorldState → BookView → ℕ → NodeView → List (Option (Message NoNote)) → WorldState
 changed state book number node flight = record {
   book = book;
   nodes = slice_set state.nodes number node;
@@ -59,7 +60,7 @@ at-world state number was is at = record {
 }
 
 -- the scripted world that is left
-pub world-changed : (state : WorldState) (book : BookView) (number : ℕ) (node : NodeView) (flight : List (Option (Message ℕ)))
+pub world-changed : (state : WorldState) (book : BookView) (number : ℕ) (node : NodeView) (flight : List (Option (Message NoNote)))
     → world_of (changed state book number node flight)
     ≡ record (world_with book number node (world_of state)) { flight = flight_of flight }
 world-changed state book number node flight = ap (λ (ws : List Worker). record {
@@ -84,7 +85,7 @@ acted-at step state book number was node outcome is at acts = told-then state.bo
     ∙ each (world_of state) (at-world state number was is at)) acts
 
 -- nothing was done, but for what is in flight
-pub rested-at : (state : WorldState) (book : BookView) (number : ℕ) (was node : NodeView) (flight : List (Option (Message ℕ)))
+pub rested-at : (state : WorldState) (book : BookView) (number : ℕ) (was node : NodeView) (flight : List (Option (Message NoNote)))
     → slice_get state.nodes number ≡ Some was → HasRested state.book book was node
     → world_of (changed state book number node flight) ≡ record (world_of state) { flight = flight_of flight }
 rested-at state book number was node flight at rested =
@@ -111,7 +112,7 @@ rested-at state book number was node flight at rested =
 -- ---- the world that is left
 
 -- the world goes on
-pub gone-at : (state : WorldState) (book : BookView) (number : ℕ) (was node : NodeView) (flight : List (Option (Message ℕ)))
+pub gone-at : (state : WorldState) (book : BookView) (number : ℕ) (was node : NodeView) (flight : List (Option (Message NoNote)))
     → HasCalled state.book book was node → HasGoneOn state (changed state book number node flight)
 gone-at state book number was node flight called = record {
   own = called.grown.own;

@@ -2,6 +2,7 @@
 use Rattle.std.specs.Prelude.{ℕ, List, map, Option}
 use Rattle.std.specs.Option.{option_map}
 use Rattle.book.specs.Books.{BookView}
+use Rattle.book.specs.declared.own_desk.NoNote.{NoNote}
 use Rattle.node.specs.Received.{outgoing_of}
 use Rattle.node.specs.Workers.{NodeView, worker_at}
 use Rattle.node.specs.declared.message.Message.{Message}
@@ -13,11 +14,11 @@ use Rattle.scripts.specs.Worlds.{World}
 pub record WorldState : Type 0 where
   pub book : BookView
   pub nodes : List NodeView
-  pub flight : List (Option (Message ℕ))
+  pub flight : List (Option (Message NoNote))
 
 -- the messages in flight without their notes
-abbrev pub flight_of : List (Option (Message ℕ)) → List (Option Outgoing)
-flight_of flight = map (λ (m : Option (Message ℕ)). option_map (λ (message : Message ℕ). outgoing_of message) m) flight
+abbrev pub flight_of : List (Option (Message NoNote)) → List (Option Outgoing)
+flight_of flight = map (λ (m : Option (Message NoNote)). option_map (λ (message : Message NoNote). outgoing_of message) m) flight
 
 -- the scripted world that it is: the rows that its workers have cached, and the notes, are left out
 abbrev pub world_of : WorldState → World

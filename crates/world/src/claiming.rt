@@ -8,7 +8,7 @@ ghost use Rattle.node.specs.Workers.{with_lease, worker_at};
 ghost use Rattle.world.specs.Drains.{HasClaimedAll, IsDraining};
 ghost use Rattle.world.specs.Turns.{HasFailed, HasFailedIn, HasGone, HasStepped, HasTaken, IsAtWork, IsClaiming};
 
-use book::{Book, OwnDesk};
+use book::{Book, NoNote, OwnDesk};
 use node::{Node, NodeFault};
 use row_keeper::Keeper;
 use std::alloc::Global;
@@ -17,7 +17,7 @@ use std::alloc::Global;
 pub(crate) fn claim_all<'a, K: Keeper>(
     alloc: Global,
     book: &mut Book<'a, K>,
-    node: &mut Node<u64>,
+    node: &mut Node<NoNote>,
 ) -> Result<(), NodeFault>
     requires fits { Fits book.old.case (own_view book.old) node.old }
     requires free { node.old.prepared ≡ None }
@@ -42,7 +42,7 @@ pub(crate) fn claim_all<'a, K: Keeper>(
 fn claim<'a, K: Keeper>(
     alloc: Global,
     book: &mut Book<'a, K>,
-    node: &mut Node<u64>,
+    node: &mut Node<NoNote>,
     interval: u32,
 ) -> Result<(), NodeFault>
     requires fits { Fits book.old.case (own_view book.old) node.old }

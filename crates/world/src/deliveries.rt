@@ -12,7 +12,7 @@ ghost use Rattle.world.specs.Standing.{FitsOwn};
 ghost use Rattle.world.specs.Turns.{HasFailed};
 ghost use Rattle.world.specs.WorkerCalls.{HasCalled, HasRested, IsReady, TakesOn, left_by};
 
-use book::{Book, Desk, OwnDesk};
+use book::{Book, Desk, NoNote, OwnDesk};
 use computations::Computation;
 use mw_types::RowName;
 use node::{Message, Node, NodeFault, Outcome, Parcel, Receipt};
@@ -21,7 +21,11 @@ use run_history::Case;
 use std::alloc::Global;
 
 // What a worker answers that leaves a message in flight, if it does.
-pub(crate) fn left_by(case: &Case, node: &Node<u64>, message: &Message<u64>) -> Option<Outcome>
+pub(crate) fn left_by(
+    case: &Case,
+    node: &Node<NoNote>,
+    message: &Message<NoNote>,
+) -> Option<Outcome>
     requires addressed { IsAddressed case.now.topology (outgoing_of message.now) }
     requires ready { IsReady node.now }
     ensures { result
@@ -38,7 +42,7 @@ pub(crate) fn left_by(case: &Case, node: &Node<u64>, message: &Message<u64>) -> 
 }
 
 // Whether a message has to wait until what is prepared is written.
-fn must_wait(node: &Node<u64>, message: &Message<u64>) -> bool
+fn must_wait(node: &Node<NoNote>, message: &Message<NoNote>) -> bool
     requires ready { IsReady node.now }
     ensures { result ≡ must_wait (worker_at node.now) (outgoing_of message.now) }
 {
@@ -49,7 +53,7 @@ fn must_wait(node: &Node<u64>, message: &Message<u64>) -> bool
 }
 
 // The row to which a message goes.
-fn row_of(message: &Message<u64>) -> &RowName
+fn row_of(message: &Message<NoNote>) -> &RowName
     ensures { result.now ≡ row_of_message (outgoing_of message.now) }
 {
     match message {
@@ -63,8 +67,8 @@ pub(crate) fn receive<'a, K: Keeper, C: Computation>(
     alloc: Global,
     book: &mut Book<'a, K>,
     work: &C,
-    node: &mut Node<u64>,
-    message: Message<u64>,
+    node: &mut Node<NoNote>,
+    message: Message<NoNote>,
 ) -> Result<Outcome, NodeFault>
     requires fits { FitsOwn book.old node.old }
     requires work { IsWorkOf book.old.case.topology (C.has work.now)
@@ -89,8 +93,8 @@ fn handle<'a, K: Keeper, C: Computation>(
     alloc: Global,
     book: &mut Book<'a, K>,
     work: &C,
-    node: &mut Node<u64>,
-    parcel: Parcel<u64>,
+    node: &mut Node<NoNote>,
+    parcel: Parcel<NoNote>,
 ) -> Result<Outcome, NodeFault>
     requires fits { FitsOwn book.old node.old }
     requires work { IsWorkOf book.old.case.topology (C.has work.now)
@@ -119,8 +123,8 @@ fn handle<'a, K: Keeper, C: Computation>(
 fn acknowledge<'a, K: Keeper>(
     alloc: Global,
     book: &mut Book<'a, K>,
-    node: &mut Node<u64>,
-    receipt: Receipt<u64>,
+    node: &mut Node<NoNote>,
+    receipt: Receipt<NoNote>,
 ) -> Result<Outcome, NodeFault>
     requires fits { FitsOwn book.old node.old }
     requires sent { IsOutgoing book.old.case (own_view book.old)

@@ -12,7 +12,7 @@ ghost use Rattle.world.specs.Turns.{HasFailed, HasGone, HasStepped, HasTurned, I
 
 use crate::claiming::claim_all;
 use crate::turns::turn;
-use book::Book;
+use book::{Book, NoNote};
 use computations::Computation;
 use node::{Node, NodeFault};
 use row_keeper::Keeper;
@@ -61,7 +61,7 @@ fn turn_all<'a, K: Keeper, C: Computation>(
     alloc: Global,
     book: &mut Book<'a, K>,
     work: &C,
-    node: &mut Node<u64>,
+    node: &mut Node<NoNote>,
 ) -> Result<(), NodeFault>
     requires work { IsWorkOf book.old.case.topology (C.has work.now)
         (C.gives_record work.now) (C.gives_timer work.now) }

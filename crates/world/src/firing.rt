@@ -14,7 +14,7 @@ ghost use Rattle.world.specs.Passes.{pass_of};
 ghost use Rattle.world.specs.Turns.{AreExact, HasAskedOne, HasFailed, HasReported, HasStepped, HasTurned, IsAtWork, IsFullAsking, IsFullUnended, IsQuiet, IsQuietAt, IsSettled, WhereTold};
 
 use crate::settling::is_committed;
-use book::{Book, OwnDesk};
+use book::{Book, NoNote, OwnDesk};
 use computations::Computation;
 use node::{Node, NodeFault};
 use row_keeper::Keeper;
@@ -25,7 +25,7 @@ use watermark::inputs;
 pub(crate) fn report_all<'a, K: Keeper>(
     alloc: Global,
     book: &mut Book<'a, K>,
-    node: &mut Node<u64>,
+    node: &mut Node<NoNote>,
 ) -> Result<(), NodeFault>
     requires at_work { IsAtWork book.old node.old }
     ensures stepped { HasStepped book.old book.new None }
@@ -46,7 +46,7 @@ pub(crate) fn report_all<'a, K: Keeper>(
 fn report<'a, K: Keeper>(
     alloc: Global,
     book: &mut Book<'a, K>,
-    node: &mut Node<u64>,
+    node: &mut Node<NoNote>,
     interval: u32,
 ) -> Result<(), NodeFault>
     requires at_work { IsAtWork book.old node.old }
@@ -77,7 +77,7 @@ pub(crate) fn fire_first<'a, K: Keeper, C: Computation>(
     alloc: Global,
     book: &mut Book<'a, K>,
     work: &C,
-    node: &mut Node<u64>,
+    node: &mut Node<NoNote>,
 ) -> Result<bool, NodeFault>
     requires work { IsWorkOf book.old.case.topology (C.has work.now)
         (C.gives_record work.now) (C.gives_timer work.now) }
@@ -108,7 +108,7 @@ fn fire<'a, K: Keeper, C: Computation>(
     alloc: Global,
     book: &mut Book<'a, K>,
     work: &C,
-    node: &mut Node<u64>,
+    node: &mut Node<NoNote>,
     part: u32,
 ) -> Result<bool, NodeFault>
     requires work { IsWorkOf book.old.case.topology (C.has work.now)

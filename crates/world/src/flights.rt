@@ -11,7 +11,7 @@ ghost use Rattle.world.specs.Standing.{FitsOwn, IsFlying};
 ghost use Rattle.world.specs.WorkerCalls.{FliesOn, HasCalled, IsSending, SendsOn};
 ghost use Rattle.world.specs.WorldStates.{flight_of};
 
-use book::{Book, OwnDesk};
+use book::{Book, NoNote, OwnDesk};
 use mw_types::{Duplicate, NoMemory};
 use node::{Message, Node, NodeFault, Outcome, Parcel, Receipt};
 use row_keeper::Keeper;
@@ -19,10 +19,10 @@ use scripts::Step;
 use std::alloc::Global;
 
 // A place for each message that was sent or copied, by its number: nothing once the message is gone.
-pub(crate) type Flight = Vec<Option<Message<u64>>>;
+pub(crate) type Flight = Vec<Option<Message<NoNote>>>;
 
 // A message that is in flight, by its number.
-pub(crate) fn find(flight: &[Option<Message<u64>>], message: u32) -> Option<&Message<u64>>
+pub(crate) fn find(flight: &[Option<Message<NoNote>>], message: u32) -> Option<&Message<NoNote>>
     ensures { option_copied result ≡ unwrap_or (slice_get flight.now message) None }
 {
     match flight.get(message as usize) {
@@ -32,7 +32,7 @@ pub(crate) fn find(flight: &[Option<Message<u64>>], message: u32) -> Option<&Mes
 }
 
 // Takes a message that is in flight away, by its number.
-pub(crate) fn take_out(flight: &mut Flight, message: u32) -> Message<u64>
+pub(crate) fn take_out(flight: &mut Flight, message: u32) -> Message<NoNote>
     requires there { IsSome (unwrap_or (slice_get flight.old.items message) None) }
     ensures taken { unwrap_or (slice_get flight.old.items message) None ≡ Some result }
     ensures gone { flight.new.items ≡ slice_set flight.old.items message None }
@@ -61,7 +61,7 @@ fn make_room(flight: &mut Flight, count: usize) -> Result<(), NoMemory>
 // A worker sends all that it has to send, if there are numbers for it.
 pub(crate) fn send<'a, K: Keeper>(
     book: &mut Book<'a, K>,
-    node: &mut Node<u64>,
+    node: &mut Node<NoNote>,
     flight: &mut Flight,
 ) -> Result<Outcome, NodeFault>
     requires fits { FitsOwn book.old node.old }
@@ -92,7 +92,7 @@ pub(crate) fn send<'a, K: Keeper>(
 }
 
 // Moves all that a worker has to send into flight, in order.
-fn send_all<'a, K: Keeper>(book: &mut Book<'a, K>, node: &mut Node<u64>, flight: &mut Flight)
+fn send_all<'a, K: Keeper>(book: &mut Book<'a, K>, node: &mut Node<NoNote>, flight: &mut Flight)
     requires fits { FitsOwn book.old node.old }
     requires room { length flight.old.items + length node.old.outbox ≤ vec_capacity flight.old }
     ensures sending { IsSending book.old node.old (flight_of flight.old.items)
@@ -105,7 +105,7 @@ fn send_all<'a, K: Keeper>(book: &mut Book<'a, K>, node: &mut Node<u64>, flight:
 // Moves the first that a worker has to send into flight, if it has anything.
 fn send_first<'a, K: Keeper>(
     book: &mut Book<'a, K>,
-    node: &mut Node<u64>,
+    node: &mut Node<NoNote>,
     flight: &mut Flight,
 ) -> bool
     requires fits { FitsOwn book.old node.old }
@@ -148,7 +148,7 @@ pub(crate) fn repeat(alloc: Global, flight: &mut Flight, message: u32) -> Result
 }
 
 // A message comes into flight, and gets the next number.
-fn put(flight: &mut Flight, message: Message<u64>) -> Result<Outcome, NodeFault>
+fn put(flight: &mut Flight, message: Message<NoNote>) -> Result<Outcome, NodeFault>
     requires few { length flight.old.items + 1 ≤ 2 ^ 32 }
     ensures number { IfOk result (λ outcome.
         outcome ≡ Outcome.Copied (length flight.old.items)) }
@@ -164,7 +164,7 @@ fn put(flight: &mut Flight, message: Message<u64>) -> Result<Outcome, NodeFault>
 }
 
 // An equal message, with the same note.
-fn copy_of(alloc: Global, message: &Message<u64>) -> Result<Message<u64>, NoMemory>
+fn copy_of(alloc: Global, message: &Message<NoNote>) -> Result<Message<NoNote>, NoMemory>
     ensures { IfOk result (λ copied. copied ≡ message.now) }
 {
     match message {
@@ -178,7 +178,7 @@ fn copy_of(alloc: Global, message: &Message<u64>) -> Result<Message<u64>, NoMemo
 }
 
 // An equal record on its way, with the same note.
-fn parcel_of(alloc: Global, parcel: &Parcel<u64>) -> Result<Parcel<u64>, NoMemory>
+fn parcel_of(alloc: Global, parcel: &Parcel<NoNote>) -> Result<Parcel<NoNote>, NoMemory>
     ensures { IfOk result (λ copied. copied ≡ parcel.now) }
 {
     Ok(Parcel {
@@ -189,7 +189,7 @@ fn parcel_of(alloc: Global, parcel: &Parcel<u64>) -> Result<Parcel<u64>, NoMemor
 }
 
 // Equal word that a record was handled, with the same note.
-fn receipt_of(alloc: Global, receipt: &Receipt<u64>) -> Result<Receipt<u64>, NoMemory>
+fn receipt_of(alloc: Global, receipt: &Receipt<NoNote>) -> Result<Receipt<NoNote>, NoMemory>
     ensures { IfOk result (λ copied. copied ≡ receipt.now) }
 {
     Ok(Receipt {

@@ -7,7 +7,7 @@ ghost use Rattle.node.specs.Asking.{line_asked};
 ghost use Rattle.world.specs.Turns.{HasAsked, HasFailed, HasTurned, IsAtWork, IsFullUnended, IsInjected, IsNextInjector, IsQuiet, IsSettled, WhereTold, cursor_at, lesser_line, line_at};
 
 use crate::settling::is_committed;
-use book::{Book, OwnDesk};
+use book::{Book, NoNote, OwnDesk};
 use mw_types::{Key, RowName, State};
 use node::{Node, NodeFault};
 use row_keeper::Keeper;
@@ -18,7 +18,7 @@ use std::alloc::Global;
 pub(crate) fn inject_next<'a, K: Keeper>(
     alloc: Global,
     book: &mut Book<'a, K>,
-    node: &mut Node<u64>,
+    node: &mut Node<NoNote>,
 ) -> Result<bool, NodeFault>
     requires at_work { IsAtWork book.old node.old }
     requires settled { IsSettled book.old.case book.old.history }
@@ -41,7 +41,7 @@ pub(crate) fn inject_next<'a, K: Keeper>(
 fn inject<'a, K: Keeper>(
     alloc: Global,
     book: &mut Book<'a, K>,
-    node: &mut Node<u64>,
+    node: &mut Node<NoNote>,
     part: u32,
 ) -> Result<bool, NodeFault>
     requires at_work { IsAtWork book.old node.old }
@@ -58,7 +58,7 @@ fn inject<'a, K: Keeper>(
 
 // The injector that has injected the fewest lines, of those that have one left, and of equal ones the
 // first.
-fn next_injector(alloc: Global, case: &Case, node: &Node<u64>) -> Option<u32>
+fn next_injector(alloc: Global, case: &Case, node: &Node<NoNote>) -> Option<u32>
     ensures { IsNextInjector case.now node.now (injectors_of case.now.topology) result }
 {
     let mut best = None;
@@ -72,7 +72,7 @@ fn next_injector(alloc: Global, case: &Case, node: &Node<u64>) -> Option<u32>
 }
 
 // How many lines an injector has injected, with its part, where it has one left.
-fn line(alloc: Global, case: &Case, node: &Node<u64>, part: u32) -> Option<(u32, u32)>
+fn line(alloc: Global, case: &Case, node: &Node<NoNote>, part: u32) -> Option<(u32, u32)>
     requires injector { part < injectors_of case.now.topology }
     ensures { result ≡ line_at case.now node.now part }
 {
@@ -96,7 +96,7 @@ fn lesser(one: Option<(u32, u32)>, other: Option<(u32, u32)>) -> Option<(u32, u3
 }
 
 // How many lines an injector has injected, by its row.
-fn cursor(alloc: Global, case: &Case, node: &Node<u64>, part: u32) -> u32
+fn cursor(alloc: Global, case: &Case, node: &Node<NoNote>, part: u32) -> u32
     requires injector { part < injectors_of case.now.topology }
     ensures { result ≡ cursor_at case.now node.now part }
 {

@@ -9,7 +9,7 @@ ghost use Rattle.node.specs.Asking.{MayAskPurge};
 ghost use Rattle.world.specs.Turns.{HasAskedOne, HasFailed, HasTurned, IsAtWork, IsEndOf, IsFullAsking, IsFullUnended, IsInjected, IsQuiet, IsSettled, WhereTold};
 
 use crate::settling::is_committed;
-use book::{Book, OwnDesk};
+use book::{Book, NoNote, OwnDesk};
 use node::{Node, NodeFault};
 use row_keeper::Keeper;
 use std::alloc::Global;
@@ -18,7 +18,7 @@ use std::alloc::Global;
 pub(crate) fn purge_first<'a, K: Keeper>(
     alloc: Global,
     book: &mut Book<'a, K>,
-    node: &mut Node<u64>,
+    node: &mut Node<NoNote>,
 ) -> Result<bool, NodeFault>
     requires at_work { IsAtWork book.old node.old }
     requires settled { IsSettled book.old.case book.old.history }
@@ -47,7 +47,7 @@ pub(crate) fn purge_first<'a, K: Keeper>(
 fn purge<'a, K: Keeper>(
     alloc: Global,
     book: &mut Book<'a, K>,
-    node: &mut Node<u64>,
+    node: &mut Node<NoNote>,
     interval: u32,
 ) -> Result<bool, NodeFault>
     requires at_work { IsAtWork book.old node.old }

@@ -16,7 +16,7 @@ ghost use Rattle.node.specs.Asking.{MayAskForget, settle_asked};
 ghost use Rattle.world.specs.Drains.{is_full};
 ghost use Rattle.world.specs.Turns.{CanBeKept, HasAsked, HasAskedOne, HasFailed, HasHandled, HasTurned, IsAtWork, WhereTold, is_committed, is_finished_at, is_full_at, sent_at};
 
-use book::{Book, OwnDesk};
+use book::{Book, NoNote, OwnDesk};
 use computations::Computation;
 use mw_types::{Delivery, Duplicate, Entry, NoMemory, RecordId, RowName};
 use node::{Message, Node, NodeFault, Outcome, Parcel, Receipt};
@@ -31,7 +31,7 @@ pub(crate) fn settle<'a, K: Keeper, C: Computation>(
     alloc: Global,
     book: &mut Book<'a, K>,
     work: &C,
-    node: &mut Node<u64>,
+    node: &mut Node<NoNote>,
     id: RecordId,
     sender: RowName,
 ) -> Result<bool, NodeFault>
@@ -69,7 +69,7 @@ fn settle_sent<'a, K: Keeper, C: Computation>(
     alloc: Global,
     book: &mut Book<'a, K>,
     work: &C,
-    node: &mut Node<u64>,
+    node: &mut Node<NoNote>,
     sender: RowName,
     delivery: Delivery,
 ) -> Result<bool, NodeFault>
@@ -102,7 +102,7 @@ fn settle_sent<'a, K: Keeper, C: Computation>(
 fn sent(
     alloc: Global,
     case: &Case,
-    node: &Node<u64>,
+    node: &Node<NoNote>,
     sender: &RowName,
     id: RecordId,
 ) -> Result<Option<Delivery>, NoMemory>
@@ -157,7 +157,7 @@ fn is_handle_of(entry: &Entry, id: RecordId) -> bool
 // Whether a record is finished in its row, and whether that forgets ids before it handles one more.
 fn standing<'a, K: Keeper>(
     book: &Book<'a, K>,
-    node: &Node<u64>,
+    node: &Node<NoNote>,
     delivery: &Delivery,
 ) -> (bool, bool)
     requires part { delivery.now.to.part < parts_of book.now.case.topology }
@@ -183,7 +183,7 @@ fn is_full<'a, K: Keeper>(book: &Book<'a, K>, row: &Row) -> bool
 fn acknowledge<'a, K: Keeper>(
     alloc: Global,
     book: &mut Book<'a, K>,
-    node: &mut Node<u64>,
+    node: &mut Node<NoNote>,
     sender: RowName,
     id: RecordId,
 ) -> Result<bool, NodeFault>
@@ -196,12 +196,11 @@ fn acknowledge<'a, K: Keeper>(
     ensures failed { IfErr result (HasFailed book.old book.new) }
 {
     let case = book.case();
-    let note = book.history().len() as u64;
     let mut desk = OwnDesk { book };
     let receipt = Receipt {
         to: sender,
         id,
-        note,
+        note: NoNote,
     };
     let outcome = node.take_ack(alloc, &mut desk, case, Message::Ack { receipt })?;
     Ok(is_committed(outcome))
@@ -211,7 +210,7 @@ fn acknowledge<'a, K: Keeper>(
 fn forget<'a, K: Keeper>(
     alloc: Global,
     book: &mut Book<'a, K>,
-    node: &mut Node<u64>,
+    node: &mut Node<NoNote>,
     name: &RowName,
 ) -> Result<bool, NodeFault>
     requires at_work { IsAtWork book.old node.old }
@@ -234,7 +233,7 @@ fn handle<'a, K: Keeper, C: Computation>(
     alloc: Global,
     book: &mut Book<'a, K>,
     work: &C,
-    node: &mut Node<u64>,
+    node: &mut Node<NoNote>,
     sender: RowName,
     delivery: Delivery,
 ) -> Result<bool, NodeFault>
@@ -250,12 +249,11 @@ fn handle<'a, K: Keeper, C: Computation>(
     ensures failed { IfErr result (HasFailed book.old book.new) }
 {
     let case = book.case();
-    let note = book.history().len() as u64;
     let mut desk = OwnDesk { book };
     let parcel = Parcel {
         delivery,
         sender,
-        note,
+        note: NoNote,
     };
     node.prepare(alloc, &mut desk, case, work, Message::Deliver { parcel })?;
     let outcome = node.commit(alloc, &mut desk, case)?;

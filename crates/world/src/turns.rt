@@ -7,7 +7,7 @@ use crate::firing::{fire_first, report_all};
 use crate::injecting::inject_next;
 use crate::purging::purge_first;
 use crate::settling::settle;
-use book::Book;
+use book::{Book, NoNote};
 use computations::Computation;
 use mw_types::Duplicate;
 use node::{Node, NodeFault};
@@ -19,7 +19,7 @@ pub(crate) fn turn<'a, K: Keeper, C: Computation>(
     alloc: Global,
     book: &mut Book<'a, K>,
     work: &C,
-    node: &mut Node<u64>,
+    node: &mut Node<NoNote>,
 ) -> Result<bool, NodeFault>
     requires work { IsWorkOf book.old.case.topology (C.has work.now)
         (C.gives_record work.now) (C.gives_timer work.now) }
@@ -44,7 +44,7 @@ fn turn_once<'a, K: Keeper, C: Computation>(
     alloc: Global,
     book: &mut Book<'a, K>,
     work: &C,
-    node: &mut Node<u64>,
+    node: &mut Node<NoNote>,
 ) -> Result<bool, NodeFault>
     requires work { IsWorkOf book.old.case.topology (C.has work.now)
         (C.gives_record work.now) (C.gives_timer work.now) }
@@ -68,7 +68,7 @@ fn go_on<'a, K: Keeper, C: Computation>(
     alloc: Global,
     book: &mut Book<'a, K>,
     work: &C,
-    node: &mut Node<u64>,
+    node: &mut Node<NoNote>,
 ) -> Result<bool, NodeFault>
     requires work { IsWorkOf book.old.case.topology (C.has work.now)
         (C.gives_record work.now) (C.gives_timer work.now) }

@@ -7,7 +7,7 @@ ghost use Rattle.world.specs.Standing.{FitsOwn};
 ghost use Rattle.world.specs.Turns.{HasFailed};
 ghost use Rattle.world.specs.WorkerCalls.{ActsOn, HasCalled, HasRested};
 
-use book::{Book, Desk, OwnDesk};
+use book::{Book, Desk, NoNote, OwnDesk};
 use computations::Computation;
 use node::{Node, NodeFault, Outcome};
 use row_keeper::Keeper;
@@ -18,7 +18,7 @@ use std::alloc::Global;
 pub(crate) fn claim<'a, K: Keeper>(
     alloc: Global,
     book: &mut Book<'a, K>,
-    node: &mut Node<u64>,
+    node: &mut Node<NoNote>,
     interval: u32,
 ) -> Result<Outcome, NodeFault>
     requires fits { FitsOwn book.old node.old }
@@ -43,7 +43,7 @@ pub(crate) fn claim<'a, K: Keeper>(
 pub(crate) fn inject<'a, K: Keeper>(
     alloc: Global,
     book: &mut Book<'a, K>,
-    node: &mut Node<u64>,
+    node: &mut Node<NoNote>,
     part: u32,
 ) -> Result<Outcome, NodeFault>
     requires fits { FitsOwn book.old node.old }
@@ -67,7 +67,7 @@ pub(crate) fn inject<'a, K: Keeper>(
 pub(crate) fn write<'a, K: Keeper>(
     alloc: Global,
     book: &mut Book<'a, K>,
-    node: &mut Node<u64>,
+    node: &mut Node<NoNote>,
 ) -> Result<Outcome, NodeFault>
     requires fits { FitsOwn book.old node.old }
     ensures called { HasCalled book.old book.new node.old node.new }
@@ -91,7 +91,7 @@ pub(crate) fn fire<'a, K: Keeper, C: Computation>(
     alloc: Global,
     book: &mut Book<'a, K>,
     work: &C,
-    node: &mut Node<u64>,
+    node: &mut Node<NoNote>,
     part: u32,
 ) -> Result<Outcome, NodeFault>
     requires fits { FitsOwn book.old node.old }
@@ -118,7 +118,7 @@ pub(crate) fn fire<'a, K: Keeper, C: Computation>(
 pub(crate) fn report<'a, K: Keeper>(
     alloc: Global,
     book: &mut Book<'a, K>,
-    node: &mut Node<u64>,
+    node: &mut Node<NoNote>,
     interval: u32,
 ) -> Result<Outcome, NodeFault>
     requires fits { FitsOwn book.old node.old }
@@ -143,7 +143,7 @@ pub(crate) fn report<'a, K: Keeper>(
 pub(crate) fn resend<'a, K: Keeper>(
     alloc: Global,
     book: &mut Book<'a, K>,
-    node: &mut Node<u64>,
+    node: &mut Node<NoNote>,
 ) -> Result<Outcome, NodeFault>
     requires fits { FitsOwn book.old node.old }
     ensures called { HasCalled book.old book.new node.old node.new }
@@ -166,7 +166,7 @@ pub(crate) fn resend<'a, K: Keeper>(
 pub(crate) fn purge<'a, K: Keeper>(
     alloc: Global,
     book: &mut Book<'a, K>,
-    node: &mut Node<u64>,
+    node: &mut Node<NoNote>,
     interval: u32,
 ) -> Result<Outcome, NodeFault>
     requires fits { FitsOwn book.old node.old }

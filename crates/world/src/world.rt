@@ -8,7 +8,7 @@ ghost use Rattle.world.specs.WorkerCalls.{AreNew};
 ghost use Rattle.world.specs.WorldStates.{world_of};
 
 use crate::flights::Flight;
-use book::Book;
+use book::{Book, NoNote};
 use computations::Computation;
 use mw_types::NoMemory;
 use node::Node;
@@ -21,7 +21,7 @@ use std::marker::Model;
 pub struct World<'a, K: Keeper, C: Computation + Drop> {
     pub(crate) book: Book<'a, K>,
     pub(crate) work: C,
-    pub(crate) nodes: Vec<Node<u64>>,
+    pub(crate) nodes: Vec<Node<NoNote>>,
     pub(crate) flight: Flight,
 }
 
@@ -108,7 +108,7 @@ impl<'a, K: Keeper, C: Computation + Drop> World<'a, K, C> {
 }
 
 // Sixteen workers that have nothing, by their numbers.
-pub(crate) fn sixteen(alloc: Global) -> Result<Vec<Node<u64>>, NoMemory>
+pub(crate) fn sixteen(alloc: Global) -> Result<Vec<Node<NoNote>>, NoMemory>
     ensures { IfOk result (λ nodes. AreNew 16 nodes.items) }
 {
     let mut nodes = Vec::new(alloc);

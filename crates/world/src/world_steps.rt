@@ -18,7 +18,7 @@ use crate::deliveries::{left_by, receive};
 use crate::flights::{find, lose, repeat, send, take_out};
 use crate::worker_calls::{claim, fire, inject, purge, report, resend, write};
 use crate::world::World;
-use book::Book;
+use book::{Book, NoNote};
 use computations::Computation;
 use node::{Node, NodeFault, Outcome};
 use row_keeper::Keeper;
@@ -163,7 +163,7 @@ fn alone<'a, K: Keeper, C: Computation>(
     alloc: Global,
     book: &mut Book<'a, K>,
     work: &C,
-    node: &mut Node<u64>,
+    node: &mut Node<NoNote>,
     step: &Step,
 ) -> Result<Outcome, NodeFault>
     requires fits { FitsOwn book.old node.old }
