@@ -1,6 +1,5 @@
--- Why a desk refuses.
--- Akidau et al., VLDB 2013, section 6.2: a write under an older sequencer is refused. Own: the other refusals, and
--- what shows each of them.
+-- Why a desk refuses. Akidau et al., VLDB 2013, section 6.2: a write under an older sequencer is refused.
+-- Own: the other refusals, and what shows each of them.
 use Rattle.std.specs.Prelude.{◌≡◌, ◌↔◌, ◌++◌, ◌∷◌, [], ℕ, ⊤, length}
 use Rattle.mw_types.specs.Causes.{Rose}
 use Rattle.run_history.specs.Fences.{IsCurrent, IsOvertakenBy}
@@ -32,7 +31,8 @@ IsNoDamage _ = ⊤
 
 -- where a row is said to be damaged, it is
 abbrev pub IsDamageOf : DeskView → DeskRefusal → Type 0
-IsDamageOf desk (refusals.RowDamaged name bytes) = IsDamagedRow desk.case desk.told (length desk.seen) name bytes
+IsDamageOf desk (refusals.RowDamaged name bytes) =
+    IsDamagedRow desk.case desk.told (length desk.seen) name bytes
 IsDamageOf desk _ = ⊤
 
 -- why a call under a lease was refused: where the history decides it is stale exactly where a later claim is
@@ -45,15 +45,16 @@ pub record HasReason (old new : DeskView) (lease : LeaseView) (why : DeskRefusal
   pub counts : HasCount old new why
   pub no_row : IsNoDamage why
 
--- a report is refused for another's turn, as stale or for want of memory, and for nothing else: it appends nothing
+-- a report is refused for another's turn, as stale or for want of memory, and for nothing else: it appends
+-- nothing
 abbrev pub IsReportRefusal : DeskRefusal → Type 0
 IsReportRefusal (refusals.Busy found) = ⊤
 IsReportRefusal (refusals.Stale newer) = ⊤
 IsReportRefusal refusals.NoMemory = ⊤
 IsReportRefusal _ = ⊥
 
--- why a claim was refused: where the history decides it is full exactly where the history is, it is never stale,
--- and a damaged row is damaged
+-- why a claim was refused: where the history decides it is full exactly where the history is, it is never
+-- stale, and a damaged row is damaged
 pub record HasClaimReason (old new : DeskView) (why : DeskRefusal) : Type 0 where
   pub full : IsDecided why → (why ≡ refusals.HistoryFull) ↔ (length new.seen ≡ new.limit)
   pub never_stale : (newer : ℕ) → why ≡ refusals.Stale newer → ⊥

@@ -39,16 +39,16 @@ pub record IsDueKnown (desk : DeskView) (part time mark : ℕ) : Type 0 where
   pub due : time ≤ mark
   pub under_marks : mark ≤ least (marks_of desk.case.topology part desk.marks)
 
--- a record that is handled was made in what was seen, where told; a timer that fires is due by the known marks, over
--- every keeper; of a line nothing is asked
+-- a record that is handled was made in what was seen, where told; a timer that fires is due by the known
+-- marks, over every keeper; of a line nothing is asked
 abbrev pub IsKnownOf : DeskView → RowName → Proposal → Type 0
 IsKnownOf desk name (proposals.Inject line) = Unit {0}
 IsKnownOf desk name (proposals.Handle delivery effects) = IfSome desk.told (λ _.
     found_delivery delivery.id (run_of desk.case.topology desk.seen).made ≡ Some delivery)
 IsKnownOf desk name (proposals.Fire timer mark effects) = IsDueKnown desk name.part timer.time mark
 
--- a row may forget the ids below a floor: the floor is above the row's, and at most the known one; where told the
--- row is there
+-- a row may forget the ids below a floor: the floor is above the row's, and at most the known one; where
+-- told the row is there
 pub record MayPurge (desk : DeskView) (name : RowName) (row : Contents) (floor : ℕ) : Type 0 where
   pub rises : row.floor < floor
   pub known : floor ≤ desk.floor
@@ -56,8 +56,8 @@ pub record MayPurge (desk : DeskView) (name : RowName) (row : Contents) (floor :
 
 -- ---- what a call answers
 
--- a claim was accepted: its entry is appended, its lease has the entry's number and may be used, and the rows are
--- those of the interval before it
+-- a claim was accepted: its entry is appended, its lease has the entry's number and may be used, and the
+-- rows are those of the interval before it
 pub record HasClaimed (old new : DeskView) (worker interval : ℕ) (answer : Claimed) : Type 0 where
   pub before : List Entry
   pub moved : HasMoved old new before

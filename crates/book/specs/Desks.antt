@@ -26,7 +26,8 @@ pub record DeskView : Type 0 where
   pub faults : ℕ
   pub alone : Bool
 
--- where a desk stands among those of its book: the numbers that name the book, and those of the desk's own seats
+-- where a desk stands among those of its book: the numbers that name the book, and those of the desk's own
+-- seats
 pub record Home : Type 0 where
   pub book : List ℕ
   pub seats : List ℕ
@@ -36,8 +37,8 @@ pub record Sight : Type 0 where
   pub case : CaseShape
   pub seen : List Entry
 
--- what always holds of a desk: its case is runnable; what it has seen is fenced, no longer than the limit, and legal
--- where told; each interval has a mark, and the floor is at most 2^32
+-- what always holds of a desk: its case is runnable; what it has seen is fenced, no longer than the limit,
+-- and legal where told; each interval has a mark, and the floor is at most 2^32
 pub record IsSound (desk : DeskView) : Type 0 where
   pub runnable : IsRunnable desk.case
   pub limit : desk.limit ≤ 2 ^ 32
@@ -51,9 +52,9 @@ pub record IsSound (desk : DeskView) : Type 0 where
   -- the floor of a desk that is alone is that of what it has seen
   pub own_floor : desk.alone ≡ true → desk.floor ≡ floor_of (run_of desk.case.topology desk.seen)
 
--- a call came to see so much, but for its own entry. What others appended carries no sequencer of a lease that the
--- desk could use before, and a desk that is alone sees none of it. Those leases may still be used, neither floor nor
--- faults fall, and all else but marks and `missed` stays
+-- a call came to see so much, but for its own entry. What others appended carries no sequencer of a lease
+-- that the desk could use before, and a desk that is alone sees none of it. Those leases may still be used,
+-- neither floor nor faults fall, and all else but marks and `missed` stays
 pub record HasMoved (old new : DeskView) (before : List Entry) : Type 0 where
   pub case : new.case ≡ old.case
   pub limit : new.limit ≡ old.limit
@@ -80,8 +81,8 @@ pub record KeepsMarks (old new : DeskView) : Type 0 where
 abbrev pub HasMet : Option Sight → DeskView → Type 0
 HasMet sight desk = IfSome sight (λ told. (told.case ≡ desk.case) × Begins told.seen desk.seen)
 
--- a note tells what a desk has seen, where it tells anything; it tells nothing where a contract cannot see the
--- keeper's rows
+-- a note tells what a desk has seen, where it tells anything; it tells nothing where a contract cannot see
+-- the keeper's rows
 abbrev pub IsNoteOf : DeskView → Option Sight → Type 0
 IsNoteOf desk sight = IfSome sight (λ told.
     (told.case ≡ desk.case) × (told.seen ≡ desk.seen) × IsSome desk.told)

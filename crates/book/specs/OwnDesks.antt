@@ -16,8 +16,8 @@ telling told = option_map (λ _. tt) told
 abbrev pub is_claimed : List Entry → LeaseView → Bool
 is_claimed history lease = option_map_or (is_claim lease.interval) (slice_get history lease.seq) false
 
--- what the desk knows: its book's case, limit, history, marks and faults, whether rows are told, each lease that was
--- claimed, and the history's floor; it found no turn taken, and is alone
+-- what the desk knows: its book's case, limit, history, marks and faults, whether rows are told, each lease
+-- that was claimed, and the history's floor; it found no turn taken, and is alone
 abbrev pub own_view : BookView → DeskView
 own_view book = record {
   case = book.case;

@@ -8,7 +8,8 @@ use Rattle.atomic_table.specs.declared.shared.Seat.{Seat}
 use Rattle.shared_book.specs.Turns.{IsHere, IsIdle}
 
 -- a seat of this table that holds no turn, of so many seats, with these numbers
-pub record IsAtRest (id : TableId) (shape : CaseShape) (seats : ℕ) (numbers : List ℕ) (seat : Seat Slot View) : Type 0 where
+pub record IsAtRest (id : TableId) (shape : CaseShape) (seats : ℕ) (numbers : List ℕ)
+    (seat : Seat Slot View) : Type 0 where
   pub here : IsHere id shape seat
   pub idle : IsIdle seat.me
   pub of_seats : seat.me.0.basis.seats ≡ seats

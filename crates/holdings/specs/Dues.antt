@@ -15,7 +15,8 @@ use Rattle.holdings.specs.declared.first_timer.RowTimer.{RowTimer}
 
 -- a timer of a row of this name
 abbrev pub due_at : RowName → Timer → Due
-due_at name timer = record { at = record { time = timer.time; tag = timer.tag }; name = name; late = timer.late }
+due_at name timer =
+    record { at = record { time = timer.time; tag = timer.tag }; name = name; late = timer.late }
 
 -- timers of rows stand by time, then by tag, then by the names of the rows, and last by whether they are late
 abbrev pub due_order : Due → Due → Ordering
@@ -29,7 +30,8 @@ due_name due = due.name
 
 -- a timer, with the name of the row that has it
 abbrev pub timer_at : Due → RowTimer
-timer_at due = record { name = due.name; timer = record { tag = due.at.tag; time = due.at.time; late = due.late } }
+timer_at due =
+    record { name = due.name; timer = record { tag = due.at.tag; time = due.at.time; late = due.late } }
 
 -- the first timer of a row of this name, if it has one
 abbrev pub due_of : RowName → Contents → Option Due

@@ -1,5 +1,5 @@
--- What is kept beside the rows of an interval, so that no step goes over all of them. No public clause cites this
--- module.
+-- What is kept beside the rows of an interval, so that no step goes over all of them. No public clause cites
+-- this module.
 use Rattle.std.specs.Prelude.{◌≡◌, ℕ, ◌+◌, Box, IfSome, List, Option, sum_by, unwrap_or}
 use Rattle.std.specs.Option.{option_map}
 use Rattle.std.specs.List.Sorted.{IsStrictlySortedBy}
@@ -20,14 +20,16 @@ use Rattle.holdings.specs.declared.index.Index.{Index}
 abbrev pub work_of : Contents → ℕ
 work_of row = least (row_marks row)
 
--- some stamps are the oldest work of the rows, one a row that has any: whatever is added up, and nothing for the
--- end, both have the same sum
+-- some stamps are the oldest work of the rows, one a row that has any: whatever is added up, and nothing for
+-- the end, both have the same sum
 pub record AreStamps (rows : List (RowName × Contents)) (stamps : List ℕ) : Type 0 where
-  pub sums : (weigh : ℕ → ℕ) → weigh END ≡ 0 → sum_by weigh stamps ≡ sum_by (λ row. weigh (work_of row)) (values_of rows)
+  pub sums : (weigh : ℕ → ℕ) → weigh END ≡ 0 →
+    sum_by weigh stamps ≡ sum_by (λ row. weigh (work_of row)) (values_of rows)
 
 -- there is one stamp more, and this one less, where there is one; the end is no stamp
 pub record HasRestamped (before : Option ℕ) (after : ℕ) (old new : List ℕ) : Type 0 where
-  pub sums : (weigh : ℕ → ℕ) → weigh END ≡ 0 → sum_by weigh new + unwrap_or (option_map weigh before) 0 ≡ sum_by weigh old + weigh after
+  pub sums : (weigh : ℕ → ℕ) → weigh END ≡ 0 →
+    sum_by weigh new + unwrap_or (option_map weigh before) 0 ≡ sum_by weigh old + weigh after
 
 -- there is one stamp less, unless it is the end
 pub record HasUnstamped (stamp : ℕ) (old new : List ℕ) : Type 0 where
@@ -35,11 +37,13 @@ pub record HasUnstamped (stamp : ℕ) (old new : List ℕ) : Type 0 where
 
 -- there is one stamp more for each row that has work
 pub record HasStamped (rows : List (RowName × Contents)) (old new : List ℕ) : Type 0 where
-  pub sums : (weigh : ℕ → ℕ) → weigh END ≡ 0 → sum_by weigh new ≡ sum_by weigh old + sum_by (λ row. weigh (work_of row)) (values_of rows)
+  pub sums : (weigh : ℕ → ℕ) → weigh END ≡ 0 →
+    sum_by weigh new ≡ sum_by weigh old + sum_by (λ row. weigh (work_of row)) (values_of rows)
 
 -- what is there, with a stamp for each row that is left, is what was there with a stamp for each row of all
 pub record AreLeft (left all : List (RowName × Contents)) (now start : List ℕ) : Type 0 where
-  pub sums : (weigh : ℕ → ℕ) → weigh END ≡ 0 → sum_by weigh now + sum_by (λ row. weigh (work_of row)) (values_of left)
+  pub sums : (weigh : ℕ → ℕ) → weigh END ≡ 0 →
+    sum_by weigh now + sum_by (λ row. weigh (work_of row)) (values_of left)
       ≡ sum_by weigh start + sum_by (λ row. weigh (work_of row)) (values_of all)
 
 -- ---- the index
@@ -51,6 +55,7 @@ pub record IsIndexOf (rows : List (RowName × Contents)) (index : Index) : Type 
   pub seen : AreSeen rows index.seen.entries
 
 -- rows stand in order of their names, and the index, where there is one, is theirs
-pub record IsIndexed {A : Type 0} (rows : List (RowName × Contents)) (index : Option (Box Index A)) : Type 0 where
+pub record IsIndexed {A : Type 0} (rows : List (RowName × Contents))
+    (index : Option (Box Index A)) : Type 0 where
   pub ordered : IsStrictlySortedBy row_cmp (keys_of rows)
   pub kept : IfSome index (λ (b : Box Index A). IsIndexOf rows b.value)

@@ -1,4 +1,5 @@
--- How rows lie at places of their own, and how the place of a name is found. No public clause cites this module.
+-- How rows lie at places of their own, and how the place of a name is found. No public clause cites this
+-- module.
 use Rattle.std.specs.Prelude.{◌≡◌, ◌<◌, ℕ, List, [], Some, length, map, slice_index_or}
 use Rattle.std.specs.List.{AllByRecursion}
 use Rattle.std.specs.List.Sorted.{IsStrictlySortedBy}
@@ -30,8 +31,10 @@ pub record IsPlaceOf (rows : List NamedRow) (name : RowName) (at : ℕ) : Type 0
 -- names stand in order, the row of each lies at its place, and what lies at a place is found by its name
 pub record AreSlots (rows : List NamedRow) (places : List (RowName × ℕ)) : Type 0 where
   pub ordered : IsStrictlySortedBy row_cmp (keys_of places)
-  pub there : (name : RowName) (at : ℕ) → lookup (is_at (row_cmp name)) places ≡ Some at → IsPlaceOf rows name at
-  pub back : (name : RowName) (at : ℕ) → IsPlaceOf rows name at → lookup (is_at (row_cmp name)) places ≡ Some at
+  pub there : (name : RowName) (at : ℕ) → lookup (is_at (row_cmp name)) places ≡ Some at →
+    IsPlaceOf rows name at
+  pub back : (name : RowName) (at : ℕ) → IsPlaceOf rows name at →
+    lookup (is_at (row_cmp name)) places ≡ Some at
 
 -- each place is one of a row
 pub record AreWithin (rows : List NamedRow) (places : List (RowName × ℕ)) : Type 0 where

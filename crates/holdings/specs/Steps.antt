@@ -24,7 +24,8 @@ IsOldest case part held own = own ≡ least (flat_map (λ (r : RowName × Conten
     ++ stated_marks case (cached held.rows) part)
 
 -- what is held of an interval has a row cached, as it was
-pub record IsReady (shape : Shape) (interval : ℕ) (name : RowName) (old new : List (Option HeldView)) : Type 0 where
+pub record IsReady (shape : Shape) (interval : ℕ) (name : RowName)
+    (old new : List (Option HeldView)) : Type 0 where
   pub held : HeldView
   pub was : held_at old interval ≡ Some held
   pub is : new ≡ slice_set old interval (Some (with_cached shape name held))

@@ -42,8 +42,8 @@ pub record IsUnbegun (left : Left) : Type 0 where
   pub same_rows : left.rows.1 ≡ left.rows.0
   pub unwritten : left.text.1 ≡ left.text.0
 
--- rows that a contract can see are those of the history, which is a legal one, and goes as the steps of the task do
--- and as a drain does behind them
+-- rows that a contract can see are those of the history, which is a legal one, and goes as the steps of the
+-- task do and as a drain does behind them
 pub record IsKeptRun (task : Task) (history : List Entry) (rows : Rows) : Type 0 where
   pub legal : IsLegal task.case history
   pub replayed : IsReplayed task.case task.steps history
@@ -55,7 +55,8 @@ pub record IsRun (task : Task) (left : Left) : Type 0 where
   pub fenced : IsFenced task.case.topology left.history
   pub kept : IfSome left.rows.1 (IsKeptRun task left.history)
 
--- a run that came to its end: it is all that the steps write, and the whole drain behind them, and no work is left
+-- a run that came to its end: it is all that the steps write, and the whole drain behind them, and no work
+-- is left
 pub record IsWholeRun (task : Task) (left : Left) : Type 0 where
   pub run : IsRun task left
   pub whole : IfSome left.rows.1 (λ _. IsWholeReplay task.case task.steps left.history)

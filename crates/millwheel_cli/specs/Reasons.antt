@@ -51,7 +51,8 @@ IsFileRefused seen name limit taken status =
 
 -- why the topology's file is refused, with so many event files
 abbrev pub IsTopologyRefused : ShelfSeen → ℕ → List ℕ → Status → Type 0
-IsTopologyRefused seen count name status = IsFileRefused seen name topology_limit (topology_taken count) status
+IsTopologyRefused seen count name status =
+    IsFileRefused seen name topology_limit (topology_taken count) status
 
 -- why one of the event files of these names is refused, the first of which has this number, with room for so
 -- many record lines in all of them: it is the first that is not taken
@@ -136,8 +137,8 @@ abbrev pub source_before : Source → Result (List Source) Status → Result (Li
 source_before source (Ok sources) = Ok (source ∷ sources)
 source_before source (Err status) = Err status
 
--- what the event files of these names are taken for, the first of which has this number, with room for so many
--- record lines in all of them, or why the first that is not taken is refused
+-- what the event files of these names are taken for, the first of which has this number, with room for so
+-- many record lines in all of them, or why the first that is not taken is refused
 abbrev pub sources_taken : Files → ℕ → ℕ → List (List ℕ) → Result (List Source) Status
 sources_taken held file room [] = Ok []
 sources_taken held file room (name ∷ names) =
@@ -159,8 +160,8 @@ abbrev pub steps_taken : Files → Option (List ℕ) → Shape → Result (List 
 steps_taken held None shape = Ok []
 steps_taken held (Some name) shape = file_as held name plan_limit (plan_taken shape)
 
--- what files of a shelf are taken for: the topology is tried first, then the plan, and then the event files in
--- their order
+-- what files of a shelf are taken for: the topology is tried first, then the plan, and then the event files
+-- in their order
 abbrev pub inputs_taken : Files → Option (List ℕ) → Inputs → Result (List Source) Status
 inputs_taken held plan inputs =
     and_then (file_as held inputs.topology topology_limit (topology_taken (length inputs.events))) (λ shape.

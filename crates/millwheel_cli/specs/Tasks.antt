@@ -1,5 +1,5 @@
--- What a command is to do, once its files are read: the case of a run, the steps that come before its drain, and
--- what is to be written of it. Own.
+-- What a command is to do, once its files are read: the case of a run, the steps that come before its drain,
+-- and what is to be written of it. Own.
 use Rattle.std.specs.Prelude.{◌≡◌, ◌≤◌, ◌==◌, ℕ, ◌+◌, ◌-◌, Bool, List, [], ◌∷◌, length, if◌then◌else◌, Option, Some, None, IfSome, Result, Ok, Err}
 use Rattle.mw_types.specs.declared.refusal.PlanRefusal.{PlanRefusal}
 use Rattle.mw_types.specs.declared.refusal.PlanRefusal.TheVariants as plans
@@ -29,7 +29,8 @@ planned_of (Err (plans.Line line)) = Err (PlanRefused line)
 planned_of (Err plans.NoMemory) = Err NoMemory
 planned_of (Ok steps) = Ok steps
 
--- the steps that the bytes of a plan are taken for, over a topology, or the status with which they are refused
+-- the steps that the bytes of a plan are taken for, over a topology, or the status with which they are
+-- refused
 abbrev pub plan_taken : Shape → List ℕ → Result (List Step) Status
 plan_taken shape bytes = planned_of (schedule_of shape bytes)
 
@@ -52,8 +53,8 @@ pub record IsInputsTask (files : Option Files) (plan : Option (List ℕ)) (input
   pub events_read : HoldsSources files 0 lines_limit inputs.events task.case.sources
   pub text : task.wanted ≡ wanted_of inputs.history
 
--- the case is that of load, by this seed and with so many lines: what solo makes of its topology and of one event
--- file with its lines
+-- the case is that of load, by this seed and with so many lines: what solo makes of its topology and of one
+-- event file with its lines
 pub record IsLoadCase (seed lines : ℕ) (case : CaseShape) : Type 0 where
   pub topology_read : topology_taken 1 load_topology ≡ Ok case.topology
   pub source : Source

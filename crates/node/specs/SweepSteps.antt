@@ -40,14 +40,16 @@ pub record HasFoundAt (all : List (Option HeldView)) (interval : ℕ) (before af
 -- all that is pending in what is held of the first intervals, and nothing else
 pub record AreFoundBelow (all : List (Option HeldView)) (count : ℕ) (found : List Sent) : Type 0 where
   pub each : All (λ (sent : Sent). (interval : ℕ) × IsFoundAt all interval sent) found
-  pub every : (interval : ℕ) (sent : Sent) → interval < count → IsPendingAt all interval sent → Contains found sent
+  pub every : (interval : ℕ) (sent : Sent) → interval < count → IsPendingAt all interval sent →
+    Contains found sent
 
 -- ---- each once
 
 -- of records that have the same place in the order one is left, and no other is there
 pub record IsOnceOf (before after : List Sent) : Type 0 where
   pub each : (sent : Sent) → Contains after sent → Contains before sent
-  pub every : (sent : Sent) → Contains before sent → Any (λ (other : Sent). is_eq (again_cmp sent other) ≡ true) after
+  pub every : (sent : Sent) → Contains before sent →
+    Any (λ (other : Sent). is_eq (again_cmp sent other) ≡ true) after
 
 -- ---- what is sent again
 

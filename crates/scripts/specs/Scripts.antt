@@ -182,8 +182,8 @@ while_prepared =
 -- ---- what has nothing to do
 
 -- a worker without a lease has nothing to do, nor is there a message to take, to copy or to lose; a worker
--- whose row a message is not for leaves it; no timer fires before its time, and a message that was taken can't
--- be lost
+-- whose row a message is not for leaves it; no timer fires before its time, and a message that was taken
+-- can't be lost
 abbrev pub without_work : Worked
 without_work =
     (Write 3, Nothing)

@@ -42,7 +42,8 @@ timer_set = Prim.hlevel props
 
 -- all that is asked of a delivery that is handled
 abbrev IsHandled : CaseShape → Run → RowName → RecordId → Outcome → Delivery → Type 0
-IsHandled case run row id effects delivery = (found_delivery id run.unhandled ≡ Some delivery) × (delivery.to ≡ row)
+IsHandled case run row id effects delivery =
+    (found_delivery id run.unhandled ≡ Some delivery) × (delivery.to ≡ row)
     × (record_outcome case row (row_of case.topology run row) delivery.item ≡ Some effects)
 
 -- the delivery is the one that waits

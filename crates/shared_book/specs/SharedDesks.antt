@@ -1,5 +1,5 @@
--- What a desk knows over a seat of a shared book. Own: a desk tells what its seat has seen, and of marks and of the
--- floor what its turns have found.
+-- What a desk knows over a seat of a shared book. Own: a desk tells what its seat has seen, and of marks and
+-- of the floor what its turns have found.
 use Rattle.std.specs.Prelude.{◌≡◌, ◌≤◌, ◌^◌, ◌==◌, ◌&&◌, ◌∷◌, ℕ, Bool, true, false, List, length, Option, IfSome}
 use Rattle.std.specs.Option.{option_map}
 use Rattle.std.specs.List.{list_any}
@@ -25,7 +25,8 @@ pub record KnownView : Type 0 where
 
 -- whether a lease is among these
 abbrev pub is_held : List LeaseView → LeaseView → Bool
-is_held leases lease = list_any (λ (l : LeaseView). (l.interval == lease.interval) && (l.seq == lease.seq)) leases
+is_held leases lease =
+    list_any (λ (l : LeaseView). (l.interval == lease.interval) && (l.seq == lease.seq)) leases
 
 -- what a desk knows: all that its seat has seen, and of marks and of the floor this
 abbrev pub shared_view : View → KnownView → DeskView
@@ -47,7 +48,8 @@ abbrev pub table_numbers : TableId → List ℕ
 table_numbers id =
     id.words ∷ id.slots ∷ id.views_name ∷ id.atom ∷ id.block ∷ id.offset ∷ id.slot_names
 
--- where a desk stands: the numbers of its seat's table, and, behind how many seats there are, those of the seat
+-- where a desk stands: the numbers of its seat's table, and, behind how many seats there are, those of the
+-- seat
 abbrev pub shared_home : Seat Slot View → Home
 shared_home seat = record {
   book = table_numbers seat.table_id;
@@ -58,16 +60,17 @@ shared_home seat = record {
 abbrev pub sight_of : View → Option Sight
 sight_of v = option_map (λ _. record { case = v.basis.case; seen = v.front }) v.basis.told
 
--- what is known of marks and of the floor is right by what was seen: there is a mark for each interval, which is safe
--- where told, and the floor is not above that of what was seen
+-- what is known of marks and of the floor is right by what was seen: there is a mark for each interval,
+-- which is safe where told, and the floor is not above that of what was seen
 pub record IsKnown (basis : Basis) (front : List Entry) (known : KnownView) : Type 0 where
   pub count : length known.marks ≡ length (intervals_of basis.case.topology)
   pub safe : IfSome basis.told (λ _. AreSafe basis.case (run_of basis.case.topology front) known.marks)
   pub floor : known.floor ≤ floor_of (run_of basis.case.topology front)
 
--- what a desk keeps of its seat: it has seen the beginning of a lawful history with the claims of its leases, and what
--- is known of marks and of the floor is right by that
-pub record IsKept (basis : Basis) (front : List Entry) (leases : List LeaseView) (known : KnownView) : Type 0 where
+-- what a desk keeps of its seat: it has seen the beginning of a lawful history with the claims of its
+-- leases, and what is known of marks and of the floor is right by that
+pub record IsKept (basis : Basis) (front : List Entry) (leases : List LeaseView)
+    (known : KnownView) : Type 0 where
   pub fenced : IsFenced basis.case.topology front
   pub legal : IfSome basis.told (λ _. IsLegal basis.case front)
   pub few : length front ≤ basis.limit

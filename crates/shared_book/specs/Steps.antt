@@ -138,7 +138,8 @@ pub record HasSeenWritten (v : View) : Type 0 where
   pub own : (commit : ℕ) → IsIn commit v.own → commit < length v.front
   pub written : HasWrittenAll v.front v
 
--- a seat looks, by a load of word 0, and learns what it has seen, and that what it took in was of its own book
+-- a seat looks, by a load of word 0, and learns what it has seen, and that what it took in was of its own
+-- book
 abbrev pub Looks : Step Slot → SeatView → ℕ → SeatView → Type 0
 Looks step seat found after = IsStep step 0 0 × (after ≡ seat) × HasSeenLawful seat.0
     × Begins seat.0.met seat.0.front × HasSeenWritten seat.0 × (seat.0.met_basis ≡ seat.0.basis)

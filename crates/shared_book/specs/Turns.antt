@@ -68,7 +68,8 @@ pub record HasTaken (old new : View) : Type 0 where
       row_in (run_of old.basis.case.topology (known lease.interval lease.seq new.front)) name
       ≡ row_in (run_of old.basis.case.topology (known lease.interval lease.seq old.front)) name
 
--- a note was met: what was seen goes on, and nothing that came to be seen was written under a lease of the seat
+-- a note was met: what was seen goes on, and nothing that came to be seen was written under a lease of the
+-- seat
 pub record HasMetForeign (old new : View) : Type 0 where
   pub others : List Entry
   pub goes_on : old.front ++ others ≡ new.front

@@ -107,8 +107,8 @@ steps_from shape n (line ∷ lines) = with_line shape n line (steps_from shape (
 abbrev pub schedule_of : Shape → List ℕ → Result (List Step) PlanRefusal
 schedule_of shape bytes = steps_from shape 1 (lines_of bytes)
 
--- a step is one that a line may name: its worker and interval are there, its part is an injector where it injects
--- and a computation where it fires, and its message is below 2^32
+-- a step is one that a line may name: its worker and interval are there, its part is an injector where it
+-- injects and a computation where it fires, and its message is below 2^32
 abbrev pub IsStep : Shape → Step → Type 0
 IsStep shape (steps.Claim worker interval) = (worker < 16) × (interval < interval_count shape)
 IsStep shape (steps.Inject worker part) = (worker < 16) × (part < injectors_of shape)

@@ -6,7 +6,8 @@ use Rattle.scripts.specs.Acts.{world_after}
 use Rattle.scripts.specs.declared.step.Step.{Step}
 use Rattle.world.specs.WorldStates.{WorldState, world_of}
 
--- a script was begun in one world, and in another it has these steps left: where told they lead to where the whole does
+-- a script was begun in one world, and in another it has these steps left: where told they lead to where the
+-- whole does
 pub record IsRunning (start world : WorldState) (left all : List Step) : Type 0 where
   pub case : world.book.case ≡ start.book.case
   pub limit : world.book.limit ≡ start.book.limit

@@ -17,11 +17,12 @@ FitsOwn book node = Fits book.case (own_view book) node
 abbrev pub IsFlying : BookView → Option Outgoing → Type 0
 IsFlying book place = IfSome place (IsOutgoing book.case (own_view book))
 
--- sixteen workers stand by their numbers and fit the desk over the book; each lease is of a claim of its own worker,
--- so that no two have one; each message in flight may have been sent; and the messages have numbers
+-- sixteen workers stand by their numbers and fit the desk over the book; each lease is of a claim of its own
+-- worker, so that no two have one; each message in flight may have been sent; and the messages have numbers
 pub record IsWorld (state : WorldState) : Type 0 where
   pub sixteen : length state.nodes ≡ 16
-  pub numbered : (number : ℕ) (node : NodeView) → slice_get state.nodes number ≡ Some node → node.number ≡ number
+  pub numbered : (number : ℕ) (node : NodeView) → slice_get state.nodes number ≡ Some node →
+    node.number ≡ number
   pub fit : All (FitsOwn state.book) state.nodes
   pub claimed : AreClaimed (world_of state)
   pub flying : All (IsFlying state.book) (flight_of state.flight)

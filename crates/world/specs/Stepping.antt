@@ -6,8 +6,8 @@ use Rattle.scripts.specs.declared.step.Step.{Step}
 use Rattle.scripts.specs.declared.step.Step.TheVariants as steps
 use Rattle.world.specs.WorldStates.{WorldState, world_of}
 
--- a step was answered as it is in the scripted world, and the world is that one then, where a contract can see the
--- keeper's rows
+-- a step was answered as it is in the scripted world, and the world is that one then, where a contract can
+-- see the keeper's rows
 abbrev pub HasActed : Step → WorldState → WorldState → Outcome → Type 0
 HasActed step old new outcome =
     IfSome old.book.rows (λ _. (outcome, world_of new) ≡ act old.book.case (world_of old) step)

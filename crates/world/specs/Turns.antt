@@ -43,8 +43,8 @@ abbrev pub with_own : Option Entry → List Entry → List Entry
 with_own None history = history
 with_own (Some entry) history = history ++ entry ∷ []
 
--- a book's history has grown by one entry, or by none; the case, the limit and whether rows are told stay, and faults
--- never fall
+-- a book's history has grown by one entry, or by none; the case, the limit and whether rows are told stay,
+-- and faults never fall
 pub record HasStepped (old new : BookView) (own : Option Entry) : Type 0 where
   pub case : new.case ≡ old.case
   pub limit : new.limit ≡ old.limit
@@ -180,7 +180,8 @@ IsQuietAt case history part = (row : RowName) (timer : Timer) →
 
 -- no timer is due
 abbrev pub IsQuiet : CaseShape → List Entry → Type 0
-IsQuiet case history = (row : RowName) (timer : Timer) → IsDue case (run_of case.topology history) row timer → ⊥
+IsQuiet case history =
+    (row : RowName) (timer : Timer) → IsDue case (run_of case.topology history) row timer → ⊥
 
 -- no row of an interval has seen ids
 abbrev pub IsEmptied : CaseShape → List Entry → ℕ → Type 0
@@ -261,7 +262,8 @@ AreExact book = (part : ℕ) → injectors_of book.case.topology ≤ part → pa
 
 -- the own work of an interval was reported, and that of no other
 abbrev pub HasReported : BookView → BookView → ℕ → Type 0
-HasReported old new interval = (bounds : Bounds) → slice_get (intervals_of old.case.topology) interval ≡ Some bounds →
+HasReported old new interval =
+    (bounds : Bounds) → slice_get (intervals_of old.case.topology) interval ≡ Some bounds →
     new.marks ≡ with_report old.case (run_of old.case.topology old.history) old.marks (interval, bounds)
 
 -- ---- a record that is handled
@@ -274,7 +276,8 @@ pub record HasHandled (old new : BookView) (delivery : Delivery) (more : Bool) :
   pub stepped : HasStepped old new (Some (entries.Handle seq delivery.to delivery.id effects))
 
 -- a record that a row has pending is to be handled next: it is not handled, and its row is not full
-pub record IsToSettle (case : CaseShape) (history : List Entry) (sender : RowName) (delivery : Delivery) : Type 0 where
+pub record IsToSettle (case : CaseShape) (history : List Entry) (sender : RowName)
+    (delivery : Delivery) : Type 0 where
   pub pending : let run = run_of case.topology history in
       found_delivery delivery.id (row_of case.topology run sender).pending ≡ Some delivery
   pub left : is_handled delivery.id history ≡ false

@@ -1,5 +1,5 @@
--- What one worker does to its book, and to a scripted world of which it is a worker. No public clause cites this
--- module.
+-- What one worker does to its book, and to a scripted world of which it is a worker. No public clause cites
+-- this module.
 use Rattle.std.specs.Prelude.{◌≡◌, ◌⊎◌, ◌++◌, ℕ, if◌then◌else◌, List, Option, None, Some, IfSome, All, length, map, replicate, slice_get, slice_set}
 use Rattle.std.specs.Option.{option_map_or}
 use Rattle.mw_types.specs.declared.entry.Entry.{Entry}
@@ -28,7 +28,8 @@ use Rattle.world.specs.WorldStates.{WorldState}
 -- each lease that a worker has then it had before, or it is of a claim of its own that came since
 abbrev pub HasLeases : BookView → NodeView → NodeView → Type 0
 HasLeases new was node = (interval seq : ℕ) → leases_of node.held interval ≡ Some seq →
-    (leases_of was.held interval ≡ Some seq) ⊎ (slice_get new.history seq ≡ Some (entries.Claim was.number interval))
+    (leases_of was.held interval ≡ Some seq)
+    ⊎ (slice_get new.history seq ≡ Some (entries.Claim was.number interval))
 
 -- a worker has called its desk: the history has grown by its own entry, if by one, and the worker fits again
 pub record HasCalled (old new : BookView) (was node : NodeView) : Type 0 where
@@ -40,8 +41,8 @@ pub record HasCalled (old new : BookView) (was node : NodeView) : Type 0 where
   pub was_sound : IsSound (own_view old)
   pub sound : IsSound (own_view new)
 
--- a world goes on: its history has grown by one entry at most, its book keeps all else but marks, rows and counts, and
--- faults never fall
+-- a world goes on: its history has grown by one entry at most, its book keeps all else but marks, rows and
+-- counts, and faults never fall
 pub record HasGoneOn (old new : WorldState) : Type 0 where
   pub own : Option Entry
   pub stepped : HasStepped old.book new.book own
@@ -73,23 +74,26 @@ abbrev pub ActsOn : Step → BookView → NodeView → BookView → NodeView →
 ActsOn step old was new node outcome = IfSome old.rows (λ _. (world : World) → IsWorldAt old was world →
     (outcome, world_with new was.number node world) ≡ act old.case world step)
 
--- a worker took a message as it is taken in each scripted world of which it is a worker, and where it is in flight
--- under this number
+-- a worker took a message as it is taken in each scripted world of which it is a worker, and where it is in
+-- flight under this number
 abbrev pub TakesOn : ℕ → Outgoing → BookView → NodeView → BookView → NodeView → Outcome → Type 0
-TakesOn message taken old was new node outcome = IfSome old.rows (λ _. (world : World) → IsWorldAt old was world →
+TakesOn message taken old was new node outcome =
+    IfSome old.rows (λ _. (world : World) → IsWorldAt old was world →
     in_flight world.flight message ≡ Some taken →
     (outcome, record (world_with new was.number node world) { flight = without_message message world.flight })
     ≡ act old.case world (steps.Take was.number message))
 
--- a worker sent all that it had to send as it does in each scripted world of which it is a worker, and where this is
--- in flight
-abbrev pub SendsOn : BookView → NodeView → List (Option Outgoing) → BookView → NodeView → List (Option Outgoing) →
-    Outcome → Type 0
-SendsOn old was flight new node after outcome = (world : World) → IsWorldAt old was world → world.flight ≡ flight →
+-- a worker sent all that it had to send as it does in each scripted world of which it is a worker, and where
+-- this is in flight
+abbrev pub SendsOn : BookView → NodeView → List (Option Outgoing) → BookView → NodeView →
+    List (Option Outgoing) → Outcome → Type 0
+SendsOn old was flight new node after outcome =
+    (world : World) → IsWorldAt old was world → world.flight ≡ flight →
     (outcome, record (world_with new was.number node world) { flight = after })
     ≡ act old.case world (steps.Send was.number)
 
--- a step changed what is in flight, and nothing else, as it does in each scripted world where this is in flight
+-- a step changed what is in flight, and nothing else, as it does in each scripted world where this is in
+-- flight
 abbrev pub FliesOn : Step → List (Option Outgoing) → List (Option Outgoing) → Outcome → Type 0
 FliesOn step flight after outcome = (case : CaseShape) (world : World) → world.flight ≡ flight →
     (outcome, record world { flight = after }) ≡ act case world step
@@ -110,11 +114,12 @@ IsAlone number _ = ⊥
 abbrev pub IsReady : NodeView → Type 0
 IsReady node = IfSome node.prepared (λ (work : WorkView). IsHandle work.proposal)
 
--- what a worker answers that leaves a message in flight, if it does: it has to wait while another record is prepared,
--- or the message is for a row that it lacks
+-- what a worker answers that leaves a message in flight, if it does: it has to wait while another record is
+-- prepared, or the message is for a row that it lacks
 abbrev pub left_by : Shape → Worker → Outgoing → Option Outcome
 left_by shape worker taken = if must_wait worker taken then Some outcomes.Nothing else
-    option_map_or (λ (lease : LeaseView). None) (lease_on shape worker (row_of_message taken)) (Some outcomes.NotMine)
+    option_map_or (λ (lease : LeaseView). None) (lease_on shape worker (row_of_message taken))
+    (Some outcomes.NotMine)
 
 -- a worker moves what it has to send into flight: this is left of it, and that is in flight
 pub record IsSending (old : BookView) (was : NodeView) (flight : List (Option Outgoing)) (book : BookView)

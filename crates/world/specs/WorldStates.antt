@@ -9,8 +9,8 @@ use Rattle.node.specs.declared.message.Message.{Message}
 use Rattle.node.specs.declared.outgoing.Outgoing.{Outgoing}
 use Rattle.scripts.specs.Worlds.{World}
 
--- the book, the workers by their numbers, and a place for each message that was sent or copied, by its number: the
--- message with its note while it is in flight, and nothing once it is gone
+-- the book, the workers by their numbers, and a place for each message that was sent or copied, by its
+-- number: the message with its note while it is in flight, and nothing once it is gone
 pub record WorldState : Type 0 where
   pub book : BookView
   pub nodes : List NodeView
@@ -18,7 +18,8 @@ pub record WorldState : Type 0 where
 
 -- the messages in flight without their notes
 abbrev pub flight_of : List (Option (Message NoNote)) → List (Option Outgoing)
-flight_of flight = map (λ (m : Option (Message NoNote)). option_map (λ (message : Message NoNote). outgoing_of message) m) flight
+flight_of flight = map (λ (m : Option (Message NoNote)).
+    option_map (λ (message : Message NoNote). outgoing_of message) m) flight
 
 -- the scripted world that it is: the rows that its workers have cached, and the notes, are left out
 abbrev pub world_of : WorldState → World
