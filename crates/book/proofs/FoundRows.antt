@@ -25,7 +25,7 @@ use Rattle.history_laws.proofs.StampLaws.{at-each}
 use Rattle.history_laws.proofs.StoredLaws.{rows_covered-stored}
 use Rattle.book.specs.Books.{BookView, core_of}
 use Rattle.run_history.specs.Fits.{fits}
-use Rattle.book.specs.Lawful.{IsKept, IsHeld, IsLawful}
+use Rattle.book.specs.Lawful.{IsKeepable, HoldsRowsOf, IsLawful}
 use Rattle.book.specs.Claims.{AreRowsOf, AreWithin, IsDamaged, IsFirstDamage, IsFoundWithin, IsRead, bytes_named, named, spelled}
 use Rattle.book.specs.declared.answers.NamedRow.{NamedRow}
 use Rattle.book.specs.declared.refusals.ClaimRefusal.{ClaimRefusal}
@@ -33,17 +33,17 @@ use Rattle.book.specs.declared.refusals.ClaimRefusal.TheVariants as refusals
 use Rattle.book.proofs.SeenRows.{told-both, told-then}
 
 -- what is found is the spelling of the rows of the history
-pub found-spelled : (case : CaseShape) (history : List Entry) (interval : ℕ) (found : List KeptRow) (held : Rows) → IsHeld case history held
+pub found-spelled : (case : CaseShape) (history : List Entry) (interval : ℕ) (found : List KeptRow) (held : Rows) → HoldsRowsOf case history held
     → IsFoundWithin case interval found held → (bounds : Bounds) → slice_get (intervals_of case.topology) interval ≡ Some bounds
     → map entry_of found ≡ map spelled (rows_covered bounds (run_of case.topology history).rows)
 found-spelled case history interval found held is within bounds at =
     within bounds at ∙ ap (rows_covered bounds) is.stored ∙ rows_covered-stored (run_of case.topology history) bounds
 
 -- each of which can be kept
-pub found-kept : (case : CaseShape) (history : List Entry) (held : Rows) (bounds : Bounds) → IsHeld case history held
-    → AllByRecursion (IsKept case (length history)) (rows_covered bounds (run_of case.topology history).rows)
+pub found-kept : (case : CaseShape) (history : List Entry) (held : Rows) (bounds : Bounds) → HoldsRowsOf case history held
+    → AllByRecursion (IsKeepable case (length history)) (rows_covered bounds (run_of case.topology history).rows)
 found-kept case history held bounds is =
-    each-filter (IsKept case (length history)) (λ (r : RowName × Contents). covers bounds r.0) (run_of case.topology history).rows is.kept
+    each-filter (IsKeepable case (length history)) (λ (r : RowName × Contents). covers bounds r.0) (run_of case.topology history).rows is.kept
 
 -- something stands at each place of a list
 pub some-at : {X : Type 0} (xs : List X) (i : ℕ) → i < length xs → (x : X) × (slice_get xs i ≡ Some x)
@@ -69,8 +69,8 @@ entry-at (k ∷ ks) (suc i) kept within at = entry-at ks i kept (omega (arith, w
 
 -- what the bytes of one place are, where all are those of rows that can be kept
 kept-at : (case : CaseShape) (number : ℕ) (found : List KeptRow) (rows : List (RowName × Contents)) (i : ℕ) (kept : KeptRow)
-    → AllByRecursion (IsKept case number) rows → map entry_of found ≡ map spelled rows → i < length found → kept ≡ get_or found i kept
-    → (row : Contents) × ((slice_get rows i ≡ Some (kept.name, row)) × ((kept.bytes ≡ spelling_of row) × IsKept case number
+    → AllByRecursion (IsKeepable case number) rows → map entry_of found ≡ map spelled rows → i < length found → kept ≡ get_or found i kept
+    → (row : Contents) × ((slice_get rows i ≡ Some (kept.name, row)) × ((kept.bytes ≡ spelling_of row) × IsKeepable case number
     (kept.name, row)))
 kept-at case number found rows i kept each same within at =
     let there = spelled-at found rows i kept same (sym at) within in
@@ -81,7 +81,7 @@ kept-at case number found rows i kept each same within at =
         there.1.0 ∙ ap (λ (n : RowName). Some (n, r.1)) (sym name),
         (
           ap (λ (p : RowName × List ℕ). p.1) there.1.1,
-          subst (λ (n : RowName). IsKept case number (n, r.1)) (sym name) (at-each (IsKept case number) rows i r each there.1.0),
+          subst (λ (n : RowName). IsKeepable case number (n, r.1)) (sym name) (at-each (IsKeepable case number) rows i r each there.1.0),
         ),
       ),
     )
@@ -90,7 +90,7 @@ kept-at case number found rows i kept each same within at =
 pub IsRead-none : (case : CaseShape) (number : ℕ) (found : List KeptRow) (done : List NamedRow) → done ≡ []
     → IsRead case number found done 0
 IsRead-none case number found done none = record {
-  kept = subst (λ (l : List NamedRow). AllByRecursion (IsKept case number) (map named l)) (sym none) tt;
+  kept = subst (λ (l : List NamedRow). AllByRecursion (IsKeepable case number) (map named l)) (sym none) tt;
   bytes = ap (map bytes_named) none;
   only = λ rows each same. ap (map named) none;
 }
@@ -102,14 +102,14 @@ each-push P (y ∷ ys) x each one = (each.0, each-push P ys x each.1 one)
 
 -- one more row is read
 pub IsRead-more : (case : CaseShape) (number : ℕ) (found : List KeptRow) (done new : List NamedRow) (i : ℕ) (kept : KeptRow) (r : NamedRow)
-    → IsRead case number found done i → i < length found → kept ≡ get_or found i kept → IsKept case number (named r)
+    → IsRead case number found done i → i < length found → kept ≡ get_or found i kept → IsKeepable case number (named r)
     → bytes_named r ≡ entry_of kept
-    → ((row : Contents) → IsKept case number (kept.name, row) → kept.bytes ≡ spelling_of row → named r ≡ (kept.name, row))
+    → ((row : Contents) → IsKeepable case number (kept.name, row) → kept.bytes ≡ spelling_of row → named r ≡ (kept.name, row))
     → new ≡ done ++ r ∷ [] → IsRead case number found new (i + 1)
 IsRead-more case number found done new i kept r read within at fit bytes only appended =
     let names : map named new ≡ map named done ++ named r ∷ [] = ap (map named) appended ∙ map-append named done (r ∷ []) in record {
-      kept = subst (AllByRecursion (IsKept case number)) (sym names)
-          (each-push (IsKept case number) (map named done) (named r) read.kept fit);
+      kept = subst (AllByRecursion (IsKeepable case number)) (sym names)
+          (each-push (IsKeepable case number) (map named done) (named r) read.kept fit);
       bytes = ap (map bytes_named) appended ∙ map-append bytes_named done (r ∷ [])
           ∙ ap (λ l. l ++ bytes_named r ∷ []) read.bytes
           ∙ ap (λ e. take i (map entry_of found) ++ e ∷ []) (bytes ∙ entry-at found i kept within at)
@@ -127,7 +127,7 @@ IsRead-more case number found done new i kept r read within at fit bytes only ap
 -- all rows are read
 pub IsRead-all : (case : CaseShape) (number : ℕ) (found : List KeptRow) (done : List NamedRow) (i : ℕ) → IsRead case number found done i
     → length found ≤ i
-    → (rows : List (RowName × Contents)) → AllByRecursion (IsKept case number) rows → map entry_of found ≡ map spelled rows
+    → (rows : List (RowName × Contents)) → AllByRecursion (IsKeepable case number) rows → map entry_of found ≡ map spelled rows
     → map named done ≡ rows
 IsRead-all case number found done i read past rows each same =
     let long : length rows ≤ i = omega (arith, past, sym (length-map rows spelled) ∙ sym (ap length same) ∙ length-map found entry_of) in
@@ -177,8 +177,8 @@ first-at case number found done i kept (refusals.RowDamaged name bytes) read wit
 -- a row that is not read, where the bytes are those of rows that can be kept, is not for want of a row
 pub refused-at : (case : CaseShape) (number : ℕ) (found : List KeptRow) (i : ℕ) (kept : KeptRow) (why : ClaimRefusal) → i < length found
     → kept ≡ get_or found i kept
-    → ((row : Contents) → IsKept case number (kept.name, row) → kept.bytes ≡ spelling_of row → why ≡ refusals.NoMemory)
-    → (rows : List (RowName × Contents)) → AllByRecursion (IsKept case number) rows → map entry_of found ≡ map spelled rows
+    → ((row : Contents) → IsKeepable case number (kept.name, row) → kept.bytes ≡ spelling_of row → why ≡ refusals.NoMemory)
+    → (rows : List (RowName × Contents)) → AllByRecursion (IsKeepable case number) rows → map entry_of found ≡ map spelled rows
     → why ≡ refusals.NoMemory
 refused-at case number found i kept why within at only rows each same =
     let there = kept-at case number found rows i kept each same within at in only there.0 there.1.1.1 there.1.1.0
@@ -186,7 +186,7 @@ refused-at case number found i kept why within at only rows each same =
 -- ---- what a claim answers
 
 -- rows that can be kept fit their names
-kept-fit : (case : CaseShape) (number : ℕ) (rows : List NamedRow) → AllByRecursion (IsKept case number) (map named rows)
+kept-fit : (case : CaseShape) (number : ℕ) (rows : List NamedRow) → AllByRecursion (IsKeepable case number) (map named rows)
     → AllByRecursion (λ (r : NamedRow). fits case number r.name r.row ≡ true) rows
 kept-fit case number [] kept = tt
 kept-fit case number (r ∷ rs) kept = (kept.0.fit, kept-fit case number rs kept.1)
@@ -208,8 +208,8 @@ covered-rows b (k ∷ ks) (r ∷ rs) same each =
 -- the rows that were read are those of the interval
 pub AreRowsOf-read : (book : BookView) (interval : ℕ) (found : List KeptRow) (rows : List NamedRow) → IsLawful book.case (core_of book)
     → IfSome book.rows (IsFoundWithin book.case interval found) → AreWithin book.case interval found → AreInOrder (map entry_of found)
-    → AllByRecursion (IsKept book.case (length book.history)) (map named rows) → map bytes_named rows ≡ map entry_of found
-    → ((all : List (RowName × Contents)) → AllByRecursion (IsKept book.case (length book.history)) all
+    → AllByRecursion (IsKeepable book.case (length book.history)) (map named rows) → map bytes_named rows ≡ map entry_of found
+    → ((all : List (RowName × Contents)) → AllByRecursion (IsKeepable book.case (length book.history)) all
     → map entry_of found ≡ map spelled all → map named rows ≡ all)
     → AreRowsOf book.case book.rows book.history interval rows
 AreRowsOf-read book interval found rows lawful within covered order kept bytes only = record {
@@ -218,8 +218,8 @@ AreRowsOf-read book interval found rows lawful within covered order kept bytes o
   covered = λ bounds at. All-from_recursion (λ (r : NamedRow). covers bounds r.name ≡ true) rows
       (covered-rows bounds found rows bytes (recursion_from_All (λ (k : KeptRow). covers bounds k.name ≡ true) found (covered bounds at)));
   ascending = subst (IsStrictlySortedBy row_cmp) (ap keys_of (sym bytes) ∙ names-of rows) order;
-  all = told-then book.rows (λ held. IsHeld book.case book.history held × IsFoundWithin book.case interval found held) _
-      (told-both book.rows (IsHeld book.case book.history) (IsFoundWithin book.case interval found) lawful.held within)
+  all = told-then book.rows (λ held. HoldsRowsOf book.case book.history held × IsFoundWithin book.case interval found held) _
+      (told-both book.rows (HoldsRowsOf book.case book.history) (IsFoundWithin book.case interval found) lawful.held within)
       (λ held p bounds at. only (rows_covered bounds (run_of book.case.topology book.history).rows)
       (found-kept book.case book.history held bounds p.0)
       (found-spelled book.case book.history interval found held p.0 p.1 bounds at));
@@ -228,18 +228,18 @@ AreRowsOf-read book interval found rows lawful within covered order kept bytes o
 -- a row is damaged only where the keeper does not tell
 pub IsDamaged-read : (book : BookView) (interval : ℕ) (found : List KeptRow) (why : ClaimRefusal) → IsLawful book.case (core_of book)
     → interval < interval_count book.case.topology → IfSome book.rows (IsFoundWithin book.case interval found)
-    → ((all : List (RowName × Contents)) → AllByRecursion (IsKept book.case (length book.history)) all
+    → ((all : List (RowName × Contents)) → AllByRecursion (IsKeepable book.case (length book.history)) all
     → map entry_of found ≡ map spelled all → why ≡ refusals.NoMemory)
     → ((name : RowName) (bytes : List ℕ) → why ≡ refusals.RowDamaged name bytes → (row : Contents)
-    → IsKept book.case (length book.history) (name, row) → bytes ≢ spelling_of row)
+    → IsKeepable book.case (length book.history) (name, row) → bytes ≢ spelling_of row)
     → IsDamaged book.case book.rows (length book.history) why
 IsDamaged-read book interval found refusals.HistoryFull lawful there within only damaged = tt
 IsDamaged-read book interval found refusals.KeeperFault lawful there within only damaged = tt
 IsDamaged-read book interval found refusals.NoMemory lawful there within only damaged = tt
 IsDamaged-read book interval found (refusals.RowDamaged name bytes) lawful there within only damaged = record {
   no_row = damaged name bytes refl;
-  untold = told-then book.rows (λ held. IsHeld book.case book.history held × IsFoundWithin book.case interval found held) _
-      (told-both book.rows (IsHeld book.case book.history) (IsFoundWithin book.case interval found) lawful.held within)
+  untold = told-then book.rows (λ held. HoldsRowsOf book.case book.history held × IsFoundWithin book.case interval found held) _
+      (told-both book.rows (HoldsRowsOf book.case book.history) (IsFoundWithin book.case interval found) lawful.held within)
       (λ held p.
       let bounds = some-at (intervals_of book.case.topology) interval (omega (arith, there, length-intervals book.case.topology)) in
       let none : refusals.RowDamaged name bytes ≡ refusals.NoMemory = only
@@ -255,9 +255,9 @@ pub AreRowsOf-result : (book : BookView) (interval : ℕ) (found shown : List Ke
     → IsLawful book.case (core_of book) → IfSome book.rows (IsFoundWithin book.case interval found)
     → AreWithin book.case interval found → AreInOrder (map entry_of found)
     → case ≡ book.case → number ≡ length book.history → shown ≡ found
-    → IfOk result (λ rows. AllByRecursion (IsKept case number) (map named rows))
+    → IfOk result (λ rows. AllByRecursion (IsKeepable case number) (map named rows))
     → IfOk result (λ rows. map bytes_named rows ≡ map entry_of shown)
-    → ((all : List (RowName × Contents)) → AllByRecursion (IsKept case number) all → map entry_of shown ≡ map spelled all
+    → ((all : List (RowName × Contents)) → AllByRecursion (IsKeepable case number) all → map entry_of shown ≡ map spelled all
     → MatchResult result (λ rows. map named rows ≡ all) (λ why. why ≡ refusals.NoMemory))
     → IfOk result (AreRowsOf book.case book.rows book.history interval)
 AreRowsOf-result book interval found shown case number (Err why) lawful within covered order same_case same_number same_found kept bytes
@@ -265,10 +265,10 @@ AreRowsOf-result book interval found shown case number (Err why) lawful within c
 AreRowsOf-result book interval found shown case number (Ok rows) lawful within covered order same_case same_number same_found kept bytes
     only =
     AreRowsOf-read book interval found rows lawful within covered order
-    (subst (λ (p : CaseShape × ℕ). AllByRecursion (IsKept p.0 p.1) (map named rows)) (λ i. (same_case i, same_number i)) kept)
+    (subst (λ (p : CaseShape × ℕ). AllByRecursion (IsKeepable p.0 p.1) (map named rows)) (λ i. (same_case i, same_number i)) kept)
     (bytes ∙ ap (map entry_of) same_found)
     (λ all each same. only all
-    (subst (λ (p : CaseShape × ℕ). AllByRecursion (IsKept p.0 p.1) all) (λ i. (sym same_case i, sym same_number i)) each)
+    (subst (λ (p : CaseShape × ℕ). AllByRecursion (IsKeepable p.0 p.1) all) (λ i. (sym same_case i, sym same_number i)) each)
     (ap (map entry_of) same_found ∙ same))
 
 -- what reading refuses, in words of the book
@@ -277,24 +277,24 @@ pub IsDamaged-result : (book : BookView) (interval : ℕ) (found shown : List Ke
     → IsLawful book.case (core_of book) → interval < interval_count book.case.topology
     → IfSome book.rows (IsFoundWithin book.case interval found)
     → case ≡ book.case → number ≡ length book.history → shown ≡ found
-    → ((all : List (RowName × Contents)) → AllByRecursion (IsKept case number) all → map entry_of shown ≡ map spelled all
+    → ((all : List (RowName × Contents)) → AllByRecursion (IsKeepable case number) all → map entry_of shown ≡ map spelled all
     → MatchResult result (λ rows. map named rows ≡ all) (λ why. why ≡ refusals.NoMemory))
     → ((name : RowName) (bytes : List ℕ) → IsErrOf result (refusals.RowDamaged name bytes) → (row : Contents)
-    → IsKept case number (name, row) → bytes ≢ spelling_of row)
+    → IsKeepable case number (name, row) → bytes ≢ spelling_of row)
     → IfErr result (IsDamaged book.case book.rows (length book.history))
 IsDamaged-result book interval found shown case number (Ok rows) lawful there within same_case same_number same_found only damaged = tt
 IsDamaged-result book interval found shown case number (Err why) lawful there within same_case same_number same_found only damaged =
     IsDamaged-read book interval found why lawful there within
     (λ all each same. only all
-    (subst (λ (p : CaseShape × ℕ). AllByRecursion (IsKept p.0 p.1) all) (λ i. (sym same_case i, sym same_number i)) each)
+    (subst (λ (p : CaseShape × ℕ). AllByRecursion (IsKeepable p.0 p.1) all) (λ i. (sym same_case i, sym same_number i)) each)
     (ap (map entry_of) same_found ∙ same))
     (λ name bytes is row kept. damaged name bytes (ap Err is) row
-    (subst (λ (p : CaseShape × ℕ). IsKept p.0 p.1 (name, row)) (λ i. (sym same_case i, sym same_number i)) kept))
+    (subst (λ (p : CaseShape × ℕ). IsKeepable p.0 p.1 (name, row)) (λ i. (sym same_case i, sym same_number i)) kept))
 
 -- a row that was decoded under a name can be kept
 pub kept-of : (case : CaseShape) (number : ℕ) (kept : KeptRow) (row : Contents) (r : NamedRow) → named r ≡ (kept.name, row)
-    → IsSpelledRow row → fits case number kept.name row ≡ true → IsKept case number (named r)
-kept-of case number kept row r is spelled fit = subst (IsKept case number) (sym is) (record { spelled = spelled; fit = fit })
+    → IsSpelledRow row → fits case number kept.name row ≡ true → IsKeepable case number (named r)
+kept-of case number kept row r is spelled fit = subst (IsKeepable case number) (sym is) (record { spelled = spelled; fit = fit })
 
 -- and has the bytes that were decoded
 pub bytes-of : (kept : KeptRow) (row : Contents) (r : NamedRow) → named r ≡ (kept.name, row) → kept.bytes ≡ spelling_of row

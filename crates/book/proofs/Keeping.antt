@@ -33,7 +33,7 @@ use Rattle.history_laws.proofs.LowLaws.{rows-in_order}
 use Rattle.history_laws.proofs.UnfinishedLaws.{unfinished-followed, unfinished-kept}
 use Rattle.history_laws.proofs.StoredLaws.{stored_rows-followed, stored_rows-kept}
 use Rattle.book.specs.Books.{CoreView}
-use Rattle.book.specs.Lawful.{IsKept, IsHeld, AreClaimsThere, IsLawful}
+use Rattle.book.specs.Lawful.{IsKeepable, HoldsRowsOf, AreClaimsThere, IsLawful}
 use Rattle.book.specs.Appending.{IsNext}
 use Rattle.book.specs.Marks.{AreSafe}
 use Rattle.book.specs.Senders.{AreSenders, sender_of}
@@ -70,17 +70,17 @@ IsPrintable-push shape history entry printable room part few = record {
 }
 
 -- rows that can be kept still can after one more entry
-kept-later : (case : CaseShape) (n : ℕ) (r : RowName × Contents) → IsKept case n r → IsKept case (n + 1) r
+kept-later : (case : CaseShape) (n : ℕ) (r : RowName × Contents) → IsKeepable case n r → IsKeepable case (n + 1) r
 kept-later case n r kept = record { spelled = kept.spelled; fit = fits-later case n r.0 r.1 kept.fit }
 
 -- what is held after a legal history is held after an entry on a row
-IsHeld-next : (case : CaseShape) (history : List Entry) (rows : Rows) (name : RowName) (entry : Entry) (row : Contents)
-    → IsHeld case history rows
+HoldsRowsOf-next : (case : CaseShape) (history : List Entry) (rows : Rows) (name : RowName) (entry : Entry) (row : Contents)
+    → HoldsRowsOf case history rows
     → row_written entry ≡ Some name → MayFollow case (run_of case.topology history) entry
     → row ≡ row_of case.topology (run_of case.topology (history ++ entry ∷ [])) name
-    → IsKept case (length history + 1) (name, row)
-    → IsHeld case (history ++ entry ∷ []) (with_row name (spelling_of row) rows)
-IsHeld-next case history rows name entry row held written may is kept =
+    → IsKeepable case (length history + 1) (name, row)
+    → HoldsRowsOf case (history ++ entry ∷ []) (with_row name (spelling_of row) rows)
+HoldsRowsOf-next case history rows name entry row held written may is kept =
     let shape = case.topology in
     let run = run_of shape history in
     let push = run_of-push shape history entry in
@@ -93,14 +93,14 @@ IsHeld-next case history rows name entry row held written may is kept =
       legal = IsLegal-push case history entry held.legal may;
       stored = ap (with_row name (spelling_of row)) held.stored
           ∙ ap (λ (c : Contents). with_row name (spelling_of c) (stored_rows run)) is ∙ sym stored;
-      kept = subst (λ n. AllByRecursion (IsKept case n) (run_of shape (history ++ entry ∷ [])).rows) (sym (length-push history entry))
-          (subst (λ (r : Run). AllByRecursion (IsKept case (length history + 1)) r.rows) (sym push)
-          (subst (λ w. AllByRecursion (IsKept case (length history + 1))
+      kept = subst (λ n. AllByRecursion (IsKeepable case n) (run_of shape (history ++ entry ∷ [])).rows) (sym (length-push history entry))
+          (subst (λ (r : Run). AllByRecursion (IsKeepable case (length history + 1)) r.rows) (sym push)
+          (subst (λ w. AllByRecursion (IsKeepable case (length history + 1))
           (option_map_or (λ (n : RowName). insert_entry row_cmp run.rows n (made_row shape run entry n)) w run.rows)) (sym written)
-          (each-put (IsKept case (length history + 1)) run.rows name (made_row shape run entry name)
-          (each-weaker (IsKept case (length history)) (IsKept case (length history + 1))
+          (each-put (IsKeepable case (length history + 1)) run.rows name (made_row shape run entry name)
+          (each-weaker (IsKeepable case (length history)) (IsKeepable case (length history + 1))
           (kept-later case (length history)) run.rows held.kept)
-          (subst (λ (c : Contents). IsKept case (length history + 1) (name, c)) made kept))));
+          (subst (λ (c : Contents). IsKeepable case (length history + 1) (name, c)) made kept))));
     }
 
 -- how much work is left after an entry on a row
@@ -158,30 +158,30 @@ IsLawful-next case old new name entry before row lawful next spelled was work ap
     told-left (Some rows) left was is = unfinished-next case old.history name entry before row old.work new.work next.on_row left was is
         work
 
-    told : (o : Option Rows) → IfSome o (IsHeld case old.history) → IfSome o (λ _. MayFollow case (run_of case.topology old.history) entry)
+    told : (o : Option Rows) → IfSome o (HoldsRowsOf case old.history) → IfSome o (λ _. MayFollow case (run_of case.topology old.history) entry)
         → IfSome o (λ _. row ≡ row_of case.topology (run_of case.topology (old.history ++ entry ∷ [])) name)
-        → IfSome (option_map (with_row name (spelling_of row)) o) (IsHeld case (old.history ++ entry ∷ []))
+        → IfSome (option_map (with_row name (spelling_of row)) o) (HoldsRowsOf case (old.history ++ entry ∷ []))
     told None held may is = tt
-    told (Some rows) held may is = IsHeld-next case old.history rows name entry row held next.on_row may is
+    told (Some rows) held may is = HoldsRowsOf-next case old.history rows name entry row held next.on_row may is
         (record { spelled = spelled; fit = next.fit })
 
-    held : IfSome new.rows (IsHeld case new.history)
-    held = subst (λ (h : List Entry). IfSome new.rows (IsHeld case h)) (sym appended)
-        (subst (λ o. IfSome o (IsHeld case (old.history ++ entry ∷ []))) (sym stored) (told old.rows lawful.held next.may next.of_history))
+    held : IfSome new.rows (HoldsRowsOf case new.history)
+    held = subst (λ (h : List Entry). IfSome new.rows (HoldsRowsOf case h)) (sym appended)
+        (subst (λ o. IfSome o (HoldsRowsOf case (old.history ++ entry ∷ []))) (sym stored) (told old.rows lawful.held next.may next.of_history))
 
 -- what is held after a legal history is held after a claim
-IsHeld-claim : (case : CaseShape) (history : List Entry) (rows : Rows) (worker interval : ℕ) → IsHeld case history rows
-    → MayClaim case worker interval → IsHeld case (history ++ Claim worker interval ∷ []) rows
-IsHeld-claim case history rows worker interval held may =
+HoldsRowsOf-claim : (case : CaseShape) (history : List Entry) (rows : Rows) (worker interval : ℕ) → HoldsRowsOf case history rows
+    → MayClaim case worker interval → HoldsRowsOf case (history ++ Claim worker interval ∷ []) rows
+HoldsRowsOf-claim case history rows worker interval held may =
     let shape = case.topology in
     let run = run_of shape history in
     let entry = Claim worker interval in
     let push = run_of-push shape history entry in record {
       legal = IsLegal-push case history entry held.legal may;
       stored = held.stored ∙ sym (stored_rows-kept shape run entry refl) ∙ sym (ap stored_rows push);
-      kept = subst (λ n. AllByRecursion (IsKept case n) (run_of shape (history ++ entry ∷ [])).rows) (sym (length-push history entry))
-          (subst (λ (r : Run). AllByRecursion (IsKept case (length history + 1)) r.rows) (sym push)
-          (each-weaker (IsKept case (length history)) (IsKept case (length history + 1))
+      kept = subst (λ n. AllByRecursion (IsKeepable case n) (run_of shape (history ++ entry ∷ [])).rows) (sym (length-push history entry))
+          (subst (λ (r : Run). AllByRecursion (IsKeepable case (length history + 1)) r.rows) (sym push)
+          (each-weaker (IsKeepable case (length history)) (IsKeepable case (length history + 1))
           (kept-later case (length history)) run.rows held.kept));
     }
 
@@ -221,13 +221,13 @@ IsLawful-claimed case old new worker interval lawful room may appended rows limi
         work ∙ left ∙ sym (unfinished-kept case (run_of case.topology old.history) (Claim worker interval) refl)
         ∙ sym (ap (unfinished case) (run_of-push case.topology old.history (Claim worker interval)))
 
-    told : (o : Option Rows) → IfSome o (IsHeld case old.history) → IfSome o (IsHeld case (old.history ++ Claim worker interval ∷ []))
+    told : (o : Option Rows) → IfSome o (HoldsRowsOf case old.history) → IfSome o (HoldsRowsOf case (old.history ++ Claim worker interval ∷ []))
     told None held = tt
-    told (Some rows) held = IsHeld-claim case old.history rows worker interval held may
+    told (Some rows) held = HoldsRowsOf-claim case old.history rows worker interval held may
 
-    held : IfSome new.rows (IsHeld case new.history)
-    held = subst (λ (h : List Entry). IfSome new.rows (IsHeld case h)) (sym appended)
-        (subst (λ o. IfSome o (IsHeld case (old.history ++ Claim worker interval ∷ []))) (sym rows) (told old.rows lawful.held))
+    held : IfSome new.rows (HoldsRowsOf case new.history)
+    held = subst (λ (h : List Entry). IfSome new.rows (HoldsRowsOf case h)) (sym appended)
+        (subst (λ o. IfSome o (HoldsRowsOf case (old.history ++ Claim worker interval ∷ []))) (sym rows) (told old.rows lawful.held))
 
 -- a book stays lawful where its history and its rows stay
 pub IsLawful-stays : (case : CaseShape) (old new : CoreView) → IsLawful case old
@@ -240,8 +240,8 @@ IsLawful-stays case old new lawful history rows limit work same_senders same_mar
   fenced = subst (IsFenced case.topology) (sym history) lawful.fenced;
   printable = subst (IsPrintable case.topology) (sym history) lawful.printable;
   lines = subst (All HasLine) (sym history) lawful.lines;
-  held = subst (λ (h : List Entry). IfSome new.rows (IsHeld case h)) (sym history)
-      (subst (λ o. IfSome o (IsHeld case old.history)) (sym rows) lawful.held);
+  held = subst (λ (h : List Entry). IfSome new.rows (HoldsRowsOf case h)) (sym history)
+      (subst (λ o. IfSome o (HoldsRowsOf case old.history)) (sym rows) lawful.held);
   left = subst (λ (h : List Entry). IfSome new.rows (λ _. new.work ≡ unfinished case (run_of case.topology h))) (sym history)
       (subst (λ o. IfSome o (λ _. new.work ≡ unfinished case (run_of case.topology old.history))) (sym rows)
       (subst (λ n. IfSome old.rows (λ _. n ≡ unfinished case (run_of case.topology old.history))) (sym work) lawful.left));

@@ -23,7 +23,7 @@ use Rattle.history_laws.proofs.MarkLaws.{IsSafe-stays}
 use Rattle.history_laws.proofs.ReportLaws.{IsSafe-greater}
 use Rattle.watermark.specs.Marks.{mark_of}
 use Rattle.book.specs.Books.{CoreView}
-use Rattle.book.specs.Lawful.{AreClaimsThere, IsHeld, IsLawful}
+use Rattle.book.specs.Lawful.{AreClaimsThere, HoldsRowsOf, IsLawful}
 use Rattle.book.specs.Marks.{IsSafeAt, AreSafe, with_mark}
 
 -- ---- claims
@@ -67,7 +67,7 @@ claims-claim case history worker interval may there other seq last =
 
 -- marks that are safe after a legal history are so after one more entry, where a contract can see the keeper's rows
 pub AreSafe-next : (case : CaseShape) (history : List Entry) (entry : Entry) (marks : List ℕ) (told : Option Rows) → IsRunnable case
-    → IfSome told (IsHeld case (history ++ entry ∷ [])) → IfSome told (λ _. AreSafe case (run_of case.topology history) marks)
+    → IfSome told (HoldsRowsOf case (history ++ entry ∷ [])) → IfSome told (λ _. AreSafe case (run_of case.topology history) marks)
     → IfSome told (λ _. AreSafe case (run_of case.topology (history ++ entry ∷ [])) marks)
 AreSafe-next case history entry marks None runs held safe = tt
 AreSafe-next case history entry marks (Some rows) runs held safe =
@@ -77,13 +77,13 @@ AreSafe-next case history entry marks (Some rows) runs held safe =
 -- and so over all of a book, where the marks stay
 pub AreSafe-appended : (case : CaseShape) (old new : CoreView) (entry : Entry) → IsRunnable case → new.history ≡ old.history ++ entry ∷ []
     → new.marks ≡ old.marks
-    → IfSome new.rows (IsHeld case new.history) → IfSome new.rows (λ _. AreSafe case (run_of case.topology old.history) old.marks)
+    → IfSome new.rows (HoldsRowsOf case new.history) → IfSome new.rows (λ _. AreSafe case (run_of case.topology old.history) old.marks)
     → IfSome new.rows (λ _. AreSafe case (run_of case.topology new.history) new.marks)
 AreSafe-appended case old new entry runs appended same held safe =
     subst (λ (l : List ℕ). IfSome new.rows (λ _. AreSafe case (run_of case.topology new.history) l)) (sym same)
     (subst (λ (h : List Entry). IfSome new.rows (λ _. AreSafe case (run_of case.topology h) old.marks)) (sym appended)
     (AreSafe-next case old.history entry old.marks new.rows runs
-    (subst (λ (h : List Entry). IfSome new.rows (IsHeld case h)) appended held) safe))
+    (subst (λ (h : List Entry). IfSome new.rows (HoldsRowsOf case h)) appended held) safe))
 
 -- marks are safe where nothing was appended
 pub AreSafe-same : (case : CaseShape) (old new : CoreView) → new.history ≡ old.history → new.rows ≡ old.rows → new.marks ≡ old.marks

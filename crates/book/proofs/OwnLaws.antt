@@ -23,9 +23,9 @@ use Rattle.book.specs.Answers.{HasStayed, IsSameBook, IsWritten}
 use Rattle.book.specs.Books.{BookView, LeaseView, core_of}
 use Rattle.book.specs.Claims.{AreRowsOf}
 use Rattle.book.specs.Conditions.{HasSeenAllAt, IsOwnWork, IsOwnWorkAt, IsRowOf, IsRowSeen, IsRowSeenAt, MayForgetAt, MaySettle, MaySettleAt, MayUseAt}
-use Rattle.book.specs.Desking.{HasClaimed, HasStored, HasWritten, IsKnownOf, IsRowKnown, MayAsk, MayPurge}
+use Rattle.book.specs.Desking.{HasClaimed, HasStored, HasWritten, IsKnownOf, IsRowKnown, MayAsk, IsPurgeKnown}
 use Rattle.book.specs.Desks.{HasLooked, HasMoved, IsSound, KeepsMarks}
-use Rattle.book.specs.Lawful.{IsHeld, IsLawful}
+use Rattle.book.specs.Lawful.{HoldsRowsOf, IsLawful}
 use Rattle.book.specs.Marks.{AreUnderLow}
 use Rattle.book.specs.OwnDesks.{is_claimed, own_view}
 use Rattle.book.specs.Proposals.{IsProposedOf, IsWrittenBy}
@@ -126,7 +126,7 @@ floor-few book =
 
 -- the ids below the floor may be forgotten
 pub may-forget : (book : BookView) (front : ℕ) (name : RowName) (row : Contents) (floor : ℕ) → front ≡ length book.history
-    → IsLawful book.case (core_of book) → MayPurge (own_view book) name row floor → MayForgetAt book front name row floor
+    → IsLawful book.case (core_of book) → IsPurgeKnown (own_view book) name row floor → MayForgetAt book front name row floor
 may-forget book front name row floor whole lawful may =
     let under = may.known in
     let few = floor-few book in
@@ -245,7 +245,7 @@ sound book lawful = record {
   limit = lawful.limit;
   few = lawful.few;
   fenced = lawful.fenced;
-  legal = telling-if book.rows _ (told-then book.rows (IsHeld book.case book.history) _ lawful.held (λ r held. held.legal));
+  legal = telling-if book.rows _ (told-then book.rows (HoldsRowsOf book.case book.history) _ lawful.held (λ r held. held.legal));
   claimed = λ lease is. is_claimed-claimed book.history lease is;
   marks = lawful.marks;
   floor = let few = floor-few book in let room = lawful.few in let limit = lawful.limit in omega (arith, few, room, limit);

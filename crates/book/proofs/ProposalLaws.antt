@@ -36,7 +36,7 @@ use Rattle.history_laws.proofs.FinishedLaws.{waits-unless_finished}
 use Rattle.history_laws.proofs.SeenLaws.{found-more, IsLegalAndFenced-front}
 use Rattle.book.specs.Books.{BookView, LeaseView, core_of}
 use Rattle.run_history.specs.Fits.{fits, suits_part, is_cursor_within, is_sent_before}
-use Rattle.book.specs.Lawful.{IsHeld, IsLawful}
+use Rattle.book.specs.Lawful.{HoldsRowsOf, IsLawful}
 use Rattle.book.specs.Conditions.{MayUseAt, IsRowSeenAt}
 use Rattle.book.specs.Answers.{IsWritten}
 use Rattle.book.specs.declared.answers.Written.{Written}
@@ -250,7 +250,7 @@ next-injected book lease front name row left line item lawful uses seen last roo
           ∙ ap (λ (n : RowName). cursor_in (row_of shape (run_of shape (take front book.history)) n).state) (sym whole);
       of_line = of_line;
     }))
-    (told-then book.rows (IsHeld book.case book.history) _ lawful.held
+    (told-then book.rows (HoldsRowsOf book.case book.history) _ lawful.held
     (λ r _. ap (λ n. deliveries_made shape name.part (productions_of entry) item.late n) (sym (next-length shape book.history))))
 
 -- a handled record
@@ -276,7 +276,7 @@ next-handled book lease front name row left delivery effects lawful uses seen la
     (fits-computed book.case number name row (written_row number entry sent row) effects.productions delivery.item.late suits.0 seen.fit
     suits.1.0 suits.1.1.0 refl))
     (told-then book.rows
-    (λ r. IsHeld book.case book.history r × ((row ≡ row_of shape (run_of shape (known lease.interval lease.seq first)) name) ×
+    (λ r. HoldsRowsOf book.case book.history r × ((row ≡ row_of shape (run_of shape (known lease.interval lease.seq first)) name) ×
     (found_delivery delivery.id (run_of shape first).made ≡ Some delivery))) _
     (told-both book.rows _ _ lawful.held (told-both book.rows _ _ seen.known made))
     (λ r p.
@@ -332,7 +332,7 @@ next-fired book lease front name row left timer mark effects lawful uses seen la
       does = sym (ap (λ (c : Contents). option_map (λ (kind : Kind). effects_of_timer kind name.key c.state timer)
           (kind_of shape name.part)) row-is) ∙ firing.does;
     }))
-    (told-then book.rows (IsHeld book.case book.history) _ lawful.held
+    (told-then book.rows (HoldsRowsOf book.case book.history) _ lawful.held
     (λ r _. ap (λ n. deliveries_made shape name.part effects.productions timer.late n) (sym (next-length shape book.history))))
 
 -- the entry of a proposal may come next

@@ -32,7 +32,7 @@ use Rattle.history_laws.proofs.SeenLaws.{HasSeen-take}
 use Rattle.history_laws.proofs.WorkLaws.{source_mark-followed}
 use Rattle.watermark.specs.Marks.{mark_of, marks_in, marks_of, numbers_in, feeding_marks}
 use Rattle.book.specs.Books.{BookView, LeaseView, core_of}
-use Rattle.book.specs.Lawful.{IsHeld, IsLawful}
+use Rattle.book.specs.Lawful.{HoldsRowsOf, IsLawful}
 use Rattle.book.specs.Conditions.{HasSeenAllAt, IsOwnWorkAt}
 use Rattle.book.specs.Answers.{IsStaleReport}
 use Rattle.book.specs.declared.refusals.Stale.{Stale}
@@ -158,7 +158,7 @@ IsSafeAt-reported book lease front own lawful saw is last = by_told book.rows la
     inputs : ℕ
     inputs = least (feeding_marks book.case.topology lease.interval book.marks)
 
-    by_told : (told : Option Rows) → IfSome told (IsHeld book.case book.history) → IfSome told (λ _. AreSafe book.case run book.marks)
+    by_told : (told : Option Rows) → IfSome told (HoldsRowsOf book.case book.history) → IfSome told (λ _. AreSafe book.case run book.marks)
         → ((b : Bounds) → slice_get (intervals_of book.case.topology) lease.interval ≡ Some b
         → IfSome told (λ _. own ≡ own_work book.case
         (run_of book.case.topology (known lease.interval lease.seq (take front book.history))) b))
@@ -204,8 +204,8 @@ part-bound x part (c ∷ cs) (m ∷ ms) (suc k) b long each at of =
 pub are-under_low : (book : BookView) → IsLawful book.case (core_of book)
     → IfSome book.rows (λ _. AreUnderLow book.case (run_of book.case.topology book.history) book.marks)
 are-under_low book lawful =
-    told-then book.rows (λ r. IsHeld book.case book.history r × AreSafe book.case (run_of book.case.topology book.history) book.marks) _
-    (told-both book.rows (IsHeld book.case book.history) _ lawful.held lawful.safe)
+    told-then book.rows (λ r. HoldsRowsOf book.case book.history r × AreSafe book.case (run_of book.case.topology book.history) book.marks) _
+    (told-both book.rows (HoldsRowsOf book.case book.history) _ lawful.held lawful.safe)
     (λ r p part there.
     let marks = marks_of book.case.topology part book.marks in
     let x = least marks in

@@ -33,7 +33,7 @@ use Rattle.history_laws.proofs.SeenLaws.{MayFollow-seen, HasSeen-take, IsLegalAn
 use Rattle.book.specs.Books.{BookView, LeaseView, core_of}
 use Rattle.run_history.specs.Fits.{fits, suits_part, is_cursor_within}
 use Rattle.computations.specs.Handlers.{has_kind}
-use Rattle.book.specs.Lawful.{IsHeld, IsLawful}
+use Rattle.book.specs.Lawful.{HoldsRowsOf, IsLawful}
 use Rattle.book.specs.Conditions.{MayUseAt, IsRowSeenAt, MaySettleAt, MayForgetAt}
 use Rattle.book.specs.Answers.{IsWritten}
 use Rattle.book.specs.declared.answers.Written.{Written}
@@ -147,9 +147,9 @@ IsNext-seen book lease front name entry row left sent lawful uses seen last room
       few = few;
       line = line;
       fit = fit;
-      may = told-then book.rows (λ r. IsHeld book.case book.history r × MayFollow book.case
+      may = told-then book.rows (λ r. HoldsRowsOf book.case book.history r × MayFollow book.case
           (run_of shape (take front book.history)) entry) _
-          (told-both book.rows (IsHeld book.case book.history) _ lawful.held may)
+          (told-both book.rows (HoldsRowsOf book.case book.history) _ lawful.held may)
           (λ r p. may-whole book lease front name entry lawful uses last written carries p.0.legal p.1);
       of_history = told-then book.rows
           (λ r. (row ≡ row_of shape (run_of shape (known lease.interval lease.seq (take front book.history))) name)
@@ -171,7 +171,7 @@ may-settle book lease front name row id lawful uses seen settles last =
     let shape = book.case.topology in
     let split = take-append-drop front book.history in
     told-then book.rows
-    (λ r. IsHeld book.case book.history r × ((row ≡ row_of shape (run_of shape (known lease.interval lease.seq (take front book.history)))
+    (λ r. HoldsRowsOf book.case book.history r × ((row ≡ row_of shape (run_of shape (known lease.interval lease.seq (take front book.history)))
     name) × (is_handled id (take front book.history) ≡ true))) _
     (told-both book.rows _ _ lawful.held (told-both book.rows _ _ seen.known settles.handled))
     (λ r p.
@@ -196,7 +196,7 @@ IsNext-settled book lease front name row left id lawful uses seen settles last r
     (fits-less book.case (length book.history) name row (written_row (length book.history) (Ack lease.seq name id) [] row)
     (λ (d : Delivery). not (same_id d.id id)) seen.fit refl refl refl))
     (may-settle book lease front name row id lawful uses seen settles last)
-    (told-then book.rows (IsHeld book.case book.history) _ lawful.held (λ r _. refl))
+    (told-then book.rows (HoldsRowsOf book.case book.history) _ lawful.held (λ r _. refl))
 
 -- ---- purging
 
@@ -230,7 +230,7 @@ IsNext-purged book lease front name row left floor lawful uses seen raises last 
     (subst (λ (c : Contents). fits book.case (length book.history + 1) name c ≡ true) (sym leaves)
     (fits-later book.case (length book.history) name row seen.fit))
     (may-raise book lease front name row floor uses seen raises last)
-    (told-then book.rows (IsHeld book.case book.history) _ lawful.held (λ r _. refl))
+    (told-then book.rows (HoldsRowsOf book.case book.history) _ lawful.held (λ r _. refl))
 
 -- ---- what a write answers
 

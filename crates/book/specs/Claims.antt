@@ -14,7 +14,7 @@ use Rattle.row_keeper.specs.declared.keeper.KeptRow.{KeptRow}
 use Rattle.run_history.specs.Cases.{CaseShape, intervals_of}
 use Rattle.run_history.specs.Runs.{run_of}
 use Rattle.run_history.specs.Fits.{fits}
-use Rattle.book.specs.Lawful.{IsKept}
+use Rattle.book.specs.Lawful.{IsKeepable}
 use Rattle.book.specs.declared.answers.NamedRow.{NamedRow}
 use Rattle.book.specs.declared.refusals.ClaimRefusal.{ClaimRefusal}
 use Rattle.book.specs.declared.refusals.ClaimRefusal.TheVariants as refusals
@@ -48,7 +48,7 @@ pub record AreRowsOf {X : Type 0} (case : CaseShape) (told : Option X) (history 
 -- Where a contract can see the keeper's rows, none is damaged
 pub record IsDamagedRow {X : Type 0} (case : CaseShape) (told : Option X) (number : ℕ) (name : RowName)
     (bytes : List ℕ) : Type 0 where
-  pub no_row : (row : Contents) → IsKept case number (name, row) → bytes ≢ spelling_of row
+  pub no_row : (row : Contents) → IsKeepable case number (name, row) → bytes ≢ spelling_of row
   pub untold : IfSome told (λ _. ⊥)
 
 -- where a row is said to be damaged, it is
@@ -69,7 +69,7 @@ pub record IsFirstDamaged (case : CaseShape) (number : ℕ) (all : Rows) (name :
     (bytes : List ℕ) : Type 0 where
   pub before : List (RowName × Contents)
   pub after : Rows
-  pub kept : AllByRecursion (IsKept case number) before
+  pub kept : AllByRecursion (IsKeepable case number) before
   pub there : all ≡ map spelled before ++ (name, bytes) ∷ after
 
 -- where a row is said to be damaged, it is the first of these rows that is
@@ -87,7 +87,7 @@ AreWithin case interval found = (bounds : Bounds) →
 -- where the bytes are those of rows that can be kept, they are these rows
 pub record IsRead (case : CaseShape) (number : ℕ) (found : List KeptRow) (done : List NamedRow)
     (at : ℕ) : Type 0 where
-  pub kept : AllByRecursion (IsKept case number) (map named done)
+  pub kept : AllByRecursion (IsKeepable case number) (map named done)
   pub bytes : map bytes_named done ≡ take at (map entry_of found)
-  pub only : (rows : List (RowName × Contents)) → AllByRecursion (IsKept case number) rows →
+  pub only : (rows : List (RowName × Contents)) → AllByRecursion (IsKeepable case number) rows →
       map entry_of found ≡ map spelled rows → map named done ≡ take at rows

@@ -49,7 +49,7 @@ IsKnownOf desk name (proposals.Fire timer mark effects) = IsDueKnown desk name.p
 
 -- a row may forget the ids below a floor: the floor is above the row's, and at most the known one; where
 -- told the row is there
-pub record MayPurge (desk : DeskView) (name : RowName) (row : Contents) (floor : ℕ) : Type 0 where
+pub record IsPurgeKnown (desk : DeskView) (name : RowName) (row : Contents) (floor : ℕ) : Type 0 where
   pub rises : row.floor < floor
   pub known : floor ≤ desk.floor
   pub there : IfSome desk.told (λ _. IsSome (row_in (run_of desk.case.topology desk.seen) name))

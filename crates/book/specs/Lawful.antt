@@ -25,15 +25,15 @@ use Rattle.book.specs.Senders.{AreSenders}
 use Rattle.book.specs.Marks.{AreSafe}
 
 -- a row of a history of this length can be kept: it has bytes of its own, and fits its name
-pub record IsKept (case : CaseShape) (number : ℕ) (r : RowName × Contents) : Type 0 where
+pub record IsKeepable (case : CaseShape) (number : ℕ) (r : RowName × Contents) : Type 0 where
   pub spelled : IsSpelledRow r.1
   pub fit : fits case number r.0 r.1 ≡ true
 
 -- a keeper holds the rows of a legal history, and no others
-pub record IsHeld (case : CaseShape) (history : List Entry) (rows : Rows) : Type 0 where
+pub record HoldsRowsOf (case : CaseShape) (history : List Entry) (rows : Rows) : Type 0 where
   pub legal : IsLegal case history
   pub stored : rows ≡ stored_rows (run_of case.topology history)
-  pub kept : AllByRecursion (IsKept case (length history)) (run_of case.topology history).rows
+  pub kept : AllByRecursion (IsKeepable case (length history)) (run_of case.topology history).rows
 
 -- only intervals that are there were claimed
 abbrev pub AreClaimsThere : Shape → List Entry → Type 0
@@ -51,7 +51,7 @@ pub record IsLawful (case : CaseShape) (core : CoreView) : Type 0 where
   pub claims : AreClaimsThere case.topology core.history
   pub printable : IsPrintable case.topology core.history
   pub lines : All HasLine core.history
-  pub held : IfSome core.rows (IsHeld case core.history)
+  pub held : IfSome core.rows (HoldsRowsOf case core.history)
   -- what the book counts as left is the work that is left
   pub left : IfSome core.rows (λ _. core.work ≡ unfinished case (run_of case.topology core.history))
   -- what it has as unacknowledged is what is pending in the rows of the history

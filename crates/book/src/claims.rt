@@ -10,7 +10,7 @@ ghost use Rattle.row_parts.specs.Spelling.{spelling_of};
 ghost use Rattle.row_keeper.specs.Rows.{AreInOrder, entry_of};
 ghost use Rattle.run_history.specs.Legal.{MayClaim};
 ghost use Rattle.run_history.specs.Fits.{fits};
-ghost use Rattle.book.specs.Lawful.{IsKept};
+ghost use Rattle.book.specs.Lawful.{IsKeepable};
 ghost use Rattle.book.specs.Answers.{HasStayed, IsSameBook};
 ghost use Rattle.book.specs.Claims.{AreRowsOf, AreWithin, IsDamaged, IsFirstDamage, IsFoundWithin, bytes_named, named, spelled};
 ghost use Rattle.book.specs.declared.answers.NamedRow.{NamedRow};
@@ -125,17 +125,18 @@ fn decoded(
     number: u64,
     found: &[KeptRow],
 ) -> Result<NamedRowList, ClaimRefusal>
-    ensures kept { IfOk result (λ rows. AllByRecursion (IsKept case.now number) (map named rows)) }
+    ensures kept { IfOk result (λ rows.
+        AllByRecursion (IsKeepable case.now number) (map named rows)) }
     ensures spelled { IfOk result (λ rows. map bytes_named rows ≡ map entry_of found.now) }
     ensures first { IfErr result (IsFirstDamage case.now number (map entry_of found.now)) }
     ensures only { (rows : List (RowName × Contents)) → AllByRecursion
-        (IsKept case.now number) rows →
+        (IsKeepable case.now number) rows →
         map entry_of found.now ≡ map spelled rows →
         MatchResult result (λ answered. map named answered ≡ rows)
         (λ why. why ≡ refusals.NoMemory) }
     ensures damaged { (name : RowName) (bytes : List ℕ) → IsErrOf result
         (refusals.RowDamaged name bytes) →
-        (row : Contents) → IsKept case.now number (name, row) → bytes ≢ spelling_of row }
+        (row : Contents) → IsKeepable case.now number (name, row) → bytes ≢ spelling_of row }
     ensures not_full { IsErrOf result ClaimRefusal.HistoryFull → ⊥ }
     ensures no_fault { IsErrOf result ClaimRefusal.KeeperFault → ⊥ }
 {
@@ -156,16 +157,16 @@ fn row_named(
     number: u64,
     kept: &KeptRow,
 ) -> Result<NamedRow, ClaimRefusal>
-    ensures kept { IfOk result (λ r. IsKept case.now number (named r)) }
+    ensures kept { IfOk result (λ r. IsKeepable case.now number (named r)) }
     ensures spelled { IfOk result (λ r. bytes_named r ≡ entry_of kept.now) }
     ensures this { IfErr result (λ why. why ≢ refusals.NoMemory →
         why ≡ refusals.RowDamaged kept.now.name kept.now.bytes) }
-    ensures only { (row : Contents) → IsKept case.now number (kept.now.name, row) → kept.now.bytes
-        ≡ spelling_of row →
+    ensures only { (row : Contents) → IsKeepable case.now number (kept.now.name, row) →
+        kept.now.bytes ≡ spelling_of row →
         MatchResult result (λ r. named r ≡ (kept.now.name, row)) (λ why. why ≡ refusals.NoMemory) }
     ensures damaged { (name : RowName) (bytes : List ℕ) → IsErrOf result
         (refusals.RowDamaged name bytes) →
-        (row : Contents) → IsKept case.now number (name, row) → bytes ≢ spelling_of row }
+        (row : Contents) → IsKeepable case.now number (name, row) → bytes ≢ spelling_of row }
     ensures not_full { IsErrOf result ClaimRefusal.HistoryFull → ⊥ }
     ensures no_fault { IsErrOf result ClaimRefusal.KeeperFault → ⊥ }
 {

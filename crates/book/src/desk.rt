@@ -6,7 +6,7 @@ ghost use Rattle.run_history.specs.Legal.{MayClaim};
 ghost use Rattle.run_history.specs.Runs.{written_row};
 ghost use Rattle.watermark.specs.Marks.{mark_of};
 ghost use Rattle.book.specs.Conditions.{IsOwnWork, MaySettle};
-ghost use Rattle.book.specs.Desking.{HasClaimed, HasStored, HasWritten, IsKnownOf, IsReported, IsRowKnown, MayAsk, MayPurge};
+ghost use Rattle.book.specs.Desking.{HasClaimed, HasStored, HasWritten, IsKnownOf, IsReported, IsRowKnown, MayAsk, IsPurgeKnown};
 ghost use Rattle.book.specs.DeskReasons.{HasClaimReason, HasReason, IsReportRefusal};
 ghost use Rattle.book.specs.Desks.{DeskView, HasLooked, HasMet, Home, IsNoteOf, IsSound, KeepsMarks, Sight};
 ghost use Rattle.book.specs.Proposals.{IsProposable};
@@ -115,7 +115,7 @@ pub trait Desk: Drop {
     ) -> Result<Written, DeskRefusal>
         requires lease { MayAsk (view self.old) lease.now name.now }
         requires row { IsRowKnown (view self.old) lease.now name.now row.now }
-        requires floor { MayPurge (view self.old) name.now row.now floor }
+        requires floor { IsPurgeKnown (view self.old) name.now row.now floor }
 
         ensures written { let entry = Purge lease.now.seq name.now floor in
             IfOk result (HasStored (view self.old) (view self.new) lease.now name.now entry row.now

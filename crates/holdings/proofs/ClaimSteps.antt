@@ -34,10 +34,10 @@ use Rattle.book.specs.Desking.{HasClaimed}
 use Rattle.book.specs.Desks.{DeskView, IsSound}
 use Rattle.book.specs.declared.answers.Claimed.{Claimed}
 use Rattle.book.specs.declared.answers.NamedRow.{NamedRow}
-use Rattle.holdings.specs.Holding.{AreHeld, AreRowsHeld, HeldView, KeepsHeld, KeepsOthers, held_at, row_held}
+use Rattle.holdings.specs.Holding.{AreAllHeld, AreRowsHeld, HeldView, KeepsHeld, KeepsOthers, held_at, row_held}
 use Rattle.holdings.specs.Steps.{KeepsAll}
 use Rattle.holdings.proofs.HeldRows.{AreKnown, AreRowsHeld-more, told-so}
-use Rattle.holdings.proofs.HeldSteps.{AreHeld-here}
+use Rattle.holdings.proofs.HeldSteps.{AreAllHeld-here}
 
 -- what holds of each row that was answered, and of a fresh one, holds of the one that is found under a name
 found-each : (P : RowName → Contents → Type 0) (name : RowName) (d : Contents) (rows : List NamedRow)
@@ -151,9 +151,9 @@ module _ (case : CaseShape) (old new : DeskView) (worker interval : ℕ) (bounds
       claimed.moved.told are
 
   -- all that is held fits, with what was answered in its place
-  pub AreHeld-claimed : (all after : List (Option HeldView)) → held_at after interval ≡ Some (claimed_view answer)
-      → KeepsOthers interval all after → AreHeld case old all → AreHeld case new after
-  AreHeld-claimed all after here others are = AreHeld-here case new after interval (claimed_view answer) here
+  pub AreAllHeld-claimed : (all after : List (Option HeldView)) → held_at after interval ≡ Some (claimed_view answer)
+      → KeepsOthers interval all after → AreAllHeld case old all → AreAllHeld case new after
+  AreAllHeld-claimed all after here others are = AreAllHeld-here case new after interval (claimed_view answer) here
       (record { of_interval = lease_interval; may_use = claimed.may_use; rows = AreRowsHeld-claimed })
       (λ j held apart is.
       let before = are.each j held (sym (others j apart) ∙ is) in record {

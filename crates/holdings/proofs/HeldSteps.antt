@@ -20,7 +20,7 @@ use Rattle.book.specs.Desking.{IsRowKnown, MayAsk}
 use Rattle.book.specs.Desks.{DeskView, HasLooked, IsSound}
 use Rattle.book.specs.declared.answers.Written.{Written}
 use Rattle.book.specs.declared.desk_refusal.DeskRefusal.{DeskRefusal}
-use Rattle.holdings.specs.Holding.{AreHeld, HasSeenOthers, HeldView, HoldsEntry, IsHeld, KeepsHeld, KeepsOthers, held_at, row_held, with_row}
+use Rattle.holdings.specs.Holding.{AreAllHeld, HasSeenOthers, HeldView, HoldsEntry, IsHeld, KeepsHeld, KeepsOthers, held_at, row_held, with_row}
 use Rattle.holdings.specs.Steps.{IsReady, KeepsAll}
 use Rattle.holdings.proofs.HeldRows.{AreRowsHeld-cached, AreRowsHeld-elsewhere, AreRowsHeld-entered, AreRowsHeld-looked, AreRowsHeld-more, HasEntered, found-here, held-known, row_held-same}
 use Rattle.holdings.proofs.HeldPlaces.{held-here, held-others, held-within, number_or_not}
@@ -47,9 +47,9 @@ with_row-again name one two held = λ i. record { lease = held.lease; rows = ins
 -- ---- without an entry of its own
 
 -- all that is held still fits after a call without an entry of its own
-pub AreHeld-looked : (case : CaseShape) (old new : DeskView) (all after : List (Option HeldView)) → old.case ≡ case → IsSound old
-    → IsSound new → HasLooked old new → KeepsAll all after → AreHeld case old all → AreHeld case new after
-AreHeld-looked case old new all after same sound now looked stay are = record {
+pub AreAllHeld-looked : (case : CaseShape) (old new : DeskView) (all after : List (Option HeldView)) → old.case ≡ case → IsSound old
+    → IsSound new → HasLooked old new → KeepsAll all after → AreAllHeld case old all → AreAllHeld case new after
+AreAllHeld-looked case old new all after same sound now looked stay are = record {
   each = λ i held is.
       let before = are.each i held (sym (stay i) ∙ is) in record {
         of_interval = before.of_interval;
@@ -59,9 +59,9 @@ AreHeld-looked case old new all after same sound now looked stay are = record {
 }
 
 -- all that is held fits beside a worker that acts
-pub AreHeld-beside : (case : CaseShape) (old new : DeskView) (all : List (Option HeldView)) → IsSound old → IsSound new → old.case ≡ case
-    → HasSeenOthers old new all → AreHeld case old all → AreHeld case new all
-AreHeld-beside case old new all sound now same others are = record {
+pub AreAllHeld-beside : (case : CaseShape) (old new : DeskView) (all : List (Option HeldView)) → IsSound old → IsSound new → old.case ≡ case
+    → HasSeenOthers old new all → AreAllHeld case old all → AreAllHeld case new all
+AreAllHeld-beside case old new all sound now same others are = record {
   each = λ i held is.
       let before = are.each i held is in record {
         of_interval = before.of_interval;
@@ -73,9 +73,9 @@ AreHeld-beside case old new all sound now same others are = record {
 }
 
 -- what is held of fewer intervals fits
-pub AreHeld-fewer : (case : CaseShape) (desk : DeskView) (all after : List (Option HeldView)) (i : ℕ) → held_at after i ≡ None
-    → KeepsOthers i all after → AreHeld case desk all → AreHeld case desk after
-AreHeld-fewer case desk all after i gone others are = record {
+pub AreAllHeld-fewer : (case : CaseShape) (desk : DeskView) (all after : List (Option HeldView)) (i : ℕ) → held_at after i ≡ None
+    → KeepsOthers i all after → AreAllHeld case desk all → AreAllHeld case desk after
+AreAllHeld-fewer case desk all after i gone others are = record {
   each = λ j held is. elim (number_or_not i j) [
     | inl same ↦ absurd (none_some held (sym gone ∙ sym (ap (held_at after) same) ∙ is))
     | inr apart ↦ are.each j held (sym (others j apart) ∙ is)
@@ -83,15 +83,15 @@ AreHeld-fewer case desk all after i gone others are = record {
 }
 
 -- what is held fits where nothing is
-pub AreHeld-none : (case : CaseShape) (desk : DeskView) → AreHeld case desk []
-AreHeld-none case desk = record { each = λ i held is. absurd (none_some held is) }
+pub AreAllHeld-none : (case : CaseShape) (desk : DeskView) → AreAllHeld case desk []
+AreAllHeld-none case desk = record { each = λ i held is. absurd (none_some held is) }
 
 -- ---- an entry on a row
 
 -- what is held of one interval fits, and what else is held fits
-pub AreHeld-here : (case : CaseShape) (desk : DeskView) (after : List (Option HeldView)) (i : ℕ) (left : HeldView) → held_at after i ≡ Some left
-    → IsHeld case desk i left → ((j : ℕ) (held : HeldView) → j ≢ i → held_at after j ≡ Some held → IsHeld case desk j held) → AreHeld case desk after
-AreHeld-here case desk after i left here fits others = record {
+pub AreAllHeld-here : (case : CaseShape) (desk : DeskView) (after : List (Option HeldView)) (i : ℕ) (left : HeldView) → held_at after i ≡ Some left
+    → IsHeld case desk i left → ((j : ℕ) (held : HeldView) → j ≢ i → held_at after j ≡ Some held → IsHeld case desk j held) → AreAllHeld case desk after
+AreAllHeld-here case desk after i left here fits others = record {
   each = λ j held is. elim (number_or_not i j) [
     | inl same ↦ subst (λ n. IsHeld case desk n held) (sym same)
         (subst (IsHeld case desk i) (some_same left held (sym here ∙ sym (ap (held_at after) same) ∙ is)) fits)
@@ -111,7 +111,7 @@ ok-so P Q (Err e) so is = tt
 
 module _ (case : CaseShape) (desk : DeskView) (all mid : List (Option HeldView)) (i : ℕ) (name : RowName) (left : HeldView)
     (lies : interval_of case.topology name ≡ Some i) (ready : IsReady case.topology i name all mid) (at : held_at mid i ≡ Some left)
-    (are : AreHeld case desk all) where
+    (are : AreAllHeld case desk all) where
   -- what is held has the row cached, as it was
   pub left-ready : left ≡ with_row name (row_held case.topology ready.held name) ready.held
   left-ready = some_same left (with_row name (row_held case.topology ready.held name) ready.held)
@@ -174,7 +174,7 @@ module _ (case : CaseShape) (desk : DeskView) (all mid : List (Option HeldView))
 
 module _ (case : CaseShape) (old new : DeskView) (all mid after : List (Option HeldView)) (i : ℕ) (name : RowName) (left : HeldView)
     (lies : interval_of case.topology name ≡ Some i) (ready : IsReady case.topology i name all mid) (at : held_at mid i ≡ Some left)
-    (are : AreHeld case old all) (others : KeepsOthers i mid after) (lease : LeaseView) (lease_is : lease ≡ left.lease) where
+    (are : AreAllHeld case old all) (others : KeepsOthers i mid after) (lease : LeaseView) (lease_is : lease ≡ left.lease) where
   -- what is held of the interval fits before the entry
   fits : IsHeld case old i left
   fits = IsHeld-ready case old all mid i name left lies ready at are
@@ -196,9 +196,9 @@ module _ (case : CaseShape) (old new : DeskView) (all mid after : List (Option H
       (λ (w : Written). held_at after i ≡ Some (with_row name w.row held)) (λ _. held_at after i ≡ Some held))) at here
 
   -- all that is held fits after an entry on the row
-  AreHeld-entered : old.case ≡ case → IsSound old → IsSound new → (answer : Written) → held_at after i ≡ Some (with_row name answer.row left)
-      → HasEntered old new left.lease name answer → AreHeld case new after
-  AreHeld-entered same sound now answer here by = AreHeld-here case new after i (with_row name answer.row left) here
+  AreAllHeld-entered : old.case ≡ case → IsSound old → IsSound new → (answer : Written) → held_at after i ≡ Some (with_row name answer.row left)
+      → HasEntered old new left.lease name answer → AreAllHeld case new after
+  AreAllHeld-entered same sound now answer here by = AreAllHeld-here case new after i (with_row name answer.row left) here
       (record {
         of_interval = fits.of_interval;
         may_use = by.moved.leases left.lease fits.may_use;
@@ -214,17 +214,17 @@ module _ (case : CaseShape) (old new : DeskView) (all mid after : List (Option H
       })
 
   -- all that is held fits after a refusal
-  AreHeld-refused : old.case ≡ case → IsSound old → IsSound new → held_at after i ≡ Some left → HasLooked old new → AreHeld case new after
-  AreHeld-refused same sound now here looked = AreHeld-looked case old new after after same sound now looked (λ j. refl)
-      (AreHeld-here case old after i left here fits (λ j held apart is. are.each j held (sym (kept-others j apart) ∙ is)))
+  AreAllHeld-refused : old.case ≡ case → IsSound old → IsSound new → held_at after i ≡ Some left → HasLooked old new → AreAllHeld case new after
+  AreAllHeld-refused same sound now here looked = AreAllHeld-looked case old new after after same sound now looked (λ j. refl)
+      (AreAllHeld-here case old after i left here fits (λ j held apart is. are.each j held (sym (kept-others j apart) ∙ is)))
 
   -- all that is held fits after a write, whatever was answered
-  pub AreHeld-kept : old.case ≡ case → IsSound old → IsSound new → (written : Result Written DeskRefusal)
+  pub AreAllHeld-kept : old.case ≡ case → IsSound old → IsSound new → (written : Result Written DeskRefusal)
       → IfSome (held_at mid i) (λ held. MatchResult written (λ (w : Written). held_at after i ≡ Some (with_row name w.row held))
-      (λ _. held_at after i ≡ Some held)) → IfOk written (HasEntered old new lease name) → OnErr written (HasLooked old new) → AreHeld case new after
-  AreHeld-kept same sound now (Ok answer) here by looked = AreHeld-entered same sound now answer (kept-here (Ok answer) here)
+      (λ _. held_at after i ≡ Some held)) → IfOk written (HasEntered old new lease name) → OnErr written (HasLooked old new) → AreAllHeld case new after
+  AreAllHeld-kept same sound now (Ok answer) here by looked = AreAllHeld-entered same sound now answer (kept-here (Ok answer) here)
       (subst (λ (l : LeaseView). HasEntered old new l name answer) lease_is by)
-  AreHeld-kept same sound now (Err why) here by looked = AreHeld-refused same sound now (kept-here (Err why) here) looked
+  AreAllHeld-kept same sound now (Err why) here by looked = AreAllHeld-refused same sound now (kept-here (Err why) here) looked
 
   -- a refused write keeps what is held
   pub KeepsHeld-refused : (written : Result Written DeskRefusal) (result : Result ℕ DeskRefusal)

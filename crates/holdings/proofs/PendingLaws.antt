@@ -15,7 +15,7 @@ use Rattle.history_laws.proofs.RowSteps.{same_row}
 use Rattle.book.specs.Claims.{named}
 use Rattle.book.specs.declared.answers.NamedRow.{NamedRow}
 use Rattle.holdings.specs.Caching.{AreOrdered, merged}
-use Rattle.holdings.specs.Pendings.{ArePendingIn, IsPendingIn, sent_in, sent_of}
+use Rattle.holdings.specs.Pendings.{ArePendingAmong, IsPendingAmong, sent_in, sent_of}
 use Rattle.holdings.specs.declared.pending.Sent.{Sent}
 use Rattle.holdings.proofs.CacheLaws.{lookup-merged}
 use Rattle.holdings.proofs.FirstLaws.{each-merged}
@@ -30,11 +30,11 @@ contains-map f (y ∷ ys) x (suc k, within, at) =
 
 -- what is pending in rows that are found is pending
 sent-each : (rows es : List (RowName × Contents)) → AllByRecursion (λ (e : RowName × Contents). lookup (is_at (row_cmp e.0)) rows ≡ Some e.1) es
-    → AllByRecursion (IsPendingIn rows) (flat_map sent_in es)
+    → AllByRecursion (IsPendingAmong rows) (flat_map sent_in es)
 sent-each rows [] each = tt
-sent-each rows (e ∷ es) each = each-append (IsPendingIn rows) (sent_in e) (flat_map sent_in es)
-    (each-map (IsPendingIn rows) (sent_of e.0) e.1.pending
-    (each-weaker (Contains e.1.pending) (λ (d : Delivery). IsPendingIn rows (sent_of e.0 d))
+sent-each rows (e ∷ es) each = each-append (IsPendingAmong rows) (sent_in e) (flat_map sent_in es)
+    (each-map (IsPendingAmong rows) (sent_of e.0) e.1.pending
+    (each-weaker (Contains e.1.pending) (λ (d : Delivery). IsPendingAmong rows (sent_of e.0 d))
     (λ d has. record { row = e.1; there = each.0; pending = has }) e.1.pending
     (recursion_from_All (Contains e.1.pending) e.1.pending (All-contains_itself e.1.pending))))
     (sent-each rows es each.1)
@@ -55,10 +55,10 @@ sent-all (e ∷ es) one row found has =
 
 -- all that is pending in the rows of a list and in those beside it
 pub pending-merged : (answered : List NamedRow) (others : List (RowName × Contents)) (sent : List Sent) → AreOrdered answered others
-    → sent ≡ flat_map sent_in (map named answered) ++ flat_map sent_in others → ArePendingIn (merged answered others) sent
-pending-merged answered others sent are is = subst (ArePendingIn (merged answered others))
+    → sent ≡ flat_map sent_in (map named answered) ++ flat_map sent_in others → ArePendingAmong (merged answered others) sent
+pending-merged answered others sent are is = subst (ArePendingAmong (merged answered others))
     (sym (is ∙ sym (flat_map-append sent_in (map named answered) others))) (record {
-      each = All-from_recursion (IsPendingIn (merged answered others)) (flat_map sent_in (map named answered ++ others))
+      each = All-from_recursion (IsPendingAmong (merged answered others)) (flat_map sent_in (map named answered ++ others))
           (sent-each (merged answered others) (map named answered ++ others) (each-merged answered others are));
       all = λ one has. sent-all (map named answered ++ others) one has.row (sym (lookup-merged one.sender answered others) ∙ has.there) has.pending;
     })

@@ -69,7 +69,7 @@ pub record IsHeld (case : CaseShape) (desk : DeskView) (interval : ℕ) (held : 
   pub rows : AreRowsHeld case desk held
 
 -- all that is held fits a desk
-pub record AreHeld (case : CaseShape) (desk : DeskView) (all : List (Option HeldView)) : Type 0 where
+pub record AreAllHeld (case : CaseShape) (desk : DeskView) (all : List (Option HeldView)) : Type 0 where
   pub each : (interval : ℕ) (held : HeldView) → held_at all interval ≡ Some held →
       IsHeld case desk interval held
 

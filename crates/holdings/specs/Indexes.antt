@@ -24,12 +24,12 @@ work_of row = least (row_marks row)
 -- the end, both have the same sum
 pub record AreStamps (rows : List (RowName × Contents)) (stamps : List ℕ) : Type 0 where
   pub sums : (weigh : ℕ → ℕ) → weigh END ≡ 0 →
-    sum_by weigh stamps ≡ sum_by (λ row. weigh (work_of row)) (values_of rows)
+      sum_by weigh stamps ≡ sum_by (λ row. weigh (work_of row)) (values_of rows)
 
 -- there is one stamp more, and this one less, where there is one; the end is no stamp
 pub record HasRestamped (before : Option ℕ) (after : ℕ) (old new : List ℕ) : Type 0 where
   pub sums : (weigh : ℕ → ℕ) → weigh END ≡ 0 →
-    sum_by weigh new + unwrap_or (option_map weigh before) 0 ≡ sum_by weigh old + weigh after
+      sum_by weigh new + unwrap_or (option_map weigh before) 0 ≡ sum_by weigh old + weigh after
 
 -- there is one stamp less, unless it is the end
 pub record HasUnstamped (stamp : ℕ) (old new : List ℕ) : Type 0 where
@@ -38,12 +38,12 @@ pub record HasUnstamped (stamp : ℕ) (old new : List ℕ) : Type 0 where
 -- there is one stamp more for each row that has work
 pub record HasStamped (rows : List (RowName × Contents)) (old new : List ℕ) : Type 0 where
   pub sums : (weigh : ℕ → ℕ) → weigh END ≡ 0 →
-    sum_by weigh new ≡ sum_by weigh old + sum_by (λ row. weigh (work_of row)) (values_of rows)
+      sum_by weigh new ≡ sum_by weigh old + sum_by (λ row. weigh (work_of row)) (values_of rows)
 
 -- what is there, with a stamp for each row that is left, is what was there with a stamp for each row of all
 pub record AreLeft (left all : List (RowName × Contents)) (now start : List ℕ) : Type 0 where
   pub sums : (weigh : ℕ → ℕ) → weigh END ≡ 0 →
-    sum_by weigh now + sum_by (λ row. weigh (work_of row)) (values_of left)
+      sum_by weigh now + sum_by (λ row. weigh (work_of row)) (values_of left)
       ≡ sum_by weigh start + sum_by (λ row. weigh (work_of row)) (values_of all)
 
 -- ---- the index

@@ -28,7 +28,7 @@ pub record AreKeys {K : Type 0} (cmp : K → K → Ordering) (place : K → RowN
     (keys : List (K × Unit {0})) : Type 0 where
   pub ordered : IsStrictlySortedBy cmp (keys_of keys)
   pub each : (k : K) →
-    is_some (lookup (is_at (cmp k)) keys) ≡ has_key cmp key k (place k) (row_in (cached rows) (place k))
+      is_some (lookup (is_at (cmp k)) keys) ≡ has_key cmp key k (place k) (row_in (cached rows) (place k))
 
 -- the keys ascend, and one is there, if there is one, and another is not, if there is one
 pub record HasRekeyed {K : Type 0} (cmp : K → K → Ordering) (before after : Option K)

@@ -9,15 +9,15 @@ use Rattle.run_history.specs.Runs.{cached, row_in}
 use Rattle.holdings.specs.declared.pending.Sent.{Sent}
 
 -- a delivery is pending in the row that sent it
-pub record IsPendingIn (rows : List (RowName × Contents)) (sent : Sent) : Type 0 where
+pub record IsPendingAmong (rows : List (RowName × Contents)) (sent : Sent) : Type 0 where
   pub row : Contents
   pub there : row_in (cached rows) sent.sender ≡ Some row
   pub pending : Contains row.pending sent.delivery
 
 -- all that is pending in some rows, and nothing else
-pub record ArePendingIn (rows : List (RowName × Contents)) (sent : List Sent) : Type 0 where
-  pub each : All (IsPendingIn rows) sent
-  pub all : (one : Sent) → IsPendingIn rows one → Contains sent one
+pub record ArePendingAmong (rows : List (RowName × Contents)) (sent : List Sent) : Type 0 where
+  pub each : All (IsPendingAmong rows) sent
+  pub all : (one : Sent) → IsPendingAmong rows one → Contains sent one
 
 -- ---- what no public clause cites
 

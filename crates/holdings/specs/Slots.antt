@@ -32,9 +32,9 @@ pub record IsPlaceOf (rows : List NamedRow) (name : RowName) (at : ℕ) : Type 0
 pub record AreSlots (rows : List NamedRow) (places : List (RowName × ℕ)) : Type 0 where
   pub ordered : IsStrictlySortedBy row_cmp (keys_of places)
   pub there : (name : RowName) (at : ℕ) → lookup (is_at (row_cmp name)) places ≡ Some at →
-    IsPlaceOf rows name at
+      IsPlaceOf rows name at
   pub back : (name : RowName) (at : ℕ) → IsPlaceOf rows name at →
-    lookup (is_at (row_cmp name)) places ≡ Some at
+      lookup (is_at (row_cmp name)) places ≡ Some at
 
 -- each place is one of a row
 pub record AreWithin (rows : List NamedRow) (places : List (RowName × ℕ)) : Type 0 where

@@ -13,7 +13,7 @@ ghost use Rattle.book.specs.Claims.{named};
 ghost use Rattle.book.specs.declared.answers.NamedRow.{NamedRow};
 ghost use Rattle.holdings.specs.Firsts.{earlier};
 ghost use Rattle.holdings.specs.Indexes.{HasStamped, IsIndexOf};
-ghost use Rattle.holdings.specs.Pendings.{ArePendingIn, sent_in};
+ghost use Rattle.holdings.specs.Pendings.{ArePendingAmong, sent_in};
 ghost use Rattle.holdings.specs.Purges.{IsFirstToPurge, by_name, forgets, seen_name};
 ghost use Rattle.holdings.specs.Dues.{due_of, due_order};
 ghost use Rattle.holdings.specs.Keyed.{HasKeyed};
@@ -115,7 +115,7 @@ impl Cache {
 
     // All that is pending in the rows.
     pub(crate) fn pending(&self, alloc: Global) -> Result<SentList, NoMemory>
-        ensures { IfOk result (ArePendingIn self.now) }
+        ensures { IfOk result (ArePendingAmong self.now) }
     {
         let mut sent = SentList::new(alloc);
         push_in(alloc, &mut sent, &self.answered)?;

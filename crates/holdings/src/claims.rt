@@ -4,7 +4,7 @@ ghost use Rattle.run_history.specs.Cases.{CaseShape};
 ghost use Rattle.run_history.specs.Legal.{MayClaim};
 ghost use Rattle.book.specs.DeskReasons.{HasClaimReason};
 ghost use Rattle.book.specs.Desks.{DeskView, HasLooked, IsSound, KeepsMarks};
-ghost use Rattle.holdings.specs.Holding.{AreHeld, HasSeenOthers, HeldView, HoldsClaim, KeepsHeld};
+ghost use Rattle.holdings.specs.Holding.{AreAllHeld, HasSeenOthers, HeldView, HoldsClaim, KeepsHeld};
 
 use crate::held::Held;
 use crate::holdings::Holdings;
@@ -25,10 +25,10 @@ impl Holdings {
         interval: u32,
     ) -> Result<u64, DeskRefusal>
         requires case { (D.view desk.old).case ≡ case.now }
-        requires fits { AreHeld case.now (D.view desk.old) self.old }
+        requires fits { AreAllHeld case.now (D.view desk.old) self.old }
         requires may { MayClaim case.now worker interval }
 
-        ensures fits { AreHeld case.now (D.view desk.new) self.new }
+        ensures fits { AreAllHeld case.now (D.view desk.new) self.new }
         ensures claimed { IfOk result (λ seq.
             HoldsClaim (D.view desk.old) (D.view desk.new) worker interval seq self.old self.new) }
 
@@ -58,5 +58,5 @@ impl Holdings {
 pub fn fits_beside()
     ensures beside { (case : CaseShape) (old new : DeskView) (all : List (Option HeldView)) →
         IsSound old → IsSound new → old.case ≡ case → HasSeenOthers old new all →
-        AreHeld case old all → AreHeld case new all }
+        AreAllHeld case old all → AreAllHeld case new all }
 {}

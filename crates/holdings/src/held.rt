@@ -5,7 +5,7 @@ ghost use Rattle.std.specs.Map.{keys_of};
 ghost use Rattle.mw_types.specs.Orders.{row_cmp};
 ghost use Rattle.run_history.specs.Runs.{cached, row_in};
 ghost use Rattle.holdings.specs.Holding.{row_held, with_row};
-ghost use Rattle.holdings.specs.Pendings.{ArePendingIn};
+ghost use Rattle.holdings.specs.Pendings.{ArePendingAmong};
 ghost use Rattle.holdings.specs.Purges.{IsFirstToPurge};
 ghost use Rattle.holdings.specs.Timers.{IsFirstTimer};
 
@@ -67,7 +67,7 @@ impl Held {
 
     // All that is pending in the rows.
     pub(crate) fn pending(&self, alloc: Global) -> Result<SentList, NoMemory>
-        ensures { IfOk result (ArePendingIn self.now.rows) }
+        ensures { IfOk result (ArePendingAmong self.now.rows) }
     {
         self.rows.pending(alloc)
     }

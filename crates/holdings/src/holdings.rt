@@ -8,7 +8,7 @@ ghost use Rattle.run_history.specs.Cases.{CaseShape};
 ghost use Rattle.run_history.specs.Runs.{cached, row_in};
 ghost use Rattle.book.specs.Desks.{DeskView};
 ghost use Rattle.book.specs.declared.answers.Written.{Written};
-ghost use Rattle.holdings.specs.Holding.{AreHeld, HeldView, KeepsOthers, held_at, with_row};
+ghost use Rattle.holdings.specs.Holding.{AreAllHeld, HeldView, KeepsOthers, held_at, with_row};
 ghost use Rattle.holdings.specs.Steps.{IsReady, KeepsAll, with_cached};
 
 use crate::held::Held;
@@ -39,7 +39,7 @@ impl Holdings {
     /// Nothing is held, which takes no memory.
     pub fn new(alloc: Global) -> Holdings
         ensures none { result ≡ [] }
-        ensures fits { (case : CaseShape) (desk : DeskView) → AreHeld case desk result }
+        ensures fits { (case : CaseShape) (desk : DeskView) → AreAllHeld case desk result }
     {
         Holdings {
             all: Vec::new(alloc),
@@ -59,7 +59,7 @@ impl Holdings {
     /// Lets go of all that is held, as in a crash.
     pub fn clear(&mut self)
         ensures none { self.new ≡ [] }
-        ensures fits { (case : CaseShape) (desk : DeskView) → AreHeld case desk self.new }
+        ensures fits { (case : CaseShape) (desk : DeskView) → AreAllHeld case desk self.new }
     {
         self.all.clear();
     }
@@ -68,8 +68,8 @@ impl Holdings {
     pub fn drop_lease(&mut self, interval: u32)
         ensures gone { held_at self.new interval ≡ None }
         ensures others { KeepsOthers interval self.old self.new }
-        ensures fits { (case : CaseShape) (desk : DeskView) → AreHeld case desk self.old →
-            AreHeld case desk self.new }
+        ensures fits { (case : CaseShape) (desk : DeskView) → AreAllHeld case desk self.old →
+            AreAllHeld case desk self.new }
     {
         take_in(&mut self.all, interval as usize);
     }

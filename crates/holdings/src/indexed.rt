@@ -12,7 +12,7 @@ ghost use Rattle.run_history.specs.Watermarks.{least};
 ghost use Rattle.book.specs.Claims.{named};
 ghost use Rattle.book.specs.declared.answers.NamedRow.{NamedRow};
 ghost use Rattle.holdings.specs.Indexes.{IsIndexOf};
-ghost use Rattle.holdings.specs.Pendings.{ArePendingIn};
+ghost use Rattle.holdings.specs.Pendings.{ArePendingAmong};
 ghost use Rattle.holdings.specs.Purges.{IsFirstToPurge};
 ghost use Rattle.holdings.specs.Timers.{IsFirstTimer};
 
@@ -131,7 +131,7 @@ impl Indexed {
 
     // All that is pending in the rows.
     pub(crate) fn pending(&self, alloc: Global) -> Result<SentList, NoMemory>
-        ensures { IfOk result (ArePendingIn self.now) }
+        ensures { IfOk result (ArePendingAmong self.now) }
     {
         self.rows.pending(alloc)
     }

@@ -3,7 +3,7 @@
 //!
 //! A call asks a desk for one entry, and keeps the row that the entry leaves; a refusal leaves all
 //! as it was. Stands on `book` and the crates below it. Public contract: what is held fits the desk
-//! after each call (`AreHeld`), an accepted write is the desk's, and each other row stays; the first
+//! after each call (`AreAllHeld`), an accepted write is the desk's, and each other row stays; the first
 //! timer and the own work of an interval are exact. Both are kept beside the rows, so that they are
 //! asked and changed in a time logarithmic in the rows; the row to purge is sought among the rows that
 //! have seen ids, in order, up to the first that may forget some; what is pending goes over all rows.

@@ -9,7 +9,7 @@ ghost use Rattle.run_history.specs.Marks.{own_work, row_marks, stated_marks};
 ghost use Rattle.run_history.specs.Runs.{cached};
 ghost use Rattle.run_history.specs.Watermarks.{least, source_mark};
 ghost use Rattle.book.specs.Conditions.{IsOwnWork};
-ghost use Rattle.holdings.specs.Holding.{AreHeld, HeldView, held_at};
+ghost use Rattle.holdings.specs.Holding.{AreAllHeld, HeldView, held_at};
 ghost use Rattle.holdings.specs.Steps.{IsOldest};
 
 use crate::held::Held;
@@ -75,7 +75,7 @@ impl Holdings {
         interval: u32,
     ) -> Result<u64, NoMemory>
         requires case { (D.view desk.now).case ≡ case.now }
-        requires fits { AreHeld case.now (D.view desk.now) self.old }
+        requires fits { AreAllHeld case.now (D.view desk.now) self.old }
         requires there { IsSome (held_at self.old interval) }
         requires interval { interval < length (intervals_of case.now.topology) }
 

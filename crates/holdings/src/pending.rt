@@ -1,7 +1,7 @@
 //! What is pending in the rows of an interval that is held.
 ghost use Rattle.std.specs.Prelude.{◌≡◌, ◌++◌, IfOk, IfSome, IsSome, OnOk};
 ghost use Rattle.holdings.specs.Holding.{held_at};
-ghost use Rattle.holdings.specs.Pendings.{ArePendingIn, sent_in, sent_of};
+ghost use Rattle.holdings.specs.Pendings.{ArePendingAmong, sent_in, sent_of};
 
 use crate::holdings::Holdings;
 use mw_types::{Delivery, Duplicate, NoMemory, RowName, Seq};
@@ -25,7 +25,7 @@ impl Holdings {
     pub fn pending(&self, alloc: Global, interval: u32) -> Result<SentList, NoMemory>
         requires there { IsSome (held_at self.now interval) }
         ensures pending { IfOk result (λ sent.
-            IfSome (held_at self.now interval) (λ held. ArePendingIn held.rows sent)) }
+            IfSome (held_at self.now interval) (λ held. ArePendingAmong held.rows sent)) }
     {
         self.held(interval).pending(alloc)
     }

@@ -5,10 +5,10 @@ ghost use Rattle.topology.specs.Shapes.{parts_of};
 ghost use Rattle.run_history.specs.Fences.{interval_of};
 ghost use Rattle.run_history.specs.Runs.{written_row};
 ghost use Rattle.book.specs.Conditions.{MaySettle};
-ghost use Rattle.book.specs.Desking.{HasStored, HasWritten, IsKnownOf, MayPurge};
+ghost use Rattle.book.specs.Desking.{HasStored, HasWritten, IsKnownOf, IsPurgeKnown};
 ghost use Rattle.book.specs.Desks.{HasLooked, KeepsMarks};
 ghost use Rattle.book.specs.Proposals.{IsProposable};
-ghost use Rattle.holdings.specs.Holding.{AreHeld, HoldsEntry, IsRefusedOf, KeepsHeld, held_at, row_held};
+ghost use Rattle.holdings.specs.Holding.{AreAllHeld, HoldsEntry, IsRefusedOf, KeepsHeld, held_at, row_held};
 
 use crate::holdings::Holdings;
 use book::{Desk, DeskRefusal, Proposal};
@@ -29,7 +29,7 @@ impl Holdings {
         proposal: &Proposal,
     ) -> Result<u64, DeskRefusal>
         requires case { (D.view desk.old).case ≡ case.now }
-        requires fits { AreHeld case.now (D.view desk.old) self.old }
+        requires fits { AreAllHeld case.now (D.view desk.old) self.old }
         requires covers { interval_of case.now.topology name.now ≡ Some interval }
         requires part { name.now.part < parts_of case.now.topology }
         requires there { IsSome (held_at self.old interval) }
@@ -37,7 +37,7 @@ impl Holdings {
             name.now (row_held case.now.topology held name.now) proposal.now) }
         requires known { IsKnownOf (D.view desk.old) name.now proposal.now }
 
-        ensures fits { AreHeld case.now (D.view desk.new) self.new }
+        ensures fits { AreAllHeld case.now (D.view desk.new) self.new }
         ensures written { IfOk result (λ commit.
             HoldsEntry case.now.topology interval name.now commit
             (λ lease row answer. HasWritten (D.view desk.old) (D.view desk.new) lease name.now
@@ -71,14 +71,14 @@ impl Holdings {
         id: RecordId,
     ) -> Result<u64, DeskRefusal>
         requires case { (D.view desk.old).case ≡ case.now }
-        requires fits { AreHeld case.now (D.view desk.old) self.old }
+        requires fits { AreAllHeld case.now (D.view desk.old) self.old }
         requires covers { interval_of case.now.topology name.now ≡ Some interval }
         requires part { name.now.part < parts_of case.now.topology }
         requires there { IsSome (held_at self.old interval) }
         requires id { IfSome (held_at self.old interval) (λ held. MaySettle (D.view desk.old).told
             (D.view desk.old).seen (row_held case.now.topology held name.now) id) }
 
-        ensures fits { AreHeld case.now (D.view desk.new) self.new }
+        ensures fits { AreAllHeld case.now (D.view desk.new) self.new }
         ensures settled { IfOk result (λ commit.
             HoldsEntry case.now.topology interval name.now commit
             (λ lease row answer. HasStored (D.view desk.old) (D.view desk.new) lease name.now
@@ -114,14 +114,14 @@ impl Holdings {
         floor: u64,
     ) -> Result<u64, DeskRefusal>
         requires case { (D.view desk.old).case ≡ case.now }
-        requires fits { AreHeld case.now (D.view desk.old) self.old }
+        requires fits { AreAllHeld case.now (D.view desk.old) self.old }
         requires covers { interval_of case.now.topology name.now ≡ Some interval }
         requires part { name.now.part < parts_of case.now.topology }
         requires there { IsSome (held_at self.old interval) }
-        requires floor { IfSome (held_at self.old interval) (λ held. MayPurge (D.view desk.old)
+        requires floor { IfSome (held_at self.old interval) (λ held. IsPurgeKnown (D.view desk.old)
             name.now (row_held case.now.topology held name.now) floor) }
 
-        ensures fits { AreHeld case.now (D.view desk.new) self.new }
+        ensures fits { AreAllHeld case.now (D.view desk.new) self.new }
         ensures purged { IfOk result (λ commit.
             HoldsEntry case.now.topology interval name.now commit
             (λ lease row answer. HasStored (D.view desk.old) (D.view desk.new) lease name.now

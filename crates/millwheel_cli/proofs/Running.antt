@@ -13,7 +13,7 @@ use Rattle.run_history.specs.Stored.{stored_rows}
 use Rattle.book.specs.Books.{BookView, core_of}
 use Rattle.book.specs.Claims.{IsDamagedRow}
 use Rattle.book.specs.DeskReasons.{IsDamageOf}
-use Rattle.book.specs.Lawful.{IsHeld, IsLawful}
+use Rattle.book.specs.Lawful.{HoldsRowsOf, IsLawful}
 use Rattle.book.specs.OwnDesks.{own_view, telling}
 use Rattle.node.specs.Answers.{refusal_of}
 use Rattle.node.specs.declared.outcome.NodeFault.{NodeFault}
@@ -24,18 +24,18 @@ use Rattle.millwheel_cli.specs.declared.task.Task.{Task}
 use Rattle.millwheel_cli.specs.Answers.{Left, IsKeptRun, IsRun, IsWholeRun}
 
 -- the rows of an empty history are none
-none_stored : (case : CaseShape) (history : List Entry) (rows : Rows) → history ≡ [] → IsHeld case history rows → rows ≡ []
+none_stored : (case : CaseShape) (history : List Entry) (rows : Rows) → history ≡ [] → HoldsRowsOf case history rows → rows ≡ []
 none_stored case history rows empty held = held.stored ∙ ap (λ h. stored_rows (run_of case.topology h)) empty
 
 -- so are those of a keeper that a contract can see
-pub none_kept : (case : CaseShape) (history : List Entry) (found : Option Rows) → history ≡ [] → IfSome found (IsHeld case history)
+pub none_kept : (case : CaseShape) (history : List Entry) (found : Option Rows) → history ≡ [] → IfSome found (HoldsRowsOf case history)
     → IfSome found (λ rows. rows ≡ [])
 none_kept case history None empty held = tt
 none_kept case history (Some rows) empty held = none_stored case history rows empty held
 
 -- where both histories are empty the rows are the same
 pub same_where_empty : (one other : CaseShape) (before after : List Entry) (old new : Option Rows) → is_some new ≡ is_some old
-    → before ≡ [] → after ≡ [] → IfSome old (IsHeld one before) → IfSome new (IsHeld other after) → new ≡ old
+    → before ≡ [] → after ≡ [] → IfSome old (HoldsRowsOf one before) → IfSome new (HoldsRowsOf other after) → new ≡ old
 same_where_empty one other before after None None tells begun ended held kept = refl
 same_where_empty one other before after None (Some rows) tells begun ended held kept = absurd (true≢false tells)
 same_where_empty one other before after (Some rows) None tells begun ended held kept = absurd (true≢false (sym tells))
@@ -51,7 +51,7 @@ seen_again (Some held) (Some rows) tells f a p = f rows a p
 
 -- rows that a book has are those of a run
 kept_run : (task : Task) (history : List Entry) (rows : Rows) → IsReplayed task.case task.steps history
-    → IsHeld task.case history rows → IsKeptRun task history rows
+    → HoldsRowsOf task.case history rows → IsKeptRun task history rows
 kept_run task history rows replayed held = record { legal = held.legal; replayed = replayed; stored = held.stored }
 
 -- a book that began with nothing and went on as the steps and a drain do has a run

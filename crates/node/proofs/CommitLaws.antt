@@ -30,7 +30,7 @@ use Rattle.book.specs.declared.answers.Written.{Written}
 use Rattle.book.specs.declared.proposal.Proposal.{Proposal}
 use Rattle.book.specs.declared.proposal.Proposal.TheVariants as proposals
 use Rattle.book.proofs.SeenRows.{told-then}
-use Rattle.holdings.specs.Holding.{AreHeld, HeldView, HoldsEntry, held_at, held_on, row_held}
+use Rattle.holdings.specs.Holding.{AreAllHeld, HeldView, HoldsEntry, held_at, held_on, row_held}
 use Rattle.node.specs.Answers.{AnswersAsked, HasGrown, IsCommitted, made_of}
 use Rattle.node.specs.Asking.{Request, handled_as, proposed, work_asked}
 use Rattle.node.specs.Fits.{Fits, IsHandled, IsPrepared, IsWork}
@@ -130,7 +130,7 @@ written_by shape held sender delivery effects commit node = record {
 pub Fits-written : (case : CaseShape) (old new : DeskView) (node : NodeView) (held : List (Option HeldView)) (sender : RowName)
     (delivery : Delivery) (effects : Effects) (lease : LeaseView) (commit : ℕ)
     → IsAppended old new lease (entries.Handle lease.seq delivery.to delivery.id effects) commit
-    → AreHeld case new held → IsHandled case old node.held sender delivery effects
+    → AreAllHeld case new held → IsHandled case old node.held sender delivery effects
     → All (IsAddressed case.topology)
     (messages_from delivery.to (deliveries_made case.topology delivery.to.part effects.productions delivery.item.late commit))
     → Fits case old node → Fits case new (written_by case.topology held sender delivery effects commit node)
@@ -261,7 +261,7 @@ work-known case desk all sender delivery effects proposal is same work = subst (
 
 -- and has few productions
 pub work-few : (case : CaseShape) (desk : DeskView) (all : List (Option HeldView)) (sender : RowName) (delivery : Delivery)
-    (effects : Effects) → AreHeld case desk all → IsHandled case desk all sender delivery effects → length effects.productions ≤ 8
+    (effects : Effects) → AreAllHeld case desk all → IsHandled case desk all sender delivery effects → length effects.productions ≤ 8
 work-few case desk all sender delivery effects fit work =
     few-handled case delivery.to (row_held case.topology work.held delivery.to) delivery.item effects
     (state-held case desk all delivery.to work.held fit work.sent.addressed.to work.there) work.handling.does

@@ -23,7 +23,7 @@ use Rattle.history_laws.proofs.Made.{each_of_commit}
 use Rattle.history_laws.proofs.SeenLaws.{found-more}
 use Rattle.book.specs.Desks.{DeskView, IsSound}
 use Rattle.book.proofs.SeenRows.{told-both, told-then}
-use Rattle.holdings.specs.Holding.{AreHeld, HeldView, held_on, row_held}
+use Rattle.holdings.specs.Holding.{AreAllHeld, HeldView, held_on, row_held}
 use Rattle.node.specs.Messages.{IsOutgoing, IsSentFrom}
 use Rattle.node.specs.declared.outgoing.Outgoing.TheVariants as outgoing
 use Rattle.node.proofs.FitLaws.{held-interval}
@@ -84,7 +84,7 @@ finished-known case history interval seq d legal made finished = by_found (found
 
 -- a record that is finished in its row as it is held was handled, where that is told
 pub handled-held : (case : CaseShape) (desk : DeskView) (all : List (Option HeldView)) (d : Delivery) (sender : RowName) (held : HeldView)
-    → IsSound desk → desk.case ≡ case → AreHeld case desk all → held_on case.topology all d.to ≡ Some held
+    → IsSound desk → desk.case ≡ case → AreAllHeld case desk all → held_on case.topology all d.to ≡ Some held
     → IsOutgoing case desk (outgoing.Deliver d sender) → is_finished d.id (row_held case.topology held d.to) ≡ true
     → IfSome desk.told (λ _. is_handled d.id desk.seen ≡ true)
 handled-held case desk all d sender held sound same fit there sent finished =

@@ -26,7 +26,7 @@ use Rattle.book.specs.Proposals.{IsProposable}
 use Rattle.book.specs.declared.answers.Written.{Written}
 use Rattle.book.specs.declared.proposal.Proposal.TheVariants as proposals
 use Rattle.book.proofs.ProposalLaws.{timer-suits}
-use Rattle.holdings.specs.Holding.{AreHeld, HeldView, held_at, row_held}
+use Rattle.holdings.specs.Holding.{AreAllHeld, HeldView, held_at, row_held}
 use Rattle.holdings.specs.declared.first_timer.RowTimer.{RowTimer}
 use Rattle.node.specs.Answers.{AnswersFire, AnswersSome, FailsFire, FailsSome, HasGrown, IsLeastKnown, made_of}
 use Rattle.node.specs.Asking.{IsNextTimer, MayAskFire, Request}
@@ -49,7 +49,7 @@ use Rattle.node.proofs.StateLaws.{state-held}
 
 -- the row of the next timer is there
 pub set-at : (case : CaseShape) (desk : DeskView) (node : NodeView) (part mark interval : ℕ) (name : RowName) (timer : Timer)
-    → AreHeld case desk node.held → IsComputation case.topology name.part → interval_of case.topology name ≡ Some interval
+    → AreAllHeld case desk node.held → IsComputation case.topology name.part → interval_of case.topology name ≡ Some interval
     → IsNextTimer case.topology node part mark name timer → IsSetAt case.topology node.held interval name timer
 set-at case desk node part mark interval name timer fit of covers next =
     let held = next.set.held in
@@ -140,7 +140,7 @@ fired_by shape held name timer effects commit node = record {
 -- it fits
 pub Fits-fired : (case : CaseShape) (old new : DeskView) (node : NodeView) (interval : ℕ) (name : RowName) (timer : Timer) (mark : ℕ)
     (effects : Effects) (commit : ℕ) (after : List (Option HeldView))
-    → HoldsFire case.topology old new interval name timer mark effects commit node.held after → AreHeld case new after
+    → HoldsFire case.topology old new interval name timer mark effects commit node.held after → AreAllHeld case new after
     → All (IsAddressed case.topology)
     (messages_from name (deliveries_made case.topology name.part effects.productions timer.late commit))
     → node.prepared ≡ None → Fits case old node → Fits case new (fired_by case.topology after name timer effects commit node)

@@ -24,7 +24,7 @@ use Rattle.holdings.specs.Purges.{IsFirstToPurge, forgets}
 use Rattle.node.specs.Answers.{AnswersPurge, AnswersWrite, FailsAsked, FailsPurge, HasGrown}
 use Rattle.node.specs.Asking.{HasToForget, MayAskPurge, forgetting}
 use Rattle.node.specs.Fits.{Fits}
-use Rattle.node.specs.PurgeSteps.{AreRowsWithin, IsToPurge, MayForget}
+use Rattle.node.specs.PurgeSteps.{AreRowsWithin, IsToPurge, CanForget}
 use Rattle.node.specs.Workers.{NodeView, worker_at}
 use Rattle.node.specs.declared.outcome.NodeFault.{NodeFault}
 use Rattle.node.specs.declared.outcome.Outcome.{Outcome}
@@ -168,9 +168,9 @@ next-purge-held shape node interval least floor found free = by_held (held_at no
 
 -- a row that is the first may forget ids
 pub first-forgets : (shape : Shape) (node : NodeView) (interval least floor : ℕ) (name : RowName)
-    → IsToPurge shape node interval least floor (Some name) → MayForget shape node 0 floor name
+    → IsToPurge shape node interval least floor (Some name) → CanForget shape node 0 floor name
 first-forgets shape node interval least floor name is =
-    let may = is.2.may in subst (λ (n : RowName). MayForget shape node 0 floor n) is.3 (
+    let may = is.2.may in subst (λ (n : RowName). CanForget shape node 0 floor n) is.3 (
       is.1,
       record {
         free = may.free;

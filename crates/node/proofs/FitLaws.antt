@@ -26,8 +26,8 @@ use Rattle.book.specs.declared.desk_refusal.DeskRefusal.{DeskRefusal}
 use Rattle.book.specs.declared.desk_refusal.DeskRefusal.TheVariants as refusals
 use Rattle.book.specs.declared.proposal.Proposal.{Proposal}
 use Rattle.book.specs.declared.proposal.Proposal.TheVariants as proposals
-use Rattle.holdings.specs.Holding.{AreHeld, HasSeenOthers, HeldView, HoldsClaim, IsHeld, KeepsHeld, KeepsOthers, held_at, held_on}
-use Rattle.holdings.proofs.HeldSteps.{AreHeld-beside}
+use Rattle.holdings.specs.Holding.{AreAllHeld, HasSeenOthers, HeldView, HoldsClaim, IsHeld, KeepsHeld, KeepsOthers, held_at, held_on}
+use Rattle.holdings.proofs.HeldSteps.{AreAllHeld-beside}
 use Rattle.node.specs.Answers.{AnswersClaim, AnswersWrite, FailsAsked, HasGrown, HasKept, IsRefused, refusal_of}
 use Rattle.node.specs.Asking.{Request}
 use Rattle.node.specs.Fits.{Fits, IsHandled, IsPrepared, IsWork}
@@ -167,7 +167,7 @@ works-kept case old new all after (Some work) more kept is =
     prepared-kept case old new all after work.sender work.proposal more kept is
 
 -- a node whose desk has refused fits
-pub Fits-kept : (case : CaseShape) (old new : DeskView) (node after : NodeView) → HasMore old new → AreHeld case new after.held
+pub Fits-kept : (case : CaseShape) (old new : DeskView) (node after : NodeView) → HasMore old new → AreAllHeld case new after.held
     → KeepsHeld case.topology node.held after.held → after.prepared ≡ node.prepared → after.outbox ≡ node.outbox
     → Fits case old node → Fits case new after
 Fits-kept case old new node after more held kept prepared outbox fits = record {
@@ -281,9 +281,9 @@ keeps-refused shape interval was mid node (refusals.RowDamaged name bytes) kept 
 keeps-refused shape interval was mid node refusals.NoMemory kept left = ap worker_at left ∙ kept
 
 -- what is held fits where one interval was let go
-AreHeld-let_go : (case : CaseShape) (desk : DeskView) (before after : List (Option HeldView)) (interval : ℕ)
-    → held_at after interval ≡ None → KeepsOthers interval before after → AreHeld case desk before → AreHeld case desk after
-AreHeld-let_go case desk before after interval gone others held = record { each = each }
+AreAllHeld-let_go : (case : CaseShape) (desk : DeskView) (before after : List (Option HeldView)) (interval : ℕ)
+    → held_at after interval ≡ None → KeepsOthers interval before after → AreAllHeld case desk before → AreAllHeld case desk after
+AreAllHeld-let_go case desk before after interval gone others held = record { each = each }
   where
     each : (i : ℕ) (h : HeldView) → held_at after i ≡ Some h → IsHeld case desk i h
     each i h at = elim (cases_eq i interval) [
@@ -333,7 +333,7 @@ pub Fits-let_go : (case : CaseShape) (desk : DeskView) (interval : ℕ) (old new
     → Fits case desk old → Fits case desk new
 Fits-let_go case desk interval old new gone fits = record {
   of_case = fits.of_case;
-  held = AreHeld-let_go case desk old.held new.held interval gone.gone gone.others fits.held;
+  held = AreAllHeld-let_go case desk old.held new.held interval gone.gone gone.others fits.held;
   work = subst (λ (o : Option WorkView). IfSome o (IsWork case desk new.held)) (sym gone.prepared)
       (works-beside case desk old.held new.held interval old.prepared gone.others fits.work);
   outbox = subst (All (IsOutgoing case desk)) (sym gone.outbox) fits.outbox;
@@ -362,7 +362,7 @@ claimed_by shape interval held node =
 
 -- a node that has claimed an interval fits
 pub Fits-claimed : (case : CaseShape) (old new : DeskView) (node : NodeView) (held : List (Option HeldView)) (worker interval seq : ℕ)
-    → HoldsClaim old new worker interval seq node.held held → AreHeld case new held → Fits case old node
+    → HoldsClaim old new worker interval seq node.held held → AreAllHeld case new held → Fits case old node
     → Fits case new (claimed_by case.topology interval held node)
 Fits-claimed case old new node held worker interval seq claim fit fits =
     let by = claim.claimed in
@@ -417,7 +417,7 @@ pub Fits-beside : (case : CaseShape) (old new : DeskView) (node : NodeView) → 
     → HasSeenOthers old new node.held → Fits case old node → Fits case new node
 Fits-beside case old new node was is others fits =
     let more : HasMore old new = record { case = others.case; told = others.told; rest = others.rest; more = others.more } in
-    Fits-kept case old new node node more (AreHeld-beside case old new node.held was is fits.of_case others fits.held)
+    Fits-kept case old new node node more (AreAllHeld-beside case old new node.held was is fits.of_case others fits.held)
     (keeps-same case.topology node.held) refl refl fits
 
 -- ---- want of memory

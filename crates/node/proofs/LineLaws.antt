@@ -24,7 +24,7 @@ use Rattle.book.specs.Proposals.{IsHandling, IsNextLine}
 use Rattle.book.specs.declared.desk_refusal.DeskRefusal.{DeskRefusal}
 use Rattle.book.specs.declared.proposal.Proposal.{Proposal}
 use Rattle.book.specs.declared.proposal.Proposal.TheVariants as proposals
-use Rattle.holdings.specs.Holding.{AreHeld, HeldView, IsRefusedOf, held_at, row_held, with_row}
+use Rattle.holdings.specs.Holding.{AreAllHeld, HeldView, IsRefusedOf, held_at, row_held, with_row}
 use Rattle.holdings.proofs.HeldRows.{row_held-other}
 use Rattle.node.specs.Answers.{AnswersAsked, AnswersWrite, FailsAsked, HasGrown, HasKept, made_of}
 use Rattle.node.specs.Asking.{Request, line_asked, next_line}
@@ -188,7 +188,7 @@ injected_by shape held part item commit node = record {
 -- it fits
 pub Fits-injected : (case : CaseShape) (old new : DeskView) (node : NodeView) (interval part line : ℕ) (item : Record) (commit : ℕ)
     (after : List (Option HeldView)) → option_map record_of (item_at (source_of case part) line) ≡ Some item
-    → HoldsOwn case.topology old new interval part line commit node.held after → AreHeld case new after
+    → HoldsOwn case.topology old new interval part line commit node.held after → AreAllHeld case new after
     → part < injectors_of case.topology → IsSound new
     → ((number : ℕ) → number < 2 ^ 32 → All (IsAddressed case.topology)
     (messages_from (injector_row part) (line_deliveries case.topology part item number)))

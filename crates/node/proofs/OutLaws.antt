@@ -7,7 +7,7 @@ use Rattle.topology.specs.Shapes.{Shape}
 use Rattle.run_history.specs.Cases.{CaseShape}
 use Rattle.book.specs.Desks.{DeskView, HasLooked, IsNoteOf, IsSound, Sight}
 use Rattle.holdings.specs.Holding.{HeldView, KeepsHeld}
-use Rattle.holdings.proofs.HeldSteps.{AreHeld-looked}
+use Rattle.holdings.proofs.HeldSteps.{AreAllHeld-looked}
 use Rattle.node.specs.Fits.{Fits}
 use Rattle.node.specs.Messages.{IsOutgoing, IsSoBy, IsSoIn, IsVouchedFor}
 use Rattle.node.specs.Workers.{NodeView}
@@ -25,7 +25,7 @@ pub Fits-looked : (case : CaseShape) (old new : DeskView) (node : NodeView) → 
     → Fits case old node → Fits case new node
 Fits-looked case old new node was is looked fits =
     Fits-kept case old new node node (more-looked old new looked)
-    (AreHeld-looked case old new node.held node.held fits.of_case was is looked (λ i. refl) fits.held)
+    (AreAllHeld-looked case old new node.held node.held fits.of_case was is looked (λ i. refl) fits.held)
     (held-same case.topology node.held) refl refl fits
 
 -- a node fits with less to send

@@ -16,11 +16,11 @@ use Rattle.run_history.proofs.Known.{known-begins}
 use Rattle.history_laws.proofs.Along.{run_of-append}
 use Rattle.history_laws.proofs.RowSteps.{row_step}
 use Rattle.book.specs.Books.{LeaseView}
-use Rattle.book.specs.Desking.{HasStored, MayPurge}
+use Rattle.book.specs.Desking.{HasStored, IsPurgeKnown}
 use Rattle.book.specs.Desks.{DeskView, HasLooked, IsSound}
 use Rattle.book.specs.declared.answers.Written.{Written}
 use Rattle.book.proofs.SeenRows.{told-then}
-use Rattle.holdings.specs.Holding.{AreHeld, HeldView, HoldsEntry, held_at, held_on, row_held}
+use Rattle.holdings.specs.Holding.{AreAllHeld, HeldView, HoldsEntry, held_at, held_on, row_held}
 use Rattle.node.specs.Answers.{AnswersForget, AnswersSome, AnswersWrite, FailsAsked, FailsForget, HasGrown, IsFloorKnown}
 use Rattle.node.specs.Asking.{HasToForget, MayAskForget, Request, forgetting}
 use Rattle.node.specs.Fits.{Fits, IsWork}
@@ -28,7 +28,7 @@ use Rattle.node.specs.Workers.{NodeView, WorkView, worker_at}
 use Rattle.node.specs.declared.outcome.NodeFault.{NodeFault}
 use Rattle.node.specs.declared.outcome.Outcome.{Outcome}
 use Rattle.node.specs.declared.outcome.Outcome.TheVariants as outcomes
-use Rattle.node.specs.PurgeSteps.{MayForget}
+use Rattle.node.specs.PurgeSteps.{CanForget}
 use Rattle.node.proofs.FitLaws.{HasMore, more-appended, outbox-more}
 use Rattle.node.proofs.LookLaws.{answers-later, err-fails, fault-later}
 
@@ -72,7 +72,7 @@ has-row (Some row) new none some = refl
 
 -- a row that is held and has an id is there
 pub held-there : (case : CaseShape) (desk : DeskView) (all : List (Option HeldView)) (interval : ℕ) (held : HeldView) (name : RowName)
-    → AreHeld case desk all → desk.case ≡ case → held_at all interval ≡ Some held → interval_of case.topology name ≡ Some interval
+    → AreAllHeld case desk all → desk.case ≡ case → held_at all interval ≡ Some held → interval_of case.topology name ≡ Some interval
     → 1 ≤ length (row_held case.topology held name).seen
     → IfSome desk.told (λ _. IsSome (row_in (run_of desk.case.topology desk.seen) name))
 held-there case desk all interval held name fit same at covers some =
@@ -93,9 +93,9 @@ held-there case desk all interval held name fit same at covers some =
 
 -- a row that has ids to forget may be purged
 pub may-purge : (case : CaseShape) (desk : DeskView) (all : List (Option HeldView)) (interval : ℕ) (held : HeldView) (name : RowName)
-    (least floor : ℕ) → AreHeld case desk all → desk.case ≡ case → held_at all interval ≡ Some held
+    (least floor : ℕ) → AreAllHeld case desk all → desk.case ≡ case → held_at all interval ≡ Some held
     → interval_of case.topology name ≡ Some interval → HasToForget case.topology held least floor name → floor ≤ desk.floor
-    → MayPurge desk name (row_held case.topology held name) floor
+    → IsPurgeKnown desk name (row_held case.topology held name) floor
 may-purge case desk all interval held name least floor fit same at covers forgets low = record {
   rises = forgets.rises;
   known = low;
@@ -110,7 +110,7 @@ holding held node = record { number = node.number; held = held; prepared = node.
 
 -- it fits
 pub Fits-holding : (case : CaseShape) (old new : DeskView) (node : NodeView) (held : List (Option HeldView)) → HasMore old new
-    → AreHeld case new held → node.prepared ≡ None → Fits case old node → Fits case new (holding held node)
+    → AreAllHeld case new held → node.prepared ≡ None → Fits case old node → Fits case new (holding held node)
 Fits-holding case old new node held more fit free fits = record {
   of_case = more.case ∙ fits.of_case;
   held = fit;
@@ -137,7 +137,7 @@ grown-purge shape old new interval name floor commit before after h = record {
 
 -- the node fits
 pub Fits-purged : (case : CaseShape) (old new : DeskView) (node : NodeView) (interval : ℕ) (name : RowName) (floor commit : ℕ)
-    (held : List (Option HeldView)) → HoldsPurge case.topology old new interval name floor commit node.held held → AreHeld case new held
+    (held : List (Option HeldView)) → HoldsPurge case.topology old new interval name floor commit node.held held → AreAllHeld case new held
     → node.prepared ≡ None → Fits case old node → Fits case new (holding held node)
 Fits-purged case old new node interval name floor commit held h fit free fits =
     Fits-holding case old new node held
@@ -145,12 +145,12 @@ Fits-purged case old new node interval name floor commit held h fit free fits =
 
 -- a row that a node may have forget may be purged
 pub forget-floor : (case : CaseShape) (desk : DeskView) (node : NodeView) (interval : ℕ) (name : RowName) (floor : ℕ)
-    → Fits case desk node → MayForget case.topology node 0 floor name → interval_of case.topology name ≡ Some interval → floor ≤ desk.floor
-    → IfSome (held_at node.held interval) (λ held. MayPurge desk name (row_held case.topology held name) floor)
+    → Fits case desk node → CanForget case.topology node 0 floor name → interval_of case.topology name ≡ Some interval → floor ≤ desk.floor
+    → IfSome (held_at node.held interval) (λ held. IsPurgeKnown desk name (row_held case.topology held name) floor)
 forget-floor case desk node interval name floor fits may covers low =
     let m = may.1 in
     let at = held-at-on case.topology node.held name interval m.held m.there covers in
-    subst (λ (o : Option HeldView). IfSome o (λ held. MayPurge desk name (row_held case.topology held name) floor)) (sym at)
+    subst (λ (o : Option HeldView). IfSome o (λ held. IsPurgeKnown desk name (row_held case.topology held name) floor)) (sym at)
     (may-purge case desk node.held interval m.held name 0 floor fits.held fits.of_case at covers m.forgets low)
 
 -- ---- a call that asks for some entry
@@ -198,7 +198,7 @@ ok-answers (Err fault) P Q step is = tt
 -- what a row that forgets answers, once the desk was asked for its floor
 pub forget-answers : (case : CaseShape) (old mid new : DeskView) (was node : NodeView) (name : RowName) (least floor : ℕ)
     (result : Result Outcome NodeFault) → IsSound old → IsSound mid → HasLooked old mid → floor ≡ mid.floor → Fits case old was
-    → HasGrown was.held mid new → MayForget case.topology was least floor name
+    → HasGrown was.held mid new → CanForget case.topology was least floor name
     → ((held : HeldView) → held_on case.topology was.held name ≡ Some held
     → IfOk result (AnswersWrite case.topology mid new (forgetting held name floor) (worker_at was) was node))
     → IfOk result (AnswersForget case.topology old new name least was node)
@@ -218,7 +218,7 @@ forget-answers case old mid new was node name least floor result sound is looked
 -- why a row did not forget
 pub forget-fails : (case : CaseShape) (old mid new : DeskView) (was : NodeView) (name : RowName) (least floor : ℕ)
     (result : Result Outcome NodeFault) → IsSound old → IsSound mid → HasLooked old mid → floor ≡ mid.floor
-    → HasGrown was.held mid new → MayForget case.topology was least floor name
+    → HasGrown was.held mid new → CanForget case.topology was least floor name
     → ((held : HeldView) → held_on case.topology was.held name ≡ Some held
     → IfErr result (FailsAsked mid new (Some (forgetting held name floor))))
     → IfErr result (FailsForget case.topology old new name least was)

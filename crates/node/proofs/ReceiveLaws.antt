@@ -23,7 +23,7 @@ use Rattle.node.specs.declared.outcome.Outcome.TheVariants as outcomes
 use Rattle.node.specs.declared.outgoing.Outgoing.{Outgoing}
 use Rattle.node.specs.declared.outgoing.Outgoing.TheVariants as outgoing
 use Rattle.node.proofs.CommitLaws.{told-any}
-use Rattle.holdings.proofs.HeldSteps.{AreHeld-looked}
+use Rattle.holdings.proofs.HeldSteps.{AreAllHeld-looked}
 use Rattle.node.proofs.FitLaws.{Fits-kept, keeps-same, more-looked, so-more, step-told}
 
 -- ---- what a message says, once its note was met
@@ -119,5 +119,5 @@ Fits-again case desk node d sender ack fits = record {
 pub Fits-looked : (case : CaseShape) (old new : DeskView) (node : NodeView) → IsSound old → IsSound new → HasLooked old new
     → Fits case old node → Fits case new node
 Fits-looked case old new node was is looked fits = Fits-kept case old new node node (more-looked old new looked)
-    (AreHeld-looked case old new node.held node.held fits.of_case was is looked (λ i. refl) fits.held)
+    (AreAllHeld-looked case old new node.held node.held fits.of_case was is looked (λ i. refl) fits.held)
     (keeps-same case.topology node.held) refl refl fits

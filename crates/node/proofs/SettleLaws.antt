@@ -25,7 +25,7 @@ use Rattle.book.specs.declared.answers.Written.{Written}
 use Rattle.book.specs.declared.desk_refusal.DeskRefusal.{DeskRefusal}
 use Rattle.book.specs.declared.proposal.Proposal.{Proposal}
 use Rattle.book.specs.declared.proposal.Proposal.TheVariants as proposals
-use Rattle.holdings.specs.Holding.{AreHeld, HeldView, HoldsEntry, IsRefusedOf, held_at, held_on, row_held, with_row}
+use Rattle.holdings.specs.Holding.{AreAllHeld, HeldView, HoldsEntry, IsRefusedOf, held_at, held_on, row_held, with_row}
 use Rattle.holdings.proofs.HeldRows.{name_or_not, row_held-here, row_held-other}
 use Rattle.node.specs.Answers.{AnswersAck, AnswersAsked, AnswersWrite, FailsAsked, HasGrown, HasKept, IsRefused, made_of, refusal_of}
 use Rattle.node.specs.Asking.{Request, settle_asked, settling}
@@ -164,7 +164,7 @@ works-settled case old new before after interval to id commit (Some work) more h
 
 -- the node fits
 pub Fits-settled : (case : CaseShape) (old new : DeskView) (node : NodeView) (interval : ℕ) (to : RowName) (id : RecordId) (commit : ℕ)
-    (held : List (Option HeldView)) → HoldsAck case.topology old new interval to id commit node.held held → AreHeld case new held
+    (held : List (Option HeldView)) → HoldsAck case.topology old new interval to id commit node.held held → AreAllHeld case new held
     → Fits case old node → Fits case new (holding held node)
 Fits-settled case old new node interval to id commit held h fit fits =
     let more = more-by old new h.held.lease (entries.Ack h.held.lease.seq to id) commit

@@ -18,7 +18,7 @@ use Rattle.run_history.proofs.Fitting.{both}
 use Rattle.run_history.proofs.Lists.{some_same}
 use Rattle.book.specs.Desks.{DeskView}
 use Rattle.book.proofs.ProposalLaws.{record-suits}
-use Rattle.holdings.specs.Holding.{AreHeld, HeldView, held_on, row_held}
+use Rattle.holdings.specs.Holding.{AreAllHeld, HeldView, held_on, row_held}
 use Rattle.node.specs.Messages.{IsComputation}
 use Rattle.node.specs.Works.{IsStateThere}
 use Rattle.node.proofs.FitLaws.{held-interval}
@@ -39,7 +39,7 @@ suits-state case part row is suits =
 
 -- a computation's row that is held has a state of its kind
 pub state-held : (case : CaseShape) (desk : DeskView) (all : List (Option HeldView)) (name : RowName) (held : HeldView)
-    → AreHeld case desk all → IsComputation case.topology name.part → held_on case.topology all name ≡ Some held
+    → AreAllHeld case desk all → IsComputation case.topology name.part → held_on case.topology all name ≡ Some held
     → IsStateThere case.topology name.part (row_held case.topology held name).state
 state-held case desk all name held fit is there =
     let shape = case.topology in

@@ -40,8 +40,8 @@ use Rattle.history_laws.proofs.SentLaws.{pending-made, row_of-made}
 use Rattle.watermark.proofs.Parts.{part_within}
 use Rattle.book.specs.Desks.{DeskView}
 use Rattle.book.proofs.SeenRows.{told-then}
-use Rattle.holdings.specs.Holding.{AreHeld, HeldView, held_at, row_held}
-use Rattle.holdings.specs.Pendings.{ArePendingIn, IsPendingIn}
+use Rattle.holdings.specs.Holding.{AreAllHeld, HeldView, held_at, row_held}
+use Rattle.holdings.specs.Pendings.{ArePendingAmong, IsPendingAmong}
 use Rattle.holdings.specs.declared.pending.Sent.{Sent}
 use Rattle.node.specs.Answers.{IsPendingHeld, IsSwept, again_cmp, sent_again}
 use Rattle.node.specs.FireSteps.{AreAllWithin}
@@ -57,7 +57,7 @@ use Rattle.node.proofs.SendLaws.{goes-there}
 
 -- what is pending in what is held of an interval
 pub found-held : (all : List (Option HeldView)) (interval : ℕ) (held : HeldView) (before after sent : List Sent)
-    → held_at all interval ≡ Some held → after ≡ before ++ sent → ArePendingIn held.rows sent → All (IsVouched held) sent
+    → held_at all interval ≡ Some held → after ≡ before ++ sent → ArePendingAmong held.rows sent → All (IsVouched held) sent
     → HasFoundAt all interval before after
 found-held all interval held before after sent there appended are vouched = record {
   found = sent;
@@ -66,7 +66,7 @@ found-held all interval held before after sent there appended are vouched = reco
     at = record { held = held; there = there; pending = are.each i d inside };
     vouched = vouched i d inside;
   };
-  every = λ one p. are.all one (subst (λ (h : HeldView). IsPendingIn h.rows one) (some_same p.held held (sym p.there ∙ there)) p.pending);
+  every = λ one p. are.all one (subst (λ (h : HeldView). IsPendingAmong h.rows one) (some_same p.held held (sym p.there ∙ there)) p.pending);
 }
 
 -- nothing is pending in what is not held
@@ -197,7 +197,7 @@ again-found shape all found mid again within are moved once up = record {
 -- ---- what is sent again
 
 -- a record that is pending was made by an entry on its sender's row, where that is told
-pub sent-so : (case : CaseShape) (desk : DeskView) (all : List (Option HeldView)) (i : ℕ) (s : Sent) → AreHeld case desk all
+pub sent-so : (case : CaseShape) (desk : DeskView) (all : List (Option HeldView)) (i : ℕ) (s : Sent) → AreAllHeld case desk all
     → IsPendingAt all i s → IfSome desk.told (λ _. IsSentFrom case desk.seen s.sender s.delivery)
 sent-so case desk all i s fit is =
     let shape = case.topology in
@@ -225,7 +225,7 @@ sent-so case desk all i s fit is =
     })
 
 -- a record that is pending and can be kept is addressed
-pub sent-addressed : (case : CaseShape) (desk : DeskView) (all : List (Option HeldView)) (i : ℕ) (s : Sent) → AreHeld case desk all
+pub sent-addressed : (case : CaseShape) (desk : DeskView) (all : List (Option HeldView)) (i : ℕ) (s : Sent) → AreAllHeld case desk all
     → IsFoundAt all i s → IsDeliverable case.topology s.delivery s.sender
 sent-addressed case desk all i s fit is =
     let shape = case.topology in
@@ -248,7 +248,7 @@ sent-addressed case desk all i s fit is =
     record { id = kept.id; stamp = kept.stamp; to = goes-there shape (length desk.seen) d goes; from = from }
 
 -- each message of a sweep may be sent
-pub again-outgoing : (case : CaseShape) (desk : DeskView) (all : List (Option HeldView)) (again : List Sent) → AreHeld case desk all
+pub again-outgoing : (case : CaseShape) (desk : DeskView) (all : List (Option HeldView)) (again : List Sent) → AreAllHeld case desk all
     → AreAgain all again → All (IsOutgoing case desk) (map sent_again again)
 again-outgoing case desk all again fit are = All-map (IsOutgoing case desk) sent_again again
     (All-weaker (λ (s : Sent). (i : ℕ) × IsFoundAt all i s) (λ (s : Sent). IsOutgoing case desk (sent_again s)) (λ s is. record {
@@ -302,7 +302,7 @@ by-ids seen [] on up = tt
 by-ids seen (s ∷ ss) on up = (below-each seen s ss on.0 on.1 up.0, by-ids seen ss on.1 up.1)
 
 -- those of a sweep, where that is told
-pub told-ids : (case : CaseShape) (desk : DeskView) (all : List (Option HeldView)) (again : List Sent) → AreHeld case desk all
+pub told-ids : (case : CaseShape) (desk : DeskView) (all : List (Option HeldView)) (again : List Sent) → AreAllHeld case desk all
     → AreAgain all again → IfSome desk.told (λ _. IsStrictlySortedBy id_cmp (map (λ (s : Sent). s.delivery.id) again))
 told-ids case desk all again fit are = by_told desk.told
     (λ s is. sent-so case desk all is.0 s fit is.1.at)

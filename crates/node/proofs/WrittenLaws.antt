@@ -21,7 +21,7 @@ use Rattle.book.specs.declared.answers.Written.{Written}
 use Rattle.book.specs.declared.desk_refusal.DeskRefusal.{DeskRefusal}
 use Rattle.book.specs.declared.proposal.Proposal.{Proposal}
 use Rattle.book.specs.declared.proposal.Proposal.TheVariants as proposals
-use Rattle.holdings.specs.Holding.{AreHeld, HeldView, HoldsEntry, IsRefusedOf}
+use Rattle.holdings.specs.Holding.{AreAllHeld, HeldView, HoldsEntry, IsRefusedOf}
 use Rattle.node.specs.Answers.{AnswersAsked, AnswersWrite, FailsAsked, HasGrown, HasKept}
 use Rattle.node.specs.Asking.{Request, handled_as, work_asked}
 use Rattle.node.specs.Fits.{Fits}
@@ -120,7 +120,7 @@ grown-work shape old new interval proposal delivery effects commit before after 
 pub Fits-committed : (case : CaseShape) (old new : DeskView) (node : NodeView) (held : List (Option HeldView)) (work : WorkView)
     (delivery : Delivery) (effects : Effects) (interval commit : ℕ) → node.prepared ≡ Some work
     → work.proposal ≡ proposals.Handle delivery effects
-    → HoldsWork case.topology old new interval delivery.to work.proposal commit node.held held → AreHeld case new held → IsSound new
+    → HoldsWork case.topology old new interval delivery.to work.proposal commit node.held held → AreAllHeld case new held → IsSound new
     → ((number : ℕ) → number < 2 ^ 32 → All (IsAddressed case.topology) (messages_from delivery.to
     (deliveries_made case.topology delivery.to.part effects.productions delivery.item.late number)))
     → Fits case old node → Fits case new (written_by case.topology held work.sender delivery effects commit node)

@@ -30,7 +30,7 @@ use Rattle.book.specs.Desks.{DeskView, HasLooked, HasMoved}
 use Rattle.book.specs.declared.desk_refusal.DeskRefusal.{DeskRefusal}
 use Rattle.book.specs.declared.desk_refusal.DeskRefusal.TheVariants as refusals
 use Rattle.holdings.specs.Holding.{HeldView, held_at, held_on, row_held}
-use Rattle.holdings.specs.Pendings.{IsPendingIn}
+use Rattle.holdings.specs.Pendings.{IsPendingAmong}
 use Rattle.holdings.specs.declared.pending.Sent.{Sent}
 use Rattle.node.specs.Asking.{MayAskFire, MayAskForget, MayAskPurge, Request, settling}
 use Rattle.node.specs.Workers.{NodeView, Worker, messages_from, sends, with_lease, with_outgoing, worker_at}
@@ -312,7 +312,7 @@ pub record IsPendingHeld (all : List (Option HeldView)) (sent : Sent) : Type 0 w
   pub interval : ℕ
   pub held : HeldView
   pub there : held_at all interval ≡ Some held
-  pub pending : IsPendingIn held.rows sent
+  pub pending : IsPendingAmong held.rows sent
 
 -- records are sent again each once, in the order of their ids: all that is pending in rows that are held, and
 -- nothing else

@@ -10,7 +10,7 @@ use Rattle.book.specs.Desks.{DeskView}
 use Rattle.book.specs.Proposals.{IsHandling}
 use Rattle.book.specs.declared.proposal.Proposal.{Proposal}
 use Rattle.book.specs.declared.proposal.Proposal.TheVariants as proposals
-use Rattle.holdings.specs.Holding.{AreHeld, HeldView, held_on, row_held}
+use Rattle.holdings.specs.Holding.{AreAllHeld, HeldView, held_on, row_held}
 use Rattle.node.specs.Messages.{IsOutgoing}
 use Rattle.node.specs.Workers.{NodeView, WorkView}
 use Rattle.node.specs.declared.outgoing.Outgoing.TheVariants as outgoing
@@ -37,6 +37,6 @@ IsWork case desk all work = IsPrepared case desk all work.sender work.proposal
 -- a node fits a desk
 pub record Fits (case : CaseShape) (desk : DeskView) (node : NodeView) : Type 0 where
   pub of_case : desk.case ≡ case
-  pub held : AreHeld case desk node.held
+  pub held : AreAllHeld case desk node.held
   pub work : IfSome node.prepared (IsWork case desk node.held)
   pub outbox : All (IsOutgoing case desk) node.outbox

@@ -10,8 +10,8 @@ use Rattle.node.specs.Workers.{NodeView}
 
 -- a node may have a row forget ids: nothing is prepared, and the row is held and has so many, and a
 -- floor below this one
-abbrev pub MayForget : Shape → NodeView → ℕ → ℕ → RowName → Type 0
-MayForget shape node least floor name = (asked : Request) × MayAskForget shape node least floor name asked
+abbrev pub CanForget : Shape → NodeView → ℕ → ℕ → RowName → Type 0
+CanForget shape node least floor name = (asked : Request) × MayAskForget shape node least floor name asked
 
 -- the first row of an interval that a node may have forget ids, or none where there is none
 abbrev pub IsToPurge : Shape → NodeView → ℕ → ℕ → ℕ → Option RowName → Type 0

@@ -5,7 +5,7 @@ use Rattle.mw_types.specs.declared.identity.RowName.{RowName}
 use Rattle.row_parts.specs.Contents.{ArePending, Contents}
 use Rattle.run_history.specs.Runs.{cached, row_in}
 use Rattle.holdings.specs.Holding.{HeldView, held_at}
-use Rattle.holdings.specs.Pendings.{IsPendingIn}
+use Rattle.holdings.specs.Pendings.{IsPendingAmong}
 use Rattle.holdings.specs.declared.pending.Sent.{Sent}
 use Rattle.node.specs.Answers.{IsSweep, again_cmp}
 
@@ -15,7 +15,7 @@ use Rattle.node.specs.Answers.{IsSweep, again_cmp}
 pub record IsPendingAt (all : List (Option HeldView)) (interval : ℕ) (sent : Sent) : Type 0 where
   pub held : HeldView
   pub there : held_at all interval ≡ Some held
-  pub pending : IsPendingIn held.rows sent
+  pub pending : IsPendingAmong held.rows sent
 
 -- what is pending in a row that is cached can be kept
 abbrev pub IsVouchedRow : HeldView → RowName → Type 0
@@ -41,7 +41,7 @@ pub record HasFoundAt (all : List (Option HeldView)) (interval : ℕ) (before af
 pub record AreFoundBelow (all : List (Option HeldView)) (count : ℕ) (found : List Sent) : Type 0 where
   pub each : All (λ (sent : Sent). (interval : ℕ) × IsFoundAt all interval sent) found
   pub every : (interval : ℕ) (sent : Sent) → interval < count → IsPendingAt all interval sent →
-    Contains found sent
+      Contains found sent
 
 -- ---- each once
 
@@ -49,7 +49,7 @@ pub record AreFoundBelow (all : List (Option HeldView)) (count : ℕ) (found : L
 pub record IsOnceOf (before after : List Sent) : Type 0 where
   pub each : (sent : Sent) → Contains after sent → Contains before sent
   pub every : (sent : Sent) → Contains before sent →
-    Any (λ (other : Sent). is_eq (again_cmp sent other) ≡ true) after
+      Any (λ (other : Sent). is_eq (again_cmp sent other) ≡ true) after
 
 -- ---- what is sent again
 

@@ -6,7 +6,7 @@ ghost use Rattle.book.specs.Desking.{IsDueKnown};
 ghost use Rattle.book.specs.Desks.{HasLooked, KeepsMarks};
 ghost use Rattle.node.specs.Answers.{AnswersFire, AnswersSome, FailsFire, FailsSome, HasGrown, HasKept};
 ghost use Rattle.node.specs.Fits.{Fits};
-ghost use Rattle.holdings.specs.Holding.{AreHeld, IsRefusedOf, KeepsHeld};
+ghost use Rattle.holdings.specs.Holding.{AreAllHeld, IsRefusedOf, KeepsHeld};
 ghost use Rattle.holdings.specs.Timers.{due_cmp, pair_of};
 ghost use Rattle.topology.specs.Shapes.{parts_of};
 ghost use Rattle.run_history.specs.Fences.{interval_of};
@@ -159,14 +159,14 @@ fn write_fire<D: Desk>(
     effects: Effects,
 ) -> Result<u64, DeskRefusal>
     requires case { (D.view desk.old).case ≡ case.now }
-    requires fits { AreHeld case.now (D.view desk.old) held.old }
+    requires fits { AreAllHeld case.now (D.view desk.old) held.old }
     requires covers { interval_of case.now.topology found.now.name ≡ Some interval }
     requires part { found.now.name.part < parts_of case.now.topology }
     requires set { IsSetAt case.now.topology held.old interval found.now.name found.now.timer }
     requires left { HasLeft case.now held.old interval found.now.name found.now.timer effects }
     requires known { IsDueKnown (D.view desk.old) found.now.name.part found.now.timer.time mark }
 
-    ensures fits { AreHeld case.now (D.view desk.new) held.new }
+    ensures fits { AreAllHeld case.now (D.view desk.new) held.new }
     ensures fired { IfOk result (λ commit. HoldsFire case.now.topology
         (D.view desk.old) (D.view desk.new) interval found.now.name found.now.timer mark effects
         commit held.old held.new) }

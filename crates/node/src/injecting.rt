@@ -7,7 +7,7 @@ ghost use Rattle.run_history.specs.Fences.{interval_of};
 ghost use Rattle.run_history.specs.Watermarks.{cursor_in};
 ghost use Rattle.book.specs.Desks.{HasLooked, KeepsMarks};
 ghost use Rattle.book.specs.Proposals.{IsNextLine};
-ghost use Rattle.holdings.specs.Holding.{AreHeld, IsRefusedOf, KeepsHeld, held_at, row_held};
+ghost use Rattle.holdings.specs.Holding.{AreAllHeld, IsRefusedOf, KeepsHeld, held_at, row_held};
 ghost use Rattle.node.specs.Answers.{AnswersAsked, FailsAsked, HasGrown, HasKept};
 ghost use Rattle.node.specs.Asking.{line_asked};
 ghost use Rattle.node.specs.Fits.{Fits};
@@ -146,14 +146,14 @@ fn write_line<D: Desk>(
     line: u32,
 ) -> Result<u64, DeskRefusal>
     requires case { (D.view desk.old).case ≡ case.now }
-    requires fits { AreHeld case.now (D.view desk.old) held.old }
+    requires fits { AreAllHeld case.now (D.view desk.old) held.old }
     requires covers { interval_of case.now.topology name.now ≡ Some interval }
     requires part { name.now.part < parts_of case.now.topology }
     requires there { IsSome (held_at held.old interval) }
     requires next { IfSome (held_at held.old interval) (λ here. IsNextLine case.now name.now
         (row_held case.now.topology here name.now) line) }
 
-    ensures fits { AreHeld case.now (D.view desk.new) held.new }
+    ensures fits { AreAllHeld case.now (D.view desk.new) held.new }
     ensures injected { IfOk result (λ commit. HoldsLine case.now.topology
         (D.view desk.old) (D.view desk.new) interval name.now line commit held.old held.new) }
 

@@ -6,7 +6,7 @@ ghost use Rattle.holdings.specs.Holding.{HeldView, held_at, held_on};
 ghost use Rattle.node.specs.Answers.{AnswersForget, AnswersPurge, AnswersWrite, FailsAsked, FailsForget, FailsPurge, HasGrown, HasKept};
 ghost use Rattle.node.specs.Asking.{HasToForget, MayAskForget, Request, forgetting};
 ghost use Rattle.node.specs.Fits.{Fits};
-ghost use Rattle.node.specs.PurgeSteps.{AreRowsWithin, IsToPurge, MayForget};
+ghost use Rattle.node.specs.PurgeSteps.{AreRowsWithin, IsToPurge, CanForget};
 ghost use Rattle.node.specs.Workers.{worker_at};
 
 use crate::node::Node;
@@ -124,9 +124,9 @@ impl<N: Seen> Node<N> {
     fn may_forget(&self, case: &Case, name: &RowName, least: u32, floor: u64) -> bool
         requires part { name.now.part < parts_of case.now.topology }
         ensures may { IsTrue result →
-            MayForget case.now.topology self.now least floor name.now }
+            CanForget case.now.topology self.now least floor name.now }
         ensures may_not { IsFalse result →
-            MayForget case.now.topology self.now least floor name.now → ⊥ }
+            CanForget case.now.topology self.now least floor name.now → ⊥ }
     {
         if self.prepared.is_some() {
             return false;
@@ -149,7 +149,7 @@ impl<N: Seen> Node<N> {
         requires fits { Fits case.now (D.view desk.old) self.old }
         requires part { name.now.part < parts_of case.now.topology }
         requires floor { floor ≤ (D.view desk.old).floor }
-        requires may { MayForget case.now.topology self.old 0 floor name.now }
+        requires may { CanForget case.now.topology self.old 0 floor name.now }
 
         ensures fits { Fits case.now (D.view desk.new) self.new }
         ensures answers { (held : HeldView) →

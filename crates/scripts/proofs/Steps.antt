@@ -11,7 +11,7 @@ use Rattle.run_history.proofs.Beginnings.{Begins-itself, Begins-trans}
 use Rattle.book.specs.Books.{LeaseView}
 use Rattle.node.specs.Workers.{Worker, with_lease}
 use Rattle.scripts.specs.Acts.{Deed, changed_by, deed_of, done_unless, lost, stale_in, with_sends, workers_with, world_after, world_then}
-use Rattle.scripts.specs.Keeping.{AppendsAtMostOne, AreClaimed, IsKept, KeepsForm, KeepsMessages}
+use Rattle.scripts.specs.Keeping.{AppendsAtMostOne, AreClaimed, KeepsWorld, KeepsForm, KeepsMessages}
 use Rattle.scripts.specs.Worlds.{World, worker_of, world_on}
 use Rattle.scripts.specs.declared.step.Step.{Step}
 use Rattle.scripts.proofs.Deeds.{IsKeeping, keeps-step}
@@ -118,7 +118,7 @@ along_script case Holds keeps (step ∷ script) world holds =
     along_script case Holds keeps script (world_then case world step) (keeps world step holds)
 
 -- what was kept until a step is kept after it
-kept-then : (case : CaseShape) (first world : World) (step : Step) → IsKept first world → IsKept first (world_then case world step)
+kept-then : (case : CaseShape) (first world : World) (step : Step) → KeepsWorld first world → KeepsWorld first (world_then case world step)
 kept-then case first world step kept = let form = step-form case world step in record {
   grown = Begins-trans first.history world.history (world_then case world step).history kept.grown (step-grows case world step);
   form = record { workers = form.workers ∙ kept.form.workers; marks = form.marks ∙ kept.form.marks };
@@ -127,7 +127,7 @@ kept-then case first world step kept = let form = step-form case world step in r
 }
 
 -- a world keeps what it has
-kept-itself : (world : World) → IsKept world world
+kept-itself : (world : World) → KeepsWorld world world
 kept-itself world = record {
   grown = Begins-itself world.history;
   form = record { workers = refl; marks = refl };
@@ -135,8 +135,8 @@ kept-itself world = record {
 }
 
 -- a whole script
-pub script-keeps : (case : CaseShape) (world : World) (script : List Step) → IsKept world (world_after case world script)
-script-keeps case world script = along_script case (IsKept world) (kept-then case world) script world (kept-itself world)
+pub script-keeps : (case : CaseShape) (world : World) (script : List Step) → KeepsWorld world (world_after case world script)
+script-keeps case world script = along_script case (KeepsWorld world) (kept-then case world) script world (kept-itself world)
 
 -- a script leaves leases that are claims of their workers
 pub script-claimed : (case : CaseShape) (history : List Entry) (marks : List ℕ) (script : List Step)

@@ -41,7 +41,7 @@ AreApart world = (number interval other another seq : ℕ) →
     (worker_of world other).leases another ≡ Some seq → IsOneLease number interval other another
 
 -- what a script keeps of the world in which it begins
-pub record IsKept (old new : World) : Type 0 where
+pub record KeepsWorld (old new : World) : Type 0 where
   pub grown : Begins old.history new.history
   pub form : KeepsForm old new
   pub messages : KeepsMessages old.flight new.flight

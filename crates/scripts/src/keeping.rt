@@ -9,7 +9,7 @@ ghost use Rattle.scripts.specs.Keeping.{
   AppendsAtMostOne,
   AreApart,
   AreClaimed,
-  IsKept,
+  KeepsWorld,
   KeepsForm,
   KeepsMessages,
 };
@@ -50,7 +50,7 @@ pub fn leases_are_claims_of_their_workers()
 /// What each step keeps a script keeps.
 pub fn scripts_keep_what_steps_keep()
     ensures kept { (case : CaseShape) (world : World) (script : List Step) →
-        IsKept world (world_after case world script) }
+        KeepsWorld world (world_after case world script) }
 
     // Before a script no worker has a lease, so after it each lease is a claim of its worker.
     ensures claimed { (case : CaseShape) (history : List Entry) (marks : List ℕ)

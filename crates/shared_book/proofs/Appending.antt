@@ -19,7 +19,7 @@ use Rattle.run_history.specs.Fences.{Begins, IsFenced, sequencer_of}
 use Rattle.run_history.proofs.Beginnings.{Begins-itself, Begins-trans, Begins-length, Begins-at, slice_get-last}
 use Rattle.run_history.proofs.Fenced.{IsFenced-begins}
 use Rattle.book.specs.Books.{CoreView, LeaseView}
-use Rattle.book.specs.Lawful.{IsLawful, IsHeld}
+use Rattle.book.specs.Lawful.{IsLawful, HoldsRowsOf}
 use Rattle.book.specs.OwnDesks.{telling}
 use Rattle.book.proofs.DeskLaws.{telling-if}
 use Rattle.book.proofs.SeenRows.{told-then}
@@ -27,7 +27,7 @@ use Rattle.shared_book.specs.declared.views.Basis.{Basis}
 use Rattle.shared_book.specs.declared.views.View.{View}
 use Rattle.shared_book.specs.Lists.{IsIn, AreDistinct}
 use Rattle.shared_book.specs.FenceLaw.{Slot, FenceLaw, Fits, AreApart, IsCore, AreClaimed, CarriesBelow, sequencers, no_marks}
-use Rattle.shared_book.specs.Steps.{Appends, Gives, Faults, Looks, IsOwnEntry, lease_in, grown, idle, faulted}
+use Rattle.shared_book.specs.Steps.{Appends, GivesBack, Faults, Looks, IsOwnEntry, lease_in, grown, idle, faulted}
 use Rattle.shared_book.proofs.Lists.{in_append, in_left, in_right, ascends_push, distinct_append, drop_front}
 use Rattle.shared_book.proofs.ViewLists.{everywhere_set, pairwise_set, somewhere_set, somewhere_here}
 use Rattle.shared_book.proofs.Histories.{begins_more, claim_kept, claim_within, entry_at_end, all_below, below_push, carried_below, legal_begins}
@@ -124,7 +124,7 @@ pub lawful_legal : (basis : Basis) (h : List Entry) (b : CoreView) → IsLawful 
 lawful_legal basis h b lawful same told =
     subst (λ (l : List Entry). IfSome basis.told (λ _. IsLegal basis.case l)) same
     (subst (λ (o : Option Unit). IfSome o (λ _. IsLegal basis.case b.history)) told
-    (telling-if b.rows _ (told-then b.rows (IsHeld basis.case b.history) _ lawful.held (λ r held. held.legal))))
+    (telling-if b.rows _ (told-then b.rows (HoldsRowsOf basis.case b.history) _ lawful.held (λ r held. held.legal))))
 
 -- each entry under a lease of the seat that appends is its own: the new entry is, and nothing carries the number
 -- of a lease that it gives
@@ -296,7 +296,7 @@ appends_one basis slots id v b e turn live may longer below lawful limit told s 
 -- a seat with the turn may give it back, and the book with it
 pub gives_turn : (basis : Basis) (slots id : ℕ) (v : View) (b : CoreView) → v.turn ≡ true → v.live ≡ true
     → IsCore v.basis v.front v.count b → 0 < slots
-    → Allows (FenceLaw basis) slots id (v, (0, Some b) ∷ []) 1 (λ _. 0) (λ _. Gives (step slots 1 0 0 none) (v, (0, Some b) ∷ []) 0)
+    → Allows (FenceLaw basis) slots id (v, (0, Some b) ∷ []) 1 (λ _. 0) (λ _. GivesBack (step slots 1 0 0 none) (v, (0, Some b) ∷ []) 0)
 gives_turn basis slots id v b turn live core room s f homes at small =
     let fit = f.views id v at in
     let mine = fit.holds turn in

@@ -16,7 +16,7 @@ use Rattle.shared_book.specs.declared.views.Basis.{Basis}
 use Rattle.shared_book.specs.declared.views.View.{View}
 use Rattle.shared_book.specs.FenceLaw.{AreClaimed, IsCore}
 use Rattle.shared_book.specs.Joins.{joined}
-use Rattle.shared_book.specs.SharedDesks.{HasKept, IsKept, IsKnown, KnownView, is_held, shared_view, sight_of, table_numbers}
+use Rattle.shared_book.specs.SharedDesks.{HasKept, IsKeptOfSeat, IsKnown, KnownView, is_held, shared_view, sight_of, table_numbers}
 use Rattle.shared_book.specs.Steps.{HasSeenLawful, SeatView, idle, missing}
 use Rattle.shared_book.specs.Turns.{HasMetForeign, HasTurn}
 use Rattle.shared_book.proofs.Appending.{lawful_legal}

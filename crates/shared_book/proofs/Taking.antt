@@ -24,7 +24,7 @@ use Rattle.history_laws.proofs.IdLaws.{next-length}
 use Rattle.history_laws.proofs.SeenLaws.{found-more}
 use Rattle.book.specs.Books.{BookView, CoreView, LeaseView, core_of}
 use Rattle.book.specs.Conditions.{IsOwnWork, IsRowSeen, MayForget, MaySettle}
-use Rattle.book.specs.Desking.{IsDueKnown, IsKnownOf, IsRowKnown, MayAsk, MayPurge}
+use Rattle.book.specs.Desking.{IsDueKnown, IsKnownOf, IsRowKnown, MayAsk, IsPurgeKnown}
 use Rattle.book.specs.Lawful.{IsLawful}
 use Rattle.book.specs.Marks.{AreSafe, AreUnderLow}
 use Rattle.book.specs.OwnDesks.{telling}
@@ -182,7 +182,7 @@ module _ (v t : View) (taken : HasTaken v t) where
   -- ids may be forgotten
   pub forget-taken : (b : CoreView) (k : KnownView) (name : RowName) (row : Contents) (floor : ℕ) → b.history ≡ t.front
       → telling b.rows ≡ v.basis.told → IsLawful v.basis.case b → IsKnown v.basis v.front k
-      → MayPurge (shared_view v k) name row floor → MayForget t.basis.case t.basis.told t.front name row floor
+      → IsPurgeKnown (shared_view v k) name row floor → MayForget t.basis.case t.basis.told t.front name row floor
   forget-taken b k name row floor same told lawful is may =
       subst (λ (p : Basis). MayForget p.case p.told t.front name row floor) (sym basis-taken) (record {
         rises = may.rises;

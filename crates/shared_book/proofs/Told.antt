@@ -18,7 +18,7 @@ use Rattle.shared_book.specs.Lists.{IsIn}
 use Rattle.shared_book.specs.FenceLaw.{Slot, IsCore, AreClaimed}
 use Rattle.shared_book.specs.Joins.{first_of, others_of}
 use Rattle.shared_book.specs.Opening.{SharedLaw}
-use Rattle.shared_book.specs.Steps.{SeatView, HasFound, Takes, Appends, Gives, Faults, Looks, IsTold, IsNext, faults_in, grown, history_in, faulted, holding, missing, lease_in}
+use Rattle.shared_book.specs.Steps.{SeatView, HasFound, Takes, Appends, GivesBack, Faults, Looks, IsTold, IsNext, faults_in, grown, history_in, faulted, holding, missing, lease_in}
 use Rattle.shared_book.specs.Turns.{HasTaken, HasTurn, IsGrown}
 use Rattle.shared_book.proofs.Lists.{drop_front, in_append}
 use Rattle.shared_book.proofs.Histories.{begins_more, claim_kept, seen_all}
@@ -85,10 +85,10 @@ may_fault key slots id me v b e turn live more rose =
 -- to give the turn back
 pub may_give : (key : Key) (slots id : ℕ) (v : View) (l : List (ℕ × Slot)) (b : CoreView) → l ≡ (0, Some b) ∷ []
     → v.turn ≡ true → v.live ≡ true → IsCore v.basis v.front v.count b → 0 < slots
-    → Allows (SharedLaw key) slots id (v, l) 1 (λ _. 0) (λ _. Gives (step slots 1 0 0 none) (v, l) 0)
+    → Allows (SharedLaw key) slots id (v, l) 1 (λ _. 0) (λ _. GivesBack (step slots 1 0 0 none) (v, l) 0)
 may_give key slots id v l b e turn live core room =
-    subst (λ (m : List (ℕ × Slot)). Allows (SharedLaw key) slots id (v, m) 1 (λ _. 0) (λ _. Gives (step slots 1 0 0 none) (v, m) 0)) (sym e)
-    (lift key slots id v ((0, Some b) ∷ []) 1 (λ _. 0) (λ _. Gives (step slots 1 0 0 none) (v, (0, Some b) ∷ []) 0) live
+    subst (λ (m : List (ℕ × Slot)). Allows (SharedLaw key) slots id (v, m) 1 (λ _. 0) (λ _. GivesBack (step slots 1 0 0 none) (v, m) 0)) (sym e)
+    (lift key slots id v ((0, Some b) ∷ []) 1 (λ _. 0) (λ _. GivesBack (step slots 1 0 0 none) (v, (0, Some b) ∷ []) 0) live
     (λ basis. gives_turn basis slots id v b turn live core room))
 
 -- to look

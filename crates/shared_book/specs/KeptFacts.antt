@@ -19,7 +19,7 @@ use Rattle.run_history.specs.Runs.{Run, empty_run, followed, row_of}
 use Rattle.run_history.proofs.Lists.{some_same}
 use Rattle.book.specs.Books.{LeaseView}
 use Rattle.shared_book.specs.declared.views.Basis.{Basis}
-use Rattle.shared_book.specs.SharedDesks.{IsKept, KnownView}
+use Rattle.shared_book.specs.SharedDesks.{IsKeptOfSeat, KnownView}
 
 -- ---- values that are equal in one way
 
@@ -82,6 +82,6 @@ AreLegal-prop case run (entry ∷ entries) = ×_prop (MayFollow-prop case run en
 
 -- ---- what a desk keeps
 
-pub IsKept-prop : (basis : Basis) (front : List Entry) (leases : List LeaseView) (known : KnownView)
-    → IsProp (IsKept basis front leases known)
-IsKept-prop basis front leases known = Prim.hlevel (props, AreLegal-prop)
+pub IsKeptOfSeat-prop : (basis : Basis) (front : List Entry) (leases : List LeaseView) (known : KnownView)
+    → IsProp (IsKeptOfSeat basis front leases known)
+IsKeptOfSeat-prop basis front leases known = Prim.hlevel (props, AreLegal-prop)

@@ -69,7 +69,7 @@ pub record IsKnown (basis : Basis) (front : List Entry) (known : KnownView) : Ty
 
 -- what a desk keeps of its seat: it has seen the beginning of a lawful history with the claims of its
 -- leases, and what is known of marks and of the floor is right by that
-pub record IsKept (basis : Basis) (front : List Entry) (leases : List LeaseView)
+pub record IsKeptOfSeat (basis : Basis) (front : List Entry) (leases : List LeaseView)
     (known : KnownView) : Type 0 where
   pub fenced : IsFenced basis.case.topology front
   pub legal : IfSome basis.told (λ _. IsLegal basis.case front)
@@ -80,4 +80,4 @@ pub record IsKept (basis : Basis) (front : List Entry) (leases : List LeaseView)
 
 -- the same, of a seat's view
 abbrev pub HasKept : View → KnownView → Type 0
-HasKept v known = IsKept v.basis v.front v.leases known
+HasKept v known = IsKeptOfSeat v.basis v.front v.leases known

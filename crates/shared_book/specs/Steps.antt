@@ -102,8 +102,8 @@ abbrev pub idle : View → View
 idle v = record v { turn = false; count = 0 }
 
 -- the seat gives the turn back, and the book with it: word 1 becomes 0
-abbrev pub Gives : Step Slot → SeatView → ℕ → SeatView → Type 0
-Gives step seat found after = IsStep step 1 0 × (after ≡ (idle seat.0, []))
+abbrev pub GivesBack : Step Slot → SeatView → ℕ → SeatView → Type 0
+GivesBack step seat found after = IsStep step 1 0 × (after ≡ (idle seat.0, []))
 
 -- ---- a fault is noted
 

@@ -3,7 +3,7 @@ ghost use Rattle.std.specs.Prelude.{◌≡◌, [], IfErr, IfOk, OnErr};
 ghost use Rattle.mw_types.specs.declared.entry.Entry.TheVariants.{Ack, Purge};
 ghost use Rattle.run_history.specs.Runs.{written_row};
 ghost use Rattle.book.specs.Conditions.{MaySettle};
-ghost use Rattle.book.specs.Desking.{HasStored, HasWritten, IsKnownOf, IsRowKnown, MayAsk, MayPurge};
+ghost use Rattle.book.specs.Desking.{HasStored, HasWritten, IsKnownOf, IsRowKnown, MayAsk, IsPurgeKnown};
 ghost use Rattle.book.specs.DeskReasons.{HasReason};
 ghost use Rattle.book.specs.Desks.{HasLooked, KeepsMarks};
 ghost use Rattle.book.specs.Proposals.{IsProposable};
@@ -133,7 +133,7 @@ pub(crate) fn purge_once<K: Keeper>(
     requires lease { MayAsk (shared_view seat.old.place.me.0 known.old) lease.now name.now }
     requires row { IsRowKnown (shared_view seat.old.place.me.0 known.old)
         lease.now name.now row.now }
-    requires floor { MayPurge (shared_view seat.old.place.me.0 known.old)
+    requires floor { IsPurgeKnown (shared_view seat.old.place.me.0 known.old)
         name.now row.now floor }
 
     ensures here { IsHere shared.now.table.shared.table_id shared.now.case.now seat.new.place }

@@ -57,9 +57,9 @@ impl<K: Keeper> Play<Option<Core<K>>, View> for Append {
 pub struct Give;
 
 impl<K: Keeper> Play<Option<Core<K>>, View> for Give {
-    ghost use Rattle.shared_book.specs.Steps.{Gives};
+    ghost use Rattle.shared_book.specs.Steps.{GivesBack};
 
-    ghost then = { Gives };
+    ghost then = { GivesBack };
 }
 
 /// The seat with the turn notes that the keeper failed.

@@ -1,7 +1,7 @@
 //! A desk over a seat of a shared book.
 ghost use Rattle.std.specs.Prelude.{◌≡◌, [], false, length, replicate};
 ghost use Rattle.run_history.specs.Cases.{intervals_of};
-ghost use Rattle.shared_book.specs.KeptFacts.{IsKept-prop};
+ghost use Rattle.shared_book.specs.KeptFacts.{IsKeptOfSeat-prop};
 ghost use Rattle.shared_book.specs.SharedDesks.{HasKept};
 ghost use Rattle.shared_book.specs.Turns.{IsHere, IsIdle};
 
@@ -40,7 +40,7 @@ pub struct SharedDesk<'s, 'a, K: Keeper> {
     ghost case: { seat.now.place.me.0.basis.case ≡ shared.now.case.now },
     ghost turn: { seat.now.place.me.0.turn ≡ false },
     ghost places: { seat.now.place.me.1 ≡ [] },
-    ghost kept: { HasKept seat.now.place.me.0 known } by { let v = seat.now.place.me.0 in IsKept-prop v.basis v.front v.leases known },
+    ghost kept: { HasKept seat.now.place.me.0 known } by { let v = seat.now.place.me.0 in IsKeptOfSeat-prop v.basis v.front v.leases known },
 }
 
 impl<'s, 'a, K: Keeper> SharedDesk<'s, 'a, K> {

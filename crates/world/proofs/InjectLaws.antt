@@ -21,9 +21,10 @@ use Rattle.run_history.proofs.Lists.{each-filter, each-weaker, filter-passes, no
 use Rattle.book.specs.Books.{BookView}
 use Rattle.holdings.specs.Holding.{HeldView, held_on, row_held}
 use Rattle.node.specs.Asking.{Request, line_asked, next_line}
+use Rattle.node.specs.LineSteps.{injector_row}
 use Rattle.node.specs.Workers.{NodeView}
 use Rattle.world.specs.Drains.{HasClaimedAll, IsNextEntry}
-use Rattle.world.specs.Turns.{HasAsked, HasTurned, IsAtWork, IsBestLine, IsFirstLine, IsInjected, IsNextInjector, IsQuiet, IsSettled, cursor_at, injector_row, lesser_line, line_at}
+use Rattle.world.specs.Turns.{HasAsked, HasTurned, IsAtWork, IsBestLine, IsFirstLine, IsInjected, IsNextInjector, IsQuiet, IsSettled, cursor_at, lesser_line, line_at}
 use Rattle.world.proofs.FirstItems.{from_filter}
 use Rattle.world.proofs.KnownLaws.{held-there, row-known}
 use Rattle.world.proofs.SettleLaws.{turned-asked}

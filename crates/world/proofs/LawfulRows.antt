@@ -7,10 +7,10 @@ use Rattle.row_keeper.specs.Rows.{Rows}
 use Rattle.run_history.specs.Cases.{CaseShape}
 use Rattle.run_history.specs.Legal.{IsLegal}
 use Rattle.run_history.specs.Runs.{run_of}
-use Rattle.book.specs.Lawful.{IsHeld, IsKept}
+use Rattle.book.specs.Lawful.{HoldsRowsOf, IsKeepable}
 
 -- a book's history is legal and its rows can be kept, where they are told
-pub lawful-rows : (case : CaseShape) (history : List Entry) (o : Option Rows) → IsSome o → IfSome o (IsHeld case history)
-    → (IsLegal case history) × AllByRecursion (IsKept case (length history)) (run_of case.topology history).rows
+pub lawful-rows : (case : CaseShape) (history : List Entry) (o : Option Rows) → IsSome o → IfSome o (HoldsRowsOf case history)
+    → (IsLegal case history) × AllByRecursion (IsKeepable case (length history)) (run_of case.topology history).rows
 lawful-rows case history None there is = absurd (cc)
 lawful-rows case history (Some rows) there is = (is.legal, is.kept)

@@ -38,7 +38,7 @@ use Rattle.history_laws.proofs.FinishedLaws.{legal-floors}
 use Rattle.history_laws.proofs.IdLaws.{legal-ids, legal-tells, same_id-true}
 use Rattle.history_laws.proofs.LowLaws.{AreRowsInOrder, rows-in_order}
 use Rattle.book.specs.Books.{BookView, core_of}
-use Rattle.book.specs.Lawful.{IsKept, IsLawful}
+use Rattle.book.specs.Lawful.{IsKeepable, IsLawful}
 use Rattle.holdings.specs.Holding.{held_at, held_on}
 use Rattle.node.specs.Asking.{MayAskPurge, Request, forgetting}
 use Rattle.node.specs.Workers.{NodeView}
@@ -125,7 +125,7 @@ pub rows-ordered : (book : BookView) (name : RowName) → IsLawful book.case (co
     → IsOrdered (row_of book.case.topology (run_of book.case.topology book.history) name)
 rows-ordered book name lawful told =
     row_of-named book.case.topology (λ n c. IsOrdered c) name (run_of book.case.topology book.history).rows
-    (each-weaker (IsKept book.case (length book.history)) (λ r. IsOrdered r.1)
+    (each-weaker (IsKeepable book.case (length book.history)) (λ r. IsOrdered r.1)
     (λ r kept. record { seen = kept.spelled.is_row.seen; timers = kept.spelled.is_row.timers })
     (run_of book.case.topology book.history).rows (lawful-rows book.case book.history book.rows told lawful.held).1)
     (record {

@@ -7,7 +7,7 @@ use Rattle.mw_types.specs.declared.entry.Entry.{Entry}
 use Rattle.row_keeper.specs.Rows.{Rows}
 use Rattle.run_history.specs.Cases.{CaseShape}
 use Rattle.book.specs.Books.{core_of}
-use Rattle.book.specs.Lawful.{IsHeld, IsLawful}
+use Rattle.book.specs.Lawful.{HoldsRowsOf, IsLawful}
 use Rattle.scripts.specs.Keeping.{AppendsAtMostOne}
 use Rattle.scripts.specs.declared.step.Step.{Step}
 use Rattle.world.specs.Stepping.{HasFaulted}
@@ -29,8 +29,8 @@ gone-one old new gone = record {
 }
 
 -- the rows of one history are the same
-rows-same : (case : CaseShape) (history : List Entry) (one other : Option Rows) → IfSome one (IsHeld case history)
-    → IfSome other (IsHeld case history) → is_some one ≡ is_some other → one ≡ other
+rows-same : (case : CaseShape) (history : List Entry) (one other : Option Rows) → IfSome one (HoldsRowsOf case history)
+    → IfSome other (HoldsRowsOf case history) → is_some one ≡ is_some other → one ≡ other
 rows-same case history None None is are same = refl
 rows-same case history None (Some other) is are same = absurd cc
 rows-same case history (Some one) None is are same = absurd cc
@@ -41,6 +41,6 @@ pub faulted-rows : (step : Step) (old new : WorldState) → IsLawful old.book.ca
     → IsLawful new.book.case (core_of new.book) → HasGoneOn old new → HasFaulted step old new → new.book.rows ≡ old.book.rows
 faulted-rows step old new was is gone kept =
     rows-same old.book.case old.book.history new.book.rows old.book.rows
-    (subst (λ (h : List Entry). IfSome new.book.rows (IsHeld old.book.case h)) (faulted-history step old new kept)
-    (subst (λ (k : CaseShape). IfSome new.book.rows (IsHeld k new.book.history)) gone.stepped.case is.held)) was.held
+    (subst (λ (h : List Entry). IfSome new.book.rows (HoldsRowsOf old.book.case h)) (faulted-history step old new kept)
+    (subst (λ (k : CaseShape). IfSome new.book.rows (HoldsRowsOf k new.book.history)) gone.stepped.case is.held)) was.held
     gone.stepped.tells

@@ -22,7 +22,7 @@ IsFlying book place = IfSome place (IsOutgoing book.case (own_view book))
 pub record IsWorld (state : WorldState) : Type 0 where
   pub sixteen : length state.nodes ≡ 16
   pub numbered : (number : ℕ) (node : NodeView) → slice_get state.nodes number ≡ Some node →
-    node.number ≡ number
+      node.number ≡ number
   pub fit : All (FitsOwn state.book) state.nodes
   pub claimed : AreClaimed (world_of state)
   pub flying : All (IsFlying state.book) (flight_of state.flight)

@@ -28,6 +28,7 @@ use Rattle.holdings.specs.Holding.{HeldView, held_at, held_on, row_held}
 use Rattle.node.specs.Answers.{refusal_of}
 use Rattle.node.specs.Asking.{Request}
 use Rattle.node.specs.Fits.{Fits}
+use Rattle.node.specs.LineSteps.{injector_row}
 use Rattle.node.specs.Workers.{NodeView, with_lease, worker_at}
 use Rattle.node.specs.declared.outcome.NodeFault.{NodeFault}
 use Rattle.node.specs.declared.outcome.NodeFault.TheVariants as faults
@@ -215,10 +216,6 @@ is_full_at shape run node name =
 pub record CanBeKept (delivery : Delivery) : Type 0 where
   pub id : IsId delivery.id
   pub stamp : delivery.item.stamp ≤ MAX_STAMP
-
--- the name of an injector's row
-abbrev pub injector_row : ℕ → RowName
-injector_row part = record { part = part; key = [] }
 
 -- how many lines an injector has injected, by its row as it is held
 abbrev pub cursor_at : CaseShape → NodeView → ℕ → ℕ

@@ -11,7 +11,7 @@ use Rattle.run_history.proofs.Lists.{none_some}
 use Rattle.book.specs.Books.{BookView, LeaseView}
 use Rattle.book.specs.Desks.{DeskView}
 use Rattle.book.specs.OwnDesks.{own_view}
-use Rattle.holdings.specs.Holding.{AreHeld, HeldView, IsHeld, held_at, held_on, row_held}
+use Rattle.holdings.specs.Holding.{AreAllHeld, HeldView, IsHeld, held_at, held_on, row_held}
 use Rattle.node.specs.Workers.{NodeView, leases_of}
 use Rattle.scripts.specs.Worlds.{World, lease_of, lease_on, row_known, worker_of}
 use Rattle.world.proofs.deeds.Acting.{IsActing, acting-worker, tells}
@@ -21,7 +21,7 @@ abbrev pub lease_held : HeldView → LeaseView
 lease_held held = held.lease
 
 -- the lease that a worker has of an interval is that of what is held there
-lease-at : (case : CaseShape) (desk : DeskView) (all : List (Option HeldView)) (interval : ℕ) → AreHeld case desk all
+lease-at : (case : CaseShape) (desk : DeskView) (all : List (Option HeldView)) (interval : ℕ) → AreAllHeld case desk all
     → option_map (λ (seq : ℕ). record { interval = interval; seq = seq }) (leases_of all interval)
     ≡ option_map lease_held (held_at all interval)
 lease-at case desk all interval fit = by_held (held_at all interval) refl

@@ -4,7 +4,7 @@ use Rattle.mw_types.specs.declared.identity.RowName.{RowName}
 use Rattle.row_parts.specs.Contents.{Contents}
 use Rattle.book.specs.Claims.{named}
 use Rattle.book.specs.declared.answers.NamedRow.{NamedRow}
-use Rattle.holdings.specs.Pendings.{ArePendingIn, sent_in}
+use Rattle.holdings.specs.Pendings.{ArePendingAmong, sent_in}
 use Rattle.holdings.specs.declared.pending.Sent.{Sent}
 use Rattle.holdings.proofs.PendingLaws.{pending-merged}
 use Rattle.holdings.proofs.cache.Cache.pending.Goals as goal
@@ -14,7 +14,7 @@ pub returns : goal.returns
 returns c =
     let answered = c.self.inside.answered.items in
     let others = c.self.inside.others in
-    subst (λ (l : List (RowName × Contents)). ArePendingIn l c.push_beside.new.sent) c.self.view_is
+    subst (λ (l : List (RowName × Contents)). ArePendingAmong l c.push_beside.new.sent) c.self.view_is
     (pending-merged answered others c.push_beside.new.sent c.self.invariant
     (c.in_ok-push_beside.ensures
     ∙ ap (λ (l : List Sent). l ++ flat_map sent_in others)

@@ -4,9 +4,9 @@ use Rattle.key_intervals.specs.declared.bounds.Bounds.{Bounds}
 use Rattle.mw_types.specs.declared.identity.RowName.{RowName}
 use Rattle.row_parts.specs.Contents.{Contents}
 use Rattle.holdings.specs.Holding.{HeldView, held_at}
-use Rattle.holdings.proofs.ClaimSteps.{AreHeld-claimed}
+use Rattle.holdings.proofs.ClaimSteps.{AreAllHeld-claimed}
 use Rattle.holdings.proofs.HeldPlaces.{held-here, held-others}
-use Rattle.holdings.proofs.HeldSteps.{AreHeld-looked}
+use Rattle.holdings.proofs.HeldSteps.{AreAllHeld-looked}
 use Rattle.holdings.proofs.holdings.Holdings.claim.Goals as goal
 
 -- a free place changes nothing
@@ -16,7 +16,7 @@ returns-in_err-make_room-clause-fits g c = record { each = λ i held is. c.requi
 -- a refused claim changes nothing
 pub returns-in_err-lease-clause-fits : goal.returns-in_err-lease-clause-fits
 returns-in_err-lease-clause-fits g c =
-    AreHeld-looked c.args.case.now (g.D.Desk.view c.args.desk.now) (g.D.Desk.view c.claim-claimed.new.self) c.args.self.now c.make_room.new.self
+    AreAllHeld-looked c.args.case.now (g.D.Desk.view c.args.desk.now) (g.D.Desk.view c.claim-claimed.new.self) c.args.self.now c.make_room.new.self
     c.requires.case c.sound.ensures.sound c.sound-2.ensures.sound c.in_err-lease.ensures.looked c.make_room.ensures.same c.requires.fits
 
 -- what was answered is held, and all fits
@@ -26,7 +26,7 @@ returns-clause-fits g c =
     let interval = c.args.interval in
     let places = c.make_room.new.self in
     let left : HeldView = record { lease = answer.lease; rows = c.of-rows.result } in
-    AreHeld-claimed c.args.case.now (g.D.Desk.view c.args.desk.now) (g.D.Desk.view c.claim-claimed.new.self) c.args.worker interval
+    AreAllHeld-claimed c.args.case.now (g.D.Desk.view c.args.desk.now) (g.D.Desk.view c.claim-claimed.new.self) c.args.worker interval
     c.bounds-bounds.result.now answer c.requires.case c.sound.ensures.sound c.sound-2.ensures.sound
     (sym (ap (λ (l : List Bounds). slice_get l interval) c.intervals.ensures.all) ∙ c.bounds-bounds.ensures.at)
     c.in_ok-lease.ensures.claimed c.args.self.now c.put.new.self

@@ -3,10 +3,10 @@ use Rattle.mw_types.specs.declared.entry.Entry.TheVariants.{Purge}
 use Rattle.row_parts.specs.Contents.{Contents}
 use Rattle.run_history.specs.Runs.{written_row}
 use Rattle.book.specs.Books.{LeaseView}
-use Rattle.book.specs.Desking.{HasStored, MayPurge}
+use Rattle.book.specs.Desking.{HasStored, IsPurgeKnown}
 use Rattle.book.specs.declared.answers.Written.{Written}
 use Rattle.holdings.proofs.HeldRows.{HasEntered, entered-stored}
-use Rattle.holdings.proofs.HeldSteps.{AreHeld-kept, HoldsEntry-written, KeepsHeld-refused, known-ready, may-ready, ok-so, read-ready, said-ready, stays-ready, there-ready}
+use Rattle.holdings.proofs.HeldSteps.{AreAllHeld-kept, HoldsEntry-written, KeepsHeld-refused, known-ready, may-ready, ok-so, read-ready, said-ready, stays-ready, there-ready}
 use Rattle.holdings.proofs.holdings.Holdings.purge.Goals as goal
 
 -- what is held stands in order
@@ -44,7 +44,7 @@ pub purge-written-requires-clause-floor : goal.purge-written-requires-clause-flo
 purge-written-requires-clause-floor g c =
     (said-ready c.args.case.now (g.D.Desk.view c.args.desk.now) c.args.self.now c.ready.new.self c.args.interval c.args.name.now
     c.held-held.result.now c.requires.covers c.in_ok-ready.ensures.ready c.held-held.ensures.held c.requires.fits
-    (λ (r : Contents). MayPurge (g.D.Desk.view c.args.desk.now) c.args.name.now r c.args.floor)
+    (λ (r : Contents). IsPurgeKnown (g.D.Desk.view c.args.desk.now) c.args.name.now r c.args.floor)
     c.cached.result.now c.cached.ensures.row c.requires.floor)
 
 -- the row is still cached
@@ -61,7 +61,7 @@ returns-clause-fits g c =
     let old = g.D.Desk.view c.args.desk.now in
     let new = g.D.Desk.view c.purge-written.new.self in
     let lease = c.lease.result.now in
-    AreHeld-kept c.args.case.now old new c.args.self.now c.ready.new.self c.keep.new.self c.args.interval c.args.name.now
+    AreAllHeld-kept c.args.case.now old new c.args.self.now c.ready.new.self c.keep.new.self c.args.interval c.args.name.now
     c.held-held.result.now c.requires.covers c.in_ok-ready.ensures.ready c.held-held.ensures.held c.requires.fits c.keep.ensures.others lease c.lease.ensures.lease
     c.requires.case c.sound.ensures.sound c.sound-2.ensures.sound c.purge-written.result c.keep.ensures.here
     (ok-so (HasStored old new lease c.args.name.now (Purge lease.seq c.args.name.now c.args.floor) c.cached.result.now

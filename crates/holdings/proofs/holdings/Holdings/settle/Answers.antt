@@ -7,7 +7,7 @@ use Rattle.book.specs.Desking.{HasStored}
 use Rattle.book.specs.Conditions.{MaySettle}
 use Rattle.book.specs.declared.answers.Written.{Written}
 use Rattle.holdings.proofs.HeldRows.{HasEntered, entered-stored}
-use Rattle.holdings.proofs.HeldSteps.{AreHeld-kept, HoldsEntry-written, KeepsHeld-refused, known-ready, may-ready, ok-so, read-ready, said-ready, stays-ready, there-ready}
+use Rattle.holdings.proofs.HeldSteps.{AreAllHeld-kept, HoldsEntry-written, KeepsHeld-refused, known-ready, may-ready, ok-so, read-ready, said-ready, stays-ready, there-ready}
 use Rattle.holdings.proofs.holdings.Holdings.settle.Goals as goal
 
 -- what is held stands in order
@@ -62,7 +62,7 @@ returns-clause-fits g c =
     let old = g.D.Desk.view c.args.desk.now in
     let new = g.D.Desk.view c.settle-written.new.self in
     let lease = c.lease.result.now in
-    AreHeld-kept c.args.case.now old new c.args.self.now c.ready.new.self c.keep.new.self c.args.interval c.args.name.now
+    AreAllHeld-kept c.args.case.now old new c.args.self.now c.ready.new.self c.keep.new.self c.args.interval c.args.name.now
     c.held-held.result.now c.requires.covers c.in_ok-ready.ensures.ready c.held-held.ensures.held c.requires.fits c.keep.ensures.others lease c.lease.ensures.lease
     c.requires.case c.sound.ensures.sound c.sound-2.ensures.sound c.settle-written.result c.keep.ensures.here
     (ok-so (HasStored old new lease c.args.name.now (Ack lease.seq c.args.name.now c.args.id) c.cached.result.now

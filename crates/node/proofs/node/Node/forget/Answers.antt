@@ -1,13 +1,13 @@
 use Rattle.std.proofs.Common.{◌∙◌, ap, subst, sym, refl}
 use Rattle.std.specs.Prelude.{IfErr, IfOk, IfSome, OnErr, Result, Some}
-use Rattle.book.specs.Desking.{MayPurge}
+use Rattle.book.specs.Desking.{IsPurgeKnown}
 use Rattle.holdings.specs.Holding.{IsRefusedOf, held_at, row_held}
 use Rattle.node.specs.declared.outcome.NodeFault.{NodeFault}
 use Rattle.node.specs.declared.outcome.Outcome.{Outcome}
 use Rattle.node.specs.Answers.{AnswersWrite, FailsAsked, HasGrown, HasKept}
 use Rattle.node.specs.Asking.{forgetting}
 use Rattle.node.specs.Fits.{Fits}
-use Rattle.node.specs.PurgeSteps.{MayForget}
+use Rattle.node.specs.PurgeSteps.{CanForget}
 use Rattle.node.specs.Workers.{NodeView, worker_at}
 use Rattle.node.proofs.PurgeLaws.{held-at-on}
 use Rattle.node.proofs.FitLaws.{Fits-kept, Fits-yielded, keeps-refused, more-looked, worker-kept}
@@ -21,7 +21,7 @@ purge-requires-clause-floor g c =
     let case = c.args.case.now in
     let old = g.D.Desk.view c.args.desk.now in
     subst (λ (n : NodeView). IfSome (held_at n.held c.interval_of-interval.result)
-    (λ held. MayPurge old c.args.name.now (row_held case.topology held c.args.name.now) c.args.floor)) (sym c.self.view_is)
+    (λ held. IsPurgeKnown old c.args.name.now (row_held case.topology held c.args.name.now) c.args.floor)) (sym c.self.view_is)
     (forget-floor case old c.args.self.now c.interval_of-interval.result c.args.name.now c.args.floor c.requires.fits c.requires.may
     c.interval_of-interval.ensures.interval c.requires.floor)
 
@@ -39,8 +39,8 @@ returns-in-Ok-clause-fits g c =
       outbox = c.self.inside.outbox.messages;
     } in
     let fits : Fits case old node = subst (Fits case old) (sym c.self.view_is) c.requires.fits in
-    let may : MayForget case.topology node 0 c.args.floor c.args.name.now =
-    subst (λ (n : NodeView). MayForget case.topology n 0 c.args.floor c.args.name.now) (sym c.self.view_is) c.requires.may in
+    let may : CanForget case.topology node 0 c.args.floor c.args.name.now =
+    subst (λ (n : NodeView). CanForget case.topology n 0 c.args.floor c.args.name.now) (sym c.self.view_is) c.requires.may in
     Fits-purged case old new node interval c.args.name.now c.args.floor c.in-Ok.commit c.purge.new.self c.in-Ok.ensures.purged
     c.in-Ok.ensures.fits may.1.free fits
 

@@ -2,7 +2,7 @@ use Rattle.std.proofs.Common.{rules, ◌≡◌, subst, refl}
 use Rattle.std.specs.Prelude.{None, Some}
 use Rattle.holdings.specs.Holding.{held_at}
 use Rattle.node.specs.Asking.{forgetting}
-use Rattle.node.specs.PurgeSteps.{MayForget}
+use Rattle.node.specs.PurgeSteps.{CanForget}
 use Rattle.node.specs.Workers.{NodeView}
 use Rattle.node.proofs.PurgeLaws.{held-on-at}
 use Rattle.node.proofs.node.Node.may_forget.Goals as goal
@@ -19,7 +19,7 @@ returns-in-Some-clause-may g c is =
     } in
     let free : c.self.inside.prepared ≡ None = search rules in
     let at : held_at node.held c.interval_of.result ≡ Some c.in-Some.held.now = search rules in
-    subst (λ (n : NodeView). MayForget shape n c.args.least c.args.floor c.args.name.now) c.self.view_is (
+    subst (λ (n : NodeView). CanForget shape n c.args.least c.args.floor c.args.name.now) c.self.view_is (
       forgetting c.in-Some.held.now c.args.name.now c.args.floor,
       record {
         free = free;
