@@ -1,8 +1,15 @@
--- How a run ends over a keeper that is opened before it and closed after it. Own.
+-- How a call ends by its words or its keeper, when the run itself is not begun or is over. Own.
+use Rattle.mw_ports.specs.declared.words.WordsFault.{WordsFault}
+use Rattle.mw_ports.specs.declared.words.WordsFault.TheVariants as words
 use Rattle.row_keeper.specs.declared.keeper.KeeperFault.{KeeperFault}
 use Rattle.row_keeper.specs.declared.keeper.KeeperFault.TheVariants as faults
 use Rattle.millwheel_cli.specs.declared.status.Status.{Status}
 use Rattle.millwheel_cli.specs.declared.status.Status.TheVariants as status
+
+-- the status of words that were not read: those that are no text are no call
+abbrev pub of_words : WordsFault → Status
+of_words words.NoMemory = status.NoMemory
+of_words words.NoText = status.Usage
 
 -- the status of a keeper that failed
 abbrev pub of_keeper : KeeperFault → Status

@@ -1,10 +1,21 @@
-//! How a run ends over a keeper that is opened before it and closed after it.
+//! How a call ends by its words or its keeper, when the run itself is not begun or is over.
 ghost use Rattle.std.specs.Prelude.{◌≡◌, if◌then◌else◌, IfErr, IsOk};
-ghost use Rattle.millwheel_cli.specs.Closing.{of_keeper};
+ghost use Rattle.millwheel_cli.specs.Closing.{of_keeper, of_words};
 ghost use Rattle.millwheel_cli.specs.Messages.{is_ok};
 
 use crate::status::Status;
+use mw_ports::WordsFault;
 use row_keeper::KeeperFault;
+
+/// The status where the words of the call were not read, so that no run was begun.
+pub fn unheard(fault: WordsFault) -> Status
+    ensures { result ≡ of_words fault }
+{
+    match fault {
+        WordsFault::NoMemory => Status::NoMemory,
+        WordsFault::NoText => Status::Usage,
+    }
+}
 
 /// The status where a keeper could not be opened, so that no run was begun.
 pub fn unopened(fault: KeeperFault) -> Status

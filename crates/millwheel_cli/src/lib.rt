@@ -10,7 +10,7 @@
 //! leaves what the clauses say. Definitions, in the order of reading: `specs/Asked.antt`, where rows are kept;
 //! `specs/Files.antt`, what was read; `specs/Loads.antt`, what load makes; `specs/Tasks.antt`, what is to be
 //! done; `specs/Reasons.antt`, why each status comes; `specs/Answers.antt`, what it leaves; `specs/Closing.antt`,
-//! what a keeper's fault before or after a run makes of it.
+//! what comes of words that were not read, and of a keeper's fault before or after a run.
 #![tactic(auto)]
 
 mod alone;
@@ -30,7 +30,7 @@ mod text;
 
 pub use alone::{Done, millwheel_alone};
 pub use asked::keep_name;
-pub use closing::{after_closing, unopened};
+pub use closing::{after_closing, unheard, unopened};
 pub use load::load_lines;
 pub use saying::{say, tell};
 pub use status::Status;

@@ -1,16 +1,14 @@
 //! The program `millwheel` without `--keep`, which is quickly compiled: a newcomer's first run.
 //!
-//! All that it does is `millwheel_alone` of `millwheel_cli`, over a keeper in memory and the files and the
-//! standard output of the runtime, and then `tell`, over its standard error, whose number is the exit
-//! status. With `--keep` it answers Usage.
+//! All that it does is `millwheel_alone` of `millwheel_cli`, with the words of `words_of`, over a keeper in
+//! memory and the files and the standard output of the runtime, and then `tell`, over its standard error,
+//! whose number is the exit status. With `--keep` it answers Usage.
 #![tactic(auto)]
 
-use millwheel_cli::{Done, Status, keep_name, millwheel_alone, tell};
-use mw_ports::{FileShelf, OutSink};
-use mw_types::{CallList, Name, NoMemory, Seq};
+use millwheel_cli::{Done, Status, keep_name, millwheel_alone, tell, unheard};
+use mw_ports::{FileShelf, OutSink, words_of};
+use mw_types::{CallList, Name, NoMemory};
 use row_keeper::MemKeeper;
-use std::alloc::Global;
-use std::io::{Error, ErrorKind};
 use std::process::ExitCode;
 use std::{env, mem};
 
@@ -20,39 +18,11 @@ fn main(rt: HostRuntime) -> ExitCode {
     ExitCode::from(tell(rt.alloc(), &status, &mut OutSink::new(&err)))
 }
 
-// Does what the command line says.
+// Does what the words of the command line say.
 fn status(rt: &HostRuntime) -> Status {
-    let args = match command_line(rt) {
-        Ok(args) => args,
-        Err(error) => return unread(&error),
-    };
-    match named(rt.alloc(), &args) {
+    match words_of(rt.alloc(), env::args(rt)) {
         Ok(words) => run(rt, words.as_slice()),
-        Err(NoMemory) => Status::NoMemory,
-    }
-}
-
-// The command line without the program's name.
-fn command_line(rt: &HostRuntime) -> Result<Vec<String>, Error> {
-    let args = env::args(rt)?.skip(1).collect(rt.alloc())?;
-    Ok(args)
-}
-
-// The words as names.
-fn named(alloc: Global, args: &[String]) -> Result<Seq<Name>, NoMemory> {
-    let mut words = Seq::new(alloc);
-    for word in args {
-        words.push(Name::of(alloc, word.as_str())?)?;
-    }
-    Ok(words)
-}
-
-// The status where the command line was not read: a word that is no text is in no call.
-fn unread(error: &Error) -> Status {
-    if error.kind() == ErrorKind::OutOfMemory {
-        Status::NoMemory
-    } else {
-        Status::Usage
+        Err(fault) => unheard(fault),
     }
 }
 

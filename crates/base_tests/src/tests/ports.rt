@@ -1,11 +1,13 @@
-//! Shelves and sinks in memory fail as told; the real ones reach files and standard output.
+//! Shelves and sinks in memory fail as told; the real ones reach files and standard output; a call's words are
+//! read.
 use mw_ports::{
     FileList, FileShelf, MemShelf, MemSink, NamedFile, OutSink, Shelf, ShelfFault, Sink, SinkFault,
-    write_all,
+    WordsFault, words_of, write_all,
 };
 use mw_types::{Bytes, CallList, Name, NoMemory};
 use std::alloc::Global;
 use std::fs;
+use std::io::{Error, ErrorKind};
 use std::test::Fail;
 
 // A file of this name and content.
@@ -141,4 +143,31 @@ fn standard_output_takes_a_line(rt: HostRuntime) -> Result<(), Fail> {
     write_all(&mut out, b"one line\n")?;
     assert_eq!(rt; out.write(b""), Ok(0));
     Ok(())
+}
+
+#[test]
+fn the_words_of_a_call_are_without_its_own_name(rt: HostRuntime) -> Result<(), Fail> {
+    let alloc = rt.alloc();
+    let mut args = Vec::new(alloc);
+    for arg in ["millwheel", "solo", ""] {
+        args.push(String::from_str(alloc, arg)?)?;
+    }
+    let words = words_of(alloc, Ok(args.into_iter()))?;
+    for (at, text) in [(0, Some("solo")), (1, Some("")), (2, None)] {
+        assert_eq!(rt; words.get(at).map(|word| word.text()), text);
+    }
+    let none = words_of(alloc, Ok(Vec::new(alloc).into_iter()))?;
+    assert!(rt; none.is_empty());
+    Ok(())
+}
+
+#[test]
+fn words_that_are_not_read_are_no_text_or_no_memory(rt: HostRuntime) {
+    for (kind, fault) in [
+        (ErrorKind::InvalidData, WordsFault::NoText),
+        (ErrorKind::OutOfMemory, WordsFault::NoMemory),
+    ] {
+        let unread = words_of(rt.alloc(), Err(Error::from(kind)));
+        assert_eq!(rt; unread.err(), Some(fault));
+    }
 }
