@@ -1,5 +1,5 @@
 -- The first example as several workers would write it: with claims, acknowledgements and a purge, worked by hand.
-use Rattle.std.specs.Prelude.{ℕ, List, [], ◌∷◌, take}
+use Rattle.std.specs.Prelude.{ℕ, List, [], ◌∷◌, ◌++◌, take}
 use Rattle.mw_types.specs.declared.identity.RecordId.{RecordId}
 use Rattle.mw_types.specs.declared.identity.RowName.{RowName}
 use Rattle.mw_types.specs.declared.state.Window.{Window}
@@ -50,3 +50,26 @@ drained_rows =
     (injector_row, record { state = Injector 3; timers = []; pending = []; seen = []; floor = 0; last = 10 })
     ∷ (row_a, record { state = Count 0 []; timers = []; pending = []; seen = []; floor = 13; last = 13 })
     ∷ []
+
+-- a number below 256 in eight bytes, and in four
+abbrev pub in_eight : ℕ → List ℕ
+in_eight n = 0 ∷ 0 ∷ 0 ∷ 0 ∷ 0 ∷ 0 ∷ 0 ∷ n ∷ []
+
+abbrev pub in_four : ℕ → List ℕ
+in_four n = 0 ∷ 0 ∷ 0 ∷ n ∷ []
+
+-- the bytes of three empty lists: no timers, no pending deliveries and no ids
+abbrev pub no_lists : List ℕ
+no_lists = in_four 0 ++ in_four 0 ++ in_four 0
+
+-- the rows that a keeper holds at the end, with their 34 and 42 bytes: the version 1, the last entry, the
+-- floor, the state (its kind; the cursor, or the late records and the windows), and the lists
+abbrev pub drained_stored : List (RowName × List ℕ)
+drained_stored =
+    (injector_row, 1 ∷ in_eight 10 ++ in_eight 0 ++ 0 ∷ in_four 3 ++ no_lists)
+    ∷ (row_a, 1 ∷ in_eight 13 ++ in_eight 13 ++ 1 ∷ in_eight 0 ++ in_four 0 ++ no_lists)
+    ∷ []
+
+-- the first record is handled under the claim of the injector's interval, and not under that of the count's
+abbrev pub drained_stale : List Entry
+drained_stale = take 3 drained_history ++ Handle 0 row_a (id_of 2) (counts (window 60 1 ∷ []) 60) ∷ []

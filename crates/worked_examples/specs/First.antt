@@ -1,5 +1,5 @@
 -- The first example, worked by hand: three records of the key a in windows of 60, on one thread.
-use Rattle.std.specs.Prelude.{ℕ, pos, false, List, [], ◌∷◌, take}
+use Rattle.std.specs.Prelude.{ℕ, pos, false, List, [], ◌∷◌, ◌++◌, take}
 use Rattle.mw_types.specs.declared.identity.RowName.{RowName}
 use Rattle.mw_types.specs.declared.state.State.TheVariants.{Count}
 use Rattle.mw_types.specs.declared.state.Window.{Window}
@@ -67,6 +67,12 @@ first_history =
     ∷ Fire 0 row_a (end_of 60) 60 (closes (window 120 1 ∷ []) 60 2)
     ∷ Fire 0 row_a (end_of 120) 120 (closes [] 120 1)
     ∷ []
+
+-- the first record is handled, and then once more
+abbrev pub first_handled_twice : List Entry
+first_handled_twice =
+    take 2 first_history
+    ++ Handle 0 row_a (record { commit = 0; index = 0 }) (counts (window 60 2 ∷ []) 60) ∷ []
 
 -- the low watermark of the count after so many entries
 abbrev pub first_low : ℕ → ℕ

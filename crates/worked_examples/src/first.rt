@@ -2,7 +2,7 @@
 ghost use Rattle.std.specs.Prelude.{◌≡◌};
 ghost use Rattle.run_history.specs.Runs.{run_of};
 ghost use Rattle.run_history.specs.Legal.{IsLegal, IsDone};
-ghost use Rattle.worked_examples.specs.First.{first_case, first_history, first_low, first_emissions};
+ghost use Rattle.worked_examples.specs.First.{first_case, first_history, first_handled_twice, first_low, first_emissions};
 
 /// The history of the first example is legal and done, emits its two windows, and has the low watermarks
 /// that its timers need.
@@ -15,4 +15,7 @@ pub fn first_example()
     ensures low_before_lines { first_low 4 ≡ 0 }
     ensures low_at_first { first_low 6 ≡ 60 }
     ensures low_at_second { first_low 7 ≡ 120 }
+
+    // A record is handled once.
+    ensures handled_twice { IsLegal first_case first_handled_twice → ⊥ }
 {}

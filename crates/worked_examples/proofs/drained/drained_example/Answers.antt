@@ -1,7 +1,10 @@
-use Rattle.std.proofs.Common.{ℕ, refl, arith}
+use Rattle.std.proofs.Common.{◌≡◌, ℕ, [], ◌∷◌, take, refl, arith}
+use Rattle.std.specs.Prelude.{Option, Some}
 use Rattle.mw_types.specs.declared.delivery.Delivery.{Delivery}
-use Rattle.worked_examples.specs.First.{row_a, record_at}
-use Rattle.worked_examples.specs.Drained.{id_of}
+use Rattle.mw_types.specs.declared.entry.Entry.TheVariants.{Handle}
+use Rattle.run_history.proofs.Fenced.{IsFenced-tested}
+use Rattle.worked_examples.specs.First.{first_case, row_a, record_at, window, counts}
+use Rattle.worked_examples.specs.Drained.{id_of, drained_history}
 use Rattle.worked_examples.proofs.drained.drained_example.Goals as goal
 
 -- the delivery that the entry of this number made of a record
@@ -51,3 +54,30 @@ returns-clause-legal c = (
     ),
   ),
 )
+
+-- each write is under its claim
+pub returns-clause-fenced : goal.returns-clause-fenced
+returns-clause-fenced c = IsFenced-tested first_case.topology drained_history refl
+
+-- no rule of the order asks for the number of a claim
+pub returns-clause-stale_is_legal : goal.returns-clause-stale_is_legal
+unfolding sent
+returns-clause-stale_is_legal c = (
+  record { worker_there = omega arith; interval_there = omega arith },
+  (
+    record { worker_there = omega arith; interval_there = omega arith },
+    (
+      record { injector = refl; next_line = refl; of_line = refl },
+      (record { delivery = sent 2 10; waits = refl; to_row = refl; does = refl }, tt),
+    ),
+  ),
+)
+
+-- the numbers of the two claims differ
+apart : ◌≡◌ {A = Option ℕ} (Some 1) (Some 0) → ⊥
+apart e = cc
+
+-- the last claim of the count's interval is entry 1
+pub returns-clause-stale_is_not_fenced : goal.returns-clause-stale_is_not_fenced
+returns-clause-stale_is_not_fenced c fenced =
+    apart (fenced (take 3 drained_history) (Handle 0 row_a (id_of 2) (counts (window 60 1 ∷ []) 60)) ([], refl) row_a refl)

@@ -1,5 +1,6 @@
 use Rattle.std.proofs.Common.{ℕ, refl, arith}
 use Rattle.mw_types.specs.declared.delivery.Delivery.{Delivery}
+use Rattle.run_history.proofs.Lists.{none_some}
 use Rattle.worked_examples.specs.First.{row_a, record_at}
 use Rattle.worked_examples.proofs.first.first_example.Goals as goal
 
@@ -32,3 +33,7 @@ returns-clause-legal c = (
     ),
   ),
 )
+
+-- the delivery waits no more
+pub returns-clause-handled_twice : goal.returns-clause-handled_twice
+returns-clause-handled_twice c legal = none_some legal.1.1.0.delivery legal.1.1.0.waits
