@@ -1,6 +1,0 @@
-use Rattle.std.proofs.Common.{◌≡◌, ◌++◌, take}
-use Rattle.plain_definitions.proofs.lists.joined.Given as goal
-
--- the first list, and the copies so far
-abbrev pub invariant-loop-x : goal.invariant-loop-x
-invariant-loop-x g l = l.all ≡ l.front ++ take l.x-index l.x-items

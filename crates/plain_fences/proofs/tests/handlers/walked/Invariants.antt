@@ -1,7 +1,0 @@
-use Rattle.mw_types.specs.Bounds.{IsWithin}
-use Rattle.computations.specs.Parts.{HasState}
-use Rattle.plain_fences.proofs.tests.handlers.walked.Given as goal
-
--- the row may have the state so far
-abbrev pub invariant-loop-deed : goal.invariant-loop-deed
-invariant-loop-deed l = HasState l.work l.part l.state × IsWithin l.state
