@@ -23,7 +23,7 @@ use Rattle.book.specs.Answers.{HasStayed, IsSameBook, IsWritten}
 use Rattle.book.specs.Books.{BookView, LeaseView, core_of}
 use Rattle.book.specs.Claims.{AreRowsOf}
 use Rattle.book.specs.Conditions.{HasSeenAllAt, IsOwnWork, IsOwnWorkAt, IsRowOf, IsRowSeen, IsRowSeenAt, MayForgetAt, MaySettle, MaySettleAt, MayUseAt}
-use Rattle.book.specs.Desking.{HasClaimed, HasStored, HasWritten, IsKnownOf, IsRowKnown, MayAsk, IsPurgeKnown}
+use Rattle.book.specs.Desking.{HasClaimed, HasStored, HasWritten, IsKnownOf, IsPurgeKnown, IsRowKnown, MayAsk}
 use Rattle.book.specs.Desks.{HasLooked, HasMoved, IsSound, KeepsMarks}
 use Rattle.book.specs.Lawful.{HoldsRowsOf, IsLawful}
 use Rattle.book.specs.Marks.{AreUnderLow}

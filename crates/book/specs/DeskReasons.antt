@@ -1,5 +1,6 @@
--- Why a desk refuses. Akidau et al., VLDB 2013, section 6.2: a write under an older sequencer is refused.
--- Own: the other refusals, and what shows each of them.
+-- Why a desk refuses.
+-- Akidau et al., VLDB 2013, section 6.2: a write under an older sequencer is refused. Own: the other
+-- refusals, and what shows each of them.
 use Rattle.std.specs.Prelude.{◌≡◌, ◌↔◌, ◌++◌, ◌∷◌, [], ℕ, ⊤, length}
 use Rattle.mw_types.specs.Causes.{Rose}
 use Rattle.run_history.specs.Fences.{IsCurrent, IsOvertakenBy}
@@ -13,7 +14,7 @@ use Rattle.book.specs.declared.refusals.ClaimRefusal.TheVariants as claims
 use Rattle.book.specs.declared.desk_refusal.DeskRefusal.{DeskRefusal}
 use Rattle.book.specs.declared.desk_refusal.DeskRefusal.TheVariants as refusals
 
--- a refusal that is neither for want of memory nor since another had the turn
+-- a refusal that is neither for lack of memory nor since another had the turn
 abbrev pub IsDecided : DeskRefusal → Type 0
 IsDecided (refusals.Busy found) = ⊥
 IsDecided refusals.NoMemory = ⊥
@@ -45,7 +46,7 @@ pub record HasReason (old new : DeskView) (lease : LeaseView) (why : DeskRefusal
   pub counts : HasCount old new why
   pub no_row : IsNoDamage why
 
--- a report is refused for another's turn, as stale or for want of memory, and for nothing else: it appends
+-- a report is refused for another's turn, as stale or for lack of memory, and for nothing else: it appends
 -- nothing
 abbrev pub IsReportRefusal : DeskRefusal → Type 0
 IsReportRefusal (refusals.Busy found) = ⊤

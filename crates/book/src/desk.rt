@@ -6,7 +6,7 @@ ghost use Rattle.run_history.specs.Legal.{MayClaim};
 ghost use Rattle.run_history.specs.Runs.{written_row};
 ghost use Rattle.watermark.specs.Marks.{mark_of};
 ghost use Rattle.book.specs.Conditions.{IsOwnWork, MaySettle};
-ghost use Rattle.book.specs.Desking.{HasClaimed, HasStored, HasWritten, IsKnownOf, IsReported, IsRowKnown, MayAsk, IsPurgeKnown};
+ghost use Rattle.book.specs.Desking.{HasClaimed, HasStored, HasWritten, IsKnownOf, IsPurgeKnown, IsReported, IsRowKnown, MayAsk};
 ghost use Rattle.book.specs.DeskReasons.{HasClaimReason, HasReason, IsReportRefusal};
 ghost use Rattle.book.specs.Desks.{DeskView, HasLooked, HasMet, Home, IsNoteOf, IsSound, KeepsMarks, Sight};
 ghost use Rattle.book.specs.Proposals.{IsProposable};

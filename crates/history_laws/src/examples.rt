@@ -1,25 +1,18 @@
 //! Examples that were worked out by hand, which the definitions here must meet.
 ghost use Rattle.std.specs.Prelude.{Some, take, ◌≡◌, ◌++◌, ◌∷◌, []};
 ghost use Rattle.mw_types.specs.declared.TheConstants.{END};
-ghost use Rattle.run_history.specs.Runs.{run_of};
 ghost use Rattle.worked_examples.specs.First.{first_case, row_a};
-ghost use Rattle.worked_examples.specs.Drained.{drained_history, injector_row};
+ghost use Rattle.worked_examples.specs.Drained.{injector_row};
 ghost use Rattle.run_history.specs.Fences.{IsFenced, interval_of, known, last_claim};
 ghost use Rattle.run_history.specs.Finished.{unfinished};
 ghost use Rattle.run_history.specs.Marks.{work_above};
 ghost use Rattle.worked_examples.specs.OwnWorks.{drained_after, own_works};
 ghost use Rattle.worked_examples.specs.Overtaken.{overtaken, handled_under};
 
-/// The example with claims, acknowledgements and a purge is fenced, and leaves no work at its end.
-pub fn drained_example_is_fenced()
+/// The two rows of the example lie in the two intervals.
+pub fn drained_example_has_its_intervals()
     ensures injector_lies { interval_of first_case.topology injector_row ≡ Some 0 }
     ensures row_lies { interval_of first_case.topology row_a ≡ Some 1 }
-    ensures fenced { IsFenced first_case.topology drained_history }
-
-    // After the first line was handled its delivery is not acknowledged, one timer is set, and
-    // lines are left.
-    ensures work_left { unfinished first_case (drained_after 4) ≡ 3 }
-    ensures no_work_left { unfinished first_case (run_of first_case.topology drained_history) ≡ 0 }
 {}
 
 /// Once another worker has claimed the interval, a write under the old claim is not fenced, and one
@@ -39,6 +32,10 @@ pub fn drained_example_has_its_own_work()
     ensures handled { own_works (drained_after 10) ≡ (60, 60) }
     ensures acknowledged { own_works (drained_after 11) ≡ (END, 60) }
     ensures fired { own_works (drained_after 12) ≡ (END, 120) }
+
+    // After the first line was handled its delivery is not acknowledged, one timer is set, and
+    // lines are left.
+    ensures left { unfinished first_case (drained_after 4) ≡ 3 }
 
     // Above the count stands the work of the injector too.
     ensures above { work_above first_case (drained_after 6) 1 ≡ 0 }

@@ -32,7 +32,8 @@ mod writes;
 
 pub use claims::last_claims_are_latest;
 pub use examples::{
-    an_overtaken_claim_is_stale, drained_example_has_its_own_work, drained_example_is_fenced,
+    an_overtaken_claim_is_stale, drained_example_has_its_intervals,
+    drained_example_has_its_own_work,
 };
 pub use fitting::rows_fit_their_names;
 pub use floors::{floor_is_least_unacknowledged, floor_never_falls};

@@ -1,6 +1,7 @@
--- What a worker holds of each interval, and when it fits what its desk knows. Akidau et al., VLDB 2013,
--- section 6.2: a worker caches the state of the keys that it owns, which is safe while its sequencer is the
--- last. Own: the rows under a lease that was overtaken are those that it knew until then.
+-- What a worker holds of each interval, and when it fits what its desk knows.
+-- Akidau et al., VLDB 2013, section 6.2: a worker caches the state of the keys that it owns, which is safe
+-- while its sequencer is the last. Own: the rows under a lease that was overtaken are those that it knew
+-- until then.
 use Rattle.std.specs.Prelude.{◌≡◌, ◌<◌, ◌++◌, ℕ, true, List, Option, Some, None, IsSome, IfSome, length, map, slice_get, unwrap_or}
 use Rattle.std.specs.Option.{option_and_then}
 use Rattle.std.specs.List.Sorted.{IsStrictlySortedBy}

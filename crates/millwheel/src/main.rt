@@ -3,7 +3,8 @@
 //! All that it does is `millwheel_alone` of `millwheel_cli`, with the words of `words_of`, over the files and
 //! the standard output of the runtime and over a keeper in memory, or in a database where `keep_name` answers
 //! its name, with `after_closing` once that is closed; and then `tell`, over its standard error, whose number
-//! is the exit status.
+//! is the exit status. `unheard` says the status of words that were not read, and `unopened` that of a
+//! database that was not opened.
 #![tactic(auto)]
 
 use millwheel_cli::{

@@ -6,10 +6,10 @@ use Rattle.row_keeper.specs.declared.keeper.KeeperFault.TheVariants as faults
 use Rattle.millwheel_cli.specs.declared.status.Status.{Status}
 use Rattle.millwheel_cli.specs.declared.status.Status.TheVariants as status
 
--- the status of words that were not read: those that are no text are no call
-abbrev pub of_words : WordsFault → Status
-of_words words.NoMemory = status.NoMemory
-of_words words.NoText = status.Usage
+-- the status of words that were not read: they are no call, unless memory ran out
+abbrev pub of_unheard : WordsFault → Status
+of_unheard words.NoMemory = status.NoMemory
+of_unheard words.NoText = status.Usage
 
 -- the status of a keeper that failed
 abbrev pub of_keeper : KeeperFault → Status

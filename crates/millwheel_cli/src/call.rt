@@ -87,7 +87,7 @@ fn read_replay<S: Shelf>(
     })
 }
 
-// How many event files these are. More than a `u32` counts are refused as a want of memory, which
+// How many event files these are. More than a `u32` counts are refused as a lack of memory, which
 // their names alone would take.
 fn count_of(events: &[Name]) -> Result<u32, NoMemory>
     ensures { IfOk result (λ count. count ≡ length events.now) }

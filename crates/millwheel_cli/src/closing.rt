@@ -1,6 +1,6 @@
 //! How a call ends by its words or its keeper, when the run itself is not begun or is over.
 ghost use Rattle.std.specs.Prelude.{◌≡◌, if◌then◌else◌, IfErr, IsOk};
-ghost use Rattle.millwheel_cli.specs.Closing.{of_keeper, of_words};
+ghost use Rattle.millwheel_cli.specs.Closing.{of_keeper, of_unheard};
 ghost use Rattle.millwheel_cli.specs.Messages.{is_ok};
 
 use crate::status::Status;
@@ -9,7 +9,7 @@ use row_keeper::KeeperFault;
 
 /// The status where the words of the call were not read, so that no run was begun.
 pub fn unheard(fault: WordsFault) -> Status
-    ensures { result ≡ of_words fault }
+    ensures { result ≡ of_unheard fault }
 {
     match fault {
         WordsFault::NoMemory => Status::NoMemory,

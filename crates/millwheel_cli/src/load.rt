@@ -45,7 +45,7 @@ fn load_topology() -> &'static [u8]
 }
 
 // What the one event file of load holds. A file of 2^32 bytes, which no number of lines makes that words
-// may ask for, would be refused as a want of memory.
+// may ask for, would be refused as a lack of memory.
 fn load_items(alloc: Global, seed: u32, lines: u32) -> Result<Items, Refusal>
     ensures taken { IfOk result
         (λ items. source_taken 0 lines_limit (load_text seed lines) ≡ Ok items) }

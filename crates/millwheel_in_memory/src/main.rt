@@ -2,7 +2,8 @@
 //!
 //! All that it does is `millwheel_alone` of `millwheel_cli`, with the words of `words_of`, over a keeper in
 //! memory and the files and the standard output of the runtime, and then `tell`, over its standard error,
-//! whose number is the exit status. With `--keep` it answers Usage.
+//! whose number is the exit status. `unheard` says the status of words that were not read; where `keep_name`
+//! answers a name, it is Usage.
 #![tactic(auto)]
 
 use millwheel_cli::{Done, Status, keep_name, millwheel_alone, tell, unheard};

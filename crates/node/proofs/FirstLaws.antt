@@ -24,7 +24,7 @@ use Rattle.holdings.specs.Purges.{IsFirstToPurge, forgets}
 use Rattle.node.specs.Answers.{AnswersPurge, AnswersWrite, FailsAsked, FailsPurge, HasGrown}
 use Rattle.node.specs.Asking.{HasToForget, MayAskPurge, forgetting}
 use Rattle.node.specs.Fits.{Fits}
-use Rattle.node.specs.PurgeSteps.{AreRowsWithin, IsToPurge, CanForget}
+use Rattle.node.specs.PurgeSteps.{AreRowsWithin, CanForget, IsToPurge}
 use Rattle.node.specs.Workers.{NodeView, worker_at}
 use Rattle.node.specs.declared.outcome.NodeFault.{NodeFault}
 use Rattle.node.specs.declared.outcome.Outcome.{Outcome}

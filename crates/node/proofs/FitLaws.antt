@@ -420,9 +420,9 @@ Fits-beside case old new node was is others fits =
     Fits-kept case old new node node more (AreAllHeld-beside case old new node.held was is fits.of_case others fits.held)
     (keeps-same case.topology node.held) refl refl fits
 
--- ---- want of memory
+-- ---- lack of memory
 
--- a want of memory has the reason that a desk may give for it
+-- a lack of memory has the reason that a desk may give for it
 reason-memory : (desk : DeskView) (lease : LeaseView) → HasReason desk desk lease refusals.NoMemory
 reason-memory desk lease = record {
   stale = λ decided. absurd decided;

@@ -75,7 +75,7 @@ pub reason-held : (old new : DeskView) (was : List (Option HeldView)) (interval 
 reason-held old new was interval held result at is =
     subst (λ (o : Option HeldView). IfErr result (FailsReport old new o)) (sym at) is
 
--- a report that was refused fails for want of memory alone
+-- a report that was refused fails for lack of memory alone
 pub memory-alone : (why : DeskRefusal) → IsReportRefusal why → IfErr (answered why) (λ fault. fault ≡ faults.NoMemory)
 memory-alone (refusals.Busy found) only = tt
 memory-alone (refusals.Stale newer) only = tt

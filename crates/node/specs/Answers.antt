@@ -83,7 +83,7 @@ abbrev pub FailsAsked : DeskView → DeskView → Option Request → NodeFault �
 FailsAsked old new None why = why ≡ faults.NoMemory
 FailsAsked old new (Some asked) why = IsRefused old new asked.lease (refusal_of why)
 
--- a call fails for want of memory, or as its desk does where it asked for an entry for which it may ask
+-- a call fails for lack of memory, or as its desk does where it asked for an entry for which it may ask
 abbrev pub FailsSome : DeskView → DeskView → (Request → Type 0) → NodeFault → Type 0
 FailsSome old new MayAsk why = (why ≡ faults.NoMemory)
     ⊎ (asked : Request) × MayAsk asked × IsRefused old new asked.lease (refusal_of why)
@@ -296,7 +296,7 @@ abbrev pub AnswersReport : CaseShape → DeskView → DeskView → Option HeldVi
 AnswersReport case old new None was node outcome = (outcome ≡ outcomes.Nothing) × IsIdle old new was node
 AnswersReport case old new (Some held) was node outcome = AnswersReportOf case old new held was node outcome
 
--- why a report fails: for want of memory, or as its desk does under the lease that is held
+-- why a report fails: for lack of memory, or as its desk does under the lease that is held
 abbrev pub FailsReport : DeskView → DeskView → Option HeldView → NodeFault → Type 0
 FailsReport old new None why = why ≡ faults.NoMemory
 FailsReport old new (Some held) why = IsRefused old new held.lease (refusal_of why)

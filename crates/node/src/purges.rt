@@ -6,7 +6,7 @@ ghost use Rattle.holdings.specs.Holding.{HeldView, held_at, held_on};
 ghost use Rattle.node.specs.Answers.{AnswersForget, AnswersPurge, AnswersWrite, FailsAsked, FailsForget, FailsPurge, HasGrown, HasKept};
 ghost use Rattle.node.specs.Asking.{HasToForget, MayAskForget, Request, forgetting};
 ghost use Rattle.node.specs.Fits.{Fits};
-ghost use Rattle.node.specs.PurgeSteps.{AreRowsWithin, IsToPurge, CanForget};
+ghost use Rattle.node.specs.PurgeSteps.{AreRowsWithin, CanForget, IsToPurge};
 ghost use Rattle.node.specs.Workers.{worker_at};
 
 use crate::node::Node;

@@ -11,7 +11,7 @@ use Rattle.run_history.proofs.Beginnings.{Begins-itself, Begins-trans}
 use Rattle.book.specs.Books.{LeaseView}
 use Rattle.node.specs.Workers.{Worker, with_lease}
 use Rattle.scripts.specs.Acts.{Deed, changed_by, deed_of, done_unless, lost, stale_in, with_sends, workers_with, world_after, world_then}
-use Rattle.scripts.specs.Keeping.{AppendsAtMostOne, AreClaimed, KeepsWorld, KeepsForm, KeepsMessages}
+use Rattle.scripts.specs.Keeping.{AppendsAtMostOne, AreClaimed, KeepsForm, KeepsMessages, KeepsWorld}
 use Rattle.scripts.specs.Worlds.{World, worker_of, world_on}
 use Rattle.scripts.specs.declared.step.Step.{Step}
 use Rattle.scripts.proofs.Deeds.{IsKeeping, keeps-step}

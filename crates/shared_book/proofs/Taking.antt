@@ -24,7 +24,7 @@ use Rattle.history_laws.proofs.IdLaws.{next-length}
 use Rattle.history_laws.proofs.SeenLaws.{found-more}
 use Rattle.book.specs.Books.{BookView, CoreView, LeaseView, core_of}
 use Rattle.book.specs.Conditions.{IsOwnWork, IsRowSeen, MayForget, MaySettle}
-use Rattle.book.specs.Desking.{IsDueKnown, IsKnownOf, IsRowKnown, MayAsk, IsPurgeKnown}
+use Rattle.book.specs.Desking.{IsDueKnown, IsKnownOf, IsPurgeKnown, IsRowKnown, MayAsk}
 use Rattle.book.specs.Lawful.{IsLawful}
 use Rattle.book.specs.Marks.{AreSafe, AreUnderLow}
 use Rattle.book.specs.OwnDesks.{telling}

@@ -3,7 +3,7 @@ ghost use Rattle.std.specs.Prelude.{◌≡◌, [], IfErr, IfOk, OnErr};
 ghost use Rattle.mw_types.specs.declared.entry.Entry.TheVariants.{Ack, Purge};
 ghost use Rattle.run_history.specs.Runs.{written_row};
 ghost use Rattle.book.specs.Conditions.{MaySettle};
-ghost use Rattle.book.specs.Desking.{HasStored, HasWritten, IsKnownOf, IsRowKnown, MayAsk, IsPurgeKnown};
+ghost use Rattle.book.specs.Desking.{HasStored, HasWritten, IsKnownOf, IsPurgeKnown, IsRowKnown, MayAsk};
 ghost use Rattle.book.specs.DeskReasons.{HasReason};
 ghost use Rattle.book.specs.Desks.{HasLooked, KeepsMarks};
 ghost use Rattle.book.specs.Proposals.{IsProposable};

@@ -1,4 +1,4 @@
--- The first example as several workers would write it: with claims, acknowledgements and a purge, worked by hand.
+-- The first example as one thread writes it, with claims, acknowledgements and a purge, worked by hand.
 use Rattle.std.specs.Prelude.{ℕ, List, [], ◌∷◌, ◌++◌, take}
 use Rattle.mw_types.specs.declared.identity.RecordId.{RecordId}
 use Rattle.mw_types.specs.declared.identity.RowName.{RowName}

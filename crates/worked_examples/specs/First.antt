@@ -1,4 +1,5 @@
--- The first example, worked by hand: three records of the key a in windows of 60, on one thread.
+-- The first example, worked by hand: three records of the key a in windows of 60, handled by one thread and
+-- without claims, acknowledgements and purges.
 use Rattle.std.specs.Prelude.{ℕ, pos, false, List, [], ◌∷◌, ◌++◌, take}
 use Rattle.mw_types.specs.declared.identity.RowName.{RowName}
 use Rattle.mw_types.specs.declared.state.State.TheVariants.{Count}

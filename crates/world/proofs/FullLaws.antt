@@ -59,7 +59,7 @@ line-unended book node part at next = λ told from ended.
 
 -- ---- a call that fails
 
--- a call that fails for want of memory does not fail since the history is full
+-- a call that fails for lack of memory does not fail since the history is full
 pub full-not : (book : BookView) (why : NodeFault) → why ≡ faults.NoMemory → IsFullUnended book why
 full-not book why is = λ full. absurd (let both : faults.NoMemory ≡ faults.HistoryFull = sym is ∙ full in cc)
 

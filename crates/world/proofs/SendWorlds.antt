@@ -44,6 +44,6 @@ unsent-at state book number was node after at same kept unchanged =
     })
     ∙ ap (λ (f : List (Option (Message NoNote))). let w : World = record (world_of state) { flight = flight_of f } in w) unchanged
 
--- a want of memory, where the book is as it was
+-- a lack of memory, where the book is as it was
 pub failed-same : (old new : BookView) (why : NodeFault) → new ≡ old → why ≡ faults.NoMemory → HasFailed old new why
 failed-same old new why same is = subst (λ (b : BookView). HasFailed old b why) (sym same) (failed-not old why is)

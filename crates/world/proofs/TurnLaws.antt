@@ -301,7 +301,7 @@ some-done old new MayAsk was node outcome at own answers fits = by_outcome outco
 
 -- ---- why a call fails
 
--- a fault for want of memory
+-- a fault for lack of memory
 pub failed-memory : (old new : BookView) → HasLooked (own_view old) (own_view new) → HasFailed old new faults.NoMemory
 failed-memory old new looked = record {
   stepped = stepped-looked old new looked;
@@ -310,7 +310,7 @@ failed-memory old new looked = record {
   damaged = tt;
 }
 
--- a want of memory where nothing was done
+-- a lack of memory where nothing was done
 pub failed-not : (book : BookView) (why : NodeFault) → why ≡ faults.NoMemory → HasFailed book book why
 failed-not book why is = subst (HasFailed book book) (sym is) (record {
   stepped = stepped-not book;

@@ -256,7 +256,7 @@ pub failed-report : (old new : BookView) (held : Option HeldView) (why : NodeFau
 failed-report old new None why looked fails = subst (HasFailed old new) (sym fails) (failed-memory old new looked)
 failed-report old new (Some held) why looked fails = failed-refused old new held.lease why looked fails
 
--- a want of memory
+-- a lack of memory
 pub failed-only-memory : (old new : BookView) (why : NodeFault) → HasLooked (own_view old) (own_view new)
     → why ≡ faults.NoMemory → HasFailed old new why
 failed-only-memory old new why looked is = subst (HasFailed old new) (sym is) (failed-memory old new looked)

@@ -1,8 +1,8 @@
--- What one thread writes where it works all off: which entry of a drain comes next after a history. Akidau
--- et al., VLDB 2013, sections 4.5 and 4.6, for the low watermark under which timers fire. Own: the order, in
--- which a rule applies only where the earlier ones have nothing to do. The sequencer, a handler's effects,
--- and the line and record that are injected are not named here, since a fenced and legal history leaves no
--- choice of them.
+-- What one thread writes where it works all off: which entry of a drain comes next after a history.
+-- Akidau et al., VLDB 2013, sections 4.5 and 4.6, for the low watermark under which timers fire. Own: the
+-- order, in which a rule applies only where the earlier ones have nothing to do. The sequencer, a handler's
+-- effects, and the line and record that are injected are not named here, since a fenced and legal history
+-- leaves no choice of them.
 use Rattle.std.specs.Prelude.{◌≡◌, ◌≢◌, ◌<◌, ◌≤◌, ◌+◌, ◌⊎◌, ◌++◌, ◌∷◌, [], ℕ, Bool, true, false, ◌&&◌, nat_lt, nat_le, List, length, Some, Contains}
 use Rattle.std.specs.Ordering.{is_gt, nat_cmp, ordering_then}
 use Rattle.mw_types.specs.Orders.{row_cmp, timer_cmp, key_cmp}

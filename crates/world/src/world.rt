@@ -53,7 +53,7 @@ pub struct WorldRefusal<'a, K: Keeper, C: Computation + Drop> {
 
 impl<'a, K: Keeper, C: Computation + Drop> World<'a, K, C> {
     /// A world over a book: no worker has anything, and no message is in flight. It is refused only
-    /// for want of memory.
+    /// for lack of memory.
     pub fn start(
         alloc: Global,
         book: Book<'a, K>,

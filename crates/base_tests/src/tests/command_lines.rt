@@ -7,7 +7,7 @@ use std::alloc::Global;
 use std::test::Fail;
 
 // The words of a line.
-fn words_of(alloc: Global, line: &str) -> Result<Vec<&str>, NoMemory> {
+fn words_in(alloc: Global, line: &str) -> Result<Vec<&str>, NoMemory> {
     let mut words = Vec::new(alloc);
     if line.is_empty() {
         return Ok(words);
@@ -67,7 +67,7 @@ fn read_by(alloc: Global, inputs: &Inputs) -> Result<String, Fail> {
 #[test]
 fn each_line_is_its_command(rt: HostRuntime) -> Result<(), Fail> {
     for (line, wanted) in LINES {
-        let words = words_of(rt.alloc(), line)?;
+        let words = words_in(rt.alloc(), line)?;
         let names = names_of(rt.alloc(), words.as_slice())?;
         let said = said_of(rt.alloc(), names.as_slice())?;
         assert_eq!(rt; said.as_str(), wanted);

@@ -1,5 +1,5 @@
-//! Shelves and sinks in memory fail as told; the real ones reach files and standard output; a call's words are
-//! read.
+//! Shelves and sinks in memory fail as told; the real ones reach files and standard output; the words of a
+//! call are read.
 use mw_ports::{
     FileList, FileShelf, MemShelf, MemSink, NamedFile, OutSink, Shelf, ShelfFault, Sink, SinkFault,
     WordsFault, words_of, write_all,

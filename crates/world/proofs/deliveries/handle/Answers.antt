@@ -50,7 +50,7 @@ returns-clause-rested g c =
     err-left c.prepare-result.result (λ kept. rested-by old new was node c.prepare-result.ensures.marks kept
     c.prepare-result.ensures.looked) c.prepare-result.ensures.kept in search rules
 
--- and is for want of memory
+-- and is for lack of memory
 pub returns-clause-failed : goal.returns-clause-failed
 returns-clause-failed g c =
     let old = c.args.book.now in

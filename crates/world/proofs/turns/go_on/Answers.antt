@@ -122,7 +122,7 @@ returns-clause-failed g c =
     err-then c.purge_first.result (λ why failed. failed-on c.args.book.now b3 c.purge_first.new.book why three failed)
     c.purge_first.ensures.failed
 
--- a report fails for want of memory alone
+-- a report fails for lack of memory alone
 pub returns-in_err-report_all-clause-unended : goal.returns-in_err-report_all-clause-unended
 returns-in_err-report_all-clause-unended g c =
     let r = c.from_residual.result in

@@ -49,7 +49,7 @@ returns-clause-gone g c =
     subst (λ (s : WorldState). HasGoneOn s new) c.self.view_is
     (gone-at state c.send.new.book c.args.worker c.index_mut-node.result.now c.send.new.node c.send.new.flight.items c.send.ensures.called)
 
--- a want of memory leaves all as it was
+-- a lack of memory leaves all as it was
 pub returns-clause-same : goal.returns-clause-same
 returns-clause-same g c =
     let state : WorldState = record { book = c.self.inside.book; nodes = c.self.inside.nodes.items; flight = c.self.inside.flight.items } in
