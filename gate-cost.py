@@ -18,7 +18,7 @@ TICK = os.sysconf("SC_CLK_TCK")
 def stat(pid):
     """The parent of a process and its processor seconds, or none where it has ended."""
     try:
-        with open("/proc/%s/stat" % pid) as text:
+        with open("/proc/%s/stat" % pid, errors="replace") as text:
             fields = text.read().rsplit(")", 1)[1].split()
     except OSError:
         return None
@@ -28,7 +28,7 @@ def stat(pid):
 def words(pid):
     """The words that a process was started with, and the folder that it works in."""
     try:
-        with open("/proc/%s/cmdline" % pid) as text:
+        with open("/proc/%s/cmdline" % pid, errors="replace") as text:
             return text.read().split("\0"), os.readlink("/proc/%s/cwd" % pid)
     except OSError:
         return [], ""
