@@ -18,7 +18,7 @@ use Rattle.mw_types.specs.declared.state.HeldTotal.{HeldTotal}
 use Rattle.mw_types.specs.declared.timer.Timer.{Timer}
 use Rattle.mw_types.specs.declared.entry.Entry.{Entry}
 use Rattle.mw_types.specs.declared.entry.Entry.TheVariants as entries
-use Rattle.mw_types.specs.Outcomes.{Outcome}
+use Rattle.mw_types.specs.Outcomes.{EffectsView}
 use Rattle.topology.specs.Shapes.{Shape, kind_of}
 use Rattle.computations.specs.Handlers.{effects_of_record, effects_of_timer, unchanged, outcome_with_timer, outcome_with_record, count_timer, window_due, spike_timer, total_due, is_spike, known_with, due_time, one_more, window_end, counted, held_with, has_kind}
 use Rattle.row_parts.specs.Contents.{Contents, is_finished}
@@ -50,7 +50,7 @@ use Rattle.book.proofs.SentLaws.{sent-before}
 use Rattle.book.proofs.SeenRows.{told-both, told-then, row-front, IsNext-seen, IsWritten-next}
 
 -- what a handler leaves: a state of the kind, and few records
-abbrev Suits : Kind → Outcome → Type 0
+abbrev Suits : Kind → EffectsView → Type 0
 Suits kind o = (has_kind kind o.state ≡ true) × (length o.productions ≤ 8)
 
 -- what a handler leaves of a record
@@ -197,7 +197,7 @@ fits-computed case n name row left productions late kind fit is state pending =
     ∙ pending-fits case.topology n name.part productions late row.pending parts.1)
 
 -- what a proposal's handler leaves suits its kind
-pub handling-suits : (case : CaseShape) (n : ℕ) (name : RowName) (row : Contents) (delivery : Delivery) (effects : Outcome)
+pub handling-suits : (case : CaseShape) (n : ℕ) (name : RowName) (row : Contents) (delivery : Delivery) (effects : EffectsView)
     → fits case n name row ≡ true
     → IsHandling case name row delivery effects → (kind : Kind) ×
     ((kind_of case.topology name.part ≡ Some kind) × ((has_kind kind effects.state ≡ true) × (length effects.productions ≤ 8)))
@@ -206,10 +206,10 @@ handling-suits case n name row delivery effects fit handling =
     (kind_of case.topology name.part) effects handling.does in
     let suits = record-suits of.0 name.key row.state delivery.item
     (sym (suits-computation case name.part row of.0 of.1) ∙ (fits-parts case n name row fit).0) in
-    (of.0, (of.1, subst (λ (o : Outcome). (has_kind of.0 o.state ≡ true) × (length o.productions ≤ 8)) of.2 suits))
+    (of.0, (of.1, subst (λ (o : EffectsView). (has_kind of.0 o.state ≡ true) × (length o.productions ≤ 8)) of.2 suits))
 
 -- and so of a timer
-pub firing-suits : (case : CaseShape) (n : ℕ) (name : RowName) (row : Contents) (timer : Timer) (effects : Outcome)
+pub firing-suits : (case : CaseShape) (n : ℕ) (name : RowName) (row : Contents) (timer : Timer) (effects : EffectsView)
     → fits case n name row ≡ true
     → IsFiring case name row timer effects → (kind : Kind) ×
     ((kind_of case.topology name.part ≡ Some kind) × ((has_kind kind effects.state ≡ true) × (length effects.productions ≤ 8)))
@@ -218,7 +218,7 @@ firing-suits case n name row timer effects fit firing =
     (kind_of case.topology name.part) effects firing.does in
     let suits = timer-suits of.0 name.key row.state timer
     (sym (suits-computation case name.part row of.0 of.1) ∙ (fits-parts case n name row fit).0) in
-    (of.0, (of.1, subst (λ (o : Outcome). (has_kind of.0 o.state ≡ true) × (length o.productions ≤ 8)) of.2 suits))
+    (of.0, (of.1, subst (λ (o : EffectsView). (has_kind of.0 o.state ≡ true) × (length o.productions ≤ 8)) of.2 suits))
 
 -- ---- the entry of a proposal may come next
 
@@ -255,7 +255,7 @@ next-injected book lease front name row left line item lawful uses seen last roo
 
 -- a handled record
 next-handled : (book : BookView) (lease : LeaseView) (front : ℕ) (name : RowName) (row left : Contents) (delivery : Delivery)
-    (effects : Outcome)
+    (effects : EffectsView)
     → IsLawful book.case (core_of book) → MayUseAt book lease front name → IsRowSeenAt book lease front name row
     → last_claim lease.interval book.history ≡ Some lease.seq → length book.history < book.limit
     → IsHandling book.case name row delivery effects
@@ -301,7 +301,7 @@ next-handled book lease front name row left delivery effects lawful uses seen la
 
 -- a fired timer
 next-fired : (book : BookView) (lease : LeaseView) (front : ℕ) (name : RowName) (row left : Contents) (timer : Timer) (mark : ℕ)
-    (effects : Outcome)
+    (effects : EffectsView)
     → IsLawful book.case (core_of book) → MayUseAt book lease front name → IsRowSeenAt book lease front name row
     → last_claim lease.interval book.history ≡ Some lease.seq → length book.history < book.limit
     → IsFiring book.case name row timer effects

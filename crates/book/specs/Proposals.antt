@@ -9,7 +9,7 @@ use Rattle.mw_types.specs.declared.delivery.Delivery.{Delivery}
 use Rattle.mw_types.specs.declared.timer.Timer.{Timer}
 use Rattle.mw_types.specs.declared.entry.Entry.{Entry}
 use Rattle.mw_types.specs.declared.entry.Entry.TheVariants as entries
-use Rattle.mw_types.specs.Outcomes.{Outcome}
+use Rattle.mw_types.specs.Outcomes.{EffectsView}
 use Rattle.injector.specs.Sources.{item_at}
 use Rattle.topology.specs.Shapes.{Shape}
 use Rattle.row_parts.specs.Contents.{Contents, IsId, is_finished}
@@ -36,7 +36,7 @@ pub record IsNextLine (case : CaseShape) (name : RowName) (row : Contents) (line
 -- a record that goes to the row and is not finished there, with what its computation's handler
 -- leaves of it
 pub record IsHandling (case : CaseShape) (name : RowName) (row : Contents) (delivery : Delivery)
-    (effects : Outcome) : Type 0 where
+    (effects : EffectsView) : Type 0 where
   pub id : IsId delivery.id
   pub to_row : delivery.to ≡ name
   pub new : is_finished delivery.id row ≡ false
@@ -44,7 +44,7 @@ pub record IsHandling (case : CaseShape) (name : RowName) (row : Contents) (deli
 
 -- the row's least timer, with what its computation's handler leaves of it
 pub record IsFiring (case : CaseShape) (name : RowName) (row : Contents) (timer : Timer)
-    (effects : Outcome) : Type 0 where
+    (effects : EffectsView) : Type 0 where
   pub least : slice_get row.timers 0 ≡ Some timer
   pub does : timer_outcome case name row timer ≡ Some effects
 

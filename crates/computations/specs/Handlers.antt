@@ -20,7 +20,7 @@ use Rattle.mw_types.specs.declared.state.HeldTotal.{HeldTotal}
 use Rattle.mw_types.specs.declared.record.Record.{Record}
 use Rattle.mw_types.specs.declared.record.Production.{Production}
 use Rattle.mw_types.specs.declared.timer.Timer.{Timer}
-use Rattle.mw_types.specs.Outcomes.{Outcome}
+use Rattle.mw_types.specs.Outcomes.{EffectsView}
 
 -- the state with which a row begins: no late record, no open window, no held total and no known one
 abbrev pub fresh_state : Kind → State
@@ -40,17 +40,17 @@ abbrev pub one_more : ℕ → ℕ
 one_more count = min (count + 1) MAX_STAMP
 
 -- the outcome with this state, and with no timer and no production
-abbrev pub unchanged : State → Outcome
+abbrev pub unchanged : State → EffectsView
 unchanged state = record { state = state; timers = []; productions = [] }
 
 -- the outcome with this state and with one timer, which is due at this time and late where the record is
-abbrev pub outcome_with_timer : State → ℕ → Record → Outcome
+abbrev pub outcome_with_timer : State → ℕ → Record → EffectsView
 outcome_with_timer state time item =
     let timer : Timer = record { tag = 0; time = time; late = item.late } in
     record { state = state; timers = timer ∷ []; productions = [] }
 
 -- the outcome with this state and with one production
-abbrev pub outcome_with_record : State → List ℕ → ℕ → ℤ → Outcome
+abbrev pub outcome_with_record : State → List ℕ → ℕ → ℤ → EffectsView
 outcome_with_record state key stamp value =
     let produced : Production = record { key = key; stamp = stamp; value = value } in
     record { state = state; timers = []; productions = produced ∷ [] }
@@ -77,7 +77,7 @@ counted windows end =
 
 -- a count takes a record into its window, and sets a timer for the window's end;
 -- a late record only counts as late
-abbrev pub count_record : ℕ → ℕ → List Window → Record → Outcome
+abbrev pub count_record : ℕ → ℕ → List Window → Record → EffectsView
 count_record size late windows item = if item.late
     then unchanged (states.Count (one_more late) windows)
     else let end = window_end size item.stamp in
@@ -89,7 +89,7 @@ window_due windows timer = if timer.tag == 0 then find (λ w. w.end == timer.tim
 
 -- a window that is due is closed, and its count is produced under the row's key;
 -- where none is due, nothing changes
-abbrev pub count_timer : List ℕ → ℕ → List Window → Option Window → Outcome
+abbrev pub count_timer : List ℕ → ℕ → List Window → Option Window → EffectsView
 count_timer key late windows None = unchanged (states.Count late windows)
 count_timer key late windows (Some due) =
     let rest = filter (λ w. not (w.end == due.end)) windows in
@@ -108,7 +108,7 @@ held_with held stamp value =
 
 -- a spike holds a record's value as a total, and sets a timer for when it is due;
 -- a late record only counts as late
-abbrev pub spike_record : ℕ → List HeldTotal → List ℤ → Record → Outcome
+abbrev pub spike_record : ℕ → List HeldTotal → List ℤ → Record → EffectsView
 spike_record late held known item = if item.late
     then unchanged (states.Spike (one_more late) held known)
     else let due = due_time item.stamp in
@@ -130,7 +130,7 @@ known_with last known value = let all = known ++ value ∷ [] in drop (length al
 
 -- a total that is due is no longer held but known, and is produced under the row's key where it is a spike;
 -- where none is due, nothing changes
-abbrev pub spike_timer : ℕ → ℕ → List ℕ → ℕ → List HeldTotal → List ℤ → Option HeldTotal → Outcome
+abbrev pub spike_timer : ℕ → ℕ → List ℕ → ℕ → List HeldTotal → List ℤ → Option HeldTotal → EffectsView
 spike_timer last times key late held known None = unchanged (states.Spike late held known)
 spike_timer last times key late held known (Some due) =
     let rest = filter (λ h. not (h.stamp == due.stamp)) held in
@@ -140,13 +140,13 @@ spike_timer last times key late held known (Some due) =
     else unchanged state
 
 -- a pass produces each record again, under the record's own key, and counts the late ones
-abbrev pub pass_record : ℕ → Record → Outcome
+abbrev pub pass_record : ℕ → Record → EffectsView
 pass_record late item =
     let state = states.Pass (if item.late then one_more late else late) in
     outcome_with_record state item.key item.stamp item.value
 
 -- what a part of this kind leaves of a record, by its row's key and state
-abbrev pub effects_of_record : Kind → List ℕ → State → Record → Outcome
+abbrev pub effects_of_record : Kind → List ℕ → State → Record → EffectsView
 effects_of_record (kinds.Count size) key (states.Count late windows) item =
     count_record size late windows item
 effects_of_record (kinds.Spike last times) key (states.Spike late held known) item =
@@ -155,7 +155,7 @@ effects_of_record kinds.Pass key (states.Pass late) item = pass_record late item
 effects_of_record _ _ state _ = unchanged state
 
 -- what a part of this kind leaves of a timer, by its row's key and state
-abbrev pub effects_of_timer : Kind → List ℕ → State → Timer → Outcome
+abbrev pub effects_of_timer : Kind → List ℕ → State → Timer → EffectsView
 effects_of_timer (kinds.Count size) key (states.Count late windows) timer =
     count_timer key late windows (window_due windows timer)
 effects_of_timer (kinds.Spike last times) key (states.Spike late held known) timer =

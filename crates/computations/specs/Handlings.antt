@@ -5,7 +5,7 @@ use Rattle.mw_types.specs.declared.state.State.{State}
 use Rattle.mw_types.specs.declared.record.Record.{Record}
 use Rattle.mw_types.specs.declared.record.Production.{Production}
 use Rattle.mw_types.specs.declared.timer.Timer.{Timer}
-use Rattle.mw_types.specs.Outcomes.{Outcome}
+use Rattle.mw_types.specs.Outcomes.{EffectsView}
 
 -- the row's key and state, the cause's timestamp, whether it is late and a record, and what was made so far
 pub record Handling : Type 0 where
@@ -42,11 +42,11 @@ begun_by_timer key state timer = record {
 }
 
 -- what the handler leaves if it ends here
-abbrev pub outcome_of : Handling → Outcome
+abbrev pub outcome_of : Handling → EffectsView
 outcome_of h = record { state = h.state; timers = h.timers; productions = h.productions }
 
 -- the handler, where it ends with this outcome
-abbrev pub ended_with : Handling → Outcome → Handling
+abbrev pub ended_with : Handling → EffectsView → Handling
 ended_with h o = record h { state = o.state; timers = o.timers; productions = o.productions }
 
 -- nothing that was made is above the greatest timestamp

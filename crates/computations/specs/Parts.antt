@@ -7,7 +7,7 @@ use Rattle.mw_types.specs.declared.state.State.{State}
 use Rattle.mw_types.specs.declared.record.Record.{Record}
 use Rattle.mw_types.specs.declared.timer.Timer.{Timer}
 use Rattle.mw_types.specs.Kinds.{IsKind}
-use Rattle.mw_types.specs.Outcomes.{Outcome}
+use Rattle.mw_types.specs.Outcomes.{EffectsView}
 use Rattle.computations.specs.Handlers.{has_kind, unchanged, effects_of_record, effects_of_timer}
 
 -- the parts by number: so many injectors, and then the computations, by kind
@@ -26,11 +26,11 @@ HasState parts part state =
     (kind : Kind) × (kind_at parts part ≡ Some kind) × IsKind kind × (has_kind kind state ≡ true)
 
 -- what a part leaves of a record; a part that is no computation changes nothing
-abbrev pub part_record : Parts → ℕ → List ℕ → State → Record → Outcome
+abbrev pub part_record : Parts → ℕ → List ℕ → State → Record → EffectsView
 part_record parts part key state item =
     option_map_or (λ kind. effects_of_record kind key state item) (kind_at parts part) (unchanged state)
 
 -- what a part leaves of a timer; a part that is no computation changes nothing
-abbrev pub part_timer : Parts → ℕ → List ℕ → State → Timer → Outcome
+abbrev pub part_timer : Parts → ℕ → List ℕ → State → Timer → EffectsView
 part_timer parts part key state timer =
     option_map_or (λ kind. effects_of_timer kind key state timer) (kind_at parts part) (unchanged state)

@@ -13,17 +13,17 @@ pub trait Computation {
     ghost use Rattle.mw_types.specs.declared.record.Record.{Record};
     ghost use Rattle.mw_types.specs.declared.state.State.{State};
     ghost use Rattle.mw_types.specs.declared.timer.Timer.{Timer};
-    ghost use Rattle.mw_types.specs.Outcomes.{Outcome};
+    ghost use Rattle.mw_types.specs.Outcomes.{EffectsView};
     ghost use Rattle.computations.specs.Laws.{LawfulAtRecords, LawfulAtTimers, SetsNoneAtTimers};
 
     /// Whether a part is a computation, and its rows may have a state.
     ghost has: { Self → ℕ → State → Type 0 };
 
     /// What a part leaves of a record, by its row's key and state.
-    ghost gives_record: { Self → ℕ → List ℕ → State → Record → Outcome };
+    ghost gives_record: { Self → ℕ → List ℕ → State → Record → EffectsView };
 
     /// What a part leaves of a timer, by its row's key and state.
-    ghost gives_timer: { Self → ℕ → List ℕ → State → Timer → Outcome };
+    ghost gives_timer: { Self → ℕ → List ℕ → State → Timer → EffectsView };
 
     /// Handles a record in a context that was made for it; after an `Err` the context is given up.
     fn on_record(

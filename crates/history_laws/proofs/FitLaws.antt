@@ -16,7 +16,7 @@ use Rattle.mw_types.specs.declared.state.HeldTotal.{HeldTotal}
 use Rattle.mw_types.specs.declared.delivery.Delivery.{Delivery}
 use Rattle.mw_types.specs.declared.entry.Entry.{Entry}
 use Rattle.mw_types.specs.declared.entry.Entry.TheVariants.{Claim, Inject, Handle, Fire, Ack, Purge}
-use Rattle.mw_types.specs.Outcomes.{Outcome}
+use Rattle.mw_types.specs.Outcomes.{EffectsView}
 use Rattle.topology.specs.declared.subscription.Subscription.{Subscription}
 use Rattle.topology.specs.Shapes.{Shape, injectors_of, parts_of, kind_of}
 use Rattle.computations.specs.Handlers.{has_kind, fresh_state, unchanged, outcome_with_timer, outcome_with_record, one_more, window_end, counted, window_due, count_timer, due_time, held_with, total_due, is_spike, known_with, spike_timer, effects_of_record, effects_of_timer}
@@ -150,7 +150,7 @@ changed-kind case run (Handle seq row id effects) sent name may written of =
     (λ (n : RowName). IsStateOf case.topology n.part (row_of case.topology run n).state) (sym (some_same row name written)) of in
     subst (λ (n : RowName). IsStateOf case.topology n.part effects.state) (some_same row name written)
     (kind_of-state case.topology row.part kind.0 effects.state kind.1
-    (subst (λ (o : Outcome). has_kind kind.0 o.state ≡ true) kind.2
+    (subst (λ (o : EffectsView). has_kind kind.0 o.state ≡ true) kind.2
     (record-kind kind.0 row.key (row_of case.topology run row).state may.delivery.item
     (of_kind case.topology row.part kind.0 (row_of case.topology run row).state kind.1 here))))
 changed-kind case run (Fire seq row timer mark effects) sent name may written of =
@@ -160,7 +160,7 @@ changed-kind case run (Fire seq row timer mark effects) sent name may written of
     (λ (n : RowName). IsStateOf case.topology n.part (row_of case.topology run n).state) (sym (some_same row name written)) of in
     subst (λ (n : RowName). IsStateOf case.topology n.part effects.state) (some_same row name written)
     (kind_of-state case.topology row.part kind.0 effects.state kind.1
-    (subst (λ (o : Outcome). has_kind kind.0 o.state ≡ true) kind.2
+    (subst (λ (o : EffectsView). has_kind kind.0 o.state ≡ true) kind.2
     (timer-kind kind.0 row.key (row_of case.topology run row).state timer
     (of_kind case.topology row.part kind.0 (row_of case.topology run row).state kind.1 here))))
 changed-kind case run (Ack seq row id) sent name may written of = of

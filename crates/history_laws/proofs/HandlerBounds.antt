@@ -14,7 +14,7 @@ use Rattle.mw_types.specs.declared.record.Record.{Record}
 use Rattle.mw_types.specs.declared.record.Production.{Production}
 use Rattle.mw_types.specs.declared.timer.Timer.{Timer}
 use Rattle.mw_types.specs.Kinds.{IsKind}
-use Rattle.mw_types.specs.Outcomes.{Outcome}
+use Rattle.mw_types.specs.Outcomes.{EffectsView}
 use Rattle.computations.specs.Handlers.{unchanged, outcome_with_timer, outcome_with_record, one_more, window_end, counted, count_record, window_due, count_timer, due_time, held_with, spike_record, total_due, is_spike, known_with, spike_timer, effects_of_record, effects_of_timer}
 
 -- a timer that a cause of this timestamp may set
@@ -29,7 +29,7 @@ pub record IsProductionAfter (stamp : ℕ) (p : Production) : Type 0 where
   pub in_time : p.stamp ≤ MAX_STAMP
 
 -- what a cause of this timestamp may bring about
-pub record IsAfter (stamp : ℕ) (late : Bool) (o : Outcome) : Type 0 where
+pub record IsAfter (stamp : ℕ) (late : Bool) (o : EffectsView) : Type 0 where
   pub timers : AllByRecursion (IsTimerAfter stamp late) o.timers
   pub productions : AllByRecursion (IsProductionAfter stamp) o.productions
 

@@ -9,7 +9,7 @@ use Rattle.mw_types.specs.declared.identity.RowName.{RowName}
 use Rattle.mw_types.specs.declared.delivery.Delivery.{Delivery}
 use Rattle.mw_types.specs.declared.entry.Entry.{Entry}
 use Rattle.mw_types.specs.declared.entry.Entry.TheVariants.{Claim, Inject, Handle, Fire, Ack, Purge}
-use Rattle.mw_types.specs.Outcomes.{Outcome}
+use Rattle.mw_types.specs.Outcomes.{EffectsView}
 use Rattle.row_parts.specs.Contents.{Contents, same_id}
 use Rattle.run_history.specs.Cases.{CaseShape}
 use Rattle.run_history.specs.Made.{found_delivery}
@@ -31,7 +31,7 @@ off true e = cc
 off false e = refl
 
 -- a record that is handled was not handled before
-pub handled-not_before : (case : CaseShape) (before after : List Entry) (seq : ℕ) (row : RowName) (id : RecordId) (effects : Outcome)
+pub handled-not_before : (case : CaseShape) (before after : List Entry) (seq : ℕ) (row : RowName) (id : RecordId) (effects : EffectsView)
     → IsLegal case (before ++ Handle seq row id effects ∷ after) → is_handled id before ≡ false
 handled-not_before case before after seq row id effects legal =
     let parts = AreLegal-apart case before (Handle seq row id effects ∷ after) empty_run legal in
@@ -68,7 +68,7 @@ handled-not_after case id (e ∷ es) before legal handled =
     here (Purge seq row floor) legal = refl
 
 -- a record is handled by one entry alone
-pub handled-once : (case : CaseShape) (before after : List Entry) (seq : ℕ) (row : RowName) (id : RecordId) (effects : Outcome)
+pub handled-once : (case : CaseShape) (before after : List Entry) (seq : ℕ) (row : RowName) (id : RecordId) (effects : EffectsView)
     → IsLegal case (before ++ Handle seq row id effects ∷ after) → (is_handled id before ≡ false) × (is_handled id after ≡ false)
 handled-once case before after seq row id effects legal =
     let entry : Entry = Handle seq row id effects in (

@@ -10,7 +10,7 @@ use Rattle.mw_types.specs.declared.record.Production.{Production}
 use Rattle.mw_types.specs.declared.delivery.Delivery.{Delivery}
 use Rattle.mw_types.specs.declared.entry.Entry.{Entry}
 use Rattle.mw_types.specs.declared.entry.Entry.TheVariants.{Claim, Inject, Handle, Fire, Ack, Purge}
-use Rattle.mw_types.specs.Outcomes.{Outcome}
+use Rattle.mw_types.specs.Outcomes.{EffectsView}
 use Rattle.topology.specs.Shapes.{Shape, consumers_of, feeds_of}
 use Rattle.row_parts.specs.Contents.{Contents, is_timer, same_id}
 use Rattle.run_history.specs.Cases.{CaseShape, is_injector}
@@ -80,7 +80,7 @@ module _ (case : CaseShape) (history : List Entry) (run : Run) (x part : ℕ) (r
     (sent : AreSent case.topology run) (in_time : AreInTime run)
     (feeds : AllByRecursion (IsPartFrom case run x) (feeds_of case.topology part)) where
   -- a delivery that a row of the part may handle, where it is not late, is no older than the bound
-  may_handle-from : (seq : ℕ) (row : RowName) (id : RecordId) (effects : Outcome) (may : MayFollow case run (Handle seq row id effects))
+  may_handle-from : (seq : ℕ) (row : RowName) (id : RecordId) (effects : EffectsView) (may : MayFollow case run (Handle seq row id effects))
       → row.part ≡ part → PendsFrom x may.delivery
   may_handle-from seq row id effects may of =
       waits-from case run x id may.delivery sent

@@ -15,7 +15,7 @@ use Rattle.mw_types.specs.declared.state.Window.{Window}
 use Rattle.mw_types.specs.declared.state.HeldTotal.{HeldTotal}
 use Rattle.mw_types.specs.declared.entry.Entry.{Entry}
 use Rattle.mw_types.specs.declared.entry.Entry.TheVariants.{Claim, Inject, Handle, Fire, Ack, Purge}
-use Rattle.mw_types.specs.Outcomes.{Outcome}
+use Rattle.mw_types.specs.Outcomes.{EffectsView}
 use Rattle.topology.specs.Shapes.{parts_of, injectors_of, kind_of}
 use Rattle.computations.specs.Handlers.{unchanged, outcome_with_timer, outcome_with_record, one_more, window_end, counted, window_due, count_timer, due_time, held_with, total_due, is_spike, known_with, spike_timer, effects_of_record, effects_of_timer}
 use Rattle.row_parts.specs.Contents.{Contents, fresh}
@@ -88,12 +88,12 @@ few-productions case run (Inject seq part line item) may = omega arith
 few-productions case run (Handle seq row id effects) may =
     let kind = was_some (λ (kind : Kind). effects_of_record kind row.key (row_of case.topology run row).state may.delivery.item)
     (kind_of case.topology row.part) effects may.does in
-    subst (λ (o : Outcome). length o.productions ≤ 8) kind.2
+    subst (λ (o : EffectsView). length o.productions ≤ 8) kind.2
     (record-few kind.0 row.key (row_of case.topology run row).state may.delivery.item)
 few-productions case run (Fire seq row timer mark effects) may =
     let kind = was_some (λ (kind : Kind). effects_of_timer kind row.key (row_of case.topology run row).state timer)
     (kind_of case.topology row.part) effects may.does in
-    subst (λ (o : Outcome). length o.productions ≤ 8) kind.2 (timer-few kind.0 row.key (row_of case.topology run row).state timer)
+    subst (λ (o : EffectsView). length o.productions ≤ 8) kind.2 (timer-few kind.0 row.key (row_of case.topology run row).state timer)
 few-productions case run (Ack seq row id) may = omega arith
 few-productions case run (Purge seq row floor) may = omega arith
 

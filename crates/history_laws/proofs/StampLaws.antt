@@ -19,7 +19,7 @@ use Rattle.mw_types.specs.declared.delivery.Delivery.{Delivery}
 use Rattle.mw_types.specs.declared.entry.Entry.{Entry}
 use Rattle.mw_types.specs.declared.entry.Entry.TheVariants.{Claim, Inject, Handle, Fire, Ack, Purge}
 use Rattle.mw_types.specs.Orders.{timer_cmp}
-use Rattle.mw_types.specs.Outcomes.{Outcome}
+use Rattle.mw_types.specs.Outcomes.{EffectsView}
 use Rattle.injector.specs.Sources.{Source, SourceLine, IsSource, item_at}
 use Rattle.topology.specs.Shapes.{Shape, consumers_of, kind_of}
 use Rattle.computations.specs.Handlers.{effects_of_record, effects_of_timer}
@@ -129,7 +129,7 @@ at-each P (y ∷ ys) Rattle.std.proofs.Common.zero x each at = subst P (some_sam
 at-each P (y ∷ ys) (Rattle.std.proofs.Common.suc n) x each at = at-each P ys n x each.1 at
 
 -- a handled record that waited, with what its computation's handler leaves of it
-pub handle-after : (case : CaseShape) (run : Run) (seq : ℕ) (row : RowName) (id : RecordId) (effects : Outcome) → IsRunnable case
+pub handle-after : (case : CaseShape) (run : Run) (seq : ℕ) (row : RowName) (id : RecordId) (effects : EffectsView) → IsRunnable case
     → AreInTime run
     → (may : MayFollow case run (Handle seq row id effects)) → IsAfter may.delivery.item.stamp may.delivery.item.late effects
 handle-after case run seq row id effects runs in_time may =
@@ -142,14 +142,14 @@ handle-after case run seq row id effects runs in_time may =
     (λ (d : Delivery). same_id d.id id) run.unhandled may.delivery in_time.waiting may.waits))
 
 -- a timer that fires is in time
-pub fire-in_time : (case : CaseShape) (run : Run) (seq : ℕ) (row : RowName) (timer : Timer) (mark : ℕ) (effects : Outcome) → AreInTime run
+pub fire-in_time : (case : CaseShape) (run : Run) (seq : ℕ) (row : RowName) (timer : Timer) (mark : ℕ) (effects : EffectsView) → AreInTime run
     → MayFollow case run (Fire seq row timer mark effects) → timer.time ≤ MAX_STAMP
 fire-in_time case run seq row timer mark effects in_time may =
     at-each (λ (t : Timer). t.time ≤ MAX_STAMP) (row_of case.topology run row).timers 0 timer
     (row_of-in_time case.topology run row in_time) may.least_timer
 
 -- a fired timer, with what its computation's handler leaves of it
-pub fire-after : (case : CaseShape) (run : Run) (seq : ℕ) (row : RowName) (timer : Timer) (mark : ℕ) (effects : Outcome) → AreInTime run
+pub fire-after : (case : CaseShape) (run : Run) (seq : ℕ) (row : RowName) (timer : Timer) (mark : ℕ) (effects : EffectsView) → AreInTime run
     → MayFollow case run (Fire seq row timer mark effects) → IsAfter timer.time timer.late effects
 fire-after case run seq row timer mark effects in_time may =
     let kind = was_some (λ (kind : Kind). effects_of_timer kind row.key (row_of case.topology run row).state timer)

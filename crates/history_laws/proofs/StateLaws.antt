@@ -19,7 +19,7 @@ use Rattle.mw_types.specs.declared.delivery.Delivery.{Delivery}
 use Rattle.mw_types.specs.declared.entry.Entry.{Entry}
 use Rattle.mw_types.specs.declared.entry.Entry.TheVariants.{Claim, Inject, Handle, Fire, Ack, Purge}
 use Rattle.mw_types.specs.Bounds.{IsWithin}
-use Rattle.mw_types.specs.Outcomes.{Outcome, IsOutcome}
+use Rattle.mw_types.specs.Outcomes.{EffectsView, AreEffects}
 use Rattle.topology.specs.Shapes.{Shape, ComputationShape, injectors_of, kind_of}
 use Rattle.computations.specs.Handlers.{fresh_state, unchanged, outcome_with_timer, outcome_with_record, one_more, window_end, entered, counted, window_due, count_timer, due_time, held_with, total_due, is_spike, known_with, spike_timer, effects_of_record, effects_of_timer}
 use Rattle.computations.specs.Laws.{IsShort}
@@ -191,13 +191,13 @@ changed-size case run (Handle seq row id effects) sent name may written =
     let kind = was_some (λ (kind : Kind). effects_of_record kind row.key (row_of case.topology run row).state may.delivery.item)
     (kind_of case.topology row.part) effects may.does in
     subst (λ (n : RowName). size_of effects.state ≤ size_of (row_of case.topology run n).state + 1) (some_same row name written)
-    (subst (λ (o : Outcome). size_of o.state ≤ size_of (row_of case.topology run row).state + 1) kind.2
+    (subst (λ (o : EffectsView). size_of o.state ≤ size_of (row_of case.topology run row).state + 1) kind.2
     (record-size kind.0 row.key (row_of case.topology run row).state may.delivery.item))
 changed-size case run (Fire seq row timer mark effects) sent name may written =
     let kind = was_some (λ (kind : Kind). effects_of_timer kind row.key (row_of case.topology run row).state timer)
     (kind_of case.topology row.part) effects may.does in
     subst (λ (n : RowName). size_of effects.state ≤ size_of (row_of case.topology run n).state + 1) (some_same row name written)
-    (subst (λ (o : Outcome). size_of o.state ≤ size_of (row_of case.topology run row).state + 1) kind.2
+    (subst (λ (o : EffectsView). size_of o.state ≤ size_of (row_of case.topology run row).state + 1) kind.2
     (timer-size kind.0 row.key (row_of case.topology run row).state timer))
 changed-size case run (Ack seq row id) sent name may written = omega arith
 changed-size case run (Purge seq row floor) sent name may written = omega arith
@@ -229,7 +229,7 @@ changed-within case run (Handle seq row id effects) sent name runs are in_time m
     let same : part_record (parts_as case.topology) row.part row.key state may.delivery.item ≡ effects =
     ap (λ k. option_map_or (λ kind. effects_of_record kind row.key state may.delivery.item) k (unchanged state))
     (kind_at-of case.topology row.part ∙ kind.1) ∙ kind.2 in
-    let kept = subst (λ (o : Outcome). IsShort o.state → IsOutcome o.state o.timers o.productions) same lawful.within in
+    let kept = subst (λ (o : EffectsView). IsShort o.state → AreEffects o.state o.timers o.productions) same lawful.within in
     (kept (short-few effects.state few)).state_within
 changed-within case run (Fire seq row timer mark effects) sent name runs are in_time may written within few =
     let state = (row_of case.topology run row).state in
@@ -240,7 +240,7 @@ changed-within case run (Fire seq row timer mark effects) sent name runs are in_
     let same : part_timer (parts_as case.topology) row.part row.key state timer ≡ effects =
     ap (λ k. option_map_or (λ kind. effects_of_timer kind row.key state timer) k (unchanged state))
     (kind_at-of case.topology row.part ∙ kind.1) ∙ kind.2 in
-    let kept = subst (λ (o : Outcome). IsShort o.state → IsOutcome o.state o.timers o.productions) same lawful.within in
+    let kept = subst (λ (o : EffectsView). IsShort o.state → AreEffects o.state o.timers o.productions) same lawful.within in
     (kept (short-few effects.state few)).state_within
 changed-within case run (Ack seq row id) sent name runs are in_time may written within few = within name
 changed-within case run (Purge seq row floor) sent name runs are in_time may written within few = within name

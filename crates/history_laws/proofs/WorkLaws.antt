@@ -18,7 +18,7 @@ use Rattle.mw_types.specs.declared.state.State.TheVariants as states
 use Rattle.mw_types.specs.declared.delivery.Delivery.{Delivery}
 use Rattle.mw_types.specs.declared.entry.Entry.{Entry}
 use Rattle.mw_types.specs.declared.entry.Entry.TheVariants.{Claim, Inject, Handle, Fire, Ack, Purge}
-use Rattle.mw_types.specs.Outcomes.{Outcome}
+use Rattle.mw_types.specs.Outcomes.{EffectsView}
 use Rattle.injector.specs.Sources.{Source, SourceLine, IsSource, stated_at}
 use Rattle.topology.specs.declared.subscription.Subscription.{Subscription}
 use Rattle.topology.specs.Shapes.{Shape, parts_of, injectors_of, feeds_of, kind_of}
@@ -100,7 +100,7 @@ productions-from x stamp productions from each = each-weaker (IsProductionAfter 
     (λ p (after : IsProductionAfter stamp p). let later = after.after in omega (arith, from, later)) productions each
 
 -- the delivery that a row handles, where it is not late, is no older than the work of the row's part
-handled-from : (case : CaseShape) (run : Run) (x : ℕ) (seq : ℕ) (row : RowName) (id : RecordId) (effects : Outcome)
+handled-from : (case : CaseShape) (run : Run) (x : ℕ) (seq : ℕ) (row : RowName) (id : RecordId) (effects : EffectsView)
     → (may : MayFollow case run (Handle seq row id effects)) → IsWorkFrom case.topology run x row.part
     → not may.delivery.item.late ≡ true → x ≤ may.delivery.item.stamp
 handled-from case run x seq row id effects may work on_time =
@@ -109,7 +109,7 @@ handled-from case run x seq row id effects may work on_time =
     (ap (λ b. b && not d.item.late) (eq-eqb d.to.part row.part (ap (λ (r : RowName). r.part) may.to_row)) ∙ on_time)
 
 -- whether the cause of a handled record is late
-pub handled-late : (case : CaseShape) (history : List Entry) (run : Run) (seq : ℕ) (row : RowName) (id : RecordId) (effects : Outcome)
+pub handled-late : (case : CaseShape) (history : List Entry) (run : Run) (seq : ℕ) (row : RowName) (id : RecordId) (effects : EffectsView)
     → AreIds history run
     → (may : MayFollow case run (Handle seq row id effects)) → late_cause run.made (Handle seq row id effects) ≡ may.delivery.item.late
 handled-late case history run seq row id effects ids may =

@@ -5,7 +5,7 @@ ghost use Rattle.mw_types.specs.declared.entry.Entry.{Entry};
 ghost use Rattle.mw_types.specs.declared.entry.Entry.TheVariants.{Ack, Handle};
 ghost use Rattle.mw_types.specs.declared.identity.RecordId.{RecordId};
 ghost use Rattle.mw_types.specs.declared.identity.RowName.{RowName};
-ghost use Rattle.mw_types.specs.Outcomes.{Outcome};
+ghost use Rattle.mw_types.specs.Outcomes.{EffectsView};
 ghost use Rattle.run_history.specs.Cases.{CaseShape};
 ghost use Rattle.run_history.specs.Runs.{run_of};
 ghost use Rattle.run_history.specs.Legal.{IsLegal};
@@ -14,7 +14,7 @@ ghost use Rattle.run_history.specs.Finished.{IsFinished, is_acknowledged, is_han
 /// In a legal history each record is handled once at most, and acknowledged once at most.
 pub fn records_are_handled_once()
     ensures handled { (case : CaseShape) (before after : List Entry) (seq : ℕ) (row : RowName)
-        (id : RecordId) (effects : Outcome) →
+        (id : RecordId) (effects : EffectsView) →
         IsLegal case (before ++ Handle seq row id effects ∷ after) →
         (is_handled id before ≡ false) × (is_handled id after ≡ false) }
     ensures acknowledged { (case : CaseShape) (before after : List Entry) (seq : ℕ)

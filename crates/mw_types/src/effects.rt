@@ -18,13 +18,13 @@ pub struct Effects {
 }
 
 impl Model for Effects {
-    ghost use Rattle.mw_types.specs.Outcomes.{Outcome, IsOutcome};
+    ghost use Rattle.mw_types.specs.Outcomes.{EffectsView, AreEffects};
 
-    ghost Value = { Outcome };
+    ghost Value = { EffectsView };
 
     ghost view = { λ e. record { state = e.state; timers = e.timers; productions = e.productions } };
 
-    ghost invariant = { λ e. IsOutcome e.state e.timers e.productions };
+    ghost invariant = { λ e. AreEffects e.state e.timers e.productions };
 }
 
 impl Duplicate for Effects {

@@ -7,7 +7,7 @@ use Rattle.std.proofs.Math.Path.{fun_ext}
 use Rattle.std.proofs.lemmas.Bool.{cases_eq}
 use Rattle.std.proofs.lemmas.List.Elements.{All-append, All-from_recursion}
 use Rattle.std.proofs.lemmas.List.Folds.{list_any-append}
-use Rattle.mw_types.specs.Outcomes.{Outcome as Effects}
+use Rattle.mw_types.specs.Outcomes.{EffectsView}
 use Rattle.mw_types.specs.declared.delivery.Delivery.{Delivery}
 use Rattle.mw_types.specs.declared.entry.Entry.{Entry}
 use Rattle.mw_types.specs.declared.entry.Entry.TheVariants as entries
@@ -53,7 +53,7 @@ pub record IsAppended (old new : DeskView) (lease : LeaseView) (entry : Entry) (
   pub last : IsCurrent lease.interval lease.seq before
 
 -- that a record was handled
-pub appended-handled : (old new : DeskView) (lease : LeaseView) (name : RowName) (delivery : Delivery) (effects : Effects)
+pub appended-handled : (old new : DeskView) (lease : LeaseView) (name : RowName) (delivery : Delivery) (effects : EffectsView)
     (proposal : Proposal) (row : Contents) (answer : Written) → proposal ≡ proposals.Handle delivery effects
     → HasWritten old new lease name proposal row answer
     → IsAppended old new lease (entries.Handle lease.seq name delivery.id effects) answer.commit
@@ -96,7 +96,7 @@ told-any (Some x) P is = is
 
 -- the record that is handled is as late as it was made
 pub late-handled : (case : CaseShape) (old new : DeskView) (before : List Entry) (sender : RowName) (delivery : Delivery) (seq : ℕ)
-    (name : RowName) (effects : Effects) → HasMoved old new before → IsOutgoing case old (outgoing.Deliver delivery sender)
+    (name : RowName) (effects : EffectsView) → HasMoved old new before → IsOutgoing case old (outgoing.Deliver delivery sender)
     → IfSome old.told (λ _. late_cause (run_of case.topology before).made (entries.Handle seq name delivery.id effects) ≡ delivery.item.late)
 late-handled case old new before sender delivery seq name effects moved sent =
     let shape = case.topology in
@@ -110,14 +110,14 @@ or_true true = refl
 or_true false = refl
 
 -- the record is handled then
-handled-last : (seen before : List Entry) (seq : ℕ) (name : RowName) (id : RecordId) (effects : Effects)
+handled-last : (seen before : List Entry) (seq : ℕ) (name : RowName) (id : RecordId) (effects : EffectsView)
     → seen ≡ before ++ entries.Handle seq name id effects ∷ [] → is_handled id seen ≡ true
 handled-last seen before seq name id effects appended =
     ap (is_handled id) appended ∙ list_any-append (handles id) before (entries.Handle seq name id effects ∷ [])
     ∙ ap (λ b. list_any (handles id) before || (b || false)) (same_id-itself id) ∙ or_true (list_any (handles id) before)
 
 -- what a work that was written leaves of a node
-abbrev pub written_by : Shape → List (Option HeldView) → RowName → Delivery → Effects → ℕ → NodeView → NodeView
+abbrev pub written_by : Shape → List (Option HeldView) → RowName → Delivery → EffectsView → ℕ → NodeView → NodeView
 written_by shape held sender delivery effects commit node = record {
   number = node.number;
   held = held;
@@ -128,7 +128,7 @@ written_by shape held sender delivery effects commit node = record {
 
 -- a node that has written its work fits
 pub Fits-written : (case : CaseShape) (old new : DeskView) (node : NodeView) (held : List (Option HeldView)) (sender : RowName)
-    (delivery : Delivery) (effects : Effects) (lease : LeaseView) (commit : ℕ)
+    (delivery : Delivery) (effects : EffectsView) (lease : LeaseView) (commit : ℕ)
     → IsAppended old new lease (entries.Handle lease.seq delivery.to delivery.id effects) commit
     → AreAllHeld case new held → IsHandled case old node.held sender delivery effects
     → All (IsAddressed case.topology)
@@ -159,7 +159,7 @@ Fits-written case old new node held sender delivery effects lease commit a fit w
 -- ---- what is asked
 
 -- what a node has prepared, with what it holds
-pub work-asked : (shape : Shape) (node : NodeView) (work : WorkView) (delivery : Delivery) (effects : Effects) (held : HeldView)
+pub work-asked : (shape : Shape) (node : NodeView) (work : WorkView) (delivery : Delivery) (effects : EffectsView) (held : HeldView)
     → node.prepared ≡ Some work → work.proposal ≡ proposals.Handle delivery effects → held_on shape node.held delivery.to ≡ Some held
     → work_asked shape node ≡ Some (handled_as delivery effects held)
 work-asked shape node work delivery effects held prepared is there =
@@ -167,7 +167,7 @@ work-asked shape node work delivery effects held prepared is there =
     ∙ ap (proposed shape node.held) is ∙ ap (option_map (handled_as delivery effects)) there
 
 -- and as a record that was sent
-pub work-sending : (node : NodeView) (work : WorkView) (delivery : Delivery) (effects : Effects) → node.prepared ≡ Some work
+pub work-sending : (node : NodeView) (work : WorkView) (delivery : Delivery) (effects : EffectsView) → node.prepared ≡ Some work
     → work.proposal ≡ proposals.Handle delivery effects
     → sending_of node ≡ Some (record { delivery = delivery; sender = work.sender })
 work-sending node work delivery effects prepared is =
@@ -191,7 +191,7 @@ held-on-at shape all name interval held covers at = ap (option_and_then (held_at
 
 -- a node that has written its work answers so
 pub answers-written : (case : CaseShape) (old new : DeskView) (node : NodeView) (held : List (Option HeldView)) (work : WorkView)
-    (delivery : Delivery) (effects : Effects) (interval commit : ℕ) → node.prepared ≡ Some work
+    (delivery : Delivery) (effects : EffectsView) (interval commit : ℕ) → node.prepared ≡ Some work
     → work.proposal ≡ proposals.Handle delivery effects → interval_of case.topology delivery.to ≡ Some interval
     → HoldsEntry case.topology interval delivery.to commit
     (λ lease row answer. HasWritten old new lease delivery.to work.proposal row answer) node.held held
@@ -230,7 +230,7 @@ grown-by all old new interval held entry commit there a carries = record {
 -- ---- a work that is prepared may be written
 
 -- the record of a work that is prepared
-pub work-of : (case : CaseShape) (desk : DeskView) (node : NodeView) (work : WorkView) (delivery : Delivery) (effects : Effects)
+pub work-of : (case : CaseShape) (desk : DeskView) (node : NodeView) (work : WorkView) (delivery : Delivery) (effects : EffectsView)
     → Fits case desk node → node.prepared ≡ Some work → work.proposal ≡ proposals.Handle delivery effects
     → IsHandled case desk node.held work.sender delivery effects
 work-of case desk node work delivery effects fits prepared is = subst (IsPrepared case desk node.held work.sender) is
@@ -243,7 +243,7 @@ held-at-on shape all name interval held there covers = sym (ap (option_and_then 
 
 -- the work may be proposed
 pub work-proposable : (case : CaseShape) (desk : DeskView) (all : List (Option HeldView)) (sender : RowName) (delivery : Delivery)
-    (effects : Effects) (proposal : Proposal) (interval : ℕ) → proposal ≡ proposals.Handle delivery effects
+    (effects : EffectsView) (proposal : Proposal) (interval : ℕ) → proposal ≡ proposals.Handle delivery effects
     → interval_of case.topology delivery.to ≡ Some interval → IsHandled case desk all sender delivery effects
     → IfSome (held_at all interval) (λ held. IsProposable case delivery.to (row_held case.topology held delivery.to) proposal)
 work-proposable case desk all sender delivery effects proposal interval is covers work =
@@ -253,7 +253,7 @@ work-proposable case desk all sender delivery effects proposal interval is cover
 
 -- and its record was made
 pub work-known : (case : CaseShape) (desk : DeskView) (all : List (Option HeldView)) (sender : RowName) (delivery : Delivery)
-    (effects : Effects) (proposal : Proposal) → proposal ≡ proposals.Handle delivery effects → desk.case ≡ case
+    (effects : EffectsView) (proposal : Proposal) → proposal ≡ proposals.Handle delivery effects → desk.case ≡ case
     → IsHandled case desk all sender delivery effects → IsKnownOf desk delivery.to proposal
 work-known case desk all sender delivery effects proposal is same work = subst (IsKnownOf desk delivery.to) (sym is)
     (subst (λ (k : CaseShape). IfSome desk.told (λ _. found_delivery delivery.id (run_of k.topology desk.seen).made ≡ Some delivery)) (sym same)
@@ -261,7 +261,7 @@ work-known case desk all sender delivery effects proposal is same work = subst (
 
 -- and has few productions
 pub work-few : (case : CaseShape) (desk : DeskView) (all : List (Option HeldView)) (sender : RowName) (delivery : Delivery)
-    (effects : Effects) → AreAllHeld case desk all → IsHandled case desk all sender delivery effects → length effects.productions ≤ 8
+    (effects : EffectsView) → AreAllHeld case desk all → IsHandled case desk all sender delivery effects → length effects.productions ≤ 8
 work-few case desk all sender delivery effects fit work =
     few-handled case delivery.to (row_held case.topology work.held delivery.to) delivery.item effects
     (state-held case desk all delivery.to work.held fit work.sent.addressed.to work.there) work.handling.does

@@ -4,7 +4,7 @@ use Rattle.std.specs.Prelude.{All, IfErr, IfOk, IfSome, Option, Some, None, Resu
 use Rattle.std.specs.Option.{option_map}
 use Rattle.std.proofs.lemmas.List.{length-append}
 use Rattle.std.proofs.lemmas.List.Elements.{All-append}
-use Rattle.mw_types.specs.Outcomes.{Outcome as Effects}
+use Rattle.mw_types.specs.Outcomes.{EffectsView}
 use Rattle.mw_types.specs.declared.entry.Entry.{Entry}
 use Rattle.mw_types.specs.declared.entry.Entry.TheVariants as entries
 use Rattle.mw_types.specs.declared.identity.RowName.{RowName}
@@ -79,18 +79,18 @@ pub set-held : (shape : Shape) (all : List (Option HeldView)) (interval : ℕ) (
 set-held shape all interval name timer set = ap (λ (o : Option Contents). unwrap_or o (fresh (fresh_of shape name.part))) set.row_there
 
 -- a handler makes few records of a timer
-pub few-fired : (case : CaseShape) (name : RowName) (row : Contents) (timer : Timer) (effects : Effects)
+pub few-fired : (case : CaseShape) (name : RowName) (row : Contents) (timer : Timer) (effects : EffectsView)
     → IsStateThere case.topology name.part row.state → timer_outcome case name row timer ≡ Some effects
     → length effects.productions ≤ 8
 few-fired case name row timer effects there does =
     let kind = there.0 in
     let same : effects_of_timer kind name.key row.state timer ≡ effects = some_same _ _
     (sym (ap (option_map (λ (k : Kind). effects_of_timer k name.key row.state timer)) there.1) ∙ does) in
-    subst (λ (o : Effects). length o.productions ≤ 8) same (timer-suits kind name.key row.state timer there.2).1
+    subst (λ (o : EffectsView). length o.productions ≤ 8) same (timer-suits kind name.key row.state timer there.2).1
 
 -- it may be proposed that it fires
 pub fire-proposable : (case : CaseShape) (all : List (Option HeldView)) (interval : ℕ) (name : RowName) (timer : Timer) (mark : ℕ)
-    (effects : Effects) (set : IsSetAt case.topology all interval name timer) → timer_outcome case name set.row timer ≡ Some effects
+    (effects : EffectsView) (set : IsSetAt case.topology all interval name timer) → timer_outcome case name set.row timer ≡ Some effects
     → IfSome (held_at all interval) (λ held. IsProposable case name (row_held case.topology held name) (proposals.Fire timer mark effects))
 fire-proposable case all interval name timer mark effects set does =
     subst (λ (o : Option HeldView). IfSome o (λ held. IsProposable case name (row_held case.topology held name)
@@ -101,7 +101,7 @@ fire-proposable case all interval name timer mark effects set does =
 -- ---- a timer that has fired
 
 -- that a timer fired
-pub appended-fired : (old new : DeskView) (lease : LeaseView) (name : RowName) (timer : Timer) (mark : ℕ) (effects : Effects)
+pub appended-fired : (old new : DeskView) (lease : LeaseView) (name : RowName) (timer : Timer) (mark : ℕ) (effects : EffectsView)
     (row : Contents) (answer : Written) → HasWritten old new lease name (proposals.Fire timer mark effects) row answer
     → IsAppended old new lease (entries.Fire lease.seq name timer mark effects) answer.commit
 appended-fired old new lease name timer mark effects row answer w = record {
@@ -113,7 +113,7 @@ appended-fired old new lease name timer mark effects row answer w = record {
 }
 
 -- its entry stands
-pub fired-last : (shape : Shape) (old new : DeskView) (interval : ℕ) (name : RowName) (timer : Timer) (mark : ℕ) (effects : Effects)
+pub fired-last : (shape : Shape) (old new : DeskView) (interval : ℕ) (name : RowName) (timer : Timer) (mark : ℕ) (effects : EffectsView)
     (commit : ℕ) (before after : List (Option HeldView)) (h : HoldsFire shape old new interval name timer mark effects commit before after)
     → IsAppended old new h.held.lease (entries.Fire h.held.lease.seq name timer mark effects) commit
 fired-last shape old new interval name timer mark effects commit before after h =
@@ -121,7 +121,7 @@ fired-last shape old new interval name timer mark effects commit before after h 
     (appended-fired old new h.held.lease name timer mark effects _ h.answer h.entry)
 
 -- and is the node's own
-pub grown-fired : (shape : Shape) (old new : DeskView) (interval : ℕ) (name : RowName) (timer : Timer) (mark : ℕ) (effects : Effects)
+pub grown-fired : (shape : Shape) (old new : DeskView) (interval : ℕ) (name : RowName) (timer : Timer) (mark : ℕ) (effects : EffectsView)
     (commit : ℕ) (before after : List (Option HeldView)) → HoldsFire shape old new interval name timer mark effects commit before after
     → HasGrown before old new
 grown-fired shape old new interval name timer mark effects commit before after h =
@@ -129,7 +129,7 @@ grown-fired shape old new interval name timer mark effects commit before after h
     (fired-last shape old new interval name timer mark effects commit before after h) refl
 
 -- what a timer that fired leaves of a node
-abbrev pub fired_by : Shape → List (Option HeldView) → RowName → Timer → Effects → ℕ → NodeView → NodeView
+abbrev pub fired_by : Shape → List (Option HeldView) → RowName → Timer → EffectsView → ℕ → NodeView → NodeView
 fired_by shape held name timer effects commit node = record {
   number = node.number;
   held = held;
@@ -139,7 +139,7 @@ fired_by shape held name timer effects commit node = record {
 
 -- it fits
 pub Fits-fired : (case : CaseShape) (old new : DeskView) (node : NodeView) (interval : ℕ) (name : RowName) (timer : Timer) (mark : ℕ)
-    (effects : Effects) (commit : ℕ) (after : List (Option HeldView))
+    (effects : EffectsView) (commit : ℕ) (after : List (Option HeldView))
     → HoldsFire case.topology old new interval name timer mark effects commit node.held after → AreAllHeld case new after
     → All (IsAddressed case.topology)
     (messages_from name (deliveries_made case.topology name.part effects.productions timer.late commit))
@@ -159,7 +159,7 @@ Fits-fired case old new node interval name timer mark effects commit after h fit
     }
 
 -- what is asked of a timer that is the next
-abbrev pub firing : RowName → Timer → ℕ → Effects → HeldView → Request
+abbrev pub firing : RowName → Timer → ℕ → EffectsView → HeldView → Request
 firing name timer mark effects held = record {
   lease = held.lease;
   name = name;
@@ -168,7 +168,7 @@ firing name timer mark effects held = record {
 }
 
 -- it may be asked
-pub may-fire : (case : CaseShape) (node : NodeView) (mark interval : ℕ) (name : RowName) (timer : Timer) (effects : Effects)
+pub may-fire : (case : CaseShape) (node : NodeView) (mark interval : ℕ) (name : RowName) (timer : Timer) (effects : EffectsView)
     (set : IsSetAt case.topology node.held interval name timer) → interval_of case.topology name ≡ Some interval
     → IsNextTimer case.topology node name.part mark name timer → timer_outcome case name set.row timer ≡ Some effects
     → MayAskFire case node name.part mark (firing name timer mark effects set.held)
@@ -187,7 +187,7 @@ may-fire case node mark interval name timer effects set covers next does =
 
 -- once it has fired
 pub answers-fired : (case : CaseShape) (old new : DeskView) (node : NodeView) (mark interval : ℕ) (name : RowName) (timer : Timer)
-    (effects : Effects) (commit : ℕ) (after : List (Option HeldView)) (set : IsSetAt case.topology node.held interval name timer)
+    (effects : EffectsView) (commit : ℕ) (after : List (Option HeldView)) (set : IsSetAt case.topology node.held interval name timer)
     → MayAskFire case node name.part mark (firing name timer mark effects set.held)
     → HoldsFire case.topology old new interval name timer mark effects commit node.held after
     → AnswersSome case.topology old new (MayAskFire case node name.part mark) node

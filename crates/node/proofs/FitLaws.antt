@@ -6,7 +6,7 @@ use Rattle.std.proofs.Math.Path.{fun_ext}
 use Rattle.std.proofs.lemmas.Bool.{cases_eq, eq-eqb, ne_eqb}
 use Rattle.std.proofs.lemmas.List.{append-nil}
 use Rattle.std.proofs.lemmas.List.Elements.{All-append, All-from_recursion, All-weaker}
-use Rattle.mw_types.specs.Outcomes.{Outcome as Effects}
+use Rattle.mw_types.specs.Outcomes.{EffectsView}
 use Rattle.mw_types.specs.declared.delivery.Delivery.{Delivery}
 use Rattle.mw_types.specs.declared.entry.Entry.{Entry}
 use Rattle.mw_types.specs.declared.entry.Entry.TheVariants as entries
@@ -139,7 +139,7 @@ held-interval shape all name held there = and_then-some (held_at all) (interval_
 
 -- a record that was handled stays right where what is held stays
 handled-kept : (case : CaseShape) (old new : DeskView) (all after : List (Option HeldView)) (sender : RowName)
-    (delivery : Delivery) (effects : Effects) → HasMore old new → KeepsHeld case.topology all after
+    (delivery : Delivery) (effects : EffectsView) → HasMore old new → KeepsHeld case.topology all after
     → IsHandled case old all sender delivery effects → IsHandled case new after sender delivery effects
 handled-kept case old new all after sender delivery effects more kept is =
     let on = held-interval case.topology all delivery.to is.held is.there in
@@ -293,7 +293,7 @@ AreAllHeld-let_go case desk before after interval gone others held = record { ea
 
 -- a record that goes elsewhere stays right
 handled-beside : (case : CaseShape) (desk : DeskView) (before after : List (Option HeldView)) (interval : ℕ) (sender : RowName)
-    (delivery : Delivery) (effects : Effects) → KeepsOthers interval before after
+    (delivery : Delivery) (effects : EffectsView) → KeepsOthers interval before after
     → goes_into case.topology interval (record { delivery = delivery; sender = sender }) ≡ false
     → IsHandled case desk before sender delivery effects → IsHandled case desk after sender delivery effects
 handled-beside case desk before after interval sender delivery effects others passes is =

@@ -4,7 +4,7 @@ use Rattle.std.specs.Prelude.{All, IfErr, IfOk, IfSome, Option, Some, None}
 use Rattle.std.specs.Option.{option_and_then, option_map}
 use Rattle.std.proofs.lemmas.Bool.{cases_eq, lt-ltb}
 use Rattle.std.proofs.lemmas.List.Elements.{All-append}
-use Rattle.mw_types.specs.Outcomes.{Outcome as Effects}
+use Rattle.mw_types.specs.Outcomes.{EffectsView}
 use Rattle.mw_types.specs.declared.delivery.Delivery.{Delivery}
 use Rattle.mw_types.specs.declared.entry.Entry.{Entry}
 use Rattle.mw_types.specs.declared.entry.Entry.TheVariants as entries
@@ -124,7 +124,7 @@ grown-line case old new interval part line item commit before after of_case is h
 
 -- a record that was handled stays right beside a row that was written of another part
 handled-apart : (case : CaseShape) (old new : DeskView) (before after : List (Option HeldView)) (interval part line commit : ℕ)
-    (sender : RowName) (d : Delivery) (effects : Effects) → HasMore old new → part < injectors_of case.topology
+    (sender : RowName) (d : Delivery) (effects : EffectsView) → HasMore old new → part < injectors_of case.topology
     → HoldsOwn case.topology old new interval part line commit before after → IsHandled case old before sender d effects
     → IsHandled case new after sender d effects
 handled-apart case old new before after interval part line commit sender d effects more injector h is =

@@ -3,7 +3,7 @@ use Rattle.std.proofs.Common.{◌≡◌, ◌∙◌, true, false, List, [], ◌�
 use Rattle.std.specs.Prelude.{IfSome, Option, Some, None, if◌then◌else◌}
 use Rattle.std.proofs.lemmas.List.Elements.{All-append, All-from_recursion}
 use Rattle.std.specs.Option.{is_some, option_map_or}
-use Rattle.mw_types.specs.Outcomes.{Outcome as Effects}
+use Rattle.mw_types.specs.Outcomes.{EffectsView}
 use Rattle.mw_types.specs.declared.delivery.Delivery.{Delivery}
 use Rattle.mw_types.specs.declared.entry.Entry.{Entry}
 use Rattle.mw_types.specs.declared.identity.RowName.{RowName}
@@ -75,7 +75,7 @@ taken-again shape node d sender held free there finished = sym (taken-free shape
     else (outcomes.Prepared, record (worker_at node) { prepared = Some (record { delivery = d; sender = sender }) })) finished)
 
 -- a record that is not is prepared
-pub taken-new : (shape : Shape) (node : NodeView) (d : Delivery) (sender : RowName) (effects : Effects) (held : HeldView)
+pub taken-new : (shape : Shape) (node : NodeView) (d : Delivery) (sender : RowName) (effects : EffectsView) (held : HeldView)
     → is_some node.prepared ≡ false → held_on shape node.held d.to ≡ Some held → is_finished d.id (row_held shape held d.to) ≡ false
     → (outcomes.Prepared, worker_at (record node { prepared = Some (record { sender = sender; proposal = proposals.Handle d effects }) }))
     ≡ taken_in shape node d sender
@@ -86,7 +86,7 @@ taken-new shape node d sender effects held free there new = sym (taken-free shap
 -- ---- and whether it fits then
 
 -- a node that has prepared a record fits
-pub Fits-new : (case : CaseShape) (desk : DeskView) (node : NodeView) (d : Delivery) (sender : RowName) (effects : Effects) (held : HeldView)
+pub Fits-new : (case : CaseShape) (desk : DeskView) (node : NodeView) (d : Delivery) (sender : RowName) (effects : EffectsView) (held : HeldView)
     → held_on case.topology node.held d.to ≡ Some held → is_finished d.id (row_held case.topology held d.to) ≡ false
     → record_outcome case d.to (row_held case.topology held d.to) d.item ≡ Some effects → IsDeliverable case.topology d sender
     → Fits case desk node → IsOutgoing case desk (outgoing.Deliver d sender)

@@ -5,7 +5,7 @@ use Rattle.std.specs.List.{list_any}
 use Rattle.std.specs.Prelude.{IfErr, IfOk, IfSome, Option, Some, None, Result, Ok, Err, if◌then◌else◌}
 use Rattle.std.specs.Option.{is_some, option_and_then, option_map}
 use Rattle.std.proofs.lemmas.Bool.{cases_eq}
-use Rattle.mw_types.specs.Outcomes.{Outcome as Effects}
+use Rattle.mw_types.specs.Outcomes.{EffectsView}
 use Rattle.mw_types.specs.declared.delivery.Delivery.{Delivery}
 use Rattle.mw_types.specs.declared.entry.Entry.TheVariants as entries
 use Rattle.mw_types.specs.declared.identity.RecordId.{RecordId}
@@ -96,14 +96,14 @@ grown-settled shape old new interval to id commit before after h =
 
 -- what is handled on a row stays so where what it sent is settled
 handling-settled : (case : CaseShape) (name to : RowName) (number seq : ℕ) (id : RecordId) (row : Contents) (d : Delivery)
-    (effects : Effects)
+    (effects : EffectsView)
     → IsHandling case name row d effects → IsHandling case name (written_row number (entries.Ack seq to id) [] row) d effects
 handling-settled case name to number seq id row d effects is =
     record { id = is.id; to_row = is.to_row; new = is.new; does = is.does }
 
 -- and on the rows that are held
 handling-held : (case : CaseShape) (to : RowName) (number seq : ℕ) (id : RecordId) (left : Contents) (held : HeldView) (d : Delivery)
-    (effects : Effects) → left ≡ written_row number (entries.Ack seq to id) [] (row_held case.topology held to)
+    (effects : EffectsView) → left ≡ written_row number (entries.Ack seq to id) [] (row_held case.topology held to)
     → IsHandling case d.to (row_held case.topology held d.to) d effects
     → IsHandling case d.to (row_held case.topology (with_row to left held) d.to) d effects
 handling-held case to number seq id left held d effects leaves is = elim (name_or_not d.to to) [
@@ -118,7 +118,7 @@ handling-held case to number seq id left held d effects leaves is = elim (name_o
 
 -- a record that was handled stays right
 handled-settled : (case : CaseShape) (old new : DeskView) (before after : List (Option HeldView)) (interval : ℕ) (to : RowName)
-    (id : RecordId) (commit : ℕ) (sender : RowName) (d : Delivery) (effects : Effects) → HasMore old new
+    (id : RecordId) (commit : ℕ) (sender : RowName) (d : Delivery) (effects : EffectsView) → HasMore old new
     → HoldsAck case.topology old new interval to id commit before after → IsHandled case old before sender d effects
     → IsHandled case new after sender d effects
 handled-settled case old new before after interval to id commit sender d effects more h is =

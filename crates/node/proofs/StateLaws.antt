@@ -4,7 +4,7 @@ use Rattle.std.specs.Prelude.{Option, Some, None, if◌then◌else◌, ◌==◌}
 use Rattle.std.specs.List.{list_all}
 use Rattle.std.specs.Option.{option_map, option_map_or}
 use Rattle.std.proofs.lemmas.Bool.{le-ltb}
-use Rattle.mw_types.specs.Outcomes.{Outcome as Effects}
+use Rattle.mw_types.specs.Outcomes.{EffectsView}
 use Rattle.mw_types.specs.declared.identity.RowName.{RowName}
 use Rattle.mw_types.specs.declared.kind.Kind.{Kind}
 use Rattle.mw_types.specs.declared.record.Record.{Record}
@@ -51,11 +51,11 @@ state-held case desk all name held fit is there =
     (both (suits_part case name.part row) (list_all (is_sent_before shape (length desk.seen)) row.pending) fitting).0
 
 -- a handler makes few records of a record
-pub few-handled : (case : CaseShape) (name : RowName) (row : Contents) (item : Record) (effects : Effects)
+pub few-handled : (case : CaseShape) (name : RowName) (row : Contents) (item : Record) (effects : EffectsView)
     → IsStateThere case.topology name.part row.state → record_outcome case name row item ≡ Some effects
     → length effects.productions ≤ 8
 few-handled case name row item effects there does =
     let kind = there.0 in
     let same : effects_of_record kind name.key row.state item ≡ effects = some_same _ _
     (sym (ap (option_map (λ (k : Kind). effects_of_record k name.key row.state item)) there.1) ∙ does) in
-    subst (λ (o : Effects). length o.productions ≤ 8) same (record-suits kind name.key row.state item there.2).1
+    subst (λ (o : EffectsView). length o.productions ≤ 8) same (record-suits kind name.key row.state item there.2).1

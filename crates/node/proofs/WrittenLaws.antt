@@ -2,7 +2,7 @@
 use Rattle.std.proofs.Common.{◌≡◌, ◌∙◌, ◌<◌, ◌+◌, ◌^◌, ℕ, Bool, List, [], ◌∷◌, ◌++◌, length, map, refl, sym, ap, subst, arith}
 use Rattle.std.specs.Prelude.{All, IfErr, IfOk, IfSome, Option, Some, None}
 use Rattle.std.proofs.lemmas.List.{length-append}
-use Rattle.mw_types.specs.Outcomes.{Outcome as Effects}
+use Rattle.mw_types.specs.Outcomes.{EffectsView}
 use Rattle.mw_types.specs.declared.delivery.Delivery.{Delivery}
 use Rattle.mw_types.specs.declared.entry.Entry.{Entry}
 use Rattle.mw_types.specs.declared.entry.Entry.TheVariants as entries
@@ -47,7 +47,7 @@ number-small desk before entry commit sound appended number =
     omega (arith, sound.limit, sound.few, long, number)
 
 -- word for the sender of a work
-pub ack-of : (sender : RowName) (proposal : Proposal) (delivery : Delivery) (effects : Effects) (ack : Outgoing)
+pub ack-of : (sender : RowName) (proposal : Proposal) (delivery : Delivery) (effects : EffectsView) (ack : Outgoing)
     → proposal ≡ proposals.Handle delivery effects
     → IfSome (sending_in sender proposal) (λ (s : Sending). ack ≡ outgoing.Ack s.sender s.delivery.id)
     → ack ≡ outgoing.Ack sender delivery.id
@@ -83,7 +83,7 @@ outbox-written outbox one two three ack sender id made name ds commit room put a
     ∙ ap (λ (l : List Outgoing). (outbox ++ outgoing.Ack sender id ∷ []) ++ l) sent
 
 -- a node of these parts has written its work
-pub node-written : (shape : Shape) (held : List (Option HeldView)) (sender : RowName) (delivery : Delivery) (effects : Effects)
+pub node-written : (shape : Shape) (held : List (Option HeldView)) (sender : RowName) (delivery : Delivery) (effects : EffectsView)
     (commit : ℕ) (node : NodeView) (prepared : Option WorkView) (outbox : List Outgoing) → prepared ≡ None
     → outbox ≡ (node.outbox ++ outgoing.Ack sender delivery.id ∷ [])
     ++ messages_from delivery.to (deliveries_made shape delivery.to.part effects.productions delivery.item.late commit)
@@ -100,7 +100,7 @@ HoldsWork shape old new interval name proposal commit before after = HoldsEntry 
     (λ (lease : LeaseView) (row : Contents) (answer : Written). HasWritten old new lease name proposal row answer) before after
 
 -- it stands under the lease that was held
-pub appended-work : (shape : Shape) (old new : DeskView) (interval : ℕ) (proposal : Proposal) (delivery : Delivery) (effects : Effects)
+pub appended-work : (shape : Shape) (old new : DeskView) (interval : ℕ) (proposal : Proposal) (delivery : Delivery) (effects : EffectsView)
     (commit : ℕ) (before after : List (Option HeldView)) → proposal ≡ proposals.Handle delivery effects
     → (h : HoldsWork shape old new interval delivery.to proposal commit before after)
     → IsAppended old new h.held.lease (entries.Handle h.held.lease.seq delivery.to delivery.id effects) commit
@@ -109,7 +109,7 @@ appended-work shape old new interval proposal delivery effects commit before aft
     (appended-handled old new h.held.lease delivery.to delivery effects proposal _ h.answer is h.entry)
 
 -- its entry is the node's own
-pub grown-work : (shape : Shape) (old new : DeskView) (interval : ℕ) (proposal : Proposal) (delivery : Delivery) (effects : Effects)
+pub grown-work : (shape : Shape) (old new : DeskView) (interval : ℕ) (proposal : Proposal) (delivery : Delivery) (effects : EffectsView)
     (commit : ℕ) (before after : List (Option HeldView)) → proposal ≡ proposals.Handle delivery effects
     → HoldsWork shape old new interval delivery.to proposal commit before after → HasGrown before old new
 grown-work shape old new interval proposal delivery effects commit before after is h =
@@ -118,7 +118,7 @@ grown-work shape old new interval proposal delivery effects commit before after 
 
 -- the node fits
 pub Fits-committed : (case : CaseShape) (old new : DeskView) (node : NodeView) (held : List (Option HeldView)) (work : WorkView)
-    (delivery : Delivery) (effects : Effects) (interval commit : ℕ) → node.prepared ≡ Some work
+    (delivery : Delivery) (effects : EffectsView) (interval commit : ℕ) → node.prepared ≡ Some work
     → work.proposal ≡ proposals.Handle delivery effects
     → HoldsWork case.topology old new interval delivery.to work.proposal commit node.held held → AreAllHeld case new held → IsSound new
     → ((number : ℕ) → number < 2 ^ 32 → All (IsAddressed case.topology) (messages_from delivery.to
@@ -133,7 +133,7 @@ Fits-committed case old new node held work delivery effects interval commit prep
 -- ---- a refusal
 
 -- what is asked of the work
-asked-work : (case : CaseShape) (desk : DeskView) (node : NodeView) (work : WorkView) (delivery : Delivery) (effects : Effects)
+asked-work : (case : CaseShape) (desk : DeskView) (node : NodeView) (work : WorkView) (delivery : Delivery) (effects : EffectsView)
     (fits : Fits case desk node) (prepared : node.prepared ≡ Some work) (is : work.proposal ≡ proposals.Handle delivery effects)
     → work_asked case.topology node ≡ Some (handled_as delivery effects
     (work-of case desk node work delivery effects fits prepared is).held)
@@ -143,7 +143,7 @@ asked-work case desk node work delivery effects fits prepared is =
 
 -- what a call answers that was refused
 pub answers-unwritten : (case : CaseShape) (old new : DeskView) (after : Worker) (was mid node : NodeView) (work : WorkView)
-    (delivery : Delivery) (effects : Effects) (interval : ℕ) (why : DeskRefusal) → was.prepared ≡ Some work
+    (delivery : Delivery) (effects : EffectsView) (interval : ℕ) (why : DeskRefusal) → was.prepared ≡ Some work
     → work.proposal ≡ proposals.Handle delivery effects → interval_of case.topology delivery.to ≡ Some interval → Fits case old was
     → HasLooked old new → IsRefusedOf old new was.held interval why → HasKept was mid → HasYielded case.topology interval why mid node
     → IfOk (answered why) (AnswersAsked case.topology old new (work_asked case.topology was) after was node)
@@ -161,7 +161,7 @@ answers-unwritten case old new after was mid node work delivery effects interval
     (subst (λ (n : ℕ). HasYielded shape n why mid node) (sym (fits.held.each interval held at).of_interval) left))
 
 -- and why it failed
-pub fails-unwritten : (case : CaseShape) (old new : DeskView) (was : NodeView) (work : WorkView) (delivery : Delivery) (effects : Effects)
+pub fails-unwritten : (case : CaseShape) (old new : DeskView) (was : NodeView) (work : WorkView) (delivery : Delivery) (effects : EffectsView)
     (interval : ℕ) (why : DeskRefusal) → was.prepared ≡ Some work → work.proposal ≡ proposals.Handle delivery effects
     → interval_of case.topology delivery.to ≡ Some interval → Fits case old was → IsRefusedOf old new was.held interval why
     → IfErr (answered why) (FailsAsked old new (work_asked case.topology was))

@@ -6,7 +6,7 @@ use Rattle.std.specs.Prelude.{◌≡◌, ◌<◌, ◌≤◌, ℕ, Bool, false, [
 use Rattle.std.specs.Option.{option_and_then, option_map}
 use Rattle.std.specs.Ordering.{is_lt}
 use Rattle.mw_types.specs.Orders.{row_cmp}
-use Rattle.mw_types.specs.Outcomes.{Outcome}
+use Rattle.mw_types.specs.Outcomes.{EffectsView}
 use Rattle.mw_types.specs.declared.delivery.Delivery.{Delivery}
 use Rattle.mw_types.specs.declared.entry.Entry.{Entry}
 use Rattle.mw_types.specs.declared.entry.Entry.TheVariants as entries
@@ -59,7 +59,7 @@ line_asked case node part =
 -- ---- what is prepared
 
 -- that a record was handled, with what its handler left
-abbrev pub handled_as : Delivery → Outcome → HeldView → Request
+abbrev pub handled_as : Delivery → EffectsView → HeldView → Request
 handled_as delivery effects held = record {
   lease = held.lease;
   name = delivery.to;
@@ -122,7 +122,7 @@ pub record MayAskFire (case : CaseShape) (node : NodeView) (part mark : ℕ) (as
   pub name : RowName
   pub timer : Timer
   pub next : IsNextTimer case.topology node part mark name timer
-  pub effects : Outcome
+  pub effects : EffectsView
   pub does : let row = row_held case.topology next.set.held name in
       timer_outcome case name row timer ≡ Some effects
   pub request : let lease = next.set.held.lease in asked ≡ record {

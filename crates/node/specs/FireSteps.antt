@@ -1,7 +1,7 @@
 -- The steps by which a node finds the timer that fires. No public clause cites this module.
 use Rattle.std.specs.Prelude.{◌≡◌, ◌<◌, ℕ, Bool, true, false, List, Option, Some, None, if◌then◌else◌, nat_le, slice_get}
 use Rattle.std.specs.Ordering.{is_lt}
-use Rattle.mw_types.specs.Outcomes.{Outcome}
+use Rattle.mw_types.specs.Outcomes.{EffectsView}
 use Rattle.mw_types.specs.declared.identity.RowName.{RowName}
 use Rattle.mw_types.specs.declared.timer.Timer.{Timer}
 use Rattle.key_intervals.specs.declared.bounds.Bounds.{Bounds}
@@ -98,12 +98,12 @@ pub record IsSetAt (shape : Shape) (all : List (Option HeldView)) (interval : �
   pub state : IsStateThere shape name.part row.state
 
 -- a handler left these effects of a timer of a row that is held of an interval
-abbrev pub HasLeft : CaseShape → List (Option HeldView) → ℕ → RowName → Timer → Outcome → Type 0
+abbrev pub HasLeft : CaseShape → List (Option HeldView) → ℕ → RowName → Timer → EffectsView → Type 0
 HasLeft case all interval name timer effects = (set : IsSetAt case.topology all interval name timer) →
     timer_outcome case name set.row timer ≡ Some effects
 
 -- a timer's firing on a row that is held, as the desk answered it
-abbrev pub HoldsFire : Shape → DeskView → DeskView → ℕ → RowName → Timer → ℕ → Outcome → ℕ →
+abbrev pub HoldsFire : Shape → DeskView → DeskView → ℕ → RowName → Timer → ℕ → EffectsView → ℕ →
     List (Option HeldView) → List (Option HeldView) → Type 0
 HoldsFire shape old new interval name timer mark effects commit before after =
     HoldsEntry shape interval name commit (λ (lease : LeaseView) (row : Contents) (answer : Written).

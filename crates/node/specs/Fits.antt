@@ -2,7 +2,7 @@
 -- by what
 -- the desk has seen. Own.
 use Rattle.std.specs.Prelude.{◌≡◌, List, Option, Some, IfSome, All}
-use Rattle.mw_types.specs.Outcomes.{Outcome}
+use Rattle.mw_types.specs.Outcomes.{EffectsView}
 use Rattle.mw_types.specs.declared.delivery.Delivery.{Delivery}
 use Rattle.mw_types.specs.declared.identity.RowName.{RowName}
 use Rattle.run_history.specs.Cases.{CaseShape}
@@ -18,7 +18,7 @@ use Rattle.node.specs.declared.outgoing.Outgoing.TheVariants as outgoing
 -- a record that its sender may have sent goes to a row that is held, and is not finished there; these effects
 -- are what its computation's handler leaves of it on that row
 pub record IsHandled (case : CaseShape) (desk : DeskView) (all : List (Option HeldView)) (sender : RowName)
-    (delivery : Delivery) (effects : Outcome) : Type 0 where
+    (delivery : Delivery) (effects : EffectsView) : Type 0 where
   pub sent : IsOutgoing case desk (outgoing.Deliver delivery sender)
   pub held : HeldView
   pub there : held_on case.topology all delivery.to ≡ Some held

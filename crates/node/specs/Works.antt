@@ -1,7 +1,7 @@
 -- What a worker asks of the computations that are handed in: each does what the kind of its part does. Own.
 use Rattle.std.specs.Prelude.{◌≡◌, ℕ, true, List, Option, Some}
 use Rattle.computations.specs.Handlers.{effects_of_record, effects_of_timer, has_kind}
-use Rattle.mw_types.specs.Outcomes.{Outcome}
+use Rattle.mw_types.specs.Outcomes.{EffectsView}
 use Rattle.mw_types.specs.declared.identity.RowName.{RowName}
 use Rattle.mw_types.specs.declared.kind.Kind.{Kind}
 use Rattle.mw_types.specs.declared.record.Record.{Record}
@@ -12,8 +12,8 @@ use Rattle.holdings.specs.Holding.{HeldView, held_on, row_held}
 
 -- each computation has the states of its kind, and does with a record and with a timer what its kind does
 pub record IsWorkOf (shape : Shape) (has : ℕ → State → Type 0)
-    (gives_record : ℕ → List ℕ → State → Record → Outcome)
-    (gives_timer : ℕ → List ℕ → State → Timer → Outcome) : Type 0 where
+    (gives_record : ℕ → List ℕ → State → Record → EffectsView)
+    (gives_timer : ℕ → List ℕ → State → Timer → EffectsView) : Type 0 where
   pub states : (part : ℕ) (kind : Kind) (state : State) → kind_of shape part ≡ Some kind →
       has_kind kind state ≡ true → has part state
   pub records : (part : ℕ) (kind : Kind) (key : List ℕ) (state : State) (item : Record) →

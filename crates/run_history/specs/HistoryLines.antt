@@ -11,7 +11,7 @@ use Rattle.mw_types.specs.declared.timer.Timer.{Timer}
 use Rattle.mw_types.specs.declared.state.State.{State}
 use Rattle.mw_types.specs.declared.entry.Entry.{Entry}
 use Rattle.mw_types.specs.declared.entry.Entry.TheVariants.{Claim, Inject, Handle, Fire, Ack, Purge}
-use Rattle.mw_types.specs.Outcomes.{Outcome}
+use Rattle.mw_types.specs.Outcomes.{EffectsView}
 use Rattle.mw_types.specs.PrintedIds.{printed_id}
 use Rattle.row_parts.specs.Contents.{IsId}
 use Rattle.row_parts.specs.Spelling.{state_spelling}
@@ -86,7 +86,7 @@ handled_data n seq row id out state timers = object
     (member (codes "timers") timers no_members)))))))))
 
 -- a row handled a record
-abbrev pub handle_data : ℕ → ℕ → RowName → RecordId → Outcome → Data
+abbrev pub handle_data : ℕ → ℕ → RowName → RecordId → EffectsView → Data
 handle_data n seq row id effects =
     handled_data n seq row (id_data id) (array_data production_data effects.productions)
     (state_data effects.state) (array_data timer_data effects.timers)
@@ -108,7 +108,7 @@ fired_data n seq row timer mark out state = object
     (member (codes "time") (number (unsigned timer.time)) no_members)))))))))))
 
 -- a row fired a timer under a watermark
-abbrev pub fire_data : ℕ → ℕ → RowName → Timer → ℕ → Outcome → Data
+abbrev pub fire_data : ℕ → ℕ → RowName → Timer → ℕ → EffectsView → Data
 fire_data n seq row timer mark effects =
     fired_data n seq row timer mark (array_data production_data effects.productions)
     (state_data effects.state)

@@ -11,7 +11,7 @@ use Rattle.mw_types.specs.declared.timer.Timer.{Timer}
 use Rattle.mw_types.specs.declared.delivery.Delivery.{Delivery}
 use Rattle.mw_types.specs.declared.entry.Entry.{Entry}
 use Rattle.mw_types.specs.declared.entry.Entry.TheVariants.{Claim, Inject, Handle, Fire, Ack, Purge}
-use Rattle.mw_types.specs.Outcomes.{Outcome}
+use Rattle.mw_types.specs.Outcomes.{EffectsView}
 use Rattle.injector.specs.Sources.{item_at}
 use Rattle.topology.specs.Rules.{interval_count}
 use Rattle.topology.specs.Shapes.{injectors_of, kind_of}
@@ -23,12 +23,12 @@ use Rattle.run_history.specs.Runs.{Run, row_in, row_of, followed, empty_run}
 use Rattle.run_history.specs.Watermarks.{cursor_of, low_watermark}
 
 -- what a computation's handler leaves of a record in a row of this name, or none of an injector
-abbrev pub record_outcome : CaseShape → RowName → Contents → Record → Option Outcome
+abbrev pub record_outcome : CaseShape → RowName → Contents → Record → Option EffectsView
 record_outcome case name row item =
     option_map (λ kind. effects_of_record kind name.key row.state item) (kind_of case.topology name.part)
 
 -- what a computation's handler leaves of a timer of a row of this name, or none of an injector
-abbrev pub timer_outcome : CaseShape → RowName → Contents → Timer → Option Outcome
+abbrev pub timer_outcome : CaseShape → RowName → Contents → Timer → Option EffectsView
 timer_outcome case name row timer =
     option_map (λ kind. effects_of_timer kind name.key row.state timer) (kind_of case.topology name.part)
 
@@ -49,7 +49,7 @@ pub record MayInject (case : CaseShape) (run : Run) (part line : ℕ) (item : Re
   pub of_line : option_map record_of (item_at (source_of case part) line) ≡ Some item
 
 -- a row may handle a delivery that waits for it, and leaves what its computation's handler leaves
-pub record MayHandle (case : CaseShape) (run : Run) (row : RowName) (id : RecordId) (effects : Outcome) : Type 0 where
+pub record MayHandle (case : CaseShape) (run : Run) (row : RowName) (id : RecordId) (effects : EffectsView) : Type 0 where
   pub delivery : Delivery
   pub waits : found_delivery id run.unhandled ≡ Some delivery
   pub to_row : delivery.to ≡ row
@@ -57,7 +57,7 @@ pub record MayHandle (case : CaseShape) (run : Run) (row : RowName) (id : Record
 
 -- a row may fire the least of its timers, once it is due under a mark that is not above the low watermark of its part,
 -- and leaves what its computation's handler leaves
-pub record MayFire (case : CaseShape) (run : Run) (row : RowName) (timer : Timer) (mark : ℕ) (effects : Outcome) : Type 0 where
+pub record MayFire (case : CaseShape) (run : Run) (row : RowName) (timer : Timer) (mark : ℕ) (effects : EffectsView) : Type 0 where
   pub least_timer : slice_get (row_of case.topology run row).timers 0 ≡ Some timer
   pub due : timer.time ≤ mark
   pub under_watermark : mark ≤ low_watermark case run row.part

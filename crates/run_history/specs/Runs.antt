@@ -15,7 +15,7 @@ use Rattle.mw_types.specs.declared.delivery.Emission.{Emission}
 use Rattle.mw_types.specs.declared.entry.Entry.{Entry}
 use Rattle.mw_types.specs.declared.entry.Entry.TheVariants.{Claim, Inject, Handle, Fire, Ack, Purge}
 use Rattle.mw_types.specs.Orders.{row_cmp}
-use Rattle.mw_types.specs.Outcomes.{Outcome}
+use Rattle.mw_types.specs.Outcomes.{EffectsView}
 use Rattle.topology.specs.Shapes.{Shape}
 use Rattle.row_parts.specs.Contents.{Contents, fresh, with_timer, without_timer, with_id, without_delivery, ids_from}
 use Rattle.run_history.specs.Cases.{fresh_of}
@@ -60,7 +60,7 @@ abbrev pub noted : RecordId → Contents → List RecordId
 noted id row = if nat_lt id.commit row.floor then row.seen else with_id id row.seen
 
 -- a row after a handled record: its handler's state and timers, what was made, and the record's id
-abbrev pub handled_in : RecordId → Outcome → List Delivery → Contents → Contents
+abbrev pub handled_in : RecordId → EffectsView → List Delivery → Contents → Contents
 handled_in id effects sent row = record row {
   state = effects.state;
   timers = with_timers effects.timers row.timers;
@@ -69,7 +69,7 @@ handled_in id effects sent row = record row {
 }
 
 -- a row after a fired timer: its handler's state, without the timer, and with what was made
-abbrev pub fired_in : Timer → Outcome → List Delivery → Contents → Contents
+abbrev pub fired_in : Timer → EffectsView → List Delivery → Contents → Contents
 fired_in timer effects sent row = record row {
   state = effects.state;
   timers = without_timer timer.tag timer.time row.timers;

@@ -5,7 +5,7 @@ use Rattle.std.specs.Prelude.{ℕ, ◌+◌, ◌==◌, ◌^◌, ◌&&◌, ◌++�
 use Rattle.std.specs.List.{filter_map, flat_map, reduce}
 use Rattle.std.specs.Option.{is_some, option_and_then, option_map, option_map_or, option_to_list}
 use Rattle.std.specs.Ordering.{min_by_ordering}
-use Rattle.mw_types.specs.Outcomes.{Outcome as Effects}
+use Rattle.mw_types.specs.Outcomes.{EffectsView}
 use Rattle.mw_types.specs.declared.delivery.Delivery.{Delivery}
 use Rattle.mw_types.specs.declared.entry.Entry.{Entry}
 use Rattle.mw_types.specs.declared.entry.Entry.TheVariants as entries
@@ -260,7 +260,7 @@ lose message world =
 
 -- a worker writes what a handler left of the record that it has prepared; its acknowledgement is sent before
 -- what that makes
-abbrev pub write_effects : ℕ → World → Sending → LeaseView → Effects → Deed
+abbrev pub write_effects : ℕ → World → Sending → LeaseView → EffectsView → Deed
 write_effects number world sending lease effects = let delivery = sending.delivery in
     writes world number lease (entries.Handle lease.seq delivery.to delivery.id effects)
     (with_written (Some sending) (worker_of world number))
@@ -299,7 +299,7 @@ least_timer shape world worker part =
     reduce (λ a b. min_by_ordering (due_cmp a b) a b) (timers_known shape world worker part)
 
 -- a worker writes what a handler left of a timer
-abbrev pub fire_effects : ℕ → World → ℕ → RowName × Timer → LeaseView → Effects → Deed
+abbrev pub fire_effects : ℕ → World → ℕ → RowName × Timer → LeaseView → EffectsView → Deed
 fire_effects number world mark due lease effects =
     writes world number lease (entries.Fire lease.seq due.0 due.1 mark effects) (worker_of world number)
 

@@ -4,7 +4,7 @@ use Rattle.std.proofs.Props.{props}
 use Rattle.std.specs.Prelude.{Option, Some, IfSome}
 use Rattle.std.specs.Coded.{×_prop, Unit-prop}
 use mathlib.Core.HLevel.{Σ_prop_path}
-use Rattle.mw_types.specs.Outcomes.{Outcome}
+use Rattle.mw_types.specs.Outcomes.{EffectsView}
 use Rattle.mw_types.specs.declared.delivery.Delivery.{Delivery}
 use Rattle.mw_types.specs.declared.entry.Entry.{Entry}
 use Rattle.mw_types.specs.declared.entry.Entry.TheVariants.{Claim, Inject, Handle, Fire, Ack, Purge}
@@ -26,7 +26,7 @@ use Rattle.shared_book.specs.SharedDesks.{IsKeptOfSeat, KnownView}
 delivery_set : IsSet Delivery
 delivery_set = Prim.hlevel props
 
-outcome_set : IsSet Outcome
+outcome_set : IsSet EffectsView
 outcome_set = Prim.hlevel props
 
 name_set : IsSet RowName
@@ -41,13 +41,13 @@ timer_set = Prim.hlevel props
 -- ---- a legal history
 
 -- all that is asked of a delivery that is handled
-abbrev IsHandled : CaseShape → Run → RowName → RecordId → Outcome → Delivery → Type 0
+abbrev IsHandled : CaseShape → Run → RowName → RecordId → EffectsView → Delivery → Type 0
 IsHandled case run row id effects delivery =
     (found_delivery id run.unhandled ≡ Some delivery) × (delivery.to ≡ row)
     × (record_outcome case row (row_of case.topology run row) delivery.item ≡ Some effects)
 
 -- the delivery is the one that waits
-MayHandle-prop : (case : CaseShape) (run : Run) (row : RowName) (id : RecordId) (effects : Outcome)
+MayHandle-prop : (case : CaseShape) (run : Run) (row : RowName) (id : RecordId) (effects : EffectsView)
     → IsProp (MayHandle case run row id effects)
 MayHandle-prop case run row id effects x y = λ i. record {
   delivery = (same i).0;

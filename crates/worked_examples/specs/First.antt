@@ -9,7 +9,7 @@ use Rattle.mw_types.specs.declared.timer.Timer.{Timer}
 use Rattle.mw_types.specs.declared.delivery.Emission.{Emission}
 use Rattle.mw_types.specs.declared.entry.Entry.{Entry}
 use Rattle.mw_types.specs.declared.entry.Entry.TheVariants.{Inject, Handle, Fire}
-use Rattle.mw_types.specs.Outcomes.{Outcome}
+use Rattle.mw_types.specs.Outcomes.{EffectsView}
 use Rattle.injector.specs.Sources.{SourceLine}
 use Rattle.topology.specs.Samples.{one_count}
 use Rattle.run_history.specs.Cases.{CaseShape}
@@ -45,11 +45,11 @@ abbrev pub window : ℕ → ℕ → Window
 window end count = record { end = end; count = count }
 
 -- a record that opens or fills a window, and sets its timer
-abbrev pub counts : List Window → ℕ → Outcome
+abbrev pub counts : List Window → ℕ → EffectsView
 counts windows time = record { state = Count 0 windows; timers = end_of time ∷ []; productions = [] }
 
 -- a timer that closes a window, and produces its count
-abbrev pub closes : List Window → ℕ → ℕ → Outcome
+abbrev pub closes : List Window → ℕ → ℕ → EffectsView
 closes windows end count = record {
   state = Count 0 windows;
   timers = [];

@@ -7,7 +7,7 @@ use Rattle.mw_types.specs.declared.kind.Kind.{Kind}
 use Rattle.mw_types.specs.declared.kind.Kind.TheVariants as kinds
 use Rattle.mw_types.specs.declared.state.State.{State}
 use Rattle.mw_types.specs.declared.state.State.TheVariants as states
-use Rattle.mw_types.specs.Outcomes.{Outcome}
+use Rattle.mw_types.specs.Outcomes.{EffectsView}
 use Rattle.computations.specs.Handlers.{fresh_state, effects_of_record, effects_of_timer}
 use Rattle.worked_examples.specs.First.{key_a, record_at, end_of, window}
 
@@ -28,7 +28,7 @@ abbrev pub five_stamps : List ℕ
 five_stamps = 0 ∷ 60 ∷ 120 ∷ 121 ∷ 122 ∷ []
 
 -- what the count leaves of a record
-abbrev pub taken_in : State → ℕ → Outcome
+abbrev pub taken_in : State → ℕ → EffectsView
 taken_in state stamp = effects_of_record counts_kind key_a state (record_at stamp)
 
 -- the state of the count once records of these timestamps are handled, one after another
@@ -40,12 +40,12 @@ abbrev pub open_from : ℕ → ℕ → State
 open_from closed last = states.Count 0 (drop closed (window 60 1 ∷ window 120 1 ∷ window 180 last ∷ []))
 
 -- what the count leaves of a late record
-abbrev pub late_in : State → ℕ → Outcome
+abbrev pub late_in : State → ℕ → EffectsView
 late_in state stamp = effects_of_record counts_kind key_a state
     (record { key = key_a; stamp = stamp; value = pos 1; late = true })
 
 -- what the count leaves of the timer that ends a window
-abbrev pub closed_at : State → ℕ → Outcome
+abbrev pub closed_at : State → ℕ → EffectsView
 closed_at state end = effects_of_timer counts_kind key_a state (end_of end)
 
 -- a spike that holds this total, and knows these
@@ -57,29 +57,29 @@ abbrev pub knowing : List ℤ → State
 knowing known = states.Spike 0 [] known
 
 -- what the spike leaves of the record of a window's total
-abbrev pub held_at : State → ℕ → ℕ → Outcome
+abbrev pub held_at : State → ℕ → ℕ → EffectsView
 held_at state stamp value = effects_of_record spikes_kind key_a state
     (record { key = key_a; stamp = stamp; value = pos value; late = false })
 
 -- what it leaves of such a record that is late
-abbrev pub late_at : State → ℕ → ℕ → Outcome
+abbrev pub late_at : State → ℕ → ℕ → EffectsView
 late_at state stamp value = effects_of_record spikes_kind key_a state
     (record { key = key_a; stamp = stamp; value = pos value; late = true })
 
 -- what the spike leaves of the timer that is due one microsecond after a total
-abbrev pub due_at : State → ℕ → Outcome
+abbrev pub due_at : State → ℕ → EffectsView
 due_at state time = effects_of_timer spikes_kind key_a state (end_of time)
 
 -- the state with one timer set
-abbrev pub sets : State → ℕ → Outcome
+abbrev pub sets : State → ℕ → EffectsView
 sets state time = record { state = state; timers = end_of time ∷ []; productions = [] }
 
 -- the state, and nothing set or produced
-abbrev pub keeps : State → Outcome
+abbrev pub keeps : State → EffectsView
 keeps state = record { state = state; timers = []; productions = [] }
 
 -- the state with one record of the key a produced
-abbrev pub produces : State → ℕ → ℕ → Outcome
+abbrev pub produces : State → ℕ → ℕ → EffectsView
 produces state stamp value = record {
   state = state;
   timers = [];

@@ -12,7 +12,7 @@ use Rattle.mw_types.specs.declared.state.State.TheVariants as states
 use Rattle.mw_types.specs.declared.record.Record.{Record}
 use Rattle.mw_types.specs.declared.entry.Entry.{Entry}
 use Rattle.mw_types.specs.declared.entry.Entry.TheVariants.{Claim, Inject, Handle, Fire, Ack, Purge}
-use Rattle.mw_types.specs.Outcomes.{Outcome}
+use Rattle.mw_types.specs.Outcomes.{EffectsView}
 use Rattle.injector.specs.Sources.{SourceLine}
 use Rattle.topology.specs.declared.subscription.By.TheVariants.{Key, Head, Tail}
 use Rattle.topology.specs.Shapes.{Shape, InjectorShape, ComputationShape}
@@ -120,11 +120,11 @@ abbrev pub second_of : ℕ → RecordId
 second_of commit = record { commit = commit; index = 1 }
 
 -- the late record is counted as late, and in no window
-abbrev pub counts_late : Outcome
+abbrev pub counts_late : EffectsView
 counts_late = record { state = states.Count 1 (window 60 1 ∷ []); timers = []; productions = [] }
 
 -- the last window of a key is closed, with one record in it, where so many late ones came
-abbrev pub closes_last : ℕ → List ℕ → ℕ → Outcome
+abbrev pub closes_last : ℕ → List ℕ → ℕ → EffectsView
 closes_last late key end = record {
   state = states.Count late [];
   timers = [];
@@ -132,7 +132,7 @@ closes_last late key end = record {
 }
 
 -- a total of 1 is held, and is due one microsecond later
-abbrev pub holds_one : ℕ → Outcome
+abbrev pub holds_one : ℕ → EffectsView
 holds_one stamp = record {
   state = states.Spike 0 (record { stamp = stamp; value = pos 1 } ∷ []) [];
   timers = end_of (stamp + 1) ∷ [];
@@ -140,7 +140,7 @@ holds_one stamp = record {
 }
 
 -- it is known from then on; the first total of a key is no spike, since none is known before it
-abbrev pub knows_one : Outcome
+abbrev pub knows_one : EffectsView
 knows_one = record { state = states.Spike 0 [] (pos 1 ∷ []); timers = []; productions = [] }
 
 -- ---- the history

@@ -3,7 +3,7 @@ use Rattle.std.proofs.Common.{◌≡◌, ◌<◌, ◌≤◌, ℕ, false, cond, L
 use Rattle.std.specs.Prelude.{Option, Some, None, IfSome, All}
 use Rattle.std.specs.Option.{is_some, option_and_then, option_map, option_map_or}
 use Rattle.std.proofs.lemmas.List.Elements.{All-contains}
-use Rattle.mw_types.specs.Outcomes.{Outcome as Effects}
+use Rattle.mw_types.specs.Outcomes.{EffectsView}
 use Rattle.mw_types.specs.declared.delivery.Delivery.{Delivery}
 use Rattle.mw_types.specs.declared.entry.Entry.TheVariants as entries
 use Rattle.mw_types.specs.declared.identity.RecordId.{RecordId}
@@ -196,10 +196,10 @@ fire-call case old new was node part outcome same at answers keeps fits =
 
 -- what a work is that is prepared, by the record that was sent
 work-is : (node : NodeView) (s : Sending) → sending_of node ≡ Some s
-    → (work : WorkView) × (effects : Effects) × (node.prepared ≡ Some work) × (work.proposal ≡ proposals.Handle s.delivery effects)
+    → (work : WorkView) × (effects : EffectsView) × (node.prepared ≡ Some work) × (work.proposal ≡ proposals.Handle s.delivery effects)
 work-is node s is = by_work node.prepared refl is
   where
-    by_proposal : (sender : RowName) (p : Proposal) → sending_in sender p ≡ Some s → (effects : Effects) × (p ≡ proposals.Handle s.delivery effects)
+    by_proposal : (sender : RowName) (p : Proposal) → sending_in sender p ≡ Some s → (effects : EffectsView) × (p ≡ proposals.Handle s.delivery effects)
     by_proposal sender (proposals.Inject line) e = absurd (none_some s e)
     by_proposal sender (proposals.Fire timer mark effects) e = absurd (none_some s e)
     by_proposal sender (proposals.Handle delivery effects) e =
@@ -208,7 +208,7 @@ work-is node s is = by_work node.prepared refl is
 
     by_work : (o : Option WorkView) → node.prepared ≡ o
         → option_and_then (λ (work : WorkView). sending_in work.sender work.proposal) o ≡ Some s
-        → (work : WorkView) × (effects : Effects) × (node.prepared ≡ Some work) × (work.proposal ≡ proposals.Handle s.delivery effects)
+        → (work : WorkView) × (effects : EffectsView) × (node.prepared ≡ Some work) × (work.proposal ≡ proposals.Handle s.delivery effects)
     by_work None at e = absurd (none_some s e)
     by_work (Some work) at e = let p = by_proposal work.sender work.proposal e in (work, p.0, at, p.1)
 

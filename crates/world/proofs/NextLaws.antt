@@ -18,7 +18,7 @@ use Rattle.mw_types.specs.declared.timer.Timer.{Timer}
 use Rattle.mw_types.specs.declared.state.State.TheVariants as states
 use Rattle.mw_types.specs.declared.entry.Entry.{Entry}
 use Rattle.mw_types.specs.declared.entry.Entry.TheVariants.{Claim, Inject, Handle, Fire, Ack, Purge}
-use Rattle.mw_types.specs.Outcomes.{Outcome}
+use Rattle.mw_types.specs.Outcomes.{EffectsView}
 use Rattle.topology.specs.Rules.{interval_count}
 use Rattle.row_parts.specs.Orders.{timer_cmp-total}
 use Rattle.row_parts.specs.Contents.{Contents, same_id}
@@ -283,7 +283,7 @@ module _ (case : CaseShape) (from : ℕ) (history : List Entry) where
   HasNext = (entry : Entry) × IsNextEntry case from history entry
 
   -- some effects
-  abbrev some_effects : Outcome
+  abbrev some_effects : EffectsView
   some_effects = record { state = states.Pass 0; timers = []; productions = [] }
 
   -- a record that is to be handled, by whether its row is full

@@ -10,7 +10,7 @@ use Rattle.mw_types.specs.declared.delivery.Delivery.{Delivery}
 use Rattle.mw_types.specs.declared.timer.Timer.{Timer}
 use Rattle.mw_types.specs.declared.entry.Entry.{Entry}
 use Rattle.mw_types.specs.declared.entry.Entry.TheVariants.{Claim, Inject, Handle, Fire, Ack, Purge}
-use Rattle.mw_types.specs.Outcomes.{Outcome}
+use Rattle.mw_types.specs.Outcomes.{EffectsView}
 use Rattle.injector.specs.Sources.{item_at}
 use Rattle.run_history.specs.Cases.{CaseShape, source_of, record_of}
 use Rattle.run_history.specs.Made.{found_delivery, row_written}
@@ -50,7 +50,7 @@ one_sequencer case history a b row other s t same on also carries bears f g =
     some_same s t (sym carries ∙ sym (f.under row on) ∙ g.under row (also ∙ ap Some (sym same)) ∙ bears)
 
 -- two handlings of one id in one row leave the same
-one_handled : (case : CaseShape) (run : Run) (row other : RowName) (id also : RecordId) (one two : Outcome) → row ≡ other → id ≡ also
+one_handled : (case : CaseShape) (run : Run) (row other : RowName) (id also : RecordId) (one two : EffectsView) → row ≡ other → id ≡ also
     → MayHandle case run row id one → MayHandle case run other also two → one ≡ two
 one_handled case run row other id also one two r n may can =
     let d : may.delivery ≡ can.delivery = some_same may.delivery can.delivery
@@ -59,7 +59,7 @@ one_handled case run row other id also one two r n may can =
     ∙ (λ i. record_outcome case (r i) (row_of case.topology run (r i)) (d i).item) ∙ can.does)
 
 -- two firings in one row are of one timer, and leave the same
-one_fired : (case : CaseShape) (run : Run) (row other : RowName) (t u : Timer) (m n : ℕ) (one two : Outcome) → row ≡ other
+one_fired : (case : CaseShape) (run : Run) (row other : RowName) (t u : Timer) (m n : ℕ) (one two : EffectsView) → row ≡ other
     → MayFire case run row t m one → MayFire case run other u n two → (t ≡ u) × (one ≡ two)
 one_fired case run row other t u m n one two r may can =
     let same : t ≡ u = some_same t u (sym may.least_timer
@@ -108,12 +108,12 @@ module _ (case : CaseShape) (from : ℕ) (history : List Entry) where
 
   -- an entry is by the rule of records, and may follow
   abbrev ByHandle : Entry → Type 0
-  ByHandle e = (seq : ℕ) × (row : RowName) × (id : RecordId) × (effects : Outcome) × (e ≡ Handle seq row id effects)
+  ByHandle e = (seq : ℕ) × (row : RowName) × (id : RecordId) × (effects : EffectsView) × (e ≡ Handle seq row id effects)
       × IsNextHandle case from history row id × Follows case history (Handle seq row id effects)
 
   -- an entry is by the rule of timers, and may follow
   abbrev ByFire : Entry → Type 0
-  ByFire e = (seq : ℕ) × (row : RowName) × (timer : Timer) × (mark : ℕ) × (effects : Outcome) × (e ≡ Fire seq row timer mark effects)
+  ByFire e = (seq : ℕ) × (row : RowName) × (timer : Timer) × (mark : ℕ) × (effects : EffectsView) × (e ≡ Fire seq row timer mark effects)
       × IsNextFire case from history row timer mark × Follows case history (Fire seq row timer mark effects)
 
   -- an entry is by the rule of lines, and may follow

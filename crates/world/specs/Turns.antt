@@ -6,7 +6,7 @@ use Rattle.mw_types.specs.declared.entry.Entry.{Entry}
 use Rattle.mw_types.specs.declared.entry.Entry.TheVariants as entries
 use Rattle.mw_types.specs.declared.identity.RowName.{RowName}
 use Rattle.mw_types.specs.declared.timer.Timer.{Timer}
-use Rattle.mw_types.specs.Outcomes.{Outcome as Effects}
+use Rattle.mw_types.specs.Outcomes.{EffectsView}
 use Rattle.mw_types.specs.declared.TheConstants.{MAX_STAMP}
 use Rattle.mw_types.specs.declared.delivery.Delivery.{Delivery}
 use Rattle.mw_types.specs.declared.identity.RecordId.{RecordId}
@@ -269,7 +269,7 @@ HasReported old new interval =
 pub record HasHandled (old new : BookView) (delivery : Delivery) (more : Bool) : Type 0 where
   pub is_more : more ≡ true
   pub seq : ℕ
-  pub effects : Effects
+  pub effects : EffectsView
   pub stepped : HasStepped old new (Some (entries.Handle seq delivery.to delivery.id effects))
 
 -- a record that a row has pending is to be handled next: it is not handled, and its row is not full

@@ -6,7 +6,7 @@ use Rattle.std.specs.Ordering.{ordering_reverse}
 use Rattle.std.specs.declared.cmp.Ordering.{Ordering}
 use Rattle.std.specs.declared.cmp.Ordering.TheVariants.{Less, Equal, Greater}
 use Rattle.std.proofs.lemmas.Bool.{le-leb, leb-true}
-use Rattle.mw_types.specs.Outcomes.{Outcome as Effects}
+use Rattle.mw_types.specs.Outcomes.{EffectsView}
 use Rattle.mw_types.specs.declared.entry.Entry.TheVariants as entries
 use Rattle.mw_types.specs.declared.identity.RowName.{RowName}
 use Rattle.mw_types.specs.declared.timer.Timer.{Timer}
@@ -142,7 +142,7 @@ none-is case old world number was part acting never =
     mark = least (marks_of case.topology part world.marks)
 
     by_effects : (due : RowName × Timer) → nat_le due.1.time mark ≡ true → was.prepared ≡ None
-        → (is : IsLeastHeld case.topology was part due) → (o : Option Effects)
+        → (is : IsLeastHeld case.topology was part due) → (o : Option EffectsView)
         → timer_outcome case due.0 (row_held case.topology is.set.held due.0) due.1 ≡ o
         → option_map_or (fire_effects number world mark due is.set.held.lease) o (nothing world number) ≡ nothing world number
     by_effects due within free is None does = refl

@@ -2,7 +2,7 @@
 use Rattle.std.proofs.Common.{◌≡◌, ◌∙◌, ℕ, refl, sym, ap}
 use Rattle.std.specs.Prelude.{IfSome, None, Option, Some}
 use Rattle.std.specs.Option.{option_and_then, option_map, option_map_or}
-use Rattle.mw_types.specs.Outcomes.{Outcome as Effects}
+use Rattle.mw_types.specs.Outcomes.{EffectsView}
 use Rattle.mw_types.specs.declared.delivery.Delivery.{Delivery}
 use Rattle.mw_types.specs.declared.entry.Entry.TheVariants as entries
 use Rattle.mw_types.specs.declared.identity.RowName.{RowName}
@@ -27,7 +27,7 @@ use Rattle.world.proofs.deeds.Held.{lease_held, lease_on-held, row-held}
 use Rattle.world.proofs.deeds.Left.{IsOnRow, acting-alone, acting-of, asked-kept, deed_asked}
 
 -- what a worker does that writes effects of what it has prepared
-abbrev effects_by : ℕ → World → Worker → Sending → LeaseView → Effects → Deed
+abbrev effects_by : ℕ → World → Worker → Sending → LeaseView → EffectsView → Deed
 effects_by number world worker sending lease effects = let delivery = sending.delivery in
     writes world number lease (entries.Handle lease.seq delivery.to delivery.id effects) (with_written (Some sending) worker)
 
@@ -49,7 +49,7 @@ write_by case number world worker =
 
 -- a record that was handled is written with what its handler left
 handled-is : (case : CaseShape) (old : BookView) (world : World) (number : ℕ) (was : NodeView) (sender : RowName) (delivery : Delivery)
-    (effects : Effects) → IsActing case old world number was → IsHandled case (own_view old) was.held sender delivery effects
+    (effects : EffectsView) → IsActing case old world number was → IsHandled case (own_view old) was.held sender delivery effects
     → prepared_by case number world (worker_at was) (record { delivery = delivery; sender = sender })
     ≡ deed_asked world number (with_written (Some (record { delivery = delivery; sender = sender })) (worker_at was))
     (proposed case.topology was.held (proposals.Handle delivery effects))
@@ -101,7 +101,7 @@ write-is case old world number was acting =
 written-on : (shape : Shape) (was : NodeView) → IfSome (work_asked shape was) IsOnRow
 written-on shape was = by_work was.prepared
   where
-    by_held : (delivery : Delivery) (effects : Effects) (o : Option HeldView)
+    by_held : (delivery : Delivery) (effects : EffectsView) (o : Option HeldView)
         → IfSome (option_map (handled_as delivery effects) o) IsOnRow
     by_held delivery effects None = tt
     by_held delivery effects (Some held) = refl

@@ -1,6 +1,6 @@
 use Rattle.std.proofs.Common.{◌≤◌, List, length, ap, subst, sym, ◌∙◌}
 use Rattle.mw_types.specs.declared.record.Production.{Production}
-use Rattle.mw_types.specs.Outcomes.{Outcome}
+use Rattle.mw_types.specs.Outcomes.{EffectsView}
 use Rattle.book.proofs.ProposalLaws.{firing-suits}
 use Rattle.book.proofs.entries.fired.Goals as goal
 
@@ -10,4 +10,4 @@ with_sent-requires-clause-few c =
     let suits = firing-suits c.args.case.now c.args.commit c.args.name.now c.args.row.now c.args.timer c.args.effects.now c.requires.fit
     c.requires.firing in
     subst (λ (l : List Production). length l ≤ 8) (sym
-    (c.as_slice.ensures.elements ∙ ap (λ (o : Outcome). o.productions) c.effects.view_is)) suits.1.1.1
+    (c.as_slice.ensures.elements ∙ ap (λ (o : EffectsView). o.productions) c.effects.view_is)) suits.1.1.1

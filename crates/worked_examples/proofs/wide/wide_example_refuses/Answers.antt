@@ -4,7 +4,7 @@ use Rattle.std.specs.Option.{option_map, option_map_or}
 use Rattle.mw_types.specs.declared.identity.RowName.{RowName}
 use Rattle.mw_types.specs.declared.record.Record.{Record}
 use Rattle.mw_types.specs.declared.delivery.Delivery.{Delivery}
-use Rattle.mw_types.specs.Outcomes.{Outcome}
+use Rattle.mw_types.specs.Outcomes.{EffectsView}
 use Rattle.run_history.specs.Runs.{row_of}
 use Rattle.run_history.specs.Legal.{record_outcome}
 use Rattle.worked_examples.specs.First.{key_a, window, counts}
@@ -24,8 +24,8 @@ elsewhere may =
     absurd (omega (arith, lengths))
 
 -- how many timers a handler set
-timer_count : Option Outcome → ℕ
-timer_count left = option_map_or (λ (o : Outcome). length o.timers) left 0
+timer_count : Option EffectsView → ℕ
+timer_count left = option_map_or (λ (o : EffectsView). length o.timers) left 0
 
 -- the handler sets no timer of the late record
 in_time : MayNotFollow 10 late_handled_in_time

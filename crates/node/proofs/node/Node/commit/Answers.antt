@@ -2,7 +2,7 @@ use Rattle.std.proofs.Common.{◌≡◌, ◌∙◌, ap, subst, sym, refl}
 use Rattle.std.specs.Prelude.{IfErr, IfOk, OnErr, Some, Result}
 use Rattle.holdings.specs.Holding.{IsRefusedOf}
 use Rattle.run_history.specs.Made.{deliveries_made}
-use Rattle.mw_types.specs.Outcomes.{Outcome as Effects}
+use Rattle.mw_types.specs.Outcomes.{EffectsView}
 use Rattle.run_history.specs.Cases.{CaseShape}
 use Rattle.book.specs.declared.proposal.Proposal.{Proposal}
 use Rattle.node.specs.declared.outcome.NodeFault.{NodeFault}
@@ -33,7 +33,7 @@ returns-in-Ok-clause-fits g c =
     let topology : c.case.inside.topology ≡ shape = ap (λ (k : CaseShape). k.topology) c.case.view_is in
     let productions : c.as_slice-productions.result.now ≡ effects.productions =
     (let elements = c.as_slice-productions.ensures.elements in
-    let inside : c.effects.inside.productions ≡ effects.productions = ap (λ (e : Effects). e.productions) c.effects.view_is in cc) in
+    let inside : c.effects.inside.productions ≡ effects.productions = ap (λ (e : EffectsView). e.productions) c.effects.view_is in cc) in
     let made = made-here c.case.inside.topology shape c.as_slice-productions.result.now effects.productions delivery.to delivery.item.late
     c.in_ok-made.made.items topology productions c.in_ok-made.ensures.made in
     let written = subst (λ (p : Proposal). HoldsWork shape old new c.interval_of-interval.result delivery.to p commit c.self.inside.held c.write-written.new.self)
@@ -66,7 +66,7 @@ returns-in-Ok-clause-answers g c =
     let topology : c.case.inside.topology ≡ shape = ap (λ (k : CaseShape). k.topology) c.case.view_is in
     let productions : c.as_slice-productions.result.now ≡ effects.productions =
     (let elements = c.as_slice-productions.ensures.elements in
-    let inside : c.effects.inside.productions ≡ effects.productions = ap (λ (e : Effects). e.productions) c.effects.view_is in cc) in
+    let inside : c.effects.inside.productions ≡ effects.productions = ap (λ (e : EffectsView). e.productions) c.effects.view_is in cc) in
     let made = made-here c.case.inside.topology shape c.as_slice-productions.result.now effects.productions delivery.to delivery.item.late
     c.in_ok-made.made.items topology productions c.in_ok-made.ensures.made in
     let written = subst (λ (p : Proposal). HoldsWork shape old new c.interval_of-interval.result delivery.to p commit c.self.inside.held c.write-written.new.self)

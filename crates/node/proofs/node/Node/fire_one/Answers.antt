@@ -1,6 +1,6 @@
 use Rattle.std.proofs.Common.{◌≡◌, ◌∙◌, ◌≤◌, ◌++◌, List, length, map, ap, subst, sym, refl}
 use Rattle.std.specs.Prelude.{All, IfErr, IfOk, OnErr, Result}
-use Rattle.mw_types.specs.Outcomes.{Outcome as Effects}
+use Rattle.mw_types.specs.Outcomes.{EffectsView}
 use Rattle.mw_types.specs.declared.record.Production.{Production}
 use Rattle.topology.specs.Shapes.{Shape}
 use Rattle.run_history.specs.Cases.{CaseShape}
@@ -46,7 +46,7 @@ made-requires-clause-few g c =
     c.requires.fits.held c.requires.part c.interval_of-interval.ensures.interval c.requires.next) in
     let few = few-fired case name set.row timer c.in_ok-effects.effects set.state (c.in_ok-effects.ensures.does set) in
     subst (λ (ps : List Production). length ps ≤ 8)
-    (sym (c.as_slice-productions.ensures.elements ∙ ap (λ (o : Effects). o.productions) c.effects.view_is)) few
+    (sym (c.as_slice-productions.ensures.elements ∙ ap (λ (o : EffectsView). o.productions) c.effects.view_is)) few
 
 pub write_fire-written-requires-clause-set : goal.write_fire-written-requires-clause-set
 write_fire-written-requires-clause-set g c =
@@ -77,7 +77,7 @@ returns-in-Ok-clause-fits g c =
     let fits : Fits case old node = subst (Fits case old) (sym c.self.view_is) c.requires.fits in
     let next = subst (λ (n : NodeView). IsNextTimer case.topology n name.part c.args.mark name timer) (sym c.self.view_is)
     c.requires.next in
-    let productions = c.as_slice-productions.ensures.elements ∙ ap (λ (o : Effects). o.productions) c.effects.view_is in
+    let productions = c.as_slice-productions.ensures.elements ∙ ap (λ (o : EffectsView). o.productions) c.effects.view_is in
     let messages : List Production → List Outgoing = λ ps.
     messages_from name (deliveries_made case.topology name.part ps timer.late commit) in
     let there : c.case.inside.topology ≡ case.topology = ap (λ (k : CaseShape). k.topology) c.case.view_is in
@@ -119,7 +119,7 @@ returns-in-Ok-clause-answers g c =
     let fits : Fits case old node = subst (Fits case old) (sym c.self.view_is) c.requires.fits in
     let next = subst (λ (n : NodeView). IsNextTimer case.topology n name.part c.args.mark name timer) (sym c.self.view_is)
     c.requires.next in
-    let productions = c.as_slice-productions.ensures.elements ∙ ap (λ (o : Effects). o.productions) c.effects.view_is in
+    let productions = c.as_slice-productions.ensures.elements ∙ ap (λ (o : EffectsView). o.productions) c.effects.view_is in
     let messages : List Production → List Outgoing = λ ps.
     messages_from name (deliveries_made case.topology name.part ps timer.late commit) in
     let there : c.case.inside.topology ≡ case.topology = ap (λ (k : CaseShape). k.topology) c.case.view_is in
