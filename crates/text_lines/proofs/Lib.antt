@@ -1,0 +1,4 @@
+pub mod Splitting
+pub mod Cuts
+pub mod Digits
+pub mod Sayings
