@@ -70,13 +70,20 @@ IsFlagIn rows flag = one_of (codes "history") rows ≡ Some (if flag then codes 
 abbrev pub HasFlag : List Row → Type 0
 HasFlag rows = (flag : Bool) × IsFlagIn rows flag
 
--- the line with the values of its options that `clap` found
-abbrev pub with_values : List Row → Line → Line
-with_values rows line = record line {
-  plan = first_of (codes "plan") rows;
-  workers = first_of (codes "workers") rows;
-  rounds = first_of (codes "rounds") rows;
-  keep = first_of (codes "keep") rows;
+-- the line with the names of files that `clap` found as options
+abbrev pub with_files : List Row → Line → Line
+with_files rows line =
+    record line { plan = first_of (codes "plan") rows; keep = first_of (codes "keep") rows }
+
+-- the line with the numbers that `clap` found as options
+abbrev pub with_numbers : List Row → Line → Line
+with_numbers rows line =
+    record line { workers = first_of (codes "workers") rows; rounds = first_of (codes "rounds") rows }
+
+-- the line with the positionals that `clap` found behind its own
+abbrev pub with_words : List Row → Line → Line
+with_words rows line = record line {
+  positionals = (line.positionals ++ values_in rows (codes "mode")) ++ values_in rows (codes "args");
 }
 
 -- the line is what `clap` found

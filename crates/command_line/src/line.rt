@@ -2,7 +2,7 @@
 ghost use Rattle.std.specs.Prelude.{◌≡◌, ◌≢◌, ◌++◌, IfOk, List, OnOk, false, map};
 ghost use Rattle.clap.specs.Walk.{first_of};
 ghost use Rattle.command_line.specs.Words.{line_of, no_words};
-ghost use Rattle.command_line.specs.Clap.{HasFlag, IsFlagIn, IsLineIn, has_short, rows_in, values_in, with_values};
+ghost use Rattle.command_line.specs.Clap.{HasFlag, IsFlagIn, IsLineIn, has_short, rows_in, values_in, with_files, with_numbers, with_words};
 ghost use Rattle.command_line.specs.Inside.{Answers};
 
 use crate::parser::parser;
@@ -70,15 +70,40 @@ fn value_of(alloc: Global, matches: &ArgMatches<'_>, id: &str) -> Result<Option<
     }
 }
 
-// Takes in the value of each option.
-fn add_options(alloc: Global, line: &mut Line, matches: &ArgMatches<'_>) -> Result<(), NoMemory>
-    ensures values { OnOk result (line.new ≡ with_values (rows_in matches.now) line.old) }
+// Takes in the names of files that are options.
+fn add_files(alloc: Global, line: &mut Line, matches: &ArgMatches<'_>) -> Result<(), NoMemory>
+    ensures files { OnOk result (line.new ≡ with_files (rows_in matches.now) line.old) }
 {
     line.plan = value_of(alloc, matches, "plan")?;
-    line.workers = value_of(alloc, matches, "workers")?;
-    line.rounds = value_of(alloc, matches, "rounds")?;
     line.keep = value_of(alloc, matches, "keep")?;
     Ok(())
+}
+
+// Takes in the numbers that are options.
+fn add_numbers(alloc: Global, line: &mut Line, matches: &ArgMatches<'_>) -> Result<(), NoMemory>
+    ensures numbers { OnOk result (line.new ≡ with_numbers (rows_in matches.now) line.old) }
+{
+    line.workers = value_of(alloc, matches, "workers")?;
+    line.rounds = value_of(alloc, matches, "rounds")?;
+    Ok(())
+}
+
+// Takes in the positionals.
+fn add_words(alloc: Global, line: &mut Line, matches: &ArgMatches<'_>) -> Result<(), NoMemory>
+    ensures words { OnOk result (line.new ≡ with_words (rows_in matches.now) line.old) }
+{
+    add_values(alloc, &mut line.positionals, matches, "mode")?;
+    add_values(alloc, &mut line.positionals, matches, "args")
+}
+
+// Takes in all of them.
+fn add_found(alloc: Global, line: &mut Line, matches: &ArgMatches<'_>) -> Result<(), NoMemory>
+    ensures found { OnOk result (line.new ≡ with_numbers (rows_in matches.now)
+        (with_files (rows_in matches.now) (with_words (rows_in matches.now) line.old))) }
+{
+    add_words(alloc, line, matches)?;
+    add_files(alloc, line, matches)?;
+    add_numbers(alloc, line, matches)
 }
 
 // Whether the flag is given.
@@ -111,9 +136,7 @@ fn line_in(alloc: Global, matches: &ArgMatches<'_>) -> Result<Line, NoMemory>
     ensures line { IfOk result (IsLineIn (rows_in matches.now)) }
 {
     let mut line = no_words(alloc, has_history(matches));
-    add_values(alloc, &mut line.positionals, matches, "mode")?;
-    add_values(alloc, &mut line.positionals, matches, "args")?;
-    add_options(alloc, &mut line, matches)?;
+    add_found(alloc, &mut line, matches)?;
     Ok(line)
 }
 

@@ -120,9 +120,9 @@ impl Line {
     }
 }
 
-// The command that a line is.
-fn command_from(alloc: Global, mut line: Line) -> Option<Command>
-    ensures command { result ≡ command_from line }
+// The command that a line is, out of which it takes the words.
+fn command_from(alloc: Global, line: &mut Line) -> Option<Command>
+    ensures command { result ≡ command_from line.old }
 {
     let positionals = mem::replace(&mut line.positionals, Seq::new(alloc));
     let call = line.call(positionals)?;
@@ -139,6 +139,6 @@ pub fn read_words(alloc: Global, words: &[Name]) -> Result<Command, WordsRefusal
     ensures command { IfOk result (λ command. command_of words.now ≡ Some command) }
     ensures usage { result ≡ Err WordsRefusal.Usage → command_of words.now ≡ None }
 {
-    let line = line_of(alloc, words)?;
-    command_from(alloc, line).ok_or(WordsRefusal::Usage)
+    let mut line = line_of(alloc, words)?;
+    command_from(alloc, &mut line).ok_or(WordsRefusal::Usage)
 }
