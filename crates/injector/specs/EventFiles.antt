@@ -1,6 +1,6 @@
 -- What an event file holds: its record lines in order, each behind the watermark lines before it. Own.
 use Rattle.std.specs.Prelude.{ℕ, ◌+◌, ◌-◌, ◌==◌, ℤ, List, [], ◌∷◌, max, nat_lt, if◌then◌else◌, Result, Ok, Err}
-pub use Rattle.text_lines.specs.Lines.{without_return, lines_of}
+use Rattle.text_lines.specs.Lines.{lines_of}
 use Rattle.injector.specs.Sources.{SourceLine, Source}
 use Rattle.injector.specs.declared.item.Item.{Item}
 use Rattle.injector.specs.EventLines.{line_reading}
