@@ -8,7 +8,8 @@ use Rattle.std.specs.Prelude.{option_and_then}
 use Rattle.std.specs.Str.{bytes_eq}
 use Rattle.clap.specs.Lexer.{has_byte, long_of}
 use Rattle.clap.specs.Walk.{Rule, Text, arg_by_long}
-use Rattle.command_line.specs.Words.{after_word, assigned, first_value, is_dashed, is_end, is_word, line_after, with_option, with_positionals}
+use Rattle.text_lines.specs.Words.{is_word}
+use Rattle.command_line.specs.Words.{after_word, assigned, first_value, is_dashed, is_end, line_after, with_option, with_positionals}
 use Rattle.command_line.specs.Clap.{is_short}
 use Rattle.command_line.specs.declared.line.Line.{Line}
 use Rattle.command_line.proofs.Rules.{Asked, plan, workers, rounds, keep, plan_id, workers_id, rounds_id, keep_id, history, name_of, rule_of, rules}

@@ -1,4 +1,4 @@
-pub mod Numbers
+pub mod Args
 pub mod Rules
 pub mod Rows
 pub mod Lines

@@ -8,7 +8,8 @@ use Rattle.clap.specs.Kinds.{or_else}
 use Rattle.clap.specs.Simple.{App, matches_of, names_of}
 use Rattle.clap.proofs.FaultLemmas.{leaf_fault}
 use Rattle.clap.specs.declared.error.kind.ErrorKind.TheVariants as kind
-use Rattle.command_line.specs.Words.{after_word, assigned, is_dashed, is_word, line_after, line_of, no_words, with_dashed, with_flag, with_option, with_positionals}
+use Rattle.text_lines.specs.Words.{is_word}
+use Rattle.command_line.specs.Words.{after_word, assigned, is_dashed, line_after, line_of, no_words, with_dashed, with_flag, with_option, with_positionals}
 use Rattle.command_line.specs.Clap.{has_short, is_short, mill_app}
 use Rattle.command_line.specs.declared.line.Line.{Line}
 use Rattle.command_line.proofs.Rules.{Asked, Id, mode, args, plan, workers, rounds, keep, plan_id, workers_id, rounds_id, keep_id, history, built_is, by_long, by_long-history, name_of, rule_of, rules, shape, text_of}

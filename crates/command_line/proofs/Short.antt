@@ -5,7 +5,8 @@ use Rattle.std.specs.List.{position_or_len}
 use Rattle.std.specs.Prelude.{option_and_then}
 use Rattle.std.specs.Str.{bytes_eq}
 use Rattle.clap.specs.Walk.{Text}
-use Rattle.command_line.specs.Words.{after_word, assigned, is_dashed, is_end, is_equals, is_word, line_after, with_dashed, with_flag, with_option, with_positionals}
+use Rattle.text_lines.specs.Words.{is_word}
+use Rattle.command_line.specs.Words.{after_word, assigned, is_dashed, is_end, is_equals, line_after, with_dashed, with_flag, with_option, with_positionals}
 use Rattle.command_line.specs.Clap.{has_short, is_short}
 use Rattle.command_line.specs.declared.line.Line.{Line}
 use Rattle.command_line.proofs.Forms.{never_read, set_by}

@@ -7,7 +7,8 @@ use Rattle.clap.specs.Matches.{found_of}
 use Rattle.clap.specs.Simple.{App, new_app, new_rule, on_top, with_rule}
 use Rattle.clap.specs.declared.parser.matches.ArgMatches.{ArgMatches}
 use Rattle.clap.specs.declared.builder.action.ArgAction.TheVariants.{Append, Set, SetTrue}
-use Rattle.command_line.specs.Words.{is_dashed, is_word}
+use Rattle.text_lines.specs.Words.{is_word}
+use Rattle.command_line.specs.Words.{is_dashed}
 use Rattle.command_line.specs.declared.line.Line.{Line}
 
 -- whether a word begins with one `-` alone
@@ -39,12 +40,19 @@ abbrev pub mill_top : App
 mill_top = on_top (λ top. record top { no_binary_name = true; disable_help_flag = true })
     (new_app (codes "millwheel"))
 
+-- the mode and its arguments
+abbrev pub positional_app : App
+positional_app = with_rule (with_rule mill_top mode_rule) args_rule
+
+-- four options with one value each beside them
+abbrev pub option_app : App
+option_app = with_rule (with_rule (with_rule (with_rule positional_app
+    (option_rule (codes "plan"))) (option_rule (codes "workers")))
+    (option_rule (codes "rounds"))) (option_rule (codes "keep"))
+
 -- what `clap` is told: a mode, its arguments, four options with one value each, and one flag
 abbrev pub mill_app : App
-mill_app = with_rule (with_rule (with_rule (with_rule (with_rule (with_rule (with_rule
-    mill_top mode_rule) args_rule)
-    (option_rule (codes "plan"))) (option_rule (codes "workers")))
-    (option_rule (codes "rounds"))) (option_rule (codes "keep"))) history_rule
+mill_app = with_rule option_app history_rule
 
 -- what `clap` found
 abbrev pub rows_in : ArgMatches → List Row
@@ -57,6 +65,26 @@ values_in rows id = unwrap_or (all_of id rows) []
 -- the flag reads so
 abbrev pub IsFlagIn : List Row → Bool → Type 0
 IsFlagIn rows flag = one_of (codes "history") rows ≡ Some (if flag then codes "true" else codes "false")
+
+-- the flag reads in one of the two ways
+abbrev pub HasFlag : List Row → Type 0
+HasFlag rows = (flag : Bool) × IsFlagIn rows flag
+
+-- the line with the names of files that `clap` found as options
+abbrev pub with_files : List Row → Line → Line
+with_files rows line =
+    record line { plan = first_of (codes "plan") rows; keep = first_of (codes "keep") rows }
+
+-- the line with the numbers that `clap` found as options
+abbrev pub with_numbers : List Row → Line → Line
+with_numbers rows line =
+    record line { workers = first_of (codes "workers") rows; rounds = first_of (codes "rounds") rows }
+
+-- the line with the positionals that `clap` found behind its own
+abbrev pub with_words : List Row → Line → Line
+with_words rows line = record line {
+  positionals = (line.positionals ++ values_in rows (codes "mode")) ++ values_in rows (codes "args");
+}
 
 -- the line is what `clap` found
 pub record IsLineIn (rows : List Row) (line : Line) : Type 0 where

@@ -1,13 +1,8 @@
 -- What the words of a command line are: positionals, options with a value each, and a flag. Own.
-use Rattle.std.specs.Prelude.{ℕ, ◌==◌, ◌++◌, Bool, true, false, not, if◌then◌else◌, List, [], ◌∷◌, length, codes, nat_eq, nat_lt, Option, Some, None}
+use Rattle.std.specs.Prelude.{ℕ, ◌==◌, ◌++◌, Bool, true, false, not, if◌then◌else◌, List, [], ◌∷◌, codes, Option, Some, None}
 use Rattle.std.specs.Option.{option_map, option_and_then}
-use Rattle.std.specs.Cmp.Lexicographic.{pointwise}
-use Rattle.std.specs.List.{before_first, after_first, position_or_len}
+use Rattle.text_lines.specs.Words.{cut_at, is_word}
 use Rattle.command_line.specs.declared.line.Line.{Line}
-
--- whether a word is this one
-abbrev pub is_word : List ℕ → List ℕ → Bool
-is_word = pointwise nat_eq
 
 -- whether a word begins with `-`
 abbrev pub is_dashed : List ℕ → Bool
@@ -20,8 +15,7 @@ is_equals c = c == 61
 
 -- the option's name and its value, where a word has both, with the first `=` between them
 abbrev pub assigned : List ℕ → Option (List ℕ × List ℕ)
-assigned word = if nat_lt (position_or_len is_equals word) (length word)
-    then Some (before_first is_equals word, after_first is_equals word) else None
+assigned word = cut_at is_equals word
 
 -- the line of no words
 abbrev pub no_words : Line

@@ -1,8 +1,8 @@
 //! What the words of a command line say before its mode is looked at.
-ghost use Rattle.std.specs.Prelude.{◌≡◌, ◌≢◌, ◌++◌, IfOk, List, OnOk, map};
+ghost use Rattle.std.specs.Prelude.{◌≡◌, ◌≢◌, ◌++◌, IfOk, List, OnOk, false, map};
 ghost use Rattle.clap.specs.Walk.{first_of};
-ghost use Rattle.command_line.specs.Words.{line_of};
-ghost use Rattle.command_line.specs.Clap.{IsFlagIn, IsLineIn, rows_in, values_in};
+ghost use Rattle.command_line.specs.Words.{line_of, no_words};
+ghost use Rattle.command_line.specs.Clap.{HasFlag, IsFlagIn, IsLineIn, has_short, rows_in, values_in, with_files, with_numbers, with_words};
 ghost use Rattle.command_line.specs.Inside.{Answers};
 
 use crate::parser::parser;
@@ -14,7 +14,7 @@ use mw_types::{Name, NoMemory, Seq};
 use std::alloc::Global;
 
 /// The positionals in their order, the value of each option that is given, and whether the flag is.
-#[derive(Debug, Drop)]
+#[derive(Drop)]
 pub(crate) struct Line {
     pub(crate) positionals: Seq<Name>,
     pub(crate) plan: Option<Name>,
@@ -26,7 +26,7 @@ pub(crate) struct Line {
 
 // The words as texts.
 fn texts_of(alloc: Global, words: &[Name]) -> Result<Vec<&str>, NoMemory>
-    ensures { IfOk result (λ texts. map (λ text. text.now) texts.items ≡ words.now) }
+    ensures texts { IfOk result (λ texts. map (λ text. text.now) texts.items ≡ words.now) }
 {
     let mut texts = Vec::new(alloc);
     for word in words {
@@ -37,7 +37,7 @@ fn texts_of(alloc: Global, words: &[Name]) -> Result<Vec<&str>, NoMemory>
 
 // Adds these texts behind the names that are there.
 fn add_all(alloc: Global, names: &mut Seq<Name>, texts: &[&str]) -> Result<(), NoMemory>
-    ensures { OnOk result (names.new ≡ names.old ++ map (λ text. text.now) texts.now) }
+    ensures added { OnOk result (names.new ≡ names.old ++ map (λ text. text.now) texts.now) }
 {
     for text in texts {
         names.push(Name::of(alloc, text)?)?;
@@ -52,7 +52,7 @@ fn add_values(
     matches: &ArgMatches<'_>,
     id: &str,
 ) -> Result<(), NoMemory>
-    ensures { OnOk result (names.new ≡ names.old ++ values_in (rows_in matches.now) id.now) }
+    ensures added { OnOk result (names.new ≡ names.old ++ values_in (rows_in matches.now) id.now) }
 {
     match matches.get_strs(id) {
         Some(texts) => add_all(alloc, names, texts),
@@ -62,7 +62,7 @@ fn add_values(
 
 // The value of an option, where it is given.
 fn value_of(alloc: Global, matches: &ArgMatches<'_>, id: &str) -> Result<Option<Name>, NoMemory>
-    ensures { IfOk result (λ value. value ≡ first_of id.now (rows_in matches.now)) }
+    ensures value { IfOk result (λ value. value ≡ first_of id.now (rows_in matches.now)) }
 {
     match matches.get_str(id) {
         Some(text) => Ok(Some(Name::of(alloc, text)?)),
@@ -70,33 +70,79 @@ fn value_of(alloc: Global, matches: &ArgMatches<'_>, id: &str) -> Result<Option<
     }
 }
 
+// Takes in the names of files that are options.
+fn add_files(alloc: Global, line: &mut Line, matches: &ArgMatches<'_>) -> Result<(), NoMemory>
+    ensures files { OnOk result (line.new ≡ with_files (rows_in matches.now) line.old) }
+{
+    line.plan = value_of(alloc, matches, "plan")?;
+    line.keep = value_of(alloc, matches, "keep")?;
+    Ok(())
+}
+
+// Takes in the numbers that are options.
+fn add_numbers(alloc: Global, line: &mut Line, matches: &ArgMatches<'_>) -> Result<(), NoMemory>
+    ensures numbers { OnOk result (line.new ≡ with_numbers (rows_in matches.now) line.old) }
+{
+    line.workers = value_of(alloc, matches, "workers")?;
+    line.rounds = value_of(alloc, matches, "rounds")?;
+    Ok(())
+}
+
+// Takes in the positionals.
+fn add_words(alloc: Global, line: &mut Line, matches: &ArgMatches<'_>) -> Result<(), NoMemory>
+    ensures words { OnOk result (line.new ≡ with_words (rows_in matches.now) line.old) }
+{
+    add_values(alloc, &mut line.positionals, matches, "mode")?;
+    add_values(alloc, &mut line.positionals, matches, "args")
+}
+
+// Takes in all of them.
+fn add_found(alloc: Global, line: &mut Line, matches: &ArgMatches<'_>) -> Result<(), NoMemory>
+    ensures found { OnOk result (line.new ≡ with_numbers (rows_in matches.now)
+        (with_files (rows_in matches.now) (with_words (rows_in matches.now) line.old))) }
+{
+    add_words(alloc, line, matches)?;
+    add_files(alloc, line, matches)?;
+    add_numbers(alloc, line, matches)
+}
+
 // Whether the flag is given.
 fn has_history(matches: &ArgMatches<'_>) -> bool
-    ensures { (flag : _) → IsFlagIn (rows_in matches.now) flag → result ≡ flag }
+    requires read { HasFlag (rows_in matches.now) }
+
+    ensures flag { IsFlagIn (rows_in matches.now) result }
 {
     matches.get_flag("history")
 }
 
+// The line without a word, but for the flag.
+fn no_words(alloc: Global, history: bool) -> Line
+    ensures line { result ≡ record no_words { history = history } }
+{
+    Line {
+        positionals: Seq::new(alloc),
+        plan: None,
+        workers: None,
+        rounds: None,
+        keep: None,
+        history,
+    }
+}
+
 // The line that `clap` found.
 fn line_in(alloc: Global, matches: &ArgMatches<'_>) -> Result<Line, NoMemory>
-    ensures { IfOk result (λ made. (line : _) → IsLineIn (rows_in matches.now) line → made ≡ line) }
+    requires read { HasFlag (rows_in matches.now) }
+
+    ensures line { IfOk result (IsLineIn (rows_in matches.now)) }
 {
-    let mut positionals = Seq::new(alloc);
-    add_values(alloc, &mut positionals, matches, "mode")?;
-    add_values(alloc, &mut positionals, matches, "args")?;
-    Ok(Line {
-        positionals,
-        plan: value_of(alloc, matches, "plan")?,
-        workers: value_of(alloc, matches, "workers")?,
-        rounds: value_of(alloc, matches, "rounds")?,
-        keep: value_of(alloc, matches, "keep")?,
-        history: has_history(matches),
-    })
+    let mut line = no_words(alloc, has_history(matches));
+    add_found(alloc, &mut line, matches)?;
+    Ok(line)
 }
 
 // What an error of `clap` is here.
 fn refusal_of(kind: ErrorKind) -> WordsRefusal
-    ensures { result ≡ WordsRefusal.Usage → kind ≢ ErrorKind.OutOfMemory }
+    ensures usage { result ≡ WordsRefusal.Usage → kind ≢ ErrorKind.OutOfMemory }
 {
     match kind {
         ErrorKind::OutOfMemory => WordsRefusal::NoMemory,
@@ -104,16 +150,25 @@ fn refusal_of(kind: ErrorKind) -> WordsRefusal
     }
 }
 
+// What texts say of which none begins with one `-` alone before the first `--`.
+fn line_of_texts(alloc: Global, texts: &[&str]) -> Result<Line, WordsRefusal>
+    requires long { has_short (map (λ text. text.now) texts.now) ≡ false }
+
+    ensures line { Answers (λ line. line) (line_of (map (λ text. text.now) texts.now)) result }
+{
+    match parser(alloc)?.try_get_matches_from(texts) {
+        Ok(matches) => Ok(line_in(alloc, &matches)?),
+        Err(error) => Err(refusal_of(error.kind())),
+    }
+}
+
 /// What the words say, where their options are in order.
 pub(crate) fn line_of(alloc: Global, words: &[Name]) -> Result<Line, WordsRefusal>
-    ensures { Answers (λ line. line) (line_of words.now) result }
+    ensures line { Answers (λ line. line) (line_of words.now) result }
 {
     if has_short(words) {
         return Err(WordsRefusal::Usage);
     }
     let texts = texts_of(alloc, words)?;
-    match parser(alloc)?.try_get_matches_from(texts.as_slice()) {
-        Ok(matches) => Ok(line_in(alloc, &matches)?),
-        Err(error) => Err(refusal_of(error.kind())),
-    }
+    line_of_texts(alloc, texts.as_slice())
 }

@@ -2,7 +2,7 @@
 ghost use Rattle.std.specs.Prelude.{◌≡◌, IfOk, false};
 ghost use Rattle.clap.specs.Simple.{app_of};
 ghost use Rattle.clap.specs.Walk.{rule_of};
-ghost use Rattle.command_line.specs.Clap.{mill_app, option_rule};
+ghost use Rattle.command_line.specs.Clap.{mill_app, option_app, option_rule, positional_app};
 
 use clap::{Arg, ArgAction, Command};
 use std::alloc::{AllocError, Global};
@@ -15,23 +15,35 @@ fn valued<'a>(alloc: Global, name: &'a str) -> Arg<'a>
     Arg::new(alloc, name).long(name).action(ArgAction::Set)
 }
 
-/// One simple command: a mode, its arguments, four options with one value each, and one flag. How many
-/// arguments there are is left to the mode.
-pub(crate) fn parser<'a>(alloc: Global) -> Result<Command<'a>, AllocError>
-    ensures { IfOk result (λ command. app_of command ≡ mill_app) }
+// The command with its mode and the arguments behind it. How many there are is left to the mode.
+fn positionals<'a>(alloc: Global) -> Result<Command<'a>, AllocError>
+    ensures app { IfOk result (λ command. app_of command ≡ positional_app) }
 {
     Command::new(alloc, "millwheel")
         .no_binary_name(true)
         .disable_help_flag(true)
         .arg(Arg::new(alloc, "mode"))?
-        .arg(Arg::new(alloc, "args").action(ArgAction::Append))?
+        .arg(Arg::new(alloc, "args").action(ArgAction::Append))
+}
+
+// Its options beside them.
+fn options<'a>(alloc: Global) -> Result<Command<'a>, AllocError>
+    ensures app { IfOk result (λ command. app_of command ≡ option_app) }
+{
+    positionals(alloc)?
         .arg(valued(alloc, "plan"))?
         .arg(valued(alloc, "workers"))?
         .arg(valued(alloc, "rounds"))?
-        .arg(valued(alloc, "keep"))?
-        .arg(
-            Arg::new(alloc, "history")
-                .long("history")
-                .action(ArgAction::SetTrue),
-        )
+        .arg(valued(alloc, "keep"))
+}
+
+/// One simple command: a mode, its arguments, four options with one value each, and one flag.
+pub(crate) fn parser<'a>(alloc: Global) -> Result<Command<'a>, AllocError>
+    ensures app { IfOk result (λ command. app_of command ≡ mill_app) }
+{
+    options(alloc)?.arg(
+        Arg::new(alloc, "history")
+            .long("history")
+            .action(ArgAction::SetTrue),
+    )
 }

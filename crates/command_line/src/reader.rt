@@ -1,6 +1,6 @@
 //! The command that the words are.
 ghost use Rattle.std.specs.Prelude.{◌≡◌, ◌∷◌, [], Err, IfOk, MatchOption, None, Some};
-ghost use Rattle.command_line.specs.Grammar.{command_from, command_of, command_with, has_options, has_rounds, inputs_of, load_of, replay_of, solo_of};
+ghost use Rattle.command_line.specs.Grammar.{call_of, call_with, command_from, command_of, has_options, has_rounds, inputs_of, load_of, replay_of, solo_of};
 
 use crate::command::{Call, Command, Inputs};
 use crate::line::{Line, line_of};
@@ -9,16 +9,14 @@ use crate::refusal::WordsRefusal;
 use mw_types::{Name, Seq};
 use std::alloc::Global;
 use std::mem;
+use text_lines::LINES_MAX;
 
 // The greatest seed.
 const SEED_LIMIT: u32 = u32::MAX;
 
-// How many lines there may be.
-const LINES_LIMIT: u32 = 1 << 18;
-
 // Takes the first element of a list away.
 fn first_of(words: &mut Seq<Name>) -> Option<Name>
-    ensures { MatchOption result (words.old ≡ []) (λ word. words.old ≡ word ∷ words.new) }
+    ensures first { MatchOption result (words.old ≡ []) (λ word. words.old ≡ word ∷ words.new) }
 {
     if words.is_empty() {
         None
@@ -29,7 +27,7 @@ fn first_of(words: &mut Seq<Name>) -> Option<Name>
 
 // What a run reads.
 fn inputs_of(mut args: Seq<Name>, history: bool) -> Option<Inputs>
-    ensures { result ≡ inputs_of args history }
+    ensures inputs { result ≡ inputs_of args history }
 {
     let topology = first_of(&mut args)?;
     if args.is_empty() {
@@ -45,50 +43,45 @@ fn inputs_of(mut args: Seq<Name>, history: bool) -> Option<Inputs>
 impl Line {
     // Whether there are workers or rounds.
     fn has_rounds(&self) -> bool
-        ensures { result ≡ has_rounds self.now }
+        ensures rounds { result ≡ has_rounds self.now }
     {
         self.workers.is_some() || self.rounds.is_some()
     }
 
     // Whether there is an option or the flag.
     fn has_options(&self) -> bool
-        ensures { result ≡ has_options self.now }
+        ensures options { result ≡ has_options self.now }
     {
         self.has_rounds() || self.plan.is_some() || self.keep.is_some() || self.history
     }
 
-    // The command of mode solo.
-    fn solo(self, args: Seq<Name>) -> Option<Command>
-        ensures { result ≡ solo_of args self }
+    // The call of mode solo.
+    fn solo(&self, args: Seq<Name>) -> Option<Call>
+        ensures call { result ≡ solo_of args self.now }
     {
         if self.has_rounds() || self.plan.is_some() {
             return None;
         }
         let inputs = inputs_of(args, self.history)?;
-        Some(Command {
-            call: Call::Solo { inputs },
-            keep: self.keep,
-        })
+        Some(Call::Solo { inputs })
     }
 
-    // The command of mode replay.
-    fn replay(self, args: Seq<Name>) -> Option<Command>
-        ensures { result ≡ replay_of args self }
+    // The call of mode replay, which takes the plan's name out of the line.
+    fn replay(&mut self, args: Seq<Name>) -> Option<Call>
+        ensures call { result ≡ replay_of args self.old }
+        ensures keep { self.new.keep ≡ self.old.keep }
     {
         if self.has_rounds() {
             return None;
         }
-        let plan = self.plan?;
+        let plan = self.plan.take()?;
         let inputs = inputs_of(args, self.history)?;
-        Some(Command {
-            call: Call::Replay { plan, inputs },
-            keep: self.keep,
-        })
+        Some(Call::Replay { plan, inputs })
     }
 
-    // The command of mode load.
-    fn load(&self, args: &[Name]) -> Option<Command>
-        ensures { result ≡ load_of args.now self.now }
+    // The call of mode load.
+    fn load(&self, args: &[Name]) -> Option<Call>
+        ensures call { result ≡ load_of args.now self.now }
     {
         let [seed, lines] = args else {
             return None;
@@ -97,16 +90,14 @@ impl Line {
             return None;
         }
         let seed = number_in(0, SEED_LIMIT, seed.text())?;
-        let lines = number_in(1, LINES_LIMIT, lines.text())?;
-        Some(Command {
-            call: Call::Load { seed, lines },
-            keep: None,
-        })
+        let lines = number_in(1, LINES_MAX, lines.text())?;
+        Some(Call::Load { seed, lines })
     }
 
-    // The command of a mode with these arguments.
-    fn with(self, mode: &str, args: Seq<Name>) -> Option<Command>
-        ensures { result ≡ command_with mode.now args self }
+    // The call of a mode with these arguments.
+    fn with(&mut self, mode: &str, args: Seq<Name>) -> Option<Call>
+        ensures call { result ≡ call_with mode.now args self.old }
+        ensures keep { self.new.keep ≡ self.old.keep }
     {
         if mode == "solo" {
             self.solo(args)
@@ -118,14 +109,25 @@ impl Line {
             None
         }
     }
+
+    // The call of the positionals, which have been taken out of the line.
+    fn call(&mut self, mut positionals: Seq<Name>) -> Option<Call>
+        ensures call { result ≡ call_of positionals self.old }
+        ensures keep { self.new.keep ≡ self.old.keep }
+    {
+        let mode = first_of(&mut positionals)?;
+        self.with(mode.text(), positionals)
+    }
 }
 
-// The command of the positionals.
-fn command_from(mut positionals: Seq<Name>, line: Line) -> Option<Command>
-    ensures { result ≡ command_from positionals line }
+// The command that a line is, out of which it takes the words.
+fn command_from(alloc: Global, line: &mut Line) -> Option<Command>
+    ensures command { result ≡ command_from line.old }
 {
-    let mode = first_of(&mut positionals)?;
-    line.with(mode.text(), positionals)
+    let positionals = mem::replace(&mut line.positionals, Seq::new(alloc));
+    let call = line.call(positionals)?;
+    let keep = line.keep.take();
+    Some(Command { call, keep })
 }
 
 /// Reads the words of a command line, which follow the program's name.
@@ -138,9 +140,5 @@ pub fn read_words(alloc: Global, words: &[Name]) -> Result<Command, WordsRefusal
     ensures usage { result ≡ Err WordsRefusal.Usage → command_of words.now ≡ None }
 {
     let mut line = line_of(alloc, words)?;
-    let positionals = mem::replace(&mut line.positionals, Seq::new(alloc));
-    match command_from(positionals, line) {
-        Some(command) => Ok(command),
-        None => Err(WordsRefusal::Usage),
-    }
+    command_from(alloc, &mut line).ok_or(WordsRefusal::Usage)
 }

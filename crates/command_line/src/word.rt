@@ -7,7 +7,7 @@ use mw_types::Name;
 
 // Whether bytes begin with `-`.
 fn is_dashed(bytes: &[u8]) -> bool
-    ensures { result ≡ is_dashed bytes.now }
+    ensures dashed { result ≡ is_dashed bytes.now }
 {
     match bytes {
         [first, ..] => *first == b'-',
@@ -17,7 +17,7 @@ fn is_dashed(bytes: &[u8]) -> bool
 
 // Whether bytes begin with one `-` alone.
 fn is_short(bytes: &[u8]) -> bool
-    ensures { result ≡ is_short bytes.now }
+    ensures short { result ≡ is_short bytes.now }
 {
     match bytes {
         [first, rest @ ..] => *first == b'-' && !is_dashed(rest),
@@ -28,7 +28,7 @@ fn is_short(bytes: &[u8]) -> bool
 /// Whether a word before the first `--` begins with one `-` alone. `clap` takes a lone `-` as a name or a
 /// value, and there are no options of one letter.
 pub(crate) fn has_short(words: &[Name]) -> bool
-    ensures { result ≡ has_short words.now }
+    ensures short { result ≡ has_short words.now }
 {
     let mut rest = words;
     while let Some((word, others)) = rest.split_first() {

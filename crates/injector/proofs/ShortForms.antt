@@ -1,4 +1,4 @@
--- A line that is in the short form says what its key and its timestamp are.
+-- A line that is in the short form says what its key and its timestamp are, or its watermark.
 use Rattle.std.proofs.Common.{◌≡◌, ◌∙◌, ℕ, ◌<◌, ◌≤◌, ◌^◌, ◌++◌, pos, true, List, [], ◌∷◌, length, take, drop, nat_eq, ◌-◌, rules, codes, decimal, Some, Ok, Err, refl, ap, sym, arith, append_assoc}
 use Rattle.std.specs.Option.{option_map_or}
 use Rattle.std.specs.Str.{IsUtf8}
@@ -25,10 +25,9 @@ use Rattle.mw_types.specs.declared.TheConstants.{INPUT_MAX}
 use Rattle.json_reading.specs.Texts.{json_of}
 use Rattle.json_reading.proofs.Texts.{json_of-read}
 use Rattle.injector.specs.EventLines.{key_within, data_reading, line_reading}
-use Rattle.injector.specs.ShortForm.{short_data}
-use Rattle.injector.specs.ShortForm.{short_line, IsUnescaped}
+use Rattle.injector.specs.ShortForm.{short_data, short_line, mark_data, mark_line, IsUnescaped}
 use Rattle.injector.specs.declared.refusal.LineWhy.TheVariants.{NotJson}
-use Rattle.injector.specs.declared.reading.LineKind.TheVariants.{Record}
+use Rattle.injector.specs.declared.reading.LineKind.TheVariants.{Record, Watermark}
 
 -- a text that needs no escape is printed as it is
 escape-unescaped : (text : List ℕ) → IsUnescaped text → escape text ≡ text
@@ -93,7 +92,45 @@ line_reading-short line key stamp is unescaped text within bounded =
     ∙ ap (λ found. option_map_or data_reading found (Err NotJson)) held
     ∙ says
 
--- what is read of such a line by its parts
+-- a watermark line is the compact text of its value
+compact_text-mark : (stamp : ℕ) → compact_text (mark_data stamp) ≡ mark_line (decimal stamp)
+unfolding escape_byte
+compact_text-mark stamp = refl
+
+-- and is read as that value
+read-mark : (stamp : ℕ) → stamp < 2 ^ 64 → read (compact_text (mark_data stamp)) ≡ Some (mark_data stamp)
+unfolding ArePrintable
+read-mark stamp fits =
+    let j = outline (mark_data stamp) in
+    let printable : ArePrintable (json_tokens j) = (tt, (tt, (IsNumber-decimal stamp fits, (tt, tt)))) in
+    let told : tokens (compact_text (mark_data stamp)) ≡ json_tokens j =
+    ap tokens (sym (print-outline (mark_data stamp))) ∙ tokens-print (json_tokens j) printable in
+    let value : json.value 127 (json_tokens j) ≡ Some (j, []) = value-json_tokens j 127 [] (omega arith) in
+    let held : of_json j ≡ Some (mark_data stamp) = rw (number_of-decimal stamp fits) refl in
+    rw (told, value) held
+
+-- it is text
+IsUtf8-mark : (stamp : ℕ) → stamp < 2 ^ 64 → IsUtf8 (mark_line (decimal stamp))
+IsUtf8-mark stamp fits =
+    IsUtf8-append _ _ (IsUtf8-are_ascii (codes "{\"watermark\":") refl)
+    (IsUtf8-append _ _ (IsUtf8-from_ascii _ (IsAscii-decimal stamp fits)) (IsUtf8-are_ascii (codes "}") refl))
+
+-- what such a line says
+pub mark_line-read :
+    (line : List ℕ) (stamp : ℕ)
+    → line ≡ mark_line (decimal stamp)
+    → stamp ≤ INPUT_MAX
+    → line_reading line ≡ Ok (Watermark stamp)
+mark_line-read line stamp is bounded =
+    let fits : stamp < 2 ^ 64 = omega (arith, bounded) in
+    let held : json_of (mark_line (decimal stamp)) ≡ Some (mark_data stamp) =
+    json_of-read _ _ (IsUtf8-mark stamp fits) (ap read (sym (compact_text-mark stamp)) ∙ read-mark stamp fits) in
+    let says : data_reading (mark_data stamp) ≡ Ok (Watermark stamp) = rw (le-leb stamp INPUT_MAX bounded) refl in
+    ap line_reading is
+    ∙ ap (λ found. option_map_or data_reading found (Err NotJson)) held
+    ∙ says
+
+-- what is read of a record line by its parts
 pub short_reading-is :
     (line key digits text record_key : List ℕ) (stamp : ℕ)
     → line ≡ short_line key digits

@@ -1,6 +1,6 @@
 -- What an event file holds: its record lines in order, each behind the watermark lines before it. Own.
-use Rattle.std.specs.Prelude.{ℕ, ◌+◌, ◌-◌, ◌==◌, ℤ, List, [], ◌∷◌, length, map, max, take, nat_lt, slice_index, if◌then◌else◌, Result, Ok, Err}
-use Rattle.std.specs.List.{slice_split}
+use Rattle.std.specs.Prelude.{ℕ, ◌+◌, ◌-◌, ◌==◌, ℤ, List, [], ◌∷◌, max, nat_lt, if◌then◌else◌, Result, Ok, Err}
+use Rattle.text_lines.specs.Lines.{lines_of}
 use Rattle.injector.specs.Sources.{SourceLine, Source}
 use Rattle.injector.specs.declared.item.Item.{Item}
 use Rattle.injector.specs.EventLines.{line_reading}
@@ -10,25 +10,6 @@ use Rattle.injector.specs.declared.refusal.LineWhy.{LineWhy}
 use Rattle.injector.specs.declared.refusal.LineWhy.TheVariants.{TooManyLines}
 use Rattle.injector.specs.declared.refusal.LinesRefusal.{LinesRefusal}
 use Rattle.injector.specs.declared.refusal.LinesRefusal.TheVariants.{Line}
-
--- the last part of a text is a line where it is not empty
-abbrev pub last_line : List ℕ → List (List ℕ)
-last_line [] = []
-last_line (b ∷ bs) = (b ∷ bs) ∷ []
-
--- the parts between line feeds, but for an empty one at the end
-abbrev pub without_empty_end : List (List ℕ) → List (List ℕ)
-without_empty_end [] = []
-without_empty_end (part ∷ []) = last_line part
-without_empty_end (part ∷ (next ∷ parts)) = part ∷ without_empty_end (next ∷ parts)
-
--- a line without the one carriage return at its end
-abbrev pub without_return : List ℕ → List ℕ
-without_return line = if slice_index line (length line - 1) == 13 then take (length line - 1) line else line
-
--- the lines of a text
-abbrev pub lines_of : List ℕ → List (List ℕ)
-lines_of bytes = map without_return (without_empty_end (slice_split (λ b. b == 10) bytes))
 
 -- the line of this record, behind this watermark
 abbrev pub source_line : Item → ℕ → SourceLine

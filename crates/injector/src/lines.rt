@@ -1,38 +1,14 @@
 //! What the lines of an event file hold together.
-ghost use Rattle.std.specs.Prelude.{◌≡◌, ◌^◌, ◌<◌, ◌∷◌, length, IfErr, IfOk, Ok};
+ghost use Rattle.std.specs.Prelude.{◌≡◌, ◌^◌, ◌<◌, length, IfErr, IfOk, Ok};
 ghost use Rattle.json_reading.specs.Refusals.{IsRefusalOf};
-ghost use Rattle.injector.specs.EventFiles.{without_return, lines_of, source_in};
+ghost use Rattle.injector.specs.EventFiles.{source_in};
 ghost use Rattle.injector.specs.Answers.{refusal_at};
 
 use crate::items::Items;
 use crate::progress::Progress;
 use crate::refusal::{LineRefusal, LinesRefusal};
-use memchr::memchr;
 use std::alloc::Global;
-
-// The line without the one carriage return at its end.
-fn without_return(line: &[u8]) -> &[u8]
-    ensures { result.now ≡ without_return line.now }
-{
-    let len = line.len();
-    if len > 0 && line[len - 1] == b'\r' {
-        &line[..len - 1]
-    } else {
-        line
-    }
-}
-
-// The first line of what is left, and what follows it.
-fn first_line(rest: &[u8]) -> (&[u8], &[u8])
-    requires { 0 < length rest.now }
-    ensures lines { lines_of rest.now ≡ result.0.now ∷ lines_of result.1.now }
-    ensures shorter { length result.1.now < length rest.now }
-{
-    match memchr(b'\n', rest) {
-        Some(at) => (without_return(&rest[..at]), &rest[at + 1..]),
-        None => (without_return(rest), &rest[rest.len()..]),
-    }
-}
+use text_lines::first_line;
 
 // The refusal of a file for its line of this number.
 fn refusal_at(line: u32, refusal: LineRefusal) -> LinesRefusal

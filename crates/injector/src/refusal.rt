@@ -44,7 +44,7 @@ impl From<NoMemory> for LinesRefusal {
 }
 
 /// Why one line was refused, whose number is not known yet.
-#[derive(Clone, Copy, Debug)]
+#[derive(Clone, Copy)]
 pub enum LineRefusal {
     /// The first rule that the line breaks.
     Breaks(LineWhy),

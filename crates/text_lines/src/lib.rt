@@ -19,3 +19,6 @@ pub use lines::{first_line, without_return};
 pub use numbers::{below, between, number_of};
 pub use readings::{LineReader, is_skipped, read_all};
 pub use words::first_word;
+
+/// The most record lines that one run may have, in all of its event files together or made from a seed.
+pub const LINES_MAX: u32 = 1 << 18;

@@ -2,12 +2,13 @@
 ghost use Rattle.std.specs.Prelude.{◌≡◌, IfOk};
 
 use crate::parts::{ComputationPart, InjectorPart, Parts, ReadingPart};
+use crate::publishers::Publisher;
 use mw_types::{Duplicate, Key, KeyList, Kind, Name, NoMemory, Seq};
 use std::alloc::Global;
 use std::marker::Model;
 
 /// A computation whose numbers may be out of range, and whose cuts may be any texts.
-#[derive(Debug, Drop)]
+#[derive(Drop)]
 pub struct FileComputation {
     pub name: Name,
     pub kind: Kind,
@@ -25,7 +26,7 @@ impl Model for FileComputation {
 }
 
 /// All parts of a file, injectors first.
-#[derive(Debug, Drop)]
+#[derive(Drop)]
 pub struct FileParts {
     pub injectors: Seq<InjectorPart>,
     pub computations: Seq<FileComputation>,
@@ -39,26 +40,28 @@ impl Model for FileParts {
     ghost view = { λ p. record { injectors = p.injectors; computations = p.computations } };
 }
 
+impl Publisher for FileComputation {
+    ghost use Rattle.topology.specs.Shapes.{ComputationShape};
+
+    ghost called = { λ (c : ComputationShape). c.name };
+
+    ghost published = { λ (c : ComputationShape). c.stream };
+
+    fn name(&self) -> &Name {
+        &self.name
+    }
+
+    fn stream(&self) -> &Name {
+        &self.stream
+    }
+}
+
 impl FileComputation {
     /// What it does.
     pub fn kind(&self) -> Kind
         ensures { result ≡ self.now.kind }
     {
         self.kind
-    }
-
-    /// The stream that it publishes.
-    pub fn stream(&self) -> &Name
-        ensures { result.now ≡ self.now.stream }
-    {
-        &self.stream
-    }
-
-    /// Its name.
-    pub fn name(&self) -> &Name
-        ensures { result.now ≡ self.now.name }
-    {
-        &self.name
     }
 
     /// What it reads.
@@ -125,13 +128,38 @@ fn computation_part(
 ) -> Result<ComputationPart, NoMemory>
     ensures { IfOk result (λ made. made ≡ computation.now) }
 {
+    let (name, stream) = names_of(alloc, computation)?;
+    let (reads, cuts) = lists_of(alloc, computation)?;
     Ok(ComputationPart {
-        name: computation.name.copy(alloc)?,
+        name,
         kind: computation.kind,
-        reads: computation.reads.copy(alloc)?,
-        stream: computation.stream.copy(alloc)?,
-        cuts: cuts_in(alloc, computation.cuts())?,
+        reads,
+        stream,
+        cuts,
     })
+}
+
+// Its name and its stream.
+fn names_of(alloc: Global, computation: &FileComputation) -> Result<(Name, Name), NoMemory>
+    ensures name { IfOk result (λ names. names.0 ≡ computation.now.name) }
+    ensures stream { IfOk result (λ names. names.1 ≡ computation.now.stream) }
+{
+    let name = computation.name.copy(alloc)?;
+    let stream = computation.stream.copy(alloc)?;
+    Ok((name, stream))
+}
+
+// What it reads, and its cuts as keys.
+fn lists_of(
+    alloc: Global,
+    computation: &FileComputation,
+) -> Result<(Seq<ReadingPart>, KeyList), NoMemory>
+    ensures reads { IfOk result (λ lists. lists.0 ≡ computation.now.reads) }
+    ensures cuts { IfOk result (λ lists. lists.1 ≡ computation.now.cuts) }
+{
+    let reads = computation.reads.copy(alloc)?;
+    let cuts = cuts_in(alloc, computation.cuts())?;
+    Ok((reads, cuts))
 }
 
 // The keys of these texts.

@@ -1,19 +1,20 @@
 //! The rules of a topology file, each tried on all of its parts.
-ghost use Rattle.std.specs.Prelude.{◌≡◌, length, sum_by, nat_le, nat_eq, ℕ, List, IfErr, IfOk, OnOk, Ok};
+ghost use Rattle.std.specs.Prelude.{◌≡◌, length, sum_by, nat_le, nat_eq, ℕ, List, IfErr, OnOk, Ok};
 ghost use Rattle.std.specs.Ordering.{is_lt};
 ghost use Rattle.std.specs.List.{list_any, list_all};
 ghost use Rattle.std.specs.Cmp.Lexicographic.{pointwise};
 ghost use Rattle.mw_types.specs.Orders.{key_cmp};
-ghost use Rattle.topology.specs.Shapes.{ComputationShape, streams_of};
+ghost use Rattle.topology.specs.Shapes.{streams_of};
 ghost use Rattle.topology.specs.Rules.{is_name_byte, is_name, all_differ, names_of};
 ghost use Rattle.topology.specs.Answers.{reading_count, cut_count};
 ghost use Rattle.json_reading.specs.Refusals.{IsRefusalOf};
 ghost use Rattle.topology.specs.FileRules.{is_few, reads_among, reads_above, in_range, is_in_range, is_ascending, is_cut, are_cuts, has_cuts, checked};
 
 use crate::file_parts::{FileComputation, FileParts};
-use crate::parts::{InjectorPart, ReadingPart};
+use crate::parts::ReadingPart;
+use crate::publishers::{names_in, streams_in};
 use crate::refusal::TopologyRefusal;
-use mw_types::{Duplicate, Kind, Name, NoMemory, Seq};
+use mw_types::{Kind, Name};
 use std::alloc::Global;
 
 // Whether there are at most so many readings.
@@ -111,34 +112,6 @@ fn all_differ(texts: &[Name]) -> bool
         rest = others;
     }
     true
-}
-
-// The names of the parts, by number.
-fn names_in(alloc: Global, file: &FileParts) -> Result<Seq<Name>, NoMemory>
-    ensures { IfOk result (λ names. names ≡ names_of file.now) }
-{
-    let mut names = Seq::new(alloc);
-    for injector in file.injectors() {
-        names.push(injector.name().copy(alloc)?)?;
-    }
-    for computation in file.computations() {
-        names.push(computation.name().copy(alloc)?)?;
-    }
-    Ok(names)
-}
-
-// The streams of the parts, by number.
-fn streams_in(alloc: Global, file: &FileParts) -> Result<Seq<Name>, NoMemory>
-    ensures { IfOk result (λ streams. streams ≡ streams_of file.now) }
-{
-    let mut streams = Seq::new(alloc);
-    for injector in file.injectors() {
-        streams.push(injector.stream().copy(alloc)?)?;
-    }
-    for computation in file.computations() {
-        streams.push(computation.stream().copy(alloc)?)?;
-    }
-    Ok(streams)
 }
 
 // Whether all that is read is among these streams.
@@ -272,7 +245,7 @@ pub fn check(alloc: Global, file: &FileParts) -> Result<(), TopologyRefusal>
     ensures kept { OnOk result (checked file.now ≡ Ok file.now) }
     ensures broken { IfErr result (IsRefusalOf TopologyRefusal.NoMemory (checked file.now)) }
 {
-    let names = names_in(alloc, file)?;
-    let streams = streams_in(alloc, file)?;
+    let names = names_in(alloc, file.injectors(), file.computations())?;
+    let streams = streams_in(alloc, file.injectors(), file.computations())?;
     broken_rule(file, names.as_slice(), streams.as_slice())
 }

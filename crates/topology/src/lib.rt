@@ -12,6 +12,7 @@ mod file_parts;
 mod file_rules;
 mod grammar;
 mod parts;
+mod publishers;
 mod reader;
 mod refusal;
 mod sample;

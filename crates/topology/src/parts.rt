@@ -2,13 +2,14 @@
 ghost use Rattle.std.specs.Prelude.{◌≡◌, ◌+◌, ◌<◌, ◌^◌, length, option_copied};
 ghost use Rattle.topology.specs.Shapes.{injectors_of, parts_of, computation_of, reads_of, cuts_of};
 
+use crate::publishers::Publisher;
 use crate::subscription::By;
 use mw_types::{Duplicate, Key, KeyList, Kind, Name, NoMemory, Seq};
 use std::alloc::Global;
 use std::marker::Model;
 
 /// One reading of a computation: the stream, and how it extracts its keys.
-#[derive(Debug, Drop)]
+#[derive(Drop)]
 pub struct ReadingPart {
     pub stream: Name,
     pub by: By,
@@ -32,7 +33,7 @@ impl Duplicate for ReadingPart {
 }
 
 /// An injector, with the stream that it publishes.
-#[derive(Debug, Drop)]
+#[derive(Drop)]
 pub struct InjectorPart {
     pub name: Name,
     pub stream: Name,
@@ -56,7 +57,7 @@ impl Duplicate for InjectorPart {
 }
 
 /// A computation, with what it reads, the stream that it publishes, and its cuts.
-#[derive(Debug, Drop)]
+#[derive(Drop)]
 pub struct ComputationPart {
     pub name: Name,
     pub kind: Kind,
@@ -74,7 +75,7 @@ impl Model for ComputationPart {
 }
 
 /// All parts, injectors first, in the order of the file.
-#[derive(Debug, Drop)]
+#[derive(Drop)]
 pub struct Parts {
     pub injectors: Seq<InjectorPart>,
     pub computations: Seq<ComputationPart>,
@@ -104,18 +105,34 @@ impl ReadingPart {
     }
 }
 
-impl InjectorPart {
-    /// Its name.
-    pub fn name(&self) -> &Name
-        ensures { result.now ≡ self.now.name }
-    {
+impl Publisher for InjectorPart {
+    ghost use Rattle.topology.specs.Shapes.{InjectorShape};
+
+    ghost called = { λ (i : InjectorShape). i.name };
+
+    ghost published = { λ (i : InjectorShape). i.stream };
+
+    fn name(&self) -> &Name {
         &self.name
     }
 
-    /// The stream that it publishes.
-    pub fn stream(&self) -> &Name
-        ensures { result.now ≡ self.now.stream }
-    {
+    fn stream(&self) -> &Name {
+        &self.stream
+    }
+}
+
+impl Publisher for ComputationPart {
+    ghost use Rattle.topology.specs.Shapes.{ComputationShape};
+
+    ghost called = { λ (c : ComputationShape). c.name };
+
+    ghost published = { λ (c : ComputationShape). c.stream };
+
+    fn name(&self) -> &Name {
+        &self.name
+    }
+
+    fn stream(&self) -> &Name {
         &self.stream
     }
 }
@@ -133,13 +150,6 @@ impl ComputationPart {
         ensures { result.now ≡ self.now.reads }
     {
         self.reads.as_slice()
-    }
-
-    /// The stream that it publishes.
-    pub fn stream(&self) -> &Name
-        ensures { result.now ≡ self.now.stream }
-    {
-        &self.stream
     }
 
     /// Where its intervals of keys begin, but for the first.

@@ -38,7 +38,7 @@ impl From<NoMemory> for TopologyRefusal {
 }
 
 // Why the shape of a file was refused.
-#[derive(Clone, Copy, Debug)]
+#[derive(Clone, Copy)]
 pub(crate) enum ShapeRefusal {
     /// The value has another shape.
     BadShape,

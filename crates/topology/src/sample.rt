@@ -1,5 +1,5 @@
 //! The topology of the first run.
-ghost use Rattle.std.specs.Prelude.{◌≡◌, ◌≤◌, ◌^◌, IfOk};
+ghost use Rattle.std.specs.Prelude.{◌≡◌, ◌≤◌, ◌^◌, ◌∷◌, [], codes, IfOk};
 ghost use Rattle.topology.specs.Samples.{clicks_shape, per_minute_shape, one_count};
 
 use crate::parts::{ComputationPart, InjectorPart, Parts, ReadingPart};
@@ -22,14 +22,21 @@ impl Topology {
     }
 }
 
+// A list of one element.
+fn list_of<X: Drop>(alloc: Global, x: X) -> Result<Seq<X>, NoMemory>
+    ensures list { IfOk result (λ list. list ≡ x ∷ []) }
+{
+    let mut list = Seq::new(alloc);
+    list.push(x)?;
+    Ok(list)
+}
+
 // Its parts.
 fn parts(alloc: Global, size: u64) -> Result<Parts, NoMemory>
     ensures { IfOk result (λ made. made ≡ one_count size) }
 {
-    let mut injectors = Seq::new(alloc);
-    injectors.push(clicks(alloc)?)?;
-    let mut computations = Seq::new(alloc);
-    computations.push(per_minute(alloc, size)?)?;
+    let injectors = list_of(alloc, clicks(alloc)?)?;
+    let computations = list_of(alloc, per_minute(alloc, size)?)?;
     Ok(Parts {
         injectors,
         computations,
@@ -46,20 +53,28 @@ fn clicks(alloc: Global) -> Result<InjectorPart, NoMemory>
     })
 }
 
+// What its count reads.
+fn raw_by_key(alloc: Global) -> Result<ReadingPart, NoMemory>
+    ensures { IfOk result (λ made. made ≡ record { stream = codes "raw"; by = By.Key }) }
+{
+    Ok(ReadingPart {
+        stream: Name::of(alloc, "raw")?,
+        by: By::Key,
+    })
+}
+
 // Its count.
 fn per_minute(alloc: Global, size: u64) -> Result<ComputationPart, NoMemory>
     ensures { IfOk result (λ made. made ≡ per_minute_shape size) }
 {
-    let mut reads = Seq::new(alloc);
-    reads.push(ReadingPart {
-        stream: Name::of(alloc, "raw")?,
-        by: By::Key,
-    })?;
+    let reads = list_of(alloc, raw_by_key(alloc)?)?;
+    let name = Name::of(alloc, "per_minute")?;
+    let stream = Name::of(alloc, "windows")?;
     Ok(ComputationPart {
-        name: Name::of(alloc, "per_minute")?,
+        name,
         kind: Kind::Count { size },
         reads,
-        stream: Name::of(alloc, "windows")?,
+        stream,
         cuts: Seq::new(alloc),
     })
 }

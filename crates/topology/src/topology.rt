@@ -7,8 +7,9 @@ ghost use Rattle.topology.specs.Shapes.{injectors_of, parts_of, stream_of, kind_
 ghost use Rattle.topology.specs.Rules.{IsTopology, part_cuts_of};
 
 use crate::parts::Parts;
+use crate::publishers::streams_in;
 use crate::subscription::Subscription;
-use crate::wiring::{SubscriptionList, consumers_in, feeds_in, streams_in};
+use crate::wiring::{SubscriptionList, consumers_in, feeds_in};
 use mw_types::{
     Duplicate, Key, KeyList, Kind, KindTable, Name, NoMemory, NumberList, PartCuts, PartCutsList,
     Seq,
@@ -17,7 +18,7 @@ use std::alloc::Global;
 use std::marker::Model;
 
 /// The parts of a run, the streams between them, and who reads what.
-#[derive(Debug, Drop)]
+#[derive(Drop)]
 pub struct Topology {
     parts: Parts,
     streams: Seq<Name>,
@@ -42,7 +43,7 @@ impl Topology {
         requires { IsTopology parts }
         ensures { IfOk result (λ t. t ≡ parts) }
     {
-        let streams = streams_in(alloc, &parts)?;
+        let streams = streams_in(alloc, parts.injectors(), parts.computations())?;
         let consumers = consumers_in(alloc, &parts, streams.as_slice())?;
         let feeds = feeds_in(alloc, &parts, streams.as_slice())?;
         Ok(Topology {

@@ -5,27 +5,13 @@ ghost use Rattle.std.specs.Cmp.Lexicographic.{pointwise};
 ghost use Rattle.topology.specs.Shapes.{Reading, parts_of, streams_of, injectors_of, subscriptions_to, consumers_of, reads_stream, feeds_of};
 ghost use Rattle.topology.specs.Kept.{is_among, numbers_from, subscriptions_by, subscriptions_in, by_part};
 
-use crate::parts::{ComputationPart, Parts, ReadingPart};
+use crate::parts::{Parts, ReadingPart};
 use crate::subscription::{By, Subscription};
-use mw_types::{Duplicate, Name, NoMemory, NumberList, Seq};
+use mw_types::{Name, NoMemory, NumberList, Seq};
 use std::alloc::Global;
 
 /// The subscriptions to one stream.
 pub type SubscriptionList = Seq<Subscription>;
-
-/// The stream of each part, by number.
-pub fn streams_in(alloc: Global, parts: &Parts) -> Result<Seq<Name>, NoMemory>
-    ensures { IfOk result (λ streams. streams ≡ streams_of parts.now) }
-{
-    let mut streams = Seq::new(alloc);
-    for injector in parts.injectors() {
-        streams.push(injector.stream().copy(alloc)?)?;
-    }
-    for computation in parts.computations() {
-        streams.push(computation.stream().copy(alloc)?)?;
-    }
-    Ok(streams)
-}
 
 /// The subscriptions to the stream of each part, by number.
 pub fn consumers_in(

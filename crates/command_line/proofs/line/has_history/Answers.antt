@@ -1,4 +1,4 @@
-use Rattle.std.proofs.Common.{◌≡◌, ◌∙◌, Bool, true, false, Some, codes}
+use Rattle.std.proofs.Common.{◌≡◌, ◌∙◌, Bool, true, false, Some, codes, subst, sym}
 use Rattle.clap.specs.Matches.{found_of, one_text}
 use Rattle.clap.specs.Walk.{rows_of}
 use Rattle.clap.specs.declared.parser.matches.Found.{Found}
@@ -13,4 +13,10 @@ flag_read f read given left_out true is = given (one_text-rows f (codes "history
 flag_read f read given left_out false is = left_out (one_text-rows f (codes "history") ∙ is)
 
 pub returns : goal.returns
-returns c = flag_read (found_of c.args.matches.now) c.get_flag.result c.get_flag.ensures.value c.get_flag.ensures.other
+returns c =
+    let found = found_of c.args.matches.now in
+    let known = c.requires.read in record {
+      flag = subst (IsFlagIn (rows_of found))
+          (sym (flag_read found c.get_flag.result c.get_flag.ensures.value c.get_flag.ensures.other known.0 known.1))
+          known.1;
+    }

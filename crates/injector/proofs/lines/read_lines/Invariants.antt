@@ -1,5 +1,6 @@
 use Rattle.std.proofs.Common.{◌≡◌, ◌+◌, ◌≤◌, length}
-use Rattle.injector.specs.EventFiles.{lines_of, source_from, source_in}
+use Rattle.text_lines.specs.Lines.{lines_of}
+use Rattle.injector.specs.EventFiles.{source_from, source_in}
 use Rattle.injector.specs.Progress.{followed_by}
 use Rattle.injector.proofs.lines.read_lines.Given as goal
 
