@@ -1,11 +1,12 @@
 //! The row of one key, Akidau et al., VLDB 2013, sections 4.4, 4.6 and 6.1.
-ghost use Rattle.std.specs.Prelude.{◌≡◌, ◌≤◌, ◌^◌, ◌++◌, ◌∷◌, [], Bool, false, All, slice_get, OnOk, OnErr};
+ghost use Rattle.std.specs.Prelude.{◌≡◌, ◌↔◌, ◌<◌, ◌≤◌, ◌^◌, ◌++◌, ◌∷◌, [], Bool, false, All, IsTrue, length, max, slice_get, OnOk, OnErr};
 ghost use Rattle.std.specs.List.{list_any};
+ghost use Rattle.std.specs.Option.{is_some};
 ghost use Rattle.std.specs.declared.cmp.Ordering.TheVariants.{Less};
 ghost use Rattle.mw_types.specs.Bounds.{IsWithin};
-ghost use Rattle.row_parts.specs.Contents.{fresh, IsId, IsDelivery, is_finished, is_timer, same_id, delivery_cmp, with_timer, without_timer, with_id, without_delivery, ids_from};
+ghost use Rattle.row_parts.specs.Contents.{fresh, ArePending, AreSeen, AreTimers, IsId, IsDelivery, cursor_in, found_delivery, is_finished, is_timer, same_id, delivery_cmp, with_timer, without_timer, with_id, without_delivery, ids_from};
 
-use crate::deliveries::{add_delivery, take_delivery};
+use crate::deliveries::{add_delivery, has_delivery, take_delivery};
 use crate::ids::{add_id, forget_below, has_id};
 use crate::timers::{set_timer, take_timer};
 use mw_types::{
@@ -58,6 +59,28 @@ impl Row {
         }
     }
 
+    /// What always holds of a row. It does nothing when it runs.
+    pub fn sound(&self)
+        ensures state { IsWithin self.now.state }
+        ensures timers { AreTimers self.now.timers }
+        ensures pending { ArePending self.now.pending }
+        ensures seen { AreSeen self.now.floor self.now.seen }
+        ensures floor { self.now.floor ≤ 2 ^ 32 }
+        ensures last { self.now.last < 2 ^ 32 }
+    {
+        let _floor = self.floor;
+    }
+
+    /// How many lines of an injector's file were injected, or 0 where the row is no injector's.
+    pub fn cursor(&self) -> u32
+        ensures cursor { result ≡ cursor_in self.now.state }
+    {
+        match &self.state {
+            State::Injector { cursor } => *cursor,
+            _ => 0,
+        }
+    }
+
     /// Sets a timer, whose time is in whole microseconds. A pair that is set already stays one timer,
     /// which is late only where both are. Refuses where memory ran out, or 2^32 - 1 are set.
     pub fn set_timer(&mut self, timer: Timer) -> Result<(), NoMemory>
@@ -93,6 +116,15 @@ impl Row {
         id.commit < self.floor || has_id(self.seen.as_slice(), id)
     }
 
+    /// Whether the row has so many ids, and one at least, and a floor below this one: then it has ids that
+    /// it may forget.
+    pub fn has_ids(&self, least: u32, floor: u64) -> bool
+        ensures ids { IsTrue result
+            ↔ (max 1 least ≤ length self.now.seen) × (self.now.floor < floor) }
+    {
+        least.max(1) as usize <= self.seen.len() && self.floor < floor
+    }
+
     /// Notes that the row handled an id, which is not finished yet. Refuses where memory ran out, or
     /// 2^32 - 1 are noted.
     pub fn note_handled(&mut self, id: RecordId) -> Result<(), NoMemory>
@@ -115,6 +147,13 @@ impl Row {
         ensures err { OnErr result (self.new ≡ self.old) }
     {
         add_delivery(&mut self.pending, delivery)
+    }
+
+    /// Whether the delivery with this id is pending.
+    pub fn is_pending(&self, id: RecordId) -> bool
+        ensures pending { result ≡ is_some (found_delivery id self.now.pending) }
+    {
+        has_delivery(self.pending.as_slice(), id)
     }
 
     /// Takes the delivery with this id away, since its receiver acknowledged it, and tells whether it was
