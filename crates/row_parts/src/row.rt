@@ -1,5 +1,5 @@
 //! The row of one key, Akidau et al., VLDB 2013, sections 4.4, 4.6 and 6.1.
-ghost use Rattle.std.specs.Prelude.{◌≡◌, ◌↔◌, ◌<◌, ◌≤◌, ◌^◌, ◌++◌, ◌∷◌, [], Bool, false, All, IsTrue, length, max, slice_get, OnOk, OnErr};
+ghost use Rattle.std.specs.Prelude.{◌≡◌, ◌↔◌, ◌<◌, ◌≤◌, ◌^◌, ◌++◌, ◌∷◌, [], Bool, false, All, IsTrue, length, max, slice_get, IfOk, OnOk, OnErr};
 ghost use Rattle.std.specs.List.{list_any};
 ghost use Rattle.std.specs.Option.{is_some};
 ghost use Rattle.std.specs.declared.cmp.Ordering.TheVariants.{Less};
@@ -17,7 +17,7 @@ use std::alloc::Global;
 use std::marker::Model;
 
 /// All that is kept for one key of one part.
-#[derive(Debug, Drop)]
+#[derive(Drop)]
 pub struct Row {
     /// The key's state.
     pub state: State,
@@ -47,7 +47,7 @@ impl Row {
     /// The row of a key to which nothing has happened yet.
     pub fn new(alloc: Global, state: State) -> Row
         requires { IsWithin state }
-        ensures { result ≡ fresh state }
+        ensures fresh { result ≡ fresh state }
     {
         Row {
             state,
@@ -111,7 +111,7 @@ impl Row {
 
     /// Whether an id is finished for this row: it is below the floor, or the row handled it.
     pub fn is_finished(&self, id: RecordId) -> bool
-        ensures { result ≡ is_finished id self.now }
+        ensures finished { result ≡ is_finished id self.now }
     {
         id.commit < self.floor || has_id(self.seen.as_slice(), id)
     }
@@ -170,7 +170,7 @@ impl Row {
     pub fn purge(&mut self, floor: u64)
         requires rises { self.old.floor ≤ floor }
         requires floor { floor ≤ 2 ^ 32 }
-        ensures { let seen = ids_from floor self.old.seen in
+        ensures purged { let seen = ids_from floor self.old.seen in
             self.new ≡ record self.old { seen = seen; floor = floor } }
     {
         forget_below(&mut self.seen, self.floor, floor);
@@ -180,13 +180,41 @@ impl Row {
 
 impl Duplicate for Row {
     fn copy(&self, alloc: Global) -> Result<Row, NoMemory> {
+        let (state, timers) = own_copies(alloc, &self.state, &self.timers)?;
+        let (pending, seen) = record_copies(alloc, &self.pending, &self.seen)?;
         Ok(Row {
-            state: self.state.copy(alloc)?,
-            timers: self.timers.copy(alloc)?,
-            pending: self.pending.copy(alloc)?,
-            seen: self.seen.copy(alloc)?,
+            state,
+            timers,
+            pending,
+            seen,
             floor: self.floor,
             last: self.last,
         })
     }
+}
+
+// An equal state and equal timers.
+fn own_copies(
+    alloc: Global,
+    state: &State,
+    timers: &TimerList,
+) -> Result<(State, TimerList), NoMemory>
+    ensures { IfOk result (λ both. both ≡ (state.now, timers.now)) }
+{
+    let state = state.copy(alloc)?;
+    let timers = timers.copy(alloc)?;
+    Ok((state, timers))
+}
+
+// Equal deliveries and equal ids.
+fn record_copies(
+    alloc: Global,
+    pending: &DeliveryList,
+    seen: &IdList,
+) -> Result<(DeliveryList, IdList), NoMemory>
+    ensures { IfOk result (λ both. both ≡ (pending.now, seen.now)) }
+{
+    let pending = pending.copy(alloc)?;
+    let seen = seen.copy(alloc)?;
+    Ok((pending, seen))
 }
