@@ -3,7 +3,7 @@
 use mw_types::{Name, Seq};
 
 /// What a run reads, and whether it is to write its history's lines before its result.
-#[derive(Debug, Drop, PartialEq, Eq)]
+#[derive(Drop, PartialEq, Eq)]
 pub struct Inputs {
     /// The name of the topology's file.
     pub topology: Name,
@@ -14,7 +14,7 @@ pub struct Inputs {
 }
 
 /// What is to be done, by the mode of the command line.
-#[derive(Debug, Drop, PartialEq, Eq)]
+#[derive(Drop, PartialEq, Eq)]
 pub enum Call {
     /// The files are worked off by one worker, in the one order that there is without a plan.
     Solo {
@@ -38,7 +38,7 @@ pub enum Call {
 }
 
 /// A command.
-#[derive(Debug, Drop, PartialEq, Eq)]
+#[derive(Drop, PartialEq, Eq)]
 pub struct Command {
     /// What is to be done.
     pub call: Call,

@@ -14,7 +14,7 @@ use mw_types::{Name, NoMemory, Seq};
 use std::alloc::Global;
 
 /// The positionals in their order, the value of each option that is given, and whether the flag is.
-#[derive(Debug, Drop)]
+#[derive(Drop)]
 pub(crate) struct Line {
     pub(crate) positionals: Seq<Name>,
     pub(crate) plan: Option<Name>,

@@ -2,7 +2,7 @@
 use mw_types::Key;
 
 /// The record of one line.
-#[derive(Debug, Drop, PartialEq, Eq)]
+#[derive(Drop, PartialEq, Eq)]
 pub struct Item {
     /// The record's key.
     pub record_key: Key,

@@ -10,7 +10,7 @@ use std::alloc::Global;
 use std::marker::Model;
 
 // One record line, and the watermark that the file states before it.
-#[derive(Debug, Drop)]
+#[derive(Drop)]
 struct Line {
     item: Item,
     stated: u64,
@@ -25,7 +25,7 @@ impl Model for Line {
 }
 
 /// What one event file holds, which contracts see as its source.
-#[derive(Debug, Drop)]
+#[derive(Drop)]
 pub struct Items {
     lines: Vec<Line>,
 }

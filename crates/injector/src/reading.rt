@@ -16,7 +16,7 @@ use serde_json::Value;
 use std::alloc::Global;
 
 /// What a line says.
-#[derive(Debug, Drop)]
+#[derive(Drop)]
 pub enum LineKind {
     /// Nothing.
     Blank,

@@ -11,7 +11,7 @@ use std::alloc::Global;
 use std::marker::Model;
 
 /// The intervals of all parts, numbered from 0 in the order of the parts and of the keys.
-#[derive(Debug, Drop)]
+#[derive(Drop)]
 pub struct Intervals {
     all: Vec<Bounds>,
     // Of each part the number of its first interval, and last how many intervals there are.

@@ -10,7 +10,7 @@ use std::alloc::Global;
 use std::marker::Model;
 
 /// A file of a shelf in memory.
-#[derive(Debug, Drop, PartialEq, Eq)]
+#[derive(Drop, PartialEq, Eq)]
 pub struct NamedFile {
     /// The file's name.
     pub name: Name,
@@ -22,7 +22,7 @@ pub struct NamedFile {
 pub type FileList = Seq<NamedFile>;
 
 /// A shelf that holds its files in memory.
-#[derive(Debug, Drop)]
+#[derive(Drop)]
 pub struct MemShelf {
     files: FileList,
     failing: CallList,

@@ -8,7 +8,7 @@ use std::alloc::Global;
 use std::marker::Model;
 
 /// A sink that holds its text in memory.
-#[derive(Debug, Drop)]
+#[derive(Drop)]
 pub struct MemSink {
     text: Vec<u8>,
     most: usize,

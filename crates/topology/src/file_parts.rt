@@ -7,7 +7,7 @@ use std::alloc::Global;
 use std::marker::Model;
 
 /// A computation whose numbers may be out of range, and whose cuts may be any texts.
-#[derive(Debug, Drop)]
+#[derive(Drop)]
 pub struct FileComputation {
     pub name: Name,
     pub kind: Kind,
@@ -25,7 +25,7 @@ impl Model for FileComputation {
 }
 
 /// All parts of a file, injectors first.
-#[derive(Debug, Drop)]
+#[derive(Drop)]
 pub struct FileParts {
     pub injectors: Seq<InjectorPart>,
     pub computations: Seq<FileComputation>,

@@ -8,7 +8,7 @@ use std::alloc::Global;
 use std::marker::Model;
 
 /// One reading of a computation: the stream, and how it extracts its keys.
-#[derive(Debug, Drop)]
+#[derive(Drop)]
 pub struct ReadingPart {
     pub stream: Name,
     pub by: By,
@@ -32,7 +32,7 @@ impl Duplicate for ReadingPart {
 }
 
 /// An injector, with the stream that it publishes.
-#[derive(Debug, Drop)]
+#[derive(Drop)]
 pub struct InjectorPart {
     pub name: Name,
     pub stream: Name,
@@ -56,7 +56,7 @@ impl Duplicate for InjectorPart {
 }
 
 /// A computation, with what it reads, the stream that it publishes, and its cuts.
-#[derive(Debug, Drop)]
+#[derive(Drop)]
 pub struct ComputationPart {
     pub name: Name,
     pub kind: Kind,
@@ -74,7 +74,7 @@ impl Model for ComputationPart {
 }
 
 /// All parts, injectors first, in the order of the file.
-#[derive(Debug, Drop)]
+#[derive(Drop)]
 pub struct Parts {
     pub injectors: Seq<InjectorPart>,
     pub computations: Seq<ComputationPart>,

@@ -17,7 +17,7 @@ use std::alloc::Global;
 use std::marker::Model;
 
 /// The parts of a run, the streams between them, and who reads what.
-#[derive(Debug, Drop)]
+#[derive(Drop)]
 pub struct Topology {
     parts: Parts,
     streams: Seq<Name>,
