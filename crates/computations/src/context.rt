@@ -12,7 +12,7 @@ use std::alloc::Global;
 use std::marker::Model;
 
 /// The row's key and state, and the timers and productions that the handler has made so far.
-#[derive(Debug, Drop)]
+#[derive(Drop)]
 pub struct Context {
     key: Key,
     state: State,

@@ -10,7 +10,7 @@ use std::alloc::Global;
 use std::marker::Model;
 
 /// The computations that the kinds of a table name.
-#[derive(Debug, Drop)]
+#[derive(Drop)]
 pub struct Kinds {
     injectors: u32,
     kinds: Seq<Kind>,

@@ -23,7 +23,7 @@ pub(crate) struct Moment {
 
 // The first timer of a row: so stand those of several rows. Whether it is late stands last, where it
 // orders nothing, since a row has one first timer.
-#[derive(Debug, Drop, PartialEq, Eq, PartialOrd, Ord)]
+#[derive(Drop, PartialEq, Eq, PartialOrd, Ord)]
 pub(crate) struct Due {
     pub(crate) at: Moment,
     pub(crate) name: RowName,

@@ -7,7 +7,7 @@ ghost use Rattle.key_intervals.specs.Intervals.{covers, ends_after, start_of};
 use mw_types::{Key, RowName};
 
 /// The keys of one part from one key on, and below another where there is one.
-#[derive(Debug, Drop, PartialEq, Eq)]
+#[derive(Drop, PartialEq, Eq)]
 pub struct Bounds {
     /// The part's number.
     pub part: u32,

@@ -1,5 +1,5 @@
 //! The intervals of all parts, by number.
-ghost use Rattle.std.specs.Prelude.{◌≡◌, ◌≤◌, ◌<◌, ◌++◌, ℕ, length, slice_get, All, Any, IfOk, OnOk};
+ghost use Rattle.std.specs.Prelude.{◌≡◌, ◌≤◌, ◌<◌, ◌++◌, ◌∷◌, [], ℕ, Some, length, slice_get, All, Any, IfOk, OnOk};
 ghost use Rattle.mw_types.specs.declared.key.PartCuts.{PartCuts};
 ghost use Rattle.key_intervals.specs.declared.bounds.Bounds.{Bounds};
 ghost use Rattle.key_intervals.specs.Intervals.{bounds_of, part_bounds_of, AreNumbered, HasRow, DivideKeys};
@@ -11,7 +11,7 @@ use std::alloc::Global;
 use std::marker::Model;
 
 /// The intervals of all parts, numbered from 0 in the order of the parts and of the keys.
-#[derive(Debug, Drop)]
+#[derive(Drop)]
 pub struct Intervals {
     all: Vec<Bounds>,
     // Of each part the number of its first interval, and last how many intervals there are.
@@ -43,8 +43,7 @@ impl Intervals {
         let mut all = Vec::new(alloc);
         let mut firsts = Vec::new(alloc);
         for part in parts {
-            firsts.push(all.len())?;
-            push_part(alloc, &mut all, part)?;
+            begin_part(alloc, &mut all, &mut firsts, part)?;
         }
         firsts.push(all.len())?;
         Ok(Intervals { all, firsts })
@@ -80,6 +79,21 @@ impl Intervals {
     }
 }
 
+// Notes where the intervals of one part begin, and appends them.
+fn begin_part(
+    alloc: Global,
+    all: &mut Vec<Bounds>,
+    firsts: &mut Vec<usize>,
+    part: &PartCuts,
+) -> Result<(), NoMemory>
+    ensures firsts { OnOk result (firsts.new.items
+        ≡ firsts.old.items ++ length all.old.items ∷ []) }
+    ensures all { OnOk result (all.new.items ≡ all.old.items ++ part_bounds_of part.now) }
+{
+    firsts.push(all.len())?;
+    push_part(alloc, all, part)
+}
+
 // Appends the intervals of one part.
 fn push_part(alloc: Global, all: &mut Vec<Bounds>, part: &PartCuts) -> Result<(), NoMemory>
     ensures { OnOk result (all.new.items ≡ all.old.items ++ part_bounds_of part.now) }
@@ -87,12 +101,7 @@ fn push_part(alloc: Global, all: &mut Vec<Bounds>, part: &PartCuts) -> Result<()
     let mut from = Key::none(alloc);
     for cut in part.cuts.as_slice() {
         let next = cut.copy(alloc)?;
-        let to = cut.copy(alloc)?;
-        all.push(Bounds {
-            part: part.part,
-            from,
-            to: Some(to),
-        })?;
+        push_up_to(alloc, all, part.part, from, cut)?;
         from = next;
     }
     all.push(Bounds {
@@ -100,5 +109,21 @@ fn push_part(alloc: Global, all: &mut Vec<Bounds>, part: &PartCuts) -> Result<()
         from,
         to: None,
     })?;
+    Ok(())
+}
+
+// Appends the interval of a part from one key on and below another.
+fn push_up_to(
+    alloc: Global,
+    all: &mut Vec<Bounds>,
+    part: u32,
+    from: Key,
+    end: &Key,
+) -> Result<(), NoMemory>
+    ensures { OnOk result (all.new.items
+        ≡ all.old.items ++ record { part = part; from = from; to = Some end.now } ∷ []) }
+{
+    let to = Some(end.copy(alloc)?);
+    all.push(Bounds { part, from, to })?;
     Ok(())
 }

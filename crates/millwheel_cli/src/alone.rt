@@ -20,7 +20,7 @@ use run_history::History;
 use std::alloc::Global;
 
 /// How a call ended, and what it leaves.
-#[derive(Debug, Drop)]
+#[derive(Drop)]
 pub struct Done<K> {
     /// How it ended.
     pub status: Status,

@@ -9,7 +9,7 @@ use mw_types::{Name, NoMemory, PlanRefusal};
 use topology::TopologyRefusal;
 
 /// Why the files that are asked for are not run: each status that can come of reading them.
-#[derive(Debug, Drop)]
+#[derive(Drop)]
 pub enum Refusal {
     NoFile { name: Name },
     TopologyRefused { why: TopologyRefusal },

@@ -9,7 +9,7 @@ use std::fmt;
 use topology::TopologyRefusal;
 
 /// How a call of the program ended. Its number is the program's exit status.
-#[derive(Debug, Drop, PartialEq, Eq)]
+#[derive(Drop, PartialEq, Eq)]
 pub enum Status {
     /// The run came to its end, and its result was written whole.
     Ok,

@@ -6,7 +6,7 @@ use crate::seq::Seq;
 use std::alloc::Global;
 
 /// A record that is to be handled by one row.
-#[derive(Debug, Drop, PartialEq, Eq)]
+#[derive(Drop, PartialEq, Eq)]
 pub struct Delivery {
     /// The record's id.
     pub id: RecordId,
@@ -30,7 +30,7 @@ impl Duplicate for Delivery {
 }
 
 /// A record of a stream that no computation reads: a line of the result.
-#[derive(Debug, Drop, PartialEq, Eq)]
+#[derive(Drop, PartialEq, Eq)]
 pub struct Emission {
     /// The record's id.
     pub id: RecordId,

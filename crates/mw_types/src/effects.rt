@@ -1,4 +1,6 @@
 //! What a handler leaves.
+ghost use Rattle.std.specs.Prelude.{◌≡◌, IfOk};
+
 use crate::memory::{Duplicate, NoMemory};
 use crate::record::ProductionList;
 use crate::state::State;
@@ -7,7 +9,7 @@ use std::alloc::Global;
 use std::marker::Model;
 
 /// The key's new state, the timers that were set, in order, and the records that were produced.
-#[derive(Debug, Drop)]
+#[derive(Drop)]
 pub struct Effects {
     /// The key's state after the handler.
     pub state: State,
@@ -29,10 +31,25 @@ impl Model for Effects {
 
 impl Duplicate for Effects {
     fn copy(&self, alloc: Global) -> Result<Effects, NoMemory> {
+        let state = self.state.copy(alloc)?;
+        let (timers, productions) = copies(alloc, &self.timers, &self.productions)?;
         Ok(Effects {
-            state: self.state.copy(alloc)?,
-            timers: self.timers.copy(alloc)?,
-            productions: self.productions.copy(alloc)?,
+            state,
+            timers,
+            productions,
         })
     }
+}
+
+// Lists that are equal to these.
+fn copies(
+    alloc: Global,
+    timers: &TimerList,
+    productions: &ProductionList,
+) -> Result<(TimerList, ProductionList), NoMemory>
+    ensures { IfOk result (λ both. both ≡ (timers.now, productions.now)) }
+{
+    let timers = timers.copy(alloc)?;
+    let productions = productions.copy(alloc)?;
+    Ok((timers, productions))
 }

@@ -1,4 +1,7 @@
 //! The entries of a history: what happened, one atomic step each.
+ghost use Rattle.std.specs.Prelude.{◌≡◌, IfOk};
+ghost use Rattle.mw_types.specs.declared.entry.Entry.TheVariants.{Inject, Handle, Fire, Ack, Purge};
+
 use crate::effects::Effects;
 use crate::identity::{RecordId, RowName};
 use crate::memory::{Duplicate, NoMemory};
@@ -8,7 +11,7 @@ use crate::timer::Timer;
 use std::alloc::Global;
 
 /// One entry of the history. Its place in the history, from 0, is its commit number.
-#[derive(Debug, Drop)]
+#[derive(Drop)]
 pub enum Entry {
     /// A worker took an interval of keys; the entry's commit number is its sequencer.
     Claim {
@@ -77,56 +80,109 @@ pub type EntryList = Seq<Entry>;
 
 impl Duplicate for Entry {
     fn copy(&self, alloc: Global) -> Result<Entry, NoMemory> {
-        Ok(match self {
-            Entry::Claim { worker, interval } => Entry::Claim {
+        match self {
+            Entry::Claim { worker, interval } => Ok(Entry::Claim {
                 worker: *worker,
                 interval: *interval,
-            },
+            }),
             Entry::Inject {
                 seq,
                 part,
                 line,
                 item,
-            } => Entry::Inject {
-                seq: *seq,
-                part: *part,
-                line: *line,
-                item: item.copy(alloc)?,
-            },
+            } => copied_inject(alloc, *seq, *part, *line, item),
             Entry::Handle {
                 seq,
                 row,
                 id,
                 effects,
-            } => Entry::Handle {
-                seq: *seq,
-                row: row.copy(alloc)?,
-                id: *id,
-                effects: effects.copy(alloc)?,
-            },
+            } => copied_handle(alloc, *seq, row, *id, effects),
             Entry::Fire {
                 seq,
                 row,
                 timer,
                 mark,
                 effects,
-            } => Entry::Fire {
-                seq: *seq,
-                row: row.copy(alloc)?,
-                timer: *timer,
-                mark: *mark,
-                effects: effects.copy(alloc)?,
-            },
-            Entry::Ack { seq, row, id } => Entry::Ack {
-                seq: *seq,
-                row: row.copy(alloc)?,
-                id: *id,
-            },
-            Entry::Purge { seq, row, floor } => Entry::Purge {
-                seq: *seq,
-                row: row.copy(alloc)?,
-                floor: *floor,
-            },
-        })
+            } => copied_fire(alloc, *seq, row, *timer, *mark, effects),
+            Entry::Ack { seq, row, id } => copied_ack(alloc, *seq, row, *id),
+            Entry::Purge { seq, row, floor } => copied_purge(alloc, *seq, row, *floor),
+        }
     }
+}
+
+// A line that was injected, with an equal record.
+fn copied_inject(
+    alloc: Global,
+    seq: u64,
+    part: u32,
+    line: u32,
+    item: &Record,
+) -> Result<Entry, NoMemory>
+    ensures { IfOk result (λ entry. entry ≡ Inject seq part line item.now) }
+{
+    let item = item.copy(alloc)?;
+    Ok(Entry::Inject {
+        seq,
+        part,
+        line,
+        item,
+    })
+}
+
+// A record that was handled, with an equal row and equal effects.
+fn copied_handle(
+    alloc: Global,
+    seq: u64,
+    row: &RowName,
+    id: RecordId,
+    effects: &Effects,
+) -> Result<Entry, NoMemory>
+    ensures { IfOk result (λ entry. entry ≡ Handle seq row.now id effects.now) }
+{
+    let row = row.copy(alloc)?;
+    let effects = effects.copy(alloc)?;
+    Ok(Entry::Handle {
+        seq,
+        row,
+        id,
+        effects,
+    })
+}
+
+// A timer that fired, with an equal row and equal effects.
+fn copied_fire(
+    alloc: Global,
+    seq: u64,
+    row: &RowName,
+    timer: Timer,
+    mark: u64,
+    effects: &Effects,
+) -> Result<Entry, NoMemory>
+    ensures { IfOk result (λ entry. entry ≡ Fire seq row.now timer mark effects.now) }
+{
+    let row = row.copy(alloc)?;
+    let effects = effects.copy(alloc)?;
+    Ok(Entry::Fire {
+        seq,
+        row,
+        timer,
+        mark,
+        effects,
+    })
+}
+
+// What a sender learnt, with an equal row.
+fn copied_ack(alloc: Global, seq: u64, row: &RowName, id: RecordId) -> Result<Entry, NoMemory>
+    ensures { IfOk result (λ entry. entry ≡ Ack seq row.now id) }
+{
+    let row = row.copy(alloc)?;
+    Ok(Entry::Ack { seq, row, id })
+}
+
+// What a row forgot, with an equal row.
+fn copied_purge(alloc: Global, seq: u64, row: &RowName, floor: u64) -> Result<Entry, NoMemory>
+    ensures { IfOk result (λ entry. entry ≡ Purge seq row.now floor) }
+{
+    let row = row.copy(alloc)?;
+    Ok(Entry::Purge { seq, row, floor })
 }

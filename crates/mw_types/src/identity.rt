@@ -54,7 +54,7 @@ impl Duplicate for RecordId {
 }
 
 /// The name of the state that one part keeps for one key; an injector's row has the empty key.
-#[derive(Debug, Drop, PartialEq, Eq, PartialOrd, Ord)]
+#[derive(Drop, PartialEq, Eq, PartialOrd, Ord)]
 pub struct RowName {
     /// The part's number.
     pub part: u32,

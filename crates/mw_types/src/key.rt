@@ -10,7 +10,7 @@ use std::cmp::Ordering;
 use std::marker::Model;
 
 /// A key of at most 256 bytes, which contracts see as its bytes.
-#[derive(Debug, Drop)]
+#[derive(Drop)]
 pub struct Key {
     text: Text,
 }
@@ -129,7 +129,7 @@ impl Ord for Key {
 }
 
 /// The cuts of one part: where its intervals of keys begin, but for the first.
-#[derive(Debug, Drop, PartialEq, Eq)]
+#[derive(Drop, PartialEq, Eq)]
 pub struct PartCuts {
     /// The part's number.
     pub part: u32,

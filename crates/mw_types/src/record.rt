@@ -5,7 +5,7 @@ use crate::seq::Seq;
 use std::alloc::Global;
 
 /// A record: a key, a value and a timestamp, Akidau et al., VLDB 2013, section 4.1.
-#[derive(Debug, Drop, PartialEq, Eq)]
+#[derive(Drop, PartialEq, Eq)]
 pub struct Record {
     /// The key that its producer gave it.
     pub key: Key,
@@ -29,7 +29,7 @@ impl Duplicate for Record {
 }
 
 /// A record that a handler produces; it is late where the handler's cause is.
-#[derive(Debug, Drop, PartialEq, Eq)]
+#[derive(Drop, PartialEq, Eq)]
 pub struct Production {
     /// Its key.
     pub key: Key,

@@ -8,7 +8,7 @@ use std::alloc::Global;
 use std::marker::Model;
 
 /// A list whose representation is its own.
-#[derive(Debug, Drop)]
+#[derive(Drop)]
 pub struct Seq<X> {
     items: Vec<X>,
 }

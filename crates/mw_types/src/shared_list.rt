@@ -1,6 +1,8 @@
 //! A list whose copies share memory, which contracts see as that list.
 ghost use Rattle.std.specs.Prelude.{◌≡◌, ◌==◌, ◌++◌, ◌∷◌, ◌<◌, ◌≤◌, [], length, take, drop, slice_get, slice_set, insert, remove, IfOk, OnErr, OnOk, option_copied};
+ghost use Rattle.std.specs.Arc.{arc_value};
 ghost use Rattle.std.specs.Cmp.Lexicographic.{pointwise};
+ghost use Rattle.mw_types.specs.Lists.{items};
 
 use crate::memory::{Duplicate, NoMemory};
 use crate::tree::{Shared, leaf_with_more, tree_of};
@@ -12,16 +14,52 @@ use std::sync::Arc;
 const FEW: usize = 16;
 
 /// A list whose copies share memory where it is long.
-#[derive(Debug, Drop)]
+#[derive(Drop)]
 pub struct SharedList<X> {
     alloc: Global,
     body: Body<X>,
 }
 
-#[derive(Debug, Drop)]
+#[derive(Drop)]
 enum Body<X> {
     Few(Vec<X>),
     Many(Shared<X>),
+}
+
+impl<X> Body<X> {
+    // Whether it holds its elements itself, and can hold one more.
+    fn has_room(&self) -> bool {
+        match self {
+            Body::Few(xs) => xs.len() < FEW,
+            Body::Many(_) => false,
+        }
+    }
+}
+
+impl<X: Copy + Drop> Body<X> {
+    // A tree of the elements with one more at a place.
+    fn with_more(&self, alloc: Global, at: usize, x: X) -> Result<Shared<X>, NoMemory>
+        requires { at ≤ length (items self.now) }
+        ensures { IfOk result (λ t. (arc_value t).0 ≡ insert (items self.now) at x) }
+    {
+        match self {
+            Body::Few(xs) => leaf_with_more(alloc, xs, at, x),
+            Body::Many(tree) => tree.with_more(alloc, at, x),
+        }
+    }
+
+    // Appends the elements to a vector.
+    fn put(&self, all: &mut Vec<X>) -> Result<(), NoMemory>
+        ensures { OnOk result (all.new.items ≡ all.old.items ++ items self.now) }
+    {
+        match self {
+            Body::Few(xs) => {
+                all.extend_from_slice(xs)?;
+                Ok(())
+            }
+            Body::Many(tree) => tree.put(all),
+        }
+    }
 }
 
 impl<X> Model for SharedList<X> {
@@ -107,10 +145,7 @@ impl<X: Copy + Drop> SharedList<X> {
         ensures elements { IfOk result (λ xs. xs.items ≡ self.now) }
     {
         let mut xs = Vec::with_capacity(alloc, self.len())?;
-        match &self.body {
-            Body::Few(few) => xs.extend_from_slice(few)?,
-            Body::Many(tree) => tree.put(&mut xs)?,
-        }
+        self.body.put(&mut xs)?;
         Ok(xs)
     }
 
@@ -128,15 +163,10 @@ impl<X: Copy + Drop> SharedList<X> {
         ensures inserted { OnOk result (self.new ≡ insert self.old at x) }
         ensures unchanged { OnErr result (self.new ≡ self.old) }
     {
-        let tree = match &self.body {
-            Body::Few(xs) => {
-                if xs.len() < FEW {
-                    return self.insert_into_few(at, x);
-                }
-                leaf_with_more(self.alloc, xs, at, x)?
-            }
-            Body::Many(tree) => tree.with_more(self.alloc, at, x)?,
-        };
+        if self.body.has_room() {
+            return self.insert_into_few(at, x);
+        }
+        let tree = self.body.with_more(self.alloc, at, x)?;
         self.body = Body::Many(tree);
         Ok(())
     }

@@ -11,7 +11,7 @@ use std::marker::Model;
 pub(crate) const SHORT_MAX: usize = 30;
 
 /// A text of at most 30 bytes, and zeros after it.
-#[derive(Debug, Drop)]
+#[derive(Drop)]
 pub(crate) struct ShortText {
     len: u8,
     bytes: [u8; SHORT_MAX],

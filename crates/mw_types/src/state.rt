@@ -1,4 +1,7 @@
 //! What a row keeps for its key, Akidau et al., VLDB 2013, section 4.4.
+ghost use Rattle.std.specs.Prelude.{◌≡◌, IfOk};
+ghost use Rattle.mw_types.specs.declared.state.State.TheVariants.{Count, Spike};
+
 use crate::memory::{Duplicate, NoMemory};
 use crate::seq::Seq;
 use crate::shared_list::SharedList;
@@ -44,7 +47,7 @@ impl Duplicate for HeldTotal {
 }
 
 /// The state of a row, by what its part is.
-#[derive(Debug, Drop, PartialEq, Eq)]
+#[derive(Drop, PartialEq, Eq)]
 pub enum State {
     /// Of an injector.
     Injector {
@@ -76,18 +79,33 @@ pub enum State {
 
 impl Duplicate for State {
     fn copy(&self, alloc: Global) -> Result<State, NoMemory> {
-        Ok(match self {
-            State::Injector { cursor } => State::Injector { cursor: *cursor },
-            State::Count { late, windows } => State::Count {
-                late: *late,
-                windows: windows.copy(alloc)?,
-            },
-            State::Spike { late, held, known } => State::Spike {
-                late: *late,
-                held: held.copy(alloc)?,
-                known: known.copy(alloc)?,
-            },
-            State::Pass { late } => State::Pass { late: *late },
-        })
+        match self {
+            State::Injector { cursor } => Ok(State::Injector { cursor: *cursor }),
+            State::Count { late, windows } => copied_count(alloc, *late, windows),
+            State::Spike { late, held, known } => copied_spike(alloc, *late, held, known),
+            State::Pass { late } => Ok(State::Pass { late: *late }),
+        }
     }
+}
+
+// A count's state, with equal windows.
+fn copied_count(alloc: Global, late: u64, windows: &WindowList) -> Result<State, NoMemory>
+    ensures { IfOk result (λ state. state ≡ Count late windows.now) }
+{
+    let windows = windows.copy(alloc)?;
+    Ok(State::Count { late, windows })
+}
+
+// A spike's state, with equal totals and values.
+fn copied_spike(
+    alloc: Global,
+    late: u64,
+    held: &HeldList,
+    known: &ValueList,
+) -> Result<State, NoMemory>
+    ensures { IfOk result (λ state. state ≡ Spike late held.now known.now) }
+{
+    let held = held.copy(alloc)?;
+    let known = known.copy(alloc)?;
+    Ok(State::Spike { late, held, known })
 }

@@ -10,7 +10,7 @@ use std::cmp::Ordering;
 use std::marker::Model;
 
 // Where a text lies: in the value itself, or on the heap.
-#[derive(Debug, Drop)]
+#[derive(Drop)]
 enum Held {
     Short(ShortText),
     Long(String),
@@ -20,7 +20,7 @@ enum Held {
 const _: () = prove!(std::mem::size_of::<Held>() == 32);
 
 /// A text whose representation is its own.
-#[derive(Debug, Drop)]
+#[derive(Drop)]
 pub struct Text {
     held: Held,
 }

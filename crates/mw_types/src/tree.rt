@@ -1,5 +1,5 @@
 //! A balanced tree, seen as the elements of its leaves and its height.
-ghost use Rattle.std.specs.Prelude.{◌≡◌, ◌++◌, ◌≤◌, ◌<◌, IfOk, OnOk, length, take, drop, slice_get, slice_set, insert, remove, option_copied};
+ghost use Rattle.std.specs.Prelude.{◌≡◌, ◌+◌, ◌++◌, ◌≤◌, ◌<◌, max, IfOk, OnOk, length, take, drop, slice_get, slice_set, insert, remove, option_copied};
 ghost use Rattle.std.specs.Arc.{arc_value};
 
 use crate::memory::NoMemory;
@@ -17,13 +17,13 @@ const HEIGHT_MAX: u8 = 64;
 pub(crate) type Shared<X> = Arc<Tree<X>>;
 
 #[cycle(tree)]
-#[derive(Debug, Drop)]
+#[derive(Drop)]
 pub(crate) struct Tree<X> {
     node: Node<X>,
 }
 
 #[cycle(tree)]
-#[derive(Debug, Drop)]
+#[derive(Drop)]
 enum Node<X> {
     Leaf(Vec<X>),
     Fork {
@@ -102,19 +102,15 @@ impl<X: Copy + Drop> Tree<X> {
         ensures { IfOk result (λ t. (arc_value t).0 ≡ slice_set self.now.0 at x) }
     {
         match &self.node {
-            Node::Leaf(xs) => {
-                let mut ys = Vec::from_slice(alloc, xs)?;
-                ys[at] = x;
-                leaf(alloc, ys)
-            }
+            Node::Leaf(xs) => leaf_with_other(alloc, xs, at, x),
             Node::Fork { left, right, .. } => {
                 let here = left.len();
                 if at < here {
                     let left = left.with_other(alloc, at, x)?;
-                    fork(alloc, left, Arc::try_clone(right)?)
+                    fork_before(alloc, left, right)
                 } else {
                     let right = right.with_other(alloc, at - here, x)?;
-                    fork(alloc, Arc::try_clone(left)?, right)
+                    fork_behind(alloc, left, right)
                 }
             }
         }
@@ -146,18 +142,18 @@ impl<X: Copy + Drop> Tree<X> {
         ensures { IfOk result (λ t. (arc_value t).0 ≡ remove self.now.0 at) }
     {
         match &self.node {
-            Node::Leaf(xs) => leaf(alloc, slice_without(alloc, xs, at)?),
+            Node::Leaf(xs) => leaf_without(alloc, xs, at),
             Node::Fork { left, right, .. } => {
                 let here = left.len();
                 if at < here {
                     if here == 1 {
-                        return Ok(Arc::try_clone(right)?);
+                        return shared(right);
                     }
                     let left = left.without(alloc, at)?;
                     join(alloc, &left, right)
                 } else {
                     if right.len() == 1 {
-                        return Ok(Arc::try_clone(left)?);
+                        return shared(left);
                     }
                     let right = right.without(alloc, at - here)?;
                     join(alloc, left, &right)
@@ -207,7 +203,7 @@ pub(crate) fn tree_of<X: Copy + Drop>(alloc: Global, xs: &[X]) -> Result<Shared<
     ensures { IfOk result (λ t. (arc_value t).0 ≡ xs.now) }
 {
     if xs.len() <= LEAF_MAX {
-        return leaf(alloc, Vec::from_slice(alloc, xs)?);
+        return leaf_of(alloc, xs);
     }
     let (front, back) = xs.split_at(xs.len() / 2);
     let left = tree_of(alloc, front)?;
@@ -229,10 +225,19 @@ pub(crate) fn slice_with_more<X: Copy + Drop>(
         return Err(NoMemory);
     };
     let mut ys = Vec::with_capacity(alloc, room)?;
+    put_with_more(&mut ys, xs, at, x)?;
+    Ok(ys)
+}
+
+// Appends the elements of a slice with one more at a place.
+fn put_with_more<X: Copy + Drop>(ys: &mut Vec<X>, xs: &[X], at: usize, x: X) -> Result<(), NoMemory>
+    requires { at ≤ length xs.now }
+    ensures { OnOk result (ys.new.items ≡ ys.old.items ++ insert xs.now at x) }
+{
     ys.extend_from_slice(&xs[..at])?;
     ys.push(x)?;
     ys.extend_from_slice(&xs[at..])?;
-    Ok(ys)
+    Ok(())
 }
 
 // The elements of a slice without the one at a place.
@@ -241,9 +246,18 @@ fn slice_without<X: Copy + Drop>(alloc: Global, xs: &[X], at: usize) -> Result<V
     ensures { IfOk result (λ ys. ys.items ≡ remove xs.now at) }
 {
     let mut ys = Vec::with_capacity(alloc, xs.len() - 1)?;
+    put_without(&mut ys, xs, at)?;
+    Ok(ys)
+}
+
+// Appends the elements of a slice without the one at a place.
+fn put_without<X: Copy + Drop>(ys: &mut Vec<X>, xs: &[X], at: usize) -> Result<(), NoMemory>
+    requires { at < length xs.now }
+    ensures { OnOk result (ys.new.items ≡ ys.old.items ++ remove xs.now at) }
+{
     ys.extend_from_slice(&xs[..at])?;
     ys.extend_from_slice(&xs[at + 1..])?;
-    Ok(ys)
+    Ok(())
 }
 
 // A leaf of the elements of a slice with one more at a place, or two where they are too many for one.
@@ -257,20 +271,91 @@ pub(crate) fn leaf_with_more<X: Copy + Drop>(
     ensures { IfOk result (λ t. (arc_value t).0 ≡ insert xs.now at x) }
 {
     if xs.len() < LEAF_MAX {
-        return leaf(alloc, slice_with_more(alloc, xs, at, x)?);
+        return longer_leaf(alloc, xs, at, x);
     }
     // Elements that come in order leave full leaves behind.
     let half = if at == xs.len() { at } else { xs.len() / 2 };
     let (front, back) = xs.split_at(half);
     if at < half {
-        let left = leaf(alloc, slice_with_more(alloc, front, at, x)?)?;
-        let right = leaf(alloc, Vec::from_slice(alloc, back)?)?;
-        fork(alloc, left, right)
+        longer_front(alloc, front, back, at, x)
     } else {
-        let left = leaf(alloc, Vec::from_slice(alloc, front)?)?;
-        let right = leaf(alloc, slice_with_more(alloc, back, at - half, x)?)?;
-        fork(alloc, left, right)
+        longer_back(alloc, front, back, at - half, x)
     }
+}
+
+// Two leaves, with one more at a place of the first.
+fn longer_front<X: Copy + Drop>(
+    alloc: Global,
+    front: &[X],
+    back: &[X],
+    at: usize,
+    x: X,
+) -> Result<Shared<X>, NoMemory>
+    requires { at ≤ length front.now }
+    ensures { IfOk result (λ t. (arc_value t).0 ≡ insert front.now at x ++ back.now) }
+{
+    let left = longer_leaf(alloc, front, at, x)?;
+    let right = leaf_of(alloc, back)?;
+    fork(alloc, left, right)
+}
+
+// Two leaves, with one more at a place of the second.
+fn longer_back<X: Copy + Drop>(
+    alloc: Global,
+    front: &[X],
+    back: &[X],
+    at: usize,
+    x: X,
+) -> Result<Shared<X>, NoMemory>
+    requires { at ≤ length back.now }
+    ensures { IfOk result (λ t. (arc_value t).0 ≡ front.now ++ insert back.now at x) }
+{
+    let left = leaf_of(alloc, front)?;
+    let right = longer_leaf(alloc, back, at, x)?;
+    fork(alloc, left, right)
+}
+
+// A leaf of the elements of a slice.
+fn leaf_of<X: Copy + Drop>(alloc: Global, xs: &[X]) -> Result<Shared<X>, NoMemory>
+    ensures { IfOk result (λ t. (arc_value t).0 ≡ xs.now) }
+{
+    leaf(alloc, Vec::from_slice(alloc, xs)?)
+}
+
+// A leaf of the elements of a slice with one more at a place.
+fn longer_leaf<X: Copy + Drop>(
+    alloc: Global,
+    xs: &[X],
+    at: usize,
+    x: X,
+) -> Result<Shared<X>, NoMemory>
+    requires { at ≤ length xs.now }
+    ensures { IfOk result (λ t. (arc_value t).0 ≡ insert xs.now at x) }
+{
+    leaf(alloc, slice_with_more(alloc, xs, at, x)?)
+}
+
+// A leaf of the elements of a slice without the one at a place.
+fn leaf_without<X: Copy + Drop>(alloc: Global, xs: &[X], at: usize) -> Result<Shared<X>, NoMemory>
+    requires { at < length xs.now }
+    ensures { IfOk result (λ t. (arc_value t).0 ≡ remove xs.now at) }
+{
+    leaf(alloc, slice_without(alloc, xs, at)?)
+}
+
+// A leaf of the elements of a slice, but for another one at a place.
+fn leaf_with_other<X: Copy + Drop>(
+    alloc: Global,
+    xs: &[X],
+    at: usize,
+    x: X,
+) -> Result<Shared<X>, NoMemory>
+    requires { at < length xs.now }
+    ensures { IfOk result (λ t. (arc_value t).0 ≡ slice_set xs.now at x) }
+{
+    let mut ys = Vec::from_slice(alloc, xs)?;
+    ys[at] = x;
+    leaf(alloc, ys)
 }
 
 // A leaf.
@@ -293,24 +378,81 @@ where
     X: Drop,
     ensures { IfOk result (λ t. (arc_value t).0 ≡ (arc_value left).0 ++ (arc_value right).0) }
 {
-    let height = left.height().max(right.height());
-    let Some(count) = left.len().checked_add(right.len()) else {
-        return Err(NoMemory);
-    };
-    if height >= HEIGHT_MAX {
-        return Err(NoMemory);
-    }
+    let (height, count) = fork_size(&left, &right)?;
     Ok(Arc::new(
         alloc,
         Tree {
             node: Node::Fork {
-                height: height + 1,
+                height,
                 count,
                 left,
                 right,
             },
         },
     )?)
+}
+
+// How high a node over two sides is, and how many elements it has.
+fn fork_size<X>(left: &Shared<X>, right: &Shared<X>) -> Result<(u8, usize), NoMemory>
+where
+    X: Drop,
+    ensures height { IfOk result (λ size.
+        (max (arc_value left.now).1 (arc_value right.now).1 + 1 ≤ size.0) × (size.0 ≤ 64)) }
+    ensures count { IfOk result (λ size.
+        size.1 ≡ length ((arc_value left.now).0 ++ (arc_value right.now).0)) }
+{
+    let height = left.height().max(right.height());
+    let Some(count) = left.len().checked_add(right.len()) else {
+        return Err(NoMemory);
+    };
+    if height < HEIGHT_MAX {
+        Ok((height + 1, count))
+    } else {
+        Err(NoMemory)
+    }
+}
+
+// One more owner of a tree.
+fn shared<X: Drop>(tree: &Shared<X>) -> Result<Shared<X>, NoMemory>
+    ensures { IfOk result (λ t. (arc_value t).0 ≡ (arc_value tree.now).0) }
+{
+    Ok(Arc::try_clone(tree)?)
+}
+
+// A node over two sides that stay with their owners too.
+fn fork_over<X: Drop>(
+    alloc: Global,
+    left: &Shared<X>,
+    right: &Shared<X>,
+) -> Result<Shared<X>, NoMemory>
+    ensures { IfOk result (λ t. (arc_value t).0
+        ≡ (arc_value left.now).0 ++ (arc_value right.now).0) }
+{
+    fork_before(alloc, shared(left)?, right)
+}
+
+// A node over a side and another one that stays with its owner too.
+fn fork_before<X: Drop>(
+    alloc: Global,
+    left: Shared<X>,
+    right: &Shared<X>,
+) -> Result<Shared<X>, NoMemory>
+    ensures { IfOk result (λ t. (arc_value t).0 ≡ (arc_value left).0 ++ (arc_value right.now).0) }
+{
+    let right = shared(right)?;
+    fork(alloc, left, right)
+}
+
+// A node over a side that stays with its owner too, and another one.
+fn fork_behind<X: Drop>(
+    alloc: Global,
+    left: &Shared<X>,
+    right: Shared<X>,
+) -> Result<Shared<X>, NoMemory>
+    ensures { IfOk result (λ t. (arc_value t).0 ≡ (arc_value left.now).0 ++ (arc_value right).0) }
+{
+    let left = shared(left)?;
+    fork(alloc, left, right)
 }
 
 // Two sides as one tree, turned where one side is much higher.
@@ -323,7 +465,7 @@ fn join<X: Drop>(alloc: Global, left: &Shared<X>, right: &Shared<X>) -> Result<S
     } else if right.height() > left.height() + 1 {
         lean_right(alloc, left, right)
     } else {
-        fork(alloc, Arc::try_clone(left)?, Arc::try_clone(right)?)
+        fork_over(alloc, left, right)
     }
 }
 
@@ -342,23 +484,12 @@ fn lean_left<X: Drop>(
         ..
     } = &left.node
     else {
-        return fork(alloc, Arc::try_clone(left)?, Arc::try_clone(right)?);
+        return fork_over(alloc, left, right);
     };
     if outer.height() < inner.height() {
-        let Node::Fork {
-            left: front,
-            right: back,
-            ..
-        } = &inner.node
-        else {
-            return fork(alloc, Arc::try_clone(left)?, Arc::try_clone(right)?);
-        };
-        let first = fork(alloc, Arc::try_clone(outer)?, Arc::try_clone(front)?)?;
-        let last = fork(alloc, Arc::try_clone(back)?, Arc::try_clone(right)?)?;
-        return fork(alloc, first, last);
+        return fork_parted(alloc, outer, inner, right);
     }
-    let last = fork(alloc, Arc::try_clone(inner)?, Arc::try_clone(right)?)?;
-    fork(alloc, Arc::try_clone(outer)?, last)
+    fork_behind(alloc, outer, fork_over(alloc, inner, right)?)
 }
 
 // Two sides of which the right one is too high.
@@ -376,21 +507,33 @@ fn lean_right<X: Drop>(
         ..
     } = &right.node
     else {
-        return fork(alloc, Arc::try_clone(left)?, Arc::try_clone(right)?);
+        return fork_over(alloc, left, right);
     };
     if outer.height() < inner.height() {
-        let Node::Fork {
-            left: front,
-            right: back,
-            ..
-        } = &inner.node
-        else {
-            return fork(alloc, Arc::try_clone(left)?, Arc::try_clone(right)?);
-        };
-        let first = fork(alloc, Arc::try_clone(left)?, Arc::try_clone(front)?)?;
-        let last = fork(alloc, Arc::try_clone(back)?, Arc::try_clone(outer)?)?;
-        return fork(alloc, first, last);
+        return fork_parted(alloc, left, inner, outer);
     }
-    let first = fork(alloc, Arc::try_clone(left)?, Arc::try_clone(inner)?)?;
-    fork(alloc, first, Arc::try_clone(outer)?)
+    fork_before(alloc, fork_over(alloc, left, inner)?, outer)
+}
+
+// A node over three, of which the middle one is parted between the other two.
+fn fork_parted<X: Drop>(
+    alloc: Global,
+    first: &Shared<X>,
+    middle: &Shared<X>,
+    last: &Shared<X>,
+) -> Result<Shared<X>, NoMemory>
+    ensures { IfOk result (λ t. (arc_value t).0
+        ≡ (arc_value first.now).0 ++ ((arc_value middle.now).0 ++ (arc_value last.now).0)) }
+{
+    let Node::Fork {
+        left: front,
+        right: back,
+        ..
+    } = &middle.node
+    else {
+        return fork_behind(alloc, first, fork_over(alloc, middle, last)?);
+    };
+    let left = fork_over(alloc, first, front)?;
+    let right = fork_over(alloc, back, last)?;
+    fork(alloc, left, right)
 }

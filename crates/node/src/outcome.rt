@@ -61,7 +61,7 @@ pub enum Outcome {
 }
 
 /// Why a node did not do a call.
-#[derive(Debug, Drop)]
+#[derive(Drop)]
 pub enum NodeFault {
     /// The history has as many entries as it may have.
     HistoryFull,

@@ -18,10 +18,10 @@ use Rattle.row_parts.specs.Contents.{Contents, IsRow, IsId, IsDelivery, delivery
 use Rattle.row_parts.specs.Orders.{timer_cmp-total, delivery_cmp-total}
 use Rattle.row_parts.specs.Spelling.{spelling_of, state_spelling, timer_spelling, delivery_spelling, id_spelling, list_spelling, IsSpelledState, IsSpelledRow, DeliveryFits}
 use Rattle.row_parts.specs.Reading.{◌>>=◌, keep, number_at, state_at, ascending_at, timer_at, delivery_at, id_at}
-use Rattle.row_parts.proofs.Codec.{IsBytes, some_is, Reads, as_read, nothing_at, nothing_reads, pair_at, pair_reads, made_reads, more, ascending_reads}
+use Rattle.row_parts.proofs.Codec.{IsBytes, some_is, Reads, as_read, nothing_at, nothing_reads, pair_at, pair_reads, made_reads, more, bind_assoc, ascending_reads}
 use Rattle.row_parts.proofs.PartLaws.{u64_reads, timer_reads, delivery_reads, id_reads, at_most, below, both}
 use Rattle.row_parts.proofs.StateLaws.{state_reads, weaker, twice, whole_takes, whole_again}
-use Rattle.record_codec.specs.Reading.{kept_from, fields_at, row_at, whole_row}
+use Rattle.record_codec.specs.Reading.{kept_from, lists_at, fields_at, row_at, whole_row}
 
 -- ---- the fields
 
@@ -91,15 +91,26 @@ after_last = pair_at (number_at w64) after_floor
 abbrev made : Fields → List ℕ → Option (Contents × List ℕ)
 made p rest = keep (row_test p) (row_from p, rest)
 
+-- the lists, as they are read before what follows them
+abbrev lists_from : List Timer × (List Delivery × (List RecordId × ⊤)) → List ℕ → Option ((List Timer × (List Delivery × List RecordId)) × List ℕ)
+lists_from p rest = Some ((p.0, (p.1.0, p.1.1.0)), rest)
+
+lists_is : (bytes : List ℕ) → lists_at bytes ≡ (after_state bytes >>= λ p. lists_from p.0 p.1)
+unfolding lists_at
+lists_is bytes =
+    more (ascending_at timer_cmp timer_at) after_timers bytes lists_from _ (λ a.
+    more (ascending_at delivery_cmp delivery_at) after_pending a.1 (λ p rest. lists_from (a.0, p) rest) _ (λ b.
+    more (ascending_at id_cmp id_at) nothing_at b.1 (λ p rest. lists_from (a.0, (b.0, p)) rest) _ (λ c. refl)))
+
 fields_is : (bytes : List ℕ) → fields_at bytes ≡ (pair_at (number_at w64) after_last bytes >>= λ p. keep (row_test p.0) (row_from p.0, p.1))
 unfolding fields_at
 fields_is bytes =
     more (number_at w64) after_last bytes made _ (λ a.
     more (number_at w64) after_floor a.1 (λ p rest. made (a.0, p) rest) _ (λ b.
     more state_at after_state b.1 (λ p rest. made (a.0, (b.0, p)) rest) _ (λ c.
-    more (ascending_at timer_cmp timer_at) after_timers c.1 (λ p rest. made (a.0, (b.0, (c.0, p))) rest) _ (λ d.
-    more (ascending_at delivery_cmp delivery_at) after_pending d.1 (λ p rest. made (a.0, (b.0, (c.0, (d.0, p)))) rest) _ (λ e.
-    more (ascending_at id_cmp id_at) nothing_at e.1 (λ p rest. made (a.0, (b.0, (c.0, (d.0, (e.0, p))))) rest) _ (λ f. refl))))))
+    let rest : (List Timer × (List Delivery × List RecordId)) × List ℕ → Option (Contents × List ℕ) =
+    λ l. made (a.0, (b.0, (c.0, (l.0.0, (l.0.1.0, (l.0.1.1, tt)))))) l.1 in
+    ap (λ lists. lists >>= rest) (lists_is c.1) ∙ bind_assoc (after_state c.1) (λ p. lists_from p.0 p.1) rest)))
 
 abbrev Fit : Fields → Type 0
 Fit p = (p.0 < 2 ^ 64) × ((p.1.0 < 2 ^ 64) × (IsSpelledState p.1.1.0 × (ReadTimers p.1.1.1.0 × (ReadPending p.1.1.1.1.0 × (ReadSeen p.1.1.1.1.1.0 × ⊤)))))
@@ -162,11 +173,13 @@ pub fields_row : (bytes rest : List ℕ) (row : Contents) → IsBytes bytes → 
 fields_row bytes rest row are e = (fields_reads.takes bytes (row, rest) are e).2.is_row
 
 -- fields that are read one after the other
-pub fields_read : (bytes r1 r2 r3 r4 r5 r6 : List ℕ) (row : Contents) → number_at w64 bytes ≡ Some (row.last, r1) → number_at w64 r1 ≡ Some (row.floor, r2) → state_at r2 ≡ Some (row.state, r3)
-    → ascending_at timer_cmp timer_at r3 ≡ Some (row.timers, r4) → ascending_at delivery_cmp delivery_at r4 ≡ Some (row.pending, r5) → ascending_at id_cmp id_at r5 ≡ Some (row.seen, r6)
-    → row.last < 2 ^ 32 → row.floor ≤ 2 ^ 32 → kept_from row.floor row.seen ≡ true → fields_at bytes ≡ Some (row, r6)
+pub fields_read : (bytes r1 r2 r3 r4 : List ℕ) (row : Contents) → number_at w64 bytes ≡ Some (row.last, r1)
+    → number_at w64 r1 ≡ Some (row.floor, r2) → state_at r2 ≡ Some (row.state, r3)
+    → lists_at r3 ≡ Some ((row.timers, (row.pending, row.seen)), r4)
+    → row.last < 2 ^ 32 → row.floor ≤ 2 ^ 32 → kept_from row.floor row.seen ≡ true → fields_at bytes ≡ Some (row, r4)
 unfolding fields_at
-fields_read bytes r1 r2 r3 r4 r5 r6 row e1 e2 e3 e4 e5 e6 last floor kept = rw (e1, e2, e3, e4, e5, e6, lt-ltb row.last (2 ^ 32) last, le-leb row.floor (2 ^ 32) floor, kept) refl
+fields_read bytes r1 r2 r3 r4 row e1 e2 e3 e4 last floor kept =
+    rw (e1, e2, e3, e4, lt-ltb row.last (2 ^ 32) last, le-leb row.floor (2 ^ 32) floor, kept) refl
 
 -- ---- rows
 

@@ -1,7 +1,9 @@
 -- Reading a row from left to right. No public clause cites this module.
-use Rattle.std.specs.Prelude.{ℕ, zero, suc, List, [], ◌∷◌, length, Option, None, Bool, ◌&&◌, ◌==◌, nat_lt, nat_le, ◌^◌}
+use Rattle.std.specs.Prelude.{ℕ, zero, suc, List, [], ◌∷◌, length, Option, Some, None, Bool, ◌&&◌, ◌==◌, nat_lt, nat_le, ◌^◌}
 use Rattle.std.specs.List.{list_all}
 use Rattle.std.specs.Int.{w64}
+use Rattle.mw_types.specs.declared.timer.Timer.{Timer}
+use Rattle.mw_types.specs.declared.delivery.Delivery.{Delivery}
 use Rattle.mw_types.specs.declared.identity.RecordId.{RecordId}
 use Rattle.mw_types.specs.Orders.{id_cmp, timer_cmp}
 use Rattle.row_parts.specs.Contents.{Contents, delivery_cmp}
@@ -11,17 +13,32 @@ use Rattle.row_parts.specs.Reading.{◌>>=◌, keep, number_at, state_at, ascend
 abbrev pub kept_from : ℕ → List RecordId → Bool
 kept_from floor = list_all (λ (id : RecordId). nat_le floor id.commit)
 
+-- the lists of a row: its timers, what is pending, and the ids that it handled
+unfoldable pub lists_at : List ℕ → Option ((List Timer × (List Delivery × List RecordId)) × List ℕ)
+lists_at bytes = do
+  timers ← ascending_at timer_cmp timer_at bytes
+  pending ← ascending_at delivery_cmp delivery_at timers.1
+  seen ← ascending_at id_cmp id_at pending.1
+  Some ((timers.0, (pending.0, seen.0)), seen.1)
+
 -- what follows the version
 unfoldable pub fields_at : List ℕ → Option (Contents × List ℕ)
 fields_at bytes = do
   last ← number_at w64 bytes
   floor ← number_at w64 last.1
   state ← state_at floor.1
-  timers ← ascending_at timer_cmp timer_at state.1
-  pending ← ascending_at delivery_cmp delivery_at timers.1
-  seen ← ascending_at id_cmp id_at pending.1
-  keep (nat_lt last.0 (2 ^ 32) && nat_le floor.0 (2 ^ 32) && kept_from floor.0 seen.0)
-      (record { state = state.0; timers = timers.0; pending = pending.0; seen = seen.0; floor = floor.0; last = last.0 }, seen.1)
+  lists ← lists_at state.1
+  keep (nat_lt last.0 (2 ^ 32) && nat_le floor.0 (2 ^ 32) && kept_from floor.0 lists.0.1.1) (
+    record {
+      state = state.0;
+      timers = lists.0.0;
+      pending = lists.0.1.0;
+      seen = lists.0.1.1;
+      floor = floor.0;
+      last = last.0;
+    },
+    lists.1,
+  )
 
 -- a row
 unfoldable pub row_at : List ℕ → Option (Contents × List ℕ)

@@ -4,10 +4,10 @@ ghost use Rattle.std.specs.List.{list_all};
 ghost use Rattle.row_parts.specs.Contents.{Contents};
 ghost use Rattle.row_parts.specs.Spelling.{spelling_of, IsSpelledRow};
 ghost use Rattle.row_parts.specs.Reading.{Gives};
-ghost use Rattle.record_codec.specs.Reading.{kept_from, fields_at, row_at, whole_row};
+ghost use Rattle.record_codec.specs.Reading.{kept_from, lists_at, fields_at, row_at, whole_row};
 
 use crate::refusal::RowRefusal;
-use mw_types::{Delivery, RecordId, Timer};
+use mw_types::{Delivery, DeliveryList, IdList, RecordId, Timer, TimerList};
 use row_parts::{Row, Spelled, StateRefusal, take_ascending, take_state};
 use std::alloc::Global;
 
@@ -21,6 +21,20 @@ fn is_kept_from(floor: u64, ids: &[RecordId]) -> bool
     ids.iter().all(|id| id.commit >= floor)
 }
 
+// A row's timers, what is pending, and the ids that it handled.
+type Lists = (TimerList, (DeliveryList, IdList));
+
+// Reads the lists of a row.
+#[tactic(auto, unfolding(crate::specs::Reading::lists_at))]
+fn take_lists(alloc: Global, bytes: &[u8]) -> Result<(Lists, &[u8]), StateRefusal>
+    ensures { Gives (λ x. (x.0, x.1.now)) result (lists_at bytes.now) }
+{
+    let (timers, rest) = take_ascending::<Timer>(alloc, bytes)?;
+    let (pending, rest) = take_ascending::<Delivery>(alloc, rest)?;
+    let (seen, rest) = take_ascending::<RecordId>(alloc, rest)?;
+    Ok(((timers, (pending, seen)), rest))
+}
+
 // Reads what follows a row's version.
 #[tactic(auto, unfolding(crate::specs::Reading::fields_at))]
 fn take_fields(alloc: Global, bytes: &[u8]) -> Result<(Row, &[u8]), StateRefusal>
@@ -29,9 +43,7 @@ fn take_fields(alloc: Global, bytes: &[u8]) -> Result<(Row, &[u8]), StateRefusal
     let (last, rest) = u64::take(alloc, bytes)?;
     let (floor, rest) = u64::take(alloc, rest)?;
     let (state, rest) = take_state(alloc, rest)?;
-    let (timers, rest) = take_ascending::<Timer>(alloc, rest)?;
-    let (pending, rest) = take_ascending::<Delivery>(alloc, rest)?;
-    let (seen, rest) = take_ascending::<RecordId>(alloc, rest)?;
+    let ((timers, (pending, seen)), rest) = take_lists(alloc, rest)?;
     if last < ENTRIES && floor <= ENTRIES && is_kept_from(floor, seen.as_slice()) {
         let row = Row {
             state,

@@ -1,5 +1,5 @@
 //! Writing a row.
-ghost use Rattle.std.specs.Prelude.{◌≡◌, IfOk, OnOk};
+ghost use Rattle.std.specs.Prelude.{◌≡◌, [], IfOk, OnOk};
 ghost use Rattle.row_parts.specs.Spelling.{spelling_of, IsSpelledRow};
 
 use mw_types::{Bytes, NoMemory};
@@ -33,15 +33,25 @@ pub fn encode_over(buffer: Vec<u8>, row: &Row) -> Result<Bytes, NoMemory>
 {
     let mut out = buffer;
     out.clear();
+    put_row(&mut out, row)?;
+    Ok(Bytes::from_vec(out))
+}
+
+// Writes the bytes of a row where nothing is written.
+fn put_row(out: &mut Vec<u8>, row: &Row) -> Result<(), NoMemory>
+    requires { out.old.items ≡ [] }
+    ensures spelled { OnOk result (out.new.items ≡ spelling_of row.now) }
+    ensures own { OnOk result (IsSpelledRow row.now) }
+{
     out.reserve(room_of(row))?;
     out.push(VERSION)?;
-    row.last.put(&mut out)?;
-    row.floor.put(&mut out)?;
-    put_state(&mut out, &row.state)?;
-    put_in_fours(&mut out, row.timers.as_slice())?;
-    put_list(&mut out, row.pending.as_slice())?;
-    put_in_fours(&mut out, row.seen.as_slice())?;
-    Ok(Bytes::from_vec(out))
+    row.last.put(out)?;
+    row.floor.put(out)?;
+    put_state(out, &row.state)?;
+    put_in_fours(out, row.timers.as_slice())?;
+    put_list(out, row.pending.as_slice())?;
+    put_in_fours(out, row.seen.as_slice())?;
+    Ok(())
 }
 
 // Room for a row: its timers, and the ids that it has seen, are the longest of its lists.

@@ -11,7 +11,7 @@ use std::alloc::Global;
 use std::marker::Model;
 
 /// A keeper that says that it is empty, and yet has a row in each interval that covers it.
-#[derive(Debug, Drop)]
+#[derive(Drop)]
 pub struct BlindKeeper {
     row: KeptRow,
 }

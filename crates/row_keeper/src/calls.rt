@@ -6,7 +6,7 @@ use crate::keeper::KeeperFault;
 use mw_types::CallList;
 
 /// How many calls there were, which of them fail, and how many failed.
-#[derive(Debug, Drop)]
+#[derive(Drop)]
 pub(crate) struct Calls {
     pub(crate) failing: CallList,
     pub(crate) count: u64,

@@ -29,7 +29,7 @@ impl From<NoMemory> for KeeperFault {
 }
 
 /// A row that a keeper holds.
-#[derive(Debug, Drop, PartialEq, Eq)]
+#[derive(Drop, PartialEq, Eq)]
 pub struct KeptRow {
     /// The row's name.
     pub name: RowName,

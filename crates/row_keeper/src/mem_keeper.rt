@@ -1,5 +1,5 @@
 //! A keeper in memory, whose rows a contract can see, and which fails at named calls.
-ghost use Rattle.std.specs.Prelude.{◌≡◌, [], All, map, slice_get, option_map, true, IfOk, OnErr, OnOk};
+ghost use Rattle.std.specs.Prelude.{◌≡◌, ◌++◌, ◌∷◌, [], All, map, slice_get, option_map, true, IfOk, OnErr, OnOk};
 ghost use Rattle.mw_types.specs.Orders.{row_cmp};
 ghost use Rattle.row_keeper.specs.Rows.{AreInOrder, entry_of, with_row};
 ghost use Rattle.key_intervals.specs.Intervals.{covers, rows_covered};
@@ -68,7 +68,7 @@ impl MemKeeper {
     {
         let mut found = KeptRowList::new(alloc);
         for (name, bytes) in &self.rows {
-            found.push(copied(alloc, name, bytes)?)?;
+            push_copied(alloc, &mut found, name, bytes)?;
         }
         Ok(found)
     }
@@ -132,6 +132,19 @@ fn copied(alloc: Global, name: &RowName, bytes: &Bytes) -> Result<KeptRow, NoMem
     })
 }
 
+// Appends a row that is held, again.
+fn push_copied(
+    alloc: Global,
+    found: &mut KeptRowList,
+    name: &RowName,
+    bytes: &Bytes,
+) -> Result<(), NoMemory>
+    ensures { OnOk result (map entry_of found.new
+        ≡ map entry_of found.old ++ (name.now, bytes.now) ∷ []) }
+{
+    found.push(copied(alloc, name, bytes)?)
+}
+
 // Holds these bytes under this name, and answers what was held under it before.
 fn hold(
     alloc: Global,
@@ -185,7 +198,7 @@ fn found_within(alloc: Global, rows: &RowMap, bounds: &Bounds) -> Result<KeptRow
         if !bounds.covers(name) {
             return Ok(found);
         }
-        found.push(copied(alloc, name, bytes)?)?;
+        push_copied(alloc, &mut found, name, bytes)?;
     }
     Ok(found)
 }

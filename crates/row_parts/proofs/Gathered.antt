@@ -8,25 +8,6 @@ use Rattle.std.specs.List.{flat_map}
 use Rattle.std.specs.Int.{w32, to_be_bytes}
 use Rattle.row_parts.specs.Spelling.{list_spelling}
 
--- what a function says of 0, of 1, and so on
-unfoldable pub said : (ℕ → ℕ) → ℕ → List ℕ
-said f zero = []
-said f (suc n) = f 0 ∷ said (λ (i : ℕ). f (suc i)) n
-
--- a list is what its elements are by their indexes
-pub by_index : (n : ℕ) (l : List ℕ) → length l ≡ n → said (λ (i : ℕ). slice_index_or l i 0) n ≡ l
-unfolding said
-by_index zero [] is = refl
-by_index (suc n) (x ∷ l) is = ap (λ (rest : List ℕ). x ∷ rest) (by_index n l (omega (arith, is)))
-by_index zero (x ∷ l) is = absurd (omega (arith, is))
-by_index (suc n) [] is = absurd (omega (arith, is))
-
--- four lists that are as long
-pub four : (n : ℕ) (a b c d : List ℕ) → length a ≡ n → length b ≡ n → length c ≡ n → length d ≡ n
-    → said (λ (i : ℕ). slice_index_or a i 0) n ++ (said (λ (i : ℕ). slice_index_or b i 0) n
-    ++ (said (λ (i : ℕ). slice_index_or c i 0) n ++ said (λ (i : ℕ). slice_index_or d i 0) n)) ≡ a ++ (b ++ (c ++ d))
-four n a b c d la lb lc ld = rw (by_index n a la, by_index n b lb, by_index n c lc, by_index n d ld) refl
-
 -- ---- the elements of a list, four at once
 
 -- the first four, and what is after them
@@ -67,6 +48,7 @@ are_typed typed a b c d ta tb tc td = All-cons typed a (b ∷ c ∷ d ∷ []) ta
     (All-cons typed c (d ∷ []) tc (All-cons typed d [] td (All-nil typed))))
 
 -- the bytes of four, one after another
-pub gathered : {X : Type 0} (spelling : X → List ℕ) (x y z w : X) (a b c d all : List ℕ) → all ≡ a ++ (b ++ (c ++ d))
-    → a ≡ spelling x → b ≡ spelling y → c ≡ spelling z → d ≡ spelling w → all ≡ flat_map spelling (x ∷ y ∷ z ∷ w ∷ [])
-gathered spelling x y z w a b c d all is ia ib ic id = rw (is, ia, ib, ic, id, append-nil (spelling w)) refl
+pub gathered : {X : Type 0} (spelling : X → List ℕ) (x y z w : X) (a b c d : List ℕ)
+    → a ≡ spelling x → b ≡ spelling y → c ≡ spelling z → d ≡ spelling w
+    → flat_map (λ (l : List ℕ). l) (a ∷ b ∷ c ∷ d ∷ []) ≡ flat_map spelling (x ∷ y ∷ z ∷ w ∷ [])
+gathered spelling x y z w a b c d ia ib ic id = rw (ia, ib, ic, id) refl

@@ -20,8 +20,8 @@ use Rattle.mw_types.specs.declared.record.Record.{Record}
 use Rattle.mw_types.specs.declared.delivery.Delivery.{Delivery}
 use Rattle.row_parts.specs.Contents.{IsId, IsKey, IsDelivery}
 use Rattle.row_parts.specs.Spelling.{signed_spelling, flag_spelling, key_spelling, id_spelling, window_spelling, held_spelling, timer_spelling, name_spelling, record_spelling, delivery_spelling, DeliveryFits}
-use Rattle.row_parts.specs.Reading.{keep, number_at, signed_at, flag_at, key_at, id_at, window_at, held_at, timer_at, name_at, record_at, delivery_at}
-use Rattle.row_parts.proofs.Codec.{IsBytes, IsBytes-drop, bind_some, keep_some, some_is, Reads, as_read, wide16, wide32, wide64, number_reads, nothing_at, nothing_reads, pair_at, pair_reads, made_reads, more}
+use Rattle.row_parts.specs.Reading.{keep, number_at, signed_at, flag_at, key_at, id_at, window_at, held_at, timer_at, name_at, after_key_at, record_at, delivery_at, ◌>>=◌}
+use Rattle.row_parts.proofs.Codec.{IsBytes, IsBytes-drop, bind_some, bind_assoc, bind_same, keep_some, some_is, Reads, as_read, wide16, wide32, wide64, number_reads, nothing_at, nothing_reads, pair_at, pair_reads, made_reads, more}
 
 pub u16_reads : Reads (to_be_bytes w16) (λ n. n < 2 ^ 16) (number_at w16)
 u16_reads = number_reads w16 (2 ^ 16) wide16
@@ -209,6 +209,24 @@ name_reads =
     (made_reads (pair_at (number_at w32) tail) (λ p. true) (λ p. ⊤) always to from (λ name. refl) (λ p. refl)
     (pair_reads (number_at w32) tail u32_reads (pair_reads key_at nothing_at key_reads nothing_reads)))
 
+abbrev after_key : List ℕ → Option ((ℕ × (ℤ × (Bool × ⊤))) × List ℕ)
+after_key = pair_at (number_at w64) (pair_at signed_at (pair_at flag_at nothing_at))
+
+abbrev tested_stamp : ℕ × (ℤ × (Bool × ⊤)) → List ℕ → Option ((ℕ × (ℤ × Bool)) × List ℕ)
+tested_stamp p rest = keep (nat_le p.0 MAX_STAMP) ((p.0, (p.1.0, p.1.1.0)), rest)
+
+after_key_is : (bytes : List ℕ) → after_key_at bytes ≡ (after_key bytes >>= λ p. tested_stamp p.0 p.1)
+unfolding after_key_at
+after_key_is bytes =
+    let third = pair_at flag_at nothing_at in
+    more (number_at w64) (pair_at signed_at third) bytes tested_stamp _ (λ a.
+    more signed_at third a.1 (λ p rest. tested_stamp (a.0, p) rest) _ (λ b.
+    more flag_at nothing_at b.1 (λ p rest. tested_stamp (a.0, (b.0, p)) rest) _ (λ c. refl)))
+
+keep_then : {A B : Type 0} (test : Bool) (x : A) (f : A → B) → (keep test x >>= λ y. Some (f y)) ≡ keep test (f x)
+keep_then true x f = refl
+keep_then false x f = refl
+
 record_reads : Reads record_spelling (λ r. IsKey r.key × (r.stamp ≤ MAX_STAMP) × FitsSigned w64 r.value) record_at
 unfolding record_at
 record_reads =
@@ -220,9 +238,12 @@ record_reads =
     let second = pair_at signed_at third in
     let first = pair_at (number_at w64) second in
     as_read record_at
-    (λ bytes. more key_at first bytes k _ (λ a. more (number_at w64) second a.1 (λ p rest. k (a.0, p) rest) _
-    (λ b. more signed_at third b.1 (λ p rest. k (a.0, (b.0, p)) rest) _
-    (λ c. more flag_at nothing_at c.1 (λ p rest. k (a.0, (b.0, (c.0, p))) rest) _ (λ d. refl)))))
+    (λ bytes. more key_at first bytes k _ (λ a.
+    let made : (ℕ × (ℤ × Bool)) × List ℕ → Record × List ℕ =
+    λ rest. (record { key = a.0; stamp = rest.0.0; value = rest.0.1.0; late = rest.0.1.1 }, rest.1) in
+    ap (λ o. o >>= λ rest. Some (made rest)) (after_key_is a.1)
+    ∙ bind_assoc (after_key a.1) (λ p. tested_stamp p.0 p.1) (λ rest. Some (made rest))
+    ∙ bind_same (after_key a.1) _ _ (λ p. keep_then (nat_le p.0.0 MAX_STAMP) ((p.0.0, (p.0.1.0, p.0.1.1.0)), p.1) made)))
     (λ r. refl) (λ r f. ((f.0, (omega (arith, f.1), (f.2, (tt, tt)))), f.1)) (λ r f. (f.0.0, f.1, f.0.1.1.0))
     (made_reads (pair_at key_at first) test (λ p. p.1.0 ≤ MAX_STAMP) (λ p. at_most p.1.0 MAX_STAMP) to from (λ r. refl) (λ p. refl)
     (pair_reads key_at first key_reads (pair_reads (number_at w64) second u64_reads

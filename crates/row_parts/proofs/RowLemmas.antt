@@ -1,7 +1,8 @@
 -- What a row stays under each change of its lists.
-use Rattle.std.proofs.Common.{◌≡◌, ℕ, List, [], ◌∷◌, ◌++◌, length, get_or, set, ◌+◌, ◌<◌, ◌≤◌, ◌^◌, Bool, true, false, refl, sym, ap, subst, ◌∙◌, arith}
-use Rattle.std.specs.Prelude.{All, filter, insert, remove, not, nat_le, Result, Ok, Err, is_ok}
+use Rattle.std.proofs.Common.{◌≡◌, ℕ, List, [], ◌∷◌, ◌++◌, length, get_or, set, ◌+◌, ◌<◌, ◌≤◌, ◌^◌, Bool, true, false, ◌||◌, Some, refl, sym, ap, subst, ◌∙◌, arith}
+use Rattle.std.specs.Prelude.{All, if◌then◌else◌, filter, insert, remove, not, nat_le, Result, Ok, Err, is_ok}
 use Rattle.std.specs.List.{list_any}
+use Rattle.std.specs.Option.{is_some}
 use Rattle.std.specs.List.Sorted.{IsStrictlySortedBy}
 use Rattle.std.specs.declared.cmp.Ordering.TheVariants.{Less}
 use Rattle.std.proofs.lemmas.Bool.{leb-true}
@@ -18,7 +19,7 @@ use Rattle.mw_types.specs.declared.delivery.Delivery.{Delivery}
 use Rattle.mw_types.specs.Bounds.{IsWithin}
 use Rattle.mw_types.specs.Orders.{id_cmp, timer_cmp}
 use Rattle.mw_types.proofs.OrderLaws.{id_cmp-total}
-use Rattle.row_parts.specs.Contents.{fresh, IsRow, AreTimers, AreSeen, ArePending, IsId, IsDelivery, set_again, with_timer, without_timer, is_timer, with_id, same_id, ids_from, delivery_cmp, without_delivery}
+use Rattle.row_parts.specs.Contents.{fresh, IsRow, AreTimers, AreSeen, ArePending, IsId, IsDelivery, set_again, with_timer, without_timer, is_timer, with_id, same_id, ids_from, delivery_cmp, without_delivery, found_delivery}
 use Rattle.row_parts.specs.Places.{IsHit, IsGap, timer_rank, id_rank, delivery_rank, IsHitOrGap}
 use Rattle.row_parts.proofs.PlaceLemmas.{put_in-hit, put_in-gap, sorted-put_in, All-put_in, sorted-push, filter-hit, filter-gap}
 use Rattle.row_parts.specs.Orders.{timer_cmp-total}
@@ -183,3 +184,23 @@ delivery_kept id ds slice at same gap =
     let test : Delivery → Bool = λ x. same_id x.id id in
     let both = filter-gap (delivery_rank id) test (delivery-rank id) ds at (subst (λ l. IsGap (delivery_rank id) l at) same gap) in
     (sym both.1, sym both.0)
+
+-- one is found where it is there
+pub found_delivery-any : (id : RecordId) (ds : List Delivery)
+    → is_some (found_delivery id ds) ≡ list_any (λ (d : Delivery). same_id d.id id) ds
+found_delivery-any id [] = refl
+found_delivery-any id (d ∷ ds) = elim (same_id d.id id) as (λ b. is_some (if b then Some d else found_delivery id ds)
+    ≡ (b || list_any (λ (e : Delivery). same_id e.id id) ds)) [ true ↦ refl | false ↦ found_delivery-any id ds ]
+
+-- whether a delivery is there
+pub has_delivery : (id : RecordId) (ds : List Delivery) (found : Result ℕ ℕ) → IsHitOrGap (delivery_rank id) ds found
+    → is_ok found ≡ is_some (found_delivery id ds)
+has_delivery id ds found at = any id ds found at ∙ sym (found_delivery-any id ds)
+  where
+    any : (id : RecordId) (ds : List Delivery) (found : Result ℕ ℕ) → IsHitOrGap (delivery_rank id) ds found
+        → is_ok found ≡ list_any (λ (d : Delivery). same_id d.id id) ds
+    any id [] (Ok at) hit = absurd (omega (arith, hit.within))
+    any id (d ∷ ds) (Ok at) hit = sym
+        (filter-hit (delivery_rank id) (λ (x : Delivery). same_id x.id id) (delivery-rank id) (d ∷ ds) at d hit).1
+    any id ds (Err at) gap = sym
+        (filter-gap (delivery_rank id) (λ (x : Delivery). same_id x.id id) (delivery-rank id) ds at gap).1

@@ -1,6 +1,6 @@
 -- What a row is, and what happens to its lists.
 -- Own; timers and their lateness after Akidau et al., VLDB 2013, section 4.6, finished ids after section 6.1.
-use Rattle.std.specs.Prelude.{ℕ, List, [], ◌∷◌, length, filter, All, Bool, not, ◌&&◌, ◌||◌, ◌==◌, nat_lt, nat_le, ◌<◌, ◌≤◌, ◌^◌}
+use Rattle.std.specs.Prelude.{ℕ, List, [], ◌∷◌, length, filter, find, Option, All, Bool, not, ◌&&◌, ◌||◌, ◌==◌, nat_lt, nat_le, ◌<◌, ◌≤◌, ◌^◌}
 use Rattle.std.specs.List.{list_any}
 use Rattle.std.specs.declared.cmp.Ordering.{Ordering}
 use Rattle.std.specs.Ordering.{match_ordering}
@@ -8,6 +8,7 @@ use Rattle.std.specs.Str.{IsUtf8}
 use Rattle.std.specs.List.Sorted.{IsStrictlySortedBy}
 use Rattle.mw_types.specs.declared.TheConstants.{MAX_STAMP}
 use Rattle.mw_types.specs.declared.state.State.{State}
+use Rattle.mw_types.specs.declared.state.State.TheVariants as states
 use Rattle.mw_types.specs.declared.timer.Timer.{Timer}
 use Rattle.mw_types.specs.declared.delivery.Delivery.{Delivery}
 use Rattle.mw_types.specs.declared.identity.RecordId.{RecordId}
@@ -27,6 +28,11 @@ pub record Contents : Type 0 where
 -- a row that nothing has written yet
 abbrev pub fresh : State → Contents
 fresh state = record { state = state; timers = []; pending = []; seen = []; floor = 0; last = 0 }
+
+-- how many lines a state says were injected
+abbrev pub cursor_in : State → ℕ
+cursor_in (states.Injector cursor) = cursor
+cursor_in _ = 0
 
 -- ---- what happens to the lists
 
@@ -58,6 +64,10 @@ with_id = put_in id_cmp (λ new old. old)
 -- whether two ids are the same
 abbrev pub same_id : RecordId → RecordId → Bool
 same_id a b = (a.commit == b.commit) && (a.index == b.index)
+
+-- the delivery of this id
+abbrev pub found_delivery : RecordId → List Delivery → Option Delivery
+found_delivery id = find (λ (d : Delivery). same_id d.id id)
 
 -- the deliveries but for the one of this id
 abbrev pub without_delivery : RecordId → List Delivery → List Delivery

@@ -127,14 +127,20 @@ name_at bytes = do
   key ← key_at part.1
   Some (record { part = part.0; key = key.0 }, key.1)
 
+-- what follows the key of a record: its stamp, its value, and whether it is late
+unfoldable pub after_key_at : List ℕ → Option ((ℕ × (ℤ × Bool)) × List ℕ)
+after_key_at bytes = do
+  stamp ← number_at w64 bytes
+  value ← signed_at stamp.1
+  late ← flag_at value.1
+  keep (nat_le stamp.0 MAX_STAMP) ((stamp.0, (value.0, late.0)), late.1)
+
 -- a record
 unfoldable pub record_at : List ℕ → Option (Record × List ℕ)
 record_at bytes = do
   key ← key_at bytes
-  stamp ← number_at w64 key.1
-  value ← signed_at stamp.1
-  late ← flag_at value.1
-  keep (nat_le stamp.0 MAX_STAMP) (record { key = key.0; stamp = stamp.0; value = value.0; late = late.0 }, late.1)
+  rest ← after_key_at key.1
+  Some (record { key = key.0; stamp = rest.0.0; value = rest.0.1.0; late = rest.0.1.1 }, rest.1)
 
 -- a delivery
 unfoldable pub delivery_at : List ℕ → Option (Delivery × List ℕ)

@@ -1,8 +1,10 @@
 //! The deliveries that a row waits for: adding one and settling one.
 ghost use Rattle.std.specs.Prelude.{◌≡◌, ◌≤◌, ◌++◌, ◌∷◌, [], All, OnOk, OnErr};
 ghost use Rattle.std.specs.List.{list_any};
+ghost use Rattle.std.specs.List.Sorted.{IsStrictlySortedBy};
+ghost use Rattle.std.specs.Option.{is_some};
 ghost use Rattle.std.specs.declared.cmp.Ordering.TheVariants.{Less};
-ghost use Rattle.row_parts.specs.Contents.{ArePending, IsId, IsKey, delivery_cmp, same_id, without_delivery};
+ghost use Rattle.row_parts.specs.Contents.{ArePending, IsId, IsKey, delivery_cmp, found_delivery, same_id, without_delivery};
 
 use crate::places::{delivery_place, room};
 use mw_types::{Delivery, DeliveryList, Key, MAX_STAMP, NoMemory, RecordId};
@@ -21,6 +23,14 @@ fn has_keys(delivery: &Delivery)
 {
     is_key(&delivery.to.key);
     is_key(&delivery.item.key);
+}
+
+/// Whether a delivery of this id is among these, which stand in order.
+pub fn has_delivery(deliveries: &[Delivery], id: RecordId) -> bool
+    requires { IsStrictlySortedBy delivery_cmp deliveries.now }
+    ensures { result ≡ is_some (found_delivery id deliveries.now) }
+{
+    delivery_place(deliveries, id).is_ok()
 }
 
 /// Appends a delivery whose id is above all of these. Refuses where memory ran out, or

@@ -5,14 +5,12 @@ ghost use Rattle.std.specs.Int.{w64, to_be_bytes};
 ghost use Rattle.mw_types.specs.Orders.{id_cmp, timer_cmp};
 ghost use Rattle.row_parts.specs.Contents.{delivery_cmp};
 ghost use Rattle.row_parts.specs.Spelling.{key_spelling, id_spelling, window_spelling, held_spelling, timer_spelling, name_spelling, record_spelling, delivery_spelling, signed_spelling, flag_spelling, DeliveryFits};
-ghost use Rattle.row_parts.specs.Reading.{Gives, key_at, id_at, window_at, held_at, timer_at, name_at, record_at, delivery_at};
+ghost use Rattle.row_parts.specs.Reading.{Gives, key_at, id_at, window_at, held_at, timer_at, name_at, after_key_at, record_at, delivery_at};
 
 use crate::lists::{InFours, Ranked};
 use crate::refusal::StateRefusal;
 use crate::spelled::Spelled;
-use crate::words::{
-    four_of_12, four_of_16, four_of_17, two_words, two_words_and_flag, word_and_half,
-};
+use crate::words::{two_words, two_words_and_flag, word_and_half};
 use mw_types::{
     Delivery, HeldTotal, Key, KeyRefusal, MAX_STAMP, NoMemory, Record, RecordId, RowName, Timer,
     Window,
@@ -102,12 +100,13 @@ impl InFours for RecordId {
         fourth: &RecordId,
         out: &mut Vec<u8>,
     ) -> Result<(), NoMemory> {
-        out.extend_from_slice(&four_of_12(
+        let four = [
             id_bytes(*self),
             id_bytes(*second),
             id_bytes(*third),
             id_bytes(*fourth),
-        ))?;
+        ];
+        out.extend_from_slice(four.as_flattened())?;
         Ok(())
     }
 }
@@ -163,12 +162,13 @@ impl InFours for Window {
         fourth: &Window,
         out: &mut Vec<u8>,
     ) -> Result<(), NoMemory> {
-        out.extend_from_slice(&four_of_16(
+        let four = [
             window_bytes(*self),
             window_bytes(*second),
             window_bytes(*third),
             window_bytes(*fourth),
-        ))?;
+        ];
+        out.extend_from_slice(four.as_flattened())?;
         Ok(())
     }
 }
@@ -225,12 +225,13 @@ impl InFours for HeldTotal {
         fourth: &HeldTotal,
         out: &mut Vec<u8>,
     ) -> Result<(), NoMemory> {
-        out.extend_from_slice(&four_of_16(
+        let four = [
             held_bytes(*self),
             held_bytes(*second),
             held_bytes(*third),
             held_bytes(*fourth),
-        ))?;
+        ];
+        out.extend_from_slice(four.as_flattened())?;
         Ok(())
     }
 }
@@ -288,12 +289,13 @@ impl InFours for Timer {
         fourth: &Timer,
         out: &mut Vec<u8>,
     ) -> Result<(), NoMemory> {
-        out.extend_from_slice(&four_of_17(
+        let four = [
             timer_bytes(*self),
             timer_bytes(*second),
             timer_bytes(*third),
             timer_bytes(*fourth),
-        ))?;
+        ];
+        out.extend_from_slice(four.as_flattened())?;
         Ok(())
     }
 }
@@ -340,6 +342,21 @@ fn bytes_after_key(item: &Record) -> [u8; 17]
     two_words_and_flag(item.stamp, item.value.cast_unsigned(), item.late)
 }
 
+// Reads what follows the key of a record: its stamp, its value, and whether it is late.
+#[tactic(auto, unfolding(crate::specs::Reading::after_key_at))]
+fn take_after_key(alloc: Global, bytes: &[u8]) -> Result<((u64, (i64, bool)), &[u8]), StateRefusal>
+    ensures { Gives (λ x. (x.0, x.1.now)) result (after_key_at bytes.now) }
+{
+    let (stamp, rest) = u64::take(alloc, bytes)?;
+    let (value, rest) = i64::take(alloc, rest)?;
+    let (late, rest) = bool::take(alloc, rest)?;
+    if stamp <= MAX_STAMP {
+        Ok(((stamp, (value, late)), rest))
+    } else {
+        Err(StateRefusal::Damaged)
+    }
+}
+
 impl Spelled for Record {
     ghost spelling = { record_spelling };
 
@@ -356,22 +373,14 @@ impl Spelled for Record {
     #[tactic(auto, unfolding(crate::specs::Reading::record_at))]
     fn take(alloc: Global, bytes: &[u8]) -> Result<(Record, &[u8]), StateRefusal> {
         let (key, rest) = Key::take(alloc, bytes)?;
-        let (stamp, rest) = u64::take(alloc, rest)?;
-        let (value, rest) = i64::take(alloc, rest)?;
-        let (late, rest) = bool::take(alloc, rest)?;
-        if stamp <= MAX_STAMP {
-            Ok((
-                Record {
-                    key,
-                    stamp,
-                    value,
-                    late,
-                },
-                rest,
-            ))
-        } else {
-            Err(StateRefusal::Damaged)
-        }
+        let ((stamp, (value, late)), rest) = take_after_key(alloc, rest)?;
+        let item = Record {
+            key,
+            stamp,
+            value,
+            late,
+        };
+        Ok((item, rest))
     }
 }
 

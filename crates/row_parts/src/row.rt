@@ -1,11 +1,12 @@
 //! The row of one key, Akidau et al., VLDB 2013, sections 4.4, 4.6 and 6.1.
-ghost use Rattle.std.specs.Prelude.{◌≡◌, ◌≤◌, ◌^◌, ◌++◌, ◌∷◌, [], Bool, false, All, slice_get, OnOk, OnErr};
+ghost use Rattle.std.specs.Prelude.{◌≡◌, ◌↔◌, ◌<◌, ◌≤◌, ◌^◌, ◌++◌, ◌∷◌, [], Bool, false, All, IsTrue, length, max, slice_get, IfOk, OnOk, OnErr};
 ghost use Rattle.std.specs.List.{list_any};
+ghost use Rattle.std.specs.Option.{is_some};
 ghost use Rattle.std.specs.declared.cmp.Ordering.TheVariants.{Less};
 ghost use Rattle.mw_types.specs.Bounds.{IsWithin};
-ghost use Rattle.row_parts.specs.Contents.{fresh, IsId, IsDelivery, is_finished, is_timer, same_id, delivery_cmp, with_timer, without_timer, with_id, without_delivery, ids_from};
+ghost use Rattle.row_parts.specs.Contents.{fresh, ArePending, AreSeen, AreTimers, IsId, IsDelivery, cursor_in, found_delivery, is_finished, is_timer, same_id, delivery_cmp, with_timer, without_timer, with_id, without_delivery, ids_from};
 
-use crate::deliveries::{add_delivery, take_delivery};
+use crate::deliveries::{add_delivery, has_delivery, take_delivery};
 use crate::ids::{add_id, forget_below, has_id};
 use crate::timers::{set_timer, take_timer};
 use mw_types::{
@@ -16,7 +17,7 @@ use std::alloc::Global;
 use std::marker::Model;
 
 /// All that is kept for one key of one part.
-#[derive(Debug, Drop)]
+#[derive(Drop)]
 pub struct Row {
     /// The key's state.
     pub state: State,
@@ -46,7 +47,7 @@ impl Row {
     /// The row of a key to which nothing has happened yet.
     pub fn new(alloc: Global, state: State) -> Row
         requires { IsWithin state }
-        ensures { result ≡ fresh state }
+        ensures fresh { result ≡ fresh state }
     {
         Row {
             state,
@@ -55,6 +56,28 @@ impl Row {
             seen: IdList::new(alloc),
             floor: 0,
             last: 0,
+        }
+    }
+
+    /// What always holds of a row. It does nothing when it runs.
+    pub fn sound(&self)
+        ensures state { IsWithin self.now.state }
+        ensures timers { AreTimers self.now.timers }
+        ensures pending { ArePending self.now.pending }
+        ensures seen { AreSeen self.now.floor self.now.seen }
+        ensures floor { self.now.floor ≤ 2 ^ 32 }
+        ensures last { self.now.last < 2 ^ 32 }
+    {
+        let _floor = self.floor;
+    }
+
+    /// How many lines of an injector's file were injected, or 0 where the row is no injector's.
+    pub fn cursor(&self) -> u32
+        ensures cursor { result ≡ cursor_in self.now.state }
+    {
+        match &self.state {
+            State::Injector { cursor } => *cursor,
+            _ => 0,
         }
     }
 
@@ -88,9 +111,18 @@ impl Row {
 
     /// Whether an id is finished for this row: it is below the floor, or the row handled it.
     pub fn is_finished(&self, id: RecordId) -> bool
-        ensures { result ≡ is_finished id self.now }
+        ensures finished { result ≡ is_finished id self.now }
     {
         id.commit < self.floor || has_id(self.seen.as_slice(), id)
+    }
+
+    /// Whether the row has so many ids, and one at least, and a floor below this one: then it has ids that
+    /// it may forget.
+    pub fn has_ids(&self, least: u32, floor: u64) -> bool
+        ensures ids { IsTrue result
+            ↔ (max 1 least ≤ length self.now.seen) × (self.now.floor < floor) }
+    {
+        least.max(1) as usize <= self.seen.len() && self.floor < floor
     }
 
     /// Notes that the row handled an id, which is not finished yet. Refuses where memory ran out, or
@@ -117,6 +149,13 @@ impl Row {
         add_delivery(&mut self.pending, delivery)
     }
 
+    /// Whether the delivery with this id is pending.
+    pub fn is_pending(&self, id: RecordId) -> bool
+        ensures pending { result ≡ is_some (found_delivery id self.now.pending) }
+    {
+        has_delivery(self.pending.as_slice(), id)
+    }
+
     /// Takes the delivery with this id away, since its receiver acknowledged it, and tells whether it was
     /// pending.
     pub fn settle(&mut self, id: RecordId) -> bool
@@ -131,7 +170,7 @@ impl Row {
     pub fn purge(&mut self, floor: u64)
         requires rises { self.old.floor ≤ floor }
         requires floor { floor ≤ 2 ^ 32 }
-        ensures { let seen = ids_from floor self.old.seen in
+        ensures purged { let seen = ids_from floor self.old.seen in
             self.new ≡ record self.old { seen = seen; floor = floor } }
     {
         forget_below(&mut self.seen, self.floor, floor);
@@ -141,13 +180,41 @@ impl Row {
 
 impl Duplicate for Row {
     fn copy(&self, alloc: Global) -> Result<Row, NoMemory> {
+        let (state, timers) = own_copies(alloc, &self.state, &self.timers)?;
+        let (pending, seen) = record_copies(alloc, &self.pending, &self.seen)?;
         Ok(Row {
-            state: self.state.copy(alloc)?,
-            timers: self.timers.copy(alloc)?,
-            pending: self.pending.copy(alloc)?,
-            seen: self.seen.copy(alloc)?,
+            state,
+            timers,
+            pending,
+            seen,
             floor: self.floor,
             last: self.last,
         })
     }
+}
+
+// An equal state and equal timers.
+fn own_copies(
+    alloc: Global,
+    state: &State,
+    timers: &TimerList,
+) -> Result<(State, TimerList), NoMemory>
+    ensures { IfOk result (λ both. both ≡ (state.now, timers.now)) }
+{
+    let state = state.copy(alloc)?;
+    let timers = timers.copy(alloc)?;
+    Ok((state, timers))
+}
+
+// Equal deliveries and equal ids.
+fn record_copies(
+    alloc: Global,
+    pending: &DeliveryList,
+    seen: &IdList,
+) -> Result<(DeliveryList, IdList), NoMemory>
+    ensures { IfOk result (λ both. both ≡ (pending.now, seen.now)) }
+{
+    let pending = pending.copy(alloc)?;
+    let seen = seen.copy(alloc)?;
+    Ok((pending, seen))
 }

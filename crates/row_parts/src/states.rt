@@ -4,9 +4,9 @@ ghost use Rattle.mw_types.specs.declared.state.State.{State};
 ghost use Rattle.mw_types.specs.declared.state.State.TheVariants.{Count, Spike};
 ghost use Rattle.mw_types.specs.Bounds.{IsWithin};
 ghost use Rattle.row_parts.specs.Spelling.{list_spelling, state_spelling, FitsBytes, IsSpelledState};
-ghost use Rattle.row_parts.specs.Reading.{Gives, injector_at, count_at, spike_at, pass_at, state_of, state_at, whole_state};
+ghost use Rattle.row_parts.specs.Reading.{Gives, ascending_at, injector_at, count_at, spike_at, pass_at, state_of, state_at, whole_state};
 
-use crate::lists::{InFours, put_in_fours, put_list, take_ascending, take_list};
+use crate::lists::{InFours, Ranked, put_in_fours, put_list, take_ascending, take_list};
 use crate::refusal::StateRefusal;
 use crate::spelled::Spelled;
 use mw_types::{
@@ -111,14 +111,25 @@ fn take_injector(alloc: Global, bytes: &[u8]) -> Result<(State, &[u8]), StateRef
     Ok((State::Injector { cursor }, rest))
 }
 
+// Reads a list that stands in order from the front, as one whose copies share memory.
+fn take_shared<X: Ranked + Copy>(
+    alloc: Global,
+    bytes: &[u8],
+) -> Result<(SharedList<X>, &[u8]), StateRefusal>
+    ensures { Gives (λ x. (x.0, x.1.now)) result (ascending_at X.rank X.reading bytes.now) }
+{
+    let (list, rest) = take_ascending::<X>(alloc, bytes)?;
+    let list = SharedList::of(alloc, list.into_vec())?;
+    Ok((list, rest))
+}
+
 // Reads what follows the kind of a count's state.
 #[tactic(auto, unfolding(crate::specs::Reading::count_at))]
 fn take_count(alloc: Global, bytes: &[u8]) -> Result<(State, &[u8]), StateRefusal>
     ensures { Gives (λ x. (x.0, x.1.now)) result (count_at bytes.now) }
 {
     let (late, rest) = u64::take(alloc, bytes)?;
-    let (windows, rest) = take_ascending::<Window>(alloc, rest)?;
-    let windows = WindowList::of(alloc, windows.into_vec())?;
+    let (windows, rest) = take_shared::<Window>(alloc, rest)?;
     if late <= MAX_STAMP {
         Ok((State::Count { late, windows }, rest))
     } else {
@@ -132,8 +143,7 @@ fn take_spike(alloc: Global, bytes: &[u8]) -> Result<(State, &[u8]), StateRefusa
     ensures { Gives (λ x. (x.0, x.1.now)) result (spike_at bytes.now) }
 {
     let (late, rest) = u64::take(alloc, bytes)?;
-    let (held, rest) = take_ascending::<HeldTotal>(alloc, rest)?;
-    let held = HeldList::of(alloc, held.into_vec())?;
+    let (held, rest) = take_shared::<HeldTotal>(alloc, rest)?;
     let (known, rest) = take_list::<i64>(alloc, rest)?;
     if late <= MAX_STAMP && known.len() <= KNOWN_MAX {
         Ok((State::Spike { late, held, known }, rest))

@@ -12,7 +12,7 @@ use std::alloc::Global;
 use std::marker::Model;
 
 /// The steps of a script, in the order of their lines.
-#[derive(Debug, Drop)]
+#[derive(Drop)]
 pub struct Schedule {
     steps: Seq<Step>,
 }

@@ -27,8 +27,4 @@ loop-name-preserved c =
     let step = rest_more deref_pair _ _ _ _ c.in-Some.is c.next.ensures.steps in
     let has : covers c.args.bounds.now c.in-Some.name.now ≡ true = search rules in
     let more = IsRest-more _ _ _ _ _ _ c.loop-name.invariant step has in
-    let mapped : map entry_of c.push.new.self ≡ map entry_of c.loop-name.found ++ (c.in-Some.name.now, c.in-Some.bytes.now) ∷ [] =
-    ap (map entry_of) c.in_ok-push.ensures.appended
-    ∙ map-append entry_of c.loop-name.found (c.in_ok-copied.field-0 ∷ [])
-    ∙ ap (λ e. map entry_of c.loop-name.found ++ e ∷ []) c.in_ok-copied.ensures in
-    subst (λ found. IsRest c.args.bounds.now found c.next.new.self c.args.rows.now.entries) (sym mapped) more
+    subst (λ found. IsRest c.args.bounds.now found c.next.new.self c.args.rows.now.entries) (sym c.in_ok-push_copied.ensures) more

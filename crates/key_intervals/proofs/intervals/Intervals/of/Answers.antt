@@ -10,7 +10,7 @@ pub invariant_of-result : goal.invariant_of-result
 invariant_of-result c =
     let parts = c.args.parts.now in
     let whole : bounds_of parts ≡ c.loop-part.all.items = grind (arith, common_steps, c.loop-part.invariant.all) in
-    let begin : firsts_from 0 parts ≡ c.push-2.new.self.items = grind (arith, common_steps, c.loop-part.invariant.firsts) in (
+    let begin : firsts_from 0 parts ≡ c.push.new.self.items = grind (arith, common_steps, c.loop-part.invariant.firsts) in (
       subst AreIntervals whole (intervals_of parts c.requires.numbered c.requires.cuts c.requires.few),
       subst (λ firsts. AreFirsts firsts c.loop-part.all.items) begin
           (subst (AreFirsts (firsts_from 0 parts)) whole (firsts_of parts c.requires.numbered)),

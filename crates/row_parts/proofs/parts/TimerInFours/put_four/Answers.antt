@@ -6,8 +6,8 @@ use Rattle.row_parts.proofs.parts.TimerInFours.put_four.Goals as goal
 
 pub returns-clause-written : goal.returns-clause-written
 returns-clause-written c = c.in_ok-extend_from_slice.ensures.items ∙ ap (λ (l : List ℕ). c.args.out.now.items ++ l)
-    (gathered timer_spelling c.args.self.now c.args.second.now c.args.third.now c.args.fourth.now _ _ _ _ _ c.four_of_17.ensures
-    c.timer_bytes.ensures.bytes c.timer_bytes-2.ensures.bytes c.timer_bytes-3.ensures.bytes c.timer_bytes-4.ensures.bytes)
+    (c.as_flattened.ensures.value
+    ∙ gathered timer_spelling c.args.self.now c.args.second.now c.args.third.now c.args.fourth.now _ _ _ _ c.timer_bytes.ensures.bytes c.timer_bytes-2.ensures.bytes c.timer_bytes-3.ensures.bytes c.timer_bytes-4.ensures.bytes)
 
 pub returns-clause-typed : goal.returns-clause-typed
 returns-clause-typed c = are_typed (λ (t : Timer). t.tag < 2 ^ 64) c.args.self.now c.args.second.now c.args.third.now c.args.fourth.now

@@ -1,0 +1,3 @@
+pub mod Utf8
+pub mod Control
+pub mod Reading
