@@ -17,7 +17,7 @@ pub enum Wanted {
 }
 
 /// The case of a run, the steps that come before its drain, and what is to be written of it.
-#[derive(Debug, Drop)]
+#[derive(Drop)]
 pub struct Task {
     /// What is run.
     pub case: Case,

@@ -16,7 +16,7 @@ use std::marker::Model;
 use topology::Topology;
 
 /// A topology, what each of its injectors injects, in their order, and the intervals of its keys.
-#[derive(Debug, Drop)]
+#[derive(Drop)]
 pub struct Case {
     /// The parts of the run, and the streams between them.
     pub topology: Topology,

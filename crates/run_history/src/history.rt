@@ -6,7 +6,7 @@ use std::alloc::Global;
 use std::marker::Model;
 
 /// A history: what happened in a run, one entry for each atomic step.
-#[derive(Debug, Drop)]
+#[derive(Drop)]
 pub struct History {
     entries: EntryList,
 }

@@ -9,7 +9,7 @@ use mw_types::{Key, Name, NoMemory};
 use std::marker::Model;
 
 /// What one line of the result tells of an emission. Lines stand in the order of these fields.
-#[derive(Debug, Drop, PartialEq, Eq, PartialOrd, Ord)]
+#[derive(Drop, PartialEq, Eq, PartialOrd, Ord)]
 pub struct ResultLine {
     /// The stream that nothing reads.
     pub stream: Name,

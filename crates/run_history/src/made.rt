@@ -12,7 +12,7 @@ use std::alloc::Global;
 use topology::{Subscription, Topology, extract};
 
 /// What an entry made.
-#[derive(Debug, Drop)]
+#[derive(Drop)]
 pub struct Made {
     /// The deliveries, in the order of their ids.
     pub deliveries: DeliveryList,
