@@ -1,5 +1,6 @@
 -- Which histories can be printed, and what is remembered of one that is followed entry by entry. Own.
-use Rattle.std.specs.Prelude.{◌≡◌, ◌<◌, ◌≤◌, ◌^◌, ◌*◌, ℕ, Bool, false, nat_lt, List, [], None, length, slice_get, unwrap_or, All, IfSome}
+use Rattle.std.specs.Prelude.{◌≡◌, ◌<◌, ◌≤◌, ◌^◌, ◌*◌, ℕ, Bool, false, nat_lt, List, [], ◌∷◌, codes, decimal, None, length, slice_get, unwrap_or, All, IfSome}
+use Rattle.std.specs.Fmt.{signed_decimal}
 use Rattle.std.specs.Option.{option_map_or}
 use Rattle.mw_types.specs.declared.identity.RecordId.{RecordId}
 use Rattle.mw_types.specs.declared.identity.RowName.{RowName}
@@ -9,7 +10,8 @@ use Rattle.mw_types.specs.declared.entry.Entry.{Entry}
 use Rattle.topology.specs.Shapes.{Shape, parts_of, consumers_of}
 use Rattle.run_history.specs.Made.{found_delivery, row_written, productions_of, emissions_made}
 use Rattle.run_history.specs.Runs.{run_of}
-use Rattle.json.specs.Token.{Token}
+use Rattle.run_history.specs.Texts.{ResultLine}
+use Rattle.json.specs.Token.{Token, key, number, string}
 use Rattle.json.specs.Tree.{json_tokens}
 use Rattle.serde_json.specs.Data.{Data}
 use Rattle.serde_json.specs.Written.{outline}
@@ -46,6 +48,15 @@ pub record HasFollowed (shape : Shape) (history : List Entry) (late : List ℕ) 
 -- the tokens that are written for a value
 abbrev pub tokens_of : Data → List Token
 tokens_of value = json_tokens (outline value)
+
+-- the tokens of a line's key and stream
+abbrev pub text_tokens : ResultLine → List Token
+text_tokens line = key (codes "key") ∷ string line.key ∷ key (codes "stream") ∷ string line.stream ∷ []
+
+-- the tokens of its timestamp and value
+abbrev pub number_tokens : ResultLine → List Token
+number_tokens line = key (codes "ts") ∷ number (decimal line.stamp)
+    ∷ key (codes "value") ∷ number (signed_decimal line.value) ∷ []
 
 -- how many deliveries an entry makes: one of each production to each consumer of its part
 abbrev pub sends_made : Shape → Entry → ℕ

@@ -1,5 +1,5 @@
 //! Entries as JSON objects.
-ghost use Rattle.std.specs.Prelude.{◌≡◌, [], codes, IfOk, OnOk, string_bytes};
+ghost use Rattle.std.specs.Prelude.{◌≡◌, ◌++◌, ◌∷◌, [], codes, map, IfOk, OnOk, string_bytes};
 ghost use Rattle.mw_types.specs.Bounds.{IsWithin};
 ghost use Rattle.row_parts.specs.Contents.{IsId};
 ghost use Rattle.row_parts.specs.Spelling.{state_spelling};
@@ -92,8 +92,7 @@ fn put_inject(
     ensures { OnOk result
         (object (members_view map.new.entries) ≡ inject_data n seq part line item.now) }
 {
-    put_deed(alloc, map, "inject", n)?;
-    put_number(alloc, map, "seq", seq)?;
+    put_write(alloc, map, "inject", n, seq)?;
     put_number(alloc, map, "part", u64::from(part))?;
     put_number(alloc, map, "line", u64::from(line))?;
     put_item(alloc, map, item)
@@ -114,8 +113,7 @@ fn put_handle(
     ensures { OnOk result
         (object (members_view map.new.entries) ≡ handle_data n seq row.now id effects.now) }
 {
-    put_deed(alloc, map, "handle", n)?;
-    put_number(alloc, map, "seq", seq)?;
+    put_write(alloc, map, "handle", n, seq)?;
     put_row(alloc, map, row)?;
     put_id(alloc, map, id)?;
     put_effects(alloc, map, effects)?;
@@ -137,11 +135,9 @@ fn put_fire(
     ensures { OnOk result
         (object (members_view map.new.entries) ≡ fire_data n seq row.now timer mark effects.now) }
 {
-    put_deed(alloc, map, "fire", n)?;
-    put_number(alloc, map, "mark", mark)?;
-    put_number(alloc, map, "seq", seq)?;
+    put_write(alloc, map, "fire", n, seq)?;
     put_row(alloc, map, row)?;
-    put_timer(alloc, map, timer)?;
+    put_due(alloc, map, timer, mark)?;
     put_effects(alloc, map, effects)
 }
 
@@ -158,8 +154,7 @@ fn put_ack(
     requires empty { map.old.entries ≡ [] }
     ensures { OnOk result (object (members_view map.new.entries) ≡ ack_data n seq row.now id) }
 {
-    put_deed(alloc, map, "ack", n)?;
-    put_number(alloc, map, "seq", seq)?;
+    put_write(alloc, map, "ack", n, seq)?;
     put_row(alloc, map, row)?;
     put_id(alloc, map, id)
 }
@@ -176,10 +171,9 @@ fn put_purge(
     requires empty { map.old.entries ≡ [] }
     ensures { OnOk result (object (members_view map.new.entries) ≡ purge_data n seq row.now floor) }
 {
-    put_deed(alloc, map, "purge", n)?;
-    put_number(alloc, map, "floor", floor)?;
-    put_number(alloc, map, "seq", seq)?;
-    put_row(alloc, map, row)
+    put_write(alloc, map, "purge", n, seq)?;
+    put_row(alloc, map, row)?;
+    put_number(alloc, map, "floor", floor)
 }
 
 // Puts what an entry does, and its commit number.
@@ -190,6 +184,23 @@ fn put_deed(alloc: Global, map: &mut Map<String, Value>, deed: &str, n: u64) -> 
 {
     put_text(alloc, map, "do", deed)?;
     put_number(alloc, map, "n", n)
+}
+
+// Puts what a write does, its commit number, and the sequencer under which it was written.
+fn put_write(
+    alloc: Global,
+    map: &mut Map<String, Value>,
+    deed: &str,
+    n: u64,
+    seq: u64,
+) -> Result<(), NoMemory>
+    ensures { OnOk result (members_view map.new.entries
+        ≡ put (codes "seq") (number (unsigned seq))
+        (put (codes "n") (number (unsigned n))
+        (put (codes "do") (string deed.now) (members_view map.old.entries)))) }
+{
+    put_deed(alloc, map, deed, n)?;
+    put_number(alloc, map, "seq", seq)
 }
 
 // Puts what a record holds.
@@ -206,16 +217,23 @@ fn put_item(alloc: Global, map: &mut Map<String, Value>, item: &Record) -> Resul
     put_integer(alloc, map, "value", item.value)
 }
 
-// Puts a timer that was fired.
-fn put_timer(alloc: Global, map: &mut Map<String, Value>, timer: Timer) -> Result<(), NoMemory>
+// Puts a timer that was fired, and the watermark under which it was.
+fn put_due(
+    alloc: Global,
+    map: &mut Map<String, Value>,
+    timer: Timer,
+    mark: u64,
+) -> Result<(), NoMemory>
     ensures { OnOk result (members_view map.new.entries
-        ≡ put (codes "time") (number (unsigned timer.time))
+        ≡ put (codes "mark") (number (unsigned mark))
+        (put (codes "time") (number (unsigned timer.time))
         (put (codes "tag") (number (unsigned timer.tag))
-        (put (codes "late") (boolean timer.late) (members_view map.old.entries)))) }
+        (put (codes "late") (boolean timer.late) (members_view map.old.entries))))) }
 {
     put_flag(alloc, map, "late", timer.late)?;
     put_number(alloc, map, "tag", u64::from(timer.tag))?;
-    put_number(alloc, map, "time", timer.time)
+    put_number(alloc, map, "time", timer.time)?;
+    put_number(alloc, map, "mark", mark)
 }
 
 // Puts what a handler produced and the state that it left.
@@ -274,20 +292,39 @@ fn productions_value(alloc: Global, productions: &[Production]) -> Result<Value,
 {
     let mut values = Vec::with_capacity(alloc, productions.len())?;
     for production in productions {
-        values.push(production_value(alloc, production)?)?;
+        push_production(alloc, &mut values, production)?;
     }
     Ok(Value::Array(values))
 }
 
-// A production.
-fn production_value(alloc: Global, production: &Production) -> Result<Value, NoMemory>
-    ensures { IfOk result (λ value. view value ≡ production_data production.now) }
+// Appends a production.
+fn push_production(
+    alloc: Global,
+    values: &mut Vec<Value>,
+    production: &Production,
+) -> Result<(), NoMemory>
+    ensures { OnOk result (map view values.new.items
+        ≡ map view values.old.items ++ production_data production.now ∷ []) }
 {
-    let mut map = Map::new(alloc);
-    put_text(alloc, &mut map, "key", production.key.text())?;
-    put_number(alloc, &mut map, "ts", production.stamp)?;
-    put_integer(alloc, &mut map, "value", production.value)?;
-    Ok(Value::Object(map))
+    let mut members = Map::new(alloc);
+    put_production(alloc, &mut members, production)?;
+    values.push(Value::Object(members))?;
+    Ok(())
+}
+
+// Puts a production into an object that has nothing yet.
+fn put_production(
+    alloc: Global,
+    map: &mut Map<String, Value>,
+    production: &Production,
+) -> Result<(), NoMemory>
+    requires empty { map.old.entries ≡ [] }
+    ensures { OnOk result
+        (object (members_view map.new.entries) ≡ production_data production.now) }
+{
+    put_text(alloc, map, "key", production.key.text())?;
+    put_number(alloc, map, "ts", production.stamp)?;
+    put_integer(alloc, map, "value", production.value)
 }
 
 // Timers that were set, in order.
@@ -296,17 +333,19 @@ fn timers_value(alloc: Global, timers: &[Timer]) -> Result<Value, NoMemory>
 {
     let mut values = Vec::with_capacity(alloc, timers.len())?;
     for timer in timers {
-        values.push(timer_value(alloc, *timer)?)?;
+        push_timer(alloc, &mut values, *timer)?;
     }
     Ok(Value::Array(values))
 }
 
-// A timer.
-fn timer_value(alloc: Global, timer: Timer) -> Result<Value, NoMemory>
-    ensures { IfOk result (λ value. view value ≡ timer_data timer) }
+// Appends a timer.
+fn push_timer(alloc: Global, values: &mut Vec<Value>, timer: Timer) -> Result<(), NoMemory>
+    ensures { OnOk result (map view values.new.items
+        ≡ map view values.old.items ++ timer_data timer ∷ []) }
 {
-    let mut map = Map::new(alloc);
-    put_number(alloc, &mut map, "tag", u64::from(timer.tag))?;
-    put_number(alloc, &mut map, "time", timer.time)?;
-    Ok(Value::Object(map))
+    let mut members = Map::new(alloc);
+    put_number(alloc, &mut members, "tag", u64::from(timer.tag))?;
+    put_number(alloc, &mut members, "time", timer.time)?;
+    values.push(Value::Object(members))?;
+    Ok(())
 }

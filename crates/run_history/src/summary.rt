@@ -6,6 +6,7 @@ ghost use Rattle.serde_json.specs.View.{members_view, view};
 
 use crate::history::History;
 use crate::members::put_number;
+use crate::text::value_line;
 use mw_types::{Bytes, Entry, NoMemory};
 use serde_json::{Map, Value};
 use std::alloc::Global;
@@ -14,8 +15,8 @@ use std::alloc::Global;
 pub fn summary_line(alloc: Global, history: &History) -> Result<Bytes, NoMemory>
     ensures written { IfOk result (λ text. text ≡ as_line (summary_data history.now)) }
 {
-    let mut line = summary(alloc, history.entries())?.to_string(alloc)?;
-    line.push('\n')?;
+    let value = summary(alloc, history.entries())?;
+    let line = value_line(alloc, &value)?;
     Ok(Bytes::from_vec(line.into_bytes()))
 }
 

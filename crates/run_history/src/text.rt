@@ -1,11 +1,13 @@
 //! The text that is written of a history.
-ghost use Rattle.std.specs.Prelude.{◌≡◌, ◌++◌, ◌<◌, All, map, IfOk, OnOk};
+ghost use Rattle.std.specs.Prelude.{◌≡◌, ◌++◌, ◌<◌, [], All, map, IfOk, OnOk, false, string_bytes};
 ghost use Rattle.std.specs.List.{flat_map};
 ghost use Rattle.std.specs.List.Sorted.{IsPermutation, IsSorted};
 ghost use Rattle.topology.specs.Shapes.{parts_of};
 ghost use Rattle.run_history.specs.Runs.{run_of};
 ghost use Rattle.run_history.specs.Texts.{line_of, line_cmp, line_data, as_line, summary_data, IsResultText};
 ghost use Rattle.run_history.specs.Printing.{IsPrintable};
+ghost use Rattle.serde_json.specs.View.{view};
+ghost use Rattle.serde_json.specs.Written.{has_float};
 
 use crate::case::Case;
 use crate::emitted::emissions;
@@ -13,6 +15,7 @@ use crate::history::History;
 use crate::line::ResultLine;
 use crate::summary::summary_line;
 use mw_types::{Bytes, Duplicate, Emission, Name, NoMemory};
+use serde_json::Value;
 use std::alloc::Global;
 use topology::Topology;
 
@@ -26,8 +29,7 @@ pub fn result_text(alloc: Global, case: &Case, history: &History) -> Result<Byte
     ensures written { IfOk result (λ text. IsResultText case.now.topology history.now text) }
 {
     let lines = sorted_lines(alloc, case, history)?;
-    let mut text = Vec::with_capacity(alloc, LINE_ROOM)?;
-    write_lines(alloc, &mut text, &lines)?;
+    let mut text = lines_text(alloc, &lines)?;
     write_summary(alloc, &mut text, history)?;
     Ok(Bytes::from_vec(text))
 }
@@ -74,6 +76,16 @@ fn line(alloc: Global, topology: &Topology, emission: &Emission) -> Result<Resul
     })
 }
 
+// The texts of lines.
+fn lines_text(alloc: Global, lines: &[ResultLine]) -> Result<Vec<u8>, NoMemory>
+    ensures { IfOk result (λ text.
+        text.items ≡ flat_map (λ line. as_line (line_data line)) lines.now) }
+{
+    let mut text = Vec::with_capacity(alloc, LINE_ROOM)?;
+    write_lines(alloc, &mut text, lines)?;
+    Ok(text)
+}
+
 // Appends the texts of lines.
 fn write_lines(alloc: Global, text: &mut Vec<u8>, lines: &[ResultLine]) -> Result<(), NoMemory>
     ensures { OnOk result (text.new.items
@@ -82,12 +94,22 @@ fn write_lines(alloc: Global, text: &mut Vec<u8>, lines: &[ResultLine]) -> Resul
     // One buffer serves all lines: a writer clears the room ahead of it.
     let mut buffer = Vec::with_capacity(alloc, LINE_ROOM)?;
     for line in lines {
-        let written = line.text(buffer)?;
-        text.extend_from_slice(&written)?;
-        buffer = written;
-        buffer.clear();
+        buffer = write_line(text, line, buffer)?;
     }
     Ok(())
+}
+
+// Appends the text of a line, and gives the buffer back, which holds nothing.
+fn write_line(text: &mut Vec<u8>, line: &ResultLine, buffer: Vec<u8>) -> Result<Vec<u8>, NoMemory>
+    requires { buffer.items ≡ [] }
+    ensures written { OnOk result
+        (text.new.items ≡ text.old.items ++ as_line (line_data line.now)) }
+    ensures empty { IfOk result (λ buffer. buffer.items ≡ []) }
+{
+    let mut written = line.text(buffer)?;
+    text.extend_from_slice(&written)?;
+    written.clear();
+    Ok(written)
 }
 
 // Appends the summary line.
@@ -97,4 +119,14 @@ fn write_summary(alloc: Global, text: &mut Vec<u8>, history: &History) -> Result
 {
     text.extend_from_slice(summary_line(alloc, history)?.as_slice())?;
     Ok(())
+}
+
+// A value as a line, with its LF.
+pub(crate) fn value_line(alloc: Global, value: &Value) -> Result<String, NoMemory>
+    requires { has_float (view value.now) ≡ false }
+    ensures { IfOk result (λ text. string_bytes text ≡ as_line (view value.now)) }
+{
+    let mut text = value.to_string(alloc)?;
+    text.push('\n')?;
+    Ok(text)
 }
