@@ -2,8 +2,8 @@
 //!
 //! Each law is the contract of a function with an empty body, and says what the definitions of
 //! `run_history` say of each history and of each beginning of it; `case_is_runnable` gives a caller
-//! the premise that many of them have. Stands on `run_history`, `key_intervals`, `row_parts`,
-//! `row_keeper` and `worked_examples`. Public contract: the floor and the low watermarks never fall;
+//! the premise that many of them have. Stands on `run_history`, `key_intervals`, `row_parts` and
+//! `row_keeper`. Public contract: the floor and the low watermarks never fall;
 //! ids tell what waits, what is finished and who sent it, and each record is handled once; a row
 //! that was read under the last claim of its interval is the row of the whole history, and a write
 //! that was worked out on it keeps the history lawful; marks that are safe stay safe. Definitions:
@@ -13,7 +13,6 @@
 #![tactic(auto)]
 
 mod claims;
-mod examples;
 mod fitting;
 mod floors;
 mod ids;
@@ -31,10 +30,6 @@ mod watermarks;
 mod writes;
 
 pub use claims::last_claims_are_latest;
-pub use examples::{
-    an_overtaken_claim_is_stale, drained_example_has_its_intervals,
-    drained_example_has_its_own_work,
-};
 pub use fitting::rows_fit_their_names;
 pub use floors::{floor_is_least_unacknowledged, floor_never_falls};
 pub use ids::{ids_ascend, ids_tell_what_is_finished, ids_tell_what_waits};
