@@ -35,8 +35,8 @@ pub use floors::{floor_is_least_unacknowledged, floor_never_falls};
 pub use ids::{ids_ascend, ids_tell_what_is_finished, ids_tell_what_waits};
 pub use intervals::rows_lie_in_the_interval_that_has_them;
 pub use marks::{
-    reported_marks_are_safe, safe_marks_are_under_low_watermarks, safe_marks_stay_safe,
-    work_above_never_falls,
+    own_work_is_as_known, reported_marks_are_safe, safe_marks_are_under_low_watermarks,
+    safe_marks_stay_safe, work_above_never_falls,
 };
 pub use once::{finished_runs_handled_each_record, records_are_handled_once};
 pub use printing::legal_histories_can_be_printed;
