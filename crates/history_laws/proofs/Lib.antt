@@ -28,3 +28,4 @@ pub mod CountLaws
 pub mod PrintLaws
 pub mod OnceLaws
 pub mod SeenLaws
+pub mod KeyLaws
