@@ -1,17 +1,20 @@
 -- How far a history has been followed, entry by entry, and what it emitted so far.
-use Rattle.std.proofs.Common.{◌≡◌, ℕ, ◌+◌, ◌<◌, ◌≤◌, Bool, cond, List, [], ◌∷◌, ◌++◌, length, get_or, take, All, refl, sym, ◌∙◌, ap, subst, arith, length-append}
-use Rattle.std.specs.List.{enumerate_from}
+use Rattle.std.proofs.Common.{◌≡◌, ℕ, ◌+◌, ◌<◌, ◌≤◌, ◌^◌, Bool, cond, List, [], ◌∷◌, ◌++◌, length, get_or, take, map, All, refl, sym, ◌∙◌, ap, subst, arith, length-append}
+use Rattle.std.specs.Prelude.{IfSome, None, Option, Some}
+use Rattle.std.specs.Option.{option_map_or}
+use Rattle.std.specs.List.{AllByRecursion, enumerate_from}
 use Rattle.std.proofs.lemmas.Bool.{le-ltb}
-use Rattle.std.proofs.lemmas.List.{length-take-le, take_all, take_more}
-use Rattle.std.proofs.lemmas.List.Elements.{All-append, All-map}
+use Rattle.std.proofs.lemmas.List.{length-map, length-take-le, take_all, take_more}
+use Rattle.std.proofs.lemmas.List.Elements.{All-append, All-from_recursion, All-map}
 use Rattle.mw_types.specs.declared.record.Record.{Record}
 use Rattle.mw_types.specs.declared.delivery.Delivery.{Delivery}
 use Rattle.mw_types.specs.declared.delivery.Emission.{Emission}
 use Rattle.mw_types.specs.declared.entry.Entry.{Entry}
-use Rattle.mw_types.specs.declared.entry.Entry.TheVariants.{Claim, Inject, Handle, Fire, Ack, Purge}
+use Rattle.mw_types.specs.declared.identity.RowName.{RowName}
 use Rattle.topology.specs.declared.subscription.Subscription.{Subscription}
 use Rattle.topology.specs.Shapes.{Shape, parts_of, consumers_of}
-use Rattle.run_history.specs.Made.{emission_at, emissions_to, emissions_of, deliveries_of, late_cause}
+use Rattle.row_parts.specs.Contents.{IsId}
+use Rattle.run_history.specs.Made.{emission_at, emissions_made, emissions_to, emissions_of, deliveries_of, late_cause, produced, productions_of, row_written}
 use Rattle.run_history.specs.Runs.{Run, run_of}
 use Rattle.run_history.specs.Printing.{IsOnPart, HasFollowed, KnowsLate, emissions_by, sends_made}
 use Rattle.run_history.proofs.Knowing.{knows_more}
@@ -49,7 +52,7 @@ emissions-push shape history entry =
     ap (λ (r : Run). r.emissions) (run_of-push shape history entry)
     ∙ ap (λ n. (run_of shape history).emissions ++ emissions_of shape (run_of shape history).made n entry) (next-length shape history)
 
--- ---- of which parts it is
+-- ---- of which parts it is, and under which ids
 
 -- what a part emits is of that part
 emitted_part : (parts part commit : ℕ) (subscriptions : List Subscription) (items : List Record) → part < parts
@@ -59,27 +62,46 @@ emitted_part parts part commit [] items there =
 emitted_part parts part commit (s ∷ ss) items there = λ k d below. absurd (omega arith)
 
 -- what an entry emits is of a part that is there
-emitted_there : (shape : Shape) (late : Bool) (commit : ℕ) (entry : Entry) → IsOnPart shape entry
+pub emitted_there : (shape : Shape) (late : Bool) (commit : ℕ) (entry : Entry) → IsOnPart shape entry
     → All (λ (e : Emission). e.part < parts_of shape) (emissions_by shape late commit entry)
-emitted_there shape late commit (Claim worker interval) there = λ k d below. absurd (omega arith)
-emitted_there shape late commit (Inject seq part line item) there =
-    emitted_part (parts_of shape) part commit (consumers_of shape part) _ there
-emitted_there shape late commit (Handle seq row id effects) there =
-    emitted_part (parts_of shape) row.part commit (consumers_of shape row.part) _ there
-emitted_there shape late commit (Fire seq row timer mark effects) there =
-    emitted_part (parts_of shape) row.part commit (consumers_of shape row.part) _ there
-emitted_there shape late commit (Ack seq row id) there =
-    emitted_part (parts_of shape) row.part commit (consumers_of shape row.part) _ there
-emitted_there shape late commit (Purge seq row floor) there =
-    emitted_part (parts_of shape) row.part commit (consumers_of shape row.part) _ there
+emitted_there shape late commit entry there = by_row (row_written entry) there
+  where
+    by_row : (w : Option RowName) → IfSome w (λ (row : RowName). row.part < parts_of shape) → All (λ (e : Emission). e.part < parts_of shape)
+        (option_map_or (λ (row : RowName). emissions_made shape row.part (productions_of entry) late commit) w [])
+    by_row None there = λ k d below. absurd (omega arith)
+    by_row (Some row) there = emitted_part (parts_of shape) row.part commit (consumers_of shape row.part) _ there
 
--- so that all are, once it is appended
-pub all_there : (shape : Shape) (late : Bool) (commit : ℕ) (entry : Entry) (emissions emissions' : List Emission)
-    → IsOnPart shape entry → emissions' ≡ emissions ++ emissions_by shape late commit entry
-    → All (λ (e : Emission). e.part < parts_of shape) emissions → All (λ (e : Emission). e.part < parts_of shape) emissions'
-all_there shape late commit entry emissions emissions' there more each =
-    subst (λ (l : List Emission). All (λ (e : Emission). e.part < parts_of shape) l) (sym more)
-    (All-append (λ (e : Emission). e.part < parts_of shape) emissions _ each (emitted_there shape late commit entry there))
+-- records that are numbered on from here have ids that can be printed
+numbered_ids : (part commit k : ℕ) (items : List Record) → commit < 2 ^ 32 → k + length items ≤ 512
+    → AllByRecursion (λ (e : Emission). IsId e.id) (map (emission_at part commit) (enumerate_from k items))
+numbered_ids part commit k [] below few = tt
+numbered_ids part commit k (item ∷ items) below few = (
+  record { commit = below; index = omega (arith, few) },
+  numbered_ids part commit (k + 1) items below (omega (arith, few)),
+)
+
+-- so has what a part emits
+emitted_numbers : (part commit : ℕ) (subscriptions : List Subscription) (items : List Record) → commit < 2 ^ 32 → length items ≤ 8
+    → All (λ (e : Emission). IsId e.id) (emissions_to subscriptions part commit items)
+emitted_numbers part commit [] items below few =
+    All-from_recursion (λ (e : Emission). IsId e.id) _ (numbered_ids part commit 0 items below (omega (arith, few)))
+emitted_numbers part commit (s ∷ ss) items below few = λ k d less. absurd (omega arith)
+
+-- and what an entry emits
+pub emitted_ids : (shape : Shape) (late : Bool) (commit : ℕ) (entry : Entry) → commit < 2 ^ 32 → length (productions_of entry) ≤ 8
+    → All (λ (e : Emission). IsId e.id) (emissions_by shape late commit entry)
+emitted_ids shape late commit entry below few = by_row (row_written entry)
+  where
+    by_row : (w : Option RowName) → All (λ (e : Emission). IsId e.id)
+        (option_map_or (λ (row : RowName). emissions_made shape row.part (productions_of entry) late commit) w [])
+    by_row None = λ k d less. absurd (omega arith)
+    by_row (Some row) =
+        let long = length-map (productions_of entry) (produced late) in
+        emitted_numbers row.part commit (consumers_of shape row.part) _ below (omega (arith, few, long))
+
+-- what holds of each, and of each that is appended, holds of all
+pub all-appended : {X : Type 0} (P : X → Type 0) (xs ys zs : List X) → zs ≡ xs ++ ys → All P ys → All P xs → All P zs
+all-appended P xs ys zs is new old = subst (All P) (sym is) (All-append P xs ys old new)
 
 -- ---- all entries
 

@@ -3,6 +3,7 @@ ghost use Rattle.std.specs.Prelude.{◌≡◌, ◌++◌, ◌∷◌, ◌*◌, ◌
 ghost use Rattle.mw_types.specs.declared.delivery.Delivery.{Delivery as Sent};
 ghost use Rattle.mw_types.specs.declared.entry.Entry.{Entry as Happened};
 ghost use Rattle.topology.specs.Shapes.{Shape, parts_of, consumers_of};
+ghost use Rattle.row_parts.specs.Contents.{IsId};
 ghost use Rattle.run_history.specs.Made.{productions_of, late_cause, emissions_made, emissions_of};
 ghost use Rattle.run_history.specs.Runs.{run_of};
 ghost use Rattle.run_history.specs.Printing.{IsOnPart, HasFollowed, KnowsLate, emissions_by, is_late_id, sends_made};
@@ -41,6 +42,14 @@ impl Emitter {
         }
     }
 
+    /// How many entries it has followed.
+    pub fn len(&self) -> usize
+        ensures count { (shape : Shape) (history : List Happened) →
+            HasFollowed shape history self.now → result ≡ length history }
+    {
+        self.late.len()
+    }
+
     /// Appends what one more entry emits under its commit number, and has then followed it too.
     /// After a refusal the list may have some of it, and the emitter is as it was.
     pub fn follow(
@@ -63,6 +72,8 @@ impl Emitter {
             HasFollowed topology.now (history ++ entry.now ∷ []) self.new) }
         ensures parts { OnOk result (All (λ e. e.part < parts_of topology.now) emissions.old →
             All (λ e. e.part < parts_of topology.now) emissions.new) }
+        ensures ids { OnOk result (All (λ e. IsId e.id) emissions.old →
+            All (λ e. IsId e.id) emissions.new) }
         ensures unchanged { OnErr result (self.new ≡ self.old) }
     {
         let late = is_late(&self.late, entry);
