@@ -52,12 +52,8 @@ together false false e f = refl
 
 -- an entry that does not acknowledge a delivery spares it
 spared : (entry : Entry) (d : Delivery) → acknowledges d.id entry ≡ false → SparesFrom entry d
-spared (Claim worker interval) d e = tt
-spared (Inject seq part line item) d e = tt
-spared (Handle seq row id effects) d e = tt
-spared (Fire seq row timer mark effects) d e = tt
 spared (Ack seq row id) d e = e
-spared (Purge seq row floor) d e = tt
+spared _ d e = tt
 
 -- an acknowledged record was made
 abbrev pub WasPending : List Delivery → Entry → Type 0
@@ -66,12 +62,8 @@ WasPending made entry = ⊤
 
 -- what was made stays made
 WasPending-more : (made more : List Delivery) (entry : Entry) → WasPending made entry → WasPending (made ++ more) entry
-WasPending-more made more (Claim worker interval) was = tt
-WasPending-more made more (Inject seq part line item) was = tt
-WasPending-more made more (Handle seq row id effects) was = tt
-WasPending-more made more (Fire seq row timer mark effects) was = tt
 WasPending-more made more (Ack seq row id) was = (was.0, find-more (λ (e : Delivery). same_id e.id id) made more was.0 was.1)
-WasPending-more made more (Purge seq row floor) was = tt
+WasPending-more made more _ was = tt
 
 -- no entry of which each acknowledges only what was made has acknowledged what the next entry makes
 pub acknowledges_not-next : (made : List Delivery) (n : ℕ) (d : Delivery) (entries : List Entry)
@@ -111,10 +103,6 @@ pub record AreAcknowledged (case : CaseShape) (history : List Entry) (run : Run)
 -- what may be acknowledged was made
 pub acknowledged-made : (case : CaseShape) (run : Run) (entry : Entry) → ArePendingMade run → MayFollow case run entry
     → WasPending run.made entry
-acknowledged-made case run (Claim worker interval) made may = tt
-acknowledged-made case run (Inject seq part line item) made may = tt
-acknowledged-made case run (Handle seq row id effects) made may = tt
-acknowledged-made case run (Fire seq row timer mark effects) made may = tt
 acknowledged-made case run (Ack seq row id) made may = there (found_delivery id (row_of case.topology run row).pending) refl may.pending
   where
     there : (o : Option Delivery) → found_delivery id (row_of case.topology run row).pending ≡ o → IsSome o
@@ -129,7 +117,7 @@ acknowledged-made case run (Ack seq row id) made may = there (found_delivery id 
               (row_of case.topology run row).pending d
               (row_of-made case.topology run row made) at,
         )
-acknowledged-made case run (Purge seq row floor) made may = tt
+acknowledged-made case run _ made may = tt
 
 -- each element that passes a test is found by it
 each-found : (ds : List Delivery) (id : RecordId) → AllByRecursion
@@ -199,11 +187,9 @@ changed-old : (P : Delivery → Type 0) (entry : Entry) (sent : List Delivery) (
     → AllByRecursion P sent
     → AllByRecursion P (changed entry sent row).pending
 changed-old P (Claim worker interval) sent row old new = old
-changed-old P (Inject seq part line item) sent row old new = each-append P row.pending sent old new
-changed-old P (Handle seq name id effects) sent row old new = each-append P row.pending sent old new
-changed-old P (Fire seq name timer mark effects) sent row old new = each-append P row.pending sent old new
 changed-old P (Ack seq name id) sent row old new = each-filter P (λ (d : Delivery). not (same_id d.id id)) row.pending old
 changed-old P (Purge seq name floor) sent row old new = old
+changed-old P _ sent row old new = each-append P row.pending sent old new
 
 -- one more entry keeps what is acknowledged as it was, but for its own record
 pub AreAcknowledged-followed : (case : CaseShape) (history : List Entry) (run : Run) (entry : Entry) → AreAcknowledged case history run

@@ -124,17 +124,14 @@ changed-finished : (case : CaseShape) (run : Run) (entry : Entry) (sent : List D
     → MayFollow case run entry
     → row_written entry ≡ Some name → is_finished id (row_of case.topology run name) ≡ true
     → is_finished id (changed entry sent (row_of case.topology run name)) ≡ true
-changed-finished case run (Claim worker interval) sent name id may written done = done
-changed-finished case run (Inject seq part line item) sent name id may written done = done
 changed-finished case run (Handle seq row new effects) sent name id may written done = noted-keeps id new
     (row_of case.topology run name) done
-changed-finished case run (Fire seq row timer mark effects) sent name id may written done = done
-changed-finished case run (Ack seq row other) sent name id may written done = done
 changed-finished case run (Purge seq row floor) sent name id may written done =
     let rises = may.rises in
     let same : row ≡ name = some_same row name written in
     purged-keeps id floor (row_of case.topology run name)
     (subst (λ (n : RowName). (row_of case.topology run n).floor ≤ floor) same (omega (arith, rises))) done
+changed-finished case run _ sent name id may written done = done
 
 -- an id that is finished in a row stays so
 pub is_finished-followed : (case : CaseShape) (run : Run) (entry : Entry) (name : RowName) (id : RecordId) → MayFollow case run entry
@@ -152,22 +149,14 @@ IsDoneBy shape run entry = ⊤
 -- and stays so
 IsDoneBy-followed : (case : CaseShape) (run : Run) (entry : Entry) (old : Entry) → MayFollow case run entry
     → IsDoneBy case.topology run old → IsDoneBy case.topology (followed case.topology run entry) old
-IsDoneBy-followed case run entry (Claim worker interval) may done = tt
-IsDoneBy-followed case run entry (Inject seq part line item) may done = tt
 IsDoneBy-followed case run entry (Handle seq row id effects) may done = is_finished-followed case run entry row id may done
-IsDoneBy-followed case run entry (Fire seq row timer mark effects) may done = tt
-IsDoneBy-followed case run entry (Ack seq row id) may done = tt
-IsDoneBy-followed case run entry (Purge seq row floor) may done = tt
+IsDoneBy-followed case run entry _ may done = tt
 
 -- what an entry handles is finished after it
 done_by_itself : (shape : Shape) (run : Run) (entry : Entry) → IsDoneBy shape (followed shape run entry) entry
-done_by_itself shape run (Claim worker interval) = tt
-done_by_itself shape run (Inject seq part line item) = tt
 done_by_itself shape run (Handle seq row id effects) =
     ap (is_finished id) (row_of-here shape run (Handle seq row id effects) row refl) ∙ noted-finished id (row_of shape run row)
-done_by_itself shape run (Fire seq row timer mark effects) = tt
-done_by_itself shape run (Ack seq row id) = tt
-done_by_itself shape run (Purge seq row floor) = tt
+done_by_itself shape run _ = tt
 
 -- after a legal history each handled record is finished in the row that handled it
 pub legal-done : (case : CaseShape) (history : List Entry) → IsLegal case history
@@ -192,17 +181,13 @@ finished_where_handled shape run d (e ∷ es) made was done handled =
   where
     here : (entry : Entry) → handles d.id entry ≡ true → WasMade run.made entry → IsDoneBy shape run entry
         → is_finished d.id (row_of shape run d.to) ≡ true
-    here (Claim worker interval) by was done = cc
-    here (Inject seq part line item) by was done = cc
     here (Handle seq row id effects) by was done =
         let same : d.id ≡ id = same_id-true d.id id by in
         let one : was.0 ≡ d = some_same was.0 d (sym was.1 ∙ ap (λ (i : RecordId). found_delivery i run.made) (sym same) ∙ made) in
         let to : row ≡ d.to = sym was.2 ∙ ap (λ (e : Delivery). e.to) one in
         subst (λ (i : RecordId). is_finished i (row_of shape run d.to) ≡ true) (sym same)
         (subst (λ (r : RowName). is_finished id (row_of shape run r) ≡ true) to done)
-    here (Fire seq row timer mark effects) by was done = cc
-    here (Ack seq row id) by was done = cc
-    here (Purge seq row floor) by was done = cc
+    here _ by was done = cc
 
 -- a delivery that was made, and that is not finished in the row to which it goes, waits
 pub waits-unless_finished : (case : CaseShape) (history : List Entry) (d : Delivery) → IsLegal case history
@@ -294,12 +279,8 @@ changed-seen history entry sent row each = by_kind entry
 changed-floor : (case : CaseShape) (run : Run) (entry : Entry) (sent : List Delivery) (row : Contents) → MayFollow case run entry
     → row.floor ≤ floor_of run
     → (changed entry sent row).floor ≤ floor_of run
-changed-floor case run (Claim worker interval) sent row may old = old
-changed-floor case run (Inject seq part line item) sent row may old = old
-changed-floor case run (Handle seq name id effects) sent row may old = old
-changed-floor case run (Fire seq name timer mark effects) sent row may old = old
-changed-floor case run (Ack seq name id) sent row may old = old
 changed-floor case run (Purge seq name floor) sent row may old = may.finished
+changed-floor case run _ sent row may old = old
 
 -- one more entry keeps floors below that of the run
 AreFloorsKept-followed : (case : CaseShape) (history : List Entry) (run : Run) (entry : Entry) → AreFloorsKept case history run

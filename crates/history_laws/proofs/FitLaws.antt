@@ -140,7 +140,6 @@ changed-kind : (case : CaseShape) (run : Run) (entry : Entry) (sent : List Deliv
     → row_written entry ≡ Some name
     → IsStateOf case.topology name.part (row_of case.topology run name).state
     → IsStateOf case.topology name.part (changed entry sent (row_of case.topology run name)).state
-changed-kind case run (Claim worker interval) sent name may written of = of
 changed-kind case run (Inject seq part line item) sent name may written of = advanced-kind case.topology name.part
     (row_of case.topology run name).state of
 changed-kind case run (Handle seq row id effects) sent name may written of =
@@ -163,8 +162,7 @@ changed-kind case run (Fire seq row timer mark effects) sent name may written of
     (subst (λ (o : EffectsView). has_kind kind.0 o.state ≡ true) kind.2
     (timer-kind kind.0 row.key (row_of case.topology run row).state timer
     (of_kind case.topology row.part kind.0 (row_of case.topology run row).state kind.1 here))))
-changed-kind case run (Ack seq row id) sent name may written of = of
-changed-kind case run (Purge seq row floor) sent name may written of = of
+changed-kind case run _ sent name may written of = of
 
 -- ---- injectors set no timer
 
@@ -173,8 +171,6 @@ changed-no_timer : (case : CaseShape) (run : Run) (entry : Entry) (sent : List D
     → row_written entry ≡ Some name
     → is_injector case.topology name.part ≡ true → (row_of case.topology run name).timers ≡ []
     → (changed entry sent (row_of case.topology run name)).timers ≡ []
-changed-no_timer case run (Claim worker interval) sent name may written is none = none
-changed-no_timer case run (Inject seq part line item) sent name may written is none = none
 changed-no_timer case run (Handle seq row id effects) sent name may written is none =
     let kind = was_some (λ (kind : Kind). effects_of_record kind row.key (row_of case.topology run row).state may.delivery.item)
     (kind_of case.topology row.part) effects may.does in
@@ -185,8 +181,7 @@ changed-no_timer case run (Fire seq row timer mark effects) sent name may writte
     (kind_of case.topology row.part) effects may.does in
     absurd (injector-no_kind case.topology row.part kind.0
     (subst (λ (n : RowName). is_injector case.topology n.part ≡ true) (sym (some_same row name written)) is) kind.1)
-changed-no_timer case run (Ack seq row id) sent name may written is none = none
-changed-no_timer case run (Purge seq row floor) sent name may written is none = none
+changed-no_timer case run _ sent name may written is none = none
 
 -- ---- what is pending goes to computations
 
@@ -212,12 +207,10 @@ changed-read : (shape : Shape) (entry : Entry) (sent : List Delivery) (row : Con
     → AllByRecursion (GoesToReader shape) sent
     → AllByRecursion (GoesToReader shape) (changed entry sent row).pending
 changed-read shape (Claim worker interval) sent row old new = old
-changed-read shape (Inject seq part line item) sent row old new = each-append (GoesToReader shape) row.pending sent old new
-changed-read shape (Handle seq name id effects) sent row old new = each-append (GoesToReader shape) row.pending sent old new
-changed-read shape (Fire seq name timer mark effects) sent row old new = each-append (GoesToReader shape) row.pending sent old new
 changed-read shape (Ack seq name id) sent row old new = each-filter (GoesToReader shape)
     (λ (d : Delivery). not (same_id d.id id)) row.pending old
 changed-read shape (Purge seq name floor) sent row old new = old
+changed-read shape _ sent row old new = each-append (GoesToReader shape) row.pending sent old new
 
 -- ---- all together
 

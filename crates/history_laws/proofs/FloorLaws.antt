@@ -9,7 +9,7 @@ use Rattle.std.proofs.lemmas.List.Sums.{fold-append}
 use Rattle.mw_types.specs.declared.identity.RowName.{RowName}
 use Rattle.mw_types.specs.declared.delivery.Delivery.{Delivery}
 use Rattle.mw_types.specs.declared.entry.Entry.{Entry}
-use Rattle.mw_types.specs.declared.entry.Entry.TheVariants.{Claim, Inject, Handle, Fire, Ack, Purge}
+use Rattle.mw_types.specs.declared.entry.Entry.TheVariants.{Inject, Handle, Fire, Ack}
 use Rattle.mw_types.specs.Orders.{row_cmp}
 use Rattle.topology.specs.Shapes.{Shape}
 use Rattle.row_parts.specs.Contents.{Contents, fresh}
@@ -82,7 +82,6 @@ sent_from x n (d ∷ ds) below each = (let is = each.0 in omega (arith, below, i
 -- what one entry leaves pending in its row keeps a bound that the row kept, and that the entry's number keeps
 changed-from : (x n : ℕ) (entry : Entry) (sent : List Delivery) (row : Contents) → x ≤ n
     → AllByRecursion (λ (d : Delivery). d.id.commit ≡ n) sent → CommitsFrom x row.pending → CommitsFrom x (changed entry sent row).pending
-changed-from x n (Claim worker interval) sent row below new old = old
 changed-from x n (Inject seq part line item) sent row below new old =
     each-append (λ (d : Delivery). x ≤ d.id.commit) row.pending sent old (sent_from x n sent below new)
 changed-from x n (Handle seq name id effects) sent row below new old =
@@ -90,7 +89,7 @@ changed-from x n (Handle seq name id effects) sent row below new old =
 changed-from x n (Fire seq name timer mark effects) sent row below new old =
     each-append (λ (d : Delivery). x ≤ d.id.commit) row.pending sent old (sent_from x n sent below new)
 changed-from x n (Ack seq name id) sent row below new old = each-filter (λ (d : Delivery). x ≤ d.id.commit) _ row.pending old
-changed-from x n (Purge seq name floor) sent row below new old = old
+changed-from x n _ sent row below new old = old
 
 -- one more entry keeps each bound of the floor
 pub IsFloorBelow-followed : (shape : Shape) (run : Run) (entry : Entry) (x : ℕ) → IsFloorBelow x run

@@ -1,5 +1,5 @@
 -- What ids tell: what was made, what was handled, and what waits.
-use Rattle.std.proofs.Common.{◌≡◌, ℕ, ◌+◌, ◌<◌, ◌==◌, ◌&&◌, Bool, true, false, List, [], ◌∷◌, ◌++◌, length, map, fold, refl, sym, ◌∙◌, ap, subst, arith}
+use Rattle.std.proofs.Common.{◌≡◌, ℕ, ◌+◌, ◌<◌, ◌==◌, ◌&&◌, Bool, true, false, List, [], ◌∷◌, ◌++◌, length, map, refl, sym, ◌∙◌, ap, subst, arith}
 use Rattle.std.proofs.lemmas.List.{length_push}
 use Rattle.std.specs.Prelude.{⊤, Option, Some, None, IsSome, filter, not, ◌||◌}
 use Rattle.std.specs.Option.{option_map_or}
@@ -159,13 +159,9 @@ pub record AreIds (history : List Entry) (run : Run) : Type 0 where
 
 -- what was made stays made
 pub WasMade-more : (made more : List Delivery) (entry : Entry) → WasMade made entry → WasMade (made ++ more) entry
-WasMade-more made more (Claim worker interval) was = tt
-WasMade-more made more (Inject seq part line item) was = tt
 WasMade-more made more (Handle seq row id effects) was =
     (was.0, find-more (λ (d : Delivery). same_id d.id id) made more was.0 was.1, was.2)
-WasMade-more made more (Fire seq row timer mark effects) was = tt
-WasMade-more made more (Ack seq row id) was = tt
-WasMade-more made more (Purge seq row floor) was = tt
+WasMade-more made more _ was = tt
 
 -- the delivery that waits under an id is the one that was made under it
 pub waits_as_made : (history : List Entry) (run : Run) (id : RecordId) (d : Delivery) → AreIds history run
@@ -177,13 +173,9 @@ waits_as_made history run id d ids waits =
 -- a record that may be handled was made
 handled-made : (case : CaseShape) (history : List Entry) (run : Run) (entry : Entry) → AreIds history run → MayFollow case run entry
     → WasMade run.made entry
-handled-made case history run (Claim worker interval) ids may = tt
-handled-made case history run (Inject seq part line item) ids may = tt
 handled-made case history run (Handle seq row id effects) ids may =
     (may.delivery, waits_as_made history run id may.delivery ids may.waits, may.to_row)
-handled-made case history run (Fire seq row timer mark effects) ids may = tt
-handled-made case history run (Ack seq row id) ids may = tt
-handled-made case history run (Purge seq row floor) ids may = tt
+handled-made case history run _ ids may = tt
 
 -- an entry handles only what was made, so no id of the next number
 handles_not-next : (made : List Delivery) (n : ℕ) (d : Delivery) (entry : Entry) → AllByRecursion (λ (e : Delivery). e.id.commit < n) made
@@ -231,12 +223,8 @@ none_taken waiting = sym (filter-all (λ (d : Delivery). not false) waiting
 -- what still waits is what the entry does not handle
 pub still_unhandled-filter : (entry : Entry) (waiting : List Delivery)
     → still_unhandled entry waiting ≡ filter (λ (d : Delivery). not (handles d.id entry)) waiting
-still_unhandled-filter (Claim worker interval) waiting = none_taken waiting
-still_unhandled-filter (Inject seq part line item) waiting = none_taken waiting
 still_unhandled-filter (Handle seq row id effects) waiting = refl
-still_unhandled-filter (Fire seq row timer mark effects) waiting = none_taken waiting
-still_unhandled-filter (Ack seq row id) waiting = none_taken waiting
-still_unhandled-filter (Purge seq row floor) waiting = none_taken waiting
+still_unhandled-filter _ waiting = none_taken waiting
 
 -- one more entry keeps what ids tell
 pub AreIds-followed : (case : CaseShape) (history : List Entry) (run : Run) (entry : Entry) → AreIds history run → MayFollow case run entry
@@ -280,11 +268,7 @@ legal-ids case = along_history case AreIds (λ done run entry ids may. AreIds-fo
 
 -- how many entries there are is the next number
 pub next-length : (shape : Shape) (history : List Entry) → (run_of shape history).next ≡ length history
-next-length shape history = counted history empty_run ∙ (let zero_more : 0 + length history ≡ length history = omega arith in zero_more)
-  where
-    counted : (entries : List Entry) (run : Run) → (fold (followed shape) run entries).next ≡ run.next + length entries
-    counted [] run = omega arith
-    counted (e ∷ es) run = counted es (followed shape run e) ∙ omega arith
+next-length = Rattle.run_history.proofs.RunLaws.next-length
 
 -- a handled record was made
 pub handled-was_made : (made : List Delivery) (id : RecordId) (entries : List Entry) → AllByRecursion (WasMade made) entries
@@ -297,13 +281,9 @@ handled-was_made made id (e ∷ es) was handled =
     ] refl handled
   where
     here : (entry : Entry) → handles id entry ≡ true → WasMade made entry → IsSome (found_delivery id made)
-    here (Claim worker interval) by was = cc
-    here (Inject seq part line item) by was = cc
     here (Handle seq row other effects) by was =
         subst IsSome (sym (ap (λ (i : RecordId). found_delivery i made) (same_id-true id other by) ∙ was.1)) refl
-    here (Fire seq row timer mark effects) by was = cc
-    here (Ack seq row other) by was = cc
-    here (Purge seq row floor) by was = cc
+    here _ by was = cc
 
 -- what ids tell after each legal history
 pub legal-tells : (case : CaseShape) (history : List Entry) → IsLegal case history → TellsWhatWaits history (run_of case.topology history)

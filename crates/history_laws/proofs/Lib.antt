@@ -12,6 +12,8 @@ pub mod StampLaws
 pub mod WorkLaws
 pub mod LowLaws
 pub mod CoveredLaws
+pub mod KnownLaws
+pub mod StayLaws
 pub mod SentLaws
 pub mod SenderLaws
 pub mod AckLaws
@@ -26,3 +28,4 @@ pub mod CountLaws
 pub mod PrintLaws
 pub mod OnceLaws
 pub mod SeenLaws
+pub mod KeyLaws

@@ -291,7 +291,7 @@ work-from case run x rules (suc depth) part there below =
     feeds deeper (f ∷ fs) there each = (deeper f there.0 each.0, feeds deeper fs there.1 each.1)
 
 -- and back
-from-work : (case : CaseShape) (run : Run) (x : ℕ) → AreRowsInOrder run → x ≤ END → (depth part : ℕ) → WorkFrom case run x depth part
+pub from-work : (case : CaseShape) (run : Run) (x : ℕ) → AreRowsInOrder run → x ≤ END → (depth part : ℕ) → WorkFrom case run x depth part
     → x ≤ work_under case run depth part
 from-work case run x order end zero part from = from-part case run x part order end from
 from-work case run x order end (suc depth) part from =

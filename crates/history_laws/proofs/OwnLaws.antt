@@ -92,7 +92,6 @@ module _ (case : CaseShape) (history : List Entry) (run : Run) (x part : ℕ) (r
       → IsRowFrom x (row_of case.topology run name)
       → (is_injector case.topology part ≡ true → x ≤ source_mark case run part)
       → AllByRecursion (PendsFrom x) (deliveries_of case.topology run.made run.next entry)
-  sent-own (Claim worker interval) name may written of row mark = tt
   sent-own (Inject seq other line item) name may written of row mark =
       let same : other ≡ part = ap (λ (n : RowName). n.part) (some_same (record { part = other; key = [] }) name written) ∙ of in
       made-own case.topology other (record { key = item.key; stamp = item.stamp; value = item.value } ∷ []) item.late run.next x
@@ -116,8 +115,7 @@ module _ (case : CaseShape) (history : List Entry) (run : Run) (x part : ℕ) (r
       (subst (λ (n : RowName). AllByRecursion (DueFrom x) (row_of case.topology run n).timers)
       (sym (some_same row_name name written)) row.timers) may.least_timer on_time)
       (fire-after case run seq row_name timer fire_mark effects in_time may).productions)
-  sent-own (Ack seq row_name id) name may written of row mark = tt
-  sent-own (Purge seq row_name floor) name may written of row mark = tt
+  sent-own _ name may written of row mark = tt
 
   -- what an entry leaves of its row has no older work
   changed-own : (entry : Entry) (name : RowName) → MayFollow case run entry → row_written entry ≡ Some name → name.part ≡ part

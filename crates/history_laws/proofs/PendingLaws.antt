@@ -10,7 +10,7 @@ use Rattle.mw_types.specs.declared.identity.RowName.{RowName}
 use Rattle.mw_types.specs.declared.kind.Kind.{Kind}
 use Rattle.mw_types.specs.declared.delivery.Delivery.{Delivery}
 use Rattle.mw_types.specs.declared.entry.Entry.{Entry}
-use Rattle.mw_types.specs.declared.entry.Entry.TheVariants.{Claim, Inject, Handle, Fire, Ack, Purge}
+use Rattle.mw_types.specs.declared.entry.Entry.TheVariants.{Inject, Handle, Fire, Ack}
 use Rattle.topology.specs.declared.subscription.Subscription.{Subscription}
 use Rattle.topology.specs.Shapes.{Shape, ComputationShape, parts_of, injectors_of, feeds_of, kind_of}
 use Rattle.row_parts.specs.Contents.{Contents, same_id}
@@ -78,7 +78,6 @@ sent_fed case run entry name may written = by_kind entry may (row_written entry)
 
     by_kind : (entry : Entry) → MayFollow case run entry → (w : Option RowName) → row_written entry ≡ w → w ≡ Some name
         → AllByRecursion (λ (d : Delivery). Contains (feeds_of shape d.to.part) name.part) (deliveries_of shape run.made run.next entry)
-    by_kind (Claim worker interval) may w e f = tt
     by_kind (Inject seq part line item) may w e f =
         let below = ltb-true part (injectors_of shape) may.injector in
         at_name (record { part = part; key = [] }) (Inject seq part line item) (e ∙ f) (omega (arith, below))
@@ -88,8 +87,7 @@ sent_fed case run entry name may written = by_kind entry may (row_written entry)
     by_kind (Fire seq row timer mark effects) may w e f =
         let kind = was_some _ (kind_of shape row.part) effects may.does in
         at_name row (Fire seq row timer mark effects) (e ∙ f) (kind-there shape row.part kind.0 kind.1)
-    by_kind (Ack seq row id) may w e f = tt
-    by_kind (Purge seq row floor) may w e f = tt
+    by_kind _ may w e f = tt
 
 -- ---- what waits is pending
 
@@ -101,23 +99,18 @@ SparesFrom entry d = ⊤
 -- nothing that waits may be acknowledged
 pub spares_waiting : (case : CaseShape) (run : Run) (entry : Entry) → MayFollow case run entry
     → AllByRecursion (SparesFrom entry) run.unhandled
-spares_waiting case run (Claim worker interval) may = each-all (λ d. ⊤) (λ d. tt) run.unhandled
-spares_waiting case run (Inject seq part line item) may = each-all (λ d. ⊤) (λ d. tt) run.unhandled
-spares_waiting case run (Handle seq row id effects) may = each-all (λ d. ⊤) (λ d. tt) run.unhandled
-spares_waiting case run (Fire seq row timer mark effects) may = each-all (λ d. ⊤) (λ d. tt) run.unhandled
 spares_waiting case run (Ack seq row id) may = find-none_each (λ (d : Delivery). same_id d.id id) run.unhandled
     (none (found_delivery id run.unhandled) may.handled)
   where
     none : (o : Option Delivery) → IsNone o → o ≡ None
     none None is = refl
     none (Some d) is = absurd (cc)
-spares_waiting case run (Purge seq row floor) may = each-all (λ d. ⊤) (λ d. tt) run.unhandled
+spares_waiting case run _ may = each-all (λ d. ⊤) (λ d. tt) run.unhandled
 
 -- what is pending in a row stays pending there, but for what an entry acknowledges
 changed-pending : (entry : Entry) (sent : List Delivery) (row : Contents) (d : Delivery) → found_delivery d.id row.pending ≡ Some d
     → SparesFrom entry d
     → found_delivery d.id (changed entry sent row).pending ≡ Some d
-changed-pending (Claim worker interval) sent row d found spared = found
 changed-pending (Inject seq part line item) sent row d found spared = find-more
     (λ (e : Delivery). same_id e.id d.id) row.pending sent d found
 changed-pending (Handle seq name id effects) sent row d found spared = find-more
@@ -126,7 +119,7 @@ changed-pending (Fire seq name timer mark effects) sent row d found spared = fin
     (λ (e : Delivery). same_id e.id d.id) row.pending sent d found
 changed-pending (Ack seq name id) sent row d found spared =
     find-kept (λ (e : Delivery). same_id e.id d.id) (λ (e : Delivery). not (same_id e.id id)) row.pending d found (ap not spared)
-changed-pending (Purge seq name floor) sent row d found spared = found
+changed-pending _ sent row d found spared = found
 
 -- a delivery that is pending, and that an entry does not acknowledge, is still pending after it
 pub IsSentBy-followed : (shape : Shape) (run : Run) (entry : Entry) (d : Delivery) → IsSentBy shape run d → SparesFrom entry d
@@ -187,12 +180,10 @@ sent_pending case run entry order may = by_kind entry may
 
     by_kind : (entry : Entry) → MayFollow case run entry
         → AllByRecursion (IsSentBy shape (followed shape run entry)) (deliveries_of shape run.made run.next entry)
-    by_kind (Claim worker interval) may = tt
     by_kind (Inject seq part line item) may = each (Inject seq part line item) (record { part = part; key = [] }) may refl refl
     by_kind (Handle seq row id effects) may = each (Handle seq row id effects) row may refl refl
     by_kind (Fire seq row timer mark effects) may = each (Fire seq row timer mark effects) row may refl refl
-    by_kind (Ack seq row id) may = tt
-    by_kind (Purge seq row floor) may = tt
+    by_kind _ may = tt
 
 -- what waits is pending, and what is pending is in order
 pub record AreSent (shape : Shape) (run : Run) : Type 0 where

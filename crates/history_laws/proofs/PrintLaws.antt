@@ -83,8 +83,6 @@ record-few kinds.Pass key (states.Spike late held known) item = omega arith
 
 -- an entry that may follow has few productions
 few-productions : (case : CaseShape) (run : Run) (entry : Entry) → MayFollow case run entry → length (productions_of entry) ≤ 8
-few-productions case run (Claim worker interval) may = omega arith
-few-productions case run (Inject seq part line item) may = omega arith
 few-productions case run (Handle seq row id effects) may =
     let kind = was_some (λ (kind : Kind). effects_of_record kind row.key (row_of case.topology run row).state may.delivery.item)
     (kind_of case.topology row.part) effects may.does in
@@ -94,8 +92,7 @@ few-productions case run (Fire seq row timer mark effects) may =
     let kind = was_some (λ (kind : Kind). effects_of_timer kind row.key (row_of case.topology run row).state timer)
     (kind_of case.topology row.part) effects may.does in
     subst (λ (o : EffectsView). length o.productions ≤ 8) kind.2 (timer-few kind.0 row.key (row_of case.topology run row).state timer)
-few-productions case run (Ack seq row id) may = omega arith
-few-productions case run (Purge seq row floor) may = omega arith
+few-productions case run _ may = omega arith
 
 -- ---- parts
 

@@ -6,7 +6,7 @@ use Rattle.mw_types.specs.declared.identity.RecordId.{RecordId}
 use Rattle.mw_types.specs.declared.identity.RowName.{RowName}
 use Rattle.mw_types.specs.declared.delivery.Delivery.{Delivery}
 use Rattle.mw_types.specs.declared.entry.Entry.{Entry}
-use Rattle.mw_types.specs.declared.entry.Entry.TheVariants.{Claim, Inject, Handle, Fire, Ack, Purge}
+use Rattle.mw_types.specs.declared.entry.Entry.TheVariants.{Inject, Handle, Fire, Ack}
 use Rattle.topology.specs.Shapes.{Shape}
 use Rattle.row_parts.specs.Contents.{Contents, same_id}
 use Rattle.run_history.specs.Made.{found_delivery, row_written, deliveries_of}
@@ -32,14 +32,13 @@ IsMadeOn-more history name d more on = record {
 changed-on : (history : List Entry) (name : RowName) (entry : Entry) (sent : List Delivery) (row : Contents)
     → AllByRecursion (IsMadeOn history name) row.pending → AllByRecursion (IsMadeOn history name) sent
     → AllByRecursion (IsMadeOn history name) (changed entry sent row).pending
-changed-on history name (Claim worker interval) sent row old new = old
 changed-on history name (Inject seq part line item) sent row old new = each-append (IsMadeOn history name) row.pending sent old new
 changed-on history name (Handle seq row_name id effects) sent row old new = each-append (IsMadeOn history name) row.pending sent old new
 changed-on history name (Fire seq row_name timer mark effects) sent row old new = each-append
     (IsMadeOn history name) row.pending sent old new
 changed-on history name (Ack seq row_name id) sent row old new = each-filter (IsMadeOn history name)
     (λ (d : Delivery). not (same_id d.id id)) row.pending old
-changed-on history name (Purge seq row_name floor) sent row old new = old
+changed-on history name _ sent row old new = old
 
 -- what is pending in each row was made by entries on the row
 pub record ArePendingOn (shape : Shape) (history : List Entry) (run : Run) : Type 0 where

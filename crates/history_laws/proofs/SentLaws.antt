@@ -6,7 +6,7 @@ use Rattle.mw_types.specs.declared.identity.RecordId.{RecordId}
 use Rattle.mw_types.specs.declared.identity.RowName.{RowName}
 use Rattle.mw_types.specs.declared.delivery.Delivery.{Delivery}
 use Rattle.mw_types.specs.declared.entry.Entry.{Entry}
-use Rattle.mw_types.specs.declared.entry.Entry.TheVariants.{Claim, Inject, Handle, Fire, Ack, Purge}
+use Rattle.mw_types.specs.declared.entry.Entry.TheVariants.{Inject, Handle, Fire, Ack}
 use Rattle.topology.specs.Shapes.{Shape}
 use Rattle.row_parts.specs.Contents.{Contents, same_id}
 use Rattle.run_history.specs.Cases.{CaseShape}
@@ -52,7 +52,6 @@ sent-made shape run entry order =
 -- what an entry leaves pending in its row was made
 changed-made : (made : List Delivery) (entry : Entry) (sent : List Delivery) (row : Contents) → AreMade made row.pending → AreMade made sent
     → AreMade made (changed entry sent row).pending
-changed-made made (Claim worker interval) sent row old new = old
 changed-made made (Inject seq part line item) sent row old new = each-append
     (λ (d : Delivery). found_delivery d.id made ≡ Some d) row.pending sent old new
 changed-made made (Handle seq name id effects) sent row old new = each-append
@@ -61,7 +60,7 @@ changed-made made (Fire seq name timer mark effects) sent row old new = each-app
     (λ (d : Delivery). found_delivery d.id made ≡ Some d) row.pending sent old new
 changed-made made (Ack seq name id) sent row old new = each-filter (λ (d : Delivery). found_delivery d.id made ≡ Some d)
     (λ (d : Delivery). not (same_id d.id id)) row.pending old
-changed-made made (Purge seq name floor) sent row old new = old
+changed-made made _ sent row old new = old
 
 -- what is pending in the row of a name was made
 pub row_of-made : (shape : Shape) (run : Run) (name : RowName) → ArePendingMade run → AreMade run.made (row_of shape run name).pending

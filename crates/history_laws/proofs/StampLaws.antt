@@ -17,7 +17,7 @@ use Rattle.mw_types.specs.declared.timer.Timer.{Timer}
 use Rattle.mw_types.specs.declared.kind.Kind.{Kind}
 use Rattle.mw_types.specs.declared.delivery.Delivery.{Delivery}
 use Rattle.mw_types.specs.declared.entry.Entry.{Entry}
-use Rattle.mw_types.specs.declared.entry.Entry.TheVariants.{Claim, Inject, Handle, Fire, Ack, Purge}
+use Rattle.mw_types.specs.declared.entry.Entry.TheVariants.{Inject, Handle, Fire}
 use Rattle.mw_types.specs.Orders.{timer_cmp}
 use Rattle.mw_types.specs.Outcomes.{EffectsView}
 use Rattle.injector.specs.Sources.{Source, SourceLine, IsSource, item_at}
@@ -169,7 +169,6 @@ made-in_time shape part productions late commit in_time =
 -- what an entry makes is in time
 sent-in_time : (case : CaseShape) (run : Run) (entry : Entry) → IsRunnable case → AreInTime run → MayFollow case run entry
     → AllByRecursion (λ (d : Delivery). d.item.stamp ≤ MAX_STAMP) (deliveries_of case.topology run.made run.next entry)
-sent-in_time case run (Claim worker interval) runs in_time may = tt
 sent-in_time case run (Inject seq part line item) runs in_time may =
     let input = injected-in_time (source_of case part) line item (source_of-source case part runs) may.of_line in
     made-in_time case.topology part (record { key = item.key; stamp = item.stamp; value = item.value } ∷ []) item.late run.next
@@ -184,15 +183,12 @@ sent-in_time case run (Fire seq row timer mark effects) runs in_time may =
     (each-weaker (IsProductionAfter timer.time) (λ (p : Production). p.stamp ≤ MAX_STAMP)
     (λ p (after : IsProductionAfter timer.time p). after.in_time)
     effects.productions (fire-after case run seq row timer mark effects in_time may).productions)
-sent-in_time case run (Ack seq row id) runs in_time may = tt
-sent-in_time case run (Purge seq row floor) runs in_time may = tt
+sent-in_time case run _ runs in_time may = tt
 
 -- the timers that an entry leaves in its row are in time
 timers-in_time : (case : CaseShape) (run : Run) (entry : Entry) (sent : List Delivery) (row : Contents) → IsRunnable case → AreInTime run
     → MayFollow case run entry
     → InTime row.timers → InTime (changed entry sent row).timers
-timers-in_time case run (Claim worker interval) sent row runs in_time may old = old
-timers-in_time case run (Inject seq part line item) sent row runs in_time may old = old
 timers-in_time case run (Handle seq name id effects) sent row runs in_time may old =
     with_timers-each (λ (t : Timer). t.time ≤ MAX_STAMP) (λ t u same p q. q) effects.timers row.timers
     (each-weaker (IsTimerAfter may.delivery.item.stamp may.delivery.item.late) (λ (t : Timer). t.time ≤ MAX_STAMP)
@@ -200,8 +196,7 @@ timers-in_time case run (Handle seq name id effects) sent row runs in_time may o
     (handle-after case run seq name id effects runs in_time may).timers) old
 timers-in_time case run (Fire seq name timer mark effects) sent row runs in_time may old =
     each-filter (λ (t : Timer). t.time ≤ MAX_STAMP) (λ t. not (is_timer timer.tag timer.time t)) row.timers old
-timers-in_time case run (Ack seq name id) sent row runs in_time may old = old
-timers-in_time case run (Purge seq name floor) sent row runs in_time may old = old
+timers-in_time case run _ sent row runs in_time may old = old
 
 -- one more entry keeps all in time
 pub AreInTime-followed : (case : CaseShape) (run : Run) (entry : Entry) → IsRunnable case → AreInTime run → MayFollow case run entry

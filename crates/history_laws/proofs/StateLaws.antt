@@ -17,7 +17,7 @@ use Rattle.mw_types.specs.declared.state.Window.{Window}
 use Rattle.mw_types.specs.declared.state.HeldTotal.{HeldTotal}
 use Rattle.mw_types.specs.declared.delivery.Delivery.{Delivery}
 use Rattle.mw_types.specs.declared.entry.Entry.{Entry}
-use Rattle.mw_types.specs.declared.entry.Entry.TheVariants.{Claim, Inject, Handle, Fire, Ack, Purge}
+use Rattle.mw_types.specs.declared.entry.Entry.TheVariants.{Inject, Handle, Fire}
 use Rattle.mw_types.specs.Bounds.{IsWithin}
 use Rattle.mw_types.specs.Outcomes.{EffectsView, AreEffects}
 use Rattle.topology.specs.Shapes.{Shape, ComputationShape, injectors_of, kind_of}
@@ -185,7 +185,6 @@ advanced-size (states.Pass late) = omega arith
 changed-size : (case : CaseShape) (run : Run) (entry : Entry) (sent : List Delivery) (name : RowName) → MayFollow case run entry
     → row_written entry ≡ Some name
     → size_of (changed entry sent (row_of case.topology run name)).state ≤ size_of (row_of case.topology run name).state + 1
-changed-size case run (Claim worker interval) sent name may written = omega arith
 changed-size case run (Inject seq part line item) sent name may written = advanced-size (row_of case.topology run name).state
 changed-size case run (Handle seq row id effects) sent name may written =
     let kind = was_some (λ (kind : Kind). effects_of_record kind row.key (row_of case.topology run row).state may.delivery.item)
@@ -199,8 +198,7 @@ changed-size case run (Fire seq row timer mark effects) sent name may written =
     subst (λ (n : RowName). size_of effects.state ≤ size_of (row_of case.topology run n).state + 1) (some_same row name written)
     (subst (λ (o : EffectsView). size_of o.state ≤ size_of (row_of case.topology run row).state + 1) kind.2
     (timer-size kind.0 row.key (row_of case.topology run row).state timer))
-changed-size case run (Ack seq row id) sent name may written = omega arith
-changed-size case run (Purge seq row floor) sent name may written = omega arith
+changed-size case run _ sent name may written = omega arith
 
 -- an injector's next state is within bounds where its cursor is
 advanced-within : (state : State) → IsWithin state → size_of (advanced state) < 2 ^ 32 → IsWithin (advanced state)
@@ -215,7 +213,6 @@ changed-within : (case : CaseShape) (run : Run) (entry : Entry) (sent : List Del
     → row_written entry ≡ Some name → ((row : RowName) → IsWithin (row_of case.topology run row).state)
     → size_of (changed entry sent (row_of case.topology run name)).state < 2 ^ 32
     → IsWithin (changed entry sent (row_of case.topology run name)).state
-changed-within case run (Claim worker interval) sent name runs are in_time may written within few = within name
 changed-within case run (Inject seq part line item) sent name runs are in_time may written within few = advanced-within
     (row_of case.topology run name).state (within name) few
 changed-within case run (Handle seq row id effects) sent name runs are in_time may written within few =
@@ -242,8 +239,7 @@ changed-within case run (Fire seq row timer mark effects) sent name runs are in_
     (kind_at-of case.topology row.part ∙ kind.1) ∙ kind.2 in
     let kept = subst (λ (o : EffectsView). IsShort o.state → AreEffects o.state o.timers o.productions) same lawful.within in
     (kept (short-few effects.state few)).state_within
-changed-within case run (Ack seq row id) sent name runs are in_time may written within few = within name
-changed-within case run (Purge seq row floor) sent name runs are in_time may written within few = within name
+changed-within case run _ sent name runs are in_time may written within few = within name
 
 -- what stands after a history, for its states
 pub record AreBounded (case : CaseShape) (run : Run) : Type 0 where

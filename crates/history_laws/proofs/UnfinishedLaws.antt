@@ -12,7 +12,7 @@ use Rattle.mw_types.specs.declared.state.State.{State}
 use Rattle.mw_types.specs.declared.state.State.TheVariants as states
 use Rattle.mw_types.specs.declared.delivery.Delivery.{Delivery}
 use Rattle.mw_types.specs.declared.entry.Entry.{Entry}
-use Rattle.mw_types.specs.declared.entry.Entry.TheVariants.{Claim, Inject, Handle, Fire, Ack, Purge}
+use Rattle.mw_types.specs.declared.entry.Entry.TheVariants.{Inject, Handle, Fire}
 use Rattle.topology.specs.Shapes.{kind_of, injectors_of}
 use Rattle.computations.specs.Handlers.{effects_of_record, effects_of_timer}
 use Rattle.row_parts.specs.Contents.{Contents}
@@ -57,7 +57,6 @@ changed-within : (case : CaseShape) (run : Run) (entry : Entry) (sent : List Del
     → is_injector case.topology name.part ≡ true
     → row_written entry ≡ Some name → cursor_in (row_of case.topology run name).state ≤ length (source_of case name.part)
     → cursor_in (changed entry sent (row_of case.topology run name)).state ≤ length (source_of case name.part)
-changed-within case run (Claim worker interval) sent name may is written old = old
 changed-within case run (Inject seq other line item) sent name may is written old =
     subst (λ (n : RowName). cursor_in (advanced (row_of case.topology run n).state) ≤ length (source_of case n.part))
     (some_same (record { part = other; key = [] }) name written)
@@ -75,8 +74,7 @@ changed-within case run (Fire seq row timer mark effects) sent name may is writt
     (kind_of case.topology row.part) effects may.does in
     absurd (injector-no_kind case.topology row.part kind.0
     (subst (λ (n : RowName). is_injector case.topology n.part ≡ true) (sym (some_same row name written)) is) kind.1)
-changed-within case run (Ack seq row id) sent name may is written old = old
-changed-within case run (Purge seq row floor) sent name may is written old = old
+changed-within case run _ sent name may is written old = old
 
 -- after each legal history no row of an injector has injected more lines than the injector's file has
 pub legal-within : (case : CaseShape) (history : List Entry) → IsLegal case history → AreCursorsWithin case (run_of case.topology history)

@@ -17,7 +17,7 @@ use Rattle.mw_types.specs.declared.state.State.{State}
 use Rattle.mw_types.specs.declared.state.State.TheVariants as states
 use Rattle.mw_types.specs.declared.delivery.Delivery.{Delivery}
 use Rattle.mw_types.specs.declared.entry.Entry.{Entry}
-use Rattle.mw_types.specs.declared.entry.Entry.TheVariants.{Claim, Inject, Handle, Fire, Ack, Purge}
+use Rattle.mw_types.specs.declared.entry.Entry.TheVariants.{Inject, Handle, Fire}
 use Rattle.mw_types.specs.Outcomes.{EffectsView}
 use Rattle.injector.specs.Sources.{Source, SourceLine, IsSource, stated_at}
 use Rattle.topology.specs.declared.subscription.Subscription.{Subscription}
@@ -139,7 +139,6 @@ sent-from : (case : CaseShape) (history : List Entry) (run : Run) (entry : Entry
     → AreInTime run → MayFollow case run entry
     → AllByRecursion (FeedsFrom case run x (IsWorkFrom case.topology run x)) (feeds_of case.topology reader)
     → AllByRecursion (WaitsFrom x reader) (deliveries_of case.topology run.made run.next entry)
-sent-from case history run (Claim worker interval) x reader runs ids in_time may feeds = tt
 sent-from case history run (Inject seq part line item) x reader runs ids in_time may feeds =
     let below = Rattle.std.proofs.lemmas.Bool.ltb-true part (injectors_of case.topology) may.injector in
     made-from case.topology part (record { key = item.key; stamp = item.stamp; value = item.value } ∷ []) item.late run.next x reader
@@ -174,8 +173,7 @@ sent-from case history run (Fire seq row timer mark effects) x reader runs ids i
     productions-from x timer.time effects.productions
     (at-each (DueFrom x) (row_of case.topology run row).timers 0 timer (work.timers row refl) may.least_timer on_time)
     (fire-after case run seq row timer mark effects in_time may).productions)
-sent-from case history run (Ack seq row id) x reader runs ids in_time may feeds = tt
-sent-from case history run (Purge seq row floor) x reader runs ids in_time may feeds = tt
+sent-from case history run _ x reader runs ids in_time may feeds = tt
 
 -- a timer that is set again is due from a bound of both settings
 pub set_again-from : (x : ℕ) (t u : Timer) → t.time ≡ u.time → DueFrom x t → DueFrom x u → DueFrom x (set_again t u)
@@ -191,8 +189,6 @@ timers-from : (case : CaseShape) (run : Run) (entry : Entry) (sent : List Delive
     → AreInTime run → MayFollow case run entry
     → row_written entry ≡ Some name → IsWorkFrom case.topology run x name.part
     → AllByRecursion (DueFrom x) (changed entry sent (row_of case.topology run name)).timers
-timers-from case run (Claim worker interval) sent x name runs in_time may written work = work.timers name refl
-timers-from case run (Inject seq part line item) sent x name runs in_time may written work = work.timers name refl
 timers-from case run (Handle seq row id effects) sent x name runs in_time may written work =
     let here : IsWorkFrom case.topology run x row.part = subst (λ (n : RowName). IsWorkFrom case.topology run x n.part)
     (sym (some_same row name written)) work in
@@ -205,8 +201,7 @@ timers-from case run (Handle seq row id effects) sent x name runs in_time may wr
     (work.timers name refl)
 timers-from case run (Fire seq row timer mark effects) sent x name runs in_time may written work =
     each-filter (DueFrom x) (λ t. not (is_timer timer.tag timer.time t)) (row_of case.topology run name).timers (work.timers name refl)
-timers-from case run (Ack seq row id) sent x name runs in_time may written work = work.timers name refl
-timers-from case run (Purge seq row floor) sent x name runs in_time may written work = work.timers name refl
+timers-from case run _ sent x name runs in_time may written work = work.timers name refl
 
 -- one more entry makes no older work for a part, where what feeds the part has none
 pub IsWorkFrom-followed : (case : CaseShape) (history : List Entry) (run : Run) (entry : Entry) (x part : ℕ) → IsRunnable case
@@ -275,7 +270,6 @@ changed-cursor : (case : CaseShape) (run : Run) (entry : Entry) (sent : List Del
     → is_injector case.topology name.part ≡ true
     → row_written entry ≡ Some name
     → IsNextOr (cursor_in (changed entry sent (row_of case.topology run name)).state) (cursor_in (row_of case.topology run name).state)
-changed-cursor case run (Claim worker interval) sent name may is written = inl refl
 changed-cursor case run (Inject seq part line item) sent name may is written = advanced-next (row_of case.topology run name).state
 changed-cursor case run (Handle seq row id effects) sent name may is written =
     let kind = was_some (λ (kind : Kind). effects_of_record kind row.key (row_of case.topology run row).state may.delivery.item)
@@ -287,8 +281,7 @@ changed-cursor case run (Fire seq row timer mark effects) sent name may is writt
     (kind_of case.topology row.part) effects may.does in
     absurd (injector-no_kind case.topology row.part kind.0
     (subst (λ (n : RowName). is_injector case.topology n.part ≡ true) (sym (some_same row name written)) is) kind.1)
-changed-cursor case run (Ack seq row id) sent name may is written = inl refl
-changed-cursor case run (Purge seq row floor) sent name may is written = inl refl
+changed-cursor case run _ sent name may is written = inl refl
 
 -- one more entry makes no injector state an earlier watermark
 pub source_mark-followed : (case : CaseShape) (run : Run) (entry : Entry) (part : ℕ) → IsRunnable case → MayFollow case run entry

@@ -34,8 +34,8 @@ pub record IsMadeOn (history : List Entry) (name : RowName) (d : Delivery) : Typ
   pub numbered : slice_get history d.id.commit ≡ Some entry
   pub on_row : row_written entry ≡ Some name
 
--- the floor is at most the commit number of each delivery that was made and is not acknowledged, and is that of one of
--- them, or the next number where there is none
+-- the floor is at most the commit number of each delivery that was made and is not acknowledged, and is
+-- that of one of them, or the next number where there is none
 pub record IsFloor (history : List Entry) (run : Run) (floor : ℕ) : Type 0 where
   pub at_most : All (λ (d : Delivery). is_acknowledged d.id history ≡ false → floor ≤ d.id.commit)
       run.made

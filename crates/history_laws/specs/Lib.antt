@@ -1,3 +1,4 @@
 pub mod Writes
 pub mod Ids
 pub mod Stamps
+pub mod Keys

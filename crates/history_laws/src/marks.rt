@@ -3,11 +3,13 @@ ghost use Rattle.std.specs.Prelude.{ℕ, List, Some, All, max, slice_get, ◌≡
 ghost use Rattle.mw_types.specs.declared.entry.Entry.{Entry};
 ghost use Rattle.key_intervals.specs.declared.bounds.Bounds.{Bounds};
 ghost use Rattle.topology.specs.Shapes.{feeds_of, parts_of};
+ghost use Rattle.topology.specs.Rules.{IsTopology};
 ghost use Rattle.run_history.specs.Cases.{CaseShape, intervals_of};
 ghost use Rattle.run_history.specs.Runs.{Run, run_of};
 ghost use Rattle.run_history.specs.Watermarks.{low_watermark};
 ghost use Rattle.run_history.specs.Legal.{IsLegal};
 ghost use Rattle.run_history.specs.Inputs.{IsRunnable};
+ghost use Rattle.run_history.specs.Fences.{HasSeenAll, IsFenced, known};
 ghost use Rattle.run_history.specs.Marks.{own_work, work_above, IsSafe, IsUnderMarks};
 
 /// A mark of an interval that is safe after a beginning of a legal history is safe after the whole.
@@ -23,6 +25,18 @@ pub fn safe_marks_stay_safe()
     ensures greater { (case : CaseShape) (run : Run) (bounds : Bounds) (one other : ℕ) →
         IsSafe case run bounds one → IsSafe case run bounds other →
         IsSafe case run bounds (max one other) }
+{}
+
+/// The own work of an interval, as it is known under a claim of it, is the same by a beginning of a
+/// fenced history as by the whole, where the beginning has the claim and all that was written under
+/// it; later claims may have overtaken this one.
+pub fn own_work_is_as_known()
+    ensures as_known { (case : CaseShape) (front rest : List Entry) (interval seq : ℕ)
+        (bounds : Bounds) → IsTopology case.topology →
+        slice_get (intervals_of case.topology) interval ≡ Some bounds →
+        IsFenced case.topology (front ++ rest) → HasSeenAll interval seq front rest →
+        own_work case (run_of case.topology (known interval seq (front ++ rest))) bounds
+        ≡ own_work case (run_of case.topology (known interval seq front)) bounds }
 {}
 
 /// A mark that is at most an interval's own work, and at most a safe mark of each interval that

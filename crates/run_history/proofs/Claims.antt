@@ -7,7 +7,7 @@ use Rattle.std.specs.List.{AllByRecursion, enumerate_from}
 use Rattle.std.proofs.lemmas.List.{take-append-drop, length-take, take_more}
 use Rattle.std.proofs.lemmas.List.Sums.{fold-append}
 use Rattle.mw_types.specs.declared.entry.Entry.{Entry}
-use Rattle.mw_types.specs.declared.entry.Entry.TheVariants.{Claim, Inject, Handle, Fire, Ack, Purge}
+use Rattle.mw_types.specs.declared.entry.Entry.TheVariants.{Claim}
 use Rattle.run_history.specs.Fences.{is_claim, later_claim, last_claim}
 use Rattle.run_history.proofs.Making.{enumerate_from-append}
 use Rattle.run_history.proofs.Lists.{some_same, none_some}
@@ -95,11 +95,7 @@ last_claim-at interval worker before after none =
 -- what the test of a claim says
 claim-is : (interval : ℕ) (e : Entry) → is_claim interval e ≡ true → (worker : ℕ) × (e ≡ Claim worker interval)
 claim-is interval (Claim worker claimed) is = (worker, ap (Claim worker) (eqb-true claimed interval is))
-claim-is interval (Inject seq part line item) is = absurd (cc)
-claim-is interval (Handle seq row id effects) is = absurd (cc)
-claim-is interval (Fire seq row timer mark effects) is = absurd (cc)
-claim-is interval (Ack seq row id) is = absurd (cc)
-claim-is interval (Purge seq row floor) is = absurd (cc)
+claim-is interval _ is = absurd (cc)
 
 -- a claim that is found among entries that are numbered from n on is there, or was found before
 claim_from-there : (interval n s : ℕ) (last : Option ℕ) (entries : List Entry) → claim_from interval n last entries ≡ Some s

@@ -4,7 +4,7 @@ use Rattle.std.specs.Fmt.{signed_decimal}
 use Rattle.mw_types.specs.declared.record.Production.{Production}
 use Rattle.mw_types.specs.declared.timer.Timer.{Timer}
 use Rattle.mw_types.specs.declared.entry.Entry.{Entry}
-use Rattle.mw_types.specs.declared.entry.Entry.TheVariants.{Claim, Inject, Handle, Fire, Ack, Purge}
+use Rattle.mw_types.specs.declared.entry.Entry.TheVariants.{Inject, Handle, Fire}
 use Rattle.run_history.specs.HistoryLines.{production_data, timer_data, entry_data}
 use Rattle.serde_json.specs.Data.{Data}
 use Rattle.serde_json.specs.Find.{is_float, of_integer}
@@ -37,12 +37,10 @@ has_float-timer_data t = refl
 
 -- an entry has none
 pub entry_has_no_float : (n : ℕ) (entry : Entry) → has_float (entry_data n entry) ≡ false
-entry_has_no_float n (Claim worker interval) = refl
 entry_has_no_float n (Inject seq part line item) = rw (is_float-of_integer item.value)
 entry_has_no_float n (Handle seq row id effects) =
     rw (items_have_float-map production_data effects.productions has_float-production_data)
     (rw (items_have_float-map timer_data effects.timers has_float-timer_data))
 entry_has_no_float n (Fire seq row timer mark effects) =
     rw (items_have_float-map production_data effects.productions has_float-production_data)
-entry_has_no_float n (Ack seq row id) = refl
-entry_has_no_float n (Purge seq row floor) = refl
+entry_has_no_float n _ = refl

@@ -1,6 +1,7 @@
 -- Which histories are fenced: each write is made under the last claim of its row's interval.
--- Akidau et al., VLDB 2013, section 6.2, where a sequencer is checked at each write, and section 7.1 for the
--- intervals. Own: a sequencer is the commit number of a claim, and what is known under a claim that was overtaken.
+-- Akidau et al., VLDB 2013, section 6.2, where a sequencer is checked at each write, and section 7.1 for
+-- the intervals. Own: a sequencer is the commit number of a claim, and what is known under a claim that
+-- was overtaken.
 use Rattle.std.specs.Prelude.{◌≡◌, ◌≢◌, ℕ, ◌+◌, ◌<◌, ◌==◌, not, if◌then◌else◌, Bool, false, List, [], ◌∷◌, ◌++◌, length, slice_get, take, drop, fold, All, Option, Some, None}
 use Rattle.std.specs.Option.{option_and_then}
 use Rattle.std.specs.List.{enumerate_from, position_from, take_while}
@@ -57,7 +58,8 @@ IsUnderLastClaim shape before entry = (name : RowName) → row_written entry ≡
     option_and_then (λ (interval : ℕ). last_claim interval before) (interval_of shape name)
     ≡ sequencer_of entry
 
--- the history is fenced: each entry that is on a row carries the number of the last claim of the row's interval
+-- the history is fenced: each entry that is on a row carries the number of the last claim of the row's
+-- interval
 abbrev pub IsFenced : Shape → List Entry → Type 0
 IsFenced shape history = (before : List Entry) (entry : Entry) →
     Begins (before ++ entry ∷ []) history → IsUnderLastClaim shape before entry
@@ -77,7 +79,8 @@ known interval seq history =
 abbrev pub IsClaimed : ℕ → ℕ → List Entry → Type 0
 IsClaimed interval seq history = (worker : ℕ) × (slice_get history seq ≡ Some (Claim worker interval))
 
--- what was seen has the claim of an interval that has this number, and nothing of the rest was written under it
+-- what was seen has the claim of an interval that has this number, and nothing of the rest was written
+-- under it
 pub record HasSeenAll (interval seq : ℕ) (seen rest : List Entry) : Type 0 where
   pub claimed : IsClaimed interval seq seen
   pub own : CarryNot seq rest
@@ -87,7 +90,8 @@ pub record HasSeen (interval seq : ℕ) (seen rest : List Entry) : Type 0 where
   pub all : HasSeenAll interval seq seen rest
   pub last : IsCurrent interval seq (seen ++ rest)
 
--- an entry is a write under the claim of an interval that has this number: on a row of the interval, with the number
+-- an entry is a write under the claim of an interval that has this number: on a row of the interval, with
+-- the number
 pub record IsWriteUnder (shape : Shape) (interval seq : ℕ) (entry : Entry) : Type 0 where
   pub name : RowName
   pub on_row : row_written entry ≡ Some name

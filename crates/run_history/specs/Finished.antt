@@ -1,5 +1,6 @@
 -- What is handled and acknowledged in a history, and how much work is left after it.
--- Akidau et al., VLDB 2013, section 6.1, for what a worker does on receipt of a record. Own: what counts as work.
+-- Akidau et al., VLDB 2013, section 6.1, for what a worker does on receipt of a record. Own: what counts
+-- as work.
 use Rattle.std.specs.Prelude.{◌≡◌, ℕ, ◌+◌, Bool, false, ◌&&◌, ◌==◌, if◌then◌else◌, nat_lt, List, length, filter}
 use Rattle.std.specs.List.{flat_map, list_any, range_with_len}
 use Rattle.mw_types.specs.declared.identity.RecordId.{RecordId}
@@ -63,7 +64,8 @@ abbrev pub row_has_line : CaseShape → RowName → Contents → Bool
 row_has_line case name row = is_injector case.topology name.part && (length name.key == 0)
     && nat_lt (cursor_in row.state) (length (source_of case name.part))
 
--- how much work is left in a row: what is pending, the timers that are set, and an injector that has a line left
+-- how much work is left in a row: what is pending, the timers that are set, and an injector that has a line
+-- left
 abbrev pub work_in : CaseShape → RowName → Contents → ℕ
 work_in case name row =
     length row.pending + length row.timers + (if row_has_line case name row then 1 else 0)

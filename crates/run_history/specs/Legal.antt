@@ -1,6 +1,6 @@
 -- Which entry may come next, and which histories are legal: each entry does what one thread would do.
--- Akidau et al., VLDB 2013, section 6.1, for what a worker does on receipt of a record, and section 4.6 for the order
--- in which the timers of a key fire. Own: the conditions.
+-- Akidau et al., VLDB 2013, section 6.1, for what a worker does on receipt of a record, and section 4.6
+-- for the order in which the timers of a key fire. Own: the conditions.
 use Rattle.std.specs.Prelude.{◌≡◌, ℕ, ◌<◌, ◌≤◌, min, ⊤, List, [], ◌∷◌, length, map, fold, slice_get, IsTrue, IsSome, IsNone, Option, Some}
 use Rattle.std.specs.Option.{option_map}
 use Rattle.std.specs.List.{flat_map, AllByRecursion}
@@ -49,15 +49,17 @@ pub record MayInject (case : CaseShape) (run : Run) (part line : ℕ) (item : Re
   pub of_line : option_map record_of (item_at (source_of case part) line) ≡ Some item
 
 -- a row may handle a delivery that waits for it, and leaves what its computation's handler leaves
-pub record MayHandle (case : CaseShape) (run : Run) (row : RowName) (id : RecordId) (effects : EffectsView) : Type 0 where
+pub record MayHandle (case : CaseShape) (run : Run) (row : RowName) (id : RecordId)
+    (effects : EffectsView) : Type 0 where
   pub delivery : Delivery
   pub waits : found_delivery id run.unhandled ≡ Some delivery
   pub to_row : delivery.to ≡ row
   pub does : record_outcome case row (row_of case.topology run row) delivery.item ≡ Some effects
 
--- a row may fire the least of its timers, once it is due under a mark that is not above the low watermark of its part,
--- and leaves what its computation's handler leaves
-pub record MayFire (case : CaseShape) (run : Run) (row : RowName) (timer : Timer) (mark : ℕ) (effects : EffectsView) : Type 0 where
+-- a row may fire the least of its timers, once it is due under a mark that is not above the low watermark of
+-- its part, and leaves what its computation's handler leaves
+pub record MayFire (case : CaseShape) (run : Run) (row : RowName) (timer : Timer) (mark : ℕ)
+    (effects : EffectsView) : Type 0 where
   pub least_timer : slice_get (row_of case.topology run row).timers 0 ≡ Some timer
   pub due : timer.time ≤ mark
   pub under_watermark : mark ≤ low_watermark case run row.part
@@ -86,7 +88,8 @@ MayFollow case run (Purge seq row floor) = MayPurge case run row floor
 -- each of these entries may follow what stands before it
 abbrev pub AreLegal : CaseShape → Run → List Entry → Type 0
 AreLegal case run [] = ⊤
-AreLegal case run (entry ∷ entries) = MayFollow case run entry × AreLegal case (followed case.topology run entry) entries
+AreLegal case run (entry ∷ entries) =
+    MayFollow case run entry × AreLegal case (followed case.topology run entry) entries
 
 -- the history is a legal one: each entry may follow those before it
 abbrev pub IsLegal : CaseShape → List Entry → Type 0
@@ -94,10 +97,11 @@ IsLegal case history = AreLegal case empty_run history
 
 -- each source is at its end
 abbrev pub AreInjected : CaseShape → Run → Type 0
-AreInjected case run = (part : ℕ) → part < injectors_of case.topology → cursor_of case run part ≡ length (source_of case part)
+AreInjected case run = (part : ℕ) → part < injectors_of case.topology →
+    cursor_of case run part ≡ length (source_of case part)
 
--- all work of one thread is done: each line is injected, nothing waits to be handled, and no timer is pending.
--- Acknowledgements are not asked
+-- all work of one thread is done: each line is injected, nothing waits to be handled, and no timer is
+-- pending. Acknowledgements are not asked
 pub record IsDone (case : CaseShape) (run : Run) : Type 0 where
   pub injected : AreInjected case run
   pub handled : run.unhandled ≡ []

@@ -1,4 +1,5 @@
--- What an entry makes: a delivery of each of its productions to each consumer, or emissions where nothing reads.
+-- What an entry makes: a delivery of each of its productions to each consumer, or emissions where nothing
+-- reads.
 -- Akidau et al., VLDB 2013, section 6.1: a record gets its id when it is produced. Own: how ids are counted.
 use Rattle.std.specs.Prelude.{ℕ, Bool, false, List, [], ◌∷◌, map, find, Option, Some, None}
 use Rattle.std.specs.Option.{option_map_or}
@@ -29,7 +30,8 @@ sends_of subscriptions item = map (λ s. (row_to item s, item)) subscriptions
 
 -- the delivery that an entry of this number made, by its place among them
 abbrev pub delivery_at : ℕ → ℕ × (RowName × Record) → Delivery
-delivery_at commit (index, send) = record { id = record { commit = commit; index = index }; to = send.0; item = send.1 }
+delivery_at commit (index, send) =
+    record { id = record { commit = commit; index = index }; to = send.0; item = send.1 }
 
 -- the deliveries of records to consumers: for each record in order, one for each subscription in order
 abbrev pub deliveries_to : List Subscription → ℕ → List Record → List Delivery
@@ -38,7 +40,8 @@ deliveries_to subscriptions commit items =
 
 -- what a record of a part becomes where nothing reads the part's stream
 abbrev pub emission_at : ℕ → ℕ → ℕ × Record → Emission
-emission_at part commit (index, item) = record { id = record { commit = commit; index = index }; part = part; item = item }
+emission_at part commit (index, item) =
+    record { id = record { commit = commit; index = index }; part = part; item = item }
 
 -- the emissions of records of a part, where its stream has no subscription
 abbrev pub emissions_to : List Subscription → ℕ → ℕ → List Record → List Emission
@@ -70,17 +73,23 @@ row_written (Purge seq row floor) = Some row
 
 -- what an entry produces: an injected record, or what a handler produced
 abbrev pub productions_of : Entry → List Production
-productions_of (Inject seq part line item) = record { key = item.key; stamp = item.stamp; value = item.value } ∷ []
+productions_of (Claim worker interval) = []
+productions_of (Inject seq part line item) =
+    record { key = item.key; stamp = item.stamp; value = item.value } ∷ []
 productions_of (Handle seq row id effects) = effects.productions
 productions_of (Fire seq row timer mark effects) = effects.productions
-productions_of _ = []
+productions_of (Ack seq row id) = []
+productions_of (Purge seq row floor) = []
 
 -- whether an entry's cause is late: the record, the timer, or the delivery that was made under the handled id
 abbrev pub late_cause : List Delivery → Entry → Bool
+late_cause made (Claim worker interval) = false
 late_cause made (Inject seq part line item) = item.late
-late_cause made (Handle seq row id effects) = option_map_or (λ (d : Delivery). d.item.late) (found_delivery id made) false
+late_cause made (Handle seq row id effects) =
+    option_map_or (λ (d : Delivery). d.item.late) (found_delivery id made) false
 late_cause made (Fire seq row timer mark effects) = timer.late
-late_cause made _ = false
+late_cause made (Ack seq row id) = false
+late_cause made (Purge seq row floor) = false
 
 -- the deliveries that an entry makes under its commit number, after those made before it
 abbrev pub deliveries_of : Shape → List Delivery → ℕ → Entry → List Delivery

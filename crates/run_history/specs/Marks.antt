@@ -1,7 +1,8 @@
--- What is still to do above a point: the own work of an interval of keys, the work of a part and of all that feeds it,
--- and which marks are safe. After Akidau et al., VLDB 2013, section 4.5, where a low watermark is the least of the
--- oldest work of a computation and of its inputs' low watermarks.
--- Own: a delivery is work of the row that sent it until it is acknowledged, and the intervals stand for the parts.
+-- What is still to do above a point: the own work of an interval of keys, the work of a part and of all
+-- that feeds it, and which marks are safe. After Akidau et al., VLDB 2013, section 4.5, where a low
+-- watermark is the least of the oldest work of a computation and of its inputs' low watermarks.
+-- Own: a delivery is work of the row that sent it until it is acknowledged, and the intervals stand for
+-- the parts.
 use Rattle.std.specs.Prelude.{◌≡◌, ℕ, zero, suc, ◌≤◌, ◌==◌, not, if◌then◌else◌, List, [], ◌∷◌, ◌++◌, map, filter, slice_get, Some, All}
 use Rattle.std.specs.List.{flat_map}
 use Rattle.mw_types.specs.declared.identity.RowName.{RowName}
@@ -28,7 +29,8 @@ abbrev pub stated_marks : CaseShape → Run → ℕ → List ℕ
 stated_marks case run part =
     if is_injector case.topology part then source_mark case run part ∷ [] else []
 
--- the own work of an interval: the least of the marks of its rows, and of an injector the watermark that its file states
+-- the own work of an interval: the least of the marks of its rows, and of an injector the watermark that its
+-- file states
 abbrev pub own_work : CaseShape → Run → Bounds → ℕ
 own_work case run bounds = least
     (flat_map (λ (r : RowName × Contents). row_marks r.1) (rows_covered bounds run.rows)
@@ -58,4 +60,5 @@ pub record IsSafe (case : CaseShape) (run : Run) (bounds : Bounds) (mark : ℕ) 
 -- a mark is at most a safe mark of each interval of a part
 abbrev pub IsUnderMarks : CaseShape → Run → ℕ → ℕ → Type 0
 IsUnderMarks case run part mark = (interval : ℕ) (b : Bounds) →
-    slice_get (intervals_of case.topology) interval ≡ Some b → b.part ≡ part → (safe : ℕ) × (mark ≤ safe) × IsSafe case run b safe
+    slice_get (intervals_of case.topology) interval ≡ Some b → b.part ≡ part →
+    (safe : ℕ) × (mark ≤ safe) × IsSafe case run b safe

@@ -1,4 +1,5 @@
--- What stands after a history: one thread's run of its entries, one key's context at a time, each record once.
+-- What stands after a history: one thread's run of its entries, one key's context at a time, each record
+-- once.
 -- Akidau et al., VLDB 2013, sections 4.4, 4.6 and 6.1, for state, timers and what is checkpointed with them.
 -- Own: a row has a floor, below which each id is finished, and rows stand in the order of their names.
 use Rattle.std.specs.Prelude.{ℕ, ◌+◌, nat_lt, if◌then◌else◌, List, [], ◌++◌, fold, Option, unwrap_or}
@@ -79,7 +80,8 @@ fired_in timer effects sent row = record row {
 -- what an entry that made these deliveries changes in its row, but for the row's last number
 abbrev pub changed : Entry → List Delivery → Contents → Contents
 changed (Claim worker interval) sent row = row
-changed (Inject seq part line item) sent row = record row { state = advanced row.state; pending = row.pending ++ sent }
+changed (Inject seq part line item) sent row =
+    record row { state = advanced row.state; pending = row.pending ++ sent }
 changed (Handle seq name id effects) sent row = handled_in id effects sent row
 changed (Fire seq name timer mark effects) sent row = fired_in timer effects sent row
 changed (Ack seq name id) sent row = record row { pending = without_delivery id row.pending }
@@ -101,8 +103,12 @@ rows_after shape run entry sent = option_map_or
 
 -- the deliveries that still wait: a handler takes its own
 abbrev pub still_unhandled : Entry → List Delivery → List Delivery
+still_unhandled (Claim worker interval) waiting = waiting
+still_unhandled (Inject seq part line item) waiting = waiting
 still_unhandled (Handle seq row id effects) waiting = without_delivery id waiting
-still_unhandled _ waiting = waiting
+still_unhandled (Fire seq row timer mark effects) waiting = waiting
+still_unhandled (Ack seq row id) waiting = waiting
+still_unhandled (Purge seq row floor) waiting = waiting
 
 -- what stands after one more entry
 abbrev pub followed : Shape → Run → Entry → Run

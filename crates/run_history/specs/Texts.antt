@@ -24,7 +24,12 @@ pub record ResultLine : Type 0 where
 
 -- the line of an emission
 abbrev pub line_of : Shape → Emission → ResultLine
-line_of shape e = record { stream = stream_of shape e.part; stamp = e.item.stamp; key = e.item.key; value = e.item.value }
+line_of shape e = record {
+  stream = stream_of shape e.part;
+  stamp = e.item.stamp;
+  key = e.item.key;
+  value = e.item.value;
+}
 
 -- lines stand by stream, timestamp, key and value
 abbrev pub line_cmp : ResultLine → ResultLine → Ordering

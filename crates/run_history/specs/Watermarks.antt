@@ -1,7 +1,7 @@
--- The low watermark of a computation: the least of its oldest work, of the low watermarks of the computations that
--- feed it, and of the watermarks that the injectors that feed it have stated.
--- Akidau et al., VLDB 2013, section 4.5. Own: a pending timer is work at its time; late work is left out; the end
--- of an input is a mark, and stands where there is no work.
+-- The low watermark of a computation: the least of its oldest work, of the low watermarks of the
+-- computations that feed it, and of the watermarks that the injectors that feed it have stated.
+-- Akidau et al., VLDB 2013, section 4.5. Own: a pending timer is work at its time; late work is left out;
+-- the end of an input is a mark, and stands where there is no work.
 use Rattle.std.specs.Prelude.{ℕ, zero, suc, min, ◌==◌, ◌&&◌, not, if◌then◌else◌, List, [], ◌∷◌, ◌++◌, map, filter}
 use Rattle.std.specs.List.{flat_map}
 use Rattle.mw_types.specs.declared.TheConstants.{END}
@@ -56,9 +56,11 @@ source_mark case run part = stated_at (source_of case part) (cursor_of case run 
 abbrev pub low_under : CaseShape → Run → ℕ → ℕ → ℕ
 low_under case run zero part = oldest_work run part
 low_under case run (suc depth) part = least (oldest_work run part ∷ map
-    (λ feeding. if is_injector case.topology feeding then source_mark case run feeding else low_under case run depth feeding)
+    (λ feeding. if is_injector case.topology feeding
+    then source_mark case run feeding else low_under case run depth feeding)
     (feeds_of case.topology part))
 
--- the low watermark of a computation: a computation reads only what stands above it, so no path is longer than the parts
+-- the low watermark of a computation: a computation reads only what stands above it, so no path is longer
+-- than the parts
 abbrev pub low_watermark : CaseShape → Run → ℕ → ℕ
 low_watermark case run part = low_under case run (parts_of case.topology) part

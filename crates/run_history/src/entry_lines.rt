@@ -4,7 +4,7 @@ ghost use Rattle.run_history.specs.HistoryLines.{line_of_entry, lines_of_history
 
 use crate::entry_values::entry_value;
 use crate::history::History;
-use crate::text::LINE_ROOM;
+use crate::text::{LINE_ROOM, value_line};
 use mw_types::{Bytes, Entry, NoMemory};
 use std::alloc::Global;
 
@@ -47,7 +47,6 @@ fn entry_text(alloc: Global, entry: &Entry, n: u64) -> Result<String, NoMemory>
     requires { HasLine entry.now }
     ensures { IfOk result (λ text. string_bytes text ≡ line_of_entry n entry.now) }
 {
-    let mut text = entry_value(alloc, entry, n)?.to_string(alloc)?;
-    text.push('\n')?;
-    Ok(text)
+    let value = entry_value(alloc, entry, n)?;
+    value_line(alloc, &value)
 }

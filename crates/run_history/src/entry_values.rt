@@ -1,16 +1,18 @@
 //! Entries as JSON objects.
-ghost use Rattle.std.specs.Prelude.{◌≡◌, codes, IfOk, OnOk, string_bytes};
+ghost use Rattle.std.specs.Prelude.{◌≡◌, ◌++◌, ◌∷◌, [], codes, map, IfOk, OnOk, string_bytes};
 ghost use Rattle.mw_types.specs.Bounds.{IsWithin};
 ghost use Rattle.row_parts.specs.Contents.{IsId};
 ghost use Rattle.row_parts.specs.Spelling.{state_spelling};
 ghost use Rattle.hex.specs.Hex.{encode_lower};
-ghost use Rattle.run_history.specs.HistoryLines.{array_data, production_data, timer_data, claim_data, inject_data, handle_data, handled_data, fire_data, fired_data, ack_data, purge_data, entry_data, HasLine};
-ghost use Rattle.serde_json.specs.Data.{boolean, number, put, string, unsigned};
+ghost use Rattle.run_history.specs.HistoryLines.{array_data, production_data, state_data, timer_data, claim_data, inject_data, handle_data, fire_data, ack_data, purge_data, entry_data, HasLine};
+ghost use Rattle.serde_json.specs.Data.{boolean, number, object, put, string, unsigned};
+ghost use Rattle.serde_json.specs.Find.{of_integer};
 ghost use Rattle.serde_json.specs.View.{members_view, view};
 
+use crate::members::{put_flag, put_id, put_integer, put_number, put_row, put_text};
 use mw_types::{Effects, Entry, NoMemory, Production, Record, RecordId, RowName, State, Timer};
 use row_parts::state_bytes;
-use serde_json::{Map, Value, json};
+use serde_json::{Map, Value};
 use std::alloc::Global;
 
 // An entry under its commit number.
@@ -18,265 +20,261 @@ pub(crate) fn entry_value(alloc: Global, entry: &Entry, n: u64) -> Result<Value,
     requires { HasLine entry.now }
     ensures { IfOk result (λ value. view value ≡ entry_data n entry.now) }
 {
+    let mut map = Map::new(alloc);
+    put_entry(alloc, &mut map, entry, n)?;
+    Ok(Value::Object(map))
+}
+
+// Puts what an entry says into an object that has nothing yet.
+fn put_entry(
+    alloc: Global,
+    map: &mut Map<String, Value>,
+    entry: &Entry,
+    n: u64,
+) -> Result<(), NoMemory>
+    requires line { HasLine entry.now }
+    requires empty { map.old.entries ≡ [] }
+    ensures { OnOk result (object (members_view map.new.entries) ≡ entry_data n entry.now) }
+{
     match entry {
-        Entry::Claim { worker, interval } => claim_value(alloc, n, *worker, *interval),
+        Entry::Claim { worker, interval } => put_claim(alloc, map, n, *worker, *interval),
         Entry::Inject {
             seq,
             part,
             line,
             item,
-        } => inject_value(alloc, n, *seq, *part, *line, item),
+        } => put_inject(alloc, map, n, *seq, *part, *line, item),
         Entry::Handle {
             seq,
             row,
             id,
             effects,
-        } => handle_value(alloc, n, *seq, row, *id, effects),
+        } => put_handle(alloc, map, n, *seq, row, *id, effects),
         Entry::Fire {
             seq,
             row,
             timer,
             mark,
             effects,
-        } => fire_value(alloc, n, *seq, row, *timer, *mark, effects),
-        Entry::Ack { seq, row, id } => ack_value(alloc, n, *seq, row, *id),
-        Entry::Purge { seq, row, floor } => purge_value(alloc, n, *seq, row, *floor),
+        } => put_fire(alloc, map, n, *seq, row, *timer, *mark, effects),
+        Entry::Ack { seq, row, id } => put_ack(alloc, map, n, *seq, row, *id),
+        Entry::Purge { seq, row, floor } => put_purge(alloc, map, n, *seq, row, *floor),
     }
 }
 
-// A claim.
-fn claim_value(alloc: Global, n: u64, worker: u32, interval: u32) -> Result<Value, NoMemory>
-    ensures { IfOk result (λ value. view value ≡ claim_data n worker interval) }
+// Puts a claim.
+fn put_claim(
+    alloc: Global,
+    map: &mut Map<String, Value>,
+    n: u64,
+    worker: u32,
+    interval: u32,
+) -> Result<(), NoMemory>
+    requires empty { map.old.entries ≡ [] }
+    ensures { OnOk result (object (members_view map.new.entries) ≡ claim_data n worker interval) }
 {
-    let value = json!(in alloc; {"do": "claim", "interval": interval, "n": n, "worker": worker})?;
-    Ok(value)
+    put_deed(alloc, map, "claim", n)?;
+    put_number(alloc, map, "interval", u64::from(interval))?;
+    put_number(alloc, map, "worker", u64::from(worker))
 }
 
-// An injected line.
-fn inject_value(
+// Puts an injected line.
+fn put_inject(
     alloc: Global,
+    map: &mut Map<String, Value>,
     n: u64,
     seq: u64,
     part: u32,
     line: u32,
     item: &Record,
-) -> Result<Value, NoMemory>
-    ensures { IfOk result (λ value. view value ≡ inject_data n seq part line item.now) }
+) -> Result<(), NoMemory>
+    requires empty { map.old.entries ≡ [] }
+    ensures { OnOk result
+        (object (members_view map.new.entries) ≡ inject_data n seq part line item.now) }
 {
-    let key = item.key.text();
-    let value = json!(in alloc; {
-        "do": "inject",
-        "key": key,
-        "late": item.late,
-        "line": line,
-        "n": n,
-        "part": part,
-        "seq": seq,
-        "ts": item.stamp,
-        "value": item.value
-    })?;
-    Ok(value)
+    put_write(alloc, map, "inject", n, seq)?;
+    put_number(alloc, map, "part", u64::from(part))?;
+    put_number(alloc, map, "line", u64::from(line))?;
+    put_item(alloc, map, item)
 }
 
-// A handled record.
-fn handle_value(
+// Puts a handled record.
+fn put_handle(
     alloc: Global,
+    map: &mut Map<String, Value>,
     n: u64,
     seq: u64,
     row: &RowName,
     id: RecordId,
     effects: &Effects,
-) -> Result<Value, NoMemory>
-    requires { IsId id }
-    ensures { IfOk result (λ value. view value ≡ handle_data n seq row.now id effects.now) }
+) -> Result<(), NoMemory>
+    requires id { IsId id }
+    requires empty { map.old.entries ≡ [] }
+    ensures { OnOk result
+        (object (members_view map.new.entries) ≡ handle_data n seq row.now id effects.now) }
 {
-    let id = id.uuid(alloc)?;
-    let out = productions_value(alloc, effects.productions.as_slice())?;
-    let state = state_text(alloc, &effects.state)?;
-    let timers = timers_value(alloc, effects.timers.as_slice())?;
-    handled_value(alloc, n, seq, row, id.text(), &out, state.as_str(), &timers)
+    put_write(alloc, map, "handle", n, seq)?;
+    put_row(alloc, map, row)?;
+    put_id(alloc, map, id)?;
+    put_effects(alloc, map, effects)?;
+    put_timers(alloc, map, effects)
 }
 
-// A handled record, by what is printed of it.
-fn handled_value(
+// Puts a fired timer.
+fn put_fire(
     alloc: Global,
-    n: u64,
-    seq: u64,
-    row: &RowName,
-    id: &str,
-    out: &Value,
-    state: &str,
-    timers: &Value,
-) -> Result<Value, NoMemory>
-    ensures { let id = string id.now in let state = string state.now in IfOk result (λ value.
-        view value ≡ handled_data n seq row.now id (view out.now) state (view timers.now)) }
-{
-    let key = row.key.text();
-    let value = json!(in alloc; {
-        "do": "handle",
-        "id": id,
-        "n": n,
-        "out": out,
-        "part": row.part,
-        "row": key,
-        "seq": seq,
-        "state": state,
-        "timers": timers
-    })?;
-    Ok(value)
-}
-
-// A fired timer.
-fn fire_value(
-    alloc: Global,
+    map: &mut Map<String, Value>,
     n: u64,
     seq: u64,
     row: &RowName,
     timer: Timer,
     mark: u64,
     effects: &Effects,
-) -> Result<Value, NoMemory>
-    ensures { IfOk result
-        (λ value. view value ≡ fire_data n seq row.now timer mark effects.now) }
+) -> Result<(), NoMemory>
+    requires empty { map.old.entries ≡ [] }
+    ensures { OnOk result
+        (object (members_view map.new.entries) ≡ fire_data n seq row.now timer mark effects.now) }
 {
-    let out = productions_value(alloc, effects.productions.as_slice())?;
-    let state = state_text(alloc, &effects.state)?;
-    fired_value(alloc, n, seq, row, timer, mark, &out, state.as_str())
+    put_write(alloc, map, "fire", n, seq)?;
+    put_row(alloc, map, row)?;
+    put_due(alloc, map, timer, mark)?;
+    put_effects(alloc, map, effects)
 }
 
-// A fired timer, by what is printed of it.
-fn fired_value(
-    alloc: Global,
-    n: u64,
-    seq: u64,
-    row: &RowName,
-    timer: Timer,
-    mark: u64,
-    out: &Value,
-    state: &str,
-) -> Result<Value, NoMemory>
-    ensures { let state = string state.now in IfOk result (λ value.
-        view value ≡ fired_data n seq row.now timer mark (view out.now) state) }
-{
-    let mut map = Map::new(alloc);
-    put_firing(alloc, &mut map, n, seq, mark)?;
-    put_row(alloc, &mut map, row)?;
-    put_timer(alloc, &mut map, timer)?;
-    put_outcome(alloc, &mut map, out, state)?;
-    Ok(Value::Object(map))
-}
-
-// Adds that a timer was fired, and under what.
-fn put_firing(
+// Puts an acknowledgement.
+fn put_ack(
     alloc: Global,
     map: &mut Map<String, Value>,
-    n: u64,
-    seq: u64,
-    mark: u64,
-) -> Result<(), NoMemory>
-    ensures { OnOk result (members_view map.new.entries
-        ≡ put (codes "seq") (number (unsigned seq))
-        (put (codes "n") (number (unsigned n))
-        (put (codes "mark") (number (unsigned mark))
-        (put (codes "do") (string (codes "fire")) (members_view map.old.entries))))) }
-{
-    serde_json::put(map, alloc, "do", Value::try_from_str(alloc, "fire")?)?;
-    serde_json::put(map, alloc, "mark", Value::from(mark))?;
-    serde_json::put(map, alloc, "n", Value::from(n))?;
-    serde_json::put(map, alloc, "seq", Value::from(seq))?;
-    Ok(())
-}
-
-// Adds the name of a row.
-fn put_row(alloc: Global, map: &mut Map<String, Value>, row: &RowName) -> Result<(), NoMemory>
-    ensures { OnOk result (members_view map.new.entries
-        ≡ put (codes "row") (string row.now.key)
-        (put (codes "part") (number (unsigned row.now.part)) (members_view map.old.entries))) }
-{
-    serde_json::put(map, alloc, "part", Value::from(row.part))?;
-    serde_json::put(
-        map,
-        alloc,
-        "row",
-        Value::try_from_str(alloc, row.key.text())?,
-    )?;
-    Ok(())
-}
-
-// Adds a timer.
-fn put_timer(alloc: Global, map: &mut Map<String, Value>, timer: Timer) -> Result<(), NoMemory>
-    ensures { OnOk result (members_view map.new.entries
-        ≡ put (codes "time") (number (unsigned timer.time))
-        (put (codes "tag") (number (unsigned timer.tag))
-        (put (codes "late") (boolean timer.late) (members_view map.old.entries)))) }
-{
-    serde_json::put(map, alloc, "late", Value::from(timer.late))?;
-    serde_json::put(map, alloc, "tag", Value::from(timer.tag))?;
-    serde_json::put(map, alloc, "time", Value::from(timer.time))?;
-    Ok(())
-}
-
-// Adds what a handler produced and the state that it left.
-fn put_outcome(
-    alloc: Global,
-    map: &mut Map<String, Value>,
-    out: &Value,
-    state: &str,
-) -> Result<(), NoMemory>
-    ensures { OnOk result (members_view map.new.entries
-        ≡ put (codes "state") (string state.now)
-        (put (codes "out") (view out.now) (members_view map.old.entries))) }
-{
-    serde_json::put(map, alloc, "out", out.clone()?)?;
-    serde_json::put(map, alloc, "state", Value::try_from_str(alloc, state)?)?;
-    Ok(())
-}
-
-// An acknowledgement.
-fn ack_value(
-    alloc: Global,
     n: u64,
     seq: u64,
     row: &RowName,
     id: RecordId,
-) -> Result<Value, NoMemory>
-    requires { IsId id }
-    ensures { IfOk result (λ value. view value ≡ ack_data n seq row.now id) }
+) -> Result<(), NoMemory>
+    requires id { IsId id }
+    requires empty { map.old.entries ≡ [] }
+    ensures { OnOk result (object (members_view map.new.entries) ≡ ack_data n seq row.now id) }
 {
-    let id = id.uuid(alloc)?;
-    let id = id.text();
-    let key = row.key.text();
-    let value = json!(in alloc; {
-        "do": "ack",
-        "id": id,
-        "n": n,
-        "part": row.part,
-        "row": key,
-        "seq": seq
-    })?;
-    Ok(value)
+    put_write(alloc, map, "ack", n, seq)?;
+    put_row(alloc, map, row)?;
+    put_id(alloc, map, id)
 }
 
-// A purge.
-fn purge_value(
+// Puts a purge.
+fn put_purge(
     alloc: Global,
+    map: &mut Map<String, Value>,
     n: u64,
     seq: u64,
     row: &RowName,
     floor: u64,
-) -> Result<Value, NoMemory>
-    ensures { IfOk result (λ value. view value ≡ purge_data n seq row.now floor) }
+) -> Result<(), NoMemory>
+    requires empty { map.old.entries ≡ [] }
+    ensures { OnOk result (object (members_view map.new.entries) ≡ purge_data n seq row.now floor) }
 {
-    let key = row.key.text();
-    let value = json!(in alloc; {
-        "do": "purge",
-        "floor": floor,
-        "n": n,
-        "part": row.part,
-        "row": key,
-        "seq": seq
-    })?;
-    Ok(value)
+    put_write(alloc, map, "purge", n, seq)?;
+    put_row(alloc, map, row)?;
+    put_number(alloc, map, "floor", floor)
+}
+
+// Puts what an entry does, and its commit number.
+fn put_deed(alloc: Global, map: &mut Map<String, Value>, deed: &str, n: u64) -> Result<(), NoMemory>
+    ensures { OnOk result (members_view map.new.entries
+        ≡ put (codes "n") (number (unsigned n))
+        (put (codes "do") (string deed.now) (members_view map.old.entries))) }
+{
+    put_text(alloc, map, "do", deed)?;
+    put_number(alloc, map, "n", n)
+}
+
+// Puts what a write does, its commit number, and the sequencer under which it was written.
+fn put_write(
+    alloc: Global,
+    map: &mut Map<String, Value>,
+    deed: &str,
+    n: u64,
+    seq: u64,
+) -> Result<(), NoMemory>
+    ensures { OnOk result (members_view map.new.entries
+        ≡ put (codes "seq") (number (unsigned seq))
+        (put (codes "n") (number (unsigned n))
+        (put (codes "do") (string deed.now) (members_view map.old.entries)))) }
+{
+    put_deed(alloc, map, deed, n)?;
+    put_number(alloc, map, "seq", seq)
+}
+
+// Puts what a record holds.
+fn put_item(alloc: Global, map: &mut Map<String, Value>, item: &Record) -> Result<(), NoMemory>
+    ensures { OnOk result (members_view map.new.entries
+        ≡ put (codes "value") (number (of_integer item.now.value))
+        (put (codes "ts") (number (unsigned item.now.stamp))
+        (put (codes "late") (boolean item.now.late)
+        (put (codes "key") (string item.now.key) (members_view map.old.entries))))) }
+{
+    put_text(alloc, map, "key", item.key.text())?;
+    put_flag(alloc, map, "late", item.late)?;
+    put_number(alloc, map, "ts", item.stamp)?;
+    put_integer(alloc, map, "value", item.value)
+}
+
+// Puts a timer that was fired, and the watermark under which it was.
+fn put_due(
+    alloc: Global,
+    map: &mut Map<String, Value>,
+    timer: Timer,
+    mark: u64,
+) -> Result<(), NoMemory>
+    ensures { OnOk result (members_view map.new.entries
+        ≡ put (codes "mark") (number (unsigned mark))
+        (put (codes "time") (number (unsigned timer.time))
+        (put (codes "tag") (number (unsigned timer.tag))
+        (put (codes "late") (boolean timer.late) (members_view map.old.entries))))) }
+{
+    put_flag(alloc, map, "late", timer.late)?;
+    put_number(alloc, map, "tag", u64::from(timer.tag))?;
+    put_number(alloc, map, "time", timer.time)?;
+    put_number(alloc, map, "mark", mark)
+}
+
+// Puts what a handler produced and the state that it left.
+fn put_effects(
+    alloc: Global,
+    map: &mut Map<String, Value>,
+    effects: &Effects,
+) -> Result<(), NoMemory>
+    ensures { OnOk result (members_view map.new.entries
+        ≡ put (codes "state") (state_data effects.now.state)
+        (put (codes "out") (array_data production_data effects.now.productions)
+        (members_view map.old.entries))) }
+{
+    let out = productions_value(alloc, effects.productions.as_slice())?;
+    serde_json::put(map, alloc, "out", out)?;
+    put_state(alloc, map, &effects.state)
+}
+
+// Puts a state, as its bytes in lower-case hexadecimal.
+fn put_state(alloc: Global, map: &mut Map<String, Value>, state: &State) -> Result<(), NoMemory>
+    requires { IsWithin state.now }
+    ensures { OnOk result (members_view map.new.entries
+        ≡ put (codes "state") (state_data state.now) (members_view map.old.entries)) }
+{
+    let text = state_text(alloc, state)?;
+    put_text(alloc, map, "state", text.as_str())
+}
+
+// Puts the timers that a handler set.
+fn put_timers(
+    alloc: Global,
+    map: &mut Map<String, Value>,
+    effects: &Effects,
+) -> Result<(), NoMemory>
+    ensures { OnOk result (members_view map.new.entries
+        ≡ put (codes "timers") (array_data timer_data effects.now.timers)
+        (members_view map.old.entries)) }
+{
+    let timers = timers_value(alloc, effects.timers.as_slice())?;
+    serde_json::put(map, alloc, "timers", timers)?;
+    Ok(())
 }
 
 // The bytes of a state, in lower-case hexadecimal.
@@ -294,18 +292,39 @@ fn productions_value(alloc: Global, productions: &[Production]) -> Result<Value,
 {
     let mut values = Vec::with_capacity(alloc, productions.len())?;
     for production in productions {
-        values.push(production_value(alloc, production)?)?;
+        push_production(alloc, &mut values, production)?;
     }
     Ok(Value::Array(values))
 }
 
-// A production.
-fn production_value(alloc: Global, production: &Production) -> Result<Value, NoMemory>
-    ensures { IfOk result (λ value. view value ≡ production_data production.now) }
+// Appends a production.
+fn push_production(
+    alloc: Global,
+    values: &mut Vec<Value>,
+    production: &Production,
+) -> Result<(), NoMemory>
+    ensures { OnOk result (map view values.new.items
+        ≡ map view values.old.items ++ production_data production.now ∷ []) }
 {
-    let key = production.key.text();
-    let value = json!(in alloc; {"key": key, "ts": production.stamp, "value": production.value})?;
-    Ok(value)
+    let mut members = Map::new(alloc);
+    put_production(alloc, &mut members, production)?;
+    values.push(Value::Object(members))?;
+    Ok(())
+}
+
+// Puts a production into an object that has nothing yet.
+fn put_production(
+    alloc: Global,
+    map: &mut Map<String, Value>,
+    production: &Production,
+) -> Result<(), NoMemory>
+    requires empty { map.old.entries ≡ [] }
+    ensures { OnOk result
+        (object (members_view map.new.entries) ≡ production_data production.now) }
+{
+    put_text(alloc, map, "key", production.key.text())?;
+    put_number(alloc, map, "ts", production.stamp)?;
+    put_integer(alloc, map, "value", production.value)
 }
 
 // Timers that were set, in order.
@@ -314,15 +333,19 @@ fn timers_value(alloc: Global, timers: &[Timer]) -> Result<Value, NoMemory>
 {
     let mut values = Vec::with_capacity(alloc, timers.len())?;
     for timer in timers {
-        values.push(timer_value(alloc, *timer)?)?;
+        push_timer(alloc, &mut values, *timer)?;
     }
     Ok(Value::Array(values))
 }
 
-// A timer.
-fn timer_value(alloc: Global, timer: Timer) -> Result<Value, NoMemory>
-    ensures { IfOk result (λ value. view value ≡ timer_data timer) }
+// Appends a timer.
+fn push_timer(alloc: Global, values: &mut Vec<Value>, timer: Timer) -> Result<(), NoMemory>
+    ensures { OnOk result (map view values.new.items
+        ≡ map view values.old.items ++ timer_data timer ∷ []) }
 {
-    let value = json!(in alloc; {"tag": timer.tag, "time": timer.time})?;
-    Ok(value)
+    let mut members = Map::new(alloc);
+    put_number(alloc, &mut members, "tag", u64::from(timer.tag))?;
+    put_number(alloc, &mut members, "time", timer.time)?;
+    values.push(Value::Object(members))?;
+    Ok(())
 }

@@ -2,7 +2,7 @@
 ghost use Rattle.std.specs.Prelude.{◌≡◌, ◌++◌, ◌∷◌, [], IfOk, OnOk};
 ghost use Rattle.json.specs.Token.{key, string};
 ghost use Rattle.run_history.specs.Texts.{line_data, as_line};
-ghost use Rattle.run_history.specs.Printing.{tokens_of};
+ghost use Rattle.run_history.specs.Printing.{number_tokens, text_tokens, tokens_of};
 
 use json::Writer;
 use mw_types::{Key, Name, NoMemory};
@@ -51,13 +51,33 @@ impl ResultLine {
             (writer.new.tokens ≡ writer.old.tokens ++ tokens_of (line_data self.now)) }
     {
         writer.begin_object()?;
+        self.write_texts(writer)?;
+        self.write_numbers(writer)?;
+        writer.end_object()?;
+        Ok(())
+    }
+
+    // Writes the key and the stream.
+    fn write_texts(&self, writer: &mut Writer) -> Result<(), NoMemory>
+        ensures before { OnOk result (writer.new.before ≡ writer.old.before) }
+        ensures members { OnOk result
+            (writer.new.tokens ≡ writer.old.tokens ++ text_tokens self.now) }
+    {
         write_text(writer, "key", self.key.text())?;
         write_text(writer, "stream", self.stream.text())?;
+        Ok(())
+    }
+
+    // Writes the timestamp and the value.
+    fn write_numbers(&self, writer: &mut Writer) -> Result<(), NoMemory>
+        ensures before { OnOk result (writer.new.before ≡ writer.old.before) }
+        ensures members { OnOk result
+            (writer.new.tokens ≡ writer.old.tokens ++ number_tokens self.now) }
+    {
         writer.key("ts")?;
         writer.u64(self.stamp)?;
         writer.key("value")?;
         writer.i64(self.value)?;
-        writer.end_object()?;
         Ok(())
     }
 }

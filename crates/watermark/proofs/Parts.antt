@@ -1,5 +1,5 @@
 -- The intervals of a topology are of its parts, and each part has one.
-use Rattle.std.proofs.Common.{◌≡◌, ◌∙◌, ℕ, zero, suc, ◌+◌, ◌<◌, ◌≤◌, ◌==◌, Bool, true, false, cond, Some, None, IfSome, slice_get, List, [], ◌∷◌, ◌++◌, length, map, get_or, sym, ap, subst, arith}
+use Rattle.std.proofs.Common.{◌≡◌, ◌∙◌, ℕ, zero, suc, ◌+◌, ◌<◌, ◌≤◌, ◌==◌, Bool, true, false, cond, Some, None, slice_get, List, [], ◌∷◌, ◌++◌, length, map, get_or, sym, ap, subst, arith}
 use Rattle.std.specs.List.{AllByRecursion, cons_option, range_with_len}
 use Rattle.std.proofs.lemmas.Bool.Decides.{nat_tests}
 use Rattle.std.proofs.lemmas.List.FromFn.{length-map-range_with_len}
@@ -9,22 +9,9 @@ use Rattle.key_intervals.proofs.Made.{has_part}
 use Rattle.topology.specs.Shapes.{Shape, parts_of, cuts_of}
 use Rattle.topology.specs.Rules.{part_cuts_of}
 use Rattle.run_history.specs.Cases.{intervals_of}
+use Rattle.run_history.proofs.Lists.{each-append, each-at}
 use Rattle.run_history.proofs.CaseIntervals.{part_cuts_of-numbered}
 use Rattle.watermark.specs.Marks.{marks_in, marks_of}
-
--- what holds of two lists holds of them together
-each_append : {X : Type 0} (P : X → Type 0) (xs ys : List X) → AllByRecursion P xs → AllByRecursion P ys → AllByRecursion P (xs ++ ys)
-each_append P [] ys first later = later
-each_append P (x ∷ xs) ys first later = (first.0, each_append P xs ys first.1 later)
-
--- what holds of each holds of the one at a place
-each_at : {X : Type 0} (P : X → Type 0) (xs : List X) (k : ℕ) (x : X) → AllByRecursion P xs → slice_get xs k ≡ Some x → P x
-each_at {X = X} P xs k x each at = subst (λ found. IfSome found P) at (there xs k each)
-  where
-    there : (ys : List X) (j : ℕ) → AllByRecursion P ys → IfSome (slice_get ys j) P
-    there [] j all = tt
-    there (y ∷ ys) zero all = all.0
-    there (y ∷ ys) (suc j) all = there ys j all.1
 
 -- the intervals of a part below m are of parts below m
 part_below : (part m : ℕ) (from : List ℕ) (cuts : List (List ℕ)) → part < m
@@ -38,13 +25,13 @@ parts_below : (f : ℕ → List (List ℕ)) (n k m : ℕ) → n + k ≤ m
     (map (λ (part : ℕ). record { part = part; cuts = f part }) (range_with_len n k)))
 parts_below f n zero m most = tt
 parts_below f n (suc k) m most =
-    each_append (λ (b : Bounds). b.part < m) (bounds_from n [] (f n)) _
+    each-append (λ (b : Bounds). b.part < m) (bounds_from n [] (f n)) _
     (part_below n m [] (f n) (omega (arith, most))) (parts_below f (n + 1) k m (omega (arith, most)))
 
 -- an interval is of a part that is there
 pub part_within : (shape : Shape) (interval : ℕ) (b : Bounds) → slice_get (intervals_of shape) interval ≡ Some b → b.part < parts_of shape
 part_within shape interval b at =
-    each_at (λ (d : Bounds). d.part < parts_of shape) (intervals_of shape) interval b
+    each-at (λ (d : Bounds). d.part < parts_of shape) (intervals_of shape) interval b
     (parts_below (cuts_of shape) 0 (parts_of shape) (parts_of shape) (omega arith)) at
 
 -- marks stay some where one more may stand before them

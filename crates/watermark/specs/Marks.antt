@@ -1,5 +1,5 @@
--- Which intervals feed an interval, and which marks are a part's: Akidau et al., VLDB 2013, section 4.5, where the
--- low watermark of a computation looks at those of the computations that output to it.
+-- Which intervals feed an interval, and which marks are a part's: Akidau et al., VLDB 2013, section 4.5,
+-- where the low watermark of a computation looks at those of the computations that output to it.
 -- Own: a part is cut into intervals, and each interval has a mark.
 use Rattle.std.specs.Prelude.{ℕ, ◌==◌, if◌then◌else◌, List, [], map, slice_get, Some, None, unwrap_or}
 use Rattle.std.specs.Option.{option_map_or}

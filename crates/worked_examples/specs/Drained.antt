@@ -27,7 +27,8 @@ round commit line stamp windows end rest =
     ∷ Ack 0 injector_row (id_of commit)
     ∷ rest
 
--- both intervals are claimed; each line is injected, handled and acknowledged; the windows close; the row is purged
+-- both intervals are claimed; each line is injected, handled and acknowledged; the windows close; the row
+-- is purged
 abbrev pub drained_history : List Entry
 drained_history =
     Claim 0 0

@@ -30,7 +30,8 @@ record_at stamp = record { key = key_a; stamp = stamp; value = pos 1; late = fal
 
 -- a line of such a record, before which the file states no watermark
 abbrev pub line_at : ℕ → SourceLine
-line_at stamp = record { item = record { record_key = key_a; stamp = stamp; value = pos 1; late = false }; stated = 0 }
+line_at stamp =
+    record { item = record { record_key = key_a; stamp = stamp; value = pos 1; late = false }; stated = 0 }
 
 -- windows of 60 over three records
 abbrev pub first_case : CaseShape
@@ -79,9 +80,14 @@ first_handled_twice =
 abbrev pub first_low : ℕ → ℕ
 first_low entries = low_watermark first_case (run_of first_case.topology (take entries first_history)) 1
 
+-- a count that is emitted under a commit number
+abbrev pub count_emitted : ℕ → ℕ → ℕ → Emission
+count_emitted commit end count = record {
+  id = record { commit = commit; index = 0 };
+  part = 1;
+  item = record { key = key_a; stamp = end; value = pos count; late = false };
+}
+
 -- the two windows that are emitted
 abbrev pub first_emissions : List Emission
-first_emissions =
-    record { id = record { commit = 6; index = 0 }; part = 1; item = record { key = key_a; stamp = 60; value = pos 2; late = false } }
-    ∷ record { id = record { commit = 7; index = 0 }; part = 1; item = record { key = key_a; stamp = 120; value = pos 1; late = false } }
-    ∷ []
+first_emissions = count_emitted 6 60 2 ∷ count_emitted 7 120 1 ∷ []

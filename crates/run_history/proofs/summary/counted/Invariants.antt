@@ -1,6 +1,6 @@
 use Rattle.std.proofs.Common.{◌≡◌, count_by, take}
 use Rattle.run_history.specs.Texts.{is_fire, is_handle, is_inject, is_late}
-use Rattle.run_history.proofs.text.counted.Given as goal
+use Rattle.run_history.proofs.summary.counted.Given as goal
 
 -- the counts are those of the entries so far
 abbrev pub invariant-loop-entry : goal.invariant-loop-entry

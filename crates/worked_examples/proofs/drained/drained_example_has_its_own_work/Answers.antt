@@ -1,5 +1,5 @@
 use Rattle.std.proofs.Common.{refl}
-use Rattle.history_laws.proofs.examples.drained_example_has_its_own_work.Goals as goal
+use Rattle.worked_examples.proofs.drained.drained_example_has_its_own_work.Goals as goal
 
 pub returns : goal.returns
 returns c = record {

@@ -3,7 +3,7 @@ use Rattle.std.specs.Prelude.{Option, Some}
 use Rattle.worked_examples.specs.First.{first_case, row_a}
 use Rattle.worked_examples.specs.Overtaken.{overtaken, handled_under}
 use Rattle.run_history.proofs.Fenced.{IsFenced-tested}
-use Rattle.history_laws.proofs.examples.an_overtaken_claim_is_stale.Goals as goal
+use Rattle.worked_examples.proofs.overtaken.an_overtaken_claim_is_stale.Goals as goal
 
 -- the numbers of the two claims differ
 apart : ◌≡◌ {A = Option ℕ} (Some 3) (Some 1) → ⊥
