@@ -1,15 +1,10 @@
 -- What is reported under the last claim of an interval is at most the interval's work by the whole history, and the marks are at
 -- most the low watermarks.
-use Rattle.std.proofs.Common.{◌≡◌, ℕ, zero, suc, ◌+◌, ◌<◌, ◌≤◌, ◌==◌, Bool, true, false, cond, List, [], ◌∷◌, ◌++◌, length, map, take, drop, refl, sym, ◌∙◌, ap, subst, arith}
-use Rattle.std.specs.Prelude.{◌↔◌, All, min, Option, Some, None, IfSome, Err, get_or, slice_get}
-use Rattle.std.specs.List.{AllByRecursion, list_any, cons_option}
-use Rattle.std.specs.Option.{option_map_or}
-use Rattle.std.proofs.lemmas.Bool.{eq-eqb}
+use Rattle.std.proofs.Common.{◌≡◌, ℕ, ◌+◌, ◌<◌, ◌≤◌, ◌==◌, true, List, [], ◌∷◌, ◌++◌, take, drop, sym, ◌∙◌, ap, subst, arith}
+use Rattle.std.specs.Prelude.{◌↔◌, min, Option, Some, None, IfSome, Err, slice_get}
 use Rattle.std.proofs.lemmas.List.{take-append-drop}
-use Rattle.std.proofs.lemmas.List.Folds.{list_any_at}
 use Rattle.mw_types.specs.declared.entry.Entry.{Entry}
 use Rattle.key_intervals.specs.declared.bounds.Bounds.{Bounds}
-use Rattle.topology.specs.Shapes.{feeds_of}
 use Rattle.row_keeper.specs.Rows.{Rows}
 use Rattle.run_history.specs.Cases.{CaseShape, is_injector, intervals_of}
 use Rattle.run_history.specs.Runs.{Run, run_of, empty_run}
@@ -17,20 +12,21 @@ use Rattle.run_history.specs.Legal.{IsLegal}
 use Rattle.run_history.specs.Watermarks.{least, source_mark}
 use Rattle.run_history.specs.Fences.{IsFenced, HasSeen, last_claim, known}
 use Rattle.run_history.specs.Inputs.{IsRunnable}
-use Rattle.run_history.specs.Marks.{own_work, IsUnderMarks}
-use Rattle.run_history.proofs.Lists.{none_some, some_same}
+use Rattle.run_history.specs.Marks.{own_work}
+use Rattle.run_history.proofs.Lists.{some_same}
 use Rattle.history_laws.proofs.Along.{run_of-append, AreLegal-apart, along_entries}
 use Rattle.history_laws.proofs.FenceLaws.{claim-within, row_of-seen}
 use Rattle.run_history.proofs.Known.{known-last}
 use Rattle.run_history.proofs.Claims.{last_claim-front}
 use Rattle.run_history.proofs.IntervalLaws.{has-interval_of, are-intervals}
-use Rattle.history_laws.proofs.LowLaws.{rows-in_order, bound-each}
+use Rattle.history_laws.proofs.LowLaws.{rows-in_order}
 use Rattle.history_laws.proofs.MarkLaws.{own-from, from-own, own-end}
 use Rattle.history_laws.proofs.OwnLaws.{IsRowFrom}
-use Rattle.history_laws.proofs.ReportLaws.{IsSafe-reported, marks-low}
+use Rattle.history_laws.proofs.ReportLaws.{IsSafe-reported}
 use Rattle.history_laws.proofs.SeenLaws.{HasSeen-take}
 use Rattle.history_laws.proofs.WorkLaws.{source_mark-followed}
-use Rattle.watermark.specs.Marks.{mark_of, marks_in, marks_of, numbers_in, feeding_marks}
+use Rattle.watermark.specs.Marks.{feeding_marks}
+use Rattle.watermark.proofs.SafeMarks.{under-feeding, are-under_low as under_low}
 use Rattle.book.specs.Books.{BookView, LeaseView, core_of}
 use Rattle.book.specs.Lawful.{HoldsRowsOf, IsLawful}
 use Rattle.book.specs.Conditions.{HasSeenAllAt, IsOwnWorkAt}
@@ -95,53 +91,6 @@ own-whole book lease front own b lawful legal saw last at is =
     let as_whole = ap (λ (h : List Entry). own_work case (run_of shape h) b) split in
     omega (arith, is, as_seen, below, as_whole)
 
--- ---- the marks of what feeds an interval
-
--- each of some parts is among them
-any-here : (parts : List ℕ) (k d : ℕ) → k < length parts → list_any (λ part. part == get_or parts k d) parts ≡ true
-any-here parts k d within = list_any_at (λ part. part == get_or parts k d) parts k d within
-    (eq-eqb (get_or parts k d) (get_or parts k d) refl)
-
--- a bound of the marks of the intervals of some parts is one of the mark of each of these intervals
-among-bound : (x : ℕ) (f : ℕ → ℕ) (parts : List ℕ) (n : ℕ) (all : List Bounds) (k : ℕ) (b : Bounds)
-    → AllByRecursion (λ m. x ≤ m) (map f (numbers_in parts n all))
-    → slice_get all k ≡ Some b → list_any (λ part. part == b.part) parts ≡ true → x ≤ f (n + k)
-among-bound x f parts n [] k b each at among = absurd (none_some b at)
-among-bound x f parts n (c ∷ cs) zero b each at among =
-    let same : c ≡ b = some_same c b at in
-    let passes : list_any (λ part. part == c.part) parts ≡ true = subst (λ (d : Bounds). list_any (λ part. part == d.part) parts ≡ true)
-    (sym same) among in
-    let first = (subst (λ t. AllByRecursion (λ m. x ≤ m) (map f (cons_option (cond t (Some n) None) (numbers_in parts (n + 1) cs))))
-    passes each).0 in
-    let zero_more : n + 0 ≡ n = omega arith in
-    subst (λ i. x ≤ f i) (sym zero_more) first
-among-bound x f parts n (c ∷ cs) (suc k) b each at among =
-    let next : n + 1 + k ≡ n + suc k = omega arith in
-    subst (λ i. x ≤ f i) next (among-bound x f parts (n + 1) cs k b (later (list_any (λ part. part == c.part) parts) each) at among)
-  where
-    later : (t : Bool) → AllByRecursion (λ m. x ≤ m) (map f (cons_option (cond t (Some n) None) (numbers_in parts (n + 1) cs)))
-        → AllByRecursion (λ m. x ≤ m) (map f (numbers_in parts (n + 1) cs))
-    later true each = each.1
-    later false each = each
-
--- a bound of the marks that feed an interval is at most a safe mark of each interval of each part that feeds it
-under-feeding : (case : CaseShape) (run : Run) (marks : List ℕ) (interval x : ℕ) (b : Bounds) → AreSafe case run marks
-    → slice_get (intervals_of case.topology) interval ≡ Some b → x ≤ least (feeding_marks case.topology interval marks)
-    → All (λ (feeding : ℕ). IsUnderMarks case run feeding x) (feeds_of case.topology b.part)
-under-feeding case run marks interval x b safe at below k d within other c there of =
-    let shape = case.topology in
-    let all = intervals_of shape in
-    let feeds = feeds_of shape b.part in
-    let among : list_any (λ part. part == c.part) feeds ≡ true
-    = subst (λ n. list_any (λ part. part == n) feeds ≡ true) (sym of) (any-here feeds k d within) in
-    let least_of : x ≤ least (map (mark_of marks) (numbers_in feeds 0 all))
-    = subst (λ (o : Option Bounds). x ≤ least (map (mark_of marks)
-    (option_map_or (λ (e : Bounds). numbers_in (feeds_of shape e.part) 0 all) o []))) at below in
-    let bound = among-bound x (mark_of marks) feeds 0 all other c (bound-each x (map (mark_of marks) (numbers_in feeds 0 all)) least_of)
-    there among in
-    let none_before : 0 + other ≡ other = omega arith in
-    (mark_of marks other, subst (λ n. x ≤ mark_of marks n) none_before bound, safe other c there)
-
 -- ---- a report
 
 -- what is reported is a safe mark, as far as the marks that feed the interval allow
@@ -183,35 +132,10 @@ stale-report history lease n later newer = (
 
 -- ---- under the low watermark
 
--- a bound of the marks of a part is one of the mark of each of its intervals
-part-bound : (x part : ℕ) (all : List Bounds) (marks : List ℕ) (k : ℕ) (b : Bounds) → length marks ≡ length all
-    → AllByRecursion (λ m. x ≤ m) (marks_in all part marks)
-    → slice_get all k ≡ Some b → b.part ≡ part → x ≤ mark_of marks k
-part-bound x part [] marks k b long each at of = absurd (none_some b at)
-part-bound x part (c ∷ cs) [] k b long each at of = absurd (omega (arith, long))
-part-bound x part (c ∷ cs) (m ∷ ms) zero b long each at of =
-    let same : c.part ≡ part = ap (λ (d : Bounds). d.part) (some_same c b at) ∙ of in
-    (subst (λ t. AllByRecursion (λ n. x ≤ n) (cons_option (cond t (Some m) None) (marks_in cs part ms))) (eq-eqb c.part part same) each).0
-part-bound x part (c ∷ cs) (m ∷ ms) (suc k) b long each at of =
-    part-bound x part cs ms k b (omega (arith, long)) (later (c.part == part) each) at of
-  where
-    later : (t : Bool) → AllByRecursion (λ n. x ≤ n) (cons_option (cond t (Some m) None) (marks_in cs part ms))
-        → AllByRecursion (λ n. x ≤ n) (marks_in cs part ms)
-    later true each = each.1
-    later false each = each
-
 -- the least mark of a part's intervals is at most the part's low watermark, where a contract can see the keeper's rows
 pub are-under_low : (book : BookView) → IsLawful book.case (core_of book)
     → IfSome book.rows (λ _. AreUnderLow book.case (run_of book.case.topology book.history) book.marks)
 are-under_low book lawful =
     told-then book.rows (λ r. HoldsRowsOf book.case book.history r × AreSafe book.case (run_of book.case.topology book.history) book.marks) _
     (told-both book.rows (HoldsRowsOf book.case book.history) _ lawful.held lawful.safe)
-    (λ r p part there.
-    let marks = marks_of book.case.topology part book.marks in
-    let x = least marks in
-    marks-low book.case book.history part x lawful.runnable p.0.legal there
-    (λ interval b at of. (
-      mark_of book.marks interval,
-      part-bound x part (intervals_of book.case.topology) book.marks interval b lawful.marks (bound-each x marks (omega arith)) at of,
-      p.1 interval b at,
-    )))
+    (λ r p part there. under_low book.case book.history book.marks lawful.runnable p.0.legal lawful.marks p.1 part there)

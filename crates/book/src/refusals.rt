@@ -58,7 +58,7 @@ impl From<NoMemory> for ClaimRefusal {
 }
 
 /// Why a write was refused.
-#[derive(Clone, Copy, Debug, PartialEq, Eq)]
+#[derive(Clone, Copy, PartialEq, Eq)]
 pub enum WriteRefusal {
     /// The interval has a later claim.
     Stale {
@@ -74,7 +74,7 @@ pub enum WriteRefusal {
 }
 
 /// A report was refused, since the interval has a later claim.
-#[derive(Clone, Copy, Debug, PartialEq, Eq)]
+#[derive(Clone, Copy, PartialEq, Eq)]
 pub struct Stale {
     /// The commit number of the interval's last claim.
     pub newer: u64,

@@ -1,16 +1,19 @@
 -- What a desk keeps of its seat, and what always holds of it.
-use Rattle.std.proofs.Common.{◌≡◌, ◌∙◌, ◌≤◌, ◌++◌, ◌∷◌, ℕ, true, List, [], length, replicate, refl, sym, ap, subst, arith}
-use Rattle.std.specs.Prelude.{IfSome, None, Option, Some, drop, get_or}
+use Rattle.std.proofs.Common.{◌≡◌, ◌≢◌, ◌∙◌, ◌≤◌, ◌++◌, ◌∷◌, ℕ, true, List, [], length, replicate, refl, sym, ap, subst, arith}
+use Rattle.std.specs.Prelude.{IfSome, IsSome, None, Option, Some, drop, get_or}
 use Rattle.std.specs.Option.{option_map}
+use Rattle.std.proofs.lemmas.List.{append-nil}
+use Rattle.std.proofs.lemmas.List.Elements.{All-nil}
 use Rattle.atomic_table.specs.Seated.{TableId}
 use Rattle.mw_types.specs.declared.entry.Entry.{Entry}
 use Rattle.run_history.specs.Cases.{CaseShape, intervals_of}
-use Rattle.run_history.specs.Fences.{Begins, IsClaimed, IsFenced}
+use Rattle.run_history.specs.Fences.{Begins, IsClaimed, IsFenced, sequencer_of}
 use Rattle.run_history.specs.Inputs.{IsRunnable}
 use Rattle.book.specs.Books.{CoreView, LeaseView}
-use Rattle.book.specs.Desks.{HasLooked, HasMet, IsSound}
+use Rattle.book.specs.Desks.{HasLooked, HasMet, IsSound, Sight}
 use Rattle.book.specs.Lawful.{IsLawful}
 use Rattle.book.specs.OwnDesks.{is_claimed, telling}
+use Rattle.book.proofs.Numbers.{own-stays}
 use Rattle.book.proofs.OwnLaws.{claimed-is_claimed, is_claimed-claimed}
 use Rattle.shared_book.specs.declared.views.Basis.{Basis}
 use Rattle.shared_book.specs.declared.views.View.{View}
@@ -116,10 +119,21 @@ met-sight w m known same begins = by_told w.basis.told
     by_told None = tt
     by_told (Some x) = (ap (λ (b : Basis). b.case) same, begins)
 
+-- a note tells where its seat is told, since both are of one book
+pub tells : (w v : View) → w.basis ≡ v.basis → IsSome v.basis.told → IsSome (sight_of w)
+tells w v same told = by_told w.basis.told (subst (λ (b : Basis). IsSome b.told) (sym same) told)
+  where
+    sight : Unit {0} → Sight
+    sight = λ _. record { case = w.basis.case; seen = w.front }
+
+    by_told : (o : Option (Unit {0})) → IsSome o → IsSome (option_map sight o)
+    by_told None is = is
+    by_told (Some x) is = is
+
 -- a desk that met a note has seen more, and nothing of it under its leases
-pub looked-met : (v m : View) (known : KnownView) → m.basis ≡ v.basis → m.leases ≡ v.leases → m.faults ≡ v.faults → HasMetForeign v m
-    → HasLooked (shared_view v known) (shared_view m known)
-looked-met v m known basis leases faults foreign = record {
+pub looked-met : (v m : View) (known : KnownView) → m.basis ≡ v.basis → m.leases ≡ v.leases → m.own ≡ v.own → m.faults ≡ v.faults
+    → HasMetForeign v m → HasLooked (shared_view v known) (shared_view m known)
+looked-met v m known basis leases own faults foreign = record {
   case = ap (λ (b : Basis). b.case) basis;
   limit = ap (λ (b : Basis). b.limit) basis;
   told = ap (λ (b : Basis). b.told) basis;
@@ -128,9 +142,27 @@ looked-met v m known basis leases faults foreign = record {
   more = sym foreign.goes_on;
   foreign = λ lease held. (foreign.seen_all lease (held-in v.leases lease held)).own;
   none = λ alone. absurd (off alone);
+  own = own ∙ own-stays v.own m.front;
   leases = λ lease held. subst (λ (l : List LeaseView). is_held l lease ≡ true) (sym leases) held;
   floor = omega arith;
   faults = omega (arith, faults);
+}
+
+-- a desk that is read has seen no more
+pub looked-still : (v : View) (known : KnownView) → HasLooked (shared_view v known) (shared_view v known)
+looked-still v known = record {
+  case = refl;
+  limit = refl;
+  told = refl;
+  alone = refl;
+  others = [];
+  more = sym (append-nil v.front);
+  foreign = λ lease held. All-nil (λ (e : Entry). sequencer_of e ≢ Some lease.seq);
+  none = λ alone. refl;
+  own = own-stays v.own v.front;
+  leases = λ lease held. held;
+  floor = omega arith;
+  faults = omega arith;
 }
 
 -- and keeps what it kept

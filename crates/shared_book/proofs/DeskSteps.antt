@@ -22,7 +22,7 @@ use Rattle.book.specs.Claims.{AreRowsOf, IsDamaged, IsDamagedRow}
 use Rattle.book.specs.Conditions.{IsRowOf}
 use Rattle.book.specs.DeskReasons.{HasClaimReason, HasReason, IsDamageOf, of_claim, of_write}
 use Rattle.book.specs.Desking.{HasClaimed, HasStored, HasWritten}
-use Rattle.book.specs.Desks.{HasLooked, HasMoved, KeepsMarks}
+use Rattle.book.specs.Desks.{HasLooked, HasMoved, KeepsMarks, numbers_from}
 use Rattle.book.specs.Proposals.{IsWrittenBy}
 use Rattle.book.specs.declared.answers.Claimed.{Claimed}
 use Rattle.book.specs.declared.answers.Written.{Written}
@@ -34,6 +34,7 @@ use Rattle.book.specs.declared.refusals.Stale.{Stale}
 use Rattle.book.specs.declared.refusals.WriteRefusal.{WriteRefusal}
 use Rattle.book.specs.declared.refusals.WriteRefusal.TheVariants as writes
 use Rattle.book.proofs.ClaimLaws.{err-is}
+use Rattle.book.proofs.Numbers.{numbers_from-one, own-stays}
 use Rattle.book.proofs.OwnReasons.{claim-reason, reason, report-reason}
 use Rattle.shared_book.specs.declared.views.Basis.{Basis}
 use Rattle.shared_book.specs.declared.views.View.{View}
@@ -63,6 +64,7 @@ looked-busy v known found = record {
   more = sym (append-nil v.front);
   foreign = λ lease may. none-carried lease.seq;
   none = λ alone. refl;
+  own = own-stays v.own v.front;
   leases = λ lease may. may;
   floor = omega arith;
   faults = omega arith;
@@ -125,6 +127,7 @@ pub record IsRefused (t w : View) : Type 0 where
   pub basis : w.basis ≡ t.basis
   pub front : w.front ≡ t.front
   pub leases : w.leases ≡ t.leases
+  pub own : w.own ≡ t.own
   pub faults : t.faults ≤ w.faults
 
 -- nothing was changed
@@ -133,6 +136,7 @@ refused-same t w is = record {
   basis = ap (λ (x : View). x.basis) is;
   front = ap (λ (x : View). x.front) is;
   leases = ap (λ (x : View). x.leases) is;
+  own = ap (λ (x : View). x.own) is;
   faults = let same = ap (λ (x : View). x.faults) is in omega (arith, same);
 }
 
@@ -142,6 +146,7 @@ refused-fault t w fault = record {
   basis = ap (λ (x : View). x.basis) fault.2;
   front = ap (λ (x : View). x.front) fault.2;
   leases = ap (λ (x : View). x.leases) fault.2;
+  own = ap (λ (x : View). x.own) fault.2;
   faults = let one = ap (λ (x : View). x.faults) fault.2 in omega (arith, one);
 }
 
@@ -208,8 +213,9 @@ module _ (v t w : View) (old new : KnownView) (taken : HasTaken v t) (basis : w.
   -- the desk has seen so much before its own entry
   moved : (before : List Entry) → before ≡ t.front → Begins t.front w.front
       → ((lease : LeaseView) → is_held t.leases lease ≡ true → is_held w.leases lease ≡ true) → t.faults ≤ w.faults
+      → w.own ≡ t.own ++ numbers_from (length before) (drop (length before) w.front)
       → HasMoved (shared_view v old) (shared_view w new) before
-  moved before is begins leases faults = record {
+  moved before is begins leases faults own = record {
     case = ap (λ (b : Basis). b.case) whole;
     limit = ap (λ (b : Basis). b.limit) whole;
     told = ap (λ (b : Basis). b.told) whole;
@@ -218,6 +224,7 @@ module _ (v t w : View) (old new : KnownView) (taken : HasTaken v t) (basis : w.
     more = is ∙ sym taken.goes_on;
     foreign = λ lease may. (taken.seen_all lease (held-in v.leases lease may)).own;
     none = λ alone. absurd (off alone);
+    own = own ∙ ap (λ (x : View). x.own ++ numbers_from (length before) (drop (length before) w.front)) taken.view;
     leases = λ lease may. leases lease (subst (λ (l : List LeaseView). is_held l lease ≡ true) (sym (leases-taken v t taken)) may);
     floor = let below = low.floor in
         let long = Begins-trans v.front t.front w.front (taken.others, taken.goes_on) begins in
@@ -231,6 +238,7 @@ module _ (v t w : View) (old new : KnownView) (taken : HasTaken v t) (basis : w.
   pub looked-refused : IsRefused t w → HasLooked (shared_view v old) (shared_view w new)
   looked-refused refused = moved w.front refused.front (begins-refused t w refused)
       (λ lease held. subst (λ (l : List LeaseView). is_held l lease ≡ true) (sym refused.leases) held) refused.faults
+      (refused.own ∙ own-stays t.own w.front)
 
   -- the view after an own entry
   grown-leases : w ≡ grown t w.front → (lease : LeaseView) → is_held t.leases lease ≡ true → is_held w.leases lease ≡ true
@@ -240,13 +248,19 @@ module _ (v t w : View) (old new : KnownView) (taken : HasTaken v t) (basis : w.
   grown-faults : w ≡ grown t w.front → t.faults ≤ w.faults
   grown-faults is = let same = ap (λ (x : View). x.faults) is in omega (arith, same)
 
+  grown-own : (entry : Entry) → w.front ≡ t.front ++ entry ∷ [] → w ≡ grown t w.front
+      → w.own ≡ t.own ++ numbers_from (length t.front) (drop (length t.front) w.front)
+  grown-own entry appended is = ap (λ (x : View). x.own) is
+      ∙ ap (λ l. t.own ++ l) (sym (numbers_from-one t.front w.front entry appended))
+
   -- an entry was stored
   pub stored : (lease : LeaseView) (name : RowName) (entry : Entry) (row : Contents) (answer : Written)
       → HasStoredIn t w lease name entry row answer
       → HasStored (shared_view v old) (shared_view w new) lease name entry row (λ commit. written_row commit entry [] row) answer
   stored lease name entry row answer is = record {
     before = t.front;
-    moved = moved t.front refl (entry ∷ [], sym is.written.appended) (grown-leases is.view) (grown-faults is.view);
+    moved = moved t.front refl (entry ∷ [], sym is.written.appended) (grown-leases is.view) (grown-faults is.view)
+        (grown-own entry is.written.appended is.view);
     found = subst (λ (b : Basis). IsRowOf b.case b.told t.front name row) (basis-taken v t taken) is.found;
     written = subst (λ (b : Basis). IsWritten b.case b.told t.front w.front lease name entry (written_row (length t.front) entry [] row) answer)
         (basis-taken v t taken) is.written;
@@ -258,7 +272,8 @@ module _ (v t w : View) (old new : KnownView) (taken : HasTaken v t) (basis : w.
       → HasWritten (shared_view v old) (shared_view w new) lease name proposal row answer
   written-by lease name proposal row answer is = record {
     before = t.front;
-    moved = moved t.front refl (is.written.entry ∷ [], sym is.written.written.appended) (grown-leases is.view) (grown-faults is.view);
+    moved = moved t.front refl (is.written.entry ∷ [], sym is.written.written.appended) (grown-leases is.view) (grown-faults is.view)
+        (grown-own is.written.entry is.written.written.appended is.view);
     found = subst (λ (b : Basis). IsRowOf b.case b.told t.front name row) (basis-taken v t taken) is.found;
     written = subst (λ (b : Basis). IsWrittenBy b.case b.told t.front w.front lease name proposal row answer)
         (basis-taken v t taken) is.written;
@@ -269,7 +284,8 @@ module _ (v t w : View) (old new : KnownView) (taken : HasTaken v t) (basis : w.
       → HasClaimed (shared_view v old) (shared_view w new) worker interval answer
   claimed worker interval answer is = record {
     before = t.front;
-    moved = moved t.front refl (Claim worker interval ∷ [], sym appended) (grown-leases here) (grown-faults here);
+    moved = moved t.front refl (Claim worker interval ∷ [], sym appended) (grown-leases here) (grown-faults here)
+        (grown-own (Claim worker interval) appended here);
     appended = appended;
     lease = is.lease;
     may_use = subst (λ (l : List LeaseView). is_held l answer.lease ≡ true) (sym leases)

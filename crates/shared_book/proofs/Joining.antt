@@ -1,10 +1,12 @@
 -- Splits and joins keep the fence law.
-use Rattle.std.proofs.Common.{inl, inr, ◌≡◌, ◌⊎◌, ℕ, zero, suc, ◌+◌, ◌-◌, ◌<◌, List, [], ◌∷◌, ◌++◌, true, false, refl, sym, ap, ◌∙◌, subst, ⊎_elim, arith, append-nil}
+use Rattle.std.proofs.Common.{inl, inr, ◌≡◌, ◌⊎◌, ℕ, zero, suc, ◌+◌, ◌-◌, ◌<◌, List, [], ◌∷◌, ◌++◌, drop, length, true, false, refl, sym, ap, ◌∙◌, subst, ⊎_elim, arith, append-nil}
 use Rattle.std.specs.Prelude.{slice_set}
 use mathlib.Core.Option.{some, some-ne-none}
 use lib.ListN.{get_elem?}
 use Rattle.atomic_table.specs.Table.{State, Splits, Joins}
 use Rattle.atomic_table.proofs.Lists.{at_set}
+use Rattle.mw_types.specs.declared.entry.Entry.{Entry}
+use Rattle.run_history.specs.Fences.{Begins}
 use Rattle.run_history.proofs.Beginnings.{Begins-length}
 use Rattle.shared_book.specs.declared.views.Basis.{Basis}
 use Rattle.shared_book.specs.declared.views.View.{View}
@@ -276,6 +278,16 @@ seats_join basis id v other w live quiet still joins s f at apart there' =
       numbered = λ n p. somewhere_joined (λ x. IsIn n x.numbers) s.views id other v w (joined v w) spent at there apart
           (merged_left n v.numbers w.numbers) (merged_right n v.numbers w.numbers) (f.numbered n p);
     }
+
+-- what the seat had seen begins what it has seen then
+pub joined-seen : (v w m : View) → m ≡ joined v w → Begins v.front m.front
+joined-seen v w m is = (drop (length v.front) w.front, sym (ap (λ (s : View). s.front) is))
+
+-- and so does what the other had seen, once the seat has looked
+pub joined-met : (other v w j m : View) → w ≡ other → j ≡ joined v w → m ≡ j → Begins j.met j.front → Begins other.front m.front
+joined-met other v w j m same is looked met =
+    subst (λ (p : List Entry × List Entry). Begins p.0 p.1)
+    (λ i. ((ap (λ (s : View). s.met) is ∙ ap (λ (s : View). s.front) same) i, (sym looked i).front)) met
 
 -- ---- a note is taken in
 

@@ -18,3 +18,4 @@ pub mod Staying
 pub mod Taking
 pub mod DeskSteps
 pub mod DeskFacts
+pub mod Sending

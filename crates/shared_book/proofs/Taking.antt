@@ -43,7 +43,9 @@ use Rattle.shared_book.specs.Steps.{SeatView}
 use Rattle.shared_book.specs.Turns.{HasTaken, HasTurn, IsProposedIn, IsRowHeld, MayWrite}
 use Rattle.shared_book.proofs.Appending.{lawful_legal}
 use Rattle.shared_book.proofs.Held.{held-in}
-use Rattle.shared_book.proofs.Staying.{own_work-known, row-stays, safe-stays}
+use Rattle.history_laws.proofs.KnownLaws.{own_work-known}
+use Rattle.history_laws.proofs.StayLaws.{row-stays}
+use Rattle.shared_book.proofs.Staying.{safe-stays}
 
 -- the floor of a history is at most the number of its entries
 pub floor-few : (case : CaseShape) (history : List Entry) → floor_of (run_of case.topology history) ≤ length history

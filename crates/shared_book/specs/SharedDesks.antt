@@ -34,6 +34,7 @@ shared_view v known = record {
   case = v.basis.case;
   limit = v.basis.limit;
   seen = v.front;
+  own = v.own;
   told = v.basis.told;
   leases = is_held v.leases;
   marks = known.marks;

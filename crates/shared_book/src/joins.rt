@@ -61,6 +61,10 @@ impl<'a, K: Keeper> Shared<'a, K> {
 
         ensures here { IsHere self.now.table.shared.table_id self.now.case.now seat.new.place }
         ensures view { seat.new.place.me ≡ (joined seat.old.place.me.0 other.place.me.0, []) }
+
+        // What either had seen begins what the seat has seen now.
+        ensures seen { Begins seat.old.place.me.0.front seat.new.place.me.0.front }
+        ensures met { Begins other.place.me.0.front seat.new.place.me.0.front }
     {
         let Seat { place, number } = other;
         let mut theirs = place;
@@ -68,6 +72,7 @@ impl<'a, K: Keeper> Shared<'a, K> {
         self.table
             .shared
             .join_seat::<Joined>(&mut seat.place, theirs);
+        look(self, &mut seat.place);
         if number < seat.number {
             seat.number = number;
         }

@@ -1,5 +1,5 @@
 //! A note is met.
-ghost use Rattle.std.specs.Prelude.{◌≡◌, []};
+ghost use Rattle.std.specs.Prelude.{◌≡◌, [], IsSome};
 ghost use Rattle.run_history.specs.Fences.{Begins};
 ghost use Rattle.book.specs.Desks.{HasLooked, HasMet};
 ghost use Rattle.shared_book.specs.Joins.{joined};
@@ -60,6 +60,7 @@ pub(crate) fn meet_once<K: Keeper>(
     ensures numbers { seat.new.place.me.0.numbers ≡ seat.old.place.me.0.numbers }
     ensures basis { seat.new.place.me.0.basis ≡ seat.old.place.me.0.basis }
     ensures met { HasMet (sight_of note.place.me.0) (shared_view seat.new.place.me.0 known.now) }
+    ensures tells { IsSome seat.old.place.me.0.basis.told → IsSome (sight_of note.place.me.0) }
     ensures looked { HasLooked (shared_view seat.old.place.me.0 known.now)
         (shared_view seat.new.place.me.0 known.now) }
 {

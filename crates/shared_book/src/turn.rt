@@ -1,35 +1,32 @@
 //! Turns: the right to append, which one seat has at a time.
-ghost use Rattle.std.specs.Prelude.{◌≡◌, ◌≢◌, ◌↔◌, IfErr, IfOk, IfSome, IsErrOf, OnOk, [], length};
+ghost use Rattle.std.specs.Prelude.{◌≡◌, ◌≢◌, ◌↔◌, IfErr, IfOk, IfSome, IsErrOf, [], length};
 ghost use Rattle.std.specs.Borrow.{sem};
 ghost use Rattle.mw_types.specs.declared.entry.Entry.TheVariants.{Ack, Purge};
-ghost use Rattle.run_history.specs.Fences.{IsCurrent};
 ghost use Rattle.run_history.specs.Finished.{unfinished};
 ghost use Rattle.run_history.specs.Legal.{MayClaim};
 ghost use Rattle.run_history.specs.Runs.{run_of};
-ghost use Rattle.book.specs.Answers.{IsFullWhere, IsStaleReport, IsStaleWhere};
+ghost use Rattle.book.specs.Answers.{IsFullWhere, IsStaleWhere};
 ghost use Rattle.book.specs.Claims.{IsDamaged};
-ghost use Rattle.book.specs.Conditions.{IsOwnWork, MayForget, MaySettle};
+ghost use Rattle.book.specs.Conditions.{MayForget, MaySettle};
 ghost use Rattle.book.specs.Proposals.{IsProposable};
 ghost use Rattle.book.specs.declared.refusals.ClaimRefusal.TheVariants as claims;
 ghost use Rattle.book.specs.declared.refusals.WriteRefusal.TheVariants as refusals;
 ghost use Rattle.shared_book.specs.Guards.{RestsTurn};
-ghost use Rattle.shared_book.specs.Lists.{IsIn};
 ghost use Rattle.shared_book.specs.Steps.{idle};
 ghost use Rattle.shared_book.specs.Turns.{HasClaimedIn, HasFaulted, HasStoredIn, HasTaken, HasTurn, HasWrittenIn, IsHere, IsIdle, IsProposedIn, IsRowHeld, MayWrite};
 
-use crate::reporting::report_at;
 use crate::seats::Seat;
 use crate::shared::Shared;
 use crate::slots::take;
 use crate::turn_calls::{claim_at, give_at, purge_at, settle_at, unfinished_at, write_at};
-use book::{ClaimRefusal, Claimed, Lease, Proposal, Stale, WriteRefusal, Written};
+use book::{ClaimRefusal, Claimed, Lease, Proposal, WriteRefusal, Written};
 use mw_types::{RecordId, RowName};
 use row_keeper::Keeper;
 use row_parts::Row;
 use std::alloc::Global;
 
 /// Another seat has the turn.
-#[derive(Debug, Drop)]
+#[derive(Drop)]
 pub struct Busy {
     /// The word that was found, which is not 0.
     pub found: u64,
@@ -229,30 +226,6 @@ impl<'s, 'a, K: Keeper> Turn<'s, 'a, K> {
     {
         let shared = self.shared;
         purge_at(alloc, shared, self.seat, lease, name, row, floor)
-    }
-
-    /// A worker reports, under a lease of the seat, the own work of the lease's interval, in whole
-    /// microseconds. The interval's mark rises as on a book, and is answered.
-    pub fn report(&mut self, lease: &Lease, own: u64) -> Result<u64, Stale>
-        requires here { let shared = self.old.shared.now in
-            IsHere shared.table.shared.table_id shared.case.now self.old.seat.now.place }
-        requires turn { HasTurn self.old.seat.now.place.me }
-        requires lease { IsIn lease.now self.old.seat.now.place.me.0.leases }
-        requires own { let v = self.old.seat.now.place.me.0 in
-            IsOwnWork v.basis.case v.basis.told v.front lease.now own }
-
-        ensures loan { self.new.seat.ghost_name ≡ self.old.seat.ghost_name }
-        ensures shared { self.new.shared.now ≡ self.old.shared.now }
-        ensures here { let shared = self.old.shared.now in
-            IsHere shared.table.shared.table_id shared.case.now self.new.seat.now.place }
-        ensures turn { HasTurn self.new.seat.now.place.me }
-        ensures view { self.new.seat.now.place.me.0 ≡ self.old.seat.now.place.me.0 }
-        ensures last { let v = self.old.seat.now.place.me.0 in
-            OnOk result (IsCurrent lease.now.interval lease.now.seq v.front) }
-        ensures stale { IsStaleReport self.old.seat.now.place.me.0.front lease.now result }
-    {
-        let shared = self.shared;
-        report_at(shared, self.seat, lease, own)
     }
 
     /// How much work is left, as on a book.

@@ -5,7 +5,7 @@ use Rattle.book.specs.DeskReasons.{HasClaimReason}
 use Rattle.book.specs.Desks.{HasLooked}
 use Rattle.shared_book.specs.SharedDesks.{shared_view}
 use Rattle.shared_book.proofs.DeskFacts.{known-turn}
-use Rattle.shared_book.proofs.DeskSteps.{begins-claim, claimed, given, looked-refused, reason-claim, refused-claim}
+use Rattle.shared_book.proofs.DeskSteps.{begins-claim, busy-looked, claimed, given, looked-refused, reason-claim, refused-claim}
 use Rattle.shared_book.proofs.Taking.{basis-taken}
 use Rattle.shared_book.proofs.desk_claims.claim_once.Goals as goal
 
@@ -43,3 +43,9 @@ returns-in-Err-clause-looked g c =
     given (λ u k. HasLooked (shared_view v c.args.known.now) (shared_view u k)) w f.new.seat.place.me f.new.known f.ensures.view
     (looked-refused v t w.0 c.args.known.now f.new.known (c.take-found.ensures.taken c.if-found-ne0.false) r.ensures.basis
     c.requires.kept.right f.ensures.floor (refused-claim t w.0 c.in-Err.why c.in-Err.ensures.fault c.in-Err.ensures.unchanged))
+
+-- another had the turn, and no more was seen
+pub returns-then-found-ne0-clause-looked : goal.returns-then-found-ne0-clause-looked
+returns-then-found-ne0-clause-looked g c =
+    busy-looked c.args.seat.now.place.me c.take-found.new.seat.place.me c.args.known.now c.take-found.result
+    (c.take-found.ensures.busy c.if-found-ne0.true)

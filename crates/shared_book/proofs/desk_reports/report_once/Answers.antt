@@ -7,7 +7,7 @@ use Rattle.shared_book.specs.declared.views.View.{View}
 use Rattle.shared_book.specs.Lists.{IsIn}
 use Rattle.shared_book.specs.SharedDesks.{shared_view}
 use Rattle.shared_book.proofs.DeskFacts.{known-turn}
-use Rattle.shared_book.proofs.DeskSteps.{begins-refused, given, looked-report, reason-report, refused-same}
+use Rattle.shared_book.proofs.DeskSteps.{begins-refused, busy-looked, given, looked-report, reason-report, refused-same}
 use Rattle.shared_book.proofs.Held.{held-in}
 use Rattle.shared_book.proofs.Taking.{basis-taken, core-taken, leases-taken, own-taken}
 use Rattle.shared_book.proofs.desk_reports.report_once.Goals as goal
@@ -80,3 +80,9 @@ returns-in-Err-clause-reason g c =
     w f.new.seat.place.me f.new.known f.ensures.view
     (reason-report v t w.0 k f.new.known taken basis c.requires.kept.right f.ensures.floor c.args.lease.now c.in-Err.why r.ensures.view
     c.in-Err.ensures.stale)
+
+-- another had the turn, and no more was seen
+pub returns-then-found-ne0-clause-looked : goal.returns-then-found-ne0-clause-looked
+returns-then-found-ne0-clause-looked g c =
+    busy-looked c.args.seat.now.place.me c.take-found.new.seat.place.me c.args.known.now c.take-found.result
+    (c.take-found.ensures.busy c.if-found-ne0.true)

@@ -8,7 +8,7 @@ use Rattle.book.specs.Desks.{HasLooked}
 use Rattle.shared_book.specs.SharedDesks.{shared_view}
 use Rattle.shared_book.specs.Turns.{HasStoredIn, HasWrittenIn}
 use Rattle.shared_book.proofs.DeskFacts.{known-turn}
-use Rattle.shared_book.proofs.DeskSteps.{begins-write, given, looked-refused, reason-write, refused-write, stored, written-by}
+use Rattle.shared_book.proofs.DeskSteps.{begins-write, busy-looked, given, looked-refused, reason-write, refused-write, stored, written-by}
 use Rattle.shared_book.proofs.Taking.{basis-taken, core-taken, settle-taken, row-taken, write-taken}
 use Rattle.shared_book.proofs.desk_writes.settle_once.Goals as goal
 
@@ -83,3 +83,9 @@ returns-in-Err-clause-reason g c =
     w f.new.seat.place.me f.new.known f.ensures.view
     (reason-write v t w.0 k f.new.known (c.take-found.ensures.taken c.if-found-ne0.false) r.ensures.basis
     c.requires.kept.right f.ensures.floor c.args.lease.now why refused c.in-Err.ensures.fault c.in-Err.ensures.stale c.in-Err.ensures.full))
+
+-- another had the turn, and no more was seen
+pub returns-then-found-ne0-clause-looked : goal.returns-then-found-ne0-clause-looked
+returns-then-found-ne0-clause-looked g c =
+    busy-looked c.args.seat.now.place.me c.take-found.new.seat.place.me c.args.known.now c.take-found.result
+    (c.take-found.ensures.busy c.if-found-ne0.true)

@@ -6,7 +6,7 @@ use denote.Param.Send.{IsSend, param_send, sendable}
 use Rattle.std.proofs.Crossing.{crosses, send}
 use Rattle.row_keeper.specs.declared.keeper.Keeper.{Ghosts}
 use Rattle.book_tests.specs.contracts.tests.threads.Ended as Ended
-use Rattle.book_tests.proofs.Sending.{seat_field_send, seat_send, shared_sync}
+use Rattle.shared_book.proofs.Sending.{seat_field_send, seat_send, shared_sync}
 use Rattle.book_tests.proofs.TestSeatLaws.{next_number, put_below}
 use Rattle.book_tests.proofs.tests.threads.+fn-in_threads-join+arg3+in_threads.Goals as goal
 

@@ -5,7 +5,7 @@ use Rattle.shared_book.specs.Steps.{SeatView}
 use Rattle.shared_book.specs.Joins.{joined, spent, first_of}
 use Rattle.shared_book.proofs.Merging.{joined_high, joined_even}
 use Rattle.shared_book.proofs.Starting.{lift_join}
-use Rattle.shared_book.proofs.Joining.{seats_join}
+use Rattle.shared_book.proofs.Joining.{joined-met, joined-seen, seats_join}
 use Rattle.shared_book.proofs.shared.Shared.join.Goals as goal
 
 pub join_seat-requires : goal.join_seat-requires
@@ -32,7 +32,7 @@ invariant_of-seat g c =
     let o = c.args.other in
     let same = c.look.ensures.same in
     let w = c.look.new.place.me.0 in
-    let e = ap (λ (m : SeatView). m.0) c.join_seat.ensures.2 in
+    let e = ap (λ (m : SeatView). m.0) (c.look-2.ensures.same ∙ c.join_seat.ensures.2) in
     record {
       numbered = ap (λ (v : View). first_of v.numbers) e ∙ joined_high s.number o.number s.place.me.0.numbers w.numbers s.numbered
           (ap (λ (m : SeatView). first_of m.0.numbers) same ∙ o.numbered) (omega (arith, c.if-number-seat.true))
@@ -47,7 +47,7 @@ invariant_of-seat-else-number-seat g c =
     let o = c.args.other in
     let same = c.look.ensures.same in
     let w = c.look.new.place.me.0 in
-    let e = ap (λ (m : SeatView). m.0) c.join_seat.ensures.2 in
+    let e = ap (λ (m : SeatView). m.0) (c.look-2.ensures.same ∙ c.join_seat.ensures.2) in
     record {
       numbered = ap (λ (v : View). first_of v.numbers) e ∙ joined_even s.number o.number s.place.me.0.numbers w.numbers s.numbered
           (ap (λ (m : SeatView). first_of m.0.numbers) same ∙ o.numbered) (omega (arith, c.if-number-seat.false))
@@ -55,3 +55,27 @@ invariant_of-seat-else-number-seat g c =
       small = s.small;
       live = ap (λ (v : View). v.live) e ∙ s.live;
     }
+
+-- what either had seen begins the longer of both, where the number of the other is the first
+pub returns-then-number-seat-clause-seen : goal.returns-then-number-seat-clause-seen
+returns-then-number-seat-clause-seen g c =
+    joined-seen c.args.seat.now.place.me.0 c.look.new.place.me.0 c.look-2.new.place.me.0
+    (ap (λ (m : SeatView). m.0) (c.look-2.ensures.same ∙ c.join_seat.ensures.2))
+
+pub returns-then-number-seat-clause-met : goal.returns-then-number-seat-clause-met
+returns-then-number-seat-clause-met g c =
+    joined-met c.args.other.place.me.0 c.args.seat.now.place.me.0 c.look.new.place.me.0 _ c.look-2.new.place.me.0
+    (ap (λ (m : SeatView). m.0) c.look.ensures.same) (ap (λ (m : SeatView). m.0) c.join_seat.ensures.2)
+    (ap (λ (m : SeatView). m.0) c.look-2.ensures.same) c.look-2.ensures.met
+
+-- what either had seen begins the longer of both, and else
+pub returns-else-number-seat-clause-seen : goal.returns-else-number-seat-clause-seen
+returns-else-number-seat-clause-seen g c =
+    joined-seen c.args.seat.now.place.me.0 c.look.new.place.me.0 c.look-2.new.place.me.0
+    (ap (λ (m : SeatView). m.0) (c.look-2.ensures.same ∙ c.join_seat.ensures.2))
+
+pub returns-else-number-seat-clause-met : goal.returns-else-number-seat-clause-met
+returns-else-number-seat-clause-met g c =
+    joined-met c.args.other.place.me.0 c.args.seat.now.place.me.0 c.look.new.place.me.0 _ c.look-2.new.place.me.0
+    (ap (λ (m : SeatView). m.0) c.look.ensures.same) (ap (λ (m : SeatView). m.0) c.join_seat.ensures.2)
+    (ap (λ (m : SeatView). m.0) c.look-2.ensures.same) c.look-2.ensures.met

@@ -26,6 +26,7 @@ use Rattle.mw_types.specs.contracts.record.Production as Production
 use Rattle.mw_types.specs.contracts.entry.Entry as Entry
 use Rattle.run_history.specs.contracts.history.History as History
 use Rattle.book.specs.contracts.book_core.Core as Core
+use Rattle.shared_book.specs.contracts.seats.Note as Note
 use Rattle.shared_book.specs.contracts.seats.Seat as Seat
 use Rattle.shared_book.specs.contracts.shared.Shared as Shared
 use Rattle.std.specs.contracts.option.Option as Option
@@ -80,6 +81,14 @@ seat_send K g s = search (sendable, crosses, core_send, places.the_send) depth 3
 -- a seat as a field, where its keeper may cross
 pub seat_field_send : (K : RattleType) (g : Ghosts K.Denot) → IsSend K → IsSend (Seat.the_field K g).row
 seat_field_send K g s = search (sendable, crosses, core_send, places.the_send) depth 30
+
+-- a note, where its keeper may cross
+pub note_send : (K : RattleType) (g : Ghosts K.Denot) → IsSend K → IsSend (Note.the_row K g)
+note_send K g s = search (sendable, crosses, core_send, places.the_send) depth 30
+
+-- a note as a field, where its keeper may cross
+pub note_field_send : (K : RattleType) (g : Ghosts K.Denot) → IsSend K → IsSend (Note.the_field K g).row
+note_field_send K g s = search (sendable, crosses, core_send, places.the_send) depth 30
 
 -- the place of the table, where the keeper may cross
 pub option_send : (K : RattleType) (g : Ghosts K.Denot) → IsSend K → IsSend (Option.the_row (Core.the_row K g))
