@@ -1,61 +1,64 @@
--- A list in order that grows by the elements of another, one after another.
-use Rattle.std.proofs.Common.{◌≡◌, ◌<◌, ◌≤◌, ◌+◌, ℕ, zero, suc, List, [], ◌∷◌, ◌++◌, length, take, sym, ◌∙◌, ap, subst, arith, get_or, append_assoc}
+-- A row to whose pending deliveries those of an entry are added, one after another.
+use Rattle.std.proofs.Common.{◌≡◌, ◌≤◌, ◌∙◌, List, [], ◌∷◌, ◌++◌, refl, sym, ap, subst, append_assoc, append-nil}
 use Rattle.std.specs.Prelude.{All}
 use Rattle.std.specs.List.{AllByRecursion}
 use Rattle.std.specs.List.Sorted.{IsStrictlySortedBy}
 use Rattle.std.specs.declared.cmp.Ordering.{Ordering}
 use Rattle.std.specs.declared.cmp.Ordering.TheVariants.{Less}
-use Rattle.std.proofs.lemmas.List.{take_more, take_all}
 use Rattle.std.proofs.lemmas.List.Elements.{All-from_recursion, recursion_from_All}
+use Rattle.mw_types.specs.declared.TheConstants.{MAX_STAMP}
+use Rattle.mw_types.specs.declared.delivery.Delivery.{Delivery}
+use Rattle.row_parts.specs.Contents.{Contents, IsId, delivery_cmp}
 
--- what holds of each holds of the one at a place
-pub each-get : {X : Type 0} (P : X → Type 0) (xs : List X) (i : ℕ) (d : X) → AllByRecursion P xs → i < length xs → d ≡ get_or xs i d → P d
-each-get P [] i d each within at = absurd (omega (arith, within))
-each-get P (x ∷ xs) zero d each within at = subst P (sym at) each.0
-each-get P (x ∷ xs) (suc i) d each within at = each-get P xs i d each.1 (omega (arith, within)) at
-
--- and so does what holds by `All`
-pub All-get : {X : Type 0} (P : X → Type 0) (xs : List X) (i : ℕ) (d : X) → All P xs → i < length xs → d ≡ get_or xs i d → P d
-All-get P xs i d each within at = each-get P xs i d (recursion_from_All P xs each) within at
+-- a row grows to what another is with all of these pending too: some of them are pending, these are left, and
+-- each of these can be kept
+pub record IsGrowing (row grown : Contents) (all left : List Delivery) : Type 0 where
+  pub same : record grown { pending = grown.pending ++ left } ≡ record row { pending = row.pending ++ all }
+  pub ids : AllByRecursion (λ (d : Delivery). IsId d.id) left
+  pub stamps : AllByRecursion (λ (d : Delivery). d.item.stamp ≤ MAX_STAMP) left
 
 -- what holds of each of two lists together holds of each of the second
 each-behind : {X : Type 0} (P : X → Type 0) (xs ys : List X) → AllByRecursion P (xs ++ ys) → AllByRecursion P ys
 each-behind P [] ys each = each
 each-behind P (x ∷ xs) ys each = each-behind P xs ys each.1
 
-module _ {X : Type 0} (R : X → X → Ordering) where
-  -- in a list in order each before a place is below what stands there
-  below-place : (ys : List X) (i : ℕ) (d : X) → IsStrictlySortedBy R ys → i < length ys → d ≡ get_or ys i d
-      → AllByRecursion (λ y. R y d ≡ Less) (take i ys)
-  unfolding IsStrictlySortedBy
-  below-place [] i d sorted within at = absurd (omega (arith, within))
-  below-place (y ∷ ys) zero d sorted within at = tt
-  below-place (y ∷ ys) (suc i) d sorted within at =
-      (each-get (λ z. R y z ≡ Less) ys i d sorted.0 (omega (arith, within)) at, below-place ys i d sorted.1 (omega (arith, within)) at)
+-- in a list in order each before a place is below what stands there
+below-place : {X : Type 0} (R : X → X → Ordering) (xs : List X) (d : X) (ys : List X) → IsStrictlySortedBy R (xs ++ d ∷ ys)
+    → AllByRecursion (λ x. R x d ≡ Less) xs
+unfolding IsStrictlySortedBy
+below-place R [] d ys sorted = tt
+below-place R (x ∷ xs) d ys sorted =
+    ((each-behind (λ y. R x y ≡ Less) xs (d ∷ ys) sorted.0).0, below-place R xs d ys sorted.1)
 
-  -- and so in a list behind another
-  below-place_behind : (xs ys : List X) (i : ℕ) (d : X) → IsStrictlySortedBy R (xs ++ ys) → i < length ys → d ≡ get_or ys i d
-      → AllByRecursion (λ y. R y d ≡ Less) (xs ++ take i ys)
-  unfolding IsStrictlySortedBy
-  below-place_behind [] ys i d sorted within at = below-place ys i d sorted within at
-  below-place_behind (x ∷ xs) ys i d sorted within at = (
-    each-get (λ z. R x z ≡ Less) ys i d (each-behind (λ z. R x z ≡ Less) xs ys sorted.0) within at,
-    below-place_behind xs ys i d
-        sorted.1 within at,
-  )
+-- at first all are left
+pub growing-first : (row : Contents) (all left : List Delivery) → left ≡ all → All (λ (d : Delivery). IsId d.id) all
+    → All (λ (d : Delivery). d.item.stamp ≤ MAX_STAMP) all → IsGrowing row row all left
+growing-first row all left is ids stamps = record {
+  same = ap (λ l. record row { pending = row.pending ++ l }) is;
+  ids = subst (AllByRecursion (λ (d : Delivery). IsId d.id)) (sym is) (recursion_from_All (λ (d : Delivery). IsId d.id) all ids);
+  stamps = subst (AllByRecursion (λ (d : Delivery). d.item.stamp ≤ MAX_STAMP)) (sym is)
+      (recursion_from_All (λ (d : Delivery). d.item.stamp ≤ MAX_STAMP) all stamps);
+}
 
-  -- said of all
-  pub all_below : (xs ys : List X) (i : ℕ) (d : X) → IsStrictlySortedBy R (xs ++ ys) → i < length ys → d ≡ get_or ys i d
-      → All (λ y. R y d ≡ Less) (xs ++ take i ys)
-  all_below xs ys i d sorted within at = All-from_recursion (λ y. R y d ≡ Less) (xs ++ take i ys)
-      (below-place_behind xs ys i d sorted within at)
+-- all that is pending is below the next
+pub growing-above : (row grown : Contents) (all : List Delivery) (d : Delivery) (left : List Delivery) → IsGrowing row grown all (d ∷ left)
+    → IsStrictlySortedBy delivery_cmp (row.pending ++ all) → All (λ (x : Delivery). delivery_cmp x d ≡ Less) grown.pending
+growing-above row grown all d left growing sorted =
+    All-from_recursion (λ (x : Delivery). delivery_cmp x d ≡ Less) grown.pending
+    (below-place delivery_cmp grown.pending d left
+    (subst (λ (c : Contents). IsStrictlySortedBy delivery_cmp c.pending) (sym growing.same) sorted))
 
--- one more element of the other list
-pub grown-more : {X : Type 0} (xs ys : List X) (i : ℕ) (d : X) → i < length ys → d ≡ get_or ys i d
-    → (xs ++ take i ys) ++ d ∷ [] ≡ xs ++ take (i + 1) ys
-grown-more xs ys i d within at =
-    append_assoc xs (take i ys) (d ∷ []) ∙ ap (λ e. xs ++ (take i ys ++ e ∷ [])) at ∙ sym (ap (λ l. xs ++ l) (take_more ys i d within))
+-- the next is pending too
+pub growing-next : (row grown more : Contents) (all : List Delivery) (d : Delivery) (left : List Delivery)
+    → IsGrowing row grown all (d ∷ left) → more ≡ record grown { pending = grown.pending ++ d ∷ [] } → IsGrowing row more all left
+growing-next row grown more all d left growing is = record {
+  same = ap (λ (c : Contents). record c { pending = c.pending ++ left }) is
+      ∙ ap (λ l. record grown { pending = l }) (append_assoc grown.pending (d ∷ []) left) ∙ growing.same;
+  ids = growing.ids.1;
+  stamps = growing.stamps.1;
+}
 
--- all of them
-pub grown-all : {X : Type 0} (xs ys : List X) (i : ℕ) → length ys ≤ i → xs ++ take i ys ≡ xs ++ ys
-grown-all xs ys i past = ap (λ l. xs ++ l) (take_all i ys past)
+-- at last none is left
+pub growing-last : (row grown : Contents) (all : List Delivery) → IsGrowing row grown all []
+    → grown ≡ record row { pending = row.pending ++ all }
+growing-last row grown all growing = sym (ap (λ l. record grown { pending = l }) (append-nil grown.pending)) ∙ growing.same

@@ -44,7 +44,7 @@ use Rattle.book.proofs.MarkSteps.{claims-next, claims-claim, AreSafe-appended, A
 use Rattle.run_history.proofs.Fitting.{fits-later}
 
 -- what holds of each row, and of one that is put among them, holds of each then
-each-put : (P : RowName × Contents → Type 0) (es : List (RowName × Contents)) (k : RowName) (v : Contents)
+pub each-put : (P : RowName × Contents → Type 0) (es : List (RowName × Contents)) (k : RowName) (v : Contents)
     → AllByRecursion P es → P (k, v) → AllByRecursion P (insert_entry row_cmp es k v)
 each-put P [] k v each new = (new, tt)
 each-put P (e ∷ es) k v each new =

@@ -10,9 +10,11 @@ pub mod SenderMaps
 pub mod SentCounts
 pub mod SenderSteps
 pub mod SenderFloors
+pub mod SenderParts
 pub mod SentLaws
 pub mod Growing
 pub mod ProposalLaws
+pub mod Numbers
 pub mod DeskLaws
 pub mod OwnLaws
 pub mod OwnReasons

@@ -24,7 +24,7 @@ use Rattle.book.specs.Books.{BookView, LeaseView, core_of}
 use Rattle.book.specs.Claims.{AreRowsOf}
 use Rattle.book.specs.Conditions.{HasSeenAllAt, IsOwnWork, IsOwnWorkAt, IsRowOf, IsRowSeen, IsRowSeenAt, MayForgetAt, MaySettle, MaySettleAt, MayUseAt}
 use Rattle.book.specs.Desking.{HasClaimed, HasStored, HasWritten, IsKnownOf, IsPurgeKnown, IsRowKnown, MayAsk}
-use Rattle.book.specs.Desks.{HasLooked, HasMoved, IsSound, KeepsMarks}
+use Rattle.book.specs.Desks.{HasLooked, HasMoved, IsSound, KeepsMarks, numbers_from}
 use Rattle.book.specs.Lawful.{HoldsRowsOf, IsLawful}
 use Rattle.book.specs.Marks.{AreUnderLow}
 use Rattle.book.specs.OwnDesks.{is_claimed, own_view}
@@ -34,6 +34,7 @@ use Rattle.book.specs.declared.answers.Written.{Written}
 use Rattle.book.specs.declared.proposal.Proposal.{Proposal}
 use Rattle.book.specs.declared.proposal.Proposal.TheVariants as proposals
 use Rattle.book.proofs.DeskLaws.{telling-if, if-telling, if-anyway, telling-same, IsRowSeen-told, MaySettle-told, IsOwnWork-told, IsWritten-telling, IsWrittenBy-telling, AreRowsOf-telling}
+use Rattle.book.proofs.Numbers.{drop-front, numbers_from-append}
 use Rattle.book.proofs.SeenRows.{part-there, told-then}
 
 -- ---- leases
@@ -164,6 +165,16 @@ proposed book front lease name row proposal whole low is known =
 
 -- ---- what a call leaves
 
+-- all that a book has more was appended by the desk that is alone
+own-more : (old new before more : List Entry) → before ≡ old → new ≡ old ++ more
+    → numbers_from 0 new ≡ numbers_from 0 old ++ numbers_from (length before) (drop (length before) new)
+own-more old new before more from appended =
+    ap (numbers_from 0) appended ∙ numbers_from-append 0 old more
+    ∙ ap (λ n. numbers_from 0 old ++ numbers_from n more) (omega arith)
+    ∙ ap (λ l. numbers_from 0 old ++ numbers_from (length old) l)
+    (sym (ap (λ l. drop (length old) l) appended ∙ drop-front old more))
+    ∙ ap (λ b. numbers_from 0 old ++ numbers_from (length b) (drop (length b) new)) (sym from)
+
 -- a book that goes on
 pub moved : (old new : BookView) (before more : List Entry) → new.case ≡ old.case → new.limit ≡ old.limit
     → is_some new.rows ≡ is_some old.rows → old.faults ≤ new.faults → before ≡ old.history → new.history ≡ old.history ++ more
@@ -177,6 +188,7 @@ moved old new before more case limit tells later from appended = record {
   more = from ∙ sym (append-nil old.history);
   foreign = λ lease _. none-carried lease.seq;
   none = λ _. refl;
+  own = own-more old.history new.history before more from appended;
   leases = λ lease is. subst (λ (h : List Entry). is_claimed h lease ≡ true) (sym appended) (is_claimed-more old.history more lease is);
   floor = subst (λ (p : CaseShape × List Entry). floor_of (run_of old.case.topology old.history) ≤ floor_of (run_of p.0.topology p.1))
       (λ i. (sym case i, sym appended i)) (floor_of-rises old.case.topology old.history more);
@@ -188,6 +200,11 @@ pub looked : (old new : BookView) → HasStayed old new → IsSameBook old new �
     → HasLooked (own_view old) (own_view new)
 looked old new stayed same later =
     moved old new new.history [] same.case same.limit same.tells later stayed.history (stayed.history ∙ sym (append-nil old.history))
+
+-- a book that is read has stayed
+pub looked-still : (book : BookView) → HasLooked (own_view book) (own_view book)
+looked-still book = looked book book (record { history = refl; rows = refl })
+    (record { case = refl; limit = refl; marks = refl; tells = refl }) (omega arith)
 
 -- no mark changes
 pub marks-stay : (old new : BookView) → IsSameBook old new → KeepsMarks (own_view old) (own_view new)

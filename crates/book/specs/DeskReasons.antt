@@ -46,12 +46,11 @@ pub record HasReason (old new : DeskView) (lease : LeaseView) (why : DeskRefusal
   pub counts : HasCount old new why
   pub no_row : IsNoDamage why
 
--- a report is refused for another's turn, as stale or for lack of memory, and for nothing else: it appends
--- nothing
+-- a report is refused for another's turn or as stale, and for nothing else: it appends nothing, and takes no
+-- memory
 abbrev pub IsReportRefusal : DeskRefusal → Type 0
 IsReportRefusal (refusals.Busy found) = ⊤
 IsReportRefusal (refusals.Stale newer) = ⊤
-IsReportRefusal refusals.NoMemory = ⊤
 IsReportRefusal _ = ⊥
 
 -- why a claim was refused: where the history decides it is full exactly where the history is, it is never

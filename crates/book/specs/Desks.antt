@@ -1,7 +1,7 @@
 -- What a worker knows of a history through its desk, and what the calls of a desk do to that.
 -- Akidau et al., VLDB 2013, section 6.2 for sequencers and section 4.5 for marks. Own: a desk, which has
 -- seen a beginning of the history, and of which no other may append under its leases.
-use Rattle.std.specs.Prelude.{◌≡◌, ◌≤◌, ◌^◌, ◌++◌, [], ℕ, Bool, true, List, Option, IsSome, IfSome, length}
+use Rattle.std.specs.Prelude.{◌≡◌, ◌≤◌, ◌^◌, ◌++◌, ◌∷◌, [], ℕ, suc, Bool, true, false, List, Option, IsSome, IfSome, drop, length}
 use Rattle.mw_types.specs.declared.entry.Entry.{Entry}
 use Rattle.run_history.specs.Cases.{CaseShape, intervals_of}
 use Rattle.run_history.specs.Runs.{run_of}
@@ -11,13 +11,20 @@ use Rattle.run_history.specs.Inputs.{IsRunnable}
 use Rattle.watermark.specs.Marks.{mark_of}
 use Rattle.book.specs.Books.{LeaseView}
 
--- what a desk knows: its book's case, how many entries there may be, what it has seen of the history,
--- whether a contract can see the keeper's rows, which leases it may use, a mark for each interval, a floor,
--- what it found in turns that others had taken, how often the keeper failed, and whether it is alone
+-- the commit numbers of these entries, the first of which has this one
+abbrev pub numbers_from : ℕ → List Entry → List ℕ
+numbers_from at [] = []
+numbers_from at (entry ∷ entries) = at ∷ numbers_from (suc at) entries
+
+-- what a desk knows: its book's case, how many entries there may be, what it has seen of the history, the
+-- commit numbers of what it appended, whether a contract can see the keeper's rows, which leases it may use,
+-- a mark for each interval, a floor, what it found in turns that others had taken, how often the keeper
+-- failed, and whether it is alone
 pub record DeskView : Type 0 where
   pub case : CaseShape
   pub limit : ℕ
   pub seen : List Entry
+  pub own : List ℕ
   pub told : Option Unit
   pub leases : LeaseView → Bool
   pub marks : List ℕ
@@ -53,8 +60,9 @@ pub record IsSound (desk : DeskView) : Type 0 where
   pub own_floor : desk.alone ≡ true → desk.floor ≡ floor_of (run_of desk.case.topology desk.seen)
 
 -- a call came to see so much, but for its own entry. What others appended carries no sequencer of a lease
--- that the desk could use before, and a desk that is alone sees none of it. Those leases may still be used,
--- neither floor nor faults fall, and all else but marks and `missed` stays
+-- that the desk could use before, and a desk that is alone sees none of it. Its own entry is what it has seen
+-- beyond so much. Those leases may still be used, neither floor nor faults fall, and all else but marks and
+-- `missed` stays
 pub record HasMoved (old new : DeskView) (before : List Entry) : Type 0 where
   pub case : new.case ≡ old.case
   pub limit : new.limit ≡ old.limit
@@ -64,6 +72,7 @@ pub record HasMoved (old new : DeskView) (before : List Entry) : Type 0 where
   pub more : before ≡ old.seen ++ others
   pub foreign : (lease : LeaseView) → old.leases lease ≡ true → CarryNot lease.seq others
   pub none : old.alone ≡ true → others ≡ []
+  pub own : new.own ≡ old.own ++ numbers_from (length before) (drop (length before) new.seen)
   pub leases : (lease : LeaseView) → old.leases lease ≡ true → new.leases lease ≡ true
   pub floor : old.floor ≤ new.floor
   pub faults : old.faults ≤ new.faults
@@ -86,3 +95,7 @@ HasMet sight desk = IfSome sight (λ told. (told.case ≡ desk.case) × Begins t
 abbrev pub IsNoteOf : DeskView → Option Sight → Type 0
 IsNoteOf desk sight = IfSome sight (λ told.
     (told.case ≡ desk.case) × (told.seen ≡ desk.seen) × IsSome desk.told)
+
+-- a note of a desk's own book tells, where a contract can see the keeper's rows, unless the desk is alone
+abbrev pub TellsUnlessAlone : DeskView → Option Sight → Type 0
+TellsUnlessAlone desk sight = desk.alone ≡ false → IsSome desk.told → IsSome sight

@@ -4,7 +4,7 @@ use mw_types::{RowName, Seq};
 use row_parts::Row;
 
 /// A row, with its name.
-#[derive(Debug, Drop)]
+#[derive(Drop)]
 pub struct NamedRow {
     /// The name.
     pub name: RowName,
@@ -16,7 +16,7 @@ pub struct NamedRow {
 pub type NamedRowList = Seq<NamedRow>;
 
 /// What a claim answers.
-#[derive(Debug, Drop)]
+#[derive(Drop)]
 pub struct Claimed {
     /// The right to write the interval's rows.
     pub lease: Lease,
@@ -25,7 +25,7 @@ pub struct Claimed {
 }
 
 /// What a write answers.
-#[derive(Debug, Drop)]
+#[derive(Drop)]
 pub struct Written {
     /// The commit number of the entry that was appended.
     pub commit: u64,

@@ -1,22 +1,27 @@
 //! All of a book but its case.
-ghost use Rattle.std.specs.Prelude.{◌≡◌, ◌++◌, ◌∷◌, ◌<◌, ◌^◌, [], length, max, IfSome, None, OnOk, OnErr, Some, option_map, ◌↔◌};
+ghost use Rattle.std.specs.Prelude.{◌≡◌, ◌+◌, ◌-◌, ◌++◌, ◌∷◌, ◌<◌, ◌^◌, [], length, max, take, IfSome, None, OnOk, OnErr, Some, option_map, ◌↔◌};
 ghost use Rattle.mw_types.specs.Causes.{HasCause};
 ghost use Rattle.mw_types.specs.declared.entry.Entry.TheVariants.{Claim};
 ghost use Rattle.row_parts.specs.Spelling.{IsSpelledRow, spelling_of};
 ghost use Rattle.row_keeper.specs.Rows.{AreInOrder, with_row};
+ghost use Rattle.run_history.specs.Finished.{work_in};
 ghost use Rattle.run_history.specs.Made.{row_written};
 ghost use Rattle.run_history.specs.Fences.{last_claim};
 ghost use Rattle.watermark.specs.Marks.{mark_of};
 ghost use Rattle.book.specs.Marks.{with_mark};
 ghost use Rattle.book.specs.Senders.{sender_of};
-ghost use Rattle.book.specs.Sending.{IsAfterEntry, IsLeastKnown, IsUnsent, KnowsSame};
+ghost use Rattle.std.specs.BTreeMap.{get};
+ghost use Rattle.std.specs.Ordering.{nat_cmp};
+ghost use Rattle.book.specs.Appending.{KnowsClaims};
+ghost use Rattle.book.specs.Sending.{HasSent, IsAfterEntry, IsLeastKnown, IsUnsent, KnowsSame};
 
 use crate::sender_map::{Senders, forget_sent, note_sent, settle, settled_by};
+use crate::work_left::work_after;
 use mw_types::{Entry, NoMemory, RecordId, RowName};
 use record_codec::encode_over;
 use row_keeper::{Keeper, KeeperFault};
 use row_parts::Row;
-use run_history::History;
+use run_history::{Case, History};
 use std::alloc::Global;
 use std::collections::BTreeMap;
 use std::marker::Model;
@@ -71,15 +76,16 @@ impl<K: Keeper> Core<K> {
         self.sequencers.get(&interval).copied()
     }
 
-    // Appends an entry on a row, and stores the row's bytes; so much work is left then, and the entry
-    // has made so many deliveries.
+    // Appends an entry on a row, which has made so many deliveries, and stores the bytes of the row that
+    // it leaves.
     pub(crate) fn append(
         &mut self,
         alloc: Global,
+        case: &Case,
         entry: Entry,
         name: &RowName,
+        before: &Row,
         row: &Row,
-        work: u64,
         sent: u32,
     ) -> Result<(), KeeperFault>
         requires on_row { row_written entry ≡ Some name.now }
@@ -88,7 +94,8 @@ impl<K: Keeper> Core<K> {
         ensures stored { OnOk result
             (self.new.rows ≡ option_map (with_row name.now (spelling_of row.now)) self.old.rows) }
         ensures own { OnOk result (IsSpelledRow row.now) }
-        ensures left { OnOk result (self.new.work ≡ work) }
+        ensures left { OnOk result (self.new.work ≡ (self.old.work + work_in case.now name.now row.now)
+            - work_in case.now name.now before.now) }
         ensures senders { OnOk result (IsAfterEntry (length self.old.history) entry name.now sent
             self.old.unacknowledged self.new.unacknowledged) }
         ensures limit { self.new.limit ≡ self.old.limit }
@@ -102,20 +109,29 @@ impl<K: Keeper> Core<K> {
     {
         let commit = self.history.len() as u64;
         let settled = settled_by(&entry);
-        let bytes = encode_over(replace(&mut self.buffer, Vec::new(alloc)), row)?;
-        self.history.push(entry)?;
-        if let Err(NoMemory) = note_sent(alloc, &mut self.unacknowledged, commit, sent, name) {
-            self.history.pop();
-            return Err(KeeperFault::NoMemory);
-        }
-        if let Err(fault) = self.keeper.put(alloc, name, bytes.as_slice()) {
+        note(
+            alloc,
+            &mut self.history,
+            &mut self.unacknowledged,
+            entry,
+            name,
+            sent,
+        )?;
+        if let Err(fault) = store(
+            alloc,
+            &mut self.keeper,
+            &mut self.buffer,
+            &mut self.work,
+            case,
+            name,
+            before,
+            row,
+        ) {
             forget_sent(&mut self.unacknowledged, commit, sent);
-            self.history.pop();
+            forget_last(&mut self.history);
             return Err(fault);
         }
         settle(&mut self.unacknowledged, settled, name);
-        self.work = work;
-        self.buffer = bytes.into_vec();
         Ok(())
     }
 
@@ -132,13 +148,7 @@ impl<K: Keeper> Core<K> {
         ensures senders { self.new.unacknowledged ≡ self.old.unacknowledged }
         ensures marks { self.new.marks ≡ self.old.marks }
     {
-        let number = self.history.len() as u64;
-        self.history.push(Entry::Claim { worker, interval })?;
-        if let Err(_) = self.sequencers.insert(interval, number) {
-            self.history.pop();
-            return Err(NoMemory);
-        }
-        Ok(())
+        note_claim(&mut self.history, &mut self.sequencers, worker, interval)
     }
 
     // The least id that is unacknowledged, and its sender's row.
@@ -175,4 +185,87 @@ impl<K: Keeper> Core<K> {
         self.marks[interval as usize] = raised;
         raised
     }
+}
+
+// Appends an entry to a history, and notes that its row sent so many deliveries.
+fn note(
+    alloc: Global,
+    history: &mut History,
+    senders: &mut Senders,
+    entry: Entry,
+    name: &RowName,
+    sent: u32,
+) -> Result<(), NoMemory>
+    requires unsent { IsUnsent (length history.old) senders.old.entries }
+    ensures appended { OnOk result (history.new ≡ history.old ++ entry ∷ []) }
+    ensures sent { OnOk result
+        (HasSent (length history.old) name.now sent senders.old.entries senders.new.entries) }
+    ensures unchanged { OnErr result (history.new ≡ history.old) }
+    ensures same { OnErr result (KnowsSame senders.old.entries senders.new.entries) }
+{
+    let commit = history.len() as u64;
+    history.push(entry)?;
+    if let Err(NoMemory) = note_sent(alloc, senders, commit, sent, name) {
+        forget_last(history);
+        return Err(NoMemory);
+    }
+    Ok(())
+}
+
+// Takes the last entry of a history away.
+fn forget_last(history: &mut History)
+    ensures { history.new ≡ take (length history.old - 1) history.old }
+{
+    drop(history.pop());
+}
+
+// Stores the bytes of a row in the place of another's, made in a buffer that is used again, and counts
+// the work that is left then.
+fn store<K: Keeper>(
+    alloc: Global,
+    keeper: &mut K,
+    buffer: &mut Vec<u8>,
+    work: &mut u64,
+    case: &Case,
+    name: &RowName,
+    before: &Row,
+    row: &Row,
+) -> Result<(), KeeperFault>
+    ensures stored { OnOk result
+        (K.rows keeper.new ≡ option_map (with_row name.now (spelling_of row.now)) (K.rows keeper.old)) }
+    ensures own { OnOk result (IsSpelledRow row.now) }
+    ensures unchanged { OnErr result (K.rows keeper.new ≡ K.rows keeper.old) }
+    ensures failed { HasCause (K.faults keeper.old) (K.faults keeper.new) result KeeperFault.Failed }
+    ensures left { OnOk result (work.new ≡ (work.old + work_in case.now name.now row.now)
+        - work_in case.now name.now before.now) }
+    ensures same_left { OnErr result (work.new ≡ work.old) }
+{
+    let left = work_after(case, name, before, row, *work)?;
+    let bytes = encode_over(replace(buffer, Vec::new(alloc)), row)?;
+    keeper.put(alloc, name, bytes.as_slice())?;
+    *buffer = bytes.into_vec();
+    *work = left;
+    Ok(())
+}
+
+// Appends a claim to a history, and notes that it is the last of its interval.
+fn note_claim(
+    history: &mut History,
+    sequencers: &mut BTreeMap<u32, u64>,
+    worker: u32,
+    interval: u32,
+) -> Result<(), NoMemory>
+    requires few { length history.old < 2 ^ 32 }
+    requires knows { KnowsClaims (get nat_cmp sequencers.old) history.old }
+    ensures knows { KnowsClaims (get nat_cmp sequencers.new) history.new }
+    ensures appended { OnOk result (history.new ≡ history.old ++ Claim worker interval ∷ []) }
+    ensures unchanged { OnErr result (history.new ≡ history.old) }
+{
+    let number = history.len() as u64;
+    history.push(Entry::Claim { worker, interval })?;
+    if let Err(_) = sequencers.insert(interval, number) {
+        forget_last(history);
+        return Err(NoMemory);
+    }
+    Ok(())
 }

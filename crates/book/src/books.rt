@@ -6,6 +6,7 @@ ghost use Rattle.run_history.specs.Legal.{floor_of};
 ghost use Rattle.run_history.specs.Runs.{empty_run, run_of};
 ghost use Rattle.run_history.specs.Finished.{all_pending, unfinished};
 ghost use Rattle.run_history.specs.Inputs.{IsRunnable};
+ghost use Rattle.topology.specs.Shapes.{parts_of};
 ghost use Rattle.book.specs.Books.{core_of};
 ghost use Rattle.book.specs.Lawful.{IsLawful};
 ghost use Rattle.book.specs.Marks.{AreSafe, AreUnderLow};
@@ -104,6 +105,16 @@ impl<'a, K: Keeper> Book<'a, K> {
         self.case
     }
 
+    /// What always holds of a book. It does nothing when it runs.
+    pub fn sound(&self)
+        ensures lawful { IsLawful self.now.case (core_of self.now) }
+        ensures under_low { IfSome self.now.rows (λ _. AreUnderLow self.now.case
+            (run_of self.now.case.topology self.now.history) self.now.marks) }
+    {
+        self.history();
+        self.marks();
+    }
+
     /// What has happened, and what always holds of a book: the history is fenced, and where a contract
     /// can see the keeper's rows it is legal, they are its rows, and no mark passes work that is left.
     pub fn history(&self) -> &History
@@ -125,11 +136,13 @@ impl<'a, K: Keeper> Book<'a, K> {
     }
 
     /// The least id that is not acknowledged, and the row that sent it: the first that a sender has to
-    /// send again. It is pending in that row.
+    /// send again. It is pending in that row, which is of a part that is there.
     pub fn least_sent(&self) -> Option<(RecordId, &RowName)>
         ensures least { IfSome result
             (λ sent. let shape = self.now.case.topology in
             IsLeastSent shape (run_of shape self.now.history) sent.0 sent.1.now) }
+        ensures part { IfSome result
+            (λ sent. sent.1.now.part < parts_of self.now.case.topology) }
         ensures none { (result ≡ None) ↔
             (all_pending (run_of self.now.case.topology self.now.history) ≡ []) }
     {

@@ -8,7 +8,7 @@ ghost use Rattle.watermark.specs.Marks.{mark_of};
 ghost use Rattle.book.specs.Conditions.{IsOwnWork, MaySettle};
 ghost use Rattle.book.specs.Desking.{HasClaimed, HasStored, HasWritten, IsKnownOf, IsPurgeKnown, IsReported, IsRowKnown, MayAsk};
 ghost use Rattle.book.specs.DeskReasons.{HasClaimReason, HasReason, IsReportRefusal};
-ghost use Rattle.book.specs.Desks.{DeskView, HasLooked, HasMet, Home, IsNoteOf, IsSound, KeepsMarks, Sight};
+ghost use Rattle.book.specs.Desks.{DeskView, HasLooked, HasMet, Home, IsNoteOf, IsSound, KeepsMarks, Sight, TellsUnlessAlone};
 ghost use Rattle.book.specs.Proposals.{IsProposable};
 
 use crate::answers::{Claimed, Written};
@@ -170,6 +170,7 @@ pub trait Desk: Drop {
     /// What the desk has seen, for a message to carry.
     fn note(&mut self) -> Self::Note
         ensures note { IsNoteOf (view self.new) (Self.Note.sight result) }
+        ensures tells { TellsUnlessAlone (view self.new) (Self.Note.sight result) }
         ensures known { Self.Note.book result ≡ (home self.new).book }
         ensures looked { HasLooked (view self.old) (view self.new) }
         ensures marks { KeepsMarks (view self.old) (view self.new) }
@@ -180,6 +181,7 @@ pub trait Desk: Drop {
     fn meet(&mut self, note: Self::Note)
         requires known { Self.Note.book note ≡ (home self.old).book }
         ensures met { HasMet (Self.Note.sight note) (view self.new) }
+        ensures tells { TellsUnlessAlone (view self.old) (Self.Note.sight note) }
         ensures looked { HasLooked (view self.old) (view self.new) }
         ensures marks { KeepsMarks (view self.old) (view self.new) }
         ensures loan { loan self.new ≡ loan self.old }

@@ -6,7 +6,7 @@ use crate::refusals::{ClaimRefusal, WriteRefusal};
 use mw_types::{Bytes, NoMemory, RowName};
 
 /// Why a desk refused a call.
-#[derive(Debug, Drop)]
+#[derive(Drop)]
 pub enum DeskRefusal {
     /// Another had the turn to append.
     Busy {

@@ -1,8 +1,11 @@
 //! What a proposal writes: its entry, and the row that the entry leaves.
 ghost use Rattle.std.specs.Prelude.{◌≡◌, ◌+◌, ◌<◌, ◌≤◌, ◌^◌, All, IfOk, OnOk, false, true};
+ghost use Rattle.mw_types.specs.Bounds.{IsWithin};
 ghost use Rattle.mw_types.specs.declared.TheConstants.{MAX_STAMP};
+ghost use Rattle.mw_types.specs.declared.entry.Entry.TheVariants.{Fire, Handle};
 ghost use Rattle.mw_types.specs.declared.state.State.TheVariants.{Injector};
 ghost use Rattle.row_parts.specs.Contents.{IsId, is_finished, with_id, without_timer};
+ghost use Rattle.run_history.specs.Made.{produced};
 ghost use Rattle.run_history.specs.Runs.{with_timers};
 ghost use Rattle.run_history.specs.Fits.{fits};
 ghost use Rattle.book.specs.Proposals.{IsEntryOf, IsFiring, IsHandling, IsNextLine, IsProposable, left_by};
@@ -10,22 +13,26 @@ ghost use Rattle.book.specs.Proposals.{IsEntryOf, IsFiring, IsHandling, IsNextLi
 use crate::pending::with_sent;
 use crate::proposal::Proposal;
 use mw_types::{
-    Delivery, Duplicate, Effects, Entry, IdList, NoMemory, Production, RecordId, RowName, State,
-    Timer,
+    Delivery, Duplicate, Effects, Entry, IdList, NoMemory, Production, Record, RecordId, RowName,
+    State, Timer,
 };
 use row_parts::Row;
 use run_history::Case;
 use std::alloc::Global;
+use std::slice::from_ref;
 
-// An entry, and the row that it leaves.
+/// An entry, and the row that it leaves.
 #[derive(Drop)]
-pub(crate) struct Step {
-    pub(crate) entry: Entry,
-    pub(crate) left: Row,
+pub struct Step {
+    /// The entry.
+    pub entry: Entry,
+    /// The row.
+    pub left: Row,
 }
 
-// What a proposal writes, under the number of its entry.
-pub(crate) fn step_of(
+/// What a proposal writes under a sequencer, by the row that its entry finds and the entry's commit
+/// number. It reads nothing of a book, so who goes along a history may ask it too.
+pub fn step_of(
     alloc: Global,
     case: &Case,
     seq: u64,
@@ -74,28 +81,51 @@ fn injected(
         step.entry row.now) }
 {
     let item = case.line_record(alloc, name.part, line)?;
-    let production = Production {
-        key: item.key.copy(alloc)?,
-        stamp: item.stamp,
-        value: item.value,
-    };
+    let late = item.late;
+    let production = production_of(item);
     let moved = moved_on(alloc, row, line)?;
     let left = with_sent(
         alloc,
         case,
         moved,
         name.part,
-        &[production],
-        item.late,
+        from_ref(&production),
+        late,
         commit,
     )?;
     let entry = Entry::Inject {
         seq,
         part: name.part,
         line,
-        item,
+        item: record_of(production, late),
     };
     Ok(Step { entry, left })
+}
+
+// What an injector produces of a record.
+fn production_of(item: Record) -> Production
+    ensures { result ≡ record { key = item.key; stamp = item.stamp; value = item.value } }
+{
+    let Record {
+        key,
+        stamp,
+        value,
+        late: _,
+    } = item;
+    Production { key, stamp, value }
+}
+
+// The record that was produced, which is late or not.
+fn record_of(production: Production, late: bool) -> Record
+    ensures { result ≡ produced late production }
+{
+    let Production { key, stamp, value } = production;
+    Record {
+        key,
+        stamp,
+        value,
+        late,
+    }
 }
 
 // An injector's row, once it has injected this line too.
@@ -138,13 +168,26 @@ fn handled(
         delivery.item.late,
         commit,
     )?;
-    let entry = Entry::Handle {
+    let entry = handle_entry(alloc, seq, name, delivery.id, effects)?;
+    Ok(Step { entry, left })
+}
+
+// The entry of a handled record.
+fn handle_entry(
+    alloc: Global,
+    seq: u64,
+    name: &RowName,
+    id: RecordId,
+    effects: &Effects,
+) -> Result<Entry, NoMemory>
+    ensures { IfOk result (λ entry. entry ≡ Handle seq name.now id effects.now) }
+{
+    Ok(Entry::Handle {
         seq,
         row: name.copy(alloc)?,
-        id: delivery.id,
+        id,
         effects: effects.copy(alloc)?,
-    };
-    Ok(Step { entry, left })
+    })
 }
 
 // A row once it has handled the record of this id, but for what it sends.
@@ -157,17 +200,25 @@ fn noted(alloc: Global, row: &Row, id: RecordId, effects: &Effects) -> Result<Ro
       seen = with_id id row.now.seen;
     }) }
 {
-    let mut noted = Row {
-        state: effects.state.copy(alloc)?,
-        timers: row.timers.copy(alloc)?,
-        pending: row.pending.copy(alloc)?,
-        seen: with_room(alloc, row.seen.as_slice())?,
-        floor: row.floor,
-        last: row.last,
-    };
+    let mut noted = with_state(alloc, row, &effects.state)?;
     set_timers(&mut noted, effects.timers.as_slice())?;
     noted.note_handled(id)?;
     Ok(noted)
+}
+
+// A copy of a row in this state, with room for one more id.
+fn with_state(alloc: Global, row: &Row, state: &State) -> Result<Row, NoMemory>
+    requires { IsWithin state.now }
+    ensures { IfOk result (λ made. made ≡ record row.now { state = state.now }) }
+{
+    Ok(Row {
+        seen: with_room(alloc, row.seen.as_slice())?,
+        timers: row.timers.copy(alloc)?,
+        pending: row.pending.copy(alloc)?,
+        floor: row.floor,
+        last: row.last,
+        state: state.copy(alloc)?,
+    })
 }
 
 // These ids, with room for one more.
@@ -222,14 +273,28 @@ fn fired(
         timer.late,
         commit,
     )?;
-    let entry = Entry::Fire {
+    let entry = fire_entry(alloc, seq, name, timer, mark, effects)?;
+    Ok(Step { entry, left })
+}
+
+// The entry of a fired timer.
+fn fire_entry(
+    alloc: Global,
+    seq: u64,
+    name: &RowName,
+    timer: Timer,
+    mark: u64,
+    effects: &Effects,
+) -> Result<Entry, NoMemory>
+    ensures { IfOk result (λ entry. entry ≡ Fire seq name.now timer mark effects.now) }
+{
+    Ok(Entry::Fire {
         seq,
         row: name.copy(alloc)?,
         timer,
         mark,
         effects: effects.copy(alloc)?,
-    };
-    Ok(Step { entry, left })
+    })
 }
 
 // A row once this timer has fired, but for what it sends.
@@ -239,14 +304,7 @@ fn taken(alloc: Global, row: &Row, timer: Timer, effects: &Effects) -> Result<Ro
       timers = without_timer timer.tag timer.time row.now.timers;
     }) }
 {
-    let mut taken = Row {
-        state: effects.state.copy(alloc)?,
-        timers: row.timers.copy(alloc)?,
-        pending: row.pending.copy(alloc)?,
-        seen: row.seen.copy(alloc)?,
-        floor: row.floor,
-        last: row.last,
-    };
+    let mut taken = with_state(alloc, row, &effects.state)?;
     taken.take_timer(timer.tag, timer.time);
     Ok(taken)
 }

@@ -5,7 +5,7 @@ use std::marker::Model;
 
 /// A sequencer, Akidau et al., VLDB 2013, section 6.2: the right to write the rows of one interval,
 /// until the next claim of the interval. It is made by a claim alone.
-#[derive(Debug, Drop)]
+#[derive(Drop)]
 pub struct Lease {
     pub(crate) interval: u32,
     pub(crate) seq: u64,

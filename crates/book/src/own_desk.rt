@@ -53,9 +53,7 @@ impl<'b, 'a, K: Keeper> Desk for OwnDesk<'b, 'a, K> {
     ghost home = { λ _. own_home };
 
     fn sound(&self) {
-        // Their clauses say what always holds of the book.
-        self.book.history();
-        self.book.marks();
+        self.book.sound();
     }
 
     fn claim(&mut self, alloc: Global, worker: u32, interval: u32) -> Result<Claimed, DeskRefusal> {
@@ -73,7 +71,7 @@ impl<'b, 'a, K: Keeper> Desk for OwnDesk<'b, 'a, K> {
         row: &Row,
         proposal: &Proposal,
     ) -> Result<Written, DeskRefusal> {
-        self.book.marks();
+        self.book.sound();
         let front = self.book.history().len() as u64;
         match self.book.write(alloc, lease, front, name, row, proposal) {
             Ok(written) => Ok(written),

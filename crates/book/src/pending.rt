@@ -9,7 +9,7 @@ ghost use Rattle.row_parts.specs.Contents.{IsId, delivery_cmp};
 ghost use Rattle.run_history.specs.Made.{deliveries_made};
 ghost use Rattle.run_history.specs.Fits.{is_sent_before};
 
-use mw_types::{Delivery, DeliveryList, Duplicate, NoMemory, Production};
+use mw_types::{DeliveryList, NoMemory, Production};
 use row_parts::Row;
 use run_history::{Case, Made, make};
 use std::alloc::Global;
@@ -35,7 +35,7 @@ pub(crate) fn with_sent(
     }) }
 {
     let sent = sent(alloc, case, part, productions, late, commit)?;
-    let mut left = with_pending(alloc, row, sent.as_slice())?;
+    let mut left = with_pending(row, sent)?;
     left.last = commit;
     Ok(left)
 }
@@ -66,15 +66,15 @@ fn sent(
 }
 
 // A row with these pending too.
-fn with_pending(alloc: Global, row: Row, sent: &[Delivery]) -> Result<Row, NoMemory>
-    requires ids { All (λ d. IsId d.id) sent.now }
-    requires stamps { All (λ d. d.item.stamp ≤ MAX_STAMP) sent.now }
-    requires ascending { IsStrictlySortedBy delivery_cmp (row.pending ++ sent.now) }
-    ensures { IfOk result (λ made. made ≡ record row { pending = row.pending ++ sent.now }) }
+fn with_pending(row: Row, sent: DeliveryList) -> Result<Row, NoMemory>
+    requires ids { All (λ d. IsId d.id) sent }
+    requires stamps { All (λ d. d.item.stamp ≤ MAX_STAMP) sent }
+    requires ascending { IsStrictlySortedBy delivery_cmp (row.pending ++ sent) }
+    ensures { IfOk result (λ made. made ≡ record row { pending = row.pending ++ sent }) }
 {
     let mut grown = row;
-    for delivery in sent {
-        grown.add_pending(delivery.copy(alloc)?)?;
+    for delivery in sent.into_vec() {
+        grown.add_pending(delivery)?;
     }
     Ok(grown)
 }

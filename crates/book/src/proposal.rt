@@ -2,7 +2,7 @@
 use mw_types::{Delivery, Effects, Timer};
 
 /// What is to be written of one row.
-#[derive(Debug, Drop)]
+#[derive(Drop)]
 pub enum Proposal {
     /// An injector's next line is injected.
     Inject {

@@ -3,7 +3,7 @@ use mw_types::{Bytes, NoMemory, RowName};
 use row_keeper::KeeperFault;
 
 /// Why no book was made of a keeper.
-#[derive(Debug, Drop)]
+#[derive(Drop)]
 pub enum StartWhy {
     /// The keeper holds a row already; where a contract can see its rows, this is the one with the
     /// least name.
@@ -20,7 +20,7 @@ pub enum StartWhy {
 }
 
 /// No book was made, and the keeper comes back.
-#[derive(Debug, Drop)]
+#[derive(Drop)]
 pub struct StartRefusal<K> {
     /// Why.
     pub why: StartWhy,
@@ -29,7 +29,7 @@ pub struct StartRefusal<K> {
 }
 
 /// Why a claim was refused.
-#[derive(Debug, Drop)]
+#[derive(Drop)]
 pub enum ClaimRefusal {
     /// The history has as many entries as it may have.
     HistoryFull,
@@ -58,7 +58,7 @@ impl From<NoMemory> for ClaimRefusal {
 }
 
 /// Why a write was refused.
-#[derive(Clone, Copy, Debug, PartialEq, Eq)]
+#[derive(Clone, Copy, PartialEq, Eq)]
 pub enum WriteRefusal {
     /// The interval has a later claim.
     Stale {
@@ -74,7 +74,7 @@ pub enum WriteRefusal {
 }
 
 /// A report was refused, since the interval has a later claim.
-#[derive(Clone, Copy, Debug, PartialEq, Eq)]
+#[derive(Clone, Copy, PartialEq, Eq)]
 pub struct Stale {
     /// The commit number of the interval's last claim.
     pub newer: u64,

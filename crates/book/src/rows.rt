@@ -6,8 +6,9 @@ use mw_types::{Duplicate, NoMemory, RecordId};
 use row_parts::Row;
 use std::alloc::Global;
 
-// A row once an id of it is settled by the entry of this number.
-pub(crate) fn settled(alloc: Global, row: &Row, id: RecordId, commit: u64) -> Result<Row, NoMemory>
+/// A row once an id of it is settled by the entry of this commit number. The row stays as it is where the
+/// id is not pending in it.
+pub fn settled(alloc: Global, row: &Row, id: RecordId, commit: u64) -> Result<Row, NoMemory>
     requires { commit < 2 ^ 32 }
     ensures { IfOk result (λ made. made ≡ record row.now {
       pending = without_delivery id row.now.pending;
@@ -20,8 +21,8 @@ pub(crate) fn settled(alloc: Global, row: &Row, id: RecordId, commit: u64) -> Re
     Ok(made)
 }
 
-// A row once the entry of this number has raised its floor.
-pub(crate) fn purged(alloc: Global, row: &Row, floor: u64, commit: u64) -> Result<Row, NoMemory>
+/// A row once the entry of this commit number has raised its floor, and the ids below it are forgotten.
+pub fn purged(alloc: Global, row: &Row, floor: u64, commit: u64) -> Result<Row, NoMemory>
     requires commit { commit < 2 ^ 32 }
     requires rises { row.now.floor ≤ floor }
     requires few { floor ≤ 2 ^ 32 }

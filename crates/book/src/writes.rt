@@ -18,7 +18,6 @@ use crate::lease::Lease;
 use crate::proposal::Proposal;
 use crate::refusals::WriteRefusal;
 use crate::rows::{purged, settled};
-use crate::work_left::work_after;
 use mw_types::{Duplicate, Entry, RecordId, RowName};
 use row_keeper::Keeper;
 use row_parts::Row;
@@ -59,7 +58,7 @@ impl<'a, K: Keeper> Book<'a, K> {
             Err(why) => return Err(why),
         };
         let case = self.case();
-        let made = step_of(alloc, case, lease.seq(), name, row, proposal, commit)?;
+        let made = step_of(alloc, case, lease.seq, name, row, proposal, commit)?;
         let Step { entry, left } = made;
         let sent = (left.pending.len() - row.pending.len()) as u32;
         self.append_row(alloc, name, row, entry, left, sent)
@@ -92,13 +91,13 @@ impl<'a, K: Keeper> Book<'a, K> {
         ensures unchanged { OnErr result (HasStayed self.old self.new) }
         ensures same { IsSameBook self.old self.new }
     {
-        let number = match self.admit(lease) {
-            Ok(number) => number,
-            Err(why) => return Err(why),
-        };
         // That the id can be printed is known of what is pending in a row.
         let _pending = row.pending.len();
-        let left = settled(alloc, row, id, number)?;
+        let commit = match self.admit(lease) {
+            Ok(commit) => commit,
+            Err(why) => return Err(why),
+        };
+        let left = settled(alloc, row, id, commit)?;
         let entry = Entry::Ack {
             seq: lease.seq,
             row: name.copy(alloc)?,
@@ -148,12 +147,12 @@ impl<'a, K: Keeper> Book<'a, K> {
     }
 
     // Tests the sequencer of a write, and then whether there is room for its entry, which will have
-    // this number.
+    // this commit number.
     fn admit(&self, lease: &Lease) -> Result<u64, WriteRefusal>
         requires claimed { IsClaimed lease.now.interval lease.now.seq self.now.history }
         ensures lawful { IsLawful self.now.case (core_of self.now) }
-        ensures number { IfOk result (λ number. number ≡ length self.now.history) }
-        ensures below { IfOk result (λ number. number < 2 ^ 32) }
+        ensures commit { IfOk result (λ commit. commit ≡ length self.now.history) }
+        ensures below { IfOk result (λ commit. commit < 2 ^ 32) }
         ensures last { OnOk result
             (IsCurrent lease.now.interval lease.now.seq self.now.history) }
         ensures room { OnOk result (length self.now.history < self.now.limit) }
@@ -164,11 +163,11 @@ impl<'a, K: Keeper> Book<'a, K> {
         if let Some(newer) = self.newer(lease) {
             return Err(WriteRefusal::Stale { newer });
         }
-        let number = self.core.history.len() as u64;
-        if number >= self.core.limit {
+        let commit = self.core.history.len() as u64;
+        if commit >= self.core.limit {
             return Err(WriteRefusal::HistoryFull);
         }
-        Ok(number)
+        Ok(commit)
     }
 
     // The last claim of a lease's interval, where it is later than the lease's.
@@ -209,8 +208,9 @@ impl<'a, K: Keeper> Book<'a, K> {
         ensures same { IsSameBook self.old self.new }
     {
         let commit = self.core.history.len() as u64;
-        let work = work_after(self.case, name, before, &row, self.core.work)?;
-        self.core.append(alloc, entry, name, &row, work, sent)?;
+        let case = self.case;
+        self.core
+            .append(alloc, case, entry, name, before, &row, sent)?;
         Ok(Written { commit, row })
     }
 }

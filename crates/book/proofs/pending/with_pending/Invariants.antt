@@ -1,7 +1,6 @@
-use Rattle.std.proofs.Common.{◌≡◌, ◌++◌, take}
+use Rattle.book.proofs.Growing.{IsGrowing}
 use Rattle.book.proofs.pending.with_pending.Given as goal
 
--- those so far are pending
+-- those so far are pending, and those that are left may follow
 abbrev pub invariant-loop-delivery : goal.invariant-loop-delivery
-invariant-loop-delivery l =
-    l.grown ≡ record l.initial.grown { pending = l.initial.grown.pending ++ take l.delivery-index l.sent }
+invariant-loop-delivery l = IsGrowing l.initial.grown l.grown l.fn.sent l.delivery-iterator.rest.items

@@ -20,19 +20,19 @@ with_pending-requires-clause-ids c =
           (injectors_of shape) shape.computations,
       c.in_ok-sent.ensures.rules.few_readings,
     ) in
-    subst (All (λ (d : Delivery). IsId d.id)) (sym (c.as_slice.ensures.elements ∙ c.in_ok-sent.ensures.made))
+    subst (All (λ (d : Delivery). IsId d.id)) (sym c.in_ok-sent.ensures.made)
     (sent-ids shape c.args.part c.args.productions.now c.args.late c.args.commit few c.requires.few c.requires.commit)
 
 -- the timestamps of productions
 pub with_pending-requires-clause-stamps : goal.with_pending-requires-clause-stamps
 with_pending-requires-clause-stamps c =
-    subst (All (λ (d : Delivery). d.item.stamp ≤ MAX_STAMP)) (sym (c.as_slice.ensures.elements ∙ c.in_ok-sent.ensures.made))
+    subst (All (λ (d : Delivery). d.item.stamp ≤ MAX_STAMP)) (sym c.in_ok-sent.ensures.made)
     (sent-stamps c.args.case.now.topology c.args.part c.args.productions.now c.args.late c.args.commit c.requires.stamps)
 
 -- what is pending was made before
 pub with_pending-requires-clause-ascending : goal.with_pending-requires-clause-ascending
 with_pending-requires-clause-ascending c =
     subst (λ (l : List Delivery). IsStrictlySortedBy delivery_cmp (c.args.row.pending ++ l))
-    (sym (c.as_slice.ensures.elements ∙ c.in_ok-sent.ensures.made))
+    (sym c.in_ok-sent.ensures.made)
     (pending-sent c.args.case.now.topology c.args.part c.args.productions.now c.args.late c.args.commit c.args.row.pending
     (subst (λ (r : Contents). IsStrictlySortedBy delivery_cmp r.pending) c.row.view_is c.row.invariant.pending.ascending) c.requires.before)

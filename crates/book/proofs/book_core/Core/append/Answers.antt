@@ -1,4 +1,4 @@
-use Rattle.std.proofs.Common.{ℕ, List, length, sym, ap, subst, ◌∙◌}
+use Rattle.std.proofs.Common.{length, sym, ap, subst, ◌∙◌}
 use Rattle.std.specs.Prelude.{option_map}
 use Rattle.std.specs.Ordering.{nat_cmp}
 use Rattle.std.specs.BTreeMap.{get}
@@ -12,20 +12,17 @@ use Rattle.book.proofs.book_core.Core.append.Goals as goal
 -- an entry on a row is no claim
 pub invariant_of-self-2 : goal.invariant_of-self-2
 invariant_of-self-2 g c =
-    KnowsClaims-row (get nat_cmp c.self.inside.sequencers) c.self.inside.history c.push.new.self c.args.entry c.args.name.now
-    c.self.invariant c.requires.on_row c.in_ok-push.ensures.appended
+    KnowsClaims-row (get nat_cmp c.self.inside.sequencers) c.self.inside.history c.note.new.history c.args.entry c.args.name.now
+    c.self.invariant c.requires.on_row c.in_ok-note.ensures.appended
 
 -- no id of the entry that comes is known
-pub note_sent-requires : goal.note_sent-requires
-note_sent-requires g c = record {
-  unsent = subst (λ (n : ℕ). IsUnsent n c.self.inside.unacknowledged.entries) (sym c.len-commit.ensures.count)
-      (subst (λ (b : CoreView). IsUnsent (length b.history) b.unacknowledged) (sym c.self.view_is) c.requires.unsent);
+pub note-requires : goal.note-requires
+note-requires g c = record {
+  unsent = subst (λ (b : CoreView). IsUnsent (length b.history) b.unacknowledged) (sym c.self.view_is) c.requires.unsent;
 }
 
 -- what was stored is the bytes of the row
 pub returns-clause-stored : goal.returns-clause-stored
 returns-clause-stored g c =
-    c.in_default-put.ensures.held
-    ∙ ap (λ (b : List ℕ). option_map (with_row c.args.name.now b) (g.K.Keeper.rows c.self.inside.keeper))
-    (c.as_slice.ensures.elements ∙ c.in_ok-bytes.ensures.spelled)
+    c.in_default.ensures.stored
     ∙ ap (λ (b : CoreView). option_map (with_row c.args.name.now (spelling_of c.args.row.now)) b.rows) c.self.view_is

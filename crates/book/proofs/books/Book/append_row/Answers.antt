@@ -19,8 +19,8 @@ invariant_of-self-2 g c =
     c.in_ok-append.ensures.own
     (subst (λ (b : BookView). IfSome b.rows (λ _. c.args.before.now ≡ row_of b.case.topology
     (run_of b.case.topology b.history) c.args.name.now)) (sym c.self.view_is) c.requires.was)
-    (c.in_ok-append.ensures.left ∙ c.in_ok-work.ensures
-    ∙ (λ i. ((c.self-inside.view_is i).core.work + work_in (c.self-inside.view_is i).case.now c.args.name.now c.args.row)
+    (c.in_ok-append.ensures.left
+    ∙ (λ i. (c.self.inside.core.work + work_in (c.self-inside.view_is i).case.now c.args.name.now c.args.row)
     - work_in (c.self-inside.view_is i).case.now c.args.name.now c.args.before.now))
     c.in_ok-append.ensures.appended
     c.in_ok-append.ensures.stored

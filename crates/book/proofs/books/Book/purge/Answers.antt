@@ -21,7 +21,7 @@ append_row-requires g c =
       next = subst (λ (e : Entry). IsNext c.args.self.now.case (core_of c.args.self.now) c.args.name.now e c.in_ok-left.left) (sym same)
           (IsNext-purged c.args.self.now c.args.lease.now c.args.front c.args.name.now c.args.row.now c.in_ok-left.left c.args.floor
           c.admit.ensures.lawful c.requires.lease c.requires.row c.requires.floor c.in-Ok.ensures.last c.in-Ok.ensures.room
-          (c.in_ok-left.ensures ∙ ap (λ n. written_row n entry [] c.args.row.now) c.in-Ok.ensures.number));
+          (c.in_ok-left.ensures ∙ ap (λ n. written_row n entry [] c.args.row.now) c.in-Ok.ensures.commit));
       sent = refl;
       was = row-was c.args.self.now c.args.lease.now c.args.front c.args.name.now c.args.row.now c.admit.ensures.lawful c.requires.lease
           c.requires.row c.in-Ok.ensures.last;
@@ -34,7 +34,7 @@ returns-clause-written g c =
     let same : Purge c.lease.inside.seq c.in_ok-copy.field-0 c.args.floor ≡ entry
     = λ i. Purge (c.lease.view_is i).seq (c.in_ok-copy.ensures.copied i) c.args.floor in
     let left : c.in_ok-left.left ≡ written_row (length c.args.self.now.history) entry [] c.args.row.now
-    = c.in_ok-left.ensures ∙ ap (λ n. written_row n entry [] c.args.row.now) c.in-Ok.ensures.number in
+    = c.in_ok-left.ensures ∙ ap (λ n. written_row n entry [] c.args.row.now) c.in-Ok.ensures.commit in
     IsWritten-result c.args.self.now c.append_row.new.self c.args.lease.now c.args.name.now entry _ _ c.append_row.result
     (IsNext-purged c.args.self.now c.args.lease.now c.args.front c.args.name.now c.args.row.now _ c.args.floor
     c.admit.ensures.lawful c.requires.lease c.requires.row c.requires.floor c.in-Ok.ensures.last c.in-Ok.ensures.room refl)

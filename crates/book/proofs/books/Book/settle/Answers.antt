@@ -26,7 +26,7 @@ append_row-requires g c =
       next = subst (λ (e : Entry). IsNext c.args.self.now.case (core_of c.args.self.now) c.args.name.now e c.in_ok-left.left) (sym same)
           (IsNext-settled c.args.self.now c.args.lease.now c.args.front c.args.name.now c.args.row.now c.in_ok-left.left c.args.id
           c.admit.ensures.lawful c.requires.lease c.requires.row c.requires.id c.in-Ok.ensures.last c.in-Ok.ensures.room is
-          (c.in_ok-left.ensures ∙ ap (λ n. written_row n entry [] c.args.row.now) c.in-Ok.ensures.number));
+          (c.in_ok-left.ensures ∙ ap (λ n. written_row n entry [] c.args.row.now) c.in-Ok.ensures.commit));
       sent = refl;
       was = row-was c.args.self.now c.args.lease.now c.args.front c.args.name.now c.args.row.now c.admit.ensures.lawful c.requires.lease
           c.requires.row c.in-Ok.ensures.last;
@@ -41,7 +41,7 @@ returns-clause-written g c =
     let same : Ack c.lease.inside.seq c.in_ok-copy.field-0 c.args.id ≡ entry
     = λ i. Ack (c.lease.view_is i).seq (c.in_ok-copy.ensures.copied i) c.args.id in
     let left : c.in_ok-left.left ≡ written_row (length c.args.self.now.history) entry [] c.args.row.now
-    = c.in_ok-left.ensures ∙ ap (λ n. written_row n entry [] c.args.row.now) c.in-Ok.ensures.number in
+    = c.in_ok-left.ensures ∙ ap (λ n. written_row n entry [] c.args.row.now) c.in-Ok.ensures.commit in
     IsWritten-result c.args.self.now c.append_row.new.self c.args.lease.now c.args.name.now entry _ _ c.append_row.result
     (IsNext-settled c.args.self.now c.args.lease.now c.args.front c.args.name.now c.args.row.now _ c.args.id
     c.admit.ensures.lawful c.requires.lease c.requires.row c.requires.id c.in-Ok.ensures.last c.in-Ok.ensures.room is refl)

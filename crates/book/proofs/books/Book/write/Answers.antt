@@ -19,11 +19,11 @@ pub append_row-requires : goal.append_row-requires
 append_row-requires g c =
     let of : IsEntryOf c.args.self.now.case c.args.lease.now.seq c.args.name.now c.args.proposal.now c.in_ok-made.made.entry
     = subst (λ (p : CaseShape × ℕ). IsEntryOf p.0 p.1 c.args.name.now c.args.proposal.now c.in_ok-made.made.entry)
-    (λ i. (c.case-case.ensures.case i, c.seq.ensures i)) c.in_ok-made.ensures.entry in
+    (λ i. (c.case-case.ensures.case i, (c.lease.view_is i).seq)) c.in_ok-made.ensures.entry in
     let leaves : c.in_ok-made.made.left ≡ left_by c.args.self.now.case.topology c.args.name.now c.args.proposal.now
     (length c.args.self.now.history) c.in_ok-made.made.entry c.args.row.now
     = c.in_ok-made.ensures.left ∙ (λ i. left_by (c.case-case.ensures.case i).topology c.args.name.now c.args.proposal.now
-    (c.in-Ok.ensures.number i) c.in_ok-made.made.entry c.args.row.now) in
+    (c.in-Ok.ensures.commit i) c.in_ok-made.made.entry c.args.row.now) in
     let next : IsNext c.args.self.now.case (core_of c.args.self.now) c.args.name.now c.in_ok-made.made.entry c.in_ok-made.made.left
     = IsNext-proposed c.args.self.now c.args.lease.now c.args.front c.args.name.now c.args.row.now c.in_ok-made.made.left
     c.args.proposal.now c.in_ok-made.made.entry
@@ -47,11 +47,11 @@ pub returns-clause-written : goal.returns-clause-written
 returns-clause-written g c =
     let of : IsEntryOf c.args.self.now.case c.args.lease.now.seq c.args.name.now c.args.proposal.now c.in_ok-made.made.entry
     = subst (λ (p : CaseShape × ℕ). IsEntryOf p.0 p.1 c.args.name.now c.args.proposal.now c.in_ok-made.made.entry)
-    (λ i. (c.case-case.ensures.case i, c.seq.ensures i)) c.in_ok-made.ensures.entry in
+    (λ i. (c.case-case.ensures.case i, (c.lease.view_is i).seq)) c.in_ok-made.ensures.entry in
     let leaves : c.in_ok-made.made.left ≡ left_by c.args.self.now.case.topology c.args.name.now c.args.proposal.now
     (length c.args.self.now.history) c.in_ok-made.made.entry c.args.row.now
     = c.in_ok-made.ensures.left ∙ (λ i. left_by (c.case-case.ensures.case i).topology c.args.name.now c.args.proposal.now
-    (c.in-Ok.ensures.number i) c.in_ok-made.made.entry c.args.row.now) in
+    (c.in-Ok.ensures.commit i) c.in_ok-made.made.entry c.args.row.now) in
     IsWrittenBy-result c.args.self.now c.append_row.new.self c.args.lease.now c.args.name.now c.args.proposal.now c.args.row.now
     c.in_ok-made.made.left c.in_ok-made.made.entry c.append_row.result
     (IsNext-proposed c.args.self.now c.args.lease.now c.args.front c.args.name.now c.args.row.now c.in_ok-made.made.left

@@ -15,7 +15,7 @@ write-requires g c =
       row = row-seen book c.args.lease.now c.len-front.result c.args.name.now c.args.row.now whole c.requires.row;
       proposal = c.requires.proposal;
       seen = proposed book c.len-front.result c.args.lease.now c.args.name.now c.args.row.now c.args.proposal.now whole
-          c.marks.ensures.under_low c.requires.row c.requires.known;
+          c.sound.ensures.under_low c.requires.row c.requires.known;
     }
 
 -- the entry was appended
