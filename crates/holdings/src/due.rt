@@ -15,7 +15,7 @@ use std::alloc::Global;
 use std::collections::BTreeMap;
 
 // When a timer is due, and then its tag: so stand the timers of one row.
-#[derive(Clone, Copy, Debug, PartialEq, Eq, PartialOrd, Ord)]
+#[derive(Clone, Copy, PartialEq, Eq, PartialOrd, Ord)]
 pub(crate) struct Moment {
     pub(crate) time: u64,
     pub(crate) tag: u64,
@@ -23,7 +23,7 @@ pub(crate) struct Moment {
 
 // The first timer of a row: so stand those of several rows. Whether it is late stands last, where it
 // orders nothing, since a row has one first timer.
-#[derive(Debug, Drop, PartialEq, Eq, PartialOrd, Ord)]
+#[derive(Drop, PartialEq, Eq, PartialOrd, Ord)]
 pub(crate) struct Due {
     pub(crate) at: Moment,
     pub(crate) name: RowName,

@@ -9,7 +9,7 @@ use mw_types::{NoMemory, RowName, Timer};
 use std::alloc::Global;
 
 /// A timer, with the name of the row that has it.
-#[derive(Debug, Drop)]
+#[derive(Drop)]
 pub struct RowTimer {
     /// The row's name.
     pub name: RowName,

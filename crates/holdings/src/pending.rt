@@ -9,7 +9,7 @@ use row_parts::Row;
 use std::alloc::Global;
 
 /// A delivery that is pending, with the name of the row that sent it.
-#[derive(Debug, Drop)]
+#[derive(Drop)]
 pub struct Sent {
     /// The name of the row that sent it.
     pub sender: RowName,

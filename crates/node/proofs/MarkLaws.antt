@@ -1,6 +1,6 @@
 -- The least known mark of a part, while its desk looks.
 use Rattle.std.proofs.Common.{◌≡◌, ◌∙◌, ◌<◌, ◌≤◌, ℕ, Bool, true, false, List, [], ◌∷◌, length, refl, sym, ap, subst, arith, zero, suc}
-use Rattle.std.specs.Prelude.{Some, ◌==◌, slice_get}
+use Rattle.std.specs.Prelude.{Some, ◌==◌, if◌then◌else◌, min, slice_get}
 use Rattle.std.specs.List.{AllByRecursion}
 use Rattle.std.proofs.lemmas.Bool.{eq-eqb, eqb-true}
 use Rattle.key_intervals.specs.declared.bounds.Bounds.{Bounds}
@@ -12,7 +12,7 @@ use Rattle.history_laws.proofs.LowLaws.{bound-each, least-bound, least-end}
 use Rattle.watermark.specs.Marks.{mark_of, marks_in, marks_of}
 use Rattle.book.specs.Desks.{DeskView}
 use Rattle.node.specs.Answers.{IsLeastKnown}
-use Rattle.node.specs.MarkSteps.{IsLeastSoFar}
+use Rattle.node.specs.MarkSteps.{IsLeastSoFar, IsLesser}
 
 -- ---- a bound of the marks of a part
 
@@ -90,3 +90,13 @@ known-later shape part old mid new mark long longer rise is =
           (bound-each mark (marks_of shape part mid.marks) is.at_most) at of in
           let more = rise k in omega (arith, was, more)));
     }
+
+-- a mark that does not count leaves another as it is
+pub lesser-not : (interval : ℕ) (marks : List ℕ) (counts : Bool) (before : ℕ) → counts ≡ false
+    → IsLesser counts interval marks marks before before
+lesser-not interval marks counts before is = record {
+  mark = mark_of marks interval;
+  at_least = omega arith;
+  at_most = omega arith;
+  lesser = ap (λ b. if b then min before (mark_of marks interval) else before) (sym is);
+}

@@ -4,7 +4,7 @@ ghost use Rattle.std.specs.Prelude.{◌≡◌};
 use mw_types::{Bytes, NoMemory, RowName};
 
 /// What a step of a script came to.
-#[derive(Debug, Drop)]
+#[derive(Drop)]
 pub enum Outcome {
     /// The interval was claimed.
     Claimed {
@@ -61,7 +61,7 @@ pub enum Outcome {
 }
 
 /// Why a node did not do a call.
-#[derive(Debug, Drop)]
+#[derive(Drop)]
 pub enum NodeFault {
     /// The history has as many entries as it may have.
     HistoryFull,

@@ -2,7 +2,7 @@
 use mw_types::{Delivery, RecordId, RowName};
 
 /// A message, but for the note of what its sender has seen.
-#[derive(Debug, Drop)]
+#[derive(Drop)]
 pub enum Outgoing {
     /// A record, to the row that handles it.
     Deliver {

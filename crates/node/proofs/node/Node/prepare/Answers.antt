@@ -18,8 +18,8 @@ take_in-requires-clause-states g c = λ held there.
     deliverable.to there
 
 -- and the node fits with it
-pub returns-in-Deliver-clause-fits : goal.returns-in-Deliver-clause-fits
-returns-in-Deliver-clause-fits g c =
+pub returns-clause-fits : goal.returns-clause-fits
+returns-clause-fits g c =
     let case = c.args.case.now in
     let old = g.D.Desk.view c.args.desk.now in
     let mid = g.D.Desk.view c.meet.new.self in
