@@ -1,5 +1,5 @@
 -- What is right of a node stays right as its desk comes to see more, and where its desk refuses.
-use Rattle.std.proofs.Common.{◌≡◌, ◌≢◌, ◌∙◌, ℕ, Bool, true, false, List, [], ◌∷◌, ◌++◌, refl, sym, ap, subst, arith, append_assoc, inl, inr}
+use Rattle.std.proofs.Common.{◌≡◌, ◌≢◌, ◌∙◌, ℕ, Bool, true, false, List, [], ◌∷◌, ◌++◌, drop, length, refl, sym, ap, subst, arith, append_assoc, inl, inr}
 use Rattle.std.specs.Prelude.{All, IfErr, IfOk, IfSome, OnErr, Option, Some, None, ◌==◌, not, if◌then◌else◌}
 use Rattle.std.specs.Option.{option_and_then, option_map, option_map_or}
 use Rattle.std.proofs.Math.Path.{fun_ext}
@@ -20,8 +20,9 @@ use Rattle.history_laws.proofs.SeenLaws.{found-more}
 use Rattle.history_laws.proofs.SenderLaws.{IsMadeOn-more}
 use Rattle.book.specs.Books.{LeaseView}
 use Rattle.book.specs.DeskReasons.{HasClaimReason, HasReason}
-use Rattle.book.specs.Desks.{DeskView, HasLooked, HasMoved, IsSound}
+use Rattle.book.specs.Desks.{DeskView, HasLooked, HasMoved, IsSound, numbers_from}
 use Rattle.book.specs.Proposals.{IsHandling}
+use Rattle.book.proofs.Numbers.{own-stays}
 use Rattle.book.specs.declared.desk_refusal.DeskRefusal.{DeskRefusal}
 use Rattle.book.specs.declared.desk_refusal.DeskRefusal.TheVariants as refusals
 use Rattle.book.specs.declared.proposal.Proposal.{Proposal}
@@ -72,6 +73,7 @@ looked_not desk = record {
   more = sym (append-nil desk.seen);
   foreign = λ lease may. All-from_recursion (λ (entry : Entry). sequencer_of entry ≢ Some lease.seq) [] tt;
   none = λ alone. refl;
+  own = own-stays desk.own desk.seen;
   leases = λ lease may. may;
   floor = omega arith;
   faults = omega arith;
@@ -90,6 +92,8 @@ looked-moved old mid new before one two = record {
   foreign = λ lease may. All-append (λ (entry : Entry). sequencer_of entry ≢ Some lease.seq) one.others two.others
       (one.foreign lease may) (two.foreign lease (one.leases lease may));
   none = λ alone. ap (λ (h : List Entry). h ++ two.others) (one.none alone) ∙ two.none (one.alone ∙ alone);
+  own = two.own ∙ ap (λ (l : List ℕ). l ++ numbers_from (length before) (drop (length before) new.seen))
+      (one.own ∙ sym (own-stays old.own mid.seen));
   leases = λ lease may. two.leases lease (one.leases lease may);
   floor = omega (arith, one.floor, two.floor);
   faults = omega (arith, one.faults, two.faults);

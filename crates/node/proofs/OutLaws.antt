@@ -1,5 +1,5 @@
 -- What a node sends is so by what its desk has seen.
-use Rattle.std.proofs.Common.{◌≡◌, ◌∙◌, List, [], ◌∷◌, ◌++◌, refl, sym, subst}
+use Rattle.std.proofs.Common.{◌≡◌, ◌∙◌, List, [], ◌∷◌, ◌++◌, false, refl, sym, subst, true≢false}
 use Rattle.std.specs.Prelude.{All, IfSome, IsSome, Option, Some, None, option_to_list, slice_get}
 use Rattle.std.specs.Option.{option_and_then}
 use Rattle.std.proofs.lemmas.List.Elements.{All-head, All-tail}
@@ -89,5 +89,11 @@ so-by-note case desk (Some told) message same note is =
 -- a message is vouched for by what its sender has seen
 pub vouched-by : (case : CaseShape) (desk : DeskView) (sight : Option Sight) (message : Outgoing)
     → IsOutgoing case desk message → IsVouchedFor case desk sight message
-vouched-by case desk None message is = is.so
+vouched-by case desk None message is = λ alone. is.so
 vouched-by case desk (Some told) message is = tt
+
+-- a desk that is not alone needs nobody to vouch
+pub vouched-beside : (case : CaseShape) (desk : DeskView) (sight : Option Sight) (message : Outgoing) → desk.alone ≡ false
+    → IsVouchedFor case desk sight message
+vouched-beside case desk None message beside = λ alone. absurd (true≢false (sym alone ∙ beside))
+vouched-beside case desk (Some told) message beside = tt

@@ -103,11 +103,7 @@ fn record_again(alloc: Global, message: Option<&Outgoing>) -> Result<Option<Outg
 }
 
 // A record once more, with the row that sent it.
-fn delivered(
-    alloc: Global,
-    delivery: &Delivery,
-    sender: &RowName,
-) -> Result<Outgoing, NoMemory>
+fn delivered(alloc: Global, delivery: &Delivery, sender: &RowName) -> Result<Outgoing, NoMemory>
     ensures { IfOk result (λ copy. copy ≡ outgoing.Deliver delivery.now sender.now) }
 {
     let delivery = delivery.copy(alloc)?;

@@ -25,7 +25,7 @@ settle-requires-clause-handled g c =
     let vouched = subst (λ m. IsVouchedFor case old (g.N.Seen.sight (note_of m)) (outgoing_of m)) c.in-Ack.is c.requires.vouched in
     let vouched_inside = subst (λ p. IsVouchedFor case old (g.N.Seen.sight p.note) (outgoing.Ack p.to p.id)) (sym c.receipt.view_is) vouched in
     so_met case old mid (g.N.Seen.sight c.receipt.inside.note) message c.requires.fits.of_case c.receipt.invariant vouched_inside
-    c.meet.ensures.met c.meet.ensures.looked
+    c.meet.ensures.tells c.meet.ensures.met c.meet.ensures.looked
 
 -- what is answered then
 pub returns-clause-answers : goal.returns-clause-answers
