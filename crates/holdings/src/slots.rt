@@ -126,12 +126,7 @@ fn add_place(
 }
 
 // Puts the place of a name.
-fn put_place(
-    alloc: Global,
-    places: &mut Places,
-    name: &RowName,
-    at: usize,
-) -> Result<(), NoMemory>
+fn put_place(alloc: Global, places: &mut Places, name: &RowName, at: usize) -> Result<(), NoMemory>
     ensures places { OnOk result
         (places.new.entries ≡ insert_entry row_cmp places.old.entries name.now at) }
     ensures same { OnErr result (places.new.entries ≡ places.old.entries) }
