@@ -28,7 +28,7 @@ use Rattle.book.specs.declared.desk_refusal.DeskRefusal.TheVariants as refusals
 use Rattle.book.specs.declared.proposal.Proposal.{Proposal}
 use Rattle.book.specs.declared.proposal.Proposal.TheVariants as proposals
 use Rattle.holdings.specs.Holding.{AreAllHeld, HasSeenOthers, HeldView, HoldsClaim, IsHeld, KeepsHeld, KeepsOthers, held_at, held_on}
-use Rattle.holdings.proofs.HeldSteps.{AreAllHeld-beside}
+use Rattle.holdings.proofs.HeldSteps.{AreAllHeld-beside, unasked}
 use Rattle.node.specs.Answers.{AnswersClaim, AnswersWrite, FailsAsked, HasGrown, HasKept, IsRefused, refusal_of}
 use Rattle.node.specs.Asking.{Request}
 use Rattle.node.specs.Fits.{Fits, IsHandled, IsPrepared, IsWork}
@@ -64,20 +64,7 @@ more-appended old new before entry moved appended = record {
 
 -- a desk that was not asked has seen no more
 pub looked_not : (desk : DeskView) → HasLooked desk desk
-looked_not desk = record {
-  case = refl;
-  limit = refl;
-  told = refl;
-  alone = refl;
-  others = [];
-  more = sym (append-nil desk.seen);
-  foreign = λ lease may. All-from_recursion (λ (entry : Entry). sequencer_of entry ≢ Some lease.seq) [] tt;
-  none = λ alone. refl;
-  own = own-stays desk.own desk.seen;
-  leases = λ lease may. may;
-  floor = omega arith;
-  faults = omega arith;
-}
+looked_not desk = unasked desk
 
 -- a look before a call
 pub looked-moved : (old mid new : DeskView) (before : List Entry) → HasLooked old mid → HasMoved mid new before
