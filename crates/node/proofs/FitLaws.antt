@@ -86,6 +86,10 @@ looked-moved old mid new before one two = record {
   faults = omega (arith, one.faults, two.faults);
 }
 
+-- one look after another
+pub looked_twice : (old mid new : DeskView) → HasLooked old mid → HasLooked mid new → HasLooked old new
+looked_twice old mid new one two = looked-moved old mid new new.seen one two
+
 -- ---- what was sent and what is prepared
 
 -- what is told stays told

@@ -1,5 +1,5 @@
 -- What a node makes of a message that comes.
-use Rattle.std.proofs.Common.{◌≡◌, ◌∙◌, Bool, true, false, List, [], ◌∷◌, ◌++◌, refl, sym, ap, subst, true≢false}
+use Rattle.std.proofs.Common.{◌≡◌, ◌∙◌, Bool, true, false, List, [], ◌∷◌, ◌++◌, refl, sym, ap, subst}
 use Rattle.std.specs.Prelude.{IfSome, IsSome, Option, Some, None, if◌then◌else◌}
 use Rattle.std.proofs.lemmas.List.Elements.{All-append, All-from_recursion}
 use Rattle.std.specs.Option.{is_some, option_map_or}
@@ -33,13 +33,15 @@ vouched-told : (case : CaseShape) (desk : DeskView) (message : Outgoing) → IsV
     → TellsUnlessAlone desk None → IfSome desk.told (λ _. IsSoIn case desk.seen message)
 vouched-told case desk message vouched tells = by_alone desk.alone refl
   where
-    by_told : (o : Option Unit) → (IsSome o → IsSome (None {Sight})) → IfSome o (λ _. IsSoIn case desk.seen message)
-    by_told None never = tt
-    by_told (Some x) never = absurd (true≢false (sym (never refl)))
+    by_told : (o : Option Unit) (sight : Option Sight) → sight ≡ None → (IsSome o → IsSome sight)
+        → IfSome o (λ _. IsSoIn case desk.seen message)
+    by_told None sight none tell = tt
+    by_told (Some x) None none tell = absurd (let there = tell refl in cc)
+    by_told (Some x) (Some told) none tell = absurd cc
 
     by_alone : (b : Bool) → desk.alone ≡ b → IfSome desk.told (λ _. IsSoIn case desk.seen message)
     by_alone true is = vouched is
-    by_alone false is = by_told desk.told (tells is)
+    by_alone false is = by_told desk.told None refl (tells is)
 
 -- what a message says is so in what the reader has seen then
 pub so_met : (case : CaseShape) (old new : DeskView) (sight : Option Sight) (message : Outgoing) → old.case ≡ case

@@ -28,13 +28,13 @@ productions_send = search (lists.the_send, productions.the_send) depth 30
 effects_send : IsSend Effects.the_row
 effects_send = search (sendable, state_field_send, timers_send, productions_send) depth 30
 
--- what is proposed
-proposal_send : IsSend Proposal.the_row
-proposal_send = search (sendable, effects_send, deliveries.the_field_send, timers.the_field_send) depth 30 fits 100000
+-- what is proposed, as a field
+proposal_field_send : IsSend (Proposal.the_field).row
+proposal_field_send = search (sendable, effects_send, deliveries.the_field_send, timers.the_field_send) depth 30 fits 100000
 
 -- a work that is prepared
 work_send : IsSend Work.the_row
-work_send = search (sendable, crosses, proposal_send, names.the_field_send) depth 30
+work_send = search (sendable, crosses, proposal_field_send, names.the_field_send) depth 30
 
 -- what is to be sent
 outgoing_send : IsSend Outgoing.the_row

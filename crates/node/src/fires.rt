@@ -147,6 +147,7 @@ impl<N: Seen> Node<N> {
 
 // Writes that a timer of a row that is held of an interval fired, and then puts what its handler produced
 // into the outbox.
+#[tactic(auto, using(crate::proofs::FitLaws::looked_not))]
 fn write_fire<D: Desk>(
     held: &mut Holdings,
     outbox: &mut Outbox,
@@ -195,7 +196,7 @@ fn write_fire<D: Desk>(
         effects,
     };
     write_made(
-        held, outbox, alloc, desk, case, interval, name, proposal, made,
+        held, outbox, alloc, desk, case, interval, name, &proposal, made,
     )
 }
 

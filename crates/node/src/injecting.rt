@@ -171,7 +171,7 @@ fn write_line<D: Desk>(
 {
     let proposal = Proposal::Inject { line };
     write_made(
-        held, outbox, alloc, desk, case, interval, name, proposal, made,
+        held, outbox, alloc, desk, case, interval, name, &proposal, made,
     )
 }
 

@@ -51,6 +51,7 @@ impl<N: Seen> Node<N> {
 
     /// The first of what it has to send once more, where that is a record, with a note of its own: for one
     /// who sends it twice. The worker still has it to send.
+    #[tactic(auto, using(crate::proofs::FitLaws::looked_not))]
     pub fn first_again<D: Desk<Note = N>>(
         &self,
         alloc: Global,

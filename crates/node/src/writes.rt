@@ -134,7 +134,7 @@ pub(crate) fn write_made<D: Desk>(
     case: &Case,
     interval: u32,
     name: &RowName,
-    proposal: Proposal,
+    proposal: &Proposal,
     made: Vec<Outgoing>,
 ) -> Result<u64, DeskRefusal>
     requires case { (D.view desk.old).case ≡ case.now }
@@ -143,12 +143,12 @@ pub(crate) fn write_made<D: Desk>(
     requires part { name.now.part < parts_of case.now.topology }
     requires there { IsSome (held_at held.old interval) }
     requires proposal { IfSome (held_at held.old interval) (λ here. IsProposable case.now
-        name.now (row_held case.now.topology here name.now) proposal) }
-    requires known { IsKnownOf (D.view desk.old) name.now proposal }
+        name.now (row_held case.now.topology here name.now) proposal.now) }
+    requires known { IsKnownOf (D.view desk.old) name.now proposal.now }
 
     ensures fits { AreAllHeld case.now (D.view desk.new) held.new }
     ensures written { IfOk result (λ commit. HoldsWork case.now.topology
-        (D.view desk.old) (D.view desk.new) interval name.now proposal
+        (D.view desk.old) (D.view desk.new) interval name.now proposal.now
         commit held.old held.new) }
     ensures sent { IfOk result (λ commit. outbox.new.messages
         ≡ outbox.old.messages ++ map (numbered commit) made.items) }
@@ -163,7 +163,7 @@ pub(crate) fn write_made<D: Desk>(
     ensures home { D.home desk.new ≡ D.home desk.old }
 {
     outbox.make_room(made.len())?;
-    let commit = held.write(alloc, desk, case, interval, name, &proposal)?;
+    let commit = held.write(alloc, desk, case, interval, name, proposal)?;
     outbox.put_all(made, commit);
     Ok(commit)
 }
