@@ -10,7 +10,7 @@ use mw_types::END;
 use run_history::Case;
 
 // The least mark of a part's intervals, each as its desk knows it when it is asked.
-#[tactic(auto, using(crate::proofs::FitLaws::looked_not, crate::proofs::FitLaws::looked_twice))]
+#[tactic(auto, using(crate::proofs::FitLaws::looked_not))]
 pub(crate) fn least_known<D: Desk>(desk: &mut D, case: &Case, part: u32) -> u64
     requires case { (D.view desk.old).case ≡ case.now }
     ensures known { IsLeastKnown case.now.topology part (D.view desk.old) (D.view desk.new) result }
