@@ -13,3 +13,4 @@ pub mod OwnLaws
 pub mod FirstLaws
 pub mod TimerLaws
 pub mod PendingLaws
+pub mod Sending

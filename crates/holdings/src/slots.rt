@@ -1,5 +1,5 @@
 //! Rows by their names, each at a place of its own.
-ghost use Rattle.std.specs.Prelude.{◌≡◌, ◌++◌, ◌<◌, All, [], IfSome, IsSome, IsTrue, None, OnErr, OnOk, fold, length, map, option_copied};
+ghost use Rattle.std.specs.Prelude.{◌≡◌, ◌++◌, ◌<◌, All, [], IfSome, IsSome, IsTrue, None, OnErr, OnOk, fold, length, map, option_copied, vec_capacity, vec_len};
 ghost use Rattle.std.specs.List.{flat_map};
 ghost use Rattle.std.specs.List.Sorted.{IsStrictlySortedBy};
 ghost use Rattle.std.specs.Map.{keys_of, lookup};
@@ -90,13 +90,9 @@ impl Slots {
         ensures entries { OnOk result (self.new ≡ insert_entry row_cmp self.old name row) }
         ensures unchanged { OnErr result (self.new ≡ self.old) }
     {
-        let key = name.copy(alloc)?;
         let at = count(&self.rows);
-        self.rows.push(NamedRow { name, row })?;
-        if let Err(_) = self.places.insert(key, at) {
-            self.rows.pop();
-            return Err(NoMemory);
-        }
+        add_place(alloc, &mut self.rows, &mut self.places, &name, at)?;
+        self.rows.push_reserved(NamedRow { name, row });
         self.last.set(at);
         Ok(())
     }
@@ -109,6 +105,35 @@ impl Slots {
         let at = place_in(&self.rows, &self.places, &self.last, name).unwrap();
         set_at(&mut self.rows[at], row);
     }
+}
+
+// Makes room for one more row, and puts its place under its name.
+fn add_place(
+    alloc: Global,
+    rows: &mut Vec<NamedRow>,
+    places: &mut Places,
+    name: &RowName,
+    at: usize,
+) -> Result<(), NoMemory>
+    ensures rows { rows.new.items ≡ rows.old.items }
+    ensures room { OnOk result (vec_len rows.new < vec_capacity rows.new) }
+    ensures places { OnOk result
+        (places.new.entries ≡ insert_entry row_cmp places.old.entries name.now at) }
+    ensures same { OnErr result (places.new.entries ≡ places.old.entries) }
+{
+    rows.reserve(1)?;
+    put_place(alloc, places, name, at)
+}
+
+// Puts the place of a name.
+fn put_place(alloc: Global, places: &mut Places, name: &RowName, at: usize) -> Result<(), NoMemory>
+    ensures places { OnOk result
+        (places.new.entries ≡ insert_entry row_cmp places.old.entries name.now at) }
+    ensures same { OnErr result (places.new.entries ≡ places.old.entries) }
+{
+    let key = name.copy(alloc)?;
+    places.insert(key, at)?;
+    Ok(())
 }
 
 // How many rows there are.

@@ -19,6 +19,7 @@ use std::alloc::Global;
 impl Holdings {
     /// Writes a row anew: an injector's next line is injected, a record was handled, or a timer
     /// fired. Answers the commit number of the entry.
+    #[tactic(auto, using(crate::proofs::HeldSteps::unasked))]
     pub fn write<D: Desk>(
         &mut self,
         alloc: Global,
@@ -61,6 +62,7 @@ impl Holdings {
 
     /// A sender learns that what it made was handled: the row no longer waits for the id. Answers
     /// the commit number of the entry.
+    #[tactic(auto, using(crate::proofs::HeldSteps::unasked))]
     pub fn settle<D: Desk>(
         &mut self,
         alloc: Global,
@@ -104,6 +106,7 @@ impl Holdings {
 
     /// A row forgets the ids of records that are finished: those below the floor. Answers the
     /// commit number of the entry.
+    #[tactic(auto, using(crate::proofs::HeldSteps::unasked))]
     pub fn purge<D: Desk>(
         &mut self,
         alloc: Global,

@@ -25,7 +25,7 @@ use Rattle.holdings.specs.Timers.{IsFirstTimer, due_cmp, pair_of, timer_of}
 use Rattle.holdings.specs.declared.first_timer.RowTimer.{RowTimer}
 use Rattle.holdings.proofs.TimerLaws.{due_cmp-total}
 use Rattle.node.specs.Asking.{IsTimerHeld}
-use Rattle.node.specs.FireSteps.{AreAllWithin, IsFirstIn, IsFirstSoFar, IsLeastTimer, IsTimerIn, IsTimerOf, IsTimerToFire, due_under, earlier_timer}
+use Rattle.node.specs.FireSteps.{AreAllWithin, IsFirstIn, IsLeastTimerBelow, IsLeastTimer, IsTimerIn, IsTimerOf, IsTimerToFire, due_under, earlier_timer}
 use Rattle.node.specs.PurgeSteps.{AreRowsWithin}
 use Rattle.node.specs.Workers.{NodeView}
 use Rattle.node.proofs.FirstLaws.{not_less}
@@ -131,8 +131,8 @@ first-held all interval counts found is there first = subst (λ b. IsFirstIn b a
 
 -- the least timer of one interval more
 pub first-more : (intervals : List Bounds) (all : List (Option HeldView)) (part count : ℕ) (b : Bounds) (one other : Option RowTimer)
-    → slice_get intervals count ≡ Some b → IsFirstSoFar intervals all part count one → IsFirstIn (b.part == part) all count other
-    → IsFirstSoFar intervals all part (count + 1) (earlier_timer one other)
+    → slice_get intervals count ≡ Some b → IsLeastTimerBelow intervals all part count one → IsFirstIn (b.part == part) all count other
+    → IsLeastTimerBelow intervals all part (count + 1) (earlier_timer one other)
 first-more intervals all part count b one other at so_far here =
     least-earlier (IsTimerOf intervals all part count) (IsTimerIn (b.part == part) all count) (IsTimerOf intervals all part (count + 1))
     one other
@@ -240,7 +240,7 @@ time-before a b early = ap (λ o. ordering_then (ordering_then o (nat_cmp a.1.ta
 
 -- the least timer of a part is the next, where it is due
 pub next-timer : (shape : Shape) (node : NodeView) (part mark : ℕ) (found : Option RowTimer) → node.prepared ≡ None
-    → AreAllWithin shape node.held → IsFirstSoFar (intervals_of shape) node.held part (length (intervals_of shape)) found
+    → AreAllWithin shape node.held → IsLeastTimerBelow (intervals_of shape) node.held part (length (intervals_of shape)) found
     → IsTimerToFire shape node part mark (due_under mark found)
 next-timer shape node part mark None free within first = λ name timer next.
     first (name, timer) (timer-of shape node part name timer next.set)

@@ -1,5 +1,5 @@
 -- What is right of a node stays right as its desk comes to see more, and where its desk refuses.
-use Rattle.std.proofs.Common.{◌≡◌, ◌≢◌, ◌∙◌, ℕ, Bool, true, false, List, [], ◌∷◌, ◌++◌, refl, sym, ap, subst, arith, append_assoc, inl, inr}
+use Rattle.std.proofs.Common.{◌≡◌, ◌≢◌, ◌∙◌, ℕ, Bool, true, false, List, [], ◌∷◌, ◌++◌, drop, length, refl, sym, ap, subst, arith, append_assoc, inl, inr}
 use Rattle.std.specs.Prelude.{All, IfErr, IfOk, IfSome, OnErr, Option, Some, None, ◌==◌, not, if◌then◌else◌}
 use Rattle.std.specs.Option.{option_and_then, option_map, option_map_or}
 use Rattle.std.proofs.Math.Path.{fun_ext}
@@ -20,14 +20,15 @@ use Rattle.history_laws.proofs.SeenLaws.{found-more}
 use Rattle.history_laws.proofs.SenderLaws.{IsMadeOn-more}
 use Rattle.book.specs.Books.{LeaseView}
 use Rattle.book.specs.DeskReasons.{HasClaimReason, HasReason}
-use Rattle.book.specs.Desks.{DeskView, HasLooked, HasMoved, IsSound}
+use Rattle.book.specs.Desks.{DeskView, HasLooked, HasMoved, IsSound, numbers_from}
 use Rattle.book.specs.Proposals.{IsHandling}
+use Rattle.book.proofs.Numbers.{own-stays}
 use Rattle.book.specs.declared.desk_refusal.DeskRefusal.{DeskRefusal}
 use Rattle.book.specs.declared.desk_refusal.DeskRefusal.TheVariants as refusals
 use Rattle.book.specs.declared.proposal.Proposal.{Proposal}
 use Rattle.book.specs.declared.proposal.Proposal.TheVariants as proposals
 use Rattle.holdings.specs.Holding.{AreAllHeld, HasSeenOthers, HeldView, HoldsClaim, IsHeld, KeepsHeld, KeepsOthers, held_at, held_on}
-use Rattle.holdings.proofs.HeldSteps.{AreAllHeld-beside}
+use Rattle.holdings.proofs.HeldSteps.{AreAllHeld-beside, unasked}
 use Rattle.node.specs.Answers.{AnswersClaim, AnswersWrite, FailsAsked, HasGrown, HasKept, IsRefused, refusal_of}
 use Rattle.node.specs.Asking.{Request}
 use Rattle.node.specs.Fits.{Fits, IsHandled, IsPrepared, IsWork}
@@ -63,19 +64,7 @@ more-appended old new before entry moved appended = record {
 
 -- a desk that was not asked has seen no more
 pub looked_not : (desk : DeskView) → HasLooked desk desk
-looked_not desk = record {
-  case = refl;
-  limit = refl;
-  told = refl;
-  alone = refl;
-  others = [];
-  more = sym (append-nil desk.seen);
-  foreign = λ lease may. All-from_recursion (λ (entry : Entry). sequencer_of entry ≢ Some lease.seq) [] tt;
-  none = λ alone. refl;
-  leases = λ lease may. may;
-  floor = omega arith;
-  faults = omega arith;
-}
+looked_not desk = unasked desk
 
 -- a look before a call
 pub looked-moved : (old mid new : DeskView) (before : List Entry) → HasLooked old mid → HasMoved mid new before
@@ -90,10 +79,16 @@ looked-moved old mid new before one two = record {
   foreign = λ lease may. All-append (λ (entry : Entry). sequencer_of entry ≢ Some lease.seq) one.others two.others
       (one.foreign lease may) (two.foreign lease (one.leases lease may));
   none = λ alone. ap (λ (h : List Entry). h ++ two.others) (one.none alone) ∙ two.none (one.alone ∙ alone);
+  own = two.own ∙ ap (λ (l : List ℕ). l ++ numbers_from (length before) (drop (length before) new.seen))
+      (one.own ∙ sym (own-stays old.own mid.seen));
   leases = λ lease may. two.leases lease (one.leases lease may);
   floor = omega (arith, one.floor, two.floor);
   faults = omega (arith, one.faults, two.faults);
 }
+
+-- one look after another
+pub looked_twice : (old mid new : DeskView) → HasLooked old mid → HasLooked mid new → HasLooked old new
+looked_twice old mid new one two = looked-moved old mid new new.seen one two
 
 -- ---- what was sent and what is prepared
 

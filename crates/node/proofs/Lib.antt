@@ -18,3 +18,4 @@ pub mod ReceiveLaws
 pub mod SettleLaws
 pub mod WrittenLaws
 pub mod KindLaws
+pub mod Sending

@@ -1,8 +1,8 @@
 -- The least known mark of a part, while its desk looks.
-use Rattle.std.proofs.Common.{◌≡◌, ◌∙◌, ◌<◌, ◌≤◌, ℕ, Bool, true, false, List, [], ◌∷◌, length, refl, sym, ap, subst, arith, zero, suc}
-use Rattle.std.specs.Prelude.{Some, ◌==◌, slice_get}
+use Rattle.std.proofs.Common.{◌≡◌, ◌∙◌, ◌+◌, ◌<◌, ◌≤◌, ℕ, Bool, true, false, List, [], ◌∷◌, length, refl, sym, ap, subst, arith, inl, inr, true≢false, zero, suc}
+use Rattle.std.specs.Prelude.{Some, ◌==◌, if◌then◌else◌, min, slice_get}
 use Rattle.std.specs.List.{AllByRecursion}
-use Rattle.std.proofs.lemmas.Bool.{eq-eqb, eqb-true}
+use Rattle.std.proofs.lemmas.Bool.{cases_eq, eq-eqb, eqb-true}
 use Rattle.key_intervals.specs.declared.bounds.Bounds.{Bounds}
 use Rattle.topology.specs.Shapes.{Shape}
 use Rattle.run_history.specs.Cases.{intervals_of}
@@ -12,7 +12,7 @@ use Rattle.history_laws.proofs.LowLaws.{bound-each, least-bound, least-end}
 use Rattle.watermark.specs.Marks.{mark_of, marks_in, marks_of}
 use Rattle.book.specs.Desks.{DeskView}
 use Rattle.node.specs.Answers.{IsLeastKnown}
-use Rattle.node.specs.MarkSteps.{IsLeastSoFar}
+use Rattle.node.specs.MarkSteps.{IsLeastSoFar, IsLesser}
 
 -- ---- a bound of the marks of a part
 
@@ -89,4 +89,45 @@ known-later shape part old mid new mark long longer rise is =
           let was = bound-part mark part (intervals_of shape) mid.marks k b long
           (bound-each mark (marks_of shape part mid.marks) is.at_most) at of in
           let more = rise k in omega (arith, was, more)));
+    }
+
+-- a mark that does not count leaves another as it is
+pub lesser-not : (interval : ℕ) (marks : List ℕ) (counts : Bool) (before : ℕ) → counts ≡ false
+    → IsLesser counts interval marks marks before before
+lesser-not interval marks counts before is = record {
+  mark = mark_of marks interval;
+  at_least = omega arith;
+  at_most = omega arith;
+  lesser = ap (λ b. if b then min before (mark_of marks interval) else before) (sym is);
+}
+
+-- the least mark so far, with one interval more, while the marks rise
+pub least-step : (intervals : List Bounds) (part : ℕ) (was old new : List ℕ) (b : Bounds) (i before after : ℕ)
+    → slice_get intervals i ≡ Some b → ((j : ℕ) → mark_of was j ≤ mark_of old j) → ((j : ℕ) → mark_of old j ≤ mark_of new j)
+    → IsLeastSoFar intervals part was old before i → IsLesser (b.part == part) i old new before after
+    → IsLeastSoFar intervals part was new after (i + 1)
+least-step intervals part was old new b i before after at risen rise so_far lesser = by_test (b.part == part) refl lesser.lesser
+  where
+    by_test : (t : Bool) → (b.part == part) ≡ t → after ≡ (if t then min before lesser.mark else before)
+        → IsLeastSoFar intervals part was new after (i + 1)
+    by_test true counts is = let same : after ≡ min before lesser.mark = is in record {
+      at_most = λ j c early there of. elim (cases_eq j i) [
+        | inl here ↦ subst (λ k. after ≤ mark_of new k) (sym here) (let most = lesser.at_most in omega (arith, same, most))
+        | inr other ↦ let most = so_far.at_most j c (omega (arith, early, other)) there of in let up = rise j in omega (arith, same, most, up)
+      ];
+      at_least = λ bound end each.
+          let first = so_far.at_least bound end each in
+          let here = each i b at (eqb-true b.part part counts) in
+          let up = risen i in
+          let low = lesser.at_least in omega (arith, same, first, here, up, low);
+      end = let end = so_far.end in omega (arith, same, end);
+    }
+    by_test false counts is = let same : after ≡ before = is in record {
+      at_most = λ j c early there of. elim (cases_eq j i) [
+        | inl here ↦ absurd (true≢false (sym (eq-eqb b.part part (ap (λ (d : Bounds). d.part)
+            (some_same b c (sym at ∙ ap (slice_get intervals) (sym here) ∙ there)) ∙ of)) ∙ counts))
+        | inr other ↦ let most = so_far.at_most j c (omega (arith, early, other)) there of in let up = rise j in omega (arith, same, most, up)
+      ];
+      at_least = λ bound end each. let first = so_far.at_least bound end each in omega (arith, same, first);
+      end = let end = so_far.end in omega (arith, same, end);
     }

@@ -1,17 +1,21 @@
 -- What a node sends is so by what its desk has seen.
-use Rattle.std.proofs.Common.{◌≡◌, ◌∙◌, List, ◌∷◌, ◌++◌, refl, sym, subst}
-use Rattle.std.specs.Prelude.{All, IfSome, IsSome, Option, Some, None, option_to_list}
+use Rattle.std.proofs.Common.{◌≡◌, ◌∙◌, List, [], ◌∷◌, ◌++◌, false, refl, sym, subst, true≢false}
+use Rattle.std.specs.Prelude.{All, IfSome, IsSome, Option, Some, None, option_to_list, slice_get}
+use Rattle.std.specs.Option.{option_and_then}
 use Rattle.std.proofs.lemmas.List.Elements.{All-head, All-tail}
 use Rattle.mw_types.specs.declared.entry.Entry.{Entry}
 use Rattle.topology.specs.Shapes.{Shape}
 use Rattle.run_history.specs.Cases.{CaseShape}
+use Rattle.run_history.proofs.Lists.{none_some, some_same}
 use Rattle.book.specs.Desks.{DeskView, HasLooked, IsNoteOf, IsSound, Sight}
 use Rattle.holdings.specs.Holding.{HeldView, KeepsHeld}
 use Rattle.holdings.proofs.HeldSteps.{AreAllHeld-looked}
 use Rattle.node.specs.Fits.{Fits}
 use Rattle.node.specs.Messages.{IsOutgoing, IsSoBy, IsSoIn, IsVouchedFor}
+use Rattle.node.specs.Received.{where_record}
 use Rattle.node.specs.Workers.{NodeView}
 use Rattle.node.specs.declared.outgoing.Outgoing.{Outgoing}
+use Rattle.node.specs.declared.outgoing.Outgoing.TheVariants as outgoing
 use Rattle.node.proofs.FitLaws.{Fits-kept, more-looked}
 
 -- ---- a desk that looked
@@ -52,6 +56,22 @@ pub first-outgoing : (case : CaseShape) (desk : DeskView) (node : NodeView) (mes
 first-outgoing case desk node message rest is fits = All-head (IsOutgoing case desk) message rest (subst (All
     (IsOutgoing case desk)) is fits.outbox)
 
+-- also where it is asked for by its place
+pub first-at : (case : CaseShape) (desk : DeskView) (node : NodeView) (message : Outgoing) → slice_get node.outbox 0 ≡ Some message
+    → Fits case desk node → IsOutgoing case desk message
+first-at case desk node message at fits = by_list node.outbox at fits.outbox
+  where
+    by_list : (l : List Outgoing) → slice_get l 0 ≡ Some message → All (IsOutgoing case desk) l → IsOutgoing case desk message
+    by_list [] at all = absurd (none_some message at)
+    by_list (m ∷ ms) at all = subst (IsOutgoing case desk) (some_same m message at) (All-head (IsOutgoing case desk) m ms all)
+
+-- a record that is sent again is the one that stands first
+pub first-again : (messages : List Outgoing) (again : Outgoing) → option_and_then where_record (slice_get messages 0) ≡ Some again
+    → slice_get messages 0 ≡ Some again
+first-again [] again is = absurd (none_some again is)
+first-again (outgoing.Deliver delivery sender ∷ ms) again is = is
+first-again (outgoing.Ack to id ∷ ms) again is = absurd (none_some again is)
+
 -- what is there holds
 told-some : {X : Type 0} (o : Option X) (P : Type 0) → IsSome o → IfSome o (λ _. P) → P
 told-some None P there is = absurd cc
@@ -69,5 +89,11 @@ so-by-note case desk (Some told) message same note is =
 -- a message is vouched for by what its sender has seen
 pub vouched-by : (case : CaseShape) (desk : DeskView) (sight : Option Sight) (message : Outgoing)
     → IsOutgoing case desk message → IsVouchedFor case desk sight message
-vouched-by case desk None message is = is.so
+vouched-by case desk None message is = λ alone. is.so
 vouched-by case desk (Some told) message is = tt
+
+-- a desk that is not alone needs nobody to vouch
+pub vouched-beside : (case : CaseShape) (desk : DeskView) (sight : Option Sight) (message : Outgoing) → desk.alone ≡ false
+    → IsVouchedFor case desk sight message
+vouched-beside case desk None message beside = λ alone. absurd (true≢false (sym alone ∙ beside))
+vouched-beside case desk (Some told) message beside = tt

@@ -1,6 +1,6 @@
 -- What a node makes of a message that comes.
-use Rattle.std.proofs.Common.{◌≡◌, ◌∙◌, true, false, List, [], ◌∷◌, ◌++◌, refl, sym, ap, subst}
-use Rattle.std.specs.Prelude.{IfSome, Option, Some, None, if◌then◌else◌}
+use Rattle.std.proofs.Common.{◌≡◌, ◌∙◌, Bool, true, false, List, [], ◌∷◌, ◌++◌, refl, sym, ap, subst}
+use Rattle.std.specs.Prelude.{IfSome, IsSome, Option, Some, None, if◌then◌else◌}
 use Rattle.std.proofs.lemmas.List.Elements.{All-append, All-from_recursion}
 use Rattle.std.specs.Option.{is_some, option_map_or}
 use Rattle.mw_types.specs.Outcomes.{EffectsView}
@@ -11,7 +11,7 @@ use Rattle.topology.specs.Shapes.{Shape}
 use Rattle.row_parts.specs.Contents.{is_finished}
 use Rattle.run_history.specs.Cases.{CaseShape}
 use Rattle.run_history.specs.Legal.{record_outcome}
-use Rattle.book.specs.Desks.{DeskView, HasLooked, HasMet, IsSound, Sight}
+use Rattle.book.specs.Desks.{DeskView, HasLooked, HasMet, IsSound, Sight, TellsUnlessAlone}
 use Rattle.book.specs.declared.proposal.Proposal.TheVariants as proposals
 use Rattle.holdings.specs.Holding.{HeldView, held_on, row_held}
 use Rattle.node.specs.Answers.{received, taken_in}
@@ -28,14 +28,30 @@ use Rattle.node.proofs.FitLaws.{Fits-kept, keeps-same, more-looked, so-more, ste
 
 -- ---- what a message says, once its note was met
 
+-- what is vouched for at a desk that is alone is so: at another a note that tells nothing says that nothing is told
+vouched-told : (case : CaseShape) (desk : DeskView) (message : Outgoing) → IsVouchedFor case desk None message
+    → TellsUnlessAlone desk None → IfSome desk.told (λ _. IsSoIn case desk.seen message)
+vouched-told case desk message vouched tells = by_alone desk.alone refl
+  where
+    by_told : (o : Option Unit) (sight : Option Sight) → sight ≡ None → (IsSome o → IsSome sight)
+        → IfSome o (λ _. IsSoIn case desk.seen message)
+    by_told None sight none tell = tt
+    by_told (Some x) None none tell = absurd (let there = tell refl in cc)
+    by_told (Some x) (Some told) none tell = absurd cc
+
+    by_alone : (b : Bool) → desk.alone ≡ b → IfSome desk.told (λ _. IsSoIn case desk.seen message)
+    by_alone true is = vouched is
+    by_alone false is = by_told desk.told None refl (tells is)
+
 -- what a message says is so in what the reader has seen then
 pub so_met : (case : CaseShape) (old new : DeskView) (sight : Option Sight) (message : Outgoing) → old.case ≡ case
-    → IsSoBy sight message → IsVouchedFor case old sight message → HasMet sight new → HasLooked old new
+    → IsSoBy sight message → IsVouchedFor case old sight message → TellsUnlessAlone old sight → HasMet sight new → HasLooked old new
     → IfSome new.told (λ _. IsSoIn case new.seen message)
-so_met case old new None message same so vouched met looked =
+so_met case old new None message same so vouched tells met looked =
     step-told old.told new.told (IsSoIn case old.seen message) (IsSoIn case new.seen message) looked.told
-    (λ was. subst (λ (h : List Entry). IsSoIn case h message) (sym looked.more) (so-more case old.seen looked.others message was)) vouched
-so_met case old new (Some sight) message same so vouched met looked =
+    (λ was. subst (λ (h : List Entry). IsSoIn case h message) (sym looked.more) (so-more case old.seen looked.others message was))
+    (vouched-told case old message vouched tells)
+so_met case old new (Some sight) message same so vouched tells met looked =
     let here : IsSoIn case sight.seen message =
     subst (λ (k : CaseShape). IsSoIn k sight.seen message) (met.0 ∙ looked.case ∙ same) so in
     told-any new.told (IsSoIn case new.seen message)

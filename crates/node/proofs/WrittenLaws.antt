@@ -28,6 +28,7 @@ use Rattle.node.specs.Fits.{Fits}
 use Rattle.node.specs.Messages.{IsAddressed}
 use Rattle.node.specs.Outboxes.{numbered}
 use Rattle.node.specs.Steps.{HasYielded, answered}
+use Rattle.node.specs.WorkSteps.{HoldsWork}
 use Rattle.node.specs.Workers.{NodeView, Sending, Worker, WorkView, messages_from, sending_in}
 use Rattle.node.specs.declared.outgoing.Outgoing.{Outgoing}
 use Rattle.node.specs.declared.outgoing.Outgoing.TheVariants as outgoing
@@ -45,14 +46,6 @@ number-small : (desk : DeskView) (before : List Entry) (entry : Entry) (commit :
 number-small desk before entry commit sound appended number =
     let long : length desk.seen ≡ length before + 1 = ap length appended ∙ length-append before (entry ∷ []) in
     omega (arith, sound.limit, sound.few, long, number)
-
--- word for the sender of a work
-pub ack-of : (sender : RowName) (proposal : Proposal) (delivery : Delivery) (effects : EffectsView) (ack : Outgoing)
-    → proposal ≡ proposals.Handle delivery effects
-    → IfSome (sending_in sender proposal) (λ (s : Sending). ack ≡ outgoing.Ack s.sender s.delivery.id)
-    → ack ≡ outgoing.Ack sender delivery.id
-ack-of sender proposal delivery effects ack is word =
-    subst (λ (p : Proposal). IfSome (sending_in sender p) (λ (s : Sending). ack ≡ outgoing.Ack s.sender s.delivery.id)) is word
 
 -- what was made, by the case and the productions as they are
 pub made-here : (one two : Shape) (ps qs : List Production) (name : RowName) (late : Bool) (made : List Outgoing) → one ≡ two → ps ≡ qs
@@ -93,11 +86,6 @@ node-written shape held sender delivery effects commit node prepared outbox gone
     λ i. record { number = node.number; held = held; prepared = sym gone i; outbox = sym is i }
 
 -- ---- an entry that stands
-
--- a work that was written, as the desk answered it
-abbrev pub HoldsWork : Shape → DeskView → DeskView → ℕ → RowName → Proposal → ℕ → List (Option HeldView) → List (Option HeldView) → Type 0
-HoldsWork shape old new interval name proposal commit before after = HoldsEntry shape interval name commit
-    (λ (lease : LeaseView) (row : Contents) (answer : Written). HasWritten old new lease name proposal row answer) before after
 
 -- it stands under the lease that was held
 pub appended-work : (shape : Shape) (old new : DeskView) (interval : ℕ) (proposal : Proposal) (delivery : Delivery) (effects : EffectsView)

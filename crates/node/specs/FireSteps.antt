@@ -81,9 +81,9 @@ pub record IsTimerOf (intervals : List Bounds) (all : List (Option HeldView)) (p
 abbrev pub IsFirstIn : Bool → List (Option HeldView) → ℕ → Option RowTimer → Type 0
 IsFirstIn counts all interval found = IsLeastTimer (IsTimerIn counts all interval) found
 
--- the least timer of the first intervals of a part
-abbrev pub IsFirstSoFar : List Bounds → List (Option HeldView) → ℕ → ℕ → Option RowTimer → Type 0
-IsFirstSoFar intervals all part count found = IsLeastTimer (IsTimerOf intervals all part count) found
+-- the least timer of a part, of its intervals below a number
+abbrev pub IsLeastTimerBelow : List Bounds → List (Option HeldView) → ℕ → ℕ → Option RowTimer → Type 0
+IsLeastTimerBelow intervals all part count found = IsLeastTimer (IsTimerOf intervals all part count) found
 
 -- ---- a timer that fires
 
@@ -98,8 +98,8 @@ pub record IsSetAt (shape : Shape) (all : List (Option HeldView)) (interval : �
   pub state : IsStateThere shape name.part row.state
 
 -- a handler left these effects of a timer of a row that is held of an interval
-abbrev pub HasLeft : CaseShape → List (Option HeldView) → ℕ → RowName → Timer → EffectsView → Type 0
-HasLeft case all interval name timer effects = (set : IsSetAt case.topology all interval name timer) →
+abbrev pub IsLeftByHandler : CaseShape → List (Option HeldView) → ℕ → RowName → Timer → EffectsView → Type 0
+IsLeftByHandler case all interval name timer effects = (set : IsSetAt case.topology all interval name timer) →
     timer_outcome case name set.row timer ≡ Some effects
 
 -- a timer's firing on a row that is held, as the desk answered it

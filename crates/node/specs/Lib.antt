@@ -10,5 +10,6 @@ pub mod Steps
 pub mod LineSteps
 pub mod SweepSteps
 pub mod PurgeSteps
+pub mod WorkSteps
 pub mod MarkSteps
 pub mod FireSteps

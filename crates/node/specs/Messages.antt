@@ -74,7 +74,8 @@ pub record ReceiptView (N : Type 0) : Type 0 where
 abbrev pub IsSoBy : Option Sight → Outgoing → Type 0
 IsSoBy sight message = IfSome sight (λ told. IsSoIn told.case told.seen message)
 
--- what a message says is so by what the reader has seen, where that is told and the note tells nothing
+-- what a message says is so by what the reader has seen, where that is told and the note tells nothing. A reader
+-- whose desk is not alone needs nobody to vouch: there a note of its own book tells
 abbrev pub IsVouchedFor : CaseShape → DeskView → Option Sight → Outgoing → Type 0
-IsVouchedFor case desk None message = IfSome desk.told (λ _. IsSoIn case desk.seen message)
+IsVouchedFor case desk None message = desk.alone ≡ true → IfSome desk.told (λ _. IsSoIn case desk.seen message)
 IsVouchedFor case desk (Some sight) message = ⊤

@@ -1,5 +1,6 @@
 -- A message that a worker is given, without its note and by its note. Own.
-use Rattle.std.specs.Prelude.{⊤}
+use Rattle.std.specs.Prelude.{List, Option, Some, None, slice_get, ⊤}
+use Rattle.std.specs.Option.{option_and_then}
 use Rattle.node.specs.declared.message.Message.{Message}
 use Rattle.node.specs.declared.message.Message.TheVariants as messages
 use Rattle.node.specs.declared.outgoing.Outgoing.{Outgoing}
@@ -24,3 +25,12 @@ IsDeliver (outgoing.Ack to id) = ⊥
 abbrev pub IsAck : Outgoing → Type 0
 IsAck (outgoing.Deliver delivery sender) = ⊥
 IsAck (outgoing.Ack to id) = ⊤
+
+-- a message, where it is a record to be handled
+abbrev pub where_record : Outgoing → Option Outgoing
+where_record (outgoing.Deliver delivery sender) = Some (outgoing.Deliver delivery sender)
+where_record (outgoing.Ack to id) = None
+
+-- the first of some messages, where it is a record to be handled
+abbrev pub first_record : List Outgoing → Option Outgoing
+first_record messages = option_and_then where_record (slice_get messages 0)

@@ -1,5 +1,5 @@
 //! Timers that fire.
-ghost use Rattle.std.specs.Prelude.{◌≡◌, ◌<◌, IfErr, IfOk, OnErr, Some, length};
+ghost use Rattle.std.specs.Prelude.{◌≡◌, ◌<◌, ◌^◌, ◌++◌, ℕ, All, IfErr, IfOk, OnErr, OnOk, Some, length};
 ghost use Rattle.std.specs.Ordering.{is_lt};
 ghost use Rattle.run_history.specs.Cases.{intervals_of};
 ghost use Rattle.book.specs.Desking.{IsDueKnown};
@@ -11,15 +11,18 @@ ghost use Rattle.holdings.specs.Timers.{due_cmp, pair_of};
 ghost use Rattle.topology.specs.Shapes.{parts_of};
 ghost use Rattle.run_history.specs.Fences.{interval_of};
 ghost use Rattle.node.specs.Asking.{IsNextTimer, MayAskFire};
-ghost use Rattle.node.specs.FireSteps.{AreAllWithin, IsFirstIn, HasLeft, HoldsFire, IsFirstSoFar, IsSetAt, IsTimerToFire, due_under, earlier_timer, lesser_timer};
-ghost use Rattle.node.specs.Messages.{IsComputation};
+ghost use Rattle.node.specs.FireSteps.{AreAllWithin, IsFirstIn, IsLeftByHandler, HoldsFire, IsLeastTimerBelow, IsSetAt, IsTimerToFire, due_under, earlier_timer, lesser_timer};
+ghost use Rattle.node.specs.Messages.{IsAddressed, IsComputation};
+ghost use Rattle.node.specs.WorkSteps.{handler_sends};
 ghost use Rattle.node.specs.Works.{IsWorkOf};
 
 use crate::handling::fired;
 use crate::known_marks::least_known;
 use crate::node::Node;
+use crate::outbox::Outbox;
 use crate::outcome::{NodeFault, Outcome};
-use crate::sends::made;
+use crate::sends::made_by;
+use crate::writes::write_made;
 use book::{Desk, DeskRefusal, Proposal, Seen};
 use computations::Computation;
 use holdings::{Holdings, RowTimer};
@@ -128,28 +131,26 @@ impl<N: Seen> Node<N> {
         ensures home { D.home desk.new ≡ D.home desk.old }
     {
         desk.sound();
-        let timer = found.timer;
         let interval = case.interval_of(&found.name);
-        let effects = effects_of(&self.held, alloc, case, work, interval, &found.name, &timer)?;
-        let productions = effects.productions.as_slice();
-        let made = made(alloc, &case.topology, &found.name, productions, timer.late)?;
-        self.outbox.make_room(made.len())?;
-        let held = &mut self.held;
-        let written = write_fire(held, alloc, desk, case, interval, found, mark, effects);
+        let effects = effects_of(&self.held, alloc, case, work, interval, found)?;
+        let (held, outbox) = (&mut self.held, &mut self.outbox);
+        let written = write_fire(
+            held, outbox, alloc, desk, case, interval, found, mark, effects,
+        );
         desk.sound();
         match written {
-            Ok(commit) => {
-                self.outbox.put_all(made, commit);
-                Ok(Outcome::Committed { commit })
-            }
+            Ok(commit) => Ok(Outcome::Committed { commit }),
             Err(why) => self.yield_to(case, interval, why),
         }
     }
 }
 
-// Writes that a timer of a row that is held of an interval fired.
+// Writes that a timer of a row that is held of an interval fired, and then puts what its handler produced
+// into the outbox.
+#[tactic(auto, using(crate::proofs::FitLaws::looked_not))]
 fn write_fire<D: Desk>(
     held: &mut Holdings,
+    outbox: &mut Outbox,
     alloc: Global,
     desk: &mut D,
     case: &Case,
@@ -163,13 +164,20 @@ fn write_fire<D: Desk>(
     requires covers { interval_of case.now.topology found.now.name ≡ Some interval }
     requires part { found.now.name.part < parts_of case.now.topology }
     requires set { IsSetAt case.now.topology held.old interval found.now.name found.now.timer }
-    requires left { HasLeft case.now held.old interval found.now.name found.now.timer effects }
+    requires left { IsLeftByHandler case.now held.old interval
+        found.now.name found.now.timer effects }
     requires known { IsDueKnown (D.view desk.old) found.now.name.part found.now.timer.time mark }
 
     ensures fits { AreAllHeld case.now (D.view desk.new) held.new }
     ensures fired { IfOk result (λ commit. HoldsFire case.now.topology
         (D.view desk.old) (D.view desk.new) interval found.now.name found.now.timer mark effects
         commit held.old held.new) }
+    ensures sent { IfOk result (λ commit. outbox.new.messages ≡ outbox.old.messages
+        ++ handler_sends case.now.topology found.now.name effects found.now.timer.late commit) }
+    ensures unsent { OnErr result (outbox.new.messages ≡ outbox.old.messages) }
+    ensures addressed { OnOk result ((commit : ℕ) → commit < 2 ^ 32 →
+        All (IsAddressed case.now.topology)
+        (handler_sends case.now.topology found.now.name effects found.now.timer.late commit)) }
 
     ensures kept { OnErr result (KeepsHeld case.now.topology held.old held.new) }
     ensures looked { OnErr result (HasLooked (D.view desk.old) (D.view desk.new)) }
@@ -180,12 +188,16 @@ fn write_fire<D: Desk>(
     ensures home { D.home desk.new ≡ D.home desk.old }
 {
     let timer = found.timer;
+    let name = &found.name;
+    let made = made_by(alloc, case, name, &effects, timer.late)?;
     let proposal = Proposal::Fire {
         timer,
         mark,
         effects,
     };
-    held.write(alloc, desk, case, interval, &found.name, &proposal)
+    write_made(
+        held, outbox, alloc, desk, case, interval, name, &proposal, made,
+    )
 }
 
 // What a handler leaves of a timer of a row that is held of an interval.
@@ -195,16 +207,16 @@ fn effects_of<C: Computation>(
     case: &Case,
     work: &C,
     interval: u32,
-    name: &RowName,
-    timer: &Timer,
+    found: &RowTimer,
 ) -> Result<Effects, NoMemory>
     requires work { IsWorkOf case.now.topology (C.has work.now)
         (C.gives_record work.now) (C.gives_timer work.now) }
-    requires set { IsSetAt case.now.topology held.now interval name.now timer.now }
-    ensures does { IfOk result (HasLeft case.now held.now interval name.now timer.now) }
+    requires set { IsSetAt case.now.topology held.now interval found.now.name found.now.timer }
+    ensures does { IfOk result
+        (IsLeftByHandler case.now held.now interval found.now.name found.now.timer) }
 {
-    let row = held.get(interval).unwrap().row(name).unwrap();
-    fired(alloc, work, case, name, row, timer)
+    let row = held.get(interval).unwrap().row(&found.name).unwrap();
+    fired(alloc, work, case, &found.name, row, &found.timer)
 }
 
 // The first timer of a part, of the intervals that are held.
@@ -215,7 +227,7 @@ fn first_of_part(
     part: u32,
 ) -> Result<Option<RowTimer>, NoMemory>
     ensures first { let intervals = intervals_of case.now.topology in
-        IfOk result (IsFirstSoFar intervals held.old part (length intervals)) }
+        IfOk result (IsLeastTimerBelow intervals held.old part (length intervals)) }
     ensures same { held.new ≡ held.old }
 {
     let intervals = case.intervals();

@@ -12,8 +12,8 @@ use row_parts::Row;
 use run_history::Case;
 use std::alloc::Global;
 
-// What a computation leaves of a record that goes to a row.
-pub(crate) fn handled<C: Computation>(
+/// What a computation leaves of a record that goes to a row, for a caller that follows a history.
+pub fn handled<C: Computation>(
     alloc: Global,
     work: &C,
     case: &Case,
@@ -33,8 +33,8 @@ pub(crate) fn handled<C: Computation>(
     Ok(context.into_effects())
 }
 
-// What a computation leaves of a timer of a row.
-pub(crate) fn fired<C: Computation>(
+/// What a computation leaves of a timer of a row, for a caller that follows a history.
+pub fn fired<C: Computation>(
     alloc: Global,
     work: &C,
     case: &Case,

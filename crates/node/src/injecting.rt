@@ -1,5 +1,5 @@
 //! Lines of injectors that are injected.
-ghost use Rattle.std.specs.Prelude.{◌≡◌, ◌<◌, ◌≤◌, ◌^◌, ℕ, All, IfErr, IfOk, IfSome, IsSome, OnErr, OnOk, Some, length, map};
+ghost use Rattle.std.specs.Prelude.{◌≡◌, ◌<◌, ◌≤◌, ◌^◌, ◌++◌, ℕ, All, IfErr, IfOk, IfSome, IsSome, OnErr, OnOk, Some, length, map};
 ghost use Rattle.mw_types.specs.declared.TheConstants.{MAX_STAMP};
 ghost use Rattle.topology.specs.Shapes.{Shape, injectors_of, parts_of};
 ghost use Rattle.run_history.specs.Cases.{source_of};
@@ -17,9 +17,11 @@ ghost use Rattle.node.specs.Outboxes.{numbered};
 ghost use Rattle.node.specs.Workers.{messages_from, worker_at};
 
 use crate::node::Node;
+use crate::outbox::Outbox;
 use crate::outcome::{NodeFault, Outcome};
 use crate::outgoing::Outgoing;
 use crate::sends::made;
+use crate::writes::write_made;
 use book::{Desk, DeskRefusal, Proposal, Seen};
 use holdings::{Held, Holdings};
 use mw_types::{Key, NoMemory, Production, Record, RowName, State};
@@ -120,30 +122,29 @@ impl<N: Seen> Node<N> {
     {
         let item = case.line_record(alloc, part, line)?;
         let made = made_of(alloc, &case.topology, name, item)?;
-        self.outbox.make_room(made.len())?;
         let interval = case.interval_of(name);
-        let held = &mut self.held;
-        let written = write_line(held, alloc, desk, case, interval, name, line);
+        let (held, outbox) = (&mut self.held, &mut self.outbox);
+        let written = write_line(held, outbox, alloc, desk, case, interval, name, line, made);
         desk.sound();
         match written {
-            Ok(commit) => {
-                self.outbox.put_all(made, commit);
-                Ok(Outcome::Committed { commit })
-            }
+            Ok(commit) => Ok(Outcome::Committed { commit }),
             Err(why) => self.yield_to(case, interval, why),
         }
     }
 }
 
-// Writes that the next line of an injector's row that is held is injected.
+// Writes that the next line of an injector's row that is held is injected, and then puts what it made into
+// the outbox.
 fn write_line<D: Desk>(
     held: &mut Holdings,
+    outbox: &mut Outbox,
     alloc: Global,
     desk: &mut D,
     case: &Case,
     interval: u32,
     name: &RowName,
     line: u32,
+    made: Vec<Outgoing>,
 ) -> Result<u64, DeskRefusal>
     requires case { (D.view desk.old).case ≡ case.now }
     requires fits { AreAllHeld case.now (D.view desk.old) held.old }
@@ -156,6 +157,9 @@ fn write_line<D: Desk>(
     ensures fits { AreAllHeld case.now (D.view desk.new) held.new }
     ensures injected { IfOk result (λ commit. HoldsLine case.now.topology
         (D.view desk.old) (D.view desk.new) interval name.now line commit held.old held.new) }
+    ensures sent { IfOk result (λ commit. outbox.new.messages
+        ≡ outbox.old.messages ++ map (numbered commit) made.items) }
+    ensures unsent { OnErr result (outbox.new.messages ≡ outbox.old.messages) }
 
     ensures kept { OnErr result (KeepsHeld case.now.topology held.old held.new) }
     ensures looked { OnErr result (HasLooked (D.view desk.old) (D.view desk.new)) }
@@ -166,7 +170,9 @@ fn write_line<D: Desk>(
     ensures home { D.home desk.new ≡ D.home desk.old }
 {
     let proposal = Proposal::Inject { line };
-    held.write(alloc, desk, case, interval, name, &proposal)
+    write_made(
+        held, outbox, alloc, desk, case, interval, name, &proposal, made,
+    )
 }
 
 // The name of an injector's row.

@@ -41,6 +41,8 @@ fn lesser<D: Desk>(desk: &mut D, interval: u32, counts: bool, least: u64) -> u64
     ensures loan { D.loan desk.new ≡ D.loan desk.old }
     ensures home { D.home desk.new ≡ D.home desk.old }
 {
-    let mark = desk.mark(interval);
-    if counts { least.min(mark) } else { least }
+    if !counts {
+        return least;
+    }
+    least.min(desk.mark(interval))
 }

@@ -1,16 +1,19 @@
 //! Messages that a worker sends.
-ghost use Rattle.std.specs.Prelude.{◌≡◌, ◌<◌, ◌↔◌, ◌++◌, IfSome, IsSome, length, option_to_list};
-ghost use Rattle.std.specs.Option.{option_map};
+ghost use Rattle.std.specs.Prelude.{◌≡◌, ◌<◌, ◌↔◌, ◌++◌, IfOk, IfSome, IsSome, length, option_copied, option_to_list};
+ghost use Rattle.std.specs.Option.{option_and_then, option_map};
 ghost use Rattle.book.specs.Desks.{HasLooked, IsNoteOf, KeepsMarks};
 ghost use Rattle.node.specs.Fits.{Fits};
 ghost use Rattle.node.specs.Messages.{IsAddressed, IsSoBy, IsVouchedFor};
-ghost use Rattle.node.specs.Received.{note_of, outgoing_of};
+ghost use Rattle.node.specs.Received.{first_record, note_of, outgoing_of, where_record};
 ghost use Rattle.node.specs.declared.outgoing.Outgoing.{Outgoing};
+ghost use Rattle.node.specs.declared.outgoing.Outgoing.TheVariants as outgoing;
 
 use crate::message::{Message, Parcel, Receipt};
 use crate::node::Node;
 use crate::outgoing::Outgoing;
 use book::{Desk, Seen};
+use mw_types::{Delivery, Duplicate, NoMemory, RowName};
+use std::alloc::Global;
 
 impl<N: Seen> Node<N> {
     /// Takes the first of what it has to send, with a note of what its desk has seen.
@@ -45,6 +48,70 @@ impl<N: Seen> Node<N> {
         desk.sound();
         Some(noted(message, note))
     }
+
+    /// The first of what it has to send once more, where that is a record, with a note of its own: for one
+    /// who sends it twice. The worker still has it to send.
+    #[tactic(auto, using(crate::proofs::FitLaws::looked_not))]
+    pub fn first_again<D: Desk<Note = N>>(
+        &self,
+        alloc: Global,
+        desk: &mut D,
+    ) -> Result<Option<Message<N>>, NoMemory>
+        requires fits { Fits (D.view desk.old).case (D.view desk.old) self.now }
+
+        ensures fits { Fits (D.view desk.old).case (D.view desk.new) self.now }
+        ensures again { IfOk result
+            (λ again. option_map outgoing_of again ≡ first_record self.now.outbox) }
+
+        ensures addressed { IfOk result (λ again. IfSome again (λ message.
+            IsAddressed (D.view desk.old).case.topology (outgoing_of message))) }
+        ensures known { IfOk result (λ again. IfSome again (λ message.
+            N.book (note_of message) ≡ (D.home desk.new).book)) }
+        ensures note { IfOk result (λ again. IfSome again (λ message.
+            IsNoteOf (D.view desk.new) (N.sight (note_of message)))) }
+        ensures vouched { IfOk result (λ again. IfSome again (λ message.
+            IsVouchedFor (D.view desk.old).case (D.view desk.new)
+            (N.sight (note_of message)) (outgoing_of message))) }
+
+        ensures looked { HasLooked (D.view desk.old) (D.view desk.new) }
+        ensures marks { KeepsMarks (D.view desk.old) (D.view desk.new) }
+        ensures loan { D.loan desk.new ≡ D.loan desk.old }
+        ensures home { D.home desk.new ≡ D.home desk.old }
+    {
+        desk.sound();
+        match record_again(alloc, self.outbox.first())? {
+            Some(message) => {
+                let note = desk.note();
+                desk.sound();
+                Ok(Some(noted(message, note)))
+            }
+            None => Ok(None),
+        }
+    }
+}
+
+// A message once more, where it is there and is a record.
+fn record_again(alloc: Global, message: Option<&Outgoing>) -> Result<Option<Outgoing>, NoMemory>
+    ensures { IfOk result
+        (λ again. again ≡ option_and_then where_record (option_copied message.entry)) }
+{
+    match message {
+        Some(Outgoing::Deliver { delivery, sender }) => {
+            Ok(Some(delivered(alloc, delivery, sender)?))
+        }
+        _ => Ok(None),
+    }
+}
+
+// A record once more, with the row that sent it.
+fn delivered(alloc: Global, delivery: &Delivery, sender: &RowName) -> Result<Outgoing, NoMemory>
+    ensures { IfOk result (λ copy. copy ≡ outgoing.Deliver delivery.now sender.now) }
+{
+    let delivery = delivery.copy(alloc)?;
+    Ok(Outgoing::Deliver {
+        delivery,
+        sender: sender.copy(alloc)?,
+    })
 }
 
 // A message with a note by which it is so.

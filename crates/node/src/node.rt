@@ -9,7 +9,7 @@ ghost use Rattle.node.specs.Workers.{idle, worker_at};
 
 use crate::outbox::Outbox;
 use crate::outcome::Outcome;
-use crate::work::Work;
+use crate::work::{Work, unprepared};
 use book::Seen;
 use holdings::Holdings;
 use std::alloc::Global;
@@ -100,7 +100,7 @@ impl<N: Seen> Node<N> {
             Fits case desk self.new }
     {
         self.held.clear();
-        self.prepared = None;
+        unprepared(&mut self.prepared);
         self.outbox.clear();
         Outcome::Crashed
     }

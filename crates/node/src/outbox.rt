@@ -1,11 +1,12 @@
 //! What a node has to send, with room that is made beforehand.
-ghost use Rattle.std.specs.Prelude.{◌≡◌, ◌<◌, ◌≤◌, ◌↔◌, ◌+◌, ◌++◌, ◌∷◌, [], IsSome, length, map, OnOk, option_to_list};
+ghost use Rattle.std.specs.Prelude.{◌≡◌, ◌<◌, ◌≤◌, ◌↔◌, ◌+◌, ◌++◌, ◌∷◌, [], IsSome, length, map, OnOk, option_copied, option_to_list, slice_get};
 ghost use Rattle.node.specs.Answers.{sent_again};
 ghost use Rattle.node.specs.Outboxes.{numbered};
+ghost use Rattle.node.specs.declared.outgoing.Outgoing.TheVariants as outgoing;
 
 use crate::outgoing::Outgoing;
 use holdings::Sent;
-use mw_types::NoMemory;
+use mw_types::{NoMemory, RecordId, RowName};
 use std::alloc::Global;
 use std::collections::VecDeque;
 use std::marker::Model;
@@ -64,6 +65,15 @@ impl Outbox {
         self.messages.push_back_reserved(message);
     }
 
+    // Puts word that a record was handled behind the others, where there is room.
+    pub(crate) fn put_ack(&mut self, to: RowName, id: RecordId)
+        requires room { 0 < self.old.room }
+        ensures put { self.new.messages ≡ self.old.messages ++ outgoing.Ack to id ∷ [] }
+        ensures room { self.old.room ≡ self.new.room + 1 }
+    {
+        self.put(Outgoing::Ack { to, id });
+    }
+
     // Puts what an entry made behind the others, under the entry's number, where there is room.
     pub(crate) fn put_all(&mut self, made: Vec<Outgoing>, commit: u64)
         requires room { length made.items ≤ self.old.room }
@@ -82,6 +92,13 @@ impl Outbox {
         for sent in again {
             self.put(sent_again(sent));
         }
+    }
+
+    // The first, which stays.
+    pub(crate) fn first(&self) -> Option<&Outgoing>
+        ensures { option_copied result ≡ slice_get self.now.messages 0 }
+    {
+        self.messages.front()
     }
 
     // Takes the first away.

@@ -4,7 +4,7 @@ ghost use Rattle.std.specs.Prelude.{◌≡◌};
 use mw_types::{Bytes, NoMemory, RowName};
 
 /// What a step of a script came to.
-#[derive(Debug, Drop)]
+#[derive(Drop)]
 pub enum Outcome {
     /// The interval was claimed.
     Claimed {

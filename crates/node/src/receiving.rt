@@ -18,7 +18,6 @@ use crate::handling::handled;
 use crate::message::{Message, Parcel};
 use crate::node::Node;
 use crate::outcome::{NodeFault, Outcome};
-use crate::outgoing::Outgoing;
 use crate::work::Work;
 use book::{Desk, Proposal, Seen};
 use computations::Computation;
@@ -72,7 +71,7 @@ impl<N: Seen> Node<N> {
                 desk.sound();
                 self.take_in(alloc, case, work, delivery, sender)
             }
-            Message::Ack { receipt: _ } => Ok(Outcome::Nothing),
+            Message::Ack { receipt: _ } => unreachable!(),
         }
     }
 
@@ -124,7 +123,7 @@ impl<N: Seen> Node<N> {
         ensures unchanged { OnErr result (self.new ≡ self.old) }
     {
         self.outbox.make_room(1)?;
-        self.outbox.put(Outgoing::Ack { to: sender, id });
+        self.outbox.put_ack(sender, id);
         Ok(())
     }
 }

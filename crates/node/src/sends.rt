@@ -5,11 +5,12 @@ ghost use Rattle.topology.specs.Shapes.{parts_of};
 ghost use Rattle.run_history.specs.Made.{deliveries_made};
 ghost use Rattle.node.specs.Messages.{IsAddressed};
 ghost use Rattle.node.specs.Outboxes.{numbered};
+ghost use Rattle.node.specs.WorkSteps.{handler_sends};
 ghost use Rattle.node.specs.Workers.{messages_from};
 
 use crate::outgoing::Outgoing;
-use mw_types::{Delivery, DeliveryList, Duplicate, NoMemory, Production, RowName};
-use run_history::{Made, make};
+use mw_types::{Delivery, DeliveryList, Duplicate, Effects, NoMemory, Production, RowName};
+use run_history::{Case, Made, make};
 use std::alloc::Global;
 use topology::Topology;
 
@@ -40,6 +41,26 @@ pub(crate) fn made(
     } = make(alloc, topology, name.part, productions, late, 0)?;
     let made = messages_from(alloc, name, deliveries)?;
     Ok(made)
+}
+
+// What a handler's productions become, as messages from its row, under the commit number 0.
+pub(crate) fn made_by(
+    alloc: Global,
+    case: &Case,
+    name: &RowName,
+    effects: &Effects,
+    late: bool,
+) -> Result<Vec<Outgoing>, NoMemory>
+    requires part { name.now.part < parts_of case.now.topology }
+    requires few { length effects.now.productions ≤ 8 }
+    ensures made { IfOk result (λ made. (commit : ℕ) → map (numbered commit) made.items
+        ≡ handler_sends case.now.topology name.now effects.now late commit) }
+    ensures addressed { OnOk result ((commit : ℕ) → commit < 2 ^ 32 →
+        All (IsAddressed case.now.topology)
+        (handler_sends case.now.topology name.now effects.now late commit)) }
+{
+    let productions = effects.productions.as_slice();
+    made(alloc, &case.topology, name, productions, late)
 }
 
 // Deliveries as messages from a row.

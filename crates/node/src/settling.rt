@@ -64,7 +64,7 @@ impl<N: Seen> Node<N> {
                 desk.sound();
                 self.settle(alloc, desk, case, &to, id)
             }
-            Message::Deliver { parcel: _ } => Ok(Outcome::Nothing),
+            Message::Deliver { parcel: _ } => unreachable!(),
         }
     }
 

@@ -1,16 +1,13 @@
 //! A record that was handled and is not yet written.
-ghost use Rattle.std.specs.Prelude.{◌≡◌, IfOk, IfSome, MatchOption, None, Some, false};
+ghost use Rattle.std.specs.Prelude.{◌≡◌, IfSome, MatchOption, None, Some, false};
 ghost use Rattle.std.specs.Option.{option_map_or};
 ghost use Rattle.book.specs.declared.proposal.Proposal.TheVariants as proposals;
-ghost use Rattle.node.specs.declared.outgoing.Outgoing.TheVariants as outgoing;
 ghost use Rattle.node.specs.Steps.{IsWorkThere, is_work_in};
-ghost use Rattle.node.specs.Workers.{IsHandle, sending_in};
+ghost use Rattle.node.specs.Workers.{IsHandle};
 
-use crate::outgoing::Outgoing;
 use book::Proposal;
-use mw_types::{Delivery, Duplicate, Effects, NoMemory, RowName};
+use mw_types::{Delivery, Effects, RowName};
 use run_history::Case;
-use std::alloc::Global;
 use std::marker::Model;
 
 // A work that is prepared: the proposal is that a record was handled.
@@ -36,19 +33,6 @@ impl Work {
         ensures { self.now.proposal ≡ proposals.Handle result.0.now result.1.now }
     {
         handled(&self.proposal).unwrap()
-    }
-
-    // Word for the sender that the record was handled.
-    pub(crate) fn ack(&self, alloc: Global) -> Result<Outgoing, NoMemory>
-        ensures { IfOk result (λ ack. IfSome (sending_in self.now.sender self.now.proposal)
-            (λ s. ack ≡ outgoing.Ack s.sender s.delivery.id)) }
-    {
-        let to = self.sender.copy(alloc)?;
-        let (delivery, _) = self.parts();
-        Ok(Outgoing::Ack {
-            to,
-            id: delivery.id,
-        })
     }
 
     // Whether the record goes to a row of this interval.

@@ -4,7 +4,7 @@ ghost use Rattle.node.specs.Steps.{HasLetGo, HasYielded, IsWorkThere, answered, 
 
 use crate::node::Node;
 use crate::outcome::{NodeFault, Outcome};
-use crate::work::is_prepared_in;
+use crate::work::{is_prepared_in, unprepared};
 use book::{DeskRefusal, Seen};
 use run_history::Case;
 
@@ -45,7 +45,7 @@ impl<N: Seen> Node<N> {
         } }
     {
         if is_prepared_in(case, interval, &self.prepared) {
-            self.prepared = None;
+            unprepared(&mut self.prepared);
         }
     }
 }

@@ -1,8 +1,28 @@
-use Rattle.node.proofs.FiringLaws.{fire-proposable}
+use Rattle.std.proofs.Common.{◌≡◌, ◌∙◌, ◌++◌, ℕ, List, ap, map}
+use Rattle.holdings.proofs.HeldSteps.{ok-so}
+use Rattle.node.specs.Outboxes.{numbered}
+use Rattle.node.specs.WorkSteps.{handler_sends}
+use Rattle.node.specs.declared.outgoing.Outgoing.{Outgoing}
+use Rattle.node.proofs.FiringLaws.{few-fired, fire-proposable}
 use Rattle.node.proofs.fires.write_fire.Goals as goal
 
+-- its handler left few productions
+pub made_by-requires-clause-few : goal.made_by-requires-clause-few
+made_by-requires-clause-few g c =
+    few-fired c.args.case.now c.args.found.now.name c.requires.set.row c.args.found.now.timer c.args.effects c.requires.set.state
+    (c.requires.left c.requires.set)
+
 -- it may be proposed that the timer fires
-pub write-requires-clause-proposal : goal.write-requires-clause-proposal
-write-requires-clause-proposal g c =
+pub write_made-requires-clause-proposal : goal.write_made-requires-clause-proposal
+write_made-requires-clause-proposal g c =
     fire-proposable c.args.case.now c.args.held.now c.args.interval c.args.found.now.name c.args.found.now.timer c.args.mark c.args.effects
     c.requires.set (c.requires.left c.requires.set)
+
+-- what it produced is sent
+pub returns-clause-sent : goal.returns-clause-sent
+returns-clause-sent g c =
+    let box = c.args.outbox.now.messages in
+    let left = c.write_made.new.outbox.messages in
+    let sends = handler_sends c.args.case.now.topology c.args.found.now.name c.args.effects c.args.found.now.timer.late in
+    ok-so (λ (commit : ℕ). left ≡ box ++ map (numbered commit) c.in_ok-made.made.items) (λ (commit : ℕ). left ≡ box ++ sends commit)
+    c.write_made.result (λ commit is. is ∙ ap (λ (l : List Outgoing). box ++ l) (c.in_ok-made.ensures.made commit)) c.write_made.ensures.sent

@@ -2,8 +2,29 @@ use Rattle.std.proofs.Common.{rules, arith, ◌≡◌, ◌∙◌, ℕ, List, ap,
 use Rattle.key_intervals.specs.declared.bounds.Bounds.{Bounds}
 use Rattle.run_history.specs.Cases.{CaseShape, intervals_of}
 use Rattle.node.specs.MarkSteps.{IsLeastSoFar}
-use Rattle.node.proofs.MarkLaws.{least-all}
+use Rattle.node.proofs.FitLaws.{looked_twice}
+use Rattle.node.proofs.MarkLaws.{least-all, least-step}
 use Rattle.node.proofs.known_marks.least_known.Goals as goal
+
+-- with one interval more
+pub loop-interval-preserved : goal.loop-interval-preserved
+loop-interval-preserved g c =
+    let old = g.D.Desk.view c.args.desk.now in
+    let mid = g.D.Desk.view c.loop-interval.desk in
+    let new = g.D.Desk.view c.lesser-least.new.desk in
+    let so_far = c.loop-interval.invariant in
+    let more = c.lesser-least.ensures in record {
+      so_far = least-step c.intervals-intervals.result.now c.args.part old.marks mid.marks new.marks c.bounds.result.now
+          c.loop-interval.interval c.loop-interval.least c.lesser-least.result c.bounds.ensures.at so_far.marks.rise more.marks.rise
+          so_far.so_far more.lesser;
+      looked = looked_twice old mid new so_far.looked more.looked;
+      marks = record {
+        rise = λ i. let one = so_far.marks.rise i in let two = more.marks.rise i in omega (arith, one, two);
+        same = λ alone. more.marks.same (so_far.looked.alone ∙ alone) ∙ so_far.marks.same alone;
+      };
+      loan = more.loan ∙ so_far.loan;
+      home = more.home ∙ so_far.home;
+    }
 
 -- after the last interval it is the least known mark
 pub returns-clause-known : goal.returns-clause-known

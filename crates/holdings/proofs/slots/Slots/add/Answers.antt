@@ -18,11 +18,12 @@ invariant_of-self-2 c =
     let row : NamedRow = record { name = c.args.name; row = c.args.row } in
     let none : lookup (is_at (row_cmp c.args.name)) places ≡ None = no_place rows places c.args.name
     (ap (λ (l : List (RowName × Contents)). lookup (is_at (row_cmp c.args.name)) l) c.self.view_is ∙ c.requires.new) in
-    let named : c.in_ok-key.key ≡ c.args.name = c.in_ok-key.ensures.copied in
-    let entries : c.insert.new.self.entries ≡ insert_entry row_cmp places c.args.name (length rows) =
-    c.in_default.ensures.entries ∙ ap (λ (n : RowName). insert_entry row_cmp places n c.count-at.result) named
+    let rows_now : c.push_reserved.new.self.items ≡ rows ++ row ∷ [] =
+    c.push_reserved.ensures.items ∙ ap (λ (l : List NamedRow). l ++ row ∷ []) c.in_ok-add_place.ensures.rows in
+    let entries : c.add_place.new.places.entries ≡ insert_entry row_cmp places c.args.name (length rows) =
+    c.in_ok-add_place.ensures.places
     ∙ ap (λ (n : ℕ). insert_entry row_cmp places c.args.name n) (c.count-at.ensures ∙ ap length c.deref.ensures.value) in
-    subst (λ (l : List NamedRow). AreSlots l c.insert.new.self.entries) (sym c.in_ok-push.ensures.items)
+    subst (λ (l : List NamedRow). AreSlots l c.add_place.new.places.entries) (sym rows_now)
     (subst (λ (es : List (RowName × ℕ)). AreSlots (rows ++ row ∷ []) es) (sym entries) (slots-add rows places row c.self.invariant none))
 
 -- a row at a new place is put among all
@@ -31,11 +32,12 @@ returns-clause-entries c =
     let rows = c.self.inside.rows.items in
     let places = c.self.inside.places.entries in
     let row : NamedRow = record { name = c.args.name; row = c.args.row } in
-    let named : c.in_ok-key.key ≡ c.args.name = c.in_ok-key.ensures.copied in
-    let entries : c.insert.new.self.entries ≡ insert_entry row_cmp places c.args.name (length rows) =
-    c.in_default.ensures.entries ∙ ap (λ (n : RowName). insert_entry row_cmp places n c.count-at.result) named
+    let rows_now : c.push_reserved.new.self.items ≡ rows ++ row ∷ [] =
+    c.push_reserved.ensures.items ∙ ap (λ (l : List NamedRow). l ++ row ∷ []) c.in_ok-add_place.ensures.rows in
+    let entries : c.add_place.new.places.entries ≡ insert_entry row_cmp places c.args.name (length rows) =
+    c.in_ok-add_place.ensures.places
     ∙ ap (λ (n : ℕ). insert_entry row_cmp places c.args.name n) (c.count-at.ensures ∙ ap length c.deref.ensures.value) in
-    ap (λ (l : List NamedRow). placed l c.insert.new.self.entries) c.in_ok-push.ensures.items
+    ap (λ (l : List NamedRow). placed l c.add_place.new.places.entries) rows_now
     ∙ ap (placed (rows ++ row ∷ [])) entries
     ∙ placed-add rows places row c.self.invariant
     ∙ ap (λ (l : List (RowName × Contents)). insert_entry row_cmp l c.args.name c.args.row) c.self.view_is

@@ -1,10 +1,6 @@
-use Rattle.std.proofs.Common.{◌≡◌, ◌∙◌, ◌≤◌, ◌++◌, List, length, map, ap, subst, sym, refl}
-use Rattle.std.specs.Prelude.{All, IfErr, IfOk, OnErr, Result}
-use Rattle.mw_types.specs.Outcomes.{EffectsView}
-use Rattle.mw_types.specs.declared.record.Production.{Production}
-use Rattle.topology.specs.Shapes.{Shape}
+use Rattle.std.proofs.Common.{◌≡◌, ◌∙◌, List, ap, subst, sym, refl}
+use Rattle.std.specs.Prelude.{IfErr, IfOk, OnErr, Result}
 use Rattle.run_history.specs.Cases.{CaseShape}
-use Rattle.run_history.specs.Made.{deliveries_made}
 use Rattle.holdings.specs.Holding.{IsRefusedOf}
 use Rattle.node.specs.declared.outcome.NodeFault.{NodeFault}
 use Rattle.node.specs.declared.outcome.Outcome.{Outcome}
@@ -12,12 +8,10 @@ use Rattle.node.specs.declared.outcome.Outcome.TheVariants as outcomes
 use Rattle.node.specs.declared.outgoing.Outgoing.{Outgoing}
 use Rattle.node.specs.Answers.{AnswersSome, AnswersWrite, FailsSome, HasGrown, HasKept}
 use Rattle.node.specs.Asking.{IsNextTimer, MayAskFire}
-use Rattle.node.specs.FireSteps.{HasLeft, IsSetAt}
+use Rattle.node.specs.FireSteps.{IsLeftByHandler, IsSetAt}
 use Rattle.node.specs.Fits.{Fits}
-use Rattle.node.specs.Messages.{IsAddressed}
-use Rattle.node.specs.Outboxes.{numbered}
-use Rattle.node.specs.Workers.{NodeView, messages_from, worker_at}
-use Rattle.node.proofs.FiringLaws.{Fits-fired, answers-fired, few-fired, fired-last, firing, grown-fired, may-fire, set-at, small-number}
+use Rattle.node.specs.Workers.{NodeView, worker_at}
+use Rattle.node.proofs.FiringLaws.{Fits-fired, answers-fired, fired-last, firing, grown-fired, may-fire, set-at, small-number}
 use Rattle.node.proofs.FitLaws.{Fits-kept, Fits-yielded, keeps-refused, more-looked, worker-kept}
 use Rattle.node.proofs.PurgeLaws.{answers-some, ok-answers}
 use Rattle.node.proofs.RefusedLaws.{fails-at, fails-some, refused-held}
@@ -32,21 +26,6 @@ effects_of-requires-clause-set g c =
     subst (λ (n : NodeView). IsSetAt case.topology n.held c.interval_of-interval.result name timer) (sym c.self.view_is)
     (set-at case (g.D.Desk.view c.args.desk.now) c.args.self.now name.part c.args.mark c.interval_of-interval.result name timer
     c.requires.fits.held c.requires.part c.interval_of-interval.ensures.interval c.requires.next)
-
--- it makes few records
-pub made-requires-clause-few : goal.made-requires-clause-few
-made-requires-clause-few g c =
-    let case = c.args.case.now in
-    let name = c.args.found.now.name in
-    let timer = c.args.found.now.timer in
-    let interval = c.interval_of-interval.result in
-    let set : IsSetAt case.topology c.self.inside.held interval name timer =
-    subst (λ (n : NodeView). IsSetAt case.topology n.held interval name timer) (sym c.self.view_is)
-    (set-at case (g.D.Desk.view c.args.desk.now) c.args.self.now name.part c.args.mark interval name timer
-    c.requires.fits.held c.requires.part c.interval_of-interval.ensures.interval c.requires.next) in
-    let few = few-fired case name set.row timer c.in_ok-effects.effects set.state (c.in_ok-effects.ensures.does set) in
-    subst (λ (ps : List Production). length ps ≤ 8)
-    (sym (c.as_slice-productions.ensures.elements ∙ ap (λ (o : EffectsView). o.productions) c.effects.view_is)) few
 
 pub write_fire-written-requires-clause-set : goal.write_fire-written-requires-clause-set
 write_fire-written-requires-clause-set g c =
@@ -77,28 +56,17 @@ returns-in-Ok-clause-fits g c =
     let fits : Fits case old node = subst (Fits case old) (sym c.self.view_is) c.requires.fits in
     let next = subst (λ (n : NodeView). IsNextTimer case.topology n name.part c.args.mark name timer) (sym c.self.view_is)
     c.requires.next in
-    let productions = c.as_slice-productions.ensures.elements ∙ ap (λ (o : EffectsView). o.productions) c.effects.view_is in
-    let messages : List Production → List Outgoing = λ ps.
-    messages_from name (deliveries_made case.topology name.part ps timer.late commit) in
-    let there : c.case.inside.topology ≡ case.topology = ap (λ (k : CaseShape). k.topology) c.case.view_is in
-    let made : Shape → List Outgoing = λ t.
-    messages_from name (deliveries_made t name.part c.as_slice-productions.result.now timer.late commit) in
-    let out = c.put_all.ensures.put
-    ∙ ap (λ (l : List Outgoing). l ++ map (numbered commit) c.in_ok-made.made.items) c.make_room.ensures.same
-    ∙ ap (λ (l : List Outgoing). node.outbox ++ l) (c.in_ok-made.ensures.made commit ∙ ap made there ∙ ap messages productions) in
     let last = fired-last case.topology old new interval name timer c.args.mark effects commit node.held c.write_fire-written.new.held
     c.in-Ok.ensures.fired in
     let small = small-number old new c.in-Ok.ensures.fired.held.lease _ commit c.sound-2.ensures.sound last in
-    let addressed = subst (λ (ps : List Production). All (IsAddressed case.topology) (messages ps)) productions
-    (subst (λ (t : Shape). All (IsAddressed t) (made t)) there (c.in_ok-made.ensures.addressed commit small)) in
     subst (λ (l : List Outgoing). Fits case new (record {
       number = node.number;
       held = c.write_fire-written.new.held;
       prepared = node.prepared;
       outbox = l;
-    })) (sym out)
+    })) (sym c.in-Ok.ensures.sent)
     (Fits-fired case old new node interval name timer c.args.mark effects commit c.write_fire-written.new.held c.in-Ok.ensures.fired
-    c.in-Ok.ensures.fits addressed next.free fits)
+    c.in-Ok.ensures.fits (c.in-Ok.ensures.addressed commit small) next.free fits)
 
 pub returns-in-Ok-clause-answers : goal.returns-in-Ok-clause-answers
 returns-in-Ok-clause-answers g c =
@@ -119,15 +87,6 @@ returns-in-Ok-clause-answers g c =
     let fits : Fits case old node = subst (Fits case old) (sym c.self.view_is) c.requires.fits in
     let next = subst (λ (n : NodeView). IsNextTimer case.topology n name.part c.args.mark name timer) (sym c.self.view_is)
     c.requires.next in
-    let productions = c.as_slice-productions.ensures.elements ∙ ap (λ (o : EffectsView). o.productions) c.effects.view_is in
-    let messages : List Production → List Outgoing = λ ps.
-    messages_from name (deliveries_made case.topology name.part ps timer.late commit) in
-    let there : c.case.inside.topology ≡ case.topology = ap (λ (k : CaseShape). k.topology) c.case.view_is in
-    let made : Shape → List Outgoing = λ t.
-    messages_from name (deliveries_made t name.part c.as_slice-productions.result.now timer.late commit) in
-    let out = c.put_all.ensures.put
-    ∙ ap (λ (l : List Outgoing). l ++ map (numbered commit) c.in_ok-made.made.items) c.make_room.ensures.same
-    ∙ ap (λ (l : List Outgoing). node.outbox ++ l) (c.in_ok-made.ensures.made commit ∙ ap made there ∙ ap messages productions) in
     let covers = c.interval_of-interval.ensures.interval in
     let set = set-at case old node name.part c.args.mark interval name timer fits.held c.requires.part covers next in
     let may = may-fire case node c.args.mark interval name timer effects set covers next (c.in_ok-effects.ensures.does set) in
@@ -135,14 +94,14 @@ returns-in-Ok-clause-answers g c =
       number = node.number;
       held = c.write_fire-written.new.held;
       prepared = node.prepared;
-      outbox = c.put_all.new.self.messages;
+      outbox = c.write_fire-written.new.outbox.messages;
     }) (outcomes.Committed commit)) c.self.view_is
     (subst (λ (l : List Outgoing). AnswersSome case.topology old new (MayAskFire case node name.part c.args.mark) node (record {
       number = node.number;
       held = c.write_fire-written.new.held;
       prepared = node.prepared;
       outbox = l;
-    }) (outcomes.Committed commit)) (sym out)
+    }) (outcomes.Committed commit)) (sym c.in-Ok.ensures.sent)
     (answers-fired case old new node c.args.mark interval name timer effects commit c.write_fire-written.new.held set may
     c.in-Ok.ensures.fired))
 
@@ -172,11 +131,11 @@ returns-in-Err-clause-fits g c =
       number = node.number;
       held = c.write_fire-written.new.held;
       prepared = node.prepared;
-      outbox = c.make_room.new.self.messages;
+      outbox = c.write_fire-written.new.outbox.messages;
     } in
     Fits-yielded case new interval c.in-Err.why mid c.yield_to.new.self c.yield_to.ensures.left
     (Fits-kept case old new node mid (more-looked old new c.in-Err.ensures.looked) c.in-Err.ensures.fits
-    c.in-Err.ensures.kept refl c.make_room.ensures.same fits)
+    c.in-Err.ensures.kept refl c.in-Err.ensures.unsent fits)
 
 pub returns-in-Err-clause-answers : goal.returns-in-Err-clause-answers
 returns-in-Err-clause-answers g c =
@@ -198,14 +157,14 @@ returns-in-Err-clause-answers g c =
       number = node.number;
       held = c.write_fire-written.new.held;
       prepared = node.prepared;
-      outbox = c.make_room.new.self.messages;
+      outbox = c.write_fire-written.new.outbox.messages;
     } in
-    let kept : HasKept was mid = worker-kept case.topology node mid c.in-Err.ensures.kept refl c.make_room.ensures.same
+    let kept : HasKept was mid = worker-kept case.topology node mid c.in-Err.ensures.kept refl c.in-Err.ensures.unsent
     ∙ ap worker_at c.self.view_is in
     let covers = c.interval_of-interval.ensures.interval in
     let set = set-at case old was name.part c.args.mark interval name timer c.requires.fits.held c.requires.part covers c.requires.next in
     let effects = c.in_ok-effects.effects in
-    let does = subst (λ (n : NodeView). HasLeft case n.held interval name timer effects) c.self.view_is
+    let does = subst (λ (n : NodeView). IsLeftByHandler case n.held interval name timer effects) c.self.view_is
     c.in_ok-effects.ensures.does set in
     let may = may-fire case was c.args.mark interval name timer effects set covers c.requires.next does in
     let asked = firing name timer c.args.mark effects set.held in
@@ -232,9 +191,9 @@ returns-in-Err-clause-kept g c =
       number = node.number;
       held = c.write_fire-written.new.held;
       prepared = node.prepared;
-      outbox = c.make_room.new.self.messages;
+      outbox = c.write_fire-written.new.outbox.messages;
     } in
-    let kept : HasKept was mid = worker-kept case.topology node mid c.in-Err.ensures.kept refl c.make_room.ensures.same
+    let kept : HasKept was mid = worker-kept case.topology node mid c.in-Err.ensures.kept refl c.in-Err.ensures.unsent
     ∙ ap worker_at c.self.view_is in
     subst (λ (r : Result Outcome NodeFault). OnErr r (HasKept was c.yield_to.new.self)) (sym c.yield_to.ensures.answer)
     (keeps-refused case.topology interval was mid c.yield_to.new.self c.in-Err.why kept c.yield_to.ensures.left)
@@ -251,7 +210,7 @@ returns-in-Err-clause-fault g c =
     let covers = c.interval_of-interval.ensures.interval in
     let set = set-at case old was name.part c.args.mark interval name timer c.requires.fits.held c.requires.part covers c.requires.next in
     let effects = c.in_ok-effects.effects in
-    let does = subst (λ (n : NodeView). HasLeft case n.held interval name timer effects) c.self.view_is
+    let does = subst (λ (n : NodeView). IsLeftByHandler case n.held interval name timer effects) c.self.view_is
     c.in_ok-effects.ensures.does set in
     let may = may-fire case was c.args.mark interval name timer effects set covers c.requires.next does in
     let asked = firing name timer c.args.mark effects set.held in

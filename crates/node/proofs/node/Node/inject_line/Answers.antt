@@ -1,4 +1,4 @@
-use Rattle.std.proofs.Common.{◌≡◌, ◌∙◌, ◌<◌, ◌^◌, ◌++◌, ℕ, List, map, ap, subst, sym, refl}
+use Rattle.std.proofs.Common.{◌≡◌, ◌∙◌, ◌<◌, ◌^◌, ◌++◌, ℕ, List, ap, subst, sym, refl}
 use Rattle.std.specs.Prelude.{All, IfErr, IfOk, OnErr, Result, Some}
 use Rattle.mw_types.specs.declared.identity.RowName.{RowName}
 use Rattle.topology.specs.Shapes.{Shape}
@@ -14,7 +14,6 @@ use Rattle.node.specs.Asking.{line_asked}
 use Rattle.node.specs.Fits.{Fits}
 use Rattle.node.specs.LineSteps.{HoldsLine, IsLineNext, line_deliveries}
 use Rattle.node.specs.Messages.{IsAddressed}
-use Rattle.node.specs.Outboxes.{numbered}
 use Rattle.node.specs.Workers.{NodeView, messages_from, worker_at}
 use Rattle.node.proofs.FitLaws.{Fits-kept, Fits-yielded, keeps-refused, more-looked, worker-kept}
 use Rattle.node.proofs.LineLaws.{Fits-injected, answers-injected, answers-uninjected, fails-uninjected, grown-line, next-line}
@@ -57,8 +56,7 @@ returns-in-Ok-clause-fits g c =
     let next = subst (λ (n : NodeView). IsLineNext case n part line) (sym c.self.view_is) c.requires.next in
     let named = c.requires.name in
     let topology : c.case.inside.topology ≡ shape = ap (λ (k : CaseShape). k.topology) c.case.view_is in
-    let out = c.put_all.ensures.put
-    ∙ ap (λ (l : List Outgoing). l ++ map (numbered commit) c.in_ok-made.made.items) c.make_room.ensures.same
+    let out = c.in-Ok.ensures.sent
     ∙ ap (λ (l : List Outgoing). node.outbox ++ l) (c.in_ok-made.ensures.made commit
     ∙ ap (λ (t : Shape). messages_from c.args.name.now (line_deliveries t c.args.name.now.part item commit)) topology
     ∙ ap (λ (n : RowName). messages_from n (line_deliveries shape n.part item commit)) named) in
@@ -98,8 +96,7 @@ returns-in-Ok-clause-answers g c =
     let next = subst (λ (n : NodeView). IsLineNext case n part line) (sym c.self.view_is) c.requires.next in
     let named = c.requires.name in
     let topology : c.case.inside.topology ≡ shape = ap (λ (k : CaseShape). k.topology) c.case.view_is in
-    let out = c.put_all.ensures.put
-    ∙ ap (λ (l : List Outgoing). l ++ map (numbered commit) c.in_ok-made.made.items) c.make_room.ensures.same
+    let out = c.in-Ok.ensures.sent
     ∙ ap (λ (l : List Outgoing). node.outbox ++ l) (c.in_ok-made.ensures.made commit
     ∙ ap (λ (t : Shape). messages_from c.args.name.now (line_deliveries t c.args.name.now.part item commit)) topology
     ∙ ap (λ (n : RowName). messages_from n (line_deliveries shape n.part item commit)) named) in
@@ -112,7 +109,7 @@ returns-in-Ok-clause-answers g c =
       prepared = node.prepared;
       outbox = l;
     } in
-    subst (λ (n : NodeView). AnswersAsked shape old new (line_asked case n part) (worker_at n) n (left c.put_all.new.self.messages)
+    subst (λ (n : NodeView). AnswersAsked shape old new (line_asked case n part) (worker_at n) n (left c.write_line-written.new.outbox.messages)
     (outcomes.Committed commit)) c.self.view_is
     (subst (λ (l : List Outgoing). AnswersAsked shape old new (line_asked case node part) (worker_at node) node (left l)
     (outcomes.Committed commit)) (sym out)
@@ -146,11 +143,11 @@ returns-in-Err-clause-fits g c =
       number = node.number;
       held = c.write_line-written.new.held;
       prepared = node.prepared;
-      outbox = c.make_room.new.self.messages;
+      outbox = c.write_line-written.new.outbox.messages;
     } in
     Fits-yielded case new c.interval_of-interval.result c.in-Err.why mid c.yield_to.new.self c.yield_to.ensures.left
     (Fits-kept case old new node mid (more-looked old new c.in-Err.ensures.looked) c.in-Err.ensures.fits c.in-Err.ensures.kept refl
-    c.make_room.ensures.same fits)
+    c.in-Err.ensures.unsent fits)
 
 pub returns-in-Err-clause-answers : goal.returns-in-Err-clause-answers
 returns-in-Err-clause-answers g c =
@@ -170,9 +167,9 @@ returns-in-Err-clause-answers g c =
       number = node.number;
       held = c.write_line-written.new.held;
       prepared = node.prepared;
-      outbox = c.make_room.new.self.messages;
+      outbox = c.write_line-written.new.outbox.messages;
     } in
-    let kept : HasKept was mid = worker-kept case.topology node mid c.in-Err.ensures.kept refl c.make_room.ensures.same
+    let kept : HasKept was mid = worker-kept case.topology node mid c.in-Err.ensures.kept refl c.in-Err.ensures.unsent
     ∙ ap worker_at c.self.view_is in
     let reason = subst (λ (n : NodeView). IsRefusedOf old new n.held interval c.in-Err.why) c.self.view_is c.in-Err.ensures.reason in
     let covers = subst (λ (n : RowName). interval_of case.topology n ≡ Some interval) c.requires.name c.interval_of-interval.ensures.interval in
@@ -196,9 +193,9 @@ returns-in-Err-clause-kept g c =
       number = node.number;
       held = c.write_line-written.new.held;
       prepared = node.prepared;
-      outbox = c.make_room.new.self.messages;
+      outbox = c.write_line-written.new.outbox.messages;
     } in
-    let kept : HasKept was mid = worker-kept case.topology node mid c.in-Err.ensures.kept refl c.make_room.ensures.same
+    let kept : HasKept was mid = worker-kept case.topology node mid c.in-Err.ensures.kept refl c.in-Err.ensures.unsent
     ∙ ap worker_at c.self.view_is in
     subst (λ (r : Result Outcome NodeFault). OnErr r (HasKept was c.yield_to.new.self)) (sym c.yield_to.ensures.answer)
     (keeps-refused case.topology c.interval_of-interval.result was mid c.yield_to.new.self c.in-Err.why kept c.yield_to.ensures.left)

@@ -18,8 +18,8 @@ take_in-requires-clause-states g c = λ held there.
     deliverable.to there
 
 -- and the node fits with it
-pub returns-in-Deliver-clause-fits : goal.returns-in-Deliver-clause-fits
-returns-in-Deliver-clause-fits g c =
+pub returns-clause-fits : goal.returns-clause-fits
+returns-clause-fits g c =
     let case = c.args.case.now in
     let old = g.D.Desk.view c.args.desk.now in
     let mid = g.D.Desk.view c.meet.new.self in
@@ -30,7 +30,7 @@ returns-in-Deliver-clause-fits g c =
     let vouched_inside = subst (λ p. IsVouchedFor case old (g.N.Seen.sight p.note) (outgoing.Deliver p.delivery p.sender)) (sym c.parcel.view_is) vouched in
     let sent : IsOutgoing case mid message = record {
       so = so_met case old mid (g.N.Seen.sight c.parcel.inside.note) message c.requires.fits.of_case c.parcel.invariant vouched_inside
-          c.meet.ensures.met c.meet.ensures.looked;
+          c.meet.ensures.tells c.meet.ensures.met c.meet.ensures.looked;
       addressed = deliverable;
     } in
     c.take_in.ensures.fits mid c.sound-in-Deliver.ensures.sound

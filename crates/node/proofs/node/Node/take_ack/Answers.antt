@@ -25,11 +25,11 @@ settle-requires-clause-handled g c =
     let vouched = subst (λ m. IsVouchedFor case old (g.N.Seen.sight (note_of m)) (outgoing_of m)) c.in-Ack.is c.requires.vouched in
     let vouched_inside = subst (λ p. IsVouchedFor case old (g.N.Seen.sight p.note) (outgoing.Ack p.to p.id)) (sym c.receipt.view_is) vouched in
     so_met case old mid (g.N.Seen.sight c.receipt.inside.note) message c.requires.fits.of_case c.receipt.invariant vouched_inside
-    c.meet.ensures.met c.meet.ensures.looked
+    c.meet.ensures.tells c.meet.ensures.met c.meet.ensures.looked
 
 -- what is answered then
-pub returns-in-Ack-clause-answers : goal.returns-in-Ack-clause-answers
-returns-in-Ack-clause-answers g c =
+pub returns-clause-answers : goal.returns-clause-answers
+returns-clause-answers g c =
     let shape = c.args.case.now.topology in
     let old = g.D.Desk.view c.args.desk.now in
     let mid = g.D.Desk.view c.meet.new.self in
@@ -40,10 +40,10 @@ returns-in-Ack-clause-answers g c =
     subst (λ m. IfOk c.settle.result (AnswersAckOf shape old new (outgoing_of m) was after)) (sym c.in-Ack.is)
     (subst (λ p. IfOk c.settle.result (AnswersAckOf shape old new (outgoing.Ack p.to p.id) was after)) c.receipt.view_is inside)
 
-pub returns-in-Ack-clause-looked : goal.returns-in-Ack-clause-looked
-returns-in-Ack-clause-looked g c = looked-later (g.D.Desk.view c.args.desk.now) (g.D.Desk.view c.meet.new.self) (g.D.Desk.view c.settle.new.desk)
+pub returns-clause-looked : goal.returns-clause-looked
+returns-clause-looked g c = looked-later (g.D.Desk.view c.args.desk.now) (g.D.Desk.view c.meet.new.self) (g.D.Desk.view c.settle.new.desk)
     c.settle.result c.meet.ensures.looked c.settle.ensures.looked
 
-pub returns-in-Ack-clause-grown : goal.returns-in-Ack-clause-grown
-returns-in-Ack-clause-grown g c = grown-later (g.D.Desk.view c.args.desk.now) (g.D.Desk.view c.meet.new.self) (g.D.Desk.view c.settle.new.desk)
+pub returns-clause-grown : goal.returns-clause-grown
+returns-clause-grown g c = grown-later (g.D.Desk.view c.args.desk.now) (g.D.Desk.view c.meet.new.self) (g.D.Desk.view c.settle.new.desk)
     c.args.self.now.held c.meet.ensures.looked c.settle.ensures.grown

@@ -1,0 +1,53 @@
+-- Workers and what they send each other may cross threads.
+use denote.RattleType.{RattleType}
+use denote.Param.Send.{IsSend, IsSync, sendable}
+use Rattle.std.proofs.Crossing.{crosses}
+use Rattle.book.specs.declared.desk.Seen.{Ghosts}
+use Rattle.mw_types.proofs.delivery.Delivery.TheSendSync as deliveries
+use Rattle.mw_types.proofs.identity.RecordId.TheSendSync as ids
+use Rattle.mw_types.proofs.identity.RowName.TheSendSync as names
+use Rattle.mw_types.proofs.record.Production.TheSendSync as productions
+use Rattle.mw_types.proofs.seq.Seq.TheSendSync as lists
+use Rattle.mw_types.proofs.timer.Timer.TheSendSync as timers
+use Rattle.mw_types.specs.contracts.effects.Effects as Effects
+use Rattle.mw_types.specs.contracts.record.Production as Production
+use Rattle.mw_types.specs.contracts.seq.Seq as Seq
+use Rattle.book.specs.contracts.proposal.Proposal as Proposal
+use Rattle.holdings.proofs.Sending.{holdings_send, state_field_send, timers_send}
+use Rattle.node.specs.contracts.message.Message as Message
+use Rattle.node.specs.contracts.node.Node as Node
+use Rattle.node.specs.contracts.outbox.Outbox as Outbox
+use Rattle.node.specs.contracts.outgoing.Outgoing as Outgoing
+use Rattle.node.specs.contracts.work.Work as Work
+
+-- a list of productions
+productions_send : IsSend (Seq.the_row Production.the_row)
+productions_send = search (lists.the_send, productions.the_send) depth 30
+
+-- what a handler left
+effects_send : IsSend Effects.the_row
+effects_send = search (sendable, state_field_send, timers_send, productions_send) depth 30
+
+-- what is proposed, as a field
+proposal_field_send : IsSend (Proposal.the_field).row
+proposal_field_send = search (sendable, effects_send, deliveries.the_field_send, timers.the_field_send) depth 30 fits 100000
+
+-- a work that is prepared
+work_send : IsSend Work.the_row
+work_send = search (sendable, crosses, proposal_field_send, names.the_field_send) depth 30
+
+-- what is to be sent
+outgoing_send : IsSend Outgoing.the_row
+outgoing_send = search (sendable, deliveries.the_field_send, names.the_field_send, ids.the_field_send) depth 30
+
+-- what a worker has to send
+outbox_send : IsSend Outbox.the_row
+outbox_send = search (sendable, crosses, outgoing_send) depth 30
+
+-- a message, where its note may cross
+pub message_send : (N : RattleType) (g : Ghosts N.Denot) → IsSend N → IsSend (Message.the_row N g)
+message_send N g s = search (sendable, crosses, deliveries.the_field_send, names.the_field_send, ids.the_field_send) depth 30
+
+-- a worker, where the notes of its messages may cross
+pub node_send : (N : RattleType) (g : Ghosts N.Denot) → IsSend N → IsSend (Node.the_row N g)
+node_send N g s = search (sendable, crosses, holdings_send, work_send, outbox_send) depth 30
