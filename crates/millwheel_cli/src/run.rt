@@ -23,12 +23,13 @@ use crate::task::Task;
 use crate::text::write;
 use book::{Book, StartRefusal, StartWhy};
 use computations::{Computation, Kinds};
+use drains::drains_leave_no_work;
 use mw_ports::Sink;
 use mw_types::NoMemory;
 use node::NodeFault;
 use row_keeper::Keeper;
 use std::alloc::Global;
-use world::{Step, World, WorldRefusal, drains_leave_no_work, run_script};
+use world::{Step, World, WorldRefusal, run_script};
 
 // How many entries a history may have.
 const HISTORY_MAX: u64 = 1 << 32;

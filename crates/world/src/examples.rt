@@ -1,14 +1,6 @@
-//! Examples that were worked out by hand, which the definitions of drains and schedules must meet.
+//! Examples that were worked out by hand, which the definition of schedules must meet.
 ghost use Rattle.std.specs.Prelude.{◌≡◌, codes};
-ghost use Rattle.worked_examples.specs.First.{first_case};
-ghost use Rattle.worked_examples.specs.Drained.{drained_history};
-ghost use Rattle.world.specs.Drains.{IsDrained};
 ghost use Rattle.world.specs.ScheduleExamples.{said_by, refused_at, uneven_schedule, uneven_steps, full_schedule, full_steps};
-
-/// The example with claims, acknowledgements and a purge is the drain of its case.
-pub fn drained_example_is_drained()
-    ensures drained { IsDrained first_case 0 drained_history }
-{}
 
 /// What schedules of the first example's case say, and the lines for which others are refused.
 pub fn schedule_examples()

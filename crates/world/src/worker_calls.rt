@@ -4,7 +4,7 @@ ghost use Rattle.topology.specs.Rules.{interval_count};
 ghost use Rattle.node.specs.Messages.{IsComputation};
 ghost use Rattle.node.specs.Works.{IsWorkOf};
 ghost use Rattle.world.specs.Standing.{FitsOwn};
-ghost use Rattle.world.specs.Turns.{HasFailed};
+ghost use Rattle.drains.specs.Turns.{HasFailed};
 ghost use Rattle.world.specs.WorkerCalls.{ActsOn, HasCalled, HasRested};
 
 use book::{Book, Desk, NoNote, OwnDesk};

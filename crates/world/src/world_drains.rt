@@ -7,12 +7,12 @@ ghost use Rattle.book.specs.DeskReasons.{IsDamageOf};
 ghost use Rattle.book.specs.OwnDesks.{own_view};
 ghost use Rattle.node.specs.Answers.{refusal_of};
 ghost use Rattle.scripts.specs.Worlds.{world_on};
-ghost use Rattle.world.specs.Drains.{HasEnded, IsDraining};
+ghost use Rattle.drains.specs.Drains.{HasEnded, IsDraining};
 ghost use Rattle.world.specs.WorldStates.{world_of};
 
-use crate::draining::drain;
 use crate::world::{World, sixteen};
 use computations::Computation;
+use drains::drain;
 use node::NodeFault;
 use row_keeper::Keeper;
 use std::alloc::Global;

@@ -10,11 +10,11 @@ ghost use Rattle.scripts.specs.Keeping.{AppendsAtMostOne};
 ghost use Rattle.world.specs.Schedules.{IsStep};
 ghost use Rattle.world.specs.Standing.{FitsOwn};
 ghost use Rattle.world.specs.Stepping.{HasActed, HasFaulted};
-ghost use Rattle.world.specs.Turns.{HasFailed};
+ghost use Rattle.drains.specs.Turns.{HasFailed};
 ghost use Rattle.world.specs.WorkerCalls.{ActsOn, HasCalled, HasGoneOn, HasRested, IsAlone};
 ghost use Rattle.world.specs.WorldStates.{world_of};
 
-use crate::deliveries::{left_by, receive};
+use crate::deliveries::{answered_in_place, receive};
 use crate::flights::{find, lose, repeat, send, take_out};
 use crate::worker_calls::{claim, fire, inject, purge, report, resend, write};
 use crate::world::World;
@@ -70,29 +70,29 @@ impl<'a, K: Keeper, C: Computation + Drop> World<'a, K, C> {
             Step::Claim {
                 worker,
                 interval: _,
-            } => self.alone(alloc, *worker, step),
-            Step::Inject { worker, part: _ } => self.alone(alloc, *worker, step),
+            } => self.step_alone(alloc, *worker, step),
+            Step::Inject { worker, part: _ } => self.step_alone(alloc, *worker, step),
             Step::Send { worker } => self.send(*worker),
             Step::Take { worker, message } => self.take(alloc, *worker, *message),
-            Step::Write { worker } => self.alone(alloc, *worker, step),
-            Step::Fire { worker, part: _ } => self.alone(alloc, *worker, step),
+            Step::Write { worker } => self.step_alone(alloc, *worker, step),
+            Step::Fire { worker, part: _ } => self.step_alone(alloc, *worker, step),
             Step::Report {
                 worker,
                 interval: _,
-            } => self.alone(alloc, *worker, step),
-            Step::Resend { worker } => self.alone(alloc, *worker, step),
+            } => self.step_alone(alloc, *worker, step),
+            Step::Resend { worker } => self.step_alone(alloc, *worker, step),
             Step::Purge {
                 worker,
                 interval: _,
-            } => self.alone(alloc, *worker, step),
+            } => self.step_alone(alloc, *worker, step),
             Step::Repeat { message } => self.repeat(alloc, *message),
             Step::Lose { message } => Ok(self.lose(*message)),
-            Step::Crash { worker } => self.alone(alloc, *worker, step),
+            Step::Crash { worker } => self.step_alone(alloc, *worker, step),
         }
     }
 
     // Does a step that a worker does without a message.
-    fn alone(&mut self, alloc: Global, worker: u32, step: &Step) -> Result<Outcome, NodeFault>
+    fn step_alone(&mut self, alloc: Global, worker: u32, step: &Step) -> Result<Outcome, NodeFault>
         requires worker { worker < 16 }
         requires step { IsStep self.old.book.case.topology step.now }
         requires alone { IsAlone worker step.now }
@@ -102,7 +102,7 @@ impl<'a, K: Keeper, C: Computation + Drop> World<'a, K, C> {
         ensures failed { IfErr result (HasFailed self.old.book self.new.book) }
     {
         let node = &mut self.nodes[worker as usize];
-        alone(alloc, &mut self.book, &self.work, node, step)
+        call_alone(alloc, &mut self.book, &self.work, node, step)
     }
 
     // A worker sends all that it has to send.
@@ -131,7 +131,7 @@ impl<'a, K: Keeper, C: Computation + Drop> World<'a, K, C> {
             return Ok(Outcome::Nothing);
         };
         let here = &self.nodes[worker as usize];
-        if let Some(outcome) = left_by(case, here, found) {
+        if let Some(outcome) = answered_in_place(case, here, found) {
             return Ok(outcome);
         }
         let taken = take_out(&mut self.flight, message);
@@ -158,8 +158,8 @@ impl<'a, K: Keeper, C: Computation + Drop> World<'a, K, C> {
     }
 }
 
-// Does a step that a worker does without a message.
-fn alone<'a, K: Keeper, C: Computation>(
+// Calls a worker for a step that it does without a message.
+fn call_alone<'a, K: Keeper, C: Computation>(
     alloc: Global,
     book: &mut Book<'a, K>,
     work: &C,
@@ -196,6 +196,6 @@ fn alone<'a, K: Keeper, C: Computation>(
             interval,
         } => purge(alloc, book, node, *interval),
         Step::Crash { worker: _ } => Ok(node.crash()),
-        _ => Ok(Outcome::Nothing),
+        _ => unreachable!(),
     }
 }

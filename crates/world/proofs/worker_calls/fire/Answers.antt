@@ -3,11 +3,11 @@ use Rattle.std.specs.Prelude.{IfErr, IfOk}
 use Rattle.scripts.specs.declared.step.Step.TheVariants as steps
 use Rattle.world.specs.WorkerCalls.{ActsOn, HasCalled}
 use Rattle.world.proofs.ActsOnLaws.{fire-on}
-use Rattle.world.proofs.Results.{ok-then}
+use Rattle.drains.proofs.Results.{ok-then}
 use Rattle.world.proofs.WorkerLaws.{by-result, called-by, leases-some, leases-same}
 use Rattle.node.specs.Asking.{MayAskFire}
-use Rattle.world.specs.Turns.{HasFailed}
-use Rattle.world.proofs.TurnLaws.{failed-some}
+use Rattle.drains.specs.Turns.{HasFailed}
+use Rattle.drains.proofs.TurnLaws.{failed-some}
 use Rattle.world.proofs.WorkerLaws.{err-with}
 use Rattle.world.proofs.worker_calls.fire.Goals as goal
 

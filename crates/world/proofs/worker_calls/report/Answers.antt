@@ -6,8 +6,8 @@ use Rattle.world.proofs.ActsOnLaws.{report-on}
 use Rattle.world.proofs.ActsOnLaws.{ok-is, same-answer}
 use Rattle.world.proofs.WorkerLaws.{by-result, called-by, leases-report, leases-same}
 use Rattle.holdings.specs.Holding.{held_at}
-use Rattle.world.specs.Turns.{HasFailed}
-use Rattle.world.proofs.Results.{err-then}
+use Rattle.drains.specs.Turns.{HasFailed}
+use Rattle.drains.proofs.Results.{err-then}
 use Rattle.world.proofs.WorkerLaws.{failed-only-memory}
 use Rattle.world.proofs.worker_calls.report.Goals as goal
 

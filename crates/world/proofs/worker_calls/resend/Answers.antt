@@ -6,7 +6,7 @@ use Rattle.node.proofs.FitLaws.{grown_looked, looked_not}
 use Rattle.scripts.specs.declared.step.Step.TheVariants as steps
 use Rattle.world.specs.WorkerCalls.{ActsOn, HasCalled}
 use Rattle.world.proofs.ActsOnLaws.{resend-on}
-use Rattle.world.proofs.Results.{ok-then}
+use Rattle.drains.proofs.Results.{ok-then}
 use Rattle.world.proofs.WorkerLaws.{called-by, leases-kept}
 use Rattle.world.proofs.worker_calls.resend.Goals as goal
 

@@ -3,7 +3,7 @@ use Rattle.std.specs.Prelude.{IfOk}
 use Rattle.scripts.specs.declared.step.Step.TheVariants as steps
 use Rattle.world.specs.WorkerCalls.{ActsOn, HasCalled}
 use Rattle.world.proofs.ActsOnLaws.{write-on}
-use Rattle.world.proofs.Results.{ok-then}
+use Rattle.drains.proofs.Results.{ok-then}
 use Rattle.world.proofs.WorkerLaws.{by-result, called-by, leases-asked, leases-same, written-leases}
 use Rattle.node.specs.Asking.{work_asked}
 use Rattle.node.specs.Workers.{sending_of, with_written, worker_at}

@@ -4,7 +4,7 @@ use Rattle.scripts.specs.declared.step.Step.TheVariants as steps
 use Rattle.world.specs.Stepping.{HasActed}
 use Rattle.world.specs.WorldStates.{WorldState, world_of}
 use Rattle.world.proofs.ActsOnLaws.{when-told}
-use Rattle.world.proofs.Results.{ok-then}
+use Rattle.drains.proofs.Results.{ok-then}
 use Rattle.world.proofs.world.World.repeat.Goals as goal
 
 -- a message is copied as in the script

@@ -4,7 +4,7 @@ use Rattle.scripts.specs.declared.step.Step.TheVariants as steps
 use Rattle.world.specs.Stepping.{HasActed}
 use Rattle.world.specs.WorkerCalls.{HasGoneOn}
 use Rattle.world.specs.WorldStates.{WorldState, world_of}
-use Rattle.world.proofs.Results.{ok-then}
+use Rattle.drains.proofs.Results.{ok-then}
 use Rattle.world.proofs.SendWorlds.{sent-at, unsent-at}
 use Rattle.world.proofs.StandLaws.{world-after}
 use Rattle.world.proofs.WorkerLaws.{err-three}

@@ -9,10 +9,10 @@ use Rattle.node.specs.declared.outcome.Outcome.TheVariants as outcomes
 use Rattle.scripts.specs.declared.step.Step.TheVariants as steps
 use Rattle.world.specs.Standing.{IsWorld}
 use Rattle.world.specs.Stepping.{HasActed, HasFaulted}
-use Rattle.world.specs.WorkerCalls.{left_by}
+use Rattle.world.specs.WorkerCalls.{answered_in_place}
 use Rattle.world.specs.WorldStates.{WorldState}
 use Rattle.world.proofs.ActsOnLaws.{when-told}
-use Rattle.world.proofs.Results.{ok-then}
+use Rattle.drains.proofs.Results.{ok-then}
 use Rattle.world.proofs.TakeLaws.{ready-of}
 use Rattle.world.proofs.TakeSteps.{found-sent, take-left, take-not, taken-at, taken-rested, taken-stands}
 use Rattle.world.proofs.WorkerLaws.{err-left}
@@ -28,33 +28,33 @@ returns-in_default-clause-acted g c =
     (when-told state.book.rows (λ told. take-not state.book.case state c.args.worker c.args.message at))
 
 -- the message goes to a row that may be there
-pub left_by-requires-clause-addressed : goal.left_by-requires-clause-addressed
-left_by-requires-clause-addressed g c =
+pub answered_in_place-requires-clause-addressed : goal.answered_in_place-requires-clause-addressed
+answered_in_place-requires-clause-addressed g c =
     let state : WorldState = record { book = c.self.inside.book; nodes = c.self.inside.nodes.items; flight = c.self.inside.flight.items } in
     let at : unwrap_or (slice_get state.flight c.args.message) None ≡ Some c.in-Some.found.now = search rules in
     subst (λ (k : CaseShape). IsAddressed k.topology (outgoing_of c.in-Some.found.now)) (sym c.case-case.ensures.case)
     (found-sent state c.args.message c.in-Some.found.now c.self.invariant.0 at).addressed
 
 -- what the worker has prepared was handled
-pub left_by-requires-clause-ready : goal.left_by-requires-clause-ready
-left_by-requires-clause-ready g c =
+pub answered_in_place-requires-clause-ready : goal.answered_in_place-requires-clause-ready
+answered_in_place-requires-clause-ready g c =
     let state : WorldState = record { book = c.self.inside.book; nodes = c.self.inside.nodes.items; flight = c.self.inside.flight.items } in
     ready-of state.book.case (own_view state.book) c.index-here.result.now
     (fits-index state c.args.worker c.index-here.result.now c.self.invariant.0 c.requires.worker c.index-here.ensures)
 
 -- the message stays
-pub returns-in-Some-left_by-clause-acted : goal.returns-in-Some-left_by-clause-acted
-returns-in-Some-left_by-clause-acted g c =
+pub returns-in-Some-answered_in_place-clause-acted : goal.returns-in-Some-answered_in_place-clause-acted
+returns-in-Some-answered_in_place-clause-acted g c =
     let state : WorldState = record { book = c.self.inside.book; nodes = c.self.inside.nodes.items; flight = c.self.inside.flight.items } in
     let at : unwrap_or (slice_get state.flight c.args.message) None ≡ Some c.in-Some.found.now = search rules in
     let here = at-index state c.args.worker c.index-here.result.now c.self.invariant.0 c.requires.worker c.index-here.ensures in
-    let left : left_by c.case-case.result.now.topology (worker_at c.index-here.result.now) (outgoing_of c.in-Some.found.now)
-    ≡ Some c.in-Some-left_by.outcome = search rules in
-    subst (λ (s : WorldState). HasActed (steps.Take c.args.worker c.args.message) s s c.in-Some-left_by.outcome) c.self.view_is
+    let left : answered_in_place c.case-case.result.now.topology (worker_at c.index-here.result.now) (outgoing_of c.in-Some.found.now)
+    ≡ Some c.in-Some-answered_in_place.outcome = search rules in
+    subst (λ (s : WorldState). HasActed (steps.Take c.args.worker c.args.message) s s c.in-Some-answered_in_place.outcome) c.self.view_is
     (when-told state.book.rows (λ told. take-left state.book.case state c.args.worker c.args.message c.index-here.result.now
-    c.in-Some.found.now c.in-Some-left_by.outcome here at
-    (subst (λ (k : CaseShape). left_by k.topology (worker_at c.index-here.result.now) (outgoing_of c.in-Some.found.now)
-    ≡ Some c.in-Some-left_by.outcome) c.case-case.ensures.case left)))
+    c.in-Some.found.now c.in-Some-answered_in_place.outcome here at
+    (subst (λ (k : CaseShape). answered_in_place k.topology (worker_at c.index-here.result.now) (outgoing_of c.in-Some.found.now)
+    ≡ Some c.in-Some-answered_in_place.outcome) c.case-case.ensures.case left)))
 
 -- the message may have been sent
 pub receive-requires-clause-sent : goal.receive-requires-clause-sent
