@@ -85,7 +85,7 @@ inject-at_work case old new was node part outcome same at answers fits =
 -- ---- an acknowledgement
 
 -- what is asked of a row that is held is under its lease
-settling-own : (shape : Shape) (all : List (Option HeldView)) (to : RowName) (id : RecordId) (held : HeldView)
+pub settling-own : (shape : Shape) (all : List (Option HeldView)) (to : RowName) (id : RecordId) (held : HeldView)
     → held_on shape all to ≡ Some held → IfSome (settling shape to id held) (IsOwnRequest shape all)
 settling-own shape all to id held on = by_found (found_delivery id (row_held shape held to).pending)
   where
@@ -125,7 +125,7 @@ ack-call case old new was node to id outcome same at there answers fits =
 -- ---- purges
 
 -- what a row may be asked to forget is under its lease
-forget-own : (shape : Shape) (was : NodeView) (least floor : ℕ) (name : RowName) (asked : Request)
+pub forget-own : (shape : Shape) (was : NodeView) (least floor : ℕ) (name : RowName) (asked : Request)
     → MayAskForget shape was least floor name asked → IsOwnRequest shape was.held asked
 forget-own shape was least floor name asked may = record {
   name = name;

@@ -1,6 +1,7 @@
 -- A whole drain, by what its claims and its turns say.
 use Rattle.std.proofs.Common.{◌≡◌, ◌<◌, ◌≤◌, ℕ, Bool, true, false, List, length, refl, sym, ◌∙◌, subst, arith}
 use Rattle.std.specs.Prelude.{Option, Some, None, IsSome, IfSome}
+use Rattle.std.specs.Option.{is_some}
 use Rattle.std.proofs.lemmas.Bool.{both_ways}
 use Rattle.mw_types.specs.Causes.{Rose}
 use Rattle.mw_types.specs.declared.entry.Entry.{Entry}
@@ -9,6 +10,7 @@ use Rattle.mw_types.specs.declared.identity.RecordId.{RecordId}
 use Rattle.mw_types.specs.declared.identity.RowName.{RowName}
 use Rattle.topology.specs.Shapes.{parts_of}
 use Rattle.run_history.specs.Cases.{CaseShape}
+use Rattle.run_history.specs.Finished.{IsFinished}
 use Rattle.run_history.specs.Legal.{floor_of}
 use Rattle.run_history.specs.Runs.{run_of}
 use Rattle.book.specs.Senders.{IsLeastSent}
@@ -19,6 +21,8 @@ use Rattle.node.specs.Messages.{IsDeliverable}
 use Rattle.node.specs.Workers.{NodeView}
 use Rattle.drains.specs.Drains.{HasClaimedAll, HasEnded, IsDraining}
 use Rattle.drains.specs.Turns.{CanBeKept, HasAskedOne, HasGone, HasStepped, HasTurned, WhereTold, is_finished_at, sent_at}
+use Rattle.drains.proofs.EndLaws.{injected-finished}
+use Rattle.drains.proofs.LawfulRows.{lawful-rows}
 use Rattle.drains.proofs.GoLaws.{fact-back, fact-on, stayed-turn, told-on}
 use Rattle.drains.proofs.LeastWorkLaws.{IsFound, forget-turned, found-handled, sender-there, sent-id, sent-to}
 use Rattle.drains.proofs.TurnLaws.{stepped-on}
@@ -29,6 +33,11 @@ use Rattle.drains.proofs.TurnLaws.{stepped-on}
 pub told-rows : {X : Type 0} {F : Type 0} (o : Option X) → (IsSome o → F) → IfSome o (λ _. F)
 told-rows None f = tt
 told-rows (Some x) f = f refl
+
+-- and what holds of them holds where they are told
+rows-told : {X : Type 0} {F : Type 0} (o : Option X) → IsSome o → IfSome o (λ _. F) → F
+rows-told None told f = absurd (cc)
+rows-told (Some x) told f = f
 
 -- what held where told holds after a step that wrote nothing
 pub told-fact-on : (Fact : CaseShape → List Entry → Type 0) (old new : BookView) → HasStepped old new None
@@ -85,6 +94,15 @@ pub ends-after : (old mid new : BookView) → HasGone old mid → HasClaimedAll 
 ends-after old mid new gone claimed ends = told-rows old.rows (λ told.
     subst (λ (c : CaseShape). HasClaimedAll c (length old.history) mid.history → HasEnded c (length old.history) new.history)
     gone.case (ends (gone.tells ∙ told) (length old.history)) claimed)
+
+-- where it has ended no work is left
+pub ended-finished : (old new : BookView) → new.case ≡ old.case → is_some new.rows ≡ is_some old.rows
+    → IsLawful new.case (core_of new) → IfSome old.rows (λ _. HasEnded old.case (length old.history) new.history)
+    → IfSome old.rows (λ _. IsFinished new.case (run_of new.case.topology new.history))
+ended-finished old new same tells lawful ended = told-rows old.rows (λ told.
+    let done = subst (λ (c : CaseShape). HasEnded c (length old.history) new.history) (sym same) (rows-told old.rows told ended) in
+    injected-finished new.case (length old.history) new.history lawful.runnable
+    (lawful-rows new.case new.history new.rows (tells ∙ told) lawful.held).0 done.earlier)
 
 -- a drain that failed at its claims is a drain
 pub goes-before : (old new : BookView) → IsDraining old.case (length old.history) new.history

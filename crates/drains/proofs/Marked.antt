@@ -1,12 +1,11 @@
 -- The marks of an interval, of what feeds it and of a part, as bounds.
-use Rattle.std.proofs.Common.{◌≡◌, ◌≢◌, ℕ, zero, suc, ◌+◌, ◌<◌, ◌≤◌, ◌==◌, ◌||◌, Bool, true, false, cond, List, [], ◌∷◌, length, map, refl, sym, ◌∙◌, ap, subst, arith, inl, inr}
+use Rattle.std.proofs.Common.{◌≡◌, ℕ, zero, suc, ◌+◌, ◌<◌, ◌≤◌, ◌==◌, ◌||◌, Bool, true, false, cond, List, [], ◌∷◌, length, map, refl, sym, ◌∙◌, ap, subst, arith, inl, inr}
 use Rattle.std.specs.Prelude.{All, Option, Some, None, get_or, slice_get}
 use Rattle.std.specs.List.{AllByRecursion, list_any, cons_option}
 use Rattle.std.specs.Option.{option_map_or}
 use Rattle.std.proofs.lemmas.Bool.{eqb-true, eq-eqb, cases_lt}
-use Rattle.std.proofs.lemmas.List.{get_or-set_same, get_or-set_other}
 use Rattle.std.proofs.lemmas.List.Folds.{list_any_at}
-use Rattle.std.proofs.lemmas.Option.{unwrap_or-slice_get, slice_get_within, get_or_from_slice_get}
+use Rattle.std.proofs.lemmas.Option.{slice_get_within, get_or_from_slice_get}
 use Rattle.key_intervals.specs.declared.bounds.Bounds.{Bounds}
 use Rattle.key_intervals.proofs.Beginnings.{parts_rise}
 use Rattle.topology.specs.Shapes.{Shape, feeds_of}
@@ -23,19 +22,7 @@ use Rattle.book.specs.Marks.{AreSafe, with_mark}
 
 -- ---- a mark that is put among others
 
--- the mark of an interval is the one that was put there
-pub mark-here : (marks : List ℕ) (interval mark : ℕ) → interval < length marks → mark_of (with_mark interval mark marks) interval ≡ mark
-mark-here marks interval mark within =
-    unwrap_or-slice_get (with_mark interval mark marks) interval 0 ∙ get_or-set_same marks interval mark 0 within
-
--- and all others are as they were
-pub mark-other : (marks : List ℕ) (interval other mark : ℕ) → other ≢ interval
-    → mark_of (with_mark interval mark marks) other ≡ mark_of marks other
-mark-other marks interval other mark differs =
-    unwrap_or-slice_get (with_mark interval mark marks) other 0 ∙ get_or-set_other marks interval other mark 0 differs
-    ∙ sym (unwrap_or-slice_get marks other 0)
-
--- and they all are, where it is the mark that the interval had
+-- all marks are as they were, where it is the mark that the interval had
 pub mark-same : (marks : List ℕ) (interval : ℕ) → with_mark interval (mark_of marks interval) marks ≡ marks
 mark-same [] interval = refl
 mark-same (m ∷ marks) zero = refl

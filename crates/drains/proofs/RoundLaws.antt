@@ -32,10 +32,10 @@ use Rattle.history_laws.proofs.MarkLaws.{interval-there, from-own, own-end, Work
 use Rattle.history_laws.proofs.ReportLaws.{IsSafe-reported, marks-low}
 use Rattle.watermark.specs.Marks.{mark_of, marks_of, numbers_in, feeding_marks}
 use Rattle.book.specs.Marks.{AreSafe, reported, with_mark}
-use Rattle.book.proofs.MarkSteps.{AreSafe-raised, length-with_mark}
+use Rattle.book.proofs.MarkSteps.{AreSafe-raised, length-with_mark, mark-here, mark-other}
 use Rattle.drains.specs.ReportRounds.{with_report, marks_after_round}
 use Rattle.drains.proofs.Firsts.{none-row_of}
-use Rattle.drains.proofs.Marked.{mark-here, mark-other, any-each, numbers_in-each, number-before, marks_in-each, marks_in-bound, under-feeding}
+use Rattle.drains.proofs.Marked.{any-each, numbers_in-each, number-before, marks_in-each, marks_in-bound, under-feeding}
 
 -- a bound of the work above an interval's part is a safe mark of the interval, as a bound
 pub above-safe : (case : CaseShape) (run : Run) (x : ℕ) (b : Bounds) → IsAboveFrom case run x b.part → IsSafeFrom case run b x

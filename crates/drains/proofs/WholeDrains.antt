@@ -1,5 +1,5 @@
 -- A drain grows by its next entries, and two histories that are drained from one beginning on are the same.
-use Rattle.std.proofs.Common.{◌≡◌, ◌⊎◌, inl, inr, ℕ, ◌≤◌, List, [], ◌∷◌, ◌++◌, length, refl, sym, ◌∙◌, subst, arith, append_assoc}
+use Rattle.std.proofs.Common.{◌≡◌, ◌⊎◌, inl, inr, ℕ, ◌≤◌, List, [], ◌∷◌, ◌++◌, length, refl, sym, ◌∙◌, ap, subst, arith, append_assoc}
 use Rattle.std.proofs.lemmas.List.{append-nil, length_push}
 use Rattle.mw_types.specs.declared.entry.Entry.{Entry}
 use Rattle.run_history.specs.Cases.{CaseShape}
@@ -74,3 +74,30 @@ one_rest case from done (a ∷ more) (b ∷ bs) after x f y g =
     (subst (IsDrained case from) one x) (subst (IsLegalAndFenced case) one f)
     (subst (IsDrained case from) other y) (subst (IsLegalAndFenced case) other g) in
     λ i. same i ∷ rest i
+
+-- a way on that goes as a drain does begins one that is drained
+one_begins : (case : CaseShape) (from : ℕ) (done one whole : List Entry) → from ≤ length done
+    → IsDraining case from (done ++ one) → IsLegalAndFenced case (done ++ one)
+    → IsDrained case from (done ++ whole) → IsLegalAndFenced case (done ++ whole) → Begins one whole
+one_begins case from done [] whole after x f y g = (whole, refl)
+one_begins case from done (a ∷ more) [] after x f y g =
+    absurd (ended-none case from done a (subst (HasEnded case from) (append-nil done) y.ended)
+    (x done a (next-begins done a more) after))
+one_begins case from done (a ∷ more) (b ∷ bs) after x f y g =
+    let same : a ≡ b = one_step case from done a b (x done a (next-begins done a more) after) (next-step case from done b bs after y)
+    (next-follows case done a more f) (next-follows case done b bs g) in
+    let one : done ++ a ∷ more ≡ (done ++ a ∷ []) ++ more = sym (append_assoc done (a ∷ []) more) in
+    let other : done ++ b ∷ bs ≡ (done ++ a ∷ []) ++ bs = (λ i. done ++ sym same i ∷ bs) ∙ sym (append_assoc done (a ∷ []) bs) in
+    let longer = length_push done a in
+    let rest : Begins more bs = one_begins case from (done ++ a ∷ []) more bs (omega (arith, longer, after))
+    (subst (IsDraining case from) one x) (subst (IsLegalAndFenced case) one f)
+    (subst (IsDrained case from) other y) (subst (IsLegalAndFenced case) other g) in
+    (rest.0, λ i. same i ∷ rest.1 i)
+
+-- so a history that goes on as a drain does begins the one that is drained from the same beginning on
+pub drained-begun : (case : CaseShape) (front one whole : List Entry)
+    → IsDraining case (length front) (front ++ one) → IsLegalAndFenced case (front ++ one)
+    → IsDrained case (length front) (front ++ whole) → IsLegalAndFenced case (front ++ whole) → Begins (front ++ one) (front ++ whole)
+drained-begun case front one whole x f y g =
+    let rest = one_begins case (length front) front one whole (omega arith) x f y g in
+    (rest.0, append_assoc front one rest.0 ∙ ap (λ l. front ++ l) rest.1)

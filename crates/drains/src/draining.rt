@@ -3,6 +3,9 @@ ghost use Rattle.std.specs.Prelude.{◌≡◌, ◌<◌, ◌≤◌, ◌-◌, ℕ,
 ghost use Rattle.std.specs.Option.{is_some};
 ghost use Rattle.mw_types.specs.Causes.{Rose};
 ghost use Rattle.run_history.specs.Fences.{Begins};
+ghost use Rattle.run_history.specs.Finished.{IsFinished};
+ghost use Rattle.run_history.specs.Runs.{run_of};
+ghost use Rattle.node.specs.Fits.{Fits};
 ghost use Rattle.node.specs.Works.{IsWorkOf};
 ghost use Rattle.book.specs.DeskReasons.{IsDamageOf};
 ghost use Rattle.book.specs.OwnDesks.{own_view};
@@ -36,11 +39,13 @@ pub fn drain<'a, K: Keeper, C: Computation>(
     ensures faults { book.old.faults ≤ book.new.faults }
 
     // Where a contract can see the keeper's rows the history goes on as a drain does, and after Ok to
-    // its end.
+    // its end, where no work is left.
     ensures draining { IfSome book.old.rows
         (λ _. IsDraining book.old.case (length book.old.history) book.new.history) }
     ensures ended { OnOk result (IfSome book.old.rows
         (λ _. HasEnded book.old.case (length book.old.history) book.new.history)) }
+    ensures finished { OnOk result (IfSome book.old.rows (λ _. let shape = book.new.case.topology in
+        IsFinished book.new.case (run_of shape book.new.history))) }
 
     ensures keeper_fault { result ≡ Err NodeFault.KeeperFault →
         Rose book.old.faults book.new.faults }
@@ -53,8 +58,45 @@ pub fn drain<'a, K: Keeper, C: Computation>(
     ensures damaged { IfErr result (λ why. IsDamageOf (own_view book.new) (refusal_of why)) }
 {
     let mut node = Node::new(alloc, 0);
-    claim_all(alloc, book, &mut node)?;
-    turn_all(alloc, book, work, &mut node)
+    drain_by(alloc, book, work, &mut node)
+}
+
+// A worker that has nothing works off all that a book has left to do.
+fn drain_by<'a, K: Keeper, C: Computation>(
+    alloc: Global,
+    book: &mut Book<'a, K>,
+    work: &C,
+    node: &mut Node<NoNote>,
+) -> Result<(), NodeFault>
+    requires work { IsWorkOf book.old.case.topology (C.has work.now)
+        (C.gives_record work.now) (C.gives_timer work.now) }
+    requires fits { Fits book.old.case (own_view book.old) node.old }
+    requires free { node.old.prepared ≡ None }
+    requires first { node.old.number ≡ 0 }
+    ensures case { book.new.case ≡ book.old.case }
+    ensures limit { book.new.limit ≡ book.old.limit }
+    ensures tells { is_some book.new.rows ≡ is_some book.old.rows }
+    ensures grown { Begins book.old.history book.new.history }
+    ensures faults { book.old.faults ≤ book.new.faults }
+    ensures draining { IfSome book.old.rows
+        (λ _. IsDraining book.old.case (length book.old.history) book.new.history) }
+    ensures ended { OnOk result (IfSome book.old.rows
+        (λ _. HasEnded book.old.case (length book.old.history) book.new.history)) }
+    ensures finished { OnOk result (IfSome book.old.rows (λ _. let shape = book.new.case.topology in
+        IsFinished book.new.case (run_of shape book.new.history))) }
+    ensures keeper_fault { result ≡ Err NodeFault.KeeperFault →
+        Rose book.old.faults book.new.faults }
+    ensures full { result ≡ Err NodeFault.HistoryFull →
+        length book.new.history ≡ book.new.limit }
+    ensures more { result ≡ Err NodeFault.HistoryFull → IfSome book.old.rows
+        (λ _. HasEnded book.old.case (length book.old.history) book.new.history → ⊥) }
+    ensures damaged { IfErr result (λ why. IsDamageOf (own_view book.new) (refusal_of why)) }
+{
+    claim_all(alloc, book, node)?;
+    let drained = turn_all(alloc, book, work, node);
+    // Its clauses say what always holds of a book.
+    book.history();
+    drained
 }
 
 // Turns until one has written nothing.

@@ -6,6 +6,7 @@ ghost use Rattle.mw_types.specs.declared.timer.Timer.{Timer};
 ghost use Rattle.topology.specs.Shapes.{injectors_of, parts_of};
 ghost use Rattle.run_history.specs.Cases.{CaseShape};
 ghost use Rattle.run_history.specs.Runs.{run_of, row_of};
+ghost use Rattle.run_history.specs.Fences.{Begins};
 ghost use Rattle.run_history.specs.Legal.{IsLegal};
 ghost use Rattle.run_history.specs.Finished.{IsFinished};
 ghost use Rattle.run_history.specs.Inputs.{IsRunnable};
@@ -67,6 +68,15 @@ pub fn drained_histories_are_one()
         IsDrained case (length front) (front ++ one) → IsLegalAndFenced case (front ++ one) →
         IsDrained case (length front) (front ++ other) → IsLegalAndFenced case (front ++ other) →
         one ≡ other }
+{}
+
+/// A history that goes on as a drain does begins the one that goes on from the same beginning to the
+/// drain's end, where both are legal and fenced.
+pub fn drains_begin_the_drained_history()
+    ensures begins { (case : CaseShape) (front one whole : List Entry) →
+        IsDraining case (length front) (front ++ one) → IsLegalAndFenced case (front ++ one) →
+        IsDrained case (length front) (front ++ whole) → IsLegalAndFenced case (front ++ whole) →
+        Begins (front ++ one) (front ++ whole) }
 {}
 
 /// No work is left once a drain has acknowledged, fired and injected all that it can, and so none

@@ -24,9 +24,9 @@ mod turns;
 
 pub use draining::drain;
 pub use drains::{
-    drained_histories_are_one, drains_go_on_until_they_end, drains_grow_by_their_next_entries,
-    drains_leave_no_work, drains_look_at_parts_that_are_there, ended_drains_have_no_next_entry,
-    next_drain_entries_are_one,
+    drained_histories_are_one, drains_begin_the_drained_history, drains_go_on_until_they_end,
+    drains_grow_by_their_next_entries, drains_leave_no_work, drains_look_at_parts_that_are_there,
+    ended_drains_have_no_next_entry, next_drain_entries_are_one,
 };
 pub use examples::drained_example_is_drained;
 pub use report_rounds::{a_round_finds_low_watermarks, a_round_leaves_the_greatest_safe_marks};
