@@ -11,7 +11,7 @@ ghost use Rattle.node.specs.Answers.{refusal_of};
 ghost use Rattle.node.specs.Works.{IsWorkOf};
 ghost use Rattle.scripts.specs.Worlds.{empty_world};
 ghost use Rattle.world.specs.Replays.{IsReplayed, IsWholeReplay};
-ghost use Rattle.world.specs.Schedules.{IsStep};
+ghost use Rattle.scripts.specs.Steps.{IsStep};
 ghost use Rattle.world.specs.WorldStates.{world_of};
 ghost use Rattle.millwheel_cli.specs.Limits.{history_limit};
 ghost use Rattle.millwheel_cli.specs.Answers.{Left, RunLeaves};

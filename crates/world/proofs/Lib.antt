@@ -1,5 +1,3 @@
-pub mod Digits
-pub mod Words
 pub mod deeds
 pub mod StandLaws
 pub mod WorkerLaws
@@ -10,6 +8,7 @@ pub mod CrashLaws
 pub mod TakeLaws
 pub mod RunLaws
 pub mod FlightLaws
+pub mod CauseLaws
 pub mod TakeSteps
 pub mod SendSteps
 pub mod StepLaws

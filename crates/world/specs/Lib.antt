@@ -1,6 +1,3 @@
-pub mod Schedules
-pub mod Reading
-pub mod ScheduleExamples
 pub mod WorldStates
 pub mod Stepping
 pub mod Replays

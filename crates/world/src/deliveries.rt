@@ -10,6 +10,7 @@ ghost use Rattle.scripts.specs.Acts.{must_wait};
 ghost use Rattle.scripts.specs.Worlds.{row_of_message};
 ghost use Rattle.world.specs.Standing.{FitsOwn};
 ghost use Rattle.drains.specs.Turns.{HasFailed};
+ghost use Rattle.world.specs.Stepping.{IsCausedBy};
 ghost use Rattle.world.specs.WorkerCalls.{HasCalled, HasRested, IsReady, TakesOn, answered_in_place};
 
 use book::{Book, Desk, NoNote, OwnDesk};
@@ -79,6 +80,8 @@ pub(crate) fn receive<'a, K: Keeper, C: Computation>(
     ensures called { HasCalled book.old book.new node.old node.new }
     ensures acted { IfOk result (λ outcome. (number : ℕ) → TakesOn number (outgoing_of message)
         book.old node.old book.new node.new outcome) }
+    ensures cause { IfOk result (IsCausedBy (worker_at node.old)
+        book.old.history book.new.history) }
     ensures rested { OnErr result (HasRested book.old book.new node.old node.new) }
     ensures failed { IfErr result (HasFailed book.old book.new) }
 {
@@ -106,6 +109,8 @@ fn handle<'a, K: Keeper, C: Computation>(
     ensures called { HasCalled book.old book.new node.old node.new }
     ensures acted { IfOk result (λ outcome. (number : ℕ) → TakesOn number
         (outgoing_of (messages.Deliver parcel)) book.old node.old book.new node.new outcome) }
+    ensures cause { IfOk result (IsCausedBy (worker_at node.old)
+        book.old.history book.new.history) }
     ensures rested { OnErr result (HasRested book.old book.new node.old node.new) }
     ensures failed { IfErr result (HasFailed book.old book.new) }
 {
@@ -134,6 +139,8 @@ fn acknowledge<'a, K: Keeper>(
     ensures called { HasCalled book.old book.new node.old node.new }
     ensures acted { IfOk result (λ outcome. (number : ℕ) → TakesOn number
         (outgoing_of (messages.Ack receipt)) book.old node.old book.new node.new outcome) }
+    ensures cause { IfOk result (IsCausedBy (worker_at node.old)
+        book.old.history book.new.history) }
     ensures rested { OnErr result (HasRested book.old book.new node.old node.new) }
     ensures failed { IfErr result (HasFailed book.old book.new) }
 {

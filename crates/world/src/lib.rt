@@ -1,27 +1,21 @@
-//! The world that does the steps of a script for real, the drain of that world, and the reader of schedules.
+//! The world that does the steps of a script for real, and the drain of that world.
 //!
 //! A world is sixteen workers over one book, and the messages between them. Stands on `drains`, `scripts`
 //! and the crates below them. Public contract: where a contract can see the keeper's rows a step answers
 //! what the scripted world does, and leaves that world; over every keeper it appends at most one entry,
-//! and an answer that names a number has its cause; the drain of a world is that of its book. A schedule
-//! is read exactly, or its first line that is no step is named. Definitions: `specs/Schedules.antt`, what
-//! a schedule says; `specs/WorldStates.antt`, `specs/Stepping.antt` and `specs/Replays.antt`, what it
-//! means that steps are done for real.
+//! and an answer that names a number has its cause; the drain of a world is that of its book.
+//! Definitions: `specs/WorldStates.antt`, `specs/Stepping.antt` and `specs/Replays.antt`, what it means
+//! that steps are done for real.
 #![tactic(auto)]
 
 mod deliveries;
-mod examples;
 mod flights;
-mod schedule;
-mod schedule_lines;
 mod script_runs;
 mod worker_calls;
 mod world;
 mod world_drains;
 mod world_steps;
 
-pub use examples::schedule_examples;
-pub use schedule::{Schedule, read_schedule};
 pub use script_runs::run_script;
 pub use scripts::Step;
 pub use world::{World, WorldRefusal};

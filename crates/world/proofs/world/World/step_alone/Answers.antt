@@ -1,12 +1,13 @@
 use Rattle.std.proofs.Common.{◌≡◌, subst, sym}
 use Rattle.std.specs.Prelude.{IfOk, OnErr}
-use Rattle.world.specs.Schedules.{IsStep}
-use Rattle.world.specs.Stepping.{HasActed}
+use Rattle.scripts.specs.Steps.{IsStep}
+use Rattle.world.specs.Stepping.{HasActed, IsCausedBy, worker_of_step}
 use Rattle.world.specs.WorkerCalls.{IsAlone}
 use Rattle.world.specs.WorldStates.{WorldState, world_of}
 use Rattle.drains.proofs.Results.{ok-then}
 use Rattle.world.proofs.WorldSteps.{acted-at, at-index, changed, fits-index, rested-at, stands-at, work-moved}
 use Rattle.world.proofs.WorkerLaws.{err-left}
+use Rattle.world.proofs.CauseLaws.{alone-cause}
 use Rattle.world.proofs.world.World.step_alone.Goals as goal
 
 -- the worker fits its book
@@ -61,3 +62,16 @@ returns-clause-same g c =
     err-left c.call_alone.result (λ rested. rested-at state c.call_alone.new.book c.args.worker was c.call_alone.new.node state.flight at rested)
     c.call_alone.ensures.rested in
     subst (λ (s : WorldState). OnErr c.call_alone.result (world_of new ≡ world_of s)) c.self.view_is same
+
+-- its answer has its cause
+pub returns-clause-cause : goal.returns-clause-cause
+returns-clause-cause g c =
+    let state : WorldState = record { book = c.self.inside.book; nodes = c.self.inside.nodes.items; flight = c.self.inside.flight.items } in
+    let was = c.index_mut-node.result.now in
+    let after = c.call_alone.new.book.history in
+    let at = at-index state c.args.worker was c.self.invariant.0 c.requires.worker c.index_mut-node.ensures.value in
+    let cause : IfOk c.call_alone.result (IsCausedBy (worker_of_step (world_of state) c.args.step.now) state.book.history after) =
+    ok-then c.call_alone.result (λ outcome is. alone-cause state after c.args.worker was c.args.step.now outcome at c.requires.alone is)
+    c.call_alone.ensures.cause in
+    subst (λ (s : WorldState). IfOk c.call_alone.result (IsCausedBy (worker_of_step (world_of s) c.args.step.now) s.book.history after))
+    c.self.view_is cause

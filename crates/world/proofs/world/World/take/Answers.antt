@@ -8,15 +8,17 @@ use Rattle.node.specs.Workers.{worker_at}
 use Rattle.node.specs.declared.outcome.Outcome.TheVariants as outcomes
 use Rattle.scripts.specs.declared.step.Step.TheVariants as steps
 use Rattle.world.specs.Standing.{IsWorld}
-use Rattle.world.specs.Stepping.{HasActed, HasFaulted}
+use Rattle.world.specs.Stepping.{HasActed, HasFaulted, IsCausedBy}
 use Rattle.world.specs.WorkerCalls.{answered_in_place}
-use Rattle.world.specs.WorldStates.{WorldState}
+use Rattle.world.specs.WorldStates.{WorldState, world_of}
 use Rattle.world.proofs.ActsOnLaws.{when-told}
 use Rattle.drains.proofs.Results.{ok-then}
 use Rattle.world.proofs.TakeLaws.{ready-of}
 use Rattle.world.proofs.TakeSteps.{found-sent, take-left, take-not, taken-at, taken-rested, taken-stands}
 use Rattle.world.proofs.WorkerLaws.{err-left}
 use Rattle.world.proofs.WorldSteps.{at-index, changed, fits-index, work-moved}
+use Rattle.scripts.specs.Worlds.{worker_of}
+use Rattle.world.proofs.CauseLaws.{left-cause, world-cause}
 use Rattle.world.proofs.world.World.take.Goals as goal
 
 -- no message is there
@@ -111,3 +113,23 @@ returns-clause-gone_or_same g c =
     subst (λ f. OnErr c.receive.result (HasFaulted (steps.Take c.args.worker c.args.message) c.args.self.now (record new { flight = f })))
     (sym c.take_out-taken.ensures.gone)
     (subst (λ (s : WorldState). OnErr c.receive.result (HasFaulted (steps.Take c.args.worker c.args.message) s new)) c.self.view_is same)
+
+-- a message that stays is answered without a number
+pub returns-in-Some-answered_in_place-clause-cause : goal.returns-in-Some-answered_in_place-clause-cause
+returns-in-Some-answered_in_place-clause-cause g c =
+    let left : answered_in_place c.case-case.result.now.topology (worker_at c.index-here.result.now) (outgoing_of c.in-Some.found.now)
+    ≡ Some c.in-Some-answered_in_place.outcome = search rules in
+    left-cause c.case-case.result.now.topology (worker_at c.index-here.result.now) (outgoing_of c.in-Some.found.now)
+    c.in-Some-answered_in_place.outcome left (worker_of (world_of c.args.self.now) c.args.worker) _ _
+
+-- an answer to one that is taken has its cause
+pub returns-clause-cause : goal.returns-clause-cause
+returns-clause-cause g c =
+    let state : WorldState = record { book = c.self.inside.book; nodes = c.self.inside.nodes.items; flight = c.self.inside.flight.items } in
+    let was = c.index_mut-node.result.now in
+    let after = c.receive.new.book.history in
+    let here = at-index state c.args.worker was c.self.invariant.0 c.requires.worker c.index_mut-node.ensures.value in
+    let cause : IfOk c.receive.result (IsCausedBy (worker_of (world_of state) c.args.worker) state.book.history after) =
+    ok-then c.receive.result (λ outcome is. world-cause state after c.args.worker was outcome here is) c.receive.ensures.cause in
+    subst (λ (s : WorldState). IfOk c.receive.result (IsCausedBy (worker_of (world_of s) c.args.worker) s.book.history after))
+    c.self.view_is cause

@@ -1,73 +1,30 @@
-//! The lines of a schedule, and the step that a line names.
-ghost use Rattle.std.specs.Prelude.{◌≡◌, ◌≤◌, ◌<◌, ◌+◌, ◌^◌, ◌∷◌, [], length, take, drop, IfSome, IfNone};
-ghost use Rattle.injector.specs.EventFiles.{lines_of, without_return};
+//! The step that a line of a schedule names.
+ghost use Rattle.std.specs.Prelude.{◌≡◌, ◌≤◌, ◌<◌, ◌^◌, IfSome};
 ghost use Rattle.topology.specs.Rules.{interval_count};
 ghost use Rattle.topology.specs.Shapes.{injectors_of, parts_of};
-ghost use Rattle.world.specs.Schedules.{number_in, between, worker_in, message_in, interval_in, injector_in, computation_in, step_of_one, step_of_two, step_of, words_of, is_skipped, IsStep};
+ghost use Rattle.text_lines.specs.Words.{word_of};
+ghost use Rattle.scripts.specs.Steps.{IsStep};
+ghost use Rattle.schedules.specs.Schedules.{worker_in, message_in, interval_in, injector_in, computation_in, step_of_one, step_of_two, step_of_numbers, step_of};
 
-use memchr::memchr;
 use run_history::Case;
 use scripts::Step;
+use text_lines::{LineReader, below, between, first_word};
 
-// The line without the one carriage return at its end.
-fn without_return(line: &[u8]) -> &[u8]
-    ensures { result.now ≡ without_return line.now }
-{
-    let len = line.len();
-    if len > 0 && line[len - 1] == b'\r' {
-        &line[..len - 1]
-    } else {
-        line
-    }
+// Reads the lines of a schedule for a case.
+#[derive(Drop)]
+pub(crate) struct StepReader<'a> {
+    pub(crate) case: &'a Case,
 }
 
-// The first line of what is left, and what follows it.
-pub(crate) fn first_line(rest: &[u8]) -> (&[u8], &[u8])
-    requires { 0 < length rest.now }
-    ensures lines { lines_of rest.now ≡ result.0.now ∷ lines_of result.1.now }
-    ensures shorter { length result.1.now < length rest.now }
-{
-    match memchr(b'\n', rest) {
-        Some(at) => (without_return(&rest[..at]), &rest[at + 1..]),
-        None => (without_return(rest), &rest[rest.len()..]),
-    }
-}
+impl<'a> LineReader for StepReader<'a> {
+    type Said = Step;
 
-// Whether a line names no step: an empty one, or a comment.
-pub(crate) fn is_skipped(line: &[u8]) -> bool
-    ensures { result ≡ is_skipped line.now }
-{
-    line.is_empty() || line[0] == b'#'
-}
+    ghost reading = { λ reader. step_of reader.case.now.topology };
 
-// The number that a word is.
-fn number_in(word: &[u8]) -> Option<u64>
-    ensures { result ≡ number_in word.now }
-{
-    if word.is_empty() || word.len() > 10 {
-        return None;
-    }
-    let mut number: u64 = 0;
-    for digit in word {
-        if !digit.is_ascii_digit() {
-            return None;
-        }
-        number = number * 10 + u64::from(*digit - b'0');
-    }
-    Some(number)
-}
+    ghost lawful = { λ reader. IsStep reader.case.now.topology };
 
-// The number that a word is, from the one on and below the other.
-fn between(low: u64, high: u64, word: &[u8]) -> Option<u32>
-    requires { high ≤ 2 ^ 32 }
-    ensures number { result ≡ between low high word.now }
-    ensures range { IfSome result (λ n. (low ≤ n) × (n < high)) }
-{
-    let number = number_in(word)?;
-    if low <= number && number < high {
-        Some(number as u32)
-    } else {
-        None
+    fn read(&self, line: &[u8]) -> Option<Step> {
+        step_in(self.case, line)
     }
 }
 
@@ -76,7 +33,7 @@ fn worker_in(word: &[u8]) -> Option<u32>
     ensures number { result ≡ worker_in word.now }
     ensures range { IfSome result (λ n. n < 16) }
 {
-    between(0, 16, word)
+    below(16, word)
 }
 
 // The message that a word names.
@@ -84,7 +41,7 @@ fn message_in(word: &[u8]) -> Option<u32>
     ensures number { result ≡ message_in word.now }
     ensures range { IfSome result (λ n. n < 2 ^ 32) }
 {
-    between(0, 1 << 32, word)
+    below(1 << 32, word)
 }
 
 // The interval that a word names.
@@ -92,7 +49,7 @@ fn interval_in(case: &Case, word: &[u8]) -> Option<u32>
     ensures number { result ≡ interval_in case.now.topology word.now }
     ensures range { IfSome result (λ n. n < interval_count case.now.topology) }
 {
-    between(0, u64::from(case.intervals().count()), word)
+    below(u64::from(case.intervals().count()), word)
 }
 
 // The injector that a word names.
@@ -100,7 +57,7 @@ fn injector_in(case: &Case, word: &[u8]) -> Option<u32>
     ensures number { result ≡ injector_in case.now.topology word.now }
     ensures range { IfSome result (λ n. n < injectors_of case.now.topology) }
 {
-    between(0, u64::from(case.topology.injectors()), word)
+    below(u64::from(case.topology.injectors()), word)
 }
 
 // The computation that a word names.
@@ -169,48 +126,25 @@ fn step_of_two(case: &Case, verb: &[u8], a: &[u8], b: &[u8]) -> Option<Step>
     }
 }
 
-// The first space of a text.
-fn space_in(text: &[u8]) -> Option<usize>
-    ensures first { IfSome result (λ at.
-        words_of text.now ≡ take at text.now ∷ words_of (drop (at + 1) text.now)) }
-    ensures there { IfSome result (λ at. at < length text.now) }
-    ensures none { IfNone result (words_of text.now ≡ text.now ∷ []) }
-{
-    match memchr(b' ', text) {
-        Some(at) => Some(at),
-        None => None,
-    }
-}
-
-// The step of a verb, its first number and what follows that.
-fn step_of_last(case: &Case, verb: &[u8], a: &[u8], rest: &[u8]) -> Option<Step>
-    ensures step { result ≡ step_of case.now.topology (verb.now ∷ a.now ∷ words_of rest.now) }
-    ensures there { IfSome result (IsStep case.now.topology) }
-{
-    match space_in(rest) {
-        Some(_) => None,
-        None => step_of_two(case, verb, a, rest),
-    }
-}
-
 // The step of a verb and what follows it.
 fn step_of_numbers(case: &Case, verb: &[u8], numbers: &[u8]) -> Option<Step>
-    ensures step { result ≡ step_of case.now.topology (verb.now ∷ words_of numbers.now) }
+    ensures step { result
+        ≡ step_of_numbers case.now.topology verb.now numbers.now (word_of numbers.now) }
     ensures there { IfSome result (IsStep case.now.topology) }
 {
-    match space_in(numbers) {
-        Some(at) => step_of_last(case, verb, &numbers[..at], &numbers[at + 1..]),
+    match first_word(numbers) {
+        Some((a, b)) => step_of_two(case, verb, a, b),
         None => step_of_one(case, verb, numbers),
     }
 }
 
 // The step that a line names.
-pub(crate) fn step_in(case: &Case, line: &[u8]) -> Option<Step>
-    ensures step { result ≡ step_of case.now.topology (words_of line.now) }
+fn step_in(case: &Case, line: &[u8]) -> Option<Step>
+    ensures step { result ≡ step_of case.now.topology line.now }
     ensures there { IfSome result (IsStep case.now.topology) }
 {
-    match space_in(line) {
-        Some(at) => step_of_numbers(case, &line[..at], &line[at + 1..]),
+    match first_word(line) {
+        Some((verb, numbers)) => step_of_numbers(case, verb, numbers),
         None => None,
     }
 }

@@ -5,7 +5,7 @@ use Rattle.mw_types.specs.declared.refusal.PlanRefusal.{PlanRefusal}
 use Rattle.mw_types.specs.declared.refusal.PlanRefusal.TheVariants.{Line}
 use Rattle.scripts.specs.declared.step.Step.{Step}
 use Rattle.scripts.specs.declared.step.Step.TheVariants as steps
-use Rattle.world.specs.Schedules.{schedule_of}
+use Rattle.schedules.specs.Schedules.{schedule_of}
 
 -- what a schedule of the example says
 abbrev pub said_by : List ℕ → Result (List Step) PlanRefusal
