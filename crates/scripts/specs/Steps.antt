@@ -5,8 +5,8 @@ use Rattle.topology.specs.Rules.{interval_count}
 use Rattle.scripts.specs.declared.step.Step.{Step}
 use Rattle.scripts.specs.declared.step.Step.TheVariants as steps
 
--- a step is one of a topology: its worker and interval are there, its part is an injector where it injects and
--- a computation where it fires, and its message is below 2^32
+-- a step is one of a topology: its worker and interval are there, its part is an injector where it
+-- injects and a computation where it fires, and its message is below 2^32
 abbrev pub IsStep : Shape → Step → Type 0
 IsStep shape (steps.Claim worker interval) = (worker < 16) × (interval < interval_count shape)
 IsStep shape (steps.Inject worker part) = (worker < 16) × (part < injectors_of shape)

@@ -1,5 +1,5 @@
--- When a step is done for real as it is in the scripted world, what a fault leaves, and why a step is answered
--- so. Own.
+-- When a step is done for real as it is in the scripted world, what a fault leaves, and why a step is
+-- answered so. Own.
 use Rattle.std.specs.Prelude.{◌≡◌, ◌+◌, ⊤, List, Some, IfSome, length}
 use Rattle.mw_types.specs.declared.entry.Entry.{Entry}
 use Rattle.run_history.specs.Fences.{IsOvertakenBy}
