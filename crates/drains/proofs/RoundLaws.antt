@@ -35,7 +35,8 @@ use Rattle.book.specs.Marks.{AreSafe, reported, with_mark}
 use Rattle.book.proofs.MarkSteps.{AreSafe-raised, length-with_mark, mark-here, mark-other}
 use Rattle.drains.specs.ReportRounds.{with_report, marks_after_round}
 use Rattle.drains.proofs.Firsts.{none-row_of}
-use Rattle.drains.proofs.Marked.{any-each, numbers_in-each, number-before, marks_in-each, marks_in-bound, under-feeding}
+use Rattle.watermark.proofs.SafeMarks.{part-bound, under-feeding}
+use Rattle.drains.proofs.Marked.{any-each, numbers_in-each, number-before, marks_in-each}
 
 -- a bound of the work above an interval's part is a safe mark of the interval, as a bound
 pub above-safe : (case : CaseShape) (run : Run) (x : ℕ) (b : Bounds) → IsAboveFrom case run x b.part → IsSafeFrom case run b x
@@ -322,7 +323,7 @@ round-low case history marks part runs legal none long safe not there = omega (a
     under = let x = least (marks_of case.topology part after) in marks-low case history part x runs legal there
         (λ i b at of. (
           mark_of after i,
-          marks_in-bound x part (intervals_of case.topology) after i b as_many
+          part-bound x part (intervals_of case.topology) after i b as_many
               (bound-each x (marks_of case.topology part after) (omega arith)) at of,
           round-safe case history marks runs long safe i b at,
         ))
