@@ -87,6 +87,9 @@ pub fn read_sources<S: Shelf>(
 ) -> Result<ItemsList, Refusal>
     requires few { length names.now < 2 ^ 32 }
 
+    ensures files { S.files shelf.new ≡ S.files shelf.old }
+    ensures faults_later { S.faults shelf.old ≤ S.faults shelf.new }
+    ensures lacks_later { S.lacks shelf.old ≤ S.lacks shelf.new }
     ensures count { IfOk result (λ sources. length sources ≡ length names.now) }
     ensures sources { IfOk result (HoldsSources (S.files shelf.old) 0 lines_limit names.now) }
     ensures refused { let seen : ShelfSeen = record {

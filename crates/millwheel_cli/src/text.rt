@@ -1,5 +1,5 @@
 //! The text of a history, and its writing.
-ghost use Rattle.std.specs.Prelude.{◌≡◌, ◌++◌, All, IfOk};
+ghost use Rattle.std.specs.Prelude.{◌≡◌, ◌≤◌, ◌++◌, All, IfOk};
 ghost use Rattle.mw_types.specs.Causes.{Rose};
 ghost use Rattle.run_history.specs.Printing.{IsPrintable};
 ghost use Rattle.run_history.specs.HistoryLines.{HasLine};
@@ -19,6 +19,7 @@ pub fn write<O: Sink>(alloc: Global, task: &Task, history: &History, out: &mut O
     requires printable { IsPrintable task.now.case.topology history.now }
     requires lines { All HasLine history.now }
 
+    ensures later { O.faults out.old ≤ O.faults out.new }
     ensures written { HasText task.now.wanted task.now.case.topology history.now
         (O.text out.old) (O.text out.new) result }
     ensures sink_fault { result ≡ Status.SinkFault → Rose (O.faults out.old) (O.faults out.new) }
