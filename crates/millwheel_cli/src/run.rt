@@ -23,7 +23,7 @@ use crate::task::Task;
 use crate::text::write;
 use book::{Book, StartRefusal, StartWhy};
 use computations::{Computation, Kinds};
-use drains::drains_leave_no_work;
+use drains::{drains_begin_the_drained_history, drains_leave_no_work};
 use mw_ports::Sink;
 use mw_types::NoMemory;
 use node::NodeFault;
@@ -220,6 +220,7 @@ fn finish<'a, K: Keeper, C: Computation + Drop, O: Sink>(
     look(world);
     let history = world.book().history();
     drains_leave_no_work();
+    drains_begin_the_drained_history();
     match replayed {
         Ok(()) => write(alloc, task, history, out),
         Err(fault) => status_of_drain(fault),
