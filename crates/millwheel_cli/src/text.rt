@@ -7,11 +7,10 @@ ghost use Rattle.millwheel_cli.specs.Answers.{IsLongText, IsWholeText};
 ghost use Rattle.millwheel_cli.specs.Inside.{HasText, of_sink};
 
 use crate::status::Status;
-use crate::summary::summary_line;
 use crate::task::{Task, Wanted};
 use mw_ports::{Sink, SinkFault, write_all};
 use mw_types::{Bytes, NoMemory};
-use run_history::{Case, History, history_lines, result_text};
+use run_history::{Case, History, history_lines, result_text, summary_line};
 use std::alloc::Global;
 
 /// Writes the text that is wanted of a task's history.
