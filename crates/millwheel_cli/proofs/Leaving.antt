@@ -23,7 +23,7 @@ use Rattle.millwheel_cli.specs.Limits.{history_limit}
 use Rattle.command_line.specs.Grammar.{command_of}
 use Rattle.millwheel_cli.specs.Tasks.{IsTask}
 use Rattle.millwheel_cli.specs.Reasons.{ShelfSeen, HasReason}
-use Rattle.millwheel_cli.specs.Answers.{Left, IsUnbegun, IsRun, IsWholeRun, RunLeaves, HasRun, HasLeft}
+use Rattle.millwheel_cli.specs.Answers.{Left, IsUnbegun, IsRun, IsShortOf, IsWholeRun, RunLeaves, HasRun, HasLeft}
 use Rattle.millwheel_cli.specs.Inside.{HasText, status_of, of_words, of_start, of_drain}
 
 -- where no run was begun, nothing is left with a refusal of the files
@@ -99,15 +99,17 @@ wrote_as task left history s told run is = wrote task left s run
 pub stopped : (task : Task) (left : Left) (fault : NodeFault) → IsRun task left → left.text.1 ≡ left.text.0
     → (fault ≡ faults.HistoryFull → length left.history ≡ history_limit)
     → (fault ≡ faults.HistoryFull → IfSome left.rows.1 (λ _. IsWholeReplay task.case task.steps left.history → ⊥))
+    → (IfSome left.rows.1 (λ _. IsWholeReplay task.case task.steps left.history → ⊥)
+    → IfSome left.rows.1 (λ _. IsShortOf task left.history))
     → ((name : RowName) (bytes : List ℕ) → fault ≡ faults.RowDamaged name bytes
     → IsDamagedRow task.case left.rows.1 (length left.history) name bytes)
     → RunLeaves task left (of_drain fault)
-stopped task left faults.HistoryFull run same full more damaged =
-    record { stopped = record { run = run; unwritten = same }; full = full refl; more = more refl }
-stopped task left faults.KeeperFault run same full more damaged = inl (record { run = run; unwritten = same })
-stopped task left (faults.RowDamaged name bytes) run same full more damaged =
+stopped task left faults.HistoryFull run same full more short damaged =
+    record { stopped = record { run = run; unwritten = same }; full = full refl; more = more refl; longer = short (more refl) }
+stopped task left faults.KeeperFault run same full more short damaged = inl (record { run = run; unwritten = same })
+stopped task left (faults.RowDamaged name bytes) run same full more short damaged =
     record { stopped = record { run = run; unwritten = same }; damaged = damaged name bytes refl }
-stopped task left faults.NoMemory run same full more damaged = inr (inl (record { run = run; unwritten = same }))
+stopped task left faults.NoMemory run same full more short damaged = inr (inl (record { run = run; unwritten = same }))
 
 -- what is left where no book was begun is what its status leaves
 pub unstarted : (task : Task) (left : Left) (why : StartWhy) → IsUnbegun left → IsNotEmpty left.rows.0 why

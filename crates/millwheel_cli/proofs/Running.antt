@@ -1,6 +1,7 @@
 -- What a book that was worked off leaves, as a run.
-use Rattle.std.proofs.Common.{◌≡◌, ◌∙◌, ◌⊎◌, ◌≤◌, ℕ, true, false, List, [], length, Option, Some, None, IfSome, refl, sym, ap, subst, inl, inr, true≢false, arith}
+use Rattle.std.proofs.Common.{◌≡◌, ◌∙◌, ◌⊎◌, ◌≤◌, ◌<◌, ◌+◌, ◌++◌, ℕ, true, false, List, [], ◌∷◌, length, Option, Some, None, IfSome, refl, sym, ap, subst, inl, inr, true≢false, arith}
 use Rattle.std.specs.Option.{is_some}
+use Rattle.std.proofs.lemmas.List.{append-nil, length-append}
 use Rattle.mw_types.specs.declared.entry.Entry.{Entry}
 use Rattle.mw_types.specs.declared.identity.RowName.{RowName}
 use Rattle.row_keeper.specs.Rows.{Rows}
@@ -18,10 +19,14 @@ use Rattle.book.specs.OwnDesks.{own_view, telling}
 use Rattle.node.specs.Answers.{refusal_of}
 use Rattle.node.specs.declared.outcome.NodeFault.{NodeFault}
 use Rattle.node.specs.declared.outcome.NodeFault.TheVariants as faults
-use Rattle.drains.specs.Drains.{HasInjected}
-use Rattle.world.specs.Replays.{IsReplayed, IsWholeReplay}
+use Rattle.drains.specs.Drains.{HasInjected, IsDrained, IsDraining}
+use Rattle.world.specs.Replays.{GoesOn, IsReplayed, IsWholeReplay}
+use Rattle.scripts.specs.Acts.{scripted_history}
+use Rattle.history_laws.specs.Writes.{IsLegalAndFenced}
+use Rattle.run_history.specs.Fences.{Begins}
+use Rattle.topology.specs.Rules.{IsTopology, interval_count}
 use Rattle.millwheel_cli.specs.declared.task.Task.{Task}
-use Rattle.millwheel_cli.specs.Answers.{Left, IsKeptRun, IsRun, IsWholeRun}
+use Rattle.millwheel_cli.specs.Answers.{Left, IsKeptRun, IsRun, IsShortOf, IsWholeRun}
 
 -- the rows of an empty history are none
 none_stored : (case : CaseShape) (history : List Entry) (rows : Rows) → history ≡ [] → HoldsRowsOf case history rows → rows ≡ []
@@ -83,6 +88,51 @@ pub more_seen : (A : Type 0) (old new : Option Rows) → is_some new ≡ is_some
 more_seen A old None tells more = tt
 more_seen A None (Some rows) tells more = absurd (true≢false tells)
 more_seen A (Some held) (Some rows) tells more = more
+
+-- a history that is drained so far, and is not the whole, is shorter than the whole
+shorter : (case : CaseShape) (front history whole : List Entry)
+    → ((c : CaseShape) (f one all : List Entry) → IsDraining c (length f) (f ++ one) → IsLegalAndFenced c (f ++ one)
+    → IsDrained c (length f) (f ++ all) → IsLegalAndFenced c (f ++ all) → Begins (f ++ one) (f ++ all))
+    → GoesOn case front history → IsLegalAndFenced case history → Begins front whole → IsDrained case (length front) whole
+    → IsLegalAndFenced case whole → (whole ≡ history → ⊥) → length history < length whole
+shorter case front history whole law goes mine begins drained other apart =
+    let draining = subst (IsDraining case (length front)) goes.begins.1 goes.draining in
+    let ended = subst (IsDrained case (length front)) begins.1 drained in
+    let way : Begins (front ++ goes.begins.0) (front ++ begins.0) = law case front goes.begins.0 begins.0 draining
+    (subst (IsLegalAndFenced case) goes.begins.1 mine) ended (subst (IsLegalAndFenced case) begins.1 other) in
+    by_rest way.0 (begins.1 ∙ way.1 ∙ ap (λ h. h ++ way.0) (sym goes.begins.1))
+  where
+    by_rest : (rest : List Entry) → whole ≡ history ++ rest → length history < length whole
+    by_rest [] is = absurd (apart (is ∙ append-nil history))
+    by_rest (e ∷ es) is = omega (arith, ap length is, length-append history (e ∷ es))
+
+-- a replay that is not the whole is shorter than each whole
+pub short_of : (task : Task) (history : List Entry) → IsTopology task.case.topology
+    → ((c : CaseShape) (f one all : List Entry) → IsDraining c (length f) (f ++ one) → IsLegalAndFenced c (f ++ one)
+    → IsDrained c (length f) (f ++ all) → IsLegalAndFenced c (f ++ all) → Begins (f ++ one) (f ++ all))
+    → IsReplayed task.case task.steps history → IsLegalAndFenced task.case history
+    → (IsWholeReplay task.case task.steps history → ⊥) → IsShortOf task history
+short_of task history rules law replayed mine more = λ whole is other. elim replayed [
+  | inl begins ↦ let claimed : length (scripted_history task.case task.steps) + interval_count task.case.topology ≤ length whole =
+      is.drained.ended.earlier.earlier.earlier.claimed in
+      omega (arith, ap length begins.1, length-append history begins.0, claimed, rules.some_injector)
+  | inr goes ↦ shorter task.case (scripted_history task.case task.steps) history whole law goes mine is.begins is.drained other
+      (λ same. more (subst (IsWholeReplay task.case task.steps) same is))
+]
+
+-- so it is of a run, where rows are seen
+pub run_short : (task : Task) (left : Left) → IsRun task left → IsTopology task.case.topology
+    → ((c : CaseShape) (f one all : List Entry) → IsDraining c (length f) (f ++ one) → IsLegalAndFenced c (f ++ one)
+    → IsDrained c (length f) (f ++ all) → IsLegalAndFenced c (f ++ all) → Begins (f ++ one) (f ++ all))
+    → IfSome left.rows.1 (λ _. IsWholeReplay task.case task.steps left.history → ⊥)
+    → IfSome left.rows.1 (λ _. IsShortOf task left.history)
+run_short task left run rules law more = by_rows left.rows.1 run.kept more
+  where
+    by_rows : (rows : Option Rows) → IfSome rows (IsKeptRun task left.history)
+        → IfSome rows (λ _. IsWholeReplay task.case task.steps left.history → ⊥) → IfSome rows (λ _. IsShortOf task left.history)
+    by_rows None kept unended = tt
+    by_rows (Some rows) kept unended =
+        short_of task left.history rules law kept.replayed (record { legal = kept.legal; fenced = run.fenced }) unended
 
 -- what a desk does not tell a contract does not see
 untold_of : {X : Type 0} (told : Option X) → IfSome (telling told) (λ _. ⊥) → IfSome told (λ _. ⊥)

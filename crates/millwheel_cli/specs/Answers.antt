@@ -1,5 +1,5 @@
 -- What each status leaves of the history, of the keeper's rows and of the text. Own.
-use Rattle.std.specs.Prelude.{◌≡◌, ◌⊎◌, ◌++◌, ℕ, List, [], length, Option, Some, IfSome, slice_get}
+use Rattle.std.specs.Prelude.{◌≡◌, ◌<◌, ◌⊎◌, ◌++◌, ℕ, List, [], length, Option, Some, IfSome, slice_get}
 use Rattle.std.specs.Io.KnownBytes.{append_known}
 use Rattle.mw_types.specs.declared.identity.RowName.{RowName}
 use Rattle.mw_types.specs.declared.entry.Entry.{Entry}
@@ -16,6 +16,7 @@ use Rattle.run_history.specs.Finished.{IsFinished}
 use Rattle.run_history.specs.Stored.{stored_rows}
 use Rattle.run_history.specs.HistoryLines.{lines_of_history}
 use Rattle.run_history.specs.Texts.{IsResultText, as_line, summary_data}
+use Rattle.history_laws.specs.Writes.{IsLegalAndFenced}
 use Rattle.book.specs.Claims.{IsDamagedRow}
 use Rattle.world.specs.Replays.{IsReplayed, IsWholeReplay}
 use Rattle.millwheel_cli.specs.declared.status.Status.{Status}
@@ -98,11 +99,19 @@ pub record IsStopped (task : Task) (left : Left) : Type 0 where
   pub run : IsRun task left
   pub unwritten : left.text.1 ≡ left.text.0
 
--- the run stopped since its history has as many entries as one may have, and has more to come
+-- each whole run of a task has more entries than this history: each legal and fenced one that the steps
+-- write, with the whole drain behind them
+abbrev pub IsShortOf : Task → List Entry → Type 0
+IsShortOf task history = (whole : List Entry) → IsWholeReplay task.case task.steps whole →
+    IsLegalAndFenced task.case whole → length history < length whole
+
+-- the run stopped since its history has as many entries as one may have, and has more to come: each whole
+-- run has more than that
 pub record IsFull (task : Task) (left : Left) : Type 0 where
   pub stopped : IsStopped task left
   pub full : length left.history ≡ history_limit
   pub more : IfSome left.rows.1 (λ _. IsWholeReplay task.case task.steps left.history → ⊥)
+  pub longer : IfSome left.rows.1 (λ _. IsShortOf task left.history)
 
 -- the run stopped at bytes that the keeper gave, which are those of no row that fits the name; of a keeper
 -- whose rows a contract can see none are

@@ -1,5 +1,6 @@
 -- How long files and histories may be. Own.
 use Rattle.std.specs.Prelude.{ℕ, ◌^◌}
+use Rattle.text_lines.specs.declared.TheConstants.{LINES_MAX}
 
 -- how many bytes a topology may have
 abbrev pub topology_limit : ℕ
@@ -15,7 +16,7 @@ events_limit = 2 ^ 25
 
 -- how many record lines there may be in all event files
 abbrev pub lines_limit : ℕ
-lines_limit = 2 ^ 18
+lines_limit = LINES_MAX
 
 -- how many entries a history may have
 abbrev pub history_limit : ℕ

@@ -82,6 +82,13 @@ pub fn millwheel_alone<S: Shelf, K: Keeper, O: Sink>(
     } in HasLeft (S.files shelf.old) words.now left result.status }
     ensures untouched { result.history ≡ [] → K.rows result.keeper ≡ K.rows keeper }
     ensures tells { is_some (K.rows result.keeper) ≡ is_some (K.rows keeper) }
+
+    // The shelf holds what it held, and no count falls.
+    ensures files { S.files shelf.new ≡ S.files shelf.old }
+    ensures faults_later { S.faults shelf.old ≤ S.faults shelf.new }
+    ensures lacks_later { S.lacks shelf.old ≤ S.lacks shelf.new }
+    ensures keeper_later { K.faults keeper ≤ K.faults result.keeper }
+    ensures out_later { O.faults out.old ≤ O.faults out.new }
 {
     match read_words(alloc, words) {
         Ok(command) => match read_task(alloc, shelf, &command.call) {

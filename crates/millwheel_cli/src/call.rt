@@ -1,5 +1,5 @@
 //! What a call asks for, with its files.
-ghost use Rattle.std.specs.Prelude.{◌≡◌, All, length, Err, None, Some, IfErr, IfOk};
+ghost use Rattle.std.specs.Prelude.{◌≡◌, ◌≤◌, All, length, Err, None, Some, IfErr, IfOk};
 ghost use Rattle.mw_ports.specs.Shelves.{Files};
 ghost use Rattle.scripts.specs.Steps.{IsStep};
 ghost use Rattle.millwheel_cli.specs.Tasks.{IsInputsTask, IsLoadTask, IsTask};
@@ -19,6 +19,9 @@ use std::alloc::Global;
 
 /// Reads the files that a call names, one after the other, up to the first that is refused.
 pub fn read_task<S: Shelf>(alloc: Global, shelf: &mut S, call: &Call) -> Result<Task, Refusal>
+    ensures files { S.files shelf.new ≡ S.files shelf.old }
+    ensures faults_later { S.faults shelf.old ≤ S.faults shelf.new }
+    ensures lacks_later { S.lacks shelf.old ≤ S.lacks shelf.new }
     ensures asked { IfOk result (IsTask (S.files shelf.old) call.now) }
     ensures steps { IfOk result (λ task. All (IsStep task.case.topology) task.steps) }
     ensures refused { let seen : ShelfSeen = record {
@@ -36,6 +39,9 @@ pub fn read_task<S: Shelf>(alloc: Global, shelf: &mut S, call: &Call) -> Result<
 
 // The task of files without a plan.
 fn read_solo<S: Shelf>(alloc: Global, shelf: &mut S, inputs: &Inputs) -> Result<Task, Refusal>
+    ensures files { S.files shelf.new ≡ S.files shelf.old }
+    ensures faults_later { S.faults shelf.old ≤ S.faults shelf.new }
+    ensures lacks_later { S.lacks shelf.old ≤ S.lacks shelf.new }
     ensures asked { IfOk result (IsInputsTask (S.files shelf.old) None inputs.now) }
     ensures steps { IfOk result (λ task. All (IsStep task.case.topology) task.steps) }
     ensures refused { let seen : ShelfSeen = record {
@@ -65,6 +71,9 @@ fn read_replay<S: Shelf>(
     plan: &Name,
     inputs: &Inputs,
 ) -> Result<Task, Refusal>
+    ensures files { S.files shelf.new ≡ S.files shelf.old }
+    ensures faults_later { S.faults shelf.old ≤ S.faults shelf.new }
+    ensures lacks_later { S.lacks shelf.old ≤ S.lacks shelf.new }
     ensures asked { IfOk result (IsInputsTask (S.files shelf.old) (Some plan.now) inputs.now) }
     ensures steps { IfOk result (λ task. All (IsStep task.case.topology) task.steps) }
     ensures refused { let seen : ShelfSeen = record {

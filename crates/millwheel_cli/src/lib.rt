@@ -24,7 +24,6 @@ mod refusal;
 mod run;
 mod saying;
 mod status;
-mod summary;
 mod task;
 mod text;
 

@@ -9,12 +9,12 @@ ghost use Rattle.millwheel_cli.specs.Reasons.{load_taken};
 ghost use Rattle.millwheel_cli.specs.Inside.{UnlessWant};
 
 use crate::form::{items_of, topology_of};
-use crate::reading::LINES_MAX;
 use crate::refusal::Refusal;
 use injector::Items;
 use mw_types::{Bytes, NoMemory, Seq};
 use run_history::Case;
 use std::alloc::Global;
+use text_lines::LINES_MAX;
 use topology::Topology;
 
 // The topology of load: one injector, and a count over windows of 60, in three intervals.

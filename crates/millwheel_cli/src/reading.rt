@@ -16,6 +16,7 @@ use mw_ports::{Shelf, ShelfFault};
 use mw_types::{Bytes, Duplicate, Name, NoMemory, Seq};
 use schedules::Schedule;
 use std::alloc::Global;
+use text_lines::LINES_MAX;
 use topology::Topology;
 
 // How many bytes a topology may have.
@@ -26,9 +27,6 @@ const PLAN_MAX: u64 = 1 << 20;
 
 // How many bytes an event file may have.
 const EVENTS_MAX: u64 = 1 << 25;
-
-/// How many record lines there may be in all event files.
-pub(crate) const LINES_MAX: u32 = 1 << 18;
 
 /// The topology in the file of that name, for so many event files.
 pub fn read_topology<S: Shelf>(
@@ -87,6 +85,9 @@ pub fn read_sources<S: Shelf>(
 ) -> Result<ItemsList, Refusal>
     requires few { length names.now < 2 ^ 32 }
 
+    ensures files { S.files shelf.new ≡ S.files shelf.old }
+    ensures faults_later { S.faults shelf.old ≤ S.faults shelf.new }
+    ensures lacks_later { S.lacks shelf.old ≤ S.lacks shelf.new }
     ensures count { IfOk result (λ sources. length sources ≡ length names.now) }
     ensures sources { IfOk result (HoldsSources (S.files shelf.old) 0 lines_limit names.now) }
     ensures refused { let seen : ShelfSeen = record {

@@ -1,5 +1,5 @@
 //! The run of a task over a keeper, and the writing of its text.
-ghost use Rattle.std.specs.Prelude.{◌≡◌, [], All, Err, IfErr, IfSome, OnOk, length, replicate};
+ghost use Rattle.std.specs.Prelude.{◌≡◌, ◌≤◌, [], All, Err, IfErr, IfSome, OnOk, length, replicate};
 ghost use Rattle.std.specs.Option.{is_some};
 ghost use Rattle.mw_types.specs.Causes.{Rose};
 ghost use Rattle.run_history.specs.Cases.{intervals_of};
@@ -23,7 +23,7 @@ use crate::task::Task;
 use crate::text::write;
 use book::{Book, StartRefusal, StartWhy};
 use computations::{Computation, Kinds};
-use drains::drains_leave_no_work;
+use drains::{drains_begin_the_drained_history, drains_leave_no_work};
 use mw_ports::Sink;
 use mw_types::NoMemory;
 use node::NodeFault;
@@ -38,6 +38,8 @@ const HISTORY_MAX: u64 = 1 << 32;
 pub fn run<K: Keeper, O: Sink>(alloc: Global, task: &Task, keeper: K, out: &mut O) -> Done<K>
     requires steps { All (IsStep task.now.case.topology) task.now.steps }
 
+    ensures keeper_later { K.faults keeper ≤ K.faults result.keeper }
+    ensures out_later { O.faults out.old ≤ O.faults out.new }
     ensures keeper_fault { result.status ≡ Status.KeeperFault →
         Rose (K.faults keeper) (K.faults result.keeper) }
     ensures sink_fault { result.status ≡ Status.SinkFault →
@@ -68,6 +70,8 @@ fn run_work<K: Keeper, C: Computation + Drop, O: Sink>(
         (C.gives_record work) (C.gives_timer work) }
     requires steps { All (IsStep task.now.case.topology) task.now.steps }
 
+    ensures keeper_later { K.faults keeper ≤ K.faults result.keeper }
+    ensures out_later { O.faults out.old ≤ O.faults out.new }
     ensures keeper_fault { result.status ≡ Status.KeeperFault →
         Rose (K.faults keeper) (K.faults result.keeper) }
     ensures sink_fault { result.status ≡ Status.SinkFault →
@@ -113,6 +117,8 @@ fn run_book<'a, K: Keeper, C: Computation + Drop, O: Sink>(
         book.marks ≡ replicate (length (intervals_of shape)) 0 }
     requires limit { book.limit ≡ history_limit }
 
+    ensures keeper_later { book.entry.faults ≤ K.faults result.keeper }
+    ensures out_later { O.faults out.old ≤ O.faults out.new }
     ensures keeper_fault { result.status ≡ Status.KeeperFault →
         Rose book.entry.faults (K.faults result.keeper) }
     ensures sink_fault { result.status ≡ Status.SinkFault →
@@ -135,6 +141,7 @@ fn run_book<'a, K: Keeper, C: Computation + Drop, O: Sink>(
 fn unworlded<'a, K: Keeper, C: Computation + Drop>(refusal: WorldRefusal<'a, K, C>) -> Done<K>
     ensures status { result.status ≡ Status.NoMemory }
     ensures rows { K.rows result.keeper ≡ refusal.entry.book.rows }
+    ensures faults { K.faults result.keeper ≡ refusal.entry.book.faults }
     ensures history { result.history ≡ refusal.entry.book.history }
 {
     let WorldRefusal { book, work: _ } = refusal;
@@ -159,6 +166,8 @@ fn run_world<'a, K: Keeper, C: Computation + Drop, O: Sink>(
     requires begun { world_of world ≡ empty_world task.now.case.topology }
     requires limit { world.book.limit ≡ history_limit }
 
+    ensures keeper_later { world.entry.book.faults ≤ K.faults result.keeper }
+    ensures out_later { O.faults out.old ≤ O.faults out.new }
     ensures keeper_fault { result.status ≡ Status.KeeperFault →
         Rose world.entry.book.faults (K.faults result.keeper) }
     ensures sink_fault { result.status ≡ Status.SinkFault →
@@ -193,6 +202,8 @@ fn finish<'a, K: Keeper, C: Computation + Drop, O: Sink>(
     requires begun { world_of world.old ≡ empty_world task.now.case.topology }
     requires limit { world.old.book.limit ≡ history_limit }
 
+    ensures keeper_later { world.old.book.faults ≤ world.new.book.faults }
+    ensures out_later { O.faults out.old ≤ O.faults out.new }
     ensures keeper_fault { result ≡ Status.KeeperFault →
         Rose world.old.book.faults world.new.book.faults }
     ensures sink_fault { result ≡ Status.SinkFault → Rose (O.faults out.old) (O.faults out.new) }
@@ -209,6 +220,7 @@ fn finish<'a, K: Keeper, C: Computation + Drop, O: Sink>(
     look(world);
     let history = world.book().history();
     drains_leave_no_work();
+    drains_begin_the_drained_history();
     match replayed {
         Ok(()) => write(alloc, task, history, out),
         Err(fault) => status_of_drain(fault),
@@ -227,6 +239,7 @@ fn replay<'a, K: Keeper, C: Computation + Drop>(
     ensures case { world.new.book.case ≡ world.old.book.case }
     ensures limit { world.new.book.limit ≡ world.old.book.limit }
     ensures tells { is_some world.new.book.rows ≡ is_some world.old.book.rows }
+    ensures keeper_later { world.old.book.faults ≤ world.new.book.faults }
     ensures replayed { IfSome world.old.book.rows
         (λ _. IsReplayed world.old.book.case steps.now world.new.book.history) }
     ensures whole { OnOk result (IfSome world.old.book.rows

@@ -1,5 +1,5 @@
 //! The text of a history, and its writing.
-ghost use Rattle.std.specs.Prelude.{◌≡◌, ◌++◌, All, IfOk};
+ghost use Rattle.std.specs.Prelude.{◌≡◌, ◌≤◌, ◌++◌, All, IfOk};
 ghost use Rattle.mw_types.specs.Causes.{Rose};
 ghost use Rattle.run_history.specs.Printing.{IsPrintable};
 ghost use Rattle.run_history.specs.HistoryLines.{HasLine};
@@ -7,11 +7,10 @@ ghost use Rattle.millwheel_cli.specs.Answers.{IsLongText, IsWholeText};
 ghost use Rattle.millwheel_cli.specs.Inside.{HasText, of_sink};
 
 use crate::status::Status;
-use crate::summary::summary_line;
 use crate::task::{Task, Wanted};
 use mw_ports::{Sink, SinkFault, write_all};
 use mw_types::{Bytes, NoMemory};
-use run_history::{Case, History, history_lines, result_text};
+use run_history::{Case, History, history_lines, result_text, summary_line};
 use std::alloc::Global;
 
 /// Writes the text that is wanted of a task's history.
@@ -19,6 +18,7 @@ pub fn write<O: Sink>(alloc: Global, task: &Task, history: &History, out: &mut O
     requires printable { IsPrintable task.now.case.topology history.now }
     requires lines { All HasLine history.now }
 
+    ensures later { O.faults out.old ≤ O.faults out.new }
     ensures written { HasText task.now.wanted task.now.case.topology history.now
         (O.text out.old) (O.text out.new) result }
     ensures sink_fault { result ≡ Status.SinkFault → Rose (O.faults out.old) (O.faults out.new) }

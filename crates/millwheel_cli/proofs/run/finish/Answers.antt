@@ -9,7 +9,7 @@ use Rattle.scripts.specs.Worlds.{World}
 use Rattle.scripts.specs.declared.step.Step.{Step}
 use Rattle.world.specs.Replays.{IsReplayed, IsWholeReplay}
 use Rattle.millwheel_cli.specs.Answers.{RunLeaves}
-use Rattle.millwheel_cli.proofs.Running.{run_of_book, whole_run, same_where_empty, damaged_of, more_seen}
+use Rattle.millwheel_cli.proofs.Running.{run_of_book, run_short, whole_run, same_where_empty, damaged_of, more_seen}
 use Rattle.millwheel_cli.proofs.Statuses.{drain_fault, drain_sink, text_keeper}
 use Rattle.millwheel_cli.proofs.Leaving.{wrote_as, stopped}
 use Rattle.millwheel_cli.proofs.run.finish.Goals as goal
@@ -51,6 +51,8 @@ returns-in-Err-clause-left g c =
     (subst (λ (k : CaseShape). IfSome old.rows (λ _. IsWholeReplay k task.steps new.history → ⊥)) c.requires.case
     (subst (λ (ss : List Step). IfSome old.rows (λ _. IsWholeReplay old.case ss new.history → ⊥)) c.steps.ensures.steps
     (c.in-Err.ensures.more (ap Err e)))))
+    (run_short task _ run (subst IsRunnable c.requires.case c.look.ensures.lawful.runnable).topology
+    c.drains_begin_the_drained_history.ensures.begins)
     (λ name bytes e. damaged_of new task.case _ name bytes (after.case ∙ c.requires.case) c.in-Err.ensures.damaged e) in
     subst (RunLeaves task _) (sym c.status_of_drain.ensures) status
 
