@@ -28,7 +28,7 @@ fn are_told(items: &Items, records: &[Told], marks: &[u64]) -> bool {
         if at >= items.count() || !is_told(items.at(at), told) {
             return false;
         }
-        at += 1;
+        at = at.saturating_add(1);
     }
     at == items.count() && are_marks(items, marks)
 }
@@ -110,20 +110,17 @@ fn a_record_may_be_spelt_in_many_ways(rt: HostRuntime) -> Result<(), LinesRefusa
     Ok(())
 }
 
-// A record at 5 in time.
-fn item(alloc: Global) -> Result<Item, NoMemory> {
-    Ok(Item {
-        record_key: key_of(alloc, "a")?,
-        stamp: 5,
-        value: 1,
-        late: false,
-    })
-}
-
 // Whether a line that is pushed is held.
 fn holds_pushed(alloc: Global) -> Result<bool, NoMemory> {
     let mut items = Items::new(alloc);
-    items.push(item(alloc)?, 0)?;
+    let record_key = key_of(alloc, "a")?;
+    let item = Item {
+        record_key,
+        stamp: 5,
+        value: 1,
+        late: false,
+    };
+    items.push(item, 0)?;
     Ok(are_told(&items, &[("a", 5, 1, false)], &[0, END]))
 }
 

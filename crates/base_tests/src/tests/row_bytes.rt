@@ -66,9 +66,10 @@ fn other_bytes_are_damaged(rt: HostRuntime) {
     let mut version = INJECTOR;
     version[0] = 2;
     let mut count = INJECTOR;
-    for at in 30..34 {
-        count[at] = 255;
-    }
+    count[30] = 255;
+    count[31] = 255;
+    count[32] = 255;
+    count[33] = 255;
     let mut longer = [0u8; 35];
     longer[0] = 1;
     for (name, bytes) in [

@@ -1,4 +1,6 @@
 //! What no clause says: that ample memory is enough, and keys at their limits.
+ghost use Rattle.std.specs.Prelude.{◌≡◌};
+
 use super::key_of;
 use mw_types::{Key, KeyRefusal, Name, NoMemory, NumberList, RecordId, RowName};
 use std::alloc::Global;
@@ -173,7 +175,9 @@ fn rows_stand_in_order(rt: HostRuntime) -> Result<(), NoMemory> {
 }
 
 // An id.
-fn id(commit: u64, index: u32) -> RecordId {
+fn id(commit: u64, index: u32) -> RecordId
+    ensures { result ≡ record { commit = commit; index = index } }
+{
     RecordId { commit, index }
 }
 
@@ -184,7 +188,8 @@ fn ids_stand_in_order(rt: HostRuntime) {
 }
 
 // Whether an id is printed so.
-fn is_printed(alloc: Global, id: RecordId, text: &str) -> Result<bool, NoMemory> {
+fn is_printed(alloc: Global, commit: u32, index: u8, text: &str) -> Result<bool, NoMemory> {
+    let id = id(u64::from(commit), u32::from(index));
     Ok(id.uuid(alloc)?.text() == text)
 }
 
@@ -194,7 +199,7 @@ fn printed_ids(rt: HostRuntime) -> Result<(), NoMemory> {
         (11, 0, "00000000-0000-8000-8000-00000000000b"),
         (3, 1, "00000000-0000-8001-8000-000000000003"),
     ] {
-        assert!(rt; is_printed(rt.alloc(), id(commit, index), text)?, "{text}");
+        assert!(rt; is_printed(rt.alloc(), commit, index, text)?, "{text}");
     }
     Ok(())
 }
