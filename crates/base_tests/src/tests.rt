@@ -1,5 +1,6 @@
 //! The tests of the lower crates, a module for what each is about.
 mod command_lines;
+mod copies;
 mod event_files;
 mod handlers;
 mod histories;

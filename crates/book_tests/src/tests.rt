@@ -11,6 +11,7 @@ mod overtaken;
 mod refusals;
 mod rising;
 mod seats;
+mod starts;
 mod threads;
 mod trials;
 mod turns;

@@ -8,3 +8,4 @@ mod failing;
 mod overtaken;
 mod same_answers;
 mod seats;
+mod starts;

@@ -1,230 +1,228 @@
 //! What event files hold, by example.
+use super::key_of;
 use injector::{Item, Items, LineWhy, LinesRefusal, read_lines};
-use mw_types::{END, Key};
+use mw_types::{END, NoMemory};
 use std::alloc::Global;
-use std::process::Abort;
-use std::test::Fail;
 
 // What these bytes hold, with room for two lines.
-fn read(rt: &impl Abort, alloc: Global, bytes: &[u8]) -> Result<Items, LinesRefusal> {
-    assert!(rt; bytes.len() < 1000);
+fn read(alloc: Global, bytes: &[u8]) -> Result<Items, LinesRefusal> {
+    if bytes.len() > 1000 {
+        return Err(LinesRefusal::NoMemory);
+    }
     read_lines(alloc, bytes, 2)
 }
 
-#[test]
-fn an_empty_file_has_ended(rt: HostRuntime) -> Result<(), Fail> {
-    let items = read(&rt, rt.alloc(), b"")?;
-    assert_eq!(rt; items.count(), 0);
-    assert_eq!(rt; items.stated(0), END);
-    Ok(())
+// The key, timestamp and value of a record, and whether it is late.
+type Told = (&'static str, u64, i64, bool);
+
+// Whether an item is so.
+fn is_told(item: &Item, told: &Told) -> bool {
+    let (key, stamp, value, late) = *told;
+    item.record_key.text() == key && item.stamp == stamp && item.value == value && item.late == late
 }
 
-#[test]
-fn lines_that_are_pushed_are_held(rt: HostRuntime) -> Result<(), Fail> {
-    let mut items = Items::new(rt.alloc());
-    let record_key = Key::of(rt.alloc(), "a")?;
-    items.push(
-        Item {
-            record_key,
-            stamp: 5,
-            value: 1,
-            late: false,
-        },
-        0,
-    )?;
-    assert_eq!(rt; items.count(), 1);
-    assert!(rt; items.count() > 0);
-    assert_eq!(rt; items.at(0).stamp, 5);
-    assert_eq!(rt; items.stated(0), 0);
-    assert_eq!(rt; items.stated(1), END);
-    Ok(())
-}
-
-#[test]
-fn a_record_at_the_watermark_is_in_time(rt: HostRuntime) -> Result<(), Fail> {
-    let text =
-        b"{\"key\":\"a\",\"ts\":3}\r\n \t\r\n{\"watermark\":7,\"ts\":null}\n{\"watermark\":4}\n{\"ts\":7,\"value\":-2,\"key\":\"b\"}";
-    let items = read(&rt, rt.alloc(), text)?;
-    assert!(rt; items.count() == 2);
-    assert_eq!(rt; items.stated(0), 0);
-    assert_eq!(rt; items.at(0).record_key.text(), "a");
-    assert_eq!(rt;
-        (items.at(0).stamp, items.at(0).value, items.at(0).late),
-        (3, 1, false)
-    );
-    assert_eq!(rt; items.stated(1), 7);
-    assert_eq!(rt; items.at(1).record_key.text(), "b");
-    assert_eq!(rt;
-        (items.at(1).stamp, items.at(1).value, items.at(1).late),
-        (7, -2, false)
-    );
-    assert_eq!(rt; items.stated(2), END);
-    Ok(())
-}
-
-#[test]
-fn a_record_below_the_watermark_is_late(rt: HostRuntime) -> Result<(), Fail> {
-    let items = read(
-        &rt,
-        rt.alloc(),
-        b"{\"watermark\":7}\n{\"key\":\"a\",\"ts\":6}\n{\"watermark\":9}\n",
-    )?;
-    assert!(rt; items.count() == 1);
-    assert!(rt; items.at(0).late);
-    assert_eq!(rt; items.stated(0), 7);
-    assert_eq!(rt; items.stated(1), END);
-    Ok(())
-}
-
-#[test]
-fn a_cut_line_is_refused(rt: HostRuntime) {
-    let refusal = read(
-        &rt,
-        rt.alloc(),
-        b"{\"key\":\"a\",\"ts\":1}\n{\"key\":\"a\",\"ts\"",
-    )
-    .err();
-    assert_eq!(rt;
-        refusal,
-        Some(LinesRefusal::Line {
-            line: 2,
-            why: LineWhy::NotJson
-        })
-    );
-}
-
-#[test]
-fn the_first_rule_that_a_line_breaks_is_named(rt: HostRuntime) {
-    for (text, why) in [
-        (b"{\"key\":\"\xff\",\"ts\":1}".as_slice(), LineWhy::NotJson),
-        (b"\r\r\n".as_slice(), LineWhy::NotJson),
-        (b"{\"key\":\"a\",\"ts\":05}".as_slice(), LineWhy::NotJson),
-        (b"{\"key\":\"a\\\",\"ts\":5}".as_slice(), LineWhy::NotJson),
-        (b"[1]".as_slice(), LineWhy::NotObject),
-        (b"{\"ts\":1}".as_slice(), LineWhy::BadKey),
-        (b"{\"key\":7,\"ts\":-1}".as_slice(), LineWhy::BadKey),
-        (b"{\"key\":\"\",\"ts\":1}".as_slice(), LineWhy::BadKey),
-        (
-            b"{\"key\":\"a\",\"value\":null}".as_slice(),
-            LineWhy::BadStamp,
-        ),
-        (
-            b"{\"key\":\"a\",\"ts\":4611686018427387905}".as_slice(),
-            LineWhy::BadStamp,
-        ),
-        (b"{\"key\":\"a\",\"ts\":-0}".as_slice(), LineWhy::BadStamp),
-        (
-            b"{\"watermark\":4611686018427387905}".as_slice(),
-            LineWhy::BadStamp,
-        ),
-        (
-            b"{\"watermark\":null,\"key\":7}".as_slice(),
-            LineWhy::BadStamp,
-        ),
-        (
-            b"{\"key\":\"a\",\"ts\":1,\"value\":null}".as_slice(),
-            LineWhy::BadValue,
-        ),
-        (
-            b"{\"key\":\"a\",\"ts\":1,\"value\":1.0}".as_slice(),
-            LineWhy::BadValue,
-        ),
-        (
-            b"{\"key\":\"a\",\"ts\":1,\"value\":-0}".as_slice(),
-            LineWhy::BadValue,
-        ),
-        (
-            b"{\"key\":\"a\",\"ts\":1,\"value\":9223372036854775808}".as_slice(),
-            LineWhy::BadValue,
-        ),
-        (
-            b"{\"key\":\"a\",\"ts\":1,\"value\":-9223372036854775809}".as_slice(),
-            LineWhy::BadValue,
-        ),
-    ] {
-        assert_eq!(rt;
-            read(&rt, rt.alloc(), text).err(),
-            Some(LinesRefusal::Line { line: 1, why }),
-            "{why:?}"
-        );
+// Whether there are these records, and these watermarks before each and after the last.
+fn are_told(items: &Items, records: &[Told], marks: &[u64]) -> bool {
+    let mut at = 0u32;
+    for told in records {
+        if at >= items.count() || !is_told(items.at(at), told) {
+            return false;
+        }
+        at = at.saturating_add(1);
     }
+    at == items.count() && are_marks(items, marks)
 }
 
-#[test]
-fn the_greatest_numbers_are_read(rt: HostRuntime) -> Result<(), Fail> {
-    let items = read(
-        &rt,
-        rt.alloc(),
+// Whether these watermarks were stated.
+fn are_marks(items: &Items, marks: &[u64]) -> bool {
+    let mut at = 0u32;
+    for mark in marks {
+        if items.stated(at) != *mark {
+            return false;
+        }
+        at = at.saturating_add(1);
+    }
+    true
+}
+
+// Whether a text has these records and watermarks.
+fn holds(
+    alloc: Global,
+    text: &[u8],
+    records: &[Told],
+    marks: &[u64],
+) -> Result<bool, LinesRefusal> {
+    Ok(are_told(&read(alloc, text)?, records, marks))
+}
+
+// One file, the records that it has, and the watermarks before each and after the last.
+type File = (&'static str, &'static [u8], &'static [Told], &'static [u64]);
+
+const FILES: [File; 4] = [
+    ("an empty file has ended", b"", &[], &[END]),
+    (
+        "a record at the watermark is in time",
+        b"{\"key\":\"a\",\"ts\":3}\r\n \t\r\n{\"watermark\":7,\"ts\":null}\n{\"watermark\":4}\n{\"ts\":7,\"value\":-2,\"key\":\"b\"}",
+        &[("a", 3, 1, false), ("b", 7, -2, false)],
+        &[0, 7, END],
+    ),
+    (
+        "a record below the watermark is late",
+        b"{\"watermark\":7}\n{\"key\":\"a\",\"ts\":6}\n{\"watermark\":9}\n",
+        &[("a", 6, 1, true)],
+        &[7, END],
+    ),
+    (
+        "the greatest numbers are read",
         b"{\"watermark\":4611686018427387904}
 {\"key\":\"a\",\"ts\":4611686018427387904,\"value\":9223372036854775807}
 {\"key\":\"a\",\"ts\":0,\"value\":-9223372036854775808}",
-    )?;
-    assert!(rt; items.count() == 2);
-    assert_eq!(rt; items.stated(0), 4611686018427387904);
-    assert_eq!(rt;
-        (items.at(0).stamp, items.at(0).value),
-        (4611686018427387904, 9223372036854775807)
-    );
-    assert_eq!(rt;
-        (items.at(1).stamp, items.at(1).value),
-        (0, -9223372036854775808)
-    );
-    Ok(())
-}
+        &[
+            ("a", 4611686018427387904, 9223372036854775807, false),
+            ("a", 0, -9223372036854775808, true),
+        ],
+        &[4611686018427387904, 4611686018427387904, END],
+    ),
+];
 
 #[test]
-fn a_key_has_at_most_256_bytes(rt: HostRuntime) -> Result<(), Fail> {
-    for (len, refusal) in [
-        (256, None),
-        (
-            257,
-            Some(LinesRefusal::Line {
-                line: 1,
-                why: LineWhy::BadKey,
-            }),
-        ),
-    ] {
-        let mut text = String::from_str(rt.alloc(), "{\"key\":\"")?;
-        for _ in 0..len {
-            text.push_str("k")?;
-        }
-        text.push_str("\",\"ts\":1}")?;
-        assert_eq!(rt; read(&rt, rt.alloc(), text.as_bytes()).err(), refusal);
+fn files_hold_their_records_and_watermarks(rt: HostRuntime) -> Result<(), LinesRefusal> {
+    for (name, text, records, marks) in FILES {
+        assert!(rt; holds(rt.alloc(), text, records, marks)?, "{name}");
     }
     Ok(())
 }
 
+// Spellings of one record.
+const SPELLINGS: [&[u8]; 4] = [
+    b"{\"key\":\"\xc3\xa9/a\",\"ts\":50}",
+    b"{\"key\":\"\\u00e9\\/a\",\"ts\":50}",
+    b" { \"ts\" : 50 , \"key\" : \"\xc3\xa9/a\" }\r",
+    b"{\"key\":\"b\",\"key\":\"\xc3\xa9/a\",\"ts\":50,\"more\":[{}]}",
+];
+
 #[test]
-fn the_line_after_the_room_is_refused(rt: HostRuntime) {
-    let text =
-        b"{\"key\":\"a\",\"ts\":1}\n{\"key\":\"a\",\"ts\":2}\n{\"watermark\":1}\n{\"key\":\"a\",\"ts\":3}";
-    assert_eq!(rt;
-        read(&rt, rt.alloc(), text).err(),
-        Some(LinesRefusal::Line {
-            line: 4,
-            why: LineWhy::TooManyLines
-        })
-    );
+fn a_record_may_be_spelt_in_many_ways(rt: HostRuntime) -> Result<(), LinesRefusal> {
+    let told = [("é/a", 50, 1, false)];
+    for (at, text) in SPELLINGS.iter().enumerate() {
+        assert!(rt; holds(rt.alloc(), text, &told, &[0, END])?, "{at}");
+    }
+    Ok(())
+}
+
+// Whether a line that is pushed is held.
+fn holds_pushed(alloc: Global) -> Result<bool, NoMemory> {
+    let mut items = Items::new(alloc);
+    let record_key = key_of(alloc, "a")?;
+    let item = Item {
+        record_key,
+        stamp: 5,
+        value: 1,
+        late: false,
+    };
+    items.push(item, 0)?;
+    Ok(are_told(&items, &[("a", 5, 1, false)], &[0, END]))
 }
 
 #[test]
-fn a_record_may_be_spelt_in_many_ways(rt: HostRuntime) -> Result<(), Fail> {
-    for text in [
-        b"{\"key\":\"\xc3\xa9/a\",\"ts\":50}".as_slice(),
-        b"{\"key\":\"\\u00e9\\/a\",\"ts\":50}".as_slice(),
-        b" { \"ts\" : 50 , \"key\" : \"\xc3\xa9/a\" }\r".as_slice(),
-        b"{\"key\":\"b\",\"key\":\"\xc3\xa9/a\",\"ts\":50,\"more\":[{}]}".as_slice(),
-    ] {
-        let items = read(&rt, rt.alloc(), text)?;
-        assert!(rt; items.count() == 1);
-        assert_eq!(rt;
-            items.at(0).record_key.text().as_bytes(),
-            b"\xc3\xa9/a".as_slice()
-        );
-        assert_eq!(rt;
-            (items.at(0).stamp, items.at(0).value, items.at(0).late),
-            (50, 1, false)
-        );
+fn lines_that_are_pushed_are_held(rt: HostRuntime) -> Result<(), NoMemory> {
+    assert!(rt; holds_pushed(rt.alloc())?);
+    Ok(())
+}
+
+// Whether a text is refused at this line, by this rule.
+fn is_refused(alloc: Global, text: &[u8], line: u32, why: LineWhy) -> bool {
+    match read(alloc, text) {
+        Err(refusal) => refusal == LinesRefusal::Line { line, why },
+        Ok(_) => false,
+    }
+}
+
+// Lines that each break a rule, and the first rule that each breaks.
+const BROKEN: [(&[u8], LineWhy); 18] = [
+    (b"{\"key\":\"\xff\",\"ts\":1}", LineWhy::NotJson),
+    (b"\r\r\n", LineWhy::NotJson),
+    (b"{\"key\":\"a\",\"ts\":05}", LineWhy::NotJson),
+    (b"{\"key\":\"a\\\",\"ts\":5}", LineWhy::NotJson),
+    (b"[1]", LineWhy::NotObject),
+    (b"{\"ts\":1}", LineWhy::BadKey),
+    (b"{\"key\":7,\"ts\":-1}", LineWhy::BadKey),
+    (b"{\"key\":\"\",\"ts\":1}", LineWhy::BadKey),
+    (b"{\"key\":\"a\",\"value\":null}", LineWhy::BadStamp),
+    (
+        b"{\"key\":\"a\",\"ts\":4611686018427387905}",
+        LineWhy::BadStamp,
+    ),
+    (b"{\"key\":\"a\",\"ts\":-0}", LineWhy::BadStamp),
+    (b"{\"watermark\":4611686018427387905}", LineWhy::BadStamp),
+    (b"{\"watermark\":null,\"key\":7}", LineWhy::BadStamp),
+    (
+        b"{\"key\":\"a\",\"ts\":1,\"value\":null}",
+        LineWhy::BadValue,
+    ),
+    (b"{\"key\":\"a\",\"ts\":1,\"value\":1.0}", LineWhy::BadValue),
+    (b"{\"key\":\"a\",\"ts\":1,\"value\":-0}", LineWhy::BadValue),
+    (
+        b"{\"key\":\"a\",\"ts\":1,\"value\":9223372036854775808}",
+        LineWhy::BadValue,
+    ),
+    (
+        b"{\"key\":\"a\",\"ts\":1,\"value\":-9223372036854775809}",
+        LineWhy::BadValue,
+    ),
+];
+
+#[test]
+fn the_first_rule_that_a_line_breaks_is_named(rt: HostRuntime) {
+    for (at, (text, why)) in BROKEN.iter().enumerate() {
+        assert!(rt; is_refused(rt.alloc(), text, 1, *why), "{at}");
+    }
+}
+
+// A line that is cut off, and one more than there is room for.
+const LATER: [(&str, u32, &[u8], LineWhy); 2] = [
+    (
+        "a cut line",
+        2,
+        b"{\"key\":\"a\",\"ts\":1}\n{\"key\":\"a\",\"ts\"",
+        LineWhy::NotJson,
+    ),
+    (
+        "the line after the room",
+        4,
+        b"{\"key\":\"a\",\"ts\":1}\n{\"key\":\"a\",\"ts\":2}\n{\"watermark\":1}\n{\"key\":\"a\",\"ts\":3}",
+        LineWhy::TooManyLines,
+    ),
+];
+
+#[test]
+fn a_line_after_good_ones_is_refused_by_its_number(rt: HostRuntime) {
+    for (name, line, text, why) in LATER {
+        assert!(rt; is_refused(rt.alloc(), text, line, why), "{name}");
+    }
+}
+
+// A record whose key has so many letters.
+fn long_key(alloc: Global, count: u32) -> Result<String, NoMemory> {
+    let mut text = String::from_str(alloc, "{\"key\":\"")?;
+    for _ in 0..count {
+        text.push_str("k")?;
+    }
+    text.push_str("\",\"ts\":1}")?;
+    Ok(text)
+}
+
+// Why it is refused, if it is.
+fn long_key_refusal(alloc: Global, count: u32) -> Result<Option<LinesRefusal>, NoMemory> {
+    let text = long_key(alloc, count)?;
+    Ok(read(alloc, text.as_bytes()).err())
+}
+
+#[test]
+fn a_key_has_at_most_256_bytes(rt: HostRuntime) -> Result<(), NoMemory> {
+    let (line, why) = (1, LineWhy::BadKey);
+    for (count, refusal) in [(256, None), (257, Some(LinesRefusal::Line { line, why }))] {
+        assert!(rt; long_key_refusal(rt.alloc(), count)? == refusal, "{count}");
     }
     Ok(())
 }

@@ -11,7 +11,6 @@ use mw_types::{
     Effects, Key, Kind, KindTable, MAX_STAMP, NoMemory, Record, Seq, State, Timer, WindowList,
 };
 use std::alloc::Global;
-use std::test::Fail;
 
 // One injector, a count with windows of 60 microseconds, a spike that compares two totals by the
 // factor three, and a pass.
@@ -200,6 +199,25 @@ fn note(produced: &mut Produced, effects: &Effects) -> Result<(), NoMemory> {
     Ok(())
 }
 
+// The state of a row after one of both, and what was produced is noted.
+fn stepped(
+    alloc: Global,
+    work: &Kinds,
+    part: u32,
+    state: &State,
+    deed: Deed,
+    produced: &mut Produced,
+) -> Result<State, NoMemory>
+    requires has { HasState work.now part state.now }
+    requires within { IsWithin state.now }
+    ensures has { IfOk result (λ s. HasState work.now part s) }
+    ensures within { IfOk result (λ s. IsWithin s) }
+{
+    let effects = done(alloc, work, part, state, deed)?;
+    note(produced, &effects)?;
+    Ok(state_of(effects))
+}
+
 // The state of a row after these, and what was produced on the way. The loop has the one call with
 // conditions, so that no test carries what each call before has told.
 fn walked(
@@ -215,9 +233,7 @@ fn walked(
     let mut state = first;
     let mut produced = Seq::new(alloc);
     for deed in deeds {
-        let effects = done(alloc, work, part, &state, *deed)?;
-        note(&mut produced, &effects)?;
-        state = state_of(effects);
+        state = stepped(alloc, work, part, &state, *deed, &mut produced)?;
     }
     Ok((state, produced))
 }
@@ -244,12 +260,11 @@ fn left(alloc: Global) -> Result<Effects, NoMemory> {
     Ok(context.into_effects())
 }
 
-#[test]
-fn a_handler_sets_and_produces(rt: HostRuntime) -> Result<(), Fail> {
-    let effects = left(rt.alloc())?;
-    assert!(rt; effects.state == State::Pass { late: 2 });
-    assert!(rt; effects.timers.len() == 1 && effects.productions.len() == 1);
-    Ok(())
+// Whether it is one timer, one record, and the state as it was.
+fn leaves_both(alloc: Global) -> Result<bool, NoMemory> {
+    let effects = left(alloc)?;
+    let is_pass = matches!(&effects.state, State::Pass { late: 2 });
+    Ok(is_pass && effects.timers.len() == 1 && effects.productions.len() == 1)
 }
 
 // Whether a context shows this key and state.
@@ -258,9 +273,18 @@ fn shows(alloc: Global, key: &Key, state: &State) -> Result<bool, NoMemory> {
     Ok(*context.key() == *key && *context.state() == *state)
 }
 
+// Whether a context shows no key, and the state of a pass.
+fn shows_the_row(alloc: Global) -> Result<bool, NoMemory> {
+    shows(alloc, &Key::none(alloc), &State::Pass { late: 2 })
+}
+
 #[test]
-fn a_context_shows_the_row(rt: HostRuntime) -> Result<(), Fail> {
-    let key = Key::none(rt.alloc());
-    assert!(rt; shows(rt.alloc(), &key, &State::Pass { late: 2 })?);
+fn a_context_shows_the_row_and_takes_what_a_handler_does(rt: HostRuntime) -> Result<(), NoMemory> {
+    for (name, holds) in [
+        ("a context shows the row", shows_the_row(rt.alloc())?),
+        ("a handler sets and produces", leaves_both(rt.alloc())?),
+    ] {
+        assert!(rt; holds, "{name}");
+    }
     Ok(())
 }

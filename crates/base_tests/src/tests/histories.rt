@@ -4,7 +4,6 @@ use injector::{Items, ItemsList};
 use mw_types::{Bytes, Entry, Key, NoMemory, Production, Record};
 use run_history::{Case, History, emissions, first_row, make, production, result_text};
 use std::alloc::Global;
-use std::test::Fail;
 use topology::Topology;
 
 // A record, whose key is of no matter here.
@@ -54,22 +53,30 @@ fn both_sizes(alloc: Global, topology: &Topology) -> Result<Both, NoMemory> {
     Ok((injected, sizes(alloc, topology, 1)?))
 }
 
-#[test]
-fn a_history_takes_its_last_entry_back(rt: HostRuntime) -> Result<(), Fail> {
-    let alloc = rt.alloc();
+// Whether a history that was empty holds an entry, and gives it back.
+fn takes_back(alloc: Global) -> Result<bool, NoMemory> {
     let mut history = History::new(alloc);
-    assert!(rt; history.is_empty());
+    let was_empty = history.is_empty();
     history.push(injected(alloc))?;
-    assert_eq!(rt; history.entries().len(), 1);
-    assert!(rt; history.pop().is_some());
-    assert!(rt; history.pop().is_none());
-    Ok(())
+    let holds = history.entries().len() == 1;
+    Ok(was_empty && holds && history.pop().is_some() && history.pop().is_none())
 }
 
 #[test]
-fn a_count_is_sent_to_and_emits(rt: HostRuntime) -> Result<(), Fail> {
-    let topology = Topology::one_count(rt.alloc(), 60)?;
-    assert!(rt; both_sizes(rt.alloc(), &topology)? == ((1, 0), (0, 1)));
+fn a_history_takes_its_last_entry_back(rt: HostRuntime) -> Result<(), NoMemory> {
+    assert!(rt; takes_back(rt.alloc())?);
+    Ok(())
+}
+
+// The same of the parts of one count.
+fn count_sizes(alloc: Global) -> Result<Both, NoMemory> {
+    let topology = Topology::one_count(alloc, 60)?;
+    both_sizes(alloc, &topology)
+}
+
+#[test]
+fn a_count_is_sent_to_and_emits(rt: HostRuntime) -> Result<(), NoMemory> {
+    assert!(rt; count_sizes(rt.alloc())? == ((1, 0), (0, 1)));
     Ok(())
 }
 
@@ -98,39 +105,40 @@ fn written(alloc: Global, case: &Case) -> Result<Bytes, NoMemory> {
     result_text(alloc, case, &History::new(alloc))
 }
 
-// What is told of a run of nothing: the sizes of a row, how many intervals there are and how many
-// records were emitted, and the text.
-type Told = ((usize, usize, usize), u32, usize, Bytes);
+// The summary of nothing.
+const SUMMARY: &[u8] = b"{\"fired\":0,\"handled\":0,\"injected\":0,\"late\":0}\n";
 
-// What is told of this case.
-fn told(alloc: Global, case: &Case) -> Result<Told, NoMemory> {
-    let sizes = sizes_of_first(alloc, case);
-    let intervals = case.intervals().count();
-    let emitted = emitted(alloc, case)?;
-    Ok((sizes, intervals, emitted, written(alloc, case)?))
+// Whether a row begins fresh, there are two intervals, and of a run of nothing the summary is printed alone.
+fn is_empty_run(alloc: Global, case: &Case) -> Result<bool, NoMemory> {
+    Ok(
+        sizes_of_first(alloc, case) == (0, 0, 0)
+            && case.intervals().count() == 2
+            && emitted(alloc, case)? == 0
+            && written(alloc, case)?.as_slice() == SUMMARY,
+    )
 }
 
 // The same of the empty case. No other function has a case of its own, since each that has is slow to
 // prove.
-fn told_of_nothing(alloc: Global) -> Result<Told, NoMemory> {
+fn empty_case_is_empty_run(alloc: Global) -> Result<bool, NoMemory> {
     let case = empty_case(alloc)?;
-    told(alloc, &case)
+    is_empty_run(alloc, &case)
 }
 
 #[test]
-fn a_run_of_nothing_is_printed_and_rows_begin_fresh(rt: HostRuntime) -> Result<(), Fail> {
-    let (sizes, intervals, emitted, text) = told_of_nothing(rt.alloc())?;
-    assert!(rt; sizes == (0, 0, 0) && intervals == 2 && emitted == 0);
-    let summary = b"{\"fired\":0,\"handled\":0,\"injected\":0,\"late\":0}\n";
-    assert_eq!(rt; text.as_slice(), summary.as_slice());
+fn a_run_of_nothing_is_printed_and_rows_begin_fresh(rt: HostRuntime) -> Result<(), NoMemory> {
+    assert!(rt; empty_case_is_empty_run(rt.alloc())?);
     Ok(())
 }
 
-#[test]
-fn an_injected_record_is_produced_as_it_is(rt: HostRuntime) -> Result<(), Fail> {
-    let alloc = rt.alloc();
+// The timestamp and value of what is produced of the record.
+fn produced(alloc: Global) -> Result<(u64, i64), NoMemory> {
     let production = production(alloc, &record(alloc))?;
-    assert_eq!(rt; production.stamp, 10);
-    assert_eq!(rt; production.value, 3);
+    Ok((production.stamp, production.value))
+}
+
+#[test]
+fn an_injected_record_is_produced_as_it_is(rt: HostRuntime) -> Result<(), NoMemory> {
+    assert!(rt; produced(rt.alloc())? == (10, 3));
     Ok(())
 }

@@ -2,18 +2,18 @@
 //! the row purged.
 ghost use Rattle.std.specs.Prelude.{All, IfOk, ◌≤◌};
 ghost use Rattle.mw_types.specs.declared.TheConstants.{MAX_STAMP};
+ghost use Rattle.mw_types.specs.declared.record.Production.{Production};
 ghost use Rattle.mw_types.specs.Bounds.{IsWithin};
 ghost use Rattle.run_history.specs.HistoryLines.{HasLine};
 
 use super::key_of;
 use mw_types::{
-    Duplicate, Effects, Entry, Key, NoMemory, Production, Record, RecordId, RowName, Seq, State,
-    Timer,
+    Bytes, Duplicate, Effects, Entry, Key, NoMemory, Production, ProductionList, Record, RecordId,
+    RowName, Seq, State, Timer,
 };
 use row_parts::read_state;
 use run_history::{History, entry_line, history_lines};
 use std::alloc::Global;
-use std::test::Fail;
 
 // The lines of the entries.
 const LINES: [&[u8]; 11] = [
@@ -78,19 +78,29 @@ fn timer_at(time: u32) -> Timer
 fn sets(alloc: Global, bytes: &[u8], time: u32) -> Result<Effects, NoMemory> {
     let state = state_spelt(alloc, bytes)?;
     let mut timers = Seq::new(alloc);
-    let productions = Seq::new(alloc);
     timers.push(timer_at(time))?;
     Ok(Effects {
         state,
         timers,
-        productions,
+        productions: Seq::new(alloc),
     })
 }
 
 // A handler closed the last window, and produced its count of one.
 fn closes(alloc: Global, row: &RowName, time: u32) -> Result<Effects, NoMemory> {
     let state = state_spelt(alloc, NONE)?;
-    let timers = Seq::new(alloc);
+    let productions = one_of(alloc, row, time)?;
+    Ok(Effects {
+        state,
+        timers: Seq::new(alloc),
+        productions,
+    })
+}
+
+// The count of one that a row produces.
+fn one_of(alloc: Global, row: &RowName, time: u32) -> Result<ProductionList, NoMemory>
+    ensures { IfOk result (All (λ (p : Production). p.stamp ≤ MAX_STAMP)) }
+{
     let mut productions = Seq::new(alloc);
     let key = row.key.copy(alloc)?;
     let stamp = time as u64;
@@ -99,11 +109,7 @@ fn closes(alloc: Global, row: &RowName, time: u32) -> Result<Effects, NoMemory> 
         stamp,
         value: 1,
     })?;
-    Ok(Effects {
-        state,
-        timers,
-        productions,
-    })
+    Ok(productions)
 }
 
 // A line is injected.
@@ -203,6 +209,20 @@ fn entry(alloc: Global, n: usize) -> Result<Entry, NoMemory>
     }
 }
 
+// Whether the entry of this commit number is printed so.
+fn is_printed(alloc: Global, n: usize, line: &[u8]) -> Result<bool, NoMemory> {
+    let entry = entry(alloc, n)?;
+    Ok(entry_line(alloc, &entry, n as u64)?.as_slice() == line)
+}
+
+#[test]
+fn each_entry_has_its_line(rt: HostRuntime) -> Result<(), NoMemory> {
+    for (n, line) in LINES.iter().enumerate() {
+        assert!(rt; is_printed(rt.alloc(), n, line)?, "{n}");
+    }
+    Ok(())
+}
+
 // The history of the entries.
 fn example(alloc: Global) -> Result<History, NoMemory>
     ensures { IfOk result (All HasLine) }
@@ -214,27 +234,42 @@ fn example(alloc: Global) -> Result<History, NoMemory>
     Ok(history)
 }
 
-#[test]
-fn each_entry_has_its_line(rt: HostRuntime) -> Result<(), Fail> {
-    let alloc = rt.alloc();
-    for (n, line) in LINES.iter().enumerate() {
-        let entry = entry(alloc, n)?;
-        let printed = entry_line(alloc, &entry, n as u64)?;
-        assert_eq!(rt; printed.as_slice(), *line);
+// What is printed of it.
+fn example_printed(alloc: Global) -> Result<Bytes, NoMemory> {
+    let history = example(alloc)?;
+    history_lines(alloc, &history)
+}
+
+// Whether bytes are all lines, one after another.
+fn are_lines(bytes: &[u8]) -> bool {
+    let mut rest = bytes;
+    for line in LINES {
+        if rest.len() < line.len() || &rest[..line.len()] != line {
+            return false;
+        }
+        rest = &rest[line.len()..];
     }
-    Ok(())
+    rest.is_empty()
+}
+
+// Whether the history is printed as its lines.
+fn example_is_printed(alloc: Global) -> Result<bool, NoMemory> {
+    Ok(are_lines(example_printed(alloc)?.as_slice()))
+}
+
+// Whether of a history of nothing no line is printed.
+fn nothing_is_printed(alloc: Global) -> Result<bool, NoMemory> {
+    let history = History::new(alloc);
+    Ok(history_lines(alloc, &history)?.is_empty())
 }
 
 #[test]
-fn a_history_is_printed_line_by_line(rt: HostRuntime) -> Result<(), Fail> {
-    let alloc = rt.alloc();
-    let history = example(alloc)?;
-    let mut all = Vec::new(alloc);
-    for line in LINES {
-        all.extend_from_slice(line)?;
+fn a_history_is_printed_line_by_line(rt: HostRuntime) -> Result<(), NoMemory> {
+    for (name, is_printed) in [
+        ("the example", example_is_printed(rt.alloc())?),
+        ("nothing", nothing_is_printed(rt.alloc())?),
+    ] {
+        assert!(rt; is_printed, "{name}");
     }
-    let printed = history_lines(alloc, &history)?;
-    assert_eq!(rt; printed.as_slice(), all.as_slice());
-    assert!(rt; history_lines(alloc, &History::new(alloc))?.is_empty());
     Ok(())
 }

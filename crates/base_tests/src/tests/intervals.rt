@@ -2,8 +2,9 @@
 ghost use Rattle.std.specs.Prelude.{◌≡◌, ◌∷◌, ◌≤◌, ◌<◌, [], ℕ, All, Any, codes, length, IfOk};
 ghost use Rattle.key_intervals.specs.declared.bounds.Bounds.{Bounds};
 ghost use Rattle.mw_types.specs.declared.key.PartCuts.{PartCuts};
-ghost use Rattle.key_intervals.specs.Intervals.{AreNumbered};
+ghost use Rattle.key_intervals.specs.Intervals.{AreNumbered, bounds_of};
 
+use super::key_of;
 use key_intervals::{Bounds, INTERVALS_MAX, Intervals};
 use mw_types::{Key, KeyList, KeyRefusal, NoMemory, PartCuts, PartCutsList, RowName};
 use std::alloc::Global;
@@ -33,44 +34,97 @@ fn three_parts(alloc: Global) -> Result<PartCutsList, KeyRefusal>
     Ok(parts)
 }
 
-#[test]
-fn a_cut_begins_an_interval(rt: HostRuntime) -> Result<(), KeyRefusal> {
-    let alloc = rt.alloc();
+// Their intervals.
+fn three_intervals(alloc: Global) -> Result<Intervals, KeyRefusal>
+    ensures { IfOk result (λ all. all ≡ bounds_of (record { part = 0; cuts = [] }
+        ∷ record { part = 1; cuts = codes "h" ∷ codes "q" ∷ [] } ∷ record { part = 2; cuts = [] } ∷ [])) }
+{
     let parts = three_parts(alloc)?;
     let intervals = Intervals::of(alloc, parts.as_slice())?;
-    assert_eq!(rt; intervals.count(), 5);
-    for (text, number) in [
-        ("a", 1),
-        ("gz", 1),
-        ("h", 2),
-        ("h0", 2),
-        ("p", 2),
-        ("q", 3),
-        ("z", 3),
-    ] {
-        let name = RowName {
-            part: 1,
-            key: Key::of(alloc, text)?,
-        };
-        assert_eq!(rt; intervals.find(&name), number, "{text}");
+    Ok(intervals)
+}
+
+// Whether a row of a part that is there is in this interval.
+fn finds(
+    alloc: Global,
+    intervals: &Intervals,
+    part: u32,
+    text: &str,
+    number: u32,
+) -> Result<bool, NoMemory>
+    requires { Any (λ (b : Bounds). b.part ≡ part) intervals.now }
+{
+    let key = key_of(alloc, text)?;
+    Ok(intervals.find(&RowName { part, key }) == number)
+}
+
+// Keys of the part that is cut, and the interval of each.
+const CUT: [(&str, u32); 7] = [
+    ("a", 1),
+    ("gz", 1),
+    ("h", 2),
+    ("h0", 2),
+    ("p", 2),
+    ("q", 3),
+    ("z", 3),
+];
+
+#[test]
+fn a_cut_begins_an_interval(rt: HostRuntime) -> Result<(), KeyRefusal> {
+    let intervals = three_intervals(rt.alloc())?;
+    for (text, number) in CUT {
+        assert!(rt; finds(rt.alloc(), &intervals, 1, text, number)?, "{text}");
     }
-    let injector = RowName {
+    Ok(())
+}
+
+// The interval of the row of the injector.
+fn injector_interval(alloc: Global, intervals: &Intervals) -> u32
+    requires { Any (λ (b : Bounds). b.part ≡ 0) intervals.now }
+{
+    intervals.find(&RowName {
         part: 0,
         key: Key::none(alloc),
-    };
-    assert_eq!(rt; intervals.find(&injector), 0);
-    let last = RowName {
-        part: 2,
-        key: Key::of(alloc, "h")?,
-    };
-    assert_eq!(rt; intervals.find(&last), 4);
-    let middle = Bounds {
-        part: 1,
-        from: Key::of(alloc, "h")?,
-        to: Some(Key::of(alloc, "q")?),
-    };
-    assert!(rt; *intervals.bounds(2) == middle);
-    assert!(rt; !intervals.bounds(2).covers(&last));
+    })
+}
+
+// Whether there are five, of which the first and the last are of the parts beside.
+fn are_five(alloc: Global) -> Result<bool, KeyRefusal> {
+    let intervals = three_intervals(alloc)?;
+    Ok(
+        intervals.count() == 5
+            && injector_interval(alloc, &intervals) == 0
+            && finds(alloc, &intervals, 2, "h", 4)?,
+    )
+}
+
+// The bounds from h to q.
+fn middle(alloc: Global) -> Result<Bounds, NoMemory> {
+    let from = key_of(alloc, "h")?;
+    let to = Some(key_of(alloc, "q")?);
+    Ok(Bounds { part: 1, from, to })
+}
+
+// Whether bounds are those, and have no row of another part.
+fn is_middle(alloc: Global, bounds: &Bounds) -> Result<bool, NoMemory> {
+    let key = key_of(alloc, "h")?;
+    Ok(!bounds.covers(&RowName { part: 2, key }) && *bounds == middle(alloc)?)
+}
+
+// Whether the interval in the middle has these bounds.
+fn has_middle(alloc: Global) -> Result<bool, KeyRefusal> {
+    let intervals = three_intervals(alloc)?;
+    Ok(is_middle(alloc, intervals.bounds(2))?)
+}
+
+#[test]
+fn parts_beside_a_cut_part_have_one_interval(rt: HostRuntime) -> Result<(), KeyRefusal> {
+    for (name, holds) in [
+        ("five intervals", are_five(rt.alloc())?),
+        ("the middle one", has_middle(rt.alloc())?),
+    ] {
+        assert!(rt; holds, "{name}");
+    }
     Ok(())
 }
 
@@ -99,20 +153,36 @@ fn whole_intervals(alloc: Global, count: u32) -> Result<Intervals, NoMemory>
     Ok(intervals)
 }
 
-#[test]
-fn a_part_without_cuts_has_one_interval(rt: HostRuntime) -> Result<(), NoMemory> {
-    let alloc = rt.alloc();
-    let one = whole_intervals(alloc, 1)?;
-    assert_eq!(rt; one.count(), 1);
+// How many intervals so many parts have.
+fn count_of(alloc: Global, count: u32) -> Result<u32, NoMemory>
+    requires { count ≤ INTERVALS_MAX }
+{
+    Ok(whole_intervals(alloc, count)?.count())
+}
+
+// Whether bounds are those of a whole part.
+fn is_whole(bounds: &Bounds, part: u32) -> bool {
+    bounds.part == part && bounds.to.is_none()
+}
+
+// Whether the last of 61 parts has its own interval, without an upper end.
+fn last_is_whole(alloc: Global) -> Result<bool, NoMemory> {
     let intervals = whole_intervals(alloc, 61)?;
-    assert_eq!(rt; intervals.count(), 61);
     let last = RowName {
         part: 60,
         key: Key::none(alloc),
     };
-    assert_eq!(rt; intervals.find(&last), 60);
-    let bounds = intervals.bounds(60);
-    assert_eq!(rt; bounds.part, 60);
-    assert!(rt; bounds.to.is_none());
+    Ok(intervals.find(&last) == 60 && is_whole(intervals.bounds(60), 60))
+}
+
+#[test]
+fn a_part_without_cuts_has_one_interval(rt: HostRuntime) -> Result<(), NoMemory> {
+    for (name, holds) in [
+        ("of one", count_of(rt.alloc(), 1)? == 1),
+        ("of 61", count_of(rt.alloc(), 61)? == 61),
+        ("the last", last_is_whole(rt.alloc())?),
+    ] {
+        assert!(rt; holds, "{name}");
+    }
     Ok(())
 }

@@ -1,3 +1,4 @@
+//! The texts that have one JSON value.
 use json_reading::json_of;
 use mw_types::NoMemory;
 use serde_json::Value;

@@ -36,15 +36,23 @@ fn put<K: Keeper>(
     keeper.put(alloc, &row.name, row.bytes.as_slice())
 }
 
-// Puts seven rows, the last in the place of an earlier one.
+// The part, the key and the byte of seven rows, the last in the place of an earlier one.
+const ROWS: [(u32, &str, u8); 7] = [
+    (2, "h", 1),
+    (1, "q", 2),
+    (1, "pz", 3),
+    (1, "h", 4),
+    (1, "a", 5),
+    (0, "", 6),
+    (1, "h", 7),
+];
+
+// Puts them.
 fn fill<K: Keeper>(alloc: Global, keeper: &mut K) -> Result<(), KeeperFault> {
-    put(alloc, keeper, 2, "h", 1)?;
-    put(alloc, keeper, 1, "q", 2)?;
-    put(alloc, keeper, 1, "pz", 3)?;
-    put(alloc, keeper, 1, "h", 4)?;
-    put(alloc, keeper, 1, "a", 5)?;
-    put(alloc, keeper, 0, "", 6)?;
-    put(alloc, keeper, 1, "h", 7)
+    for (part, text, byte) in ROWS {
+        put(alloc, keeper, part, text, byte)?;
+    }
+    Ok(())
 }
 
 // The bytes of rows, one after another.
@@ -58,15 +66,23 @@ fn bytes_of(alloc: Global, rows: &KeptRowList) -> Result<Bytes, KeeperFault> {
     Ok(all)
 }
 
+// The keys of part 1 from h to q.
+fn middle(alloc: Global) -> Result<Bounds, NoMemory> {
+    let from = key(alloc, "h")?;
+    let to = Some(key(alloc, "q")?);
+    Ok(Bounds { part: 1, from, to })
+}
+
 // The bytes of the rows of part 1 from h to q.
 fn scan<K: Keeper>(alloc: Global, keeper: &mut K) -> Result<Bytes, KeeperFault> {
-    let bounds = Bounds {
-        part: 1,
-        from: key(alloc, "h")?,
-        to: Some(key(alloc, "q")?),
-    };
+    let bounds = middle(alloc)?;
     let found = keeper.scan(alloc, &bounds)?;
     bytes_of(alloc, &found)
+}
+
+// Whether these are the bytes of those rows.
+fn scans<K: Keeper>(alloc: Global, keeper: &mut K, bytes: &[u8]) -> Result<bool, KeeperFault> {
+    Ok(scan(alloc, keeper)?.as_slice() == bytes)
 }
 
 // The byte of the first row, or 0 where there is none.
@@ -77,50 +93,79 @@ fn first<K: Keeper>(alloc: Global, keeper: &mut K) -> Result<u8, KeeperFault> {
     }
 }
 
-// The bytes of all rows of a keeper in memory.
-fn all(alloc: Global, keeper: &MemKeeper) -> Result<Bytes, KeeperFault> {
+// Whether these are the bytes of all rows of a keeper in memory.
+fn has_all(alloc: Global, keeper: &MemKeeper, bytes: &[u8]) -> Result<bool, KeeperFault> {
     let rows = keeper.rows(alloc)?;
-    bytes_of(alloc, &rows)
+    Ok(bytes_of(alloc, &rows)?.as_slice() == bytes)
 }
 
-#[test]
-fn an_interval_has_its_rows_in_order(rt: HostRuntime) -> Result<(), KeeperFault> {
-    let alloc = rt.alloc();
+// Whether an interval has its rows in order once they are put.
+fn is_in_order(alloc: Global) -> Result<bool, KeeperFault> {
     let mut keeper = MemKeeper::new(alloc, CallList::new(alloc));
-    assert_eq!(rt; first(alloc, &mut keeper)?, 0);
+    let was_empty = first(alloc, &mut keeper)? == 0;
     fill(alloc, &mut keeper)?;
-    let found = scan(alloc, &mut keeper)?;
-    assert!(rt; found.as_slice() == [7, 3].as_slice());
-    assert_eq!(rt; first(alloc, &mut keeper)?, 6);
-    let rows = all(alloc, &keeper)?;
-    assert!(rt; rows.as_slice() == [6, 5, 7, 3, 2, 1].as_slice());
-    Ok(())
+    Ok(
+        was_empty
+            && scans(alloc, &mut keeper, &[7, 3])?
+            && first(alloc, &mut keeper)? == 6
+            && has_all(alloc, &keeper, &[6, 5, 7, 3, 2, 1])?,
+    )
 }
 
-#[test]
-fn each_named_call_fails(rt: HostRuntime) -> Result<(), KeeperFault> {
-    let alloc = rt.alloc();
-    let mut failing = CallList::new(alloc);
-    failing.push(0)?;
-    failing.push(2)?;
-    failing.push(4)?;
-    let mut keeper = MemKeeper::new(alloc, failing);
-    assert!(rt; put(alloc, &mut keeper, 1, "h", 1) == Err(KeeperFault::Failed));
-    put(alloc, &mut keeper, 1, "h", 2)?;
-    assert!(rt; scan(alloc, &mut keeper) == Err(KeeperFault::Failed));
-    assert_eq!(rt; scan(alloc, &mut keeper)?.len(), 1);
-    assert!(rt; first(alloc, &mut keeper) == Err(KeeperFault::Failed));
-    assert_eq!(rt; first(alloc, &mut keeper)?, 2);
-    Ok(())
+// A keeper that fails at these of its calls.
+fn failing(alloc: Global, calls: &[u64]) -> Result<MemKeeper, NoMemory> {
+    let mut list = CallList::new(alloc);
+    for call in calls {
+        list.push(*call)?;
+    }
+    Ok(MemKeeper::new(alloc, list))
 }
 
-#[test]
-fn a_blind_keeper_shows_its_row(rt: HostRuntime) -> Result<(), KeeperFault> {
-    let alloc = rt.alloc();
+// Whether a put fails once, and is done the next time.
+fn puts_again(alloc: Global, keeper: &mut MemKeeper) -> bool {
+    put(alloc, keeper, 1, "h", 1) == Err(KeeperFault::Failed)
+        && put(alloc, keeper, 1, "h", 2) == Ok(())
+}
+
+// Whether a scan fails once, and has the row the next time.
+fn scans_again(alloc: Global, keeper: &mut MemKeeper) -> bool {
+    scans(alloc, keeper, &[2]) == Err(KeeperFault::Failed) && scans(alloc, keeper, &[2]) == Ok(true)
+}
+
+// Whether each named call fails.
+fn fails_as_named(alloc: Global) -> Result<bool, KeeperFault> {
+    let mut keeper = failing(alloc, &[0, 2, 4])?;
+    Ok(
+        puts_again(alloc, &mut keeper)
+            && scans_again(alloc, &mut keeper)
+            && first(alloc, &mut keeper) == Err(KeeperFault::Failed)
+            && first(alloc, &mut keeper) == Ok(2),
+    )
+}
+
+// Whether a keeper that is blind shows its row, and no other.
+fn is_blind(alloc: Global) -> Result<bool, KeeperFault> {
     let mut keeper = BlindKeeper::new(row(alloc, 1, "p", 9)?);
     fill(alloc, &mut keeper)?;
-    assert_eq!(rt; first(alloc, &mut keeper)?, 0);
-    let found = scan(alloc, &mut keeper)?;
-    assert!(rt; found.as_slice() == [9].as_slice());
+    Ok(first(alloc, &mut keeper)? == 0 && scans(alloc, &mut keeper, &[9])?)
+}
+
+// Whether it takes a put of the very row that it shows.
+fn takes_its_row(alloc: Global) -> Result<bool, KeeperFault> {
+    let mut keeper = BlindKeeper::new(row(alloc, 1, "a", 255)?);
+    Ok(put(alloc, &mut keeper, 1, "a", 255) == Ok(()))
+}
+
+#[test]
+fn keepers_show_their_rows_and_fail_as_told(rt: HostRuntime) -> Result<(), KeeperFault> {
+    let alloc = rt.alloc();
+    for (name, holds) in [
+        ("an interval has its rows in order", is_in_order(alloc)?),
+        ("each named call fails", fails_as_named(alloc)?),
+        ("a blind keeper shows its row", is_blind(alloc)?),
+        ("a blind keeper takes its row", takes_its_row(alloc)?),
+    ] {
+        assert!(rt; holds, "{name}");
+    }
     Ok(())
 }

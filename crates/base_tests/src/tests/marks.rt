@@ -10,22 +10,12 @@ use std::test::Fail;
 use topology::{Topology, read};
 use watermark::{Oldest, feeding, inputs, low};
 
-#[test]
-fn a_stamp_is_held_as_often_as_it_was_added(rt: HostRuntime) -> Result<(), Fail> {
-    let mut oldest = three_stamps(rt.alloc())?;
-    for least in [3, 3, 5, END] {
-        assert_eq!(rt; oldest.least(), least);
-        remove_least(&mut oldest);
-    }
-    Ok(())
-}
-
 // The stamps 5, 3 and 3.
 fn three_stamps(alloc: Global) -> Result<Oldest, NoMemory> {
     let mut oldest = Oldest::new(alloc);
-    oldest.add(5)?;
-    oldest.add(3)?;
-    oldest.add(3)?;
+    for stamp in [5, 3, 3] {
+        oldest.add(stamp)?;
+    }
     Ok(oldest)
 }
 
@@ -37,20 +27,44 @@ fn remove_least(oldest: &mut Oldest) {
     }
 }
 
-#[test]
-fn a_later_stamp_leaves_the_least(rt: HostRuntime) -> Result<(), Fail> {
-    let mut oldest = three_stamps(rt.alloc())?;
-    add_and_remove(&mut oldest, 4)?;
-    assert_eq!(rt; oldest.least(), 3);
-    add_and_remove(&mut oldest, 2)?;
-    assert_eq!(rt; oldest.least(), 3);
-    Ok(())
+// Whether these are the least stamps, each removed before the next.
+fn are_removed(alloc: Global, stamps: &[u64]) -> Result<bool, NoMemory> {
+    let mut oldest = three_stamps(alloc)?;
+    for least in stamps {
+        if oldest.least() != *least {
+            return Ok(false);
+        }
+        remove_least(&mut oldest);
+    }
+    Ok(true)
 }
 
 // Adds a stamp, and removes it again.
 fn add_and_remove(oldest: &mut Oldest, stamp: u64) -> Result<(), NoMemory> {
     oldest.add(stamp)?;
     oldest.remove(stamp);
+    Ok(())
+}
+
+// The least stamp, after another was there for a while.
+fn least_after(alloc: Global, stamps: &[u64]) -> Result<u64, NoMemory> {
+    let mut oldest = three_stamps(alloc)?;
+    for stamp in stamps {
+        add_and_remove(&mut oldest, *stamp)?;
+    }
+    Ok(oldest.least())
+}
+
+#[test]
+fn the_least_stamp_is_held_as_often_as_it_was_added(rt: HostRuntime) -> Result<(), NoMemory> {
+    let alloc = rt.alloc();
+    for (name, holds) in [
+        ("as often", are_removed(alloc, &[3, 3, 5, END])?),
+        ("after a later one", least_after(alloc, &[4])? == 3),
+        ("after an earlier one", least_after(alloc, &[4, 2])? == 3),
+    ] {
+        assert!(rt; holds, "{name}");
+    }
     Ok(())
 }
 
@@ -109,40 +123,62 @@ fn least_input(case: &Case, interval: u32, marks: &[u64]) -> Option<u64> {
     }
 }
 
+// Whether these feed an interval of a topology.
+fn is_fed(alloc: Global, text: &str, interval: u32, feeds: &[u32]) -> Result<bool, Fail> {
+    let case = case_of(alloc, text)?;
+    Ok(fed(alloc, &case, interval)?.as_slice() == feeds)
+}
+
 #[test]
-fn the_intervals_of_a_count_are_fed_by_its_injector(rt: HostRuntime) -> Result<(), Fail> {
-    let alloc = rt.alloc();
-    let case = case_of(alloc, CUT)?;
-    assert_eq!(rt; fed(alloc, &case, 0)?.as_slice().len(), 0);
-    for interval in [1, 2, 3] {
-        assert_eq!(rt; fed(alloc, &case, interval)?.as_slice(), [0].as_slice());
+fn an_interval_is_fed_by_what_its_part_reads(rt: HostRuntime) -> Result<(), Fail> {
+    for (name, text, interval, feeds) in [
+        ("nothing feeds an injector", CUT, 0, [].as_slice()),
+        ("the injector feeds a part", CUT, 1, [0].as_slice()),
+        ("the injector feeds the next part", CUT, 2, [0].as_slice()),
+        ("the injector feeds the last part", CUT, 3, [0].as_slice()),
+        ("the injector feeds the count", CHAIN, 1, [0].as_slice()),
+        ("the count feeds the spike", CHAIN, 2, [1].as_slice()),
+    ] {
+        assert!(rt; is_fed(rt.alloc(), text, interval, feeds)?, "{name}");
     }
     Ok(())
 }
 
-#[test]
-fn a_computation_is_fed_by_the_one_that_it_reads(rt: HostRuntime) -> Result<(), Fail> {
-    let alloc = rt.alloc();
-    let case = case_of(alloc, CHAIN)?;
-    assert_eq!(rt; fed(alloc, &case, 1)?.as_slice(), [0].as_slice());
-    assert_eq!(rt; fed(alloc, &case, 2)?.as_slice(), [1].as_slice());
-    Ok(())
+// The least mark of a part of the count that is cut.
+fn least_of(alloc: Global, part: u32, marks: &[u64]) -> Result<Option<u64>, Fail> {
+    let case = case_of(alloc, CUT)?;
+    Ok(least_mark(&case, part, marks))
 }
 
 #[test]
 fn the_slowest_interval_holds_its_part(rt: HostRuntime) -> Result<(), Fail> {
-    let case = case_of(rt.alloc(), CUT)?;
-    assert_eq!(rt; least_mark(&case, 0, &[9, 4, 7, 6]), Some(9));
-    assert_eq!(rt; least_mark(&case, 1, &[9, 4, 7, 6]), Some(4));
-    assert_eq!(rt; least_mark(&case, 1, &[0, END, END, END]), Some(END));
+    for (part, marks, least) in [
+        (0, [9, 4, 7, 6], 9),
+        (1, [9, 4, 7, 6], 4),
+        (1, [0, END, END, END], END),
+    ] {
+        assert!(rt;
+            least_of(rt.alloc(), part, &marks)? == Some(least),
+            "{part}"
+        );
+    }
     Ok(())
+}
+
+// The least mark of what feeds an interval of the count that is cut.
+fn least_before(alloc: Global, interval: u32, marks: &[u64]) -> Result<Option<u64>, Fail> {
+    let case = case_of(alloc, CUT)?;
+    Ok(least_input(&case, interval, marks))
 }
 
 #[test]
 fn the_injector_holds_each_interval_of_its_count(rt: HostRuntime) -> Result<(), Fail> {
-    let case = case_of(rt.alloc(), CUT)?;
+    let marks = [9, 4, 7, 6];
     for (interval, least) in [(0, END), (1, 9), (2, 9), (3, 9)] {
-        assert_eq!(rt; least_input(&case, interval, &[9, 4, 7, 6]), Some(least));
+        assert!(rt;
+            least_before(rt.alloc(), interval, &marks)? == Some(least),
+            "{interval}"
+        );
     }
     Ok(())
 }

@@ -4,22 +4,26 @@ use mw_ports::{
     FileList, FileShelf, MemShelf, MemSink, NamedFile, OutSink, Shelf, ShelfFault, Sink, SinkFault,
     WordsFault, words_of, write_all,
 };
-use mw_types::{Bytes, CallList, Name, NoMemory};
+use mw_types::{Bytes, CallList, Name, NoMemory, Seq};
 use std::alloc::Global;
 use std::fs;
 use std::io::{Error, ErrorKind};
 use std::test::Fail;
 
-// A file of this name and content.
-fn file(alloc: Global, name: &str, content: &str) -> Result<NamedFile, NoMemory> {
+// These bytes.
+fn bytes_of(alloc: Global, content: &str) -> Result<Bytes, NoMemory> {
     let mut bytes = Bytes::new(alloc);
     for byte in content.as_bytes() {
         bytes.push(*byte)?;
     }
-    Ok(NamedFile {
-        name: Name::of(alloc, name)?,
-        bytes,
-    })
+    Ok(bytes)
+}
+
+// A file of this name and content.
+fn file(alloc: Global, name: &str, content: &str) -> Result<NamedFile, NoMemory> {
+    let bytes = bytes_of(alloc, content)?;
+    let name = Name::of(alloc, name)?;
+    Ok(NamedFile { name, bytes })
 }
 
 // The call of this number alone.
@@ -29,136 +33,212 @@ fn call(alloc: Global, number: u64) -> Result<CallList, NoMemory> {
     Ok(calls)
 }
 
-// What a shelf answers, read through its trait.
-fn answer<S: Shelf>(
+// Whether a shelf gives this content, or has this fault, read through its trait.
+fn answers<S: Shelf>(
     alloc: Global,
     shelf: &mut S,
     name: &str,
     limit: u64,
-) -> Result<Bytes, ShelfFault> {
-    shelf.read(alloc, name, limit)
+    wanted: Result<&[u8], ShelfFault>,
+) -> bool {
+    match (shelf.read(alloc, name, limit), wanted) {
+        (Ok(bytes), Ok(content)) => bytes.as_slice() == content,
+        (Err(fault), Err(wanted)) => fault == wanted,
+        _ => false,
+    }
 }
 
-#[test]
-fn a_shelf_in_memory_answers_its_files(rt: HostRuntime) -> Result<(), Fail> {
-    let alloc = rt.alloc();
+// Three files, of which two have one name.
+fn files(alloc: Global) -> Result<FileList, NoMemory> {
     let mut files = FileList::new(alloc);
-    files.push(file(alloc, "e.jsonl", "12345678")?)?;
-    files.push(file(alloc, "t.json", "{}")?)?;
-    files.push(file(alloc, "t.json", "[]")?)?;
-    let mut shelf = MemShelf::of(files, call(alloc, 1)?);
-    assert_eq!(rt;
-        answer(alloc, &mut shelf, "t.json", 2)?.as_slice(),
-        b"{}".as_slice()
-    );
-    let failed = answer(alloc, &mut shelf, "t.json", 2);
-    assert_eq!(rt; failed.err(), Some(ShelfFault::Failed));
-    assert_eq!(rt;
-        answer(alloc, &mut shelf, "e.jsonl", 8)?.as_slice(),
-        b"12345678".as_slice()
-    );
-    let long = answer(alloc, &mut shelf, "e.jsonl", 7);
-    assert_eq!(rt; long.err(), Some(ShelfFault::TooLong));
-    let missing = answer(alloc, &mut shelf, "e", 8);
-    assert_eq!(rt; missing.err(), Some(ShelfFault::Missing));
-    Ok(())
+    for (name, content) in [("e.jsonl", "12345678"), ("t.json", "{}"), ("t.json", "[]")] {
+        files.push(file(alloc, name, content)?)?;
+    }
+    Ok(files)
+}
+
+// A shelf with these, whose second call fails.
+fn shelf(alloc: Global) -> Result<MemShelf, NoMemory> {
+    let files = files(alloc)?;
+    let failing = call(alloc, 1)?;
+    Ok(MemShelf::of(files, failing))
 }
 
 #[test]
-fn a_sink_of_eight_bytes_fails_at_its_second_call(rt: HostRuntime) -> Result<(), Fail> {
-    let alloc = rt.alloc();
-    let none = CallList::new(alloc);
-    let mut out = MemSink::of(alloc, 8, call(alloc, 1)?, none);
-    let line = b"{\"key\":\"a\"}\n";
-    assert_eq!(rt; write_all(&mut out, line), Err(SinkFault::Failed));
-    assert_eq!(rt; out.text(), b"{\"key\":\"".as_slice());
-    write_all(&mut out, line)?;
-    assert_eq!(rt; out.text(), b"{\"key\":\"{\"key\":\"a\"}\n".as_slice());
+fn a_shelf_in_memory_answers_its_files(rt: HostRuntime) -> Result<(), NoMemory> {
+    let mut shelf = shelf(rt.alloc())?;
+    for (name, limit, wanted) in [
+        ("t.json", 2, Ok(b"{}".as_slice())),
+        ("t.json", 2, Err(ShelfFault::Failed)),
+        ("e.jsonl", 8, Ok(b"12345678".as_slice())),
+        ("e.jsonl", 7, Err(ShelfFault::TooLong)),
+        ("e", 8, Err(ShelfFault::Missing)),
+    ] {
+        assert!(rt;
+            answers(rt.alloc(), &mut shelf, name, limit, wanted),
+            "{name} {limit}"
+        );
+    }
     Ok(())
 }
 
+const LINE: &[u8] = b"{\"key\":\"a\"}\n";
+
+// The first eight bytes of the line, which a write takes at most.
+const EIGHT: &[u8] = b"{\"key\":\"";
+
+// Whether a sink whose second call fails takes eight bytes of a line, and after them the whole line.
+fn fails_once(alloc: Global) -> Result<bool, NoMemory> {
+    let mut out = MemSink::of(alloc, 8, call(alloc, 1)?, CallList::new(alloc));
+    Ok(
+        write_all(&mut out, LINE) == Err(SinkFault::Failed)
+            && out.text() == EIGHT
+            && write_all(&mut out, LINE) == Ok(())
+            && out.text() == b"{\"key\":\"{\"key\":\"a\"}\n".as_slice(),
+    )
+}
+
+// Whether a sink whose second call takes nothing fails then too, and takes the write of nothing.
+fn takes_nothing_once(alloc: Global) -> Result<bool, NoMemory> {
+    let calls = call(alloc, 1)?;
+    let mut out = MemSink::of(alloc, 8, CallList::new(alloc), calls);
+    Ok(
+        write_all(&mut out, LINE) == Err(SinkFault::Failed)
+            && out.text() == EIGHT
+            && out.write(b"") == Ok(0),
+    )
+}
+
 #[test]
-fn a_write_that_takes_nothing_is_a_failure(rt: HostRuntime) -> Result<(), Fail> {
-    let alloc = rt.alloc();
-    let none = CallList::new(alloc);
-    let mut out = MemSink::of(alloc, 8, none, call(alloc, 1)?);
-    assert_eq!(rt;
-        write_all(&mut out, b"{\"key\":\"a\"}\n"),
-        Err(SinkFault::Failed)
-    );
-    assert_eq!(rt; out.text(), b"{\"key\":\"".as_slice());
-    assert_eq!(rt; out.write(b""), Ok(0));
+fn a_sink_of_eight_bytes_fails_at_its_second_call(rt: HostRuntime) -> Result<(), NoMemory> {
+    for (name, fails) in [
+        ("a failure", fails_once(rt.alloc())?),
+        (
+            "a write that takes nothing",
+            takes_nothing_once(rt.alloc())?,
+        ),
+    ] {
+        assert!(rt; fails, "{name}");
+    }
+    Ok(())
+}
+
+// Makes a folder with one file of eight bytes and a folder.
+fn make_folder(rt: &HostRuntime) -> Result<(), Fail> {
+    let _ = fs::remove_dir_all(rt, "files");
+    fs::create_dir_all(rt, "files/folder")?;
+    fs::write(rt, "files/e.jsonl", "12345678")?;
     Ok(())
 }
 
 #[test]
 fn a_real_file_is_read_within_its_limit(rt: HostRuntime) -> Result<(), Fail> {
-    let alloc = rt.alloc();
-    let _ = fs::remove_dir_all(&rt, "files");
-    fs::create_dir_all(&rt, "files/folder")?;
-    fs::write(&rt, "files/e.jsonl", "12345678")?;
+    make_folder(&rt)?;
     let mut shelf = FileShelf::new(&rt);
-    assert_eq!(rt;
-        answer(alloc, &mut shelf, "files/e.jsonl", 8)?.as_slice(),
-        b"12345678".as_slice()
-    );
-    for (name, limit, fault) in [
-        ("files/e.jsonl", 7, ShelfFault::TooLong),
-        ("files/e.jsonl", 0, ShelfFault::TooLong),
-        ("files/missing", 8, ShelfFault::Missing),
-        ("files/folder/missing", 8, ShelfFault::Missing),
-        ("files/folder", 8, ShelfFault::Failed),
-        ("files/e.jsonl/under", 8, ShelfFault::Failed),
+    for (name, limit, wanted) in [
+        ("files/e.jsonl", 8, Ok(b"12345678".as_slice())),
+        ("files/e.jsonl", 7, Err(ShelfFault::TooLong)),
+        ("files/e.jsonl", 0, Err(ShelfFault::TooLong)),
+        ("files/missing", 8, Err(ShelfFault::Missing)),
+        ("files/folder/missing", 8, Err(ShelfFault::Missing)),
+        ("files/folder", 8, Err(ShelfFault::Failed)),
+        ("files/e.jsonl/under", 8, Err(ShelfFault::Failed)),
     ] {
-        assert_eq!(rt;
-            answer(alloc, &mut shelf, name, limit).err(),
-            Some(fault),
-            "{name}"
+        assert!(rt;
+            answers(rt.alloc(), &mut shelf, name, limit, wanted),
+            "{name} {limit}"
         );
     }
     fs::remove_dir_all(&rt, "files")?;
     Ok(())
 }
 
-#[test]
-fn a_real_file_of_several_portions_is_read(rt: HostRuntime) -> Result<(), Fail> {
-    let alloc = rt.alloc();
+// Twenty thousand bytes.
+fn long_content(alloc: Global) -> Result<Vec<u8>, NoMemory> {
     let mut content = Vec::new(alloc);
     for at in 0..20_000u32 {
         content.push((at % 251) as u8)?;
     }
-    fs::write(&rt, "long", content.as_slice())?;
-    let mut shelf = FileShelf::new(&rt);
-    let read = answer(alloc, &mut shelf, "long", 20_000)?;
-    assert!(rt; read.as_slice() == content.as_slice());
-    let long = answer(alloc, &mut shelf, "long", 19_999);
-    assert_eq!(rt; long.err(), Some(ShelfFault::TooLong));
+    Ok(content)
+}
+
+// Whether a file that has these bytes is read within a limit that is enough, and not within one less.
+fn is_read(rt: &HostRuntime, content: &[u8]) -> bool {
+    let mut shelf = FileShelf::new(rt);
+    answers(rt.alloc(), &mut shelf, "long", 20_000, Ok(content))
+        && answers(
+            rt.alloc(),
+            &mut shelf,
+            "long",
+            19_999,
+            Err(ShelfFault::TooLong),
+        )
+}
+
+// Whether a file of these bytes is read so.
+fn long_file_is_read(rt: &HostRuntime) -> Result<bool, Fail> {
+    let content = long_content(rt.alloc())?;
+    fs::write(rt, "long", content.as_slice())?;
+    Ok(is_read(rt, &content))
+}
+
+#[test]
+fn a_real_file_of_several_portions_is_read(rt: HostRuntime) -> Result<(), Fail> {
+    assert!(rt; long_file_is_read(&rt)?);
     fs::remove_file(&rt, "long")?;
     Ok(())
 }
 
 #[test]
-fn standard_output_takes_a_line(rt: HostRuntime) -> Result<(), Fail> {
+fn standard_output_takes_a_line(rt: HostRuntime) {
     let mut out = OutSink::new(&rt);
-    write_all(&mut out, b"one line\n")?;
-    assert_eq!(rt; out.write(b""), Ok(0));
-    Ok(())
+    assert!(rt; write_all(&mut out, b"one line\n") == Ok(()) && out.write(b"") == Ok(0));
 }
 
-#[test]
-fn the_words_of_a_call_are_without_its_own_name(rt: HostRuntime) -> Result<(), Fail> {
-    let alloc = rt.alloc();
+// The words that a process is called with.
+fn args(alloc: Global) -> Result<Vec<String>, NoMemory> {
     let mut args = Vec::new(alloc);
     for arg in ["millwheel", "solo", ""] {
         args.push(String::from_str(alloc, arg)?)?;
     }
-    let words = words_of(alloc, Ok(args.into_iter()))?;
-    for (at, text) in [(0, Some("solo")), (1, Some("")), (2, None)] {
-        assert_eq!(rt; words.get(at).map(|word| word.text()), text);
+    Ok(args)
+}
+
+// Whether there are these words and no more.
+fn are_words(words: &Seq<Name>, texts: &[&str]) -> bool {
+    for (at, text) in texts.iter().enumerate() {
+        if words.get(at).map(|word| word.text()) != Some(*text) {
+            return false;
+        }
     }
-    let none = words_of(alloc, Ok(Vec::new(alloc).into_iter()))?;
-    assert!(rt; none.is_empty());
+    words.len() == texts.len()
+}
+
+// Whether the words that are read are those after the first.
+fn leaves_its_own_name(alloc: Global) -> Result<bool, WordsFault> {
+    let words = words_of(alloc, Ok(args(alloc)?.into_iter()))?;
+    Ok(are_words(&words, &["solo", ""]))
+}
+
+// Whether of no words none are read.
+fn leaves_nothing(alloc: Global) -> Result<bool, WordsFault> {
+    Ok(words_of(alloc, Ok(Vec::new(alloc).into_iter()))?.is_empty())
+}
+
+#[test]
+fn the_words_of_a_call_are_without_its_own_name(rt: HostRuntime) -> Result<(), Fail> {
+    for (name, leaves) in [
+        ("three words", leaves_its_own_name(rt.alloc())?),
+        ("none", leaves_nothing(rt.alloc())?),
+    ] {
+        assert!(rt; leaves, "{name}");
+    }
     Ok(())
+}
+
+// What is answered where the words were not read.
+fn unread(alloc: Global, kind: ErrorKind) -> Option<WordsFault> {
+    words_of(alloc, Err(Error::from(kind))).err()
 }
 
 #[test]
@@ -167,7 +247,6 @@ fn words_that_are_not_read_are_no_text_or_no_memory(rt: HostRuntime) {
         (ErrorKind::InvalidData, WordsFault::NoText),
         (ErrorKind::OutOfMemory, WordsFault::NoMemory),
     ] {
-        let unread = words_of(rt.alloc(), Err(Error::from(kind)));
-        assert_eq!(rt; unread.err(), Some(fault));
+        assert!(rt; unread(rt.alloc(), kind) == Some(fault));
     }
 }

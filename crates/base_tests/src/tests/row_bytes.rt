@@ -1,5 +1,7 @@
+//! The bytes of a row, as a keeper has them.
 use mw_types::Bytes;
 use record_codec::{RowRefusal, decode_row, encode_row};
+use std::alloc::Global;
 use std::test::Fail;
 
 const INJECTOR: [u8; 34] = [
@@ -12,17 +14,49 @@ const COUNT: [u8; 42] = [
     0, 0, 0, 0, 0, 0, 0, 0, 0, 0, 0,
 ];
 
+// The last entry of the row of these bytes, and its floor.
+fn decoded(alloc: Global, bytes: &[u8]) -> Result<(u64, u64), RowRefusal> {
+    let row = decode_row(alloc, bytes)?;
+    Ok((row.last, row.floor))
+}
+
+// Whether the row of these bytes is encoded as them.
+fn is_encoded(alloc: Global, bytes: &[u8]) -> Result<bool, Fail> {
+    let row = decode_row(alloc, bytes)?;
+    Ok(encode_row(alloc, &row)?.as_slice() == bytes)
+}
+
+// Whether no row has these bytes.
+fn is_damaged(alloc: Global, bytes: &[u8]) -> bool {
+    matches!(decode_row(alloc, bytes), Err(RowRefusal::Damaged))
+}
+
+// Whether no row has a beginning of these bytes.
+fn beginnings_are_damaged(alloc: Global, bytes: &[u8]) -> bool {
+    for end in 0..bytes.len() {
+        if !is_damaged(alloc, &bytes[..end]) {
+            return false;
+        }
+    }
+    true
+}
+
+// Whether bytes are those of a row with this last entry and this floor, and no beginning of them is.
+fn is_row(alloc: Global, bytes: &[u8], last: u64, floor: u64) -> Result<bool, Fail> {
+    Ok(
+        decoded(alloc, bytes)? == (last, floor)
+            && is_encoded(alloc, bytes)?
+            && beginnings_are_damaged(alloc, bytes),
+    )
+}
+
 #[test]
 fn row_bytes(rt: HostRuntime) -> Result<(), Fail> {
-    for (bytes, last, floor) in [(&INJECTOR[..], 10, 0), (&COUNT[..], 13, 13)] {
-        let row = decode_row(rt.alloc(), bytes)?;
-        assert_eq!(rt; (row.last, row.floor), (last, floor));
-        let again = encode_row(rt.alloc(), &row)?;
-        assert_eq!(rt; again.as_slice(), bytes);
-        for end in 0..bytes.len() {
-            let part = decode_row(rt.alloc(), &bytes[..end]);
-            assert!(rt; matches!(part, Err(RowRefusal::Damaged)));
-        }
+    for (name, bytes, last, floor) in [
+        ("injector", &INJECTOR[..], 10, 0),
+        ("count", &COUNT[..], 13, 13),
+    ] {
+        assert!(rt; is_row(rt.alloc(), bytes, last, floor)?, "{name}");
     }
     Ok(())
 }
@@ -38,8 +72,11 @@ fn other_bytes_are_damaged(rt: HostRuntime) {
     count[33] = 255;
     let mut longer = [0u8; 35];
     longer[0] = 1;
-    for bytes in [&version[..], &count[..], &longer[..]] {
-        let damaged = decode_row(rt.alloc(), bytes);
-        assert!(rt; matches!(damaged, Err(RowRefusal::Damaged)));
+    for (name, bytes) in [
+        ("another version", &version[..]),
+        ("more ids than bytes", &count[..]),
+        ("a byte too many", &longer[..]),
+    ] {
+        assert!(rt; is_damaged(rt.alloc(), bytes), "{name}");
     }
 }

@@ -1,10 +1,11 @@
 //! The row of one key, and the bytes of states. No helper has a clause, so that no test carries what the
 //! calls before have told.
-use mw_types::{Delivery, Duplicate, Key, NoMemory, Record, RecordId, RowName, State, Timer};
+use super::key_of;
+use mw_types::{
+    Bytes, Delivery, Duplicate, Key, NoMemory, Record, RecordId, RowName, State, Timer,
+};
 use row_parts::{Row, StateRefusal, read_state, state_bytes};
 use std::alloc::Global;
-use std::process::Abort;
-use std::test::*;
 
 // A row to which nothing has happened yet.
 fn fresh(alloc: Global) -> Row {
@@ -33,36 +34,31 @@ fn least(row: &Row) -> Option<(u64, bool)> {
     }
 }
 
-// Compares how many timers, pending deliveries and handled ids there are.
-fn counts_are(rt: &impl Abort, row: &Row, timers: usize, pending: usize, seen: usize) {
-    assert!(rt; row.timers.len() == timers);
-    assert!(rt; row.pending.len() == pending);
-    assert!(rt; row.seen.len() == seen);
+// Whether there are so many timers, pending deliveries and handled ids.
+fn counts_are(row: &Row, timers: usize, pending: usize, seen: usize) -> bool {
+    row.timers.len() == timers && row.pending.len() == pending && row.seen.len() == seen
 }
 
 // Sets a timer once, and an earlier one four times.
-fn sets_two(rt: &impl Abort, row: &mut Row) {
-    assert!(rt; set(row, 30, false).is_ok());
+fn sets_two(row: &mut Row) -> Result<(), NoMemory> {
+    set(row, 30, false)?;
     for late in [true, true, false, true] {
-        assert!(rt; set(row, 20, late).is_ok());
+        set(row, 20, late)?;
     }
+    Ok(())
 }
 
-// Takes both away, each once.
-fn takes_two(rt: &impl Abort, row: &mut Row) {
-    assert!(rt; take(row, 20));
-    assert!(rt; !take(row, 20));
-    assert!(rt; take(row, 30));
+// Whether both are taken away, each once.
+fn takes_two(row: &mut Row) -> bool {
+    take(row, 20) && !take(row, 20) && take(row, 30)
 }
 
-#[test]
-fn a_timer_that_is_set_again_is_late_only_where_both_are(rt: HostRuntime) {
-    let mut row = fresh(rt.alloc());
-    sets_two(&rt, &mut row);
-    counts_are(&rt, &row, 2, 0, 0);
-    assert!(rt; least(&row) == Some((20, false)));
-    takes_two(&rt, &mut row);
-    assert!(rt; least(&row).is_none());
+// Whether the earlier timer comes first and is not late, and both are gone once taken.
+fn sets_and_takes(alloc: Global) -> Result<bool, NoMemory> {
+    let mut row = fresh(alloc);
+    sets_two(&mut row)?;
+    let is_set = counts_are(&row, 2, 0, 0) && least(&row) == Some((20, false));
+    Ok(is_set && takes_two(&mut row) && least(&row) == None)
 }
 
 // Notes that an entry's record was handled, where it was not.
@@ -86,37 +82,31 @@ fn is_finished(row: &Row, commit: u64, index: u32) -> bool {
     row.is_finished(RecordId { commit, index })
 }
 
-// Compares how many ids a copy of the row has handled.
-fn copy_has(rt: &impl Abort, alloc: Global, row: &Row, seen: usize) {
-    match row.copy(alloc) {
-        Ok(copy) => assert!(rt; copy.seen.len() == seen),
-        Err(_) => assert!(rt; false),
-    }
+// How many ids a copy of the row has handled.
+fn handled_in_copy(alloc: Global, row: &Row) -> Result<usize, NoMemory> {
+    Ok(row.copy(alloc)?.seen.len())
 }
 
 // Notes three ids, of which one is below the next floor.
-fn handles_three(rt: &impl Abort, row: &mut Row) {
+fn handles_three(row: &mut Row) -> Result<(), NoMemory> {
     for commit in [4, 9, 6] {
-        assert!(rt; handle(row, commit).is_ok());
+        handle(row, commit)?;
     }
+    Ok(())
 }
 
-// Looks at what is finished once the floor is 6.
-fn stays_finished(rt: &impl Abort, row: &Row) {
-    assert!(rt; row.floor == 6);
-    assert!(rt; is_finished(row, 4, 1));
-    assert!(rt; is_finished(row, 6, 1));
-    assert!(rt; !is_finished(row, 6, 2));
+// Whether the ids are finished that are, once the floor is 6.
+fn stays_finished(row: &Row) -> bool {
+    row.floor == 6 && is_finished(row, 4, 1) && is_finished(row, 6, 1) && !is_finished(row, 6, 2)
 }
 
-#[test]
-fn what_is_below_the_floor_stays_finished(rt: HostRuntime) {
-    let mut row = fresh(rt.alloc());
-    handles_three(&rt, &mut row);
-    copy_has(&rt, rt.alloc(), &row, 3);
+// Whether a purge keeps what is below the floor finished, after a copy that had all ids.
+fn purges(alloc: Global) -> Result<bool, NoMemory> {
+    let mut row = fresh(alloc);
+    handles_three(&mut row)?;
+    let copied = handled_in_copy(alloc, &row)? == 3;
     purge(&mut row, 6);
-    counts_are(&rt, &row, 0, 0, 2);
-    stays_finished(&rt, &row);
+    Ok(copied && counts_are(&row, 0, 0, 2) && stays_finished(&row))
 }
 
 // The id of the first record of entry 2.
@@ -126,15 +116,15 @@ const ID: RecordId = RecordId {
 };
 
 // Adds a delivery with that id, where none is pending.
-fn add(alloc: Global, row: &mut Row) -> Result<(), Fail> {
-    let key = Key::of(alloc, "a")?;
+fn add(alloc: Global, row: &mut Row) -> Result<(), NoMemory> {
+    let key = key_of(alloc, "a")?;
+    let to = RowName { part: 1, key };
     let item = Record {
         key: Key::none(alloc),
         stamp: 5,
         value: -1,
         late: false,
     };
-    let to = RowName { part: 1, key };
     if row.pending.is_empty() {
         row.add_pending(Delivery { id: ID, to, item })?;
     }
@@ -146,57 +136,84 @@ fn settle(row: &mut Row) -> bool {
     row.settle(ID)
 }
 
-// Settles it once, and finds it gone.
-fn settles_once(rt: &impl Abort, row: &mut Row) {
-    assert!(rt; settle(row));
-    assert!(rt; !settle(row));
+// Whether a delivery is pending until it is settled once.
+fn settles(alloc: Global) -> Result<bool, NoMemory> {
+    let mut row = fresh(alloc);
+    add(alloc, &mut row)?;
+    Ok(counts_are(&row, 0, 1, 0) && settle(&mut row) && !settle(&mut row))
 }
 
 #[test]
-fn a_delivery_is_pending_until_it_is_settled(rt: HostRuntime) -> Result<(), Fail> {
-    let mut row = fresh(rt.alloc());
-    add(rt.alloc(), &mut row)?;
-    counts_are(&rt, &row, 0, 1, 0);
-    settles_once(&rt, &mut row);
-    Ok(())
-}
-
-// Looks at the state that has these bytes, which are its spelling again.
-fn is_spelt(rt: &impl Abort, alloc: Global, bytes: &[u8]) -> Result<(), Fail> {
-    let state = read_state(alloc, bytes)?;
-    let again = state_bytes(alloc, &state)?;
-    assert!(rt; again.as_slice() == bytes);
-    Ok(())
-}
-
-// Looks at bytes that no state has.
-fn is_damaged(rt: &impl Abort, alloc: Global, bytes: &[u8]) {
-    let damaged = read_state(alloc, bytes);
-    assert!(rt; matches!(damaged, Err(StateRefusal::Damaged)));
-}
-
-// Looks at the spelling of a state, and at each beginning of it, which is none.
-fn reads(rt: &impl Abort, alloc: Global, bytes: &[u8]) -> Result<(), Fail> {
-    is_spelt(rt, alloc, bytes)?;
-    for end in 0..bytes.len() {
-        is_damaged(rt, alloc, &bytes[..end]);
+fn a_row_keeps_its_timers_deliveries_and_ids(rt: HostRuntime) -> Result<(), NoMemory> {
+    let alloc = rt.alloc();
+    for (name, keeps) in [
+        (
+            "a timer that is set again is late only where both are",
+            sets_and_takes(alloc)?,
+        ),
+        ("what is below the floor stays finished", purges(alloc)?),
+        ("a delivery is pending until it is settled", settles(alloc)?),
+    ] {
+        assert!(rt; keeps, "{name}");
     }
     Ok(())
 }
 
-#[test]
-fn states_are_written_and_read(rt: HostRuntime) -> Result<(), Fail> {
-    let alloc = rt.alloc();
-    let spike = b"\x02\0\0\0\0\0\0\0\x01\0\0\0\0\0\0\0\x01\xff\xff\xff\xff\xff\xff\xff\xfe";
-    reads(&rt, alloc, b"\0\0\0\0\x03")?;
-    reads(&rt, alloc, b"\x01\0\0\0\0\0\0\0\0\0\0\0\0")?;
-    reads(&rt, alloc, spike)?;
-    reads(&rt, alloc, b"\x03\0\0\0\0\0\0\0\x02")
+// The spelling of the state that has these bytes.
+fn spelling(alloc: Global, bytes: &[u8]) -> Result<Bytes, StateRefusal> {
+    let state = read_state(alloc, bytes)?;
+    Ok(state_bytes(alloc, &state)?)
 }
+
+// Whether no state has these bytes.
+fn is_damaged(alloc: Global, bytes: &[u8]) -> bool {
+    matches!(read_state(alloc, bytes), Err(StateRefusal::Damaged))
+}
+
+// Whether no beginning of the bytes is those of a state.
+fn beginnings_are_damaged(alloc: Global, bytes: &[u8]) -> bool {
+    for end in 0..bytes.len() {
+        if !is_damaged(alloc, &bytes[..end]) {
+            return false;
+        }
+    }
+    true
+}
+
+// Whether bytes are the spelling of a state, and no beginning of them is.
+fn is_spelt(alloc: Global, bytes: &[u8]) -> Result<bool, StateRefusal> {
+    Ok(spelling(alloc, bytes)?.as_slice() == bytes && beginnings_are_damaged(alloc, bytes))
+}
+
+// A state of each kind.
+const STATES: [(&str, &[u8]); 4] = [
+    ("injector", b"\0\0\0\0\x03"),
+    ("count", b"\x01\0\0\0\0\0\0\0\0\0\0\0\0"),
+    (
+        "spike",
+        b"\x02\0\0\0\0\0\0\0\x01\0\0\0\0\0\0\0\x01\xff\xff\xff\xff\xff\xff\xff\xfe",
+    ),
+    ("pass", b"\x03\0\0\0\0\0\0\0\x02"),
+];
+
+#[test]
+fn states_are_written_and_read(rt: HostRuntime) -> Result<(), StateRefusal> {
+    for (name, bytes) in STATES {
+        assert!(rt; is_spelt(rt.alloc(), bytes)?, "{name}");
+    }
+    Ok(())
+}
+
+// More windows than there are bytes, no kind, and a byte too many.
+const DAMAGED: [&[u8]; 3] = [
+    b"\x01\0\0\0\0\0\0\0\0\xff\xff\xff\xff",
+    b"\x04\0\0\0\0\0\0\0\x02",
+    b"\x03\0\0\0\0\0\0\0\x02\0",
+];
 
 #[test]
 fn bytes_of_no_state_are_damaged(rt: HostRuntime) {
-    is_damaged(&rt, rt.alloc(), b"\x01\0\0\0\0\0\0\0\0\xff\xff\xff\xff");
-    is_damaged(&rt, rt.alloc(), b"\x04\0\0\0\0\0\0\0\x02");
-    is_damaged(&rt, rt.alloc(), b"\x03\0\0\0\0\0\0\0\x02\0");
+    for (at, bytes) in DAMAGED.iter().enumerate() {
+        assert!(rt; is_damaged(rt.alloc(), bytes), "{at}");
+    }
 }

@@ -1,6 +1,6 @@
 //! Lists that share memory, beside vectors that do not.
 use mw_types::{Duplicate, NoMemory, SharedList};
-use std::test::Fail;
+use std::alloc::Global;
 
 // A value that threads may hand to one another.
 fn crosses_threads<T: Send + Sync>() -> bool {
@@ -60,46 +60,106 @@ fn place(step: u64, len: usize) -> usize {
     if len == 0 { 0 } else { mixed % len }
 }
 
-#[test]
-fn edits_at_every_place_keep_the_older_lists(rt: HostRuntime) -> Result<(), Fail> {
-    let alloc = rt.alloc();
+// Whether a list is equal to one that is made of a vector at once.
+fn is_made_of(alloc: Global, list: &SharedList<u64>, xs: &[u64]) -> Result<bool, NoMemory> {
+    Ok(*list == SharedList::of(alloc, Vec::from_slice(alloc, xs)?)?)
+}
+
+// Whether a list is flat a vector.
+fn is_flat(alloc: Global, list: &SharedList<u64>, xs: &[u64]) -> Result<bool, NoMemory> {
+    Ok(list.flat(alloc)?.as_slice() == xs)
+}
+
+// Whether both have the same with one number more, and an older copy has what it had.
+fn grows(
+    alloc: Global,
+    list: &mut SharedList<u64>,
+    xs: &mut Vec<u64>,
+    step: u64,
+) -> Result<bool, NoMemory> {
+    let before = list.copy(alloc)?;
+    let old = Vec::from_slice(alloc, xs)?;
+    insert(list, xs, place(step, old.len().saturating_add(1)), step)?;
+    Ok(are_alike(list, xs) && are_alike(&before, &old) && *list != before)
+}
+
+// Whether both have the same with one number changed and one taken out, and an older copy has what it had.
+fn shrinks(
+    alloc: Global,
+    list: &mut SharedList<u64>,
+    xs: &mut Vec<u64>,
+    step: u64,
+) -> Result<bool, NoMemory> {
+    let before = list.copy(alloc)?;
+    let old = Vec::from_slice(alloc, xs)?;
+    set(list, xs, place(step, old.len()), 999)?;
+    let is_set = are_alike(list, xs);
+    remove(list, xs, place(step, old.len()))?;
+    Ok(is_set && are_alike(list, xs) && are_alike(&before, &old))
+}
+
+// Whether 300 numbers are put in, each at a place as if by chance, as into a vector.
+fn fills(alloc: Global, list: &mut SharedList<u64>, xs: &mut Vec<u64>) -> Result<bool, NoMemory> {
+    for step in 0..300u64 {
+        if !grows(alloc, list, xs, step)? || !is_made_of(alloc, list, xs)? {
+            return Ok(false);
+        }
+    }
+    Ok(true)
+}
+
+// Whether all are taken out again, each from a place as if by chance, as out of a vector.
+fn empties(alloc: Global, list: &mut SharedList<u64>, xs: &mut Vec<u64>) -> Result<bool, NoMemory> {
+    for step in 0..300u64 {
+        if !shrinks(alloc, list, xs, step)? || !is_flat(alloc, list, xs)? {
+            return Ok(false);
+        }
+    }
+    Ok(list.is_empty())
+}
+
+// Whether a list is filled and emptied so.
+fn is_edited(alloc: Global) -> Result<bool, NoMemory> {
     let mut list = SharedList::new(alloc);
-    let mut xs: Vec<u64> = Vec::new(alloc);
-    for step in 0..300u64 {
-        let before = list.copy(alloc)?;
-        let old = Vec::from_slice(alloc, &xs)?;
-        let at = place(step, old.len().saturating_add(1));
-        insert(&mut list, &mut xs, at, step)?;
-        assert!(rt; are_alike(&list, &xs) && are_alike(&before, &old));
-        assert!(rt; list != before);
-        assert!(rt; list == SharedList::of(alloc, Vec::from_slice(alloc, &xs)?)?);
-    }
-    for step in 0..300u64 {
-        let before = list.copy(alloc)?;
-        let old = Vec::from_slice(alloc, &xs)?;
-        set(&mut list, &mut xs, place(step, old.len()), 999)?;
-        assert!(rt; are_alike(&list, &xs));
-        remove(&mut list, &mut xs, place(step, old.len()))?;
-        assert!(rt; are_alike(&list, &xs) && are_alike(&before, &old));
-        assert!(rt; list.flat(alloc)? == xs);
-    }
-    assert!(rt; list.is_empty());
-    Ok(())
+    let mut xs = Vec::new(alloc);
+    Ok(fills(alloc, &mut list, &mut xs)? && empties(alloc, &mut list, &mut xs)?)
 }
 
 #[test]
-fn a_walk_by_pieces_meets_each_element(rt: HostRuntime) -> Result<(), Fail> {
-    let alloc = rt.alloc();
+fn edits_at_every_place_keep_the_older_lists(rt: HostRuntime) -> Result<(), NoMemory> {
+    assert!(rt; is_edited(rt.alloc())?);
+    Ok(())
+}
+
+// The list of a hundred numbers.
+fn hundred(alloc: Global) -> Result<SharedList<u64>, NoMemory> {
     let mut list = SharedList::new(alloc);
     for x in 0..100u64 {
         list.push(x)?;
     }
+    Ok(list)
+}
+
+// What a walk by pieces meets.
+fn walked(alloc: Global, list: &SharedList<u64>) -> Result<Vec<u64>, NoMemory> {
     let mut met = Vec::new(alloc);
     for _ in 0..100 {
         if met.len() < list.len() {
             met.extend_from_slice(list.run_at(met.len()))?;
         }
     }
-    assert!(rt; are_alike(&list, &met));
+    Ok(met)
+}
+
+// Whether a walk meets each number.
+fn walk_meets_each(alloc: Global) -> Result<bool, NoMemory> {
+    let list = hundred(alloc)?;
+    let met = walked(alloc, &list)?;
+    Ok(are_alike(&list, &met))
+}
+
+#[test]
+fn a_walk_by_pieces_meets_each_element(rt: HostRuntime) -> Result<(), NoMemory> {
+    assert!(rt; walk_meets_each(rt.alloc())?);
     Ok(())
 }

@@ -7,9 +7,9 @@ ghost use Rattle.book_tests.specs.TestSeats.{IsAtRest};
 
 use super::example::two_line_case;
 use super::seats::Tried;
+use super::starts::started;
 use book::{Book, Claimed, Desk, DeskRefusal};
-use mw_types::CallList;
-use row_keeper::{Keeper, MemKeeper};
+use row_keeper::Keeper;
 use shared_book::{Seat, Shared, SharedDesk};
 use std::alloc::Global;
 use std::process::Abort;
@@ -127,7 +127,7 @@ fn two_desks<K: Keeper>(rt: &impl Abort, alloc: Global, shared: Shared<'_, K>, s
     assert!(rt; desk_claim(rt, alloc, &shared, &mut one, 1) == Tried::Claimed { seq: 1 });
     shared.join(&mut other, one);
     let book = shared.close(other);
-    assert_eq!(rt; book.history().len(), 2);
+    assert!(rt; book.history().len() == 2);
 }
 
 // The book is shared.
@@ -144,10 +144,6 @@ fn shared<K: Keeper>(rt: &impl Abort, alloc: Global, book: Book<'_, K>)
 fn desk_answers_busy(rt: HostRuntime) -> Result<(), Fail> {
     let alloc = rt.alloc();
     let case = two_line_case(alloc)?;
-    let keeper = MemKeeper::new(alloc, CallList::new(alloc));
-    match Book::start(alloc, &case, keeper, 8) {
-        Ok(book) => shared(&rt, alloc, book),
-        Err(_) => assert!(rt; false),
-    }
+    shared(&rt, alloc, started(alloc, &case, 8)?);
     Ok(())
 }

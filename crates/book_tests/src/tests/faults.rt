@@ -55,7 +55,7 @@ fn claim_twice<K: Keeper>(
 
 // The entries are claims of these workers.
 fn expect_left(rt: &impl Abort, entries: &[Entry], left: [u32; 3]) {
-    assert_eq!(rt; entries.len(), 3);
+    assert!(rt; entries.len() == 3);
     for (number, worker) in left.iter().enumerate() {
         assert!(rt; claim_at(entries, number) == Some((*worker, *worker % 2)));
     }

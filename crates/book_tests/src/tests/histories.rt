@@ -50,15 +50,15 @@ pub(crate) fn expect_shares(
     answered: &[Vec<u64>],
     shares: Shares,
 ) {
-    assert_eq!(rt; entries.len(), 10_000);
+    assert!(rt; entries.len() == 10_000);
     for worker in 0..4 {
         let share = shares[worker as usize];
         match answered.get(worker as usize) {
             Some(numbers) => {
-                assert_eq!(rt; numbers.len(), share as usize);
+                assert!(rt; numbers.len() == share as usize);
                 expect_own(rt, alloc, entries, worker, numbers.as_slice());
             }
-            None => assert_eq!(rt; share, 0),
+            None => assert!(rt; share == 0),
         }
     }
 }

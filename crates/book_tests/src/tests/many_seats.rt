@@ -6,9 +6,9 @@ ghost use Rattle.book_tests.specs.TestSeats.{IsAtRest};
 
 use super::example::two_line_case;
 use super::seats::{Tried, claim_once};
+use super::starts::started;
 use book::Book;
-use mw_types::CallList;
-use row_keeper::{Keeper, MemKeeper};
+use row_keeper::Keeper;
 use shared_book::{Seat, Shared};
 use std::alloc::Global;
 use std::process::Abort;
@@ -50,7 +50,7 @@ fn all_seats<K: Keeper>(rt: &impl Abort, alloc: Global, shared: Shared<'_, K>, s
     let mut seat = seat;
     dealt(rt, alloc, &shared, &mut seat, 16);
     let book = shared.close(seat);
-    assert_eq!(rt; book.history().len(), 17);
+    assert!(rt; book.history().len() == 17);
 }
 
 // The book is shared.
@@ -67,10 +67,6 @@ fn shared<K: Keeper>(rt: &impl Abort, alloc: Global, book: Book<'_, K>)
 fn seventeen_seats_join_and_close(rt: HostRuntime) -> Result<(), Fail> {
     let alloc = rt.alloc();
     let case = two_line_case(alloc)?;
-    let keeper = MemKeeper::new(alloc, CallList::new(alloc));
-    match Book::start(alloc, &case, keeper, 17) {
-        Ok(book) => shared(&rt, alloc, book),
-        Err(_) => assert!(rt; false),
-    }
+    shared(&rt, alloc, started(alloc, &case, 17)?);
     Ok(())
 }

@@ -2,18 +2,17 @@
 ghost use Rattle.std.specs.Prelude.{◌≡◌, ◌∷◌, [], IfOk, OnErr, OnOk};
 ghost use Rattle.mw_types.specs.declared.state.State.TheVariants.{Count, Injector};
 ghost use Rattle.row_parts.specs.Contents.{fresh};
-ghost use Rattle.worked_examples.specs.Rising.{rise_case};
 ghost use Rattle.book_tests.specs.TestBooks.{HasRisen, IsOvertaken, later_lease};
 
 use super::calls::{claim_both, inject};
 use super::example::{none_open, two_line_case};
 use super::hands::Hands;
+use super::starts::started;
 use super::trials::sight;
 use book::{Book, ClaimRefusal, Claimed, Lease, Stale, WriteRefusal, Written};
-use mw_types::{CallList, END, State};
-use row_keeper::{Keeper, MemKeeper};
+use mw_types::{END, State};
+use row_keeper::Keeper;
 use row_parts::Row;
-use run_history::Case;
 use std::alloc::Global;
 use std::process::Abort;
 use std::test::Fail;
@@ -62,16 +61,6 @@ fn report_stale<K: Keeper>(book: &mut Book<'_, K>, hands: &Hands) -> Result<u64,
     ensures stayed { OnErr result (IsOvertaken book.new) }
 {
     book.report(&hands.count, 3, END)
-}
-
-// Starts a book of the case.
-fn try_start<K: Keeper>(rt: &impl Abort, alloc: Global, case: &Case, keeper: K)
-    requires { case.now ≡ rise_case }
-{
-    match Book::start(alloc, case, keeper, 8) {
-        Ok(book) => try_both(rt, alloc, book),
-        Err(_) => assert!(rt; false),
-    }
 }
 
 // The first worker claims both intervals.
@@ -146,7 +135,7 @@ fn try_report<K: Keeper>(
     let before = sight(book);
     match report_stale(book, hands) {
         Err(Stale { newer }) => {
-            assert_eq!(rt; newer, 3);
+            assert!(rt; newer == 3);
             assert!(rt; before == sight(book));
             try_later(rt, alloc, book, lease, hands);
         }
@@ -167,7 +156,7 @@ fn try_later<K: Keeper>(
 {
     let fresh = Row::new(alloc, none_open(alloc));
     match handle_later(alloc, book, lease, hands, &fresh) {
-        Ok(Written { commit, row: _ }) => assert_eq!(rt; commit, 4),
+        Ok(Written { commit, row: _ }) => assert!(rt; commit == 4),
         Err(_) => assert!(rt; false),
     }
 }
@@ -176,11 +165,6 @@ fn try_later<K: Keeper>(
 fn stale_handle(rt: HostRuntime) -> Result<(), Fail> {
     let alloc = rt.alloc();
     let case = two_line_case(alloc)?;
-    try_start(
-        &rt,
-        alloc,
-        &case,
-        MemKeeper::new(alloc, CallList::new(alloc)),
-    );
+    try_both(&rt, alloc, started(alloc, &case, 8)?);
     Ok(())
 }

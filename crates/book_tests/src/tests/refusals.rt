@@ -6,6 +6,7 @@ ghost use Rattle.book_tests.specs.TestBooks.{HasRisen};
 use super::calls::{claim, claim_both, inject};
 use super::example::{key_a, two_line_case};
 use super::hands::Hands;
+use super::starts::started;
 use book::{Book, ClaimRefusal, Claimed, StartRefusal, StartWhy, WriteRefusal};
 use mw_types::{Bytes, CallList, Key, NoMemory, RowName, State};
 use record_codec::encode_row;
@@ -52,18 +53,14 @@ fn try_full_write<K: Keeper>(rt: &impl Abort, alloc: Global, book: &mut Book<'_,
     let fresh = Row::new(alloc, State::Injector { cursor: 0 });
     let written = inject(alloc, book, hands, &fresh);
     assert!(rt; matches!(written, Err(WriteRefusal::HistoryFull)));
-    assert_eq!(rt; book.history().len(), 2);
+    assert!(rt; book.history().len() == 2);
 }
 
 #[test]
 fn history_full(rt: HostRuntime) -> Result<(), Fail> {
     let alloc = rt.alloc();
     let case = two_line_case(alloc)?;
-    let keeper = MemKeeper::new(alloc, CallList::new(alloc));
-    match Book::start(alloc, &case, keeper, 2) {
-        Ok(book) => try_full(&rt, alloc, book),
-        Err(_) => assert!(rt; false),
-    }
+    try_full(&rt, alloc, started(alloc, &case, 2)?);
     Ok(())
 }
 
@@ -97,17 +94,40 @@ fn try_damaged<K: Keeper>(rt: &impl Abort, alloc: Global, book: Book<'_, K>)
         Ok(_) => assert!(rt; is_damaged(claim(alloc, &mut book, 1))),
         Err(_) => assert!(rt; false),
     }
-    assert_eq!(rt; book.history().len(), 1);
+    assert!(rt; book.history().len() == 1);
+}
+
+// Worker 0 claims the interval of the count, before anything is claimed.
+fn claim_count<K: Keeper>(alloc: Global, book: &mut Book<'_, K>) -> Result<Claimed, ClaimRefusal>
+    requires risen { HasRisen 0 book.old }
+{
+    book.claim(alloc, 0, 1)
+}
+
+// Tries a claim of the interval of the damaged row before any other: the history stays empty.
+fn try_damaged_first<K: Keeper>(rt: &impl Abort, alloc: Global, book: Book<'_, K>)
+    requires risen { HasRisen 0 book }
+{
+    let mut book = book;
+    let is_named = is_damaged(claim_count(alloc, &mut book));
+    assert!(rt; is_named && book.history().is_empty());
 }
 
 #[test]
 fn a_damaged_row_is_named(rt: HostRuntime) -> Result<(), Fail> {
     let alloc = rt.alloc();
     let case = two_line_case(alloc)?;
-    let keeper = BlindKeeper::new(damaged(alloc)?);
-    match Book::start(alloc, &case, keeper, 8) {
-        Ok(book) => try_damaged(&rt, alloc, book),
-        Err(_) => assert!(rt; false),
+    for is_first in [true, false] {
+        match Book::start(alloc, &case, BlindKeeper::new(damaged(alloc)?), 8) {
+            Ok(book) => {
+                if is_first {
+                    try_damaged_first(&rt, alloc, book);
+                } else {
+                    try_damaged(&rt, alloc, book);
+                }
+            }
+            Err(_) => assert!(rt; false),
+        }
     }
     Ok(())
 }
@@ -141,7 +161,7 @@ fn try_sound<K: Keeper>(rt: &impl Abort, alloc: Global, book: Book<'_, K>)
 {
     let mut book = book;
     assert!(rt; is_sound(claim(alloc, &mut book, 0)));
-    assert_eq!(rt; book.history().len(), 1);
+    assert!(rt; book.history().len() == 1);
 }
 
 #[test]

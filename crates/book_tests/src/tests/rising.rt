@@ -21,7 +21,7 @@ use std::test::Fail;
 
 // A book looks so.
 fn expect<K: Keeper>(rt: &impl Abort, book: &Book<'_, K>, want: Sight) {
-    assert_eq!(rt; sight(book), want);
+    assert!(rt; sight(book) == want);
 }
 
 // The injector's row sent the record 0 of entry 2, and nothing earlier is to be sent.
@@ -43,7 +43,7 @@ fn expect_no_sender<K: Keeper>(rt: &impl Abort, book: &Book<'_, K>) {
 // A report was accepted, and answered this mark.
 fn expect_mark(rt: &impl Abort, reported: Result<u64, Stale>, want: u64) {
     match reported {
-        Ok(mark) => assert_eq!(rt; mark, want),
+        Ok(mark) => assert!(rt; mark == want),
         Err(_) => assert!(rt; false),
     }
 }
@@ -135,7 +135,7 @@ fn try_inject<K: Keeper>(rt: &impl Abort, trial: Trial, book: &mut Book<'_, K>, 
     fail_inject(rt, trial, book, hands, &fresh);
     match inject(trial.alloc, book, hands, &fresh) {
         Ok(Written { commit, row }) => {
-            assert_eq!(rt; commit, 2);
+            assert!(rt; commit == 2);
             expect_sender(rt, book);
             expect(rt, book, (3, 2, 2, 0, 0));
             try_handle(rt, trial, book, hands, &row);
@@ -160,7 +160,7 @@ fn try_handle<K: Keeper>(
     fail_handle(rt, trial, book, hands, &fresh);
     match handle(trial.alloc, book, hands, &fresh) {
         Ok(Written { commit, row }) => {
-            assert_eq!(rt; commit, 3);
+            assert!(rt; commit == 3);
             expect(rt, book, (4, 2, 3, 10, 0));
             try_settle(rt, trial, book, hands, injected, &row);
         }
@@ -220,12 +220,12 @@ fn try_fire<K: Keeper>(
     requires risen { HasRisen 5 book.old }
     requires counted { counted.now ≡ row_counted }
 {
-    assert_eq!(rt; source_mark(book), 60);
+    assert!(rt; source_mark(book) == 60);
     expect_mark(rt, report(book, &hands.count, 1, 5, 60), 60);
     fail_fire(rt, trial, book, hands, counted);
     match fire(trial.alloc, book, hands, counted) {
         Ok(Written { commit, row }) => {
-            assert_eq!(rt; commit, 5);
+            assert!(rt; commit == 5);
             expect(rt, book, (6, 6, 1, 60, 60));
             try_purge(rt, trial, book, hands, &row);
         }

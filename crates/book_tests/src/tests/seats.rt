@@ -10,7 +10,7 @@ use shared_book::{Seat, Shared, Turn};
 use std::alloc::Global;
 
 // What came of a try for the turn.
-#[derive(Clone, Copy, Debug, PartialEq, Eq)]
+#[derive(Clone, Copy, PartialEq, Eq)]
 pub(crate) enum Tried {
     // Another had the turn.
     Busy { found: u64 },

@@ -10,9 +10,9 @@ ghost use Rattle.book_tests.specs.TestSeats.{IsAtRest};
 use super::example::two_line_case;
 use super::histories::expect_shares;
 use super::seats::{Tried, claim_once};
+use super::starts::started;
 use book::Book;
-use mw_types::CallList;
-use row_keeper::{Keeper, MemKeeper};
+use row_keeper::Keeper;
 use shared_book::{Seat, Shared};
 use std::alloc::Global;
 use std::process::Abort;
@@ -217,11 +217,7 @@ fn threads_append_to_one_history(rt: HostRuntime) -> Result<(), Fail> {
     let alloc = rt.alloc();
     let case = two_line_case(alloc)?;
     for (seats, shares) in THREADS {
-        let keeper = MemKeeper::new(alloc, CallList::new(alloc));
-        match Book::start(alloc, &case, keeper, 10_000) {
-            Ok(book) => shared(&rt, alloc, book, shares, seats),
-            Err(_) => assert!(rt; false),
-        }
+        shared(&rt, alloc, started(alloc, &case, 10_000)?, shares, seats);
     }
     Ok(())
 }

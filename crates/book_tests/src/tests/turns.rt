@@ -6,9 +6,9 @@ ghost use Rattle.book_tests.specs.TestSeats.{IsAtRest};
 
 use super::example::two_line_case;
 use super::seats::{Tried, claim_once, try_once};
+use super::starts::started;
 use book::Book;
-use mw_types::CallList;
-use row_keeper::{Keeper, MemKeeper};
+use row_keeper::Keeper;
 use shared_book::{Seat, Shared};
 use std::alloc::Global;
 use std::process::Abort;
@@ -27,12 +27,12 @@ fn busy<K: Keeper>(rt: &impl Abort, shared: &Shared<'_, K>, one: &mut Seat<K>, o
 {
     match one.try_turn(&*shared) {
         Ok(turn) => {
-            assert_eq!(rt; try_once(shared, other), 1);
+            assert!(rt; try_once(shared, other) == 1);
             turn.release();
         }
         Err(_) => assert!(rt; false),
     }
-    assert_eq!(rt; try_once(shared, other), 0);
+    assert!(rt; try_once(shared, other) == 0);
 }
 
 // Each claims once the other has given the turn back, and one meets a note of the other.
@@ -73,7 +73,7 @@ fn two_seats<K: Keeper>(rt: &impl Abort, alloc: Global, shared: Shared<'_, K>, s
     take_turns(rt, alloc, &shared, &mut one, &mut other);
     shared.join(&mut other, one);
     let book = shared.close(other);
-    assert_eq!(rt; book.history().len(), 3);
+    assert!(rt; book.history().len() == 3);
 }
 
 // The book is shared.
@@ -90,10 +90,6 @@ fn shared<K: Keeper>(rt: &impl Abort, alloc: Global, book: Book<'_, K>)
 fn turn_is_busy(rt: HostRuntime) -> Result<(), Fail> {
     let alloc = rt.alloc();
     let case = two_line_case(alloc)?;
-    let keeper = MemKeeper::new(alloc, CallList::new(alloc));
-    match Book::start(alloc, &case, keeper, 8) {
-        Ok(book) => shared(&rt, alloc, book),
-        Err(_) => assert!(rt; false),
-    }
+    shared(&rt, alloc, started(alloc, &case, 8)?);
     Ok(())
 }

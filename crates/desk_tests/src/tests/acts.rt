@@ -11,7 +11,7 @@ use std::alloc::Global;
 use std::process::Abort;
 
 // What a worker is asked to do.
-#[derive(Clone, Copy, Debug, PartialEq, Eq)]
+#[derive(Clone, Copy, PartialEq, Eq)]
 pub(crate) enum Act {
     // Claim the interval of the injector.
     ClaimSource,
@@ -34,7 +34,7 @@ pub(crate) enum Act {
 }
 
 // What a worker answers.
-#[derive(Clone, Copy, Debug, PartialEq, Eq)]
+#[derive(Clone, Copy, PartialEq, Eq)]
 pub(crate) enum Answer {
     // The interval was claimed, with this sequencer.
     Claimed(u64),
@@ -156,9 +156,11 @@ pub(crate) fn drive<N: Seen, D: Desk<Note = N>>(
     ensures loan { D.loan desk.new ≡ D.loan desk.old }
     ensures home { D.home desk.new ≡ D.home desk.old }
 {
+    let mut nth = 0u32;
     for step in table {
         let (act, want) = *step;
+        nth = nth.saturating_add(1);
         let answer = act_on(alloc, given, desk, node, act);
-        assert_eq!(rt; short(answer), want, "{act:?}");
+        assert!(rt; short(answer) == want, "{nth}");
     }
 }

@@ -7,10 +7,10 @@ ghost use Rattle.desk_tests.specs.DeskTests.{IsAtRest};
 use super::acts::{Act, Answer, drive};
 use super::entries::{Told, has_entries};
 use super::example::{Example, two_lines_example};
+use super::starts::started;
 use book::{Book, Desk, Seen};
-use mw_types::CallList;
 use node::Node;
-use row_keeper::{Keeper, MemKeeper};
+use row_keeper::Keeper;
 use shared_book::{Seat, Shared, SharedDesk};
 use std::alloc::Global;
 use std::process::Abort;
@@ -148,10 +148,6 @@ fn shared<K: Keeper>(rt: &impl Abort, alloc: Global, given: &Example, book: Book
 fn turn_of_another_is_busy(rt: HostRuntime) -> Result<(), Fail> {
     let alloc = rt.alloc();
     let given = two_lines_example(alloc)?;
-    let keeper = MemKeeper::new(alloc, CallList::new(alloc));
-    match Book::start(alloc, &given.case, keeper, 8) {
-        Ok(book) => shared(&rt, alloc, &given, book),
-        Err(_) => assert!(rt; false),
-    }
+    shared(&rt, alloc, &given, started(alloc, &given)?);
     Ok(())
 }

@@ -6,7 +6,7 @@ use std::process::Abort;
 
 // An entry in short. A claim has the worker and the interval; each other has the sequencer under which it
 // was written, and then the line, the commit number of the record's id, the mark or the floor.
-#[derive(Clone, Copy, Debug, PartialEq, Eq)]
+#[derive(Clone, Copy, PartialEq, Eq)]
 pub(crate) enum Told {
     Claim(u32, u32),
     Inject(u64, u32),
@@ -31,8 +31,8 @@ fn in_short(entry: &Entry) -> Told {
 // The history of a book has these entries, and no other.
 pub(crate) fn has_entries<K: Keeper>(rt: &impl Abort, book: &Book<'_, K>, want: &[Told]) {
     let entries = book.history().entries();
-    assert_eq!(rt; entries.len(), want.len());
+    assert!(rt; entries.len() == want.len());
     for (entry, want) in entries.iter().zip(want) {
-        assert_eq!(rt; in_short(entry), *want);
+        assert!(rt; in_short(entry) == *want);
     }
 }

@@ -5,10 +5,11 @@ use super::acts::{Act, Answer, drive};
 use super::entries::{Told, has_entries};
 use super::example::{Example, two_lines_example};
 use super::seats::over_one_seat;
+use super::starts::started;
 use book::{Book, OwnDesk};
-use mw_types::{Bytes, CallList, Key, NoMemory, RowName};
+use mw_types::{Bytes, Key, NoMemory, RowName};
 use node::Node;
-use row_keeper::{BlindKeeper, Keeper, KeptRow, MemKeeper};
+use row_keeper::{BlindKeeper, Keeper, KeptRow};
 use std::alloc::Global;
 use std::process::Abort;
 use std::test::Fail;
@@ -77,15 +78,9 @@ fn blind(alloc: Global) -> Result<BlindKeeper, NoMemory> {
 fn node_over_own_desk(rt: HostRuntime) -> Result<(), Fail> {
     let alloc = rt.alloc();
     let given = two_lines_example(alloc)?;
-    let keeper = MemKeeper::new(alloc, CallList::new(alloc));
-    match Book::start(alloc, &given.case, keeper, 8) {
-        Ok(book) => {
-            let mut book = book;
-            over_own_book(&rt, alloc, &given, &mut book, TABLE);
-            has_entries(&rt, &book, ENTRIES);
-        }
-        Err(_) => assert!(rt; false),
-    }
+    let mut book = started(alloc, &given)?;
+    over_own_book(&rt, alloc, &given, &mut book, TABLE);
+    has_entries(&rt, &book, ENTRIES);
     Ok(())
 }
 
@@ -93,11 +88,7 @@ fn node_over_own_desk(rt: HostRuntime) -> Result<(), Fail> {
 fn node_over_shared_desk(rt: HostRuntime) -> Result<(), Fail> {
     let alloc = rt.alloc();
     let given = two_lines_example(alloc)?;
-    let keeper = MemKeeper::new(alloc, CallList::new(alloc));
-    match Book::start(alloc, &given.case, keeper, 8) {
-        Ok(book) => over_one_seat(&rt, alloc, &given, book, TABLE, ENTRIES),
-        Err(_) => assert!(rt; false),
-    }
+    over_one_seat(&rt, alloc, &given, started(alloc, &given)?, TABLE, ENTRIES);
     Ok(())
 }
 

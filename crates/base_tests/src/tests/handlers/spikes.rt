@@ -1,5 +1,5 @@
 //! The handlers of a spike, over the counts of a count, and of a pass.
-ghost use Rattle.std.specs.Prelude.{◌≡◌, Some};
+ghost use Rattle.std.specs.Prelude.{◌≡◌, IfOk, Some};
 ghost use Rattle.mw_types.specs.declared.kind.Kind.TheVariants as kinds;
 ghost use Rattle.mw_types.specs.Bounds.{IsWithin};
 ghost use Rattle.computations.specs.Parts.{HasState, kind_at};
@@ -9,8 +9,6 @@ use crate::tests::key_of;
 use computations::Kinds;
 use mw_types::{Effects, HeldList, Key, NoMemory, Record, Seq, State, ValueList};
 use std::alloc::Global;
-use std::process::Abort;
-use std::test::Fail;
 
 // A row of the spike with no total.
 fn nothing_held(alloc: Global, work: &Kinds) -> State
@@ -47,45 +45,32 @@ fn judged(alloc: Global, deeds: &[Deed]) -> Result<(State, Produced), NoMemory> 
     walked(alloc, &work, 2, nothing_held(alloc, &work), deeds)
 }
 
-// A count produced these, in this order.
-fn expect_counts(
-    rt: &impl Abort,
-    alloc: Global,
-    deeds: &[Deed],
-    want: &[(u64, i64)],
-) -> Result<(), Fail> {
-    let produced = counted(alloc, deeds)?;
-    assert!(rt; produced.as_slice() == want);
-    Ok(())
+// Whether a count produced these, in this order.
+fn counts(alloc: Global, deeds: &[Deed], want: &[(u64, i64)]) -> Result<bool, NoMemory> {
+    Ok(counted(alloc, deeds)?.as_slice() == want)
 }
 
-// A spike holds so many totals after these, and knows these; and it produced these.
-fn expect_spike(
-    rt: &impl Abort,
+// Whether a spike holds so many totals after these, and knows these; and it produced these.
+fn judges(
     alloc: Global,
     deeds: &[Deed],
     many: usize,
     totals: &[i64],
     want: &[(u64, i64)],
-) -> Result<(), Fail> {
+) -> Result<bool, NoMemory> {
     let (state, produced) = judged(alloc, deeds)?;
-    expect_held(rt, &state, many, totals);
-    assert!(rt; produced.as_slice() == want);
-    Ok(())
+    Ok(holds(&state, many, totals) && produced.as_slice() == want)
 }
 
-// A spike holds so many totals, and knows these.
-fn expect_held(rt: &impl Abort, state: &State, many: usize, totals: &[i64]) {
+// Whether a spike holds so many totals, and knows these.
+fn holds(state: &State, many: usize, totals: &[i64]) -> bool {
     match state {
         State::Spike {
             late: _,
             held,
             known,
-        } => {
-            assert_eq!(rt; held.len(), many);
-            assert_eq!(rt; known.as_slice(), totals);
-        }
-        _ => assert!(rt; false, "a state of another kind"),
+        } => held.len() == many && known.as_slice() == totals,
+        _ => false,
     }
 }
 
@@ -115,15 +100,6 @@ const ONE_ONE_SEVEN_JUDGED: [Deed; 6] = [
     Deed::Timer(181),
 ];
 
-#[test]
-fn spike_above_three_times(rt: HostRuntime) -> Result<(), Fail> {
-    let alloc = rt.alloc();
-    let counts = [(60, 1), (120, 1), (180, 7)];
-    expect_counts(&rt, alloc, &ONE_ONE_SEVEN, &counts)?;
-    let deeds = &ONE_ONE_SEVEN_JUDGED;
-    expect_spike(&rt, alloc, deeds, 0, &[1, 7], &[(181, 7)])
-}
-
 // One record in each of two windows, and three in a third, which closes first.
 const ONE_ONE_THREE: [Deed; 6] = [
     Deed::Record(0, 0),
@@ -144,13 +120,6 @@ const ONE_ONE_THREE_JUDGED: [Deed; 6] = [
     Deed::Timer(181),
 ];
 
-#[test]
-fn no_spike_at_three_times(rt: HostRuntime) -> Result<(), Fail> {
-    let alloc = rt.alloc();
-    expect_counts(&rt, alloc, &ONE_ONE_THREE, &[(180, 3)])?;
-    expect_spike(&rt, alloc, &ONE_ONE_THREE_JUDGED, 0, &[1, 3], &[])
-}
-
 // Twenty totals, one in each ten microseconds, and then two more at the eighth, which is judged.
 fn twenty_totals(alloc: Global) -> Result<Seq<Deed>, NoMemory> {
     let mut deeds = Seq::new(alloc);
@@ -164,12 +133,6 @@ fn twenty_totals(alloc: Global) -> Result<Seq<Deed>, NoMemory> {
     Ok(deeds)
 }
 
-#[test]
-fn a_total_of_a_long_list_is_found(rt: HostRuntime) -> Result<(), Fail> {
-    let deeds = twenty_totals(rt.alloc())?;
-    expect_spike(&rt, rt.alloc(), deeds.as_slice(), 19, &[9], &[])
-}
-
 // Two totals at the end of time, the later one first.
 const AT_THE_END: [Deed; 4] = [
     Deed::Record(9223372036854775807, 1),
@@ -178,43 +141,93 @@ const AT_THE_END: [Deed; 4] = [
     Deed::Timer(9223372036854775807),
 ];
 
+// Whether the greatest of many totals at one timestamp is judged.
+fn finds_a_total(alloc: Global) -> Result<bool, NoMemory> {
+    let deeds = twenty_totals(alloc)?;
+    judges(alloc, deeds.as_slice(), 19, &[9], &[])
+}
+
 #[test]
-fn of_two_totals_due_at_the_end_the_first_goes(rt: HostRuntime) -> Result<(), Fail> {
-    expect_spike(&rt, rt.alloc(), &AT_THE_END, 0, &[2, 1], &[])
-}
-
-// A handler produced the record of the key `h/x` again, and set no timer.
-fn expect_passed(rt: &impl Abort, effects: &Effects) {
-    assert!(rt; effects.timers.is_empty());
-    match effects.productions.get(0) {
-        Some(passed) => {
-            assert!(rt; passed.key.text() == "h/x" && passed.stamp == 5 && passed.value == -3);
-        }
-        None => assert!(rt; false, "nothing was produced"),
+fn a_count_produces_what_its_windows_have(rt: HostRuntime) -> Result<(), NoMemory> {
+    let seven = [(60, 1), (120, 1), (180, 7)];
+    for (name, counts) in [
+        (
+            "one, one, seven",
+            counts(rt.alloc(), &ONE_ONE_SEVEN, &seven)?,
+        ),
+        (
+            "one, one, three",
+            counts(rt.alloc(), &ONE_ONE_THREE, &[(180, 3)])?,
+        ),
+    ] {
+        assert!(rt; counts, "{name}");
     }
-    assert_eq!(rt; effects.productions.len(), 1);
-}
-
-// It is passed on in a row of another key, which has so many late ones after it.
-fn passes(rt: &impl Abort, alloc: Global, late: bool, after: u64) -> Result<(), Fail> {
-    let work = watched(alloc)?;
-    let state = nothing_passed(&work);
-    let item = Record {
-        key: key_of(alloc, "h/x")?,
-        stamp: 5,
-        value: -3,
-        late,
-    };
-    let effects = of_record(alloc, &work, 3, &Key::none(alloc), &state, &item)?;
-    expect_passed(rt, &effects);
-    assert!(rt; effects.state == State::Pass { late: after });
     Ok(())
 }
 
 #[test]
-fn a_pass_repeats_each_record(rt: HostRuntime) -> Result<(), Fail> {
+fn a_spike_judges_each_total_when_it_is_due(rt: HostRuntime) -> Result<(), NoMemory> {
     let alloc = rt.alloc();
-    passes(&rt, alloc, false, 0)?;
-    passes(&rt, alloc, true, 1)?;
+    let [seven, three, end] = [
+        judges(alloc, &ONE_ONE_SEVEN_JUDGED, 0, &[1, 7], &[(181, 7)])?,
+        judges(alloc, &ONE_ONE_THREE_JUDGED, 0, &[1, 3], &[])?,
+        judges(alloc, &AT_THE_END, 0, &[2, 1], &[])?,
+    ];
+    for (name, judges) in [
+        ("a spike above three times", seven),
+        ("no spike at three times", three),
+        ("a total of a long list is found", finds_a_total(alloc)?),
+        ("of two totals due at the end the first goes", end),
+    ] {
+        assert!(rt; judges, "{name}");
+    }
+    Ok(())
+}
+
+// Whether a handler produced the record of the key `h/x` again, and set no timer.
+fn is_passed(effects: &Effects) -> bool {
+    match effects.productions.as_slice() {
+        [one] => {
+            let repeats = one.key.text() == "h/x" && one.stamp == 5 && one.value == -3;
+            repeats && effects.timers.is_empty()
+        }
+        _ => false,
+    }
+}
+
+// A record of the key `h/x`.
+fn item(alloc: Global, late: bool) -> Result<Record, NoMemory>
+    ensures { IfOk result (λ item. item.stamp ≡ 5) }
+{
+    Ok(Record {
+        key: key_of(alloc, "h/x")?,
+        stamp: 5,
+        value: -3,
+        late,
+    })
+}
+
+// What the pass leaves of it in a row of another key.
+fn left_of_item(alloc: Global, late: bool) -> Result<Effects, NoMemory> {
+    let work = watched(alloc)?;
+    let item = item(alloc, late)?;
+    let state = nothing_passed(&work);
+    of_record(alloc, &work, 3, &Key::none(alloc), &state, &item)
+}
+
+// Whether it is passed on, and the row has so many late ones after it.
+fn passes(alloc: Global, late: bool, after: u64) -> Result<bool, NoMemory> {
+    let effects = left_of_item(alloc, late)?;
+    match &effects.state {
+        State::Pass { late } => Ok(*late == after && is_passed(&effects)),
+        _ => Ok(false),
+    }
+}
+
+#[test]
+fn a_pass_repeats_each_record(rt: HostRuntime) -> Result<(), NoMemory> {
+    for (late, after) in [(false, 0), (true, 1)] {
+        assert!(rt; passes(rt.alloc(), late, after)?, "late: {late}");
+    }
     Ok(())
 }

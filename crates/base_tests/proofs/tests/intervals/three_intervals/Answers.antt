@@ -4,7 +4,7 @@ use Rattle.std.proofs.lemmas.List.Elements.{All-from_recursion}
 use Rattle.mw_types.specs.declared.key.PartCuts.{PartCuts}
 use Rattle.key_intervals.specs.Intervals.{DivideKeys}
 use Rattle.key_intervals.proofs.Made.{no_cuts}
-use Rattle.base_tests.proofs.tests.intervals.a_cut_begins_an_interval.Goals as goal
+use Rattle.base_tests.proofs.tests.intervals.three_intervals.Goals as goal
 
 two_cuts : DivideKeys (codes "h" ∷ codes "q" ∷ [])
 unfolding IsStrictlySortedBy
