@@ -93,42 +93,47 @@ fn is_written(alloc: Global, topology: &str, events: &str, lines: &str) -> Resul
     writes(alloc, "solo --history t.json e", &files, lines)
 }
 
+// What the first example's run has beside that: its entries, and the two rows that it leaves.
+fn leaves_two_rows(alloc: Global) -> Result<bool, NoMemory> {
+    let injector = "01000000000000000a00000000000000000000000003000000000000000000000000";
+    let counted =
+        "01000000000000000d000000000000000d01000000000000000000000000000000000000000000000000";
+    let rows = [(0, "", injector), (1, "a", counted)];
+    Ok(entries(alloc, SOLO, FIRST)? == 14 && leaves(alloc, SOLO, FIRST, &rows)?)
+}
+
+#[test]
+fn two_windows_and_summary(rt: HostRuntime) -> Result<(), Fail> {
+    let alloc = rt.alloc();
+    let is_written = is_written(alloc, COUNT, EVENTS, TWO_WINDOWS)?;
+    assert!(rt;
+        is_written && leaves_two_rows(alloc)?,
+        "is written: {is_written}"
+    );
+    Ok(())
+}
+
+#[test]
+fn empty_event_file(rt: HostRuntime) -> Result<(), Fail> {
+    let alloc = rt.alloc();
+    let is_written = is_written(alloc, COUNT, "", NO_EVENTS)?;
+    let is_empty = leaves(alloc, SOLO, &[("t.json", COUNT), ("e", "")], &[])?;
+    assert!(rt; is_written && is_empty, "is written: {is_written}");
+    Ok(())
+}
+
 #[test]
 fn each_history_has_its_lines(rt: HostRuntime) -> Result<(), Fail> {
     let marked = "{\"key\":\"a\",\"ts\":10}\n{\"watermark\":60}\n{\"key\":\"a\",\"ts\":70}\n";
     let one = "{\"key\":\"a\",\"ts\":10}\n";
     let cut = "{\"key\":\"h\",\"ts\":10}\n{\"key\":\"a\",\"ts\":10}\n";
     for (name, topology, events, lines) in [
-        ("two windows and summary", COUNT, EVENTS, TWO_WINDOWS),
-        ("empty event file", COUNT, "", NO_EVENTS),
         ("watermark fires before next inject", COUNT, marked, MARKED),
         ("each reader has an id of its own", READERS, one, READ_TWICE),
         ("each key is handled in its interval", CUTS, cut, CUT),
     ] {
         assert!(rt; is_written(rt.alloc(), topology, events, lines)?, "{name}");
     }
-    Ok(())
-}
-
-#[test]
-fn the_first_example_has_fourteen_entries(rt: HostRuntime) -> Result<(), Fail> {
-    assert!(rt; entries(rt.alloc(), SOLO, FIRST)? == 14);
-    Ok(())
-}
-
-#[test]
-fn the_first_example_leaves_two_rows(rt: HostRuntime) -> Result<(), Fail> {
-    let injector = "01000000000000000a00000000000000000000000003000000000000000000000000";
-    let counted =
-        "01000000000000000d000000000000000d01000000000000000000000000000000000000000000000000";
-    let rows = [(0, "", injector), (1, "a", counted)];
-    assert!(rt; leaves(rt.alloc(), SOLO, FIRST, &rows)?);
-    Ok(())
-}
-
-#[test]
-fn an_empty_event_file_leaves_no_row(rt: HostRuntime) -> Result<(), Fail> {
-    assert!(rt; leaves(rt.alloc(), SOLO, &[("t.json", COUNT), ("e", "")], &[])?);
     Ok(())
 }
 
