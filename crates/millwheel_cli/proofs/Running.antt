@@ -18,7 +18,7 @@ use Rattle.book.specs.OwnDesks.{own_view, telling}
 use Rattle.node.specs.Answers.{refusal_of}
 use Rattle.node.specs.declared.outcome.NodeFault.{NodeFault}
 use Rattle.node.specs.declared.outcome.NodeFault.TheVariants as faults
-use Rattle.world.specs.Drains.{HasInjected}
+use Rattle.drains.specs.Drains.{HasInjected}
 use Rattle.world.specs.Replays.{IsReplayed, IsWholeReplay}
 use Rattle.millwheel_cli.specs.declared.task.Task.{Task}
 use Rattle.millwheel_cli.specs.Answers.{Left, IsKeptRun, IsRun, IsWholeRun}

@@ -11,7 +11,7 @@ use Rattle.topology.specs.Shapes.{Shape}
 use Rattle.injector.specs.Sources.{Source}
 use Rattle.run_history.specs.Cases.{CaseShape}
 use Rattle.scripts.specs.declared.step.Step.{Step}
-use Rattle.world.specs.Schedules.{schedule_of}
+use Rattle.schedules.specs.Schedules.{schedule_of}
 use Rattle.millwheel_cli.specs.declared.status.Status.{Status}
 use Rattle.millwheel_cli.specs.declared.status.Status.TheVariants.{PlanRefused, NoMemory}
 use Rattle.millwheel_cli.specs.declared.task.Task.{Task}

@@ -1,7 +1,7 @@
 //! What a call asks for, with its files.
 ghost use Rattle.std.specs.Prelude.{◌≡◌, All, length, Err, None, Some, IfErr, IfOk};
 ghost use Rattle.mw_ports.specs.Shelves.{Files};
-ghost use Rattle.world.specs.Schedules.{IsStep};
+ghost use Rattle.scripts.specs.Steps.{IsStep};
 ghost use Rattle.millwheel_cli.specs.Tasks.{IsInputsTask, IsLoadTask, IsTask};
 ghost use Rattle.millwheel_cli.specs.Reasons.{ShelfSeen, IsRefused, IsCallRefused, load_taken};
 ghost use Rattle.millwheel_cli.specs.Inside.{UnlessWant};

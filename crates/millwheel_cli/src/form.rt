@@ -1,7 +1,7 @@
 //! What the bytes of files are taken for.
 ghost use Rattle.std.specs.Prelude.{◌≡◌, ◌<◌, ◌^◌, [], All, length, map, replicate, Err, IfErr, IfOk, Ok};
 ghost use Rattle.topology.specs.Shapes.{injectors_of};
-ghost use Rattle.world.specs.Schedules.{IsStep};
+ghost use Rattle.scripts.specs.Steps.{IsStep};
 ghost use Rattle.millwheel_cli.specs.Files.{topology_taken, source_taken};
 ghost use Rattle.millwheel_cli.specs.Tasks.{plan_taken};
 ghost use Rattle.millwheel_cli.specs.Inside.{of_lines, UnlessWant};
@@ -10,9 +10,9 @@ use crate::refusal::Refusal;
 use injector::{Items, ItemsList, LinesRefusal, read_lines};
 use mw_types::{NoMemory, Seq};
 use run_history::Case;
+use schedules::{Schedule, read_schedule};
 use std::alloc::Global;
 use topology::{Topology, read};
-use world::{Schedule, read_schedule};
 
 /// The topology that these bytes are taken for, which has an injector for each event file.
 pub fn topology_of(alloc: Global, count: u32, bytes: &[u8]) -> Result<Topology, Refusal>

@@ -2,7 +2,7 @@
 ghost use Rattle.std.specs.Prelude.{◌≡◌, ◌≤◌, ◌<◌, ◌^◌, All, length, Some, IfErr, IfOk};
 ghost use Rattle.mw_ports.specs.Shelves.{Files};
 ghost use Rattle.topology.specs.Shapes.{injectors_of};
-ghost use Rattle.world.specs.Schedules.{IsStep};
+ghost use Rattle.scripts.specs.Steps.{IsStep};
 ghost use Rattle.millwheel_cli.specs.Limits.{events_limit, lines_limit};
 ghost use Rattle.millwheel_cli.specs.Files.{source_taken, IsContent, HoldsTopology, HoldsSource, HoldsSources};
 ghost use Rattle.millwheel_cli.specs.Tasks.{HoldsPlan};
@@ -14,9 +14,9 @@ use crate::refusal::Refusal;
 use injector::{Items, ItemsList};
 use mw_ports::{Shelf, ShelfFault};
 use mw_types::{Bytes, Duplicate, Name, NoMemory, Seq};
+use schedules::Schedule;
 use std::alloc::Global;
 use topology::Topology;
-use world::Schedule;
 
 // How many bytes a topology may have.
 const TOPOLOGY_MAX: u64 = 1 << 20;

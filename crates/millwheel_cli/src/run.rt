@@ -11,7 +11,7 @@ ghost use Rattle.node.specs.Answers.{refusal_of};
 ghost use Rattle.node.specs.Works.{IsWorkOf};
 ghost use Rattle.scripts.specs.Worlds.{empty_world};
 ghost use Rattle.world.specs.Replays.{IsReplayed, IsWholeReplay};
-ghost use Rattle.world.specs.Schedules.{IsStep};
+ghost use Rattle.scripts.specs.Steps.{IsStep};
 ghost use Rattle.world.specs.WorldStates.{world_of};
 ghost use Rattle.millwheel_cli.specs.Limits.{history_limit};
 ghost use Rattle.millwheel_cli.specs.Answers.{Left, RunLeaves};
@@ -23,12 +23,13 @@ use crate::task::Task;
 use crate::text::write;
 use book::{Book, StartRefusal, StartWhy};
 use computations::{Computation, Kinds};
+use drains::drains_leave_no_work;
 use mw_ports::Sink;
 use mw_types::NoMemory;
 use node::NodeFault;
 use row_keeper::Keeper;
 use std::alloc::Global;
-use world::{Step, World, WorldRefusal, drains_leave_no_work, run_script};
+use world::{Step, World, WorldRefusal, run_script};
 
 // How many entries a history may have.
 const HISTORY_MAX: u64 = 1 << 32;

@@ -3,7 +3,7 @@ ghost use Rattle.std.specs.Prelude.{◌≡◌};
 ghost use Rattle.millwheel_cli.specs.Tasks.{wanted_of};
 
 use run_history::Case;
-use world::Schedule;
+use schedules::Schedule;
 
 /// What is to be written of a run.
 #[derive(Debug, Drop, Clone, Copy)]
@@ -17,7 +17,7 @@ pub enum Wanted {
 }
 
 /// The case of a run, the steps that come before its drain, and what is to be written of it.
-#[derive(Debug, Drop)]
+#[derive(Drop)]
 pub struct Task {
     /// What is run.
     pub case: Case,

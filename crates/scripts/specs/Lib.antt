@@ -1,3 +1,4 @@
+pub mod Steps
 pub mod Worlds
 pub mod Acts
 pub mod Keeping

@@ -1,7 +1,7 @@
 //! The steps of a script.
 
 /// One step of a script, which a line of a schedule names.
-#[derive(Clone, Copy, Debug)]
+#[derive(Clone, Copy)]
 pub enum Step {
     /// A worker claims an interval.
     Claim {

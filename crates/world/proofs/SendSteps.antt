@@ -23,7 +23,7 @@ use Rattle.world.specs.WorldStates.{flight_of}
 use Rattle.world.proofs.FlightLaws.{noteless}
 use Rattle.world.proofs.StandLaws.{flying-more}
 use Rattle.world.proofs.TakeSteps.{stays-done}
-use Rattle.world.proofs.TurnLaws.{stepped-looked}
+use Rattle.drains.proofs.TurnLaws.{stepped-looked}
 use Rattle.world.proofs.WorkerLaws.{leases-kept}
 
 -- ---- how far it has come

@@ -13,11 +13,11 @@ use Rattle.scripts.specs.Worlds.{World}
 use Rattle.scripts.specs.declared.step.Step.TheVariants as steps
 use Rattle.world.specs.Standing.{IsWorld}
 use Rattle.world.specs.Stepping.{HasActed}
-use Rattle.world.specs.Turns.{HasFailed}
+use Rattle.drains.specs.Turns.{HasFailed}
 use Rattle.world.specs.WorkerCalls.{SendsOn, world_with}
 use Rattle.world.specs.WorldStates.{WorldState, flight_of, world_of}
 use Rattle.world.proofs.ActsOnLaws.{when-told}
-use Rattle.world.proofs.TurnLaws.{failed-not}
+use Rattle.drains.proofs.TurnLaws.{failed-not}
 use Rattle.world.proofs.WorldSteps.{at-world, changed, rested-at, world-changed}
 
 -- it did as in the script

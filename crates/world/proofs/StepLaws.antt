@@ -11,7 +11,7 @@ use Rattle.book.specs.Lawful.{HoldsRowsOf, IsLawful}
 use Rattle.scripts.specs.Keeping.{AppendsAtMostOne}
 use Rattle.scripts.specs.declared.step.Step.{Step}
 use Rattle.world.specs.Stepping.{HasFaulted}
-use Rattle.world.specs.Turns.{with_own}
+use Rattle.drains.specs.Turns.{with_own}
 use Rattle.world.specs.WorkerCalls.{HasGoneOn}
 use Rattle.world.specs.WorldStates.{WorldState, world_of}
 use Rattle.world.proofs.RunLaws.{faulted-history}

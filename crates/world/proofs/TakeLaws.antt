@@ -25,9 +25,9 @@ use Rattle.node.specs.declared.outgoing.Outgoing.TheVariants as outgoing
 use Rattle.scripts.specs.Acts.{must_wait}
 use Rattle.scripts.specs.Worlds.{lease_of, lease_on, row_of_message}
 use Rattle.world.specs.Standing.{FitsOwn}
-use Rattle.world.specs.WorkerCalls.{IsReady, TakesOn, left_by}
+use Rattle.world.specs.WorkerCalls.{IsReady, TakesOn, answered_in_place}
 use Rattle.world.proofs.ActsOnLaws.{acting, when-told}
-use Rattle.world.proofs.TurnLaws.{free-of}
+use Rattle.drains.proofs.TurnLaws.{free-of}
 use Rattle.world.proofs.deeds.Takes.{ack-acts, prepare-acts}
 
 -- ---- what is prepared
@@ -100,7 +100,7 @@ left-tests false false = Some outcomes.NotMine
 
 -- it answers so
 pub left-is : (shape : Shape) (worker : Worker) (taken : Outgoing)
-    → left_by shape worker taken ≡ left-tests (must_wait worker taken) (is_some (lease_on shape worker (row_of_message taken)))
+    → answered_in_place shape worker taken ≡ left-tests (must_wait worker taken) (is_some (lease_on shape worker (row_of_message taken)))
 unfolding left-tests
 left-is shape worker taken = by_tests (must_wait worker taken) (lease_on shape worker (row_of_message taken))
   where
@@ -112,7 +112,7 @@ left-is shape worker taken = by_tests (must_wait worker taken) (lease_on shape w
     by_tests false (Some lease) = refl
 
 -- a message that is not left does not have to wait, and its row is held
-pub left-none : (shape : Shape) (node : NodeView) (taken : Outgoing) → left_by shape (worker_at node) taken ≡ None
+pub left-none : (shape : Shape) (node : NodeView) (taken : Outgoing) → answered_in_place shape (worker_at node) taken ≡ None
     → (must_wait (worker_at node) taken ≡ false) × IsSome (held_on shape node.held (row_of_message taken))
 unfolding left-tests
 left-none shape node taken none =
@@ -135,7 +135,7 @@ none-of (Some x) e = absurd cc
 -- a record is taken as the script takes it
 pub handle-on : (case : CaseShape) (old new : BookView) (was node : NodeView) (delivery : Delivery) (sender : RowName)
     (outcome : Outcome) → case ≡ old.case → IsLawful old.case (core_of old) → KeepsMarks (own_view old) (own_view new)
-    → FitsOwn old was → left_by old.case.topology (worker_at was) (outgoing.Deliver delivery sender) ≡ None
+    → FitsOwn old was → answered_in_place old.case.topology (worker_at was) (outgoing.Deliver delivery sender) ≡ None
     → HasLooked (own_view old) (own_view new)
     → (outcome, worker_at node) ≡ taken_from case.topology was (outgoing.Deliver delivery sender)
     → (number : ℕ) → TakesOn number (outgoing.Deliver delivery sender) old was new node outcome
@@ -151,7 +151,7 @@ handle-on case old new was node delivery sender outcome same lawful marks fits l
 -- and so is word that a record was handled
 pub ack-on : (case : CaseShape) (old new : BookView) (was node : NodeView) (taken : Outgoing) (outcome : Outcome)
     → case ≡ old.case → IsLawful old.case (core_of old) → KeepsMarks (own_view old) (own_view new) → FitsOwn old was
-    → left_by old.case.topology (worker_at was) taken ≡ None → IsAck taken
+    → answered_in_place old.case.topology (worker_at was) taken ≡ None → IsAck taken
     → AnswersAckOf case.topology (own_view old) (own_view new) taken was node outcome
     → (number : ℕ) → TakesOn number taken old was new node outcome
 ack-on case old new was node taken outcome same lawful marks fits left ack answers number =

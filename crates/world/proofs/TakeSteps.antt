@@ -22,7 +22,7 @@ use Rattle.scripts.specs.Worlds.{World, in_flight, lease_on, row_of_message, wor
 use Rattle.scripts.specs.declared.step.Step.TheVariants as steps
 use Rattle.world.specs.Standing.{IsWorld}
 use Rattle.world.specs.Stepping.{HasActed, HasFaulted}
-use Rattle.world.specs.WorkerCalls.{HasCalled, HasRested, TakesOn, left_by, world_with}
+use Rattle.world.specs.WorkerCalls.{HasCalled, HasRested, TakesOn, answered_in_place, world_with}
 use Rattle.world.specs.WorldStates.{WorldState, flight_of, world_of}
 use Rattle.world.proofs.FlightLaws.{flight-at, flight-gone, flying-at, flying-gone, noteless}
 use Rattle.world.proofs.StandLaws.{flying-more, more-grown, worker-at, world-after}
@@ -56,14 +56,14 @@ take-not case state number message at =
 -- a worker leaves it in flight
 pub take-left : (case : CaseShape) (state : WorldState) (number message : ℕ) (node : NodeView) (found : Message NoNote) (answer : Outcome)
     → slice_get state.nodes number ≡ Some node → unwrap_or (slice_get state.flight message) None ≡ Some found
-    → left_by case.topology (worker_at node) (outgoing_of found) ≡ Some answer
+    → answered_in_place case.topology (worker_at node) (outgoing_of found) ≡ Some answer
     → (answer, world_of state) ≡ act case (world_of state) (steps.Take number message)
 take-left case state number message node found answer at there left =
     let flies : in_flight (flight_of state.flight) message ≡ Some (outgoing_of found) =
     flight-at state.flight message ∙ ap noteless there in
     by_tests (must_wait (worker_of (world_of state) number) (outgoing_of found))
     (lease_on case.topology (worker_of (world_of state) number) (row_of_message (outgoing_of found)))
-    (ap (λ w. left_by case.topology w (outgoing_of found)) is_worker ∙ left)
+    (ap (λ w. answered_in_place case.topology w (outgoing_of found)) is_worker ∙ left)
     ∙ ap (λ o. done case.topology (world_of state) (option_map_or (take_message case.topology number message (world_of state)) o
     (nothing (world_of state) number))) (sym flies)
   where

@@ -25,9 +25,9 @@ use Rattle.node.specs.declared.outcome.Outcome.TheVariants as outcomes
 use Rattle.node.specs.declared.outgoing.Outgoing.{Outgoing}
 use Rattle.node.specs.declared.outgoing.Outgoing.TheVariants as outgoing
 use Rattle.scripts.proofs.Leases.{lost-had}
-use Rattle.world.specs.Turns.{HasFailed}
+use Rattle.drains.specs.Turns.{HasFailed}
 use Rattle.world.specs.WorkerCalls.{HasCalled, HasLeases, HasRested}
-use Rattle.world.proofs.TurnLaws.{failed-memory, failed-refused, stepped-looked}
+use Rattle.drains.proofs.TurnLaws.{failed-memory, failed-refused, stepped-looked}
 
 -- ---- what is said of a result
 

@@ -1,9 +1,3 @@
-pub mod Drains
-pub mod Passes
-pub mod Turns
-pub mod Schedules
-pub mod Reading
-pub mod ScheduleExamples
 pub mod WorldStates
 pub mod Stepping
 pub mod Replays

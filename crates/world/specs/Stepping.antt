@@ -1,7 +1,14 @@
--- When a step is done for real as it is in the scripted world, and what a fault leaves. Own.
-use Rattle.std.specs.Prelude.{◌≡◌, IfSome}
+-- When a step is done for real as it is in the scripted world, what a fault leaves, and why a step is answered
+-- so. Own.
+use Rattle.std.specs.Prelude.{◌≡◌, ◌+◌, ⊤, List, Some, IfSome, length}
+use Rattle.mw_types.specs.declared.entry.Entry.{Entry}
+use Rattle.run_history.specs.Fences.{IsOvertakenBy}
+use Rattle.book.specs.Books.{LeaseView}
+use Rattle.node.specs.Workers.{Worker, idle}
 use Rattle.node.specs.declared.outcome.Outcome.{Outcome}
+use Rattle.node.specs.declared.outcome.Outcome.TheVariants as outcomes
 use Rattle.scripts.specs.Acts.{act, without_message}
+use Rattle.scripts.specs.Worlds.{World, lease_of, worker_of}
 use Rattle.scripts.specs.declared.step.Step.{Step}
 use Rattle.scripts.specs.declared.step.Step.TheVariants as steps
 use Rattle.world.specs.WorldStates.{WorldState, world_of}
@@ -17,3 +24,40 @@ abbrev pub HasFaulted : Step → WorldState → WorldState → Type 0
 HasFaulted (steps.Take worker message) old new =
     world_of new ≡ record (world_of old) { flight = without_message message (world_of old).flight }
 HasFaulted _ old new = world_of new ≡ world_of old
+
+-- ---- over every keeper
+
+-- an answer that names a number has its cause in what a worker had, and in the history before and after: it
+-- names the entry that was appended, or a claim that has overtaken a lease of this worker's; and no other had
+-- the turn
+abbrev pub IsCausedBy : Worker → List Entry → List Entry → Outcome → Type 0
+IsCausedBy worker old new (outcomes.Committed commit) = (commit ≡ length old) × (length new ≡ commit + 1)
+IsCausedBy worker old new (outcomes.Claimed seq) = (seq ≡ length old) × (length new ≡ seq + 1)
+IsCausedBy worker old new (outcomes.Stale newer) = (lease : LeaseView)
+    × (lease_of worker lease.interval ≡ Some lease) × IsOvertakenBy newer lease.interval lease.seq new
+IsCausedBy worker old new (outcomes.Busy found) = ⊥
+IsCausedBy worker old new _ = ⊤
+
+-- an answer names no number that wants a cause
+abbrev pub NamesNone : Outcome → Type 0
+NamesNone outcome = (worker : Worker) (old new : List Entry) → IsCausedBy worker old new outcome
+
+-- the worker that does a step; where a step is of a message alone it is one that has nothing
+abbrev pub worker_of_step : World → Step → Worker
+worker_of_step world (steps.Claim worker interval) = worker_of world worker
+worker_of_step world (steps.Inject worker part) = worker_of world worker
+worker_of_step world (steps.Send worker) = worker_of world worker
+worker_of_step world (steps.Take worker message) = worker_of world worker
+worker_of_step world (steps.Write worker) = worker_of world worker
+worker_of_step world (steps.Fire worker part) = worker_of world worker
+worker_of_step world (steps.Report worker interval) = worker_of world worker
+worker_of_step world (steps.Resend worker) = worker_of world worker
+worker_of_step world (steps.Purge worker interval) = worker_of world worker
+worker_of_step world (steps.Repeat message) = idle
+worker_of_step world (steps.Lose message) = idle
+worker_of_step world (steps.Crash worker) = worker_of world worker
+
+-- a step's answer has its cause
+abbrev pub HasCauseOf : Step → WorldState → WorldState → Outcome → Type 0
+HasCauseOf step old new outcome =
+    IsCausedBy (worker_of_step (world_of old) step) old.book.history new.book.history outcome

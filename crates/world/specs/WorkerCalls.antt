@@ -20,7 +20,7 @@ use Rattle.scripts.specs.Worlds.{World, in_flight, lease_on, row_of_message}
 use Rattle.scripts.specs.declared.step.Step.{Step}
 use Rattle.scripts.specs.declared.step.Step.TheVariants as steps
 use Rattle.world.specs.Standing.{FitsOwn}
-use Rattle.world.specs.Turns.{HasStepped}
+use Rattle.drains.specs.Turns.{HasStepped}
 use Rattle.world.specs.WorldStates.{WorldState}
 
 -- ---- over every keeper
@@ -116,8 +116,8 @@ IsReady node = IfSome node.prepared (λ (work : WorkView). IsHandle work.proposa
 
 -- what a worker answers that leaves a message in flight, if it does: it has to wait while another record is
 -- prepared, or the message is for a row that it lacks
-abbrev pub left_by : Shape → Worker → Outgoing → Option Outcome
-left_by shape worker taken = if must_wait worker taken then Some outcomes.Nothing else
+abbrev pub answered_in_place : Shape → Worker → Outgoing → Option Outcome
+answered_in_place shape worker taken = if must_wait worker taken then Some outcomes.Nothing else
     option_map_or (λ (lease : LeaseView). None) (lease_on shape worker (row_of_message taken))
     (Some outcomes.NotMine)
 

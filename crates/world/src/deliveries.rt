@@ -9,8 +9,9 @@ ghost use Rattle.node.specs.declared.message.Message.TheVariants as messages;
 ghost use Rattle.scripts.specs.Acts.{must_wait};
 ghost use Rattle.scripts.specs.Worlds.{row_of_message};
 ghost use Rattle.world.specs.Standing.{FitsOwn};
-ghost use Rattle.world.specs.Turns.{HasFailed};
-ghost use Rattle.world.specs.WorkerCalls.{HasCalled, HasRested, IsReady, TakesOn, left_by};
+ghost use Rattle.drains.specs.Turns.{HasFailed};
+ghost use Rattle.world.specs.Stepping.{IsCausedBy};
+ghost use Rattle.world.specs.WorkerCalls.{HasCalled, HasRested, IsReady, TakesOn, answered_in_place};
 
 use book::{Book, Desk, NoNote, OwnDesk};
 use computations::Computation;
@@ -21,7 +22,7 @@ use run_history::Case;
 use std::alloc::Global;
 
 // What a worker answers that leaves a message in flight, if it does.
-pub(crate) fn left_by(
+pub(crate) fn answered_in_place(
     case: &Case,
     node: &Node<NoNote>,
     message: &Message<NoNote>,
@@ -29,7 +30,7 @@ pub(crate) fn left_by(
     requires addressed { IsAddressed case.now.topology (outgoing_of message.now) }
     requires ready { IsReady node.now }
     ensures { result
-        ≡ left_by case.now.topology (worker_at node.now) (outgoing_of message.now) }
+        ≡ answered_in_place case.now.topology (worker_at node.now) (outgoing_of message.now) }
 {
     if must_wait(node, message) {
         return Some(Outcome::Nothing);
@@ -74,11 +75,13 @@ pub(crate) fn receive<'a, K: Keeper, C: Computation>(
     requires work { IsWorkOf book.old.case.topology (C.has work.now)
         (C.gives_record work.now) (C.gives_timer work.now) }
     requires sent { IsOutgoing book.old.case (own_view book.old) (outgoing_of message) }
-    requires takes { left_by book.old.case.topology (worker_at node.old) (outgoing_of message)
+    requires takes { answered_in_place book.old.case.topology (worker_at node.old) (outgoing_of message)
         ≡ None }
     ensures called { HasCalled book.old book.new node.old node.new }
     ensures acted { IfOk result (λ outcome. (number : ℕ) → TakesOn number (outgoing_of message)
         book.old node.old book.new node.new outcome) }
+    ensures cause { IfOk result (IsCausedBy (worker_at node.old)
+        book.old.history book.new.history) }
     ensures rested { OnErr result (HasRested book.old book.new node.old node.new) }
     ensures failed { IfErr result (HasFailed book.old book.new) }
 {
@@ -101,11 +104,13 @@ fn handle<'a, K: Keeper, C: Computation>(
         (C.gives_record work.now) (C.gives_timer work.now) }
     requires sent { IsOutgoing book.old.case (own_view book.old)
         (outgoing_of (messages.Deliver parcel)) }
-    requires takes { left_by book.old.case.topology (worker_at node.old)
+    requires takes { answered_in_place book.old.case.topology (worker_at node.old)
         (outgoing_of (messages.Deliver parcel)) ≡ None }
     ensures called { HasCalled book.old book.new node.old node.new }
     ensures acted { IfOk result (λ outcome. (number : ℕ) → TakesOn number
         (outgoing_of (messages.Deliver parcel)) book.old node.old book.new node.new outcome) }
+    ensures cause { IfOk result (IsCausedBy (worker_at node.old)
+        book.old.history book.new.history) }
     ensures rested { OnErr result (HasRested book.old book.new node.old node.new) }
     ensures failed { IfErr result (HasFailed book.old book.new) }
 {
@@ -129,11 +134,13 @@ fn acknowledge<'a, K: Keeper>(
     requires fits { FitsOwn book.old node.old }
     requires sent { IsOutgoing book.old.case (own_view book.old)
         (outgoing_of (messages.Ack receipt)) }
-    requires takes { left_by book.old.case.topology (worker_at node.old)
+    requires takes { answered_in_place book.old.case.topology (worker_at node.old)
         (outgoing_of (messages.Ack receipt)) ≡ None }
     ensures called { HasCalled book.old book.new node.old node.new }
     ensures acted { IfOk result (λ outcome. (number : ℕ) → TakesOn number
         (outgoing_of (messages.Ack receipt)) book.old node.old book.new node.new outcome) }
+    ensures cause { IfOk result (IsCausedBy (worker_at node.old)
+        book.old.history book.new.history) }
     ensures rested { OnErr result (HasRested book.old book.new node.old node.new) }
     ensures failed { IfErr result (HasFailed book.old book.new) }
 {

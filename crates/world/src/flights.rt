@@ -8,6 +8,7 @@ ghost use Rattle.node.specs.Workers.{worker_at};
 ghost use Rattle.scripts.specs.Acts.{without_message};
 ghost use Rattle.scripts.specs.Worlds.{in_flight};
 ghost use Rattle.world.specs.Standing.{FitsOwn, IsFlying};
+ghost use Rattle.world.specs.Stepping.{NamesNone};
 ghost use Rattle.world.specs.WorkerCalls.{FliesOn, HasCalled, IsSending, SendsOn};
 ghost use Rattle.world.specs.WorldStates.{flight_of};
 
@@ -70,6 +71,7 @@ pub(crate) fn send<'a, K: Keeper>(
     ensures called { HasCalled book.old book.new node.old node.new }
     ensures acted { IfOk result (SendsOn book.old node.old (flight_of flight.old.items)
         book.new node.new (flight_of flight.new.items)) }
+    ensures cause { IfOk result NamesNone }
     ensures few { length flight.new.items ≤ 2 ^ 32 }
     ensures flying { All (IsFlying book.new) (flight_of flight.new.items) }
     ensures unsent { OnErr result (book.new ≡ book.old) }
@@ -131,6 +133,7 @@ pub(crate) fn repeat(alloc: Global, flight: &mut Flight, message: u32) -> Result
     requires few { length flight.old.items ≤ 2 ^ 32 }
     ensures acted { IfOk result (FliesOn (Step.Repeat message)
         (flight_of flight.old.items) (flight_of flight.new.items)) }
+    ensures cause { IfOk result NamesNone }
     ensures few { length flight.new.items ≤ 2 ^ 32 }
     ensures flying { (book : BookView) → All (IsFlying book) (flight_of flight.old.items) →
         All (IsFlying book) (flight_of flight.new.items) }
@@ -203,6 +206,7 @@ fn receipt_of(alloc: Global, receipt: &Receipt<NoNote>) -> Result<Receipt<NoNote
 pub(crate) fn lose(flight: &mut Flight, message: u32) -> Outcome
     ensures acted { FliesOn (Step.Lose message)
         (flight_of flight.old.items) (flight_of flight.new.items) result }
+    ensures cause { NamesNone result }
     ensures same { length flight.new.items ≡ length flight.old.items }
     ensures flying { (book : BookView) → All (IsFlying book) (flight_of flight.old.items) →
         All (IsFlying book) (flight_of flight.new.items) }

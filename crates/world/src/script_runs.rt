@@ -7,7 +7,7 @@ ghost use Rattle.book.specs.DeskReasons.{IsDamageOf};
 ghost use Rattle.book.specs.OwnDesks.{own_view};
 ghost use Rattle.node.specs.Answers.{refusal_of};
 ghost use Rattle.scripts.specs.Acts.{world_after};
-ghost use Rattle.world.specs.Schedules.{IsStep};
+ghost use Rattle.scripts.specs.Steps.{IsStep};
 ghost use Rattle.world.specs.WorldStates.{world_of};
 
 use crate::world::World;

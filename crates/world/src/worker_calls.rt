@@ -2,9 +2,11 @@
 ghost use Rattle.std.specs.Prelude.{◌≡◌, ◌<◌, IfErr, IfOk, OnErr};
 ghost use Rattle.topology.specs.Rules.{interval_count};
 ghost use Rattle.node.specs.Messages.{IsComputation};
+ghost use Rattle.node.specs.Workers.{worker_at};
 ghost use Rattle.node.specs.Works.{IsWorkOf};
 ghost use Rattle.world.specs.Standing.{FitsOwn};
-ghost use Rattle.world.specs.Turns.{HasFailed};
+ghost use Rattle.drains.specs.Turns.{HasFailed};
+ghost use Rattle.world.specs.Stepping.{IsCausedBy};
 ghost use Rattle.world.specs.WorkerCalls.{ActsOn, HasCalled, HasRested};
 
 use book::{Book, Desk, NoNote, OwnDesk};
@@ -26,6 +28,8 @@ pub(crate) fn claim<'a, K: Keeper>(
     ensures called { HasCalled book.old book.new node.old node.new }
     ensures acted { IfOk result (ActsOn (Step.Claim node.old.number interval)
         book.old node.old book.new node.new) }
+    ensures cause { IfOk result (IsCausedBy (worker_at node.old)
+        book.old.history book.new.history) }
     ensures rested { OnErr result (HasRested book.old book.new node.old node.new) }
     ensures failed { IfErr result (HasFailed book.old book.new) }
 {
@@ -50,6 +54,8 @@ pub(crate) fn inject<'a, K: Keeper>(
     ensures called { HasCalled book.old book.new node.old node.new }
     ensures acted { IfOk result (ActsOn (Step.Inject node.old.number part)
         book.old node.old book.new node.new) }
+    ensures cause { IfOk result (IsCausedBy (worker_at node.old)
+        book.old.history book.new.history) }
     ensures rested { OnErr result (HasRested book.old book.new node.old node.new) }
     ensures failed { IfErr result (HasFailed book.old book.new) }
 {
@@ -73,6 +79,8 @@ pub(crate) fn write<'a, K: Keeper>(
     ensures called { HasCalled book.old book.new node.old node.new }
     ensures acted { IfOk result (ActsOn (Step.Write node.old.number)
         book.old node.old book.new node.new) }
+    ensures cause { IfOk result (IsCausedBy (worker_at node.old)
+        book.old.history book.new.history) }
     ensures rested { OnErr result (HasRested book.old book.new node.old node.new) }
     ensures failed { IfErr result (HasFailed book.old book.new) }
 {
@@ -101,6 +109,8 @@ pub(crate) fn fire<'a, K: Keeper, C: Computation>(
     ensures called { HasCalled book.old book.new node.old node.new }
     ensures acted { IfOk result (ActsOn (Step.Fire node.old.number part)
         book.old node.old book.new node.new) }
+    ensures cause { IfOk result (IsCausedBy (worker_at node.old)
+        book.old.history book.new.history) }
     ensures rested { OnErr result (HasRested book.old book.new node.old node.new) }
     ensures failed { IfErr result (HasFailed book.old book.new) }
 {
@@ -126,6 +136,8 @@ pub(crate) fn report<'a, K: Keeper>(
     ensures called { HasCalled book.old book.new node.old node.new }
     ensures acted { IfOk result (ActsOn (Step.Report node.old.number interval)
         book.old node.old book.new node.new) }
+    ensures cause { IfOk result (IsCausedBy (worker_at node.old)
+        book.old.history book.new.history) }
     ensures rested { OnErr result (HasRested book.old book.new node.old node.new) }
     ensures failed { IfErr result (HasFailed book.old book.new) }
 {
@@ -149,6 +161,8 @@ pub(crate) fn resend<'a, K: Keeper>(
     ensures called { HasCalled book.old book.new node.old node.new }
     ensures acted { IfOk result (ActsOn (Step.Resend node.old.number)
         book.old node.old book.new node.new) }
+    ensures cause { IfOk result (IsCausedBy (worker_at node.old)
+        book.old.history book.new.history) }
     ensures rested { OnErr result (HasRested book.old book.new node.old node.new) }
     ensures failed { IfErr result (HasFailed book.old book.new) }
 {
@@ -174,6 +188,8 @@ pub(crate) fn purge<'a, K: Keeper>(
     ensures called { HasCalled book.old book.new node.old node.new }
     ensures acted { IfOk result (ActsOn (Step.Purge node.old.number interval)
         book.old node.old book.new node.new) }
+    ensures cause { IfOk result (IsCausedBy (worker_at node.old)
+        book.old.history book.new.history) }
     ensures rested { OnErr result (HasRested book.old book.new node.old node.new) }
     ensures failed { IfErr result (HasFailed book.old book.new) }
 {

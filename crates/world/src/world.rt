@@ -2,6 +2,8 @@
 //! messages between them.
 ghost use Rattle.std.specs.Prelude.{◌≡◌, [], length, replicate, IfErr, IfOk};
 ghost use Rattle.run_history.specs.Cases.{intervals_of};
+ghost use Rattle.book.specs.Books.{core_of};
+ghost use Rattle.book.specs.Lawful.{IsLawful};
 ghost use Rattle.node.specs.Works.{IsWorkOf};
 ghost use Rattle.scripts.specs.Worlds.{empty_world, world_on};
 ghost use Rattle.world.specs.WorkerCalls.{AreNew};
@@ -91,6 +93,13 @@ impl<'a, K: Keeper, C: Computation + Drop> World<'a, K, C> {
         ensures book { result.now ≡ self.now.book }
     {
         &self.book
+    }
+
+    /// What always holds of the book. It does nothing when it runs.
+    pub fn sound(&self)
+        ensures lawful { IsLawful self.now.book.case (core_of self.now.book) }
+    {
+        self.book().history();
     }
 
     /// The book, at the end.

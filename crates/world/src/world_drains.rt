@@ -3,16 +3,18 @@ ghost use Rattle.std.specs.Prelude.{◌≡◌, ◌≤◌, length, Err, IfErr, If
 ghost use Rattle.std.specs.Option.{is_some};
 ghost use Rattle.mw_types.specs.Causes.{Rose};
 ghost use Rattle.run_history.specs.Fences.{Begins};
+ghost use Rattle.run_history.specs.Finished.{IsFinished};
+ghost use Rattle.run_history.specs.Runs.{run_of};
 ghost use Rattle.book.specs.DeskReasons.{IsDamageOf};
 ghost use Rattle.book.specs.OwnDesks.{own_view};
 ghost use Rattle.node.specs.Answers.{refusal_of};
 ghost use Rattle.scripts.specs.Worlds.{world_on};
-ghost use Rattle.world.specs.Drains.{HasEnded, IsDraining};
+ghost use Rattle.drains.specs.Drains.{HasEnded, IsDraining};
 ghost use Rattle.world.specs.WorldStates.{world_of};
 
-use crate::draining::drain;
 use crate::world::{World, sixteen};
 use computations::Computation;
+use drains::drain;
 use node::NodeFault;
 use row_keeper::Keeper;
 use std::alloc::Global;
@@ -32,11 +34,14 @@ impl<'a, K: Keeper, C: Computation + Drop> World<'a, K, C> {
             ≡ world_on self.new.book.history self.new.book.marks) }
 
         // Where a contract can see the keeper's rows the history goes on as a drain does, and after Ok
-        // to its end.
+        // to its end, where no work is left.
         ensures draining { IfSome self.old.book.rows (λ _. IsDraining self.old.book.case
             (length self.old.book.history) self.new.book.history) }
         ensures ended { OnOk result (IfSome self.old.book.rows (λ _. HasEnded self.old.book.case
             (length self.old.book.history) self.new.book.history)) }
+        ensures finished { OnOk result (IfSome self.old.book.rows
+            (λ _. let shape = self.new.book.case.topology in
+            IsFinished self.new.book.case (run_of shape self.new.book.history))) }
 
         ensures keeper_fault { result ≡ Err NodeFault.KeeperFault →
             Rose self.old.book.faults self.new.book.faults }

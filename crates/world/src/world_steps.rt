@@ -5,16 +5,17 @@ ghost use Rattle.mw_types.specs.Causes.{Rose};
 ghost use Rattle.book.specs.DeskReasons.{IsDamageOf};
 ghost use Rattle.book.specs.OwnDesks.{own_view};
 ghost use Rattle.node.specs.Answers.{refusal_of};
+ghost use Rattle.node.specs.Workers.{worker_at};
 ghost use Rattle.node.specs.Works.{IsWorkOf};
 ghost use Rattle.scripts.specs.Keeping.{AppendsAtMostOne};
-ghost use Rattle.world.specs.Schedules.{IsStep};
+ghost use Rattle.scripts.specs.Steps.{IsStep};
 ghost use Rattle.world.specs.Standing.{FitsOwn};
-ghost use Rattle.world.specs.Stepping.{HasActed, HasFaulted};
-ghost use Rattle.world.specs.Turns.{HasFailed};
+ghost use Rattle.world.specs.Stepping.{HasActed, HasCauseOf, HasFaulted, IsCausedBy};
+ghost use Rattle.drains.specs.Turns.{HasFailed};
 ghost use Rattle.world.specs.WorkerCalls.{ActsOn, HasCalled, HasGoneOn, HasRested, IsAlone};
 ghost use Rattle.world.specs.WorldStates.{world_of};
 
-use crate::deliveries::{left_by, receive};
+use crate::deliveries::{answered_in_place, receive};
 use crate::flights::{find, lose, repeat, send, take_out};
 use crate::worker_calls::{claim, fire, inject, purge, report, resend, write};
 use crate::world::World;
@@ -40,6 +41,9 @@ impl<'a, K: Keeper, C: Computation + Drop> World<'a, K, C> {
         ensures faults { self.old.book.faults ≤ self.new.book.faults }
         ensures grown { AppendsAtMostOne (world_of self.old) (world_of self.new) }
 
+        // Over every keeper an answer that names a number has its cause.
+        ensures cause { IfOk result (HasCauseOf step.now self.old self.new) }
+
         // A fault changes nothing, but that a message which was taken is gone.
         ensures kept { OnErr result (HasFaulted step.now self.old self.new) }
         ensures rows { OnErr result (self.new.book.rows ≡ self.old.book.rows) }
@@ -62,6 +66,7 @@ impl<'a, K: Keeper, C: Computation + Drop> World<'a, K, C> {
     fn step_once(&mut self, alloc: Global, step: &Step) -> Result<Outcome, NodeFault>
         requires step { IsStep self.old.book.case.topology step.now }
         ensures acted { IfOk result (HasActed step.now self.old self.new) }
+        ensures cause { IfOk result (HasCauseOf step.now self.old self.new) }
         ensures gone { HasGoneOn self.old self.new }
         ensures kept { OnErr result (HasFaulted step.now self.old self.new) }
         ensures failed { IfErr result (HasFailed self.old.book self.new.book) }
@@ -70,45 +75,47 @@ impl<'a, K: Keeper, C: Computation + Drop> World<'a, K, C> {
             Step::Claim {
                 worker,
                 interval: _,
-            } => self.alone(alloc, *worker, step),
-            Step::Inject { worker, part: _ } => self.alone(alloc, *worker, step),
+            } => self.step_alone(alloc, *worker, step),
+            Step::Inject { worker, part: _ } => self.step_alone(alloc, *worker, step),
             Step::Send { worker } => self.send(*worker),
             Step::Take { worker, message } => self.take(alloc, *worker, *message),
-            Step::Write { worker } => self.alone(alloc, *worker, step),
-            Step::Fire { worker, part: _ } => self.alone(alloc, *worker, step),
+            Step::Write { worker } => self.step_alone(alloc, *worker, step),
+            Step::Fire { worker, part: _ } => self.step_alone(alloc, *worker, step),
             Step::Report {
                 worker,
                 interval: _,
-            } => self.alone(alloc, *worker, step),
-            Step::Resend { worker } => self.alone(alloc, *worker, step),
+            } => self.step_alone(alloc, *worker, step),
+            Step::Resend { worker } => self.step_alone(alloc, *worker, step),
             Step::Purge {
                 worker,
                 interval: _,
-            } => self.alone(alloc, *worker, step),
+            } => self.step_alone(alloc, *worker, step),
             Step::Repeat { message } => self.repeat(alloc, *message),
             Step::Lose { message } => Ok(self.lose(*message)),
-            Step::Crash { worker } => self.alone(alloc, *worker, step),
+            Step::Crash { worker } => self.step_alone(alloc, *worker, step),
         }
     }
 
     // Does a step that a worker does without a message.
-    fn alone(&mut self, alloc: Global, worker: u32, step: &Step) -> Result<Outcome, NodeFault>
+    fn step_alone(&mut self, alloc: Global, worker: u32, step: &Step) -> Result<Outcome, NodeFault>
         requires worker { worker < 16 }
         requires step { IsStep self.old.book.case.topology step.now }
         requires alone { IsAlone worker step.now }
         ensures acted { IfOk result (HasActed step.now self.old self.new) }
+        ensures cause { IfOk result (HasCauseOf step.now self.old self.new) }
         ensures gone { HasGoneOn self.old self.new }
         ensures same { OnErr result (world_of self.new ≡ world_of self.old) }
         ensures failed { IfErr result (HasFailed self.old.book self.new.book) }
     {
         let node = &mut self.nodes[worker as usize];
-        alone(alloc, &mut self.book, &self.work, node, step)
+        call_alone(alloc, &mut self.book, &self.work, node, step)
     }
 
     // A worker sends all that it has to send.
     fn send(&mut self, worker: u32) -> Result<Outcome, NodeFault>
         requires worker { worker < 16 }
         ensures acted { IfOk result (HasActed (Step.Send worker) self.old self.new) }
+        ensures cause { IfOk result (HasCauseOf (Step.Send worker) self.old self.new) }
         ensures gone { HasGoneOn self.old self.new }
         ensures same { OnErr result (world_of self.new ≡ world_of self.old) }
         ensures failed { IfErr result (HasFailed self.old.book self.new.book) }
@@ -121,6 +128,7 @@ impl<'a, K: Keeper, C: Computation + Drop> World<'a, K, C> {
     fn take(&mut self, alloc: Global, worker: u32, message: u32) -> Result<Outcome, NodeFault>
         requires worker { worker < 16 }
         ensures acted { IfOk result (HasActed (Step.Take worker message) self.old self.new) }
+        ensures cause { IfOk result (HasCauseOf (Step.Take worker message) self.old self.new) }
         ensures gone { HasGoneOn self.old self.new }
         ensures gone_or_same { OnErr result
             (HasFaulted (Step.Take worker message) self.old self.new) }
@@ -131,7 +139,7 @@ impl<'a, K: Keeper, C: Computation + Drop> World<'a, K, C> {
             return Ok(Outcome::Nothing);
         };
         let here = &self.nodes[worker as usize];
-        if let Some(outcome) = left_by(case, here, found) {
+        if let Some(outcome) = answered_in_place(case, here, found) {
             return Ok(outcome);
         }
         let taken = take_out(&mut self.flight, message);
@@ -142,6 +150,7 @@ impl<'a, K: Keeper, C: Computation + Drop> World<'a, K, C> {
     // A message comes once more.
     fn repeat(&mut self, alloc: Global, message: u32) -> Result<Outcome, NodeFault>
         ensures acted { IfOk result (HasActed (Step.Repeat message) self.old self.new) }
+        ensures cause { IfOk result (HasCauseOf (Step.Repeat message) self.old self.new) }
         ensures gone { HasGoneOn self.old self.new }
         ensures same { OnErr result (world_of self.new ≡ world_of self.old) }
         ensures failed { IfErr result (HasFailed self.old.book self.new.book) }
@@ -152,14 +161,15 @@ impl<'a, K: Keeper, C: Computation + Drop> World<'a, K, C> {
     // A message is lost.
     fn lose(&mut self, message: u32) -> Outcome
         ensures acted { HasActed (Step.Lose message) self.old self.new result }
+        ensures cause { HasCauseOf (Step.Lose message) self.old self.new result }
         ensures gone { HasGoneOn self.old self.new }
     {
         lose(&mut self.flight, message)
     }
 }
 
-// Does a step that a worker does without a message.
-fn alone<'a, K: Keeper, C: Computation>(
+// Calls a worker for a step that it does without a message.
+fn call_alone<'a, K: Keeper, C: Computation>(
     alloc: Global,
     book: &mut Book<'a, K>,
     work: &C,
@@ -173,6 +183,8 @@ fn alone<'a, K: Keeper, C: Computation>(
     requires alone { IsAlone node.old.number step.now }
     ensures called { HasCalled book.old book.new node.old node.new }
     ensures acted { IfOk result (ActsOn step.now book.old node.old book.new node.new) }
+    ensures cause { IfOk result (IsCausedBy (worker_at node.old)
+        book.old.history book.new.history) }
     ensures rested { OnErr result (HasRested book.old book.new node.old node.new) }
     ensures failed { IfErr result (HasFailed book.old book.new) }
 {
@@ -196,6 +208,6 @@ fn alone<'a, K: Keeper, C: Computation>(
             interval,
         } => purge(alloc, book, node, *interval),
         Step::Crash { worker: _ } => Ok(node.crash()),
-        _ => Ok(Outcome::Nothing),
+        _ => unreachable!(),
     }
 }

@@ -4,7 +4,7 @@
 //! stand for a step: `drain`, after which the world is drained, `count`, beside which stands how many
 //! entries there are, and `last`, beside which stands the last of them.
 ghost use Rattle.std.specs.Prelude.{◌≤◌, ◌^◌, All, IfOk};
-ghost use Rattle.world.specs.Schedules.{IsStep};
+ghost use Rattle.scripts.specs.Steps.{IsStep};
 
 use super::fixtures::{COUNT, EVENTS, MOST, case, keeper, world};
 use computations::Kinds;
@@ -12,8 +12,9 @@ use mw_types::{Entry, NoMemory};
 use node::{NodeFault, Outcome};
 use row_keeper::Keeper;
 use run_history::Case;
+use schedules::{Schedule, read_schedule};
 use std::alloc::Global;
-use world::{Schedule, Step, World, read_schedule};
+use world::{Step, World};
 
 // The schedule of a text.
 pub(crate) fn schedule(alloc: Global, case: &Case, text: &str) -> Result<Schedule, NoMemory>

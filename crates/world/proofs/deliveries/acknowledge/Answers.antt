@@ -3,12 +3,15 @@ use Rattle.std.specs.Prelude.{IfErr, IfOk}
 use Rattle.node.specs.declared.outcome.Outcome.{Outcome}
 use Rattle.node.specs.declared.outgoing.Outgoing.TheVariants as outgoing
 use Rattle.node.specs.Asking.{ack_asked}
-use Rattle.world.specs.Turns.{HasFailed}
+use Rattle.drains.specs.Turns.{HasFailed}
 use Rattle.world.specs.WorkerCalls.{HasCalled, TakesOn}
-use Rattle.world.proofs.Results.{ok-then}
+use Rattle.drains.proofs.Results.{ok-then}
 use Rattle.world.proofs.TakeLaws.{ack-on}
-use Rattle.world.proofs.TurnLaws.{failed-asked}
+use Rattle.drains.proofs.TurnLaws.{failed-asked}
 use Rattle.world.proofs.WorkerLaws.{by-result, called-by, err-with, leases-ack, leases-same}
+use Rattle.node.specs.Workers.{worker_at}
+use Rattle.world.specs.Stepping.{IsCausedBy}
+use Rattle.world.proofs.CauseLaws.{ack-cause}
 use Rattle.world.proofs.deliveries.acknowledge.Goals as goal
 
 -- the worker has called its desk
@@ -48,3 +51,15 @@ returns-clause-failed g c =
     let failed : IfErr c.take_ack-result.result (HasFailed old new) =
     err-with c.take_ack-result.result (λ why fails looked. failed-asked old new asked why looked fails)
     c.take_ack-result.ensures.fault c.take_ack-result.ensures.looked in search rules
+
+-- its answer has its cause
+pub returns-clause-cause : goal.returns-clause-cause
+returns-clause-cause g c =
+    let old = c.args.book.now in
+    let new = c.take_ack-result.new.desk.book.now in
+    let was = c.args.node.now in
+    let node = c.take_ack-result.new.self in
+    let taken = outgoing.Ack c.args.receipt.to c.args.receipt.id in
+    let cause : IfOk c.take_ack-result.result (IsCausedBy (worker_at was) old.history new.history) =
+    ok-then c.take_ack-result.result (λ outcome answers. ack-cause c.case-case.result.now.topology old new taken was node outcome
+    c.requires.fits answers) c.take_ack-result.ensures.answers in search rules

@@ -4,11 +4,14 @@ use Rattle.book.specs.OwnDesks.{own_view}
 use Rattle.node.specs.declared.outcome.Outcome.{Outcome}
 use Rattle.node.specs.declared.outgoing.Outgoing.TheVariants as outgoing
 use Rattle.node.proofs.FitLaws.{grown_looked}
-use Rattle.world.specs.Turns.{HasFailed}
+use Rattle.drains.specs.Turns.{HasFailed}
 use Rattle.world.specs.WorkerCalls.{HasCalled, HasRested, TakesOn}
-use Rattle.world.proofs.Results.{err-then, ok-then}
+use Rattle.drains.proofs.Results.{err-then, ok-then}
 use Rattle.world.proofs.TakeLaws.{handle-on}
 use Rattle.world.proofs.WorkerLaws.{by-result, called-by, err-left, failed-only-memory, leases-same, leases-taken, rested-by}
+use Rattle.node.specs.Workers.{worker_at}
+use Rattle.world.specs.Stepping.{IsCausedBy}
+use Rattle.world.proofs.CauseLaws.{taken-cause}
 use Rattle.world.proofs.deliveries.handle.Goals as goal
 
 -- the worker has called its desk
@@ -58,3 +61,15 @@ returns-clause-failed g c =
     let failed : IfErr c.prepare-result.result (HasFailed old new) =
     err-then c.prepare-result.result (λ why is. failed-only-memory old new why c.prepare-result.ensures.looked is)
     c.prepare-result.ensures.fault in search rules
+
+-- its answer has its cause
+pub returns-clause-cause : goal.returns-clause-cause
+returns-clause-cause g c =
+    let old = c.args.book.now in
+    let new = c.prepare-result.new.desk.book.now in
+    let was = c.args.node.now in
+    let node = c.prepare-result.new.self in
+    let taken = outgoing.Deliver c.args.parcel.delivery c.args.parcel.sender in
+    let cause : IfOk c.prepare-result.result (IsCausedBy (worker_at was) old.history new.history) =
+    ok-then c.prepare-result.result (λ outcome is. taken-cause c.case-case.result.now.topology old new was node taken outcome is)
+    c.prepare-result.ensures.answers in search rules

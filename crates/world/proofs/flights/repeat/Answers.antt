@@ -7,6 +7,8 @@ use Rattle.world.specs.WorkerCalls.{FliesOn}
 use Rattle.world.specs.WorldStates.{flight_of}
 use Rattle.world.proofs.FlightLaws.{flying-put, repeat-more, repeat-not}
 use Rattle.world.proofs.WorkerLaws.{by-either, ok-with}
+use Rattle.drains.proofs.Results.{ok-then}
+use Rattle.world.specs.Stepping.{NamesNone}
 use Rattle.world.proofs.flights.repeat.Goals as goal
 
 -- no message is there
@@ -35,3 +37,8 @@ returns-clause-flying c = λ book each.
     by-either c.put.result (λ put. subst (λ f. All (IsFlying book) (flight_of f)) (sym put)
     (flying-put book flight c.args.message c.in_ok-copied.copied (at ∙ ap Some (sym c.in_ok-copied.ensures)) each))
     (λ unchanged. subst (λ f. All (IsFlying book) (flight_of f)) (sym unchanged) each) c.put.ensures.put c.put.ensures.unchanged
+
+-- its answer names no number that wants a cause
+pub returns-clause-cause : goal.returns-clause-cause
+returns-clause-cause c =
+    ok-then c.put.result (λ outcome number. subst NamesNone (sym number) (λ worker old new. tt)) c.put.ensures.number

@@ -1,6 +1,11 @@
 use Rattle.std.proofs.Common.{rules}
 use Rattle.world.specs.WorkerCalls.{HasCalled}
 use Rattle.world.proofs.WorkerLaws.{by-result, called-by, leases-claim, leases-same}
+use Rattle.std.specs.Prelude.{IfOk}
+use Rattle.node.specs.Workers.{worker_at}
+use Rattle.world.specs.Stepping.{IsCausedBy}
+use Rattle.drains.proofs.Results.{ok-then}
+use Rattle.world.proofs.CauseLaws.{claim-cause}
 use Rattle.world.proofs.worker_calls.claim.Goals as goal
 
 -- the worker has called its desk
@@ -15,3 +20,14 @@ returns-clause-called g c =
     c.claim-result.ensures.grown c.claim-result.ensures.fits c.claim-result.ensures.number
     (by-result c.claim-result.result (λ outcome answers. leases-claim c.case-case.result.now.topology old new c.args.interval was node outcome answers)
     (leases-same new was node) c.claim-result.ensures.answers c.claim-result.ensures.kept) in search rules
+
+-- its answer has its cause
+pub returns-clause-cause : goal.returns-clause-cause
+returns-clause-cause g c =
+    let old = c.args.book.now in
+    let new = c.claim-result.new.desk.book.now in
+    let was = c.args.node.now in
+    let node = c.claim-result.new.self in
+    let cause : IfOk c.claim-result.result (IsCausedBy (worker_at was) old.history new.history) =
+    ok-then c.claim-result.result (λ outcome answers. claim-cause c.case-case.result.now.topology old new c.args.interval was node outcome answers)
+    c.claim-result.ensures.answers in search rules

@@ -3,12 +3,15 @@ use Rattle.std.specs.Prelude.{IfErr, IfOk}
 use Rattle.scripts.specs.declared.step.Step.TheVariants as steps
 use Rattle.world.specs.WorkerCalls.{ActsOn, HasCalled}
 use Rattle.world.proofs.ActsOnLaws.{fire-on}
-use Rattle.world.proofs.Results.{ok-then}
+use Rattle.drains.proofs.Results.{ok-then}
 use Rattle.world.proofs.WorkerLaws.{by-result, called-by, leases-some, leases-same}
 use Rattle.node.specs.Asking.{MayAskFire}
-use Rattle.world.specs.Turns.{HasFailed}
-use Rattle.world.proofs.TurnLaws.{failed-some}
+use Rattle.drains.specs.Turns.{HasFailed}
+use Rattle.drains.proofs.TurnLaws.{failed-some}
 use Rattle.world.proofs.WorkerLaws.{err-with}
+use Rattle.node.specs.Workers.{worker_at}
+use Rattle.world.specs.Stepping.{IsCausedBy}
+use Rattle.world.proofs.CauseLaws.{fire-cause}
 use Rattle.world.proofs.worker_calls.fire.Goals as goal
 
 -- the worker has called its desk
@@ -44,3 +47,15 @@ returns-clause-failed g c =
     err-with c.fire-result.result (λ why fails looked. failed-some old new
     (MayAskFire c.case-case.result.now c.args.node.now c.args.part fails.mark) why looked fails.fails) c.fire-result.ensures.fault
     c.fire-result.ensures.looked in search rules
+
+-- its answer has its cause
+pub returns-clause-cause : goal.returns-clause-cause
+returns-clause-cause g c =
+    let old = c.args.book.now in
+    let new = c.fire-result.new.desk.book.now in
+    let was = c.args.node.now in
+    let node = c.fire-result.new.self in
+    let cause : IfOk c.fire-result.result (IsCausedBy (worker_at was) old.history new.history) =
+    ok-then c.fire-result.result (λ outcome answers. fire-cause c.case-case.result.now old new c.args.part answers.mark was node outcome
+    c.requires.fits answers.answers)
+    c.fire-result.ensures.answers in search rules

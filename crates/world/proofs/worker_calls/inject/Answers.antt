@@ -3,10 +3,12 @@ use Rattle.std.specs.Prelude.{IfOk}
 use Rattle.scripts.specs.declared.step.Step.TheVariants as steps
 use Rattle.world.specs.WorkerCalls.{ActsOn, HasCalled}
 use Rattle.world.proofs.ActsOnLaws.{inject-on}
-use Rattle.world.proofs.Results.{ok-then}
+use Rattle.drains.proofs.Results.{ok-then}
 use Rattle.world.proofs.WorkerLaws.{by-result, called-by, leases-asked, leases-same}
 use Rattle.node.specs.Asking.{line_asked}
 use Rattle.node.specs.Workers.{worker_at}
+use Rattle.world.specs.Stepping.{IsCausedBy}
+use Rattle.world.proofs.CauseLaws.{line-cause}
 use Rattle.world.proofs.worker_calls.inject.Goals as goal
 
 -- the worker has called its desk
@@ -31,3 +33,15 @@ returns-clause-acted g c =
     let node = c.inject-result.new.self in
     let acted : IfOk c.inject-result.result (ActsOn (steps.Inject was.number c.args.part) old was new node) =
     ok-then c.inject-result.result (λ outcome answers. inject-on c.case-case.result.now old new was node c.args.part outcome c.case-case.ensures.case c.history.ensures.lawful c.inject-result.ensures.marks c.requires.fits answers) c.inject-result.ensures.answers in search rules
+
+-- its answer has its cause
+pub returns-clause-cause : goal.returns-clause-cause
+returns-clause-cause g c =
+    let old = c.args.book.now in
+    let new = c.inject-result.new.desk.book.now in
+    let was = c.args.node.now in
+    let node = c.inject-result.new.self in
+    let cause : IfOk c.inject-result.result (IsCausedBy (worker_at was) old.history new.history) =
+    ok-then c.inject-result.result (λ outcome answers. line-cause c.case-case.result.now old new c.args.part was node outcome
+    c.requires.fits answers)
+    c.inject-result.ensures.answers in search rules

@@ -3,12 +3,15 @@ use Rattle.std.specs.Prelude.{IfErr, IfOk}
 use Rattle.scripts.specs.declared.step.Step.TheVariants as steps
 use Rattle.world.specs.WorkerCalls.{ActsOn, HasCalled}
 use Rattle.world.proofs.ActsOnLaws.{purge-on}
-use Rattle.world.proofs.Results.{ok-then}
+use Rattle.drains.proofs.Results.{ok-then}
 use Rattle.world.proofs.WorkerLaws.{by-result, called-by, leases-some, leases-same}
 use Rattle.node.specs.Asking.{MayAskPurge}
-use Rattle.world.specs.Turns.{HasFailed}
-use Rattle.world.proofs.TurnLaws.{failed-some}
+use Rattle.drains.specs.Turns.{HasFailed}
+use Rattle.drains.proofs.TurnLaws.{failed-some}
 use Rattle.world.proofs.WorkerLaws.{err-with}
+use Rattle.node.specs.Workers.{worker_at}
+use Rattle.world.specs.Stepping.{IsCausedBy}
+use Rattle.world.proofs.CauseLaws.{purge-cause}
 use Rattle.world.proofs.worker_calls.purge.Goals as goal
 
 -- the worker has called its desk
@@ -44,3 +47,15 @@ returns-clause-failed g c =
     err-with c.purge-result.result (λ why fails looked. failed-some old new
     (MayAskPurge c.case-case.result.now.topology c.args.node.now c.args.interval 1 fails.floor) why looked fails.fails)
     c.purge-result.ensures.fault c.purge-result.ensures.looked in search rules
+
+-- its answer has its cause
+pub returns-clause-cause : goal.returns-clause-cause
+returns-clause-cause g c =
+    let old = c.args.book.now in
+    let new = c.purge-result.new.desk.book.now in
+    let was = c.args.node.now in
+    let node = c.purge-result.new.self in
+    let cause : IfOk c.purge-result.result (IsCausedBy (worker_at was) old.history new.history) =
+    ok-then c.purge-result.result (λ outcome answers. purge-cause c.case-case.result.now.topology old new c.args.interval 1 answers.floor was node
+    outcome c.requires.fits answers.answers)
+    c.purge-result.ensures.answers in search rules

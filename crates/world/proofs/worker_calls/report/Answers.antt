@@ -6,9 +6,12 @@ use Rattle.world.proofs.ActsOnLaws.{report-on}
 use Rattle.world.proofs.ActsOnLaws.{ok-is, same-answer}
 use Rattle.world.proofs.WorkerLaws.{by-result, called-by, leases-report, leases-same}
 use Rattle.holdings.specs.Holding.{held_at}
-use Rattle.world.specs.Turns.{HasFailed}
-use Rattle.world.proofs.Results.{err-then}
+use Rattle.drains.specs.Turns.{HasFailed}
+use Rattle.drains.proofs.Results.{err-then, ok-then}
 use Rattle.world.proofs.WorkerLaws.{failed-only-memory}
+use Rattle.node.specs.Workers.{worker_at}
+use Rattle.world.specs.Stepping.{IsCausedBy}
+use Rattle.world.proofs.CauseLaws.{report-cause}
 use Rattle.world.proofs.worker_calls.report.Goals as goal
 
 -- the worker has called its desk
@@ -44,3 +47,15 @@ returns-clause-failed g c =
     let failed : IfErr c.report-result.result (HasFailed old new) =
     err-then c.report-result.result (λ why is. failed-only-memory old new why c.report-result.ensures.looked is)
     c.report-result.ensures.memory in search rules
+
+-- its answer has its cause
+pub returns-clause-cause : goal.returns-clause-cause
+returns-clause-cause g c =
+    let old = c.args.book.now in
+    let new = c.report-result.new.desk.book.now in
+    let was = c.args.node.now in
+    let node = c.report-result.new.self in
+    let cause : IfOk c.report-result.result (IsCausedBy (worker_at was) old.history new.history) =
+    ok-then c.report-result.result (λ outcome answers. report-cause c.case-case.result.now old new c.args.interval was node outcome
+    c.requires.fits answers)
+    c.report-result.ensures.answers in search rules

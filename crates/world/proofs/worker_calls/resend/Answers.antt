@@ -1,13 +1,15 @@
 use Rattle.std.proofs.Common.{ap, rules}
 use Rattle.std.specs.Prelude.{IfOk}
 use Rattle.book.specs.OwnDesks.{own_view}
-use Rattle.node.specs.Workers.{NodeView, leases_of}
+use Rattle.node.specs.Workers.{NodeView, leases_of, worker_at}
 use Rattle.node.proofs.FitLaws.{grown_looked, looked_not}
 use Rattle.scripts.specs.declared.step.Step.TheVariants as steps
 use Rattle.world.specs.WorkerCalls.{ActsOn, HasCalled}
 use Rattle.world.proofs.ActsOnLaws.{resend-on}
-use Rattle.world.proofs.Results.{ok-then}
+use Rattle.drains.proofs.Results.{ok-then}
 use Rattle.world.proofs.WorkerLaws.{called-by, leases-kept}
+use Rattle.world.specs.Stepping.{IsCausedBy}
+use Rattle.world.proofs.CauseLaws.{swept-cause}
 use Rattle.world.proofs.worker_calls.resend.Goals as goal
 
 -- the worker has called its desk
@@ -29,4 +31,14 @@ returns-clause-acted g c =
     let node = c.sweep-result.new.self in
     let acted : IfOk c.sweep-result.result (ActsOn (steps.Resend was.number) old was old node) =
     ok-then c.sweep-result.result (λ outcome answers. resend-on old was node outcome c.history.ensures.lawful c.requires.fits answers)
+    c.sweep-result.ensures.answers in search rules
+
+-- its answer has its cause
+pub returns-clause-cause : goal.returns-clause-cause
+returns-clause-cause g c =
+    let old = c.args.book.now in
+    let was = c.args.node.now in
+    let node = c.sweep-result.new.self in
+    let cause : IfOk c.sweep-result.result (IsCausedBy (worker_at was) old.history old.history) =
+    ok-then c.sweep-result.result (λ outcome answers. swept-cause old was node outcome answers)
     c.sweep-result.ensures.answers in search rules

@@ -3,10 +3,12 @@ use Rattle.std.specs.Prelude.{IfOk}
 use Rattle.scripts.specs.declared.step.Step.TheVariants as steps
 use Rattle.world.specs.WorkerCalls.{ActsOn, HasCalled}
 use Rattle.world.proofs.ActsOnLaws.{write-on}
-use Rattle.world.proofs.Results.{ok-then}
+use Rattle.drains.proofs.Results.{ok-then}
 use Rattle.world.proofs.WorkerLaws.{by-result, called-by, leases-asked, leases-same, written-leases}
 use Rattle.node.specs.Asking.{work_asked}
 use Rattle.node.specs.Workers.{sending_of, with_written, worker_at}
+use Rattle.world.specs.Stepping.{IsCausedBy}
+use Rattle.world.proofs.CauseLaws.{work-cause}
 use Rattle.world.proofs.worker_calls.write.Goals as goal
 
 -- the worker has called its desk
@@ -32,3 +34,15 @@ returns-clause-acted g c =
     let node = c.commit-result.new.self in
     let acted : IfOk c.commit-result.result (ActsOn (steps.Write was.number) old was new node) =
     ok-then c.commit-result.result (λ outcome answers. write-on c.case-case.result.now old new was node outcome c.case-case.ensures.case c.history.ensures.lawful c.commit-result.ensures.marks c.requires.fits answers) c.commit-result.ensures.answers in search rules
+
+-- its answer has its cause
+pub returns-clause-cause : goal.returns-clause-cause
+returns-clause-cause g c =
+    let old = c.args.book.now in
+    let new = c.commit-result.new.desk.book.now in
+    let was = c.args.node.now in
+    let node = c.commit-result.new.self in
+    let cause : IfOk c.commit-result.result (IsCausedBy (worker_at was) old.history new.history) =
+    ok-then c.commit-result.result (λ outcome answers. work-cause c.case-case.result.now.topology old new
+    (with_written (sending_of was) (worker_at was)) was node outcome c.requires.fits answers)
+    c.commit-result.ensures.answers in search rules

@@ -1,4 +1,5 @@
 use Rattle.std.proofs.Common.{refl, subst}
+use Rattle.node.specs.Workers.{idle}
 use Rattle.scripts.specs.declared.step.Step.TheVariants as steps
 use Rattle.world.specs.Stepping.{HasActed}
 use Rattle.world.specs.WorldStates.{WorldState, world_of}
@@ -12,3 +13,7 @@ returns-clause-acted g c =
     let new : WorldState = record state { flight = c.lose.new.flight.items } in
     subst (λ (s : WorldState). HasActed (steps.Lose c.args.message) s new c.lose.result) c.self.view_is
     (when-told state.book.rows (λ told. c.lose.ensures.acted state.book.case (world_of state) refl))
+
+-- its answer names no number that wants a cause
+pub returns-clause-cause : goal.returns-clause-cause
+returns-clause-cause g c = c.lose.ensures.cause idle _ _

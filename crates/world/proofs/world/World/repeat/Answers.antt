@@ -1,10 +1,11 @@
 use Rattle.std.proofs.Common.{refl, subst}
 use Rattle.std.specs.Prelude.{IfOk}
+use Rattle.node.specs.Workers.{idle}
 use Rattle.scripts.specs.declared.step.Step.TheVariants as steps
 use Rattle.world.specs.Stepping.{HasActed}
 use Rattle.world.specs.WorldStates.{WorldState, world_of}
 use Rattle.world.proofs.ActsOnLaws.{when-told}
-use Rattle.world.proofs.Results.{ok-then}
+use Rattle.drains.proofs.Results.{ok-then}
 use Rattle.world.proofs.world.World.repeat.Goals as goal
 
 -- a message is copied as in the script
@@ -15,3 +16,7 @@ returns-clause-acted g c =
     subst (λ (s : WorldState). IfOk c.repeat.result (HasActed (steps.Repeat c.args.message) s new)) c.self.view_is
     (ok-then c.repeat.result (λ outcome acts. when-told state.book.rows (λ told. acts state.book.case (world_of state) refl))
     c.repeat.ensures.acted)
+
+-- its answer names no number that wants a cause
+pub returns-clause-cause : goal.returns-clause-cause
+returns-clause-cause g c = ok-then c.repeat.result (λ outcome names. names idle _ _) c.repeat.ensures.cause

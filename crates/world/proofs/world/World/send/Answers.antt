@@ -1,10 +1,11 @@
 use Rattle.std.proofs.Common.{◌≡◌, subst}
 use Rattle.std.specs.Prelude.{IfOk, OnErr}
+use Rattle.scripts.specs.Worlds.{worker_of}
 use Rattle.scripts.specs.declared.step.Step.TheVariants as steps
 use Rattle.world.specs.Stepping.{HasActed}
 use Rattle.world.specs.WorkerCalls.{HasGoneOn}
 use Rattle.world.specs.WorldStates.{WorldState, world_of}
-use Rattle.world.proofs.Results.{ok-then}
+use Rattle.drains.proofs.Results.{ok-then}
 use Rattle.world.proofs.SendWorlds.{sent-at, unsent-at}
 use Rattle.world.proofs.StandLaws.{world-after}
 use Rattle.world.proofs.WorkerLaws.{err-three}
@@ -60,3 +61,7 @@ returns-clause-same g c =
     err-three c.send.result (λ unsent kept unchanged. unsent-at state c.send.new.book c.args.worker was c.send.new.node
     c.send.new.flight.items at unsent kept unchanged) c.send.ensures.unsent c.send.ensures.kept c.send.ensures.unchanged in
     subst (λ (s : WorldState). OnErr c.send.result (world_of new ≡ world_of s)) c.self.view_is same
+
+-- its answer names no number that wants a cause
+pub returns-clause-cause : goal.returns-clause-cause
+returns-clause-cause g c = ok-then c.send.result (λ outcome names. names (worker_of (world_of c.args.self.now) c.args.worker) _ _) c.send.ensures.cause

@@ -8,15 +8,17 @@ use Rattle.node.specs.Workers.{worker_at}
 use Rattle.node.specs.declared.outcome.Outcome.TheVariants as outcomes
 use Rattle.scripts.specs.declared.step.Step.TheVariants as steps
 use Rattle.world.specs.Standing.{IsWorld}
-use Rattle.world.specs.Stepping.{HasActed, HasFaulted}
-use Rattle.world.specs.WorkerCalls.{left_by}
-use Rattle.world.specs.WorldStates.{WorldState}
+use Rattle.world.specs.Stepping.{HasActed, HasFaulted, IsCausedBy}
+use Rattle.world.specs.WorkerCalls.{answered_in_place}
+use Rattle.world.specs.WorldStates.{WorldState, world_of}
 use Rattle.world.proofs.ActsOnLaws.{when-told}
-use Rattle.world.proofs.Results.{ok-then}
+use Rattle.drains.proofs.Results.{ok-then}
 use Rattle.world.proofs.TakeLaws.{ready-of}
 use Rattle.world.proofs.TakeSteps.{found-sent, take-left, take-not, taken-at, taken-rested, taken-stands}
 use Rattle.world.proofs.WorkerLaws.{err-left}
 use Rattle.world.proofs.WorldSteps.{at-index, changed, fits-index, work-moved}
+use Rattle.scripts.specs.Worlds.{worker_of}
+use Rattle.world.proofs.CauseLaws.{left-cause, world-cause}
 use Rattle.world.proofs.world.World.take.Goals as goal
 
 -- no message is there
@@ -28,33 +30,33 @@ returns-in_default-clause-acted g c =
     (when-told state.book.rows (λ told. take-not state.book.case state c.args.worker c.args.message at))
 
 -- the message goes to a row that may be there
-pub left_by-requires-clause-addressed : goal.left_by-requires-clause-addressed
-left_by-requires-clause-addressed g c =
+pub answered_in_place-requires-clause-addressed : goal.answered_in_place-requires-clause-addressed
+answered_in_place-requires-clause-addressed g c =
     let state : WorldState = record { book = c.self.inside.book; nodes = c.self.inside.nodes.items; flight = c.self.inside.flight.items } in
     let at : unwrap_or (slice_get state.flight c.args.message) None ≡ Some c.in-Some.found.now = search rules in
     subst (λ (k : CaseShape). IsAddressed k.topology (outgoing_of c.in-Some.found.now)) (sym c.case-case.ensures.case)
     (found-sent state c.args.message c.in-Some.found.now c.self.invariant.0 at).addressed
 
 -- what the worker has prepared was handled
-pub left_by-requires-clause-ready : goal.left_by-requires-clause-ready
-left_by-requires-clause-ready g c =
+pub answered_in_place-requires-clause-ready : goal.answered_in_place-requires-clause-ready
+answered_in_place-requires-clause-ready g c =
     let state : WorldState = record { book = c.self.inside.book; nodes = c.self.inside.nodes.items; flight = c.self.inside.flight.items } in
     ready-of state.book.case (own_view state.book) c.index-here.result.now
     (fits-index state c.args.worker c.index-here.result.now c.self.invariant.0 c.requires.worker c.index-here.ensures)
 
 -- the message stays
-pub returns-in-Some-left_by-clause-acted : goal.returns-in-Some-left_by-clause-acted
-returns-in-Some-left_by-clause-acted g c =
+pub returns-in-Some-answered_in_place-clause-acted : goal.returns-in-Some-answered_in_place-clause-acted
+returns-in-Some-answered_in_place-clause-acted g c =
     let state : WorldState = record { book = c.self.inside.book; nodes = c.self.inside.nodes.items; flight = c.self.inside.flight.items } in
     let at : unwrap_or (slice_get state.flight c.args.message) None ≡ Some c.in-Some.found.now = search rules in
     let here = at-index state c.args.worker c.index-here.result.now c.self.invariant.0 c.requires.worker c.index-here.ensures in
-    let left : left_by c.case-case.result.now.topology (worker_at c.index-here.result.now) (outgoing_of c.in-Some.found.now)
-    ≡ Some c.in-Some-left_by.outcome = search rules in
-    subst (λ (s : WorldState). HasActed (steps.Take c.args.worker c.args.message) s s c.in-Some-left_by.outcome) c.self.view_is
+    let left : answered_in_place c.case-case.result.now.topology (worker_at c.index-here.result.now) (outgoing_of c.in-Some.found.now)
+    ≡ Some c.in-Some-answered_in_place.outcome = search rules in
+    subst (λ (s : WorldState). HasActed (steps.Take c.args.worker c.args.message) s s c.in-Some-answered_in_place.outcome) c.self.view_is
     (when-told state.book.rows (λ told. take-left state.book.case state c.args.worker c.args.message c.index-here.result.now
-    c.in-Some.found.now c.in-Some-left_by.outcome here at
-    (subst (λ (k : CaseShape). left_by k.topology (worker_at c.index-here.result.now) (outgoing_of c.in-Some.found.now)
-    ≡ Some c.in-Some-left_by.outcome) c.case-case.ensures.case left)))
+    c.in-Some.found.now c.in-Some-answered_in_place.outcome here at
+    (subst (λ (k : CaseShape). answered_in_place k.topology (worker_at c.index-here.result.now) (outgoing_of c.in-Some.found.now)
+    ≡ Some c.in-Some-answered_in_place.outcome) c.case-case.ensures.case left)))
 
 -- the message may have been sent
 pub receive-requires-clause-sent : goal.receive-requires-clause-sent
@@ -111,3 +113,23 @@ returns-clause-gone_or_same g c =
     subst (λ f. OnErr c.receive.result (HasFaulted (steps.Take c.args.worker c.args.message) c.args.self.now (record new { flight = f })))
     (sym c.take_out-taken.ensures.gone)
     (subst (λ (s : WorldState). OnErr c.receive.result (HasFaulted (steps.Take c.args.worker c.args.message) s new)) c.self.view_is same)
+
+-- a message that stays is answered without a number
+pub returns-in-Some-answered_in_place-clause-cause : goal.returns-in-Some-answered_in_place-clause-cause
+returns-in-Some-answered_in_place-clause-cause g c =
+    let left : answered_in_place c.case-case.result.now.topology (worker_at c.index-here.result.now) (outgoing_of c.in-Some.found.now)
+    ≡ Some c.in-Some-answered_in_place.outcome = search rules in
+    left-cause c.case-case.result.now.topology (worker_at c.index-here.result.now) (outgoing_of c.in-Some.found.now)
+    c.in-Some-answered_in_place.outcome left (worker_of (world_of c.args.self.now) c.args.worker) _ _
+
+-- an answer to one that is taken has its cause
+pub returns-clause-cause : goal.returns-clause-cause
+returns-clause-cause g c =
+    let state : WorldState = record { book = c.self.inside.book; nodes = c.self.inside.nodes.items; flight = c.self.inside.flight.items } in
+    let was = c.index_mut-node.result.now in
+    let after = c.receive.new.book.history in
+    let here = at-index state c.args.worker was c.self.invariant.0 c.requires.worker c.index_mut-node.ensures.value in
+    let cause : IfOk c.receive.result (IsCausedBy (worker_of (world_of state) c.args.worker) state.book.history after) =
+    ok-then c.receive.result (λ outcome is. world-cause state after c.args.worker was outcome here is) c.receive.ensures.cause in
+    subst (λ (s : WorldState). IfOk c.receive.result (IsCausedBy (worker_of (world_of s) c.args.worker) s.book.history after))
+    c.self.view_is cause

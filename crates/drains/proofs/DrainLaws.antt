@@ -1,0 +1,152 @@
+-- A whole drain, by what its claims and its turns say.
+use Rattle.std.proofs.Common.{◌≡◌, ◌<◌, ◌≤◌, ℕ, Bool, true, false, List, length, refl, sym, ◌∙◌, subst, arith}
+use Rattle.std.specs.Prelude.{Option, Some, None, IsSome, IfSome}
+use Rattle.std.specs.Option.{is_some}
+use Rattle.std.proofs.lemmas.Bool.{both_ways}
+use Rattle.mw_types.specs.Causes.{Rose}
+use Rattle.mw_types.specs.declared.entry.Entry.{Entry}
+use Rattle.mw_types.specs.declared.delivery.Delivery.{Delivery}
+use Rattle.mw_types.specs.declared.identity.RecordId.{RecordId}
+use Rattle.mw_types.specs.declared.identity.RowName.{RowName}
+use Rattle.topology.specs.Shapes.{parts_of}
+use Rattle.run_history.specs.Cases.{CaseShape}
+use Rattle.run_history.specs.Finished.{IsFinished}
+use Rattle.run_history.specs.Legal.{floor_of}
+use Rattle.run_history.specs.Runs.{run_of}
+use Rattle.book.specs.Senders.{IsLeastSent}
+use Rattle.book.specs.Books.{BookView, core_of}
+use Rattle.book.specs.Lawful.{IsLawful}
+use Rattle.node.specs.Asking.{MayAskForget}
+use Rattle.node.specs.Messages.{IsDeliverable}
+use Rattle.node.specs.Workers.{NodeView}
+use Rattle.drains.specs.Drains.{HasClaimedAll, HasEnded, IsDraining}
+use Rattle.drains.specs.Turns.{CanBeKept, HasAskedOne, HasGone, HasStepped, HasTurned, WhereTold, is_finished_at, sent_at}
+use Rattle.drains.proofs.EndLaws.{injected-finished}
+use Rattle.drains.proofs.LawfulRows.{lawful-rows}
+use Rattle.drains.proofs.GoLaws.{fact-back, fact-on, stayed-turn, told-on}
+use Rattle.drains.proofs.LeastWorkLaws.{IsFound, forget-turned, found-handled, sender-there, sent-id, sent-to}
+use Rattle.drains.proofs.TurnLaws.{stepped-on}
+
+-- ---- where the rows are told
+
+-- what holds where the rows are told holds of them
+pub told-rows : {X : Type 0} {F : Type 0} (o : Option X) → (IsSome o → F) → IfSome o (λ _. F)
+told-rows None f = tt
+told-rows (Some x) f = f refl
+
+-- and what holds of them holds where they are told
+rows-told : {X : Type 0} {F : Type 0} (o : Option X) → IsSome o → IfSome o (λ _. F) → F
+rows-told None told f = absurd (cc)
+rows-told (Some x) told f = f
+
+-- what held where told holds after a step that wrote nothing
+pub told-fact-on : (Fact : CaseShape → List Entry → Type 0) (old new : BookView) → HasStepped old new None
+    → WhereTold old (Fact old.case old.history) → WhereTold new (Fact new.case new.history)
+told-fact-on Fact old new stepped fact = λ told. fact-on Fact old new stepped (fact (sym stepped.tells ∙ told))
+
+-- what holds where told after a step that wrote nothing held before
+pub told-fact-back : (Fact : CaseShape → List Entry → Type 0) (old new : BookView) → HasStepped old new None
+    → WhereTold new (Fact new.case new.history) → WhereTold old (Fact old.case old.history)
+told-fact-back Fact old new stepped fact = λ told. fact-back Fact old new stepped (fact (told-on old new None stepped told))
+
+-- a turn that has more has not come to the end
+pub not-ended : {Fact : Type 0} (book : BookView) (more : Bool) → WhereTold book (more ≡ true) → more ≡ false
+    → WhereTold book Fact
+not-ended book more is none = λ told. absurd (both_ways more none (is told))
+
+-- a turn that had none more wrote nothing
+pub no-more : (old new : BookView) (more : Bool) → HasTurned old new more → more ≡ false → HasStepped old new None
+no-more old new more turned none = stayed-turn old new (subst (HasTurned old new) none turned)
+
+-- and nothing was written with a step before it that wrote nothing
+pub stayed-on : (one two three : BookView) (more : Bool) → HasStepped one two None → HasTurned two three more → more ≡ false
+    → HasStepped one three None
+stayed-on one two three more first turned none = stepped-on one two three None first (no-more two three more turned none)
+
+-- ---- what was found
+
+-- a record that was found may be delivered
+pub found-deliverable : (book : BookView) (node : NodeView) (sender : RowName) (d : Delivery) → IsFound book node sender d
+    → CanBeKept d → IsDeliverable book.case.topology d sender
+found-deliverable book node sender d is kept = record {
+  id = kept.id;
+  stamp = kept.stamp;
+  to = sent-to book node sender d.id d is.at_work is.part is.sent;
+  from = is.part;
+}
+
+-- ---- claims and then turns
+
+-- a drain that went on after its claims is a drain
+pub goes-after : (old mid new : BookView) → HasGone old mid → HasClaimedAll old.case (length old.history) mid.history
+    → IsDraining old.case (length old.history) mid.history
+    → WhereTold mid ((from : ℕ) → HasClaimedAll mid.case from mid.history → IsDraining mid.case from mid.history
+    → IsDraining mid.case from new.history)
+    → IfSome old.rows (λ _. IsDraining old.case (length old.history) new.history)
+goes-after old mid new gone claimed draining goes = told-rows old.rows (λ told.
+    subst (λ (c : CaseShape). HasClaimedAll c (length old.history) mid.history → IsDraining c (length old.history) mid.history
+    → IsDraining c (length old.history) new.history) gone.case (goes (gone.tells ∙ told) (length old.history)) claimed draining)
+
+-- and has ended where they have
+pub ends-after : (old mid new : BookView) → HasGone old mid → HasClaimedAll old.case (length old.history) mid.history
+    → WhereTold mid ((from : ℕ) → HasClaimedAll mid.case from mid.history → HasEnded mid.case from new.history)
+    → IfSome old.rows (λ _. HasEnded old.case (length old.history) new.history)
+ends-after old mid new gone claimed ends = told-rows old.rows (λ told.
+    subst (λ (c : CaseShape). HasClaimedAll c (length old.history) mid.history → HasEnded c (length old.history) new.history)
+    gone.case (ends (gone.tells ∙ told) (length old.history)) claimed)
+
+-- where it has ended no work is left
+pub ended-finished : (old new : BookView) → new.case ≡ old.case → is_some new.rows ≡ is_some old.rows
+    → IsLawful new.case (core_of new) → IfSome old.rows (λ _. HasEnded old.case (length old.history) new.history)
+    → IfSome old.rows (λ _. IsFinished new.case (run_of new.case.topology new.history))
+ended-finished old new same tells lawful ended = told-rows old.rows (λ told.
+    let done = subst (λ (c : CaseShape). HasEnded c (length old.history) new.history) (sym same) (rows-told old.rows told ended) in
+    injected-finished new.case (length old.history) new.history lawful.runnable
+    (lawful-rows new.case new.history new.rows (tells ∙ told) lawful.held).0 done.earlier)
+
+-- a drain that failed at its claims is a drain
+pub goes-before : (old new : BookView) → IsDraining old.case (length old.history) new.history
+    → IfSome old.rows (λ _. IsDraining old.case (length old.history) new.history)
+goes-before old new draining = told-rows old.rows (λ told. draining)
+
+-- a fault of the turns is one of the drain
+pub rose-after : (old mid new : BookView) → HasGone old mid → Rose mid.faults new.faults → Rose old.faults new.faults
+rose-after old mid new gone rose = let later = gone.faults in omega (arith, rose, later)
+
+-- ---- a record that was found
+
+-- a record that was found goes to a part that is there
+pub found-part : (book : BookView) (node : NodeView) (sender : RowName) (d : Delivery) → IsFound book node sender d
+    → d.to.part < parts_of book.case.topology
+found-part book node sender d is = (sent-to book node sender d.id d is.at_work is.part is.sent).there
+
+-- a row that forgets before it handles a record is a turn
+pub forgot-turned : (old new : BookView) (node : NodeView) (sender : RowName) (d : Delivery) (more : Bool) → IsFound old node sender d
+    → is_finished_at old.case.topology node d ≡ false
+    → HasAskedOne old new (MayAskForget old.case.topology node 64 (floor_of (run_of old.case.topology old.history)) d.to) more
+    → HasTurned old new more
+forgot-turned old new node sender d more is left done =
+    forget-turned old new node sender d more is.at_work is.sent is.least (found-handled old node sender d is false left) done
+
+-- what was sent, by the case that a book tells
+pub sent-by : (case : CaseShape) (book : BookView) (node : NodeView) (sender : RowName) (id : RecordId) (found o : Option Delivery)
+    → case ≡ book.case → found ≡ sent_at case.topology node sender id → found ≡ o
+    → sent_at book.case.topology node sender id ≡ o
+sent-by case book node sender id found o same is e =
+    subst (λ (k : CaseShape). sent_at k.topology node sender id ≡ o) same (sym is ∙ e)
+
+-- the least id is that of what was found
+pub found-least : (book : BookView) (node : NodeView) (sender : RowName) (id : RecordId) (d : Delivery)
+    → sent_at book.case.topology node sender id ≡ Some d
+    → IsLeastSent book.case.topology (run_of book.case.topology book.history) id sender
+    → IsLeastSent book.case.topology (run_of book.case.topology book.history) d.id sender
+found-least book node sender id d sent least =
+    subst (λ (i : RecordId). IsLeastSent book.case.topology (run_of book.case.topology book.history) i sender)
+    (sym (sent-id book.case.topology node sender id d sent)) least
+
+-- no sender is of a part that is not there, where that is told
+pub no-sender : (book : BookView) (sender : RowName) (id : RecordId) (parts : ℕ) → parts ≡ parts_of book.case.topology
+    → parts ≤ sender.part → IsLawful book.case (core_of book)
+    → IsLeastSent book.case.topology (run_of book.case.topology book.history) id sender → IsSome book.rows → ⊥
+no-sender book sender id parts same over lawful least told =
+    let there = sender-there book sender id lawful told least in omega (arith, there, same, over)

@@ -1,0 +1,177 @@
+-- A drain fails since the history is full only where it has not ended: it had a further entry to write.
+use Rattle.std.proofs.Common.{◌≡◌, ◌<◌, ◌≤◌, ℕ, true, List, ◌∷◌, ◌++◌, [], length, refl, sym, ◌∙◌, ap, subst, arith, inl, inr}
+use Rattle.std.specs.Prelude.{Option, Some, None, IsSome, IfSome, Contains, Result, Ok, Err, OnErr}
+use Rattle.std.specs.Option.{is_some}
+use Rattle.mw_types.specs.declared.entry.Entry.{Entry}
+use Rattle.mw_types.specs.declared.identity.RecordId.{RecordId}
+use Rattle.mw_types.specs.declared.identity.RowName.{RowName}
+use Rattle.topology.specs.Rules.{interval_count}
+use Rattle.topology.specs.Shapes.{injectors_of}
+use Rattle.run_history.specs.Cases.{CaseShape}
+use Rattle.run_history.specs.Legal.{floor_of}
+use Rattle.run_history.specs.Runs.{run_of}
+use Rattle.run_history.specs.Watermarks.{least}
+use Rattle.watermark.specs.Marks.{marks_of}
+use Rattle.book.specs.Books.{BookView, core_of}
+use Rattle.book.specs.Desks.{DeskView, KeepsMarks}
+use Rattle.book.specs.Lawful.{IsLawful}
+use Rattle.book.specs.OwnDesks.{own_view}
+use Rattle.book.specs.Senders.{IsLeastSent}
+use Rattle.node.specs.Answers.{FailsFire, FailsPurge, FailsSome}
+use Rattle.node.specs.Asking.{MayAskFire, MayAskPurge, Request}
+use Rattle.node.specs.Messages.{IsComputation}
+use Rattle.node.specs.Workers.{NodeView}
+use Rattle.node.specs.declared.outcome.NodeFault.{NodeFault}
+use Rattle.node.specs.declared.outcome.NodeFault.TheVariants as faults
+use Rattle.drains.specs.Drains.{HasClaimedAll, HasEnded}
+use Rattle.drains.specs.Turns.{AreExact, HasAskedOne, HasFailed, HasGone, HasStepped, HasTurned, IsAtWork, IsClaiming, IsDrainingOn, IsFullAsking, IsFullUnended, IsInjected, IsNextIn, IsNextInjector, IsQuiet, IsSettled, IsUnended, WhereTold}
+use Rattle.drains.proofs.DrainLaws.{told-fact-back, told-rows}
+use Rattle.drains.proofs.FireLoop.{IsFiring, firing-turned}
+use Rattle.drains.proofs.InjectLaws.{found-first}
+use Rattle.drains.proofs.OneStep.{ended-none, none_least}
+use Rattle.drains.proofs.PurgeLoop.{IsPurging, purging-turned}
+
+-- ---- where no drain has ended
+
+-- where an entry comes next
+turned-unended : (old new : BookView) → HasTurned old new true → WhereTold old (IsUnended old.case old.history)
+turned-unended old new turned = λ told from ended. by_own turned.own turned.is_more (turned.next told) from ended
+  where
+    by_own : (own : Option Entry) → is_some own ≡ true → IfSome own (IsNextIn old.case old.history) → IsUnended old.case old.history
+    by_own None some next from ended = absurd (cc)
+    by_own (Some entry) some next from ended =
+        ended-none old.case from old.history entry ended (next from ended.earlier.earlier.earlier.claimed)
+
+-- where an id is unacknowledged
+pub sent-unended : (book : BookView) (id : RecordId) (sender : RowName)
+    → IsLeastSent book.case.topology (run_of book.case.topology book.history) id sender
+    → WhereTold book (IsUnended book.case book.history)
+sent-unended book id sender least = λ told from ended.
+    none_least book.case from book.history id sender least ended.earlier.earlier.earlier
+
+-- where an injector has a line left
+pub line-unended : (book : BookView) (node : NodeView) (part : ℕ) → IsAtWork book node
+    → IsNextInjector book.case node (injectors_of book.case.topology) (Some part)
+    → WhereTold book (IsUnended book.case book.history)
+line-unended book node part at next = λ told from ended.
+    let first = found-first book node at told part next in
+    let has = subst (λ l. Contains l part) ended.earlier.none_left first.0 in let within = has.1 in omega (arith, within)
+
+-- ---- a call that fails
+
+-- a call that fails for lack of memory does not fail since the history is full
+pub full-not : (book : BookView) (why : NodeFault) → why ≡ faults.NoMemory → IsFullUnended book why
+full-not book why is = λ full. absurd (let both : faults.NoMemory ≡ faults.HistoryFull = sym is ∙ full in cc)
+
+-- a call that fails after a step that wrote nothing
+pub unended-back : (old new : BookView) (why : NodeFault) → HasStepped old new None → IsFullUnended new why → IsFullUnended old why
+unended-back old new why stepped is = λ full. told-fact-back IsUnended old new stepped (is full)
+
+-- a call that fails since the history is full asked for an entry
+full-asking : (old new : DeskView) (MayAsk : Request → Type 0) (why : NodeFault) → FailsSome old new MayAsk why → IsFullAsking MayAsk why
+full-asking old new MayAsk why (inl is) = λ full. absurd (let both : faults.NoMemory ≡ faults.HistoryFull = sym is ∙ full in cc)
+full-asking old new MayAsk why (inr (asked, may, refused)) = λ full. (asked, may)
+
+-- a purge of an interval that fails so
+pub purge-full : (case : CaseShape) (old new : BookView) (was : NodeView) (interval many : ℕ) (why : NodeFault) → case ≡ old.case
+    → FailsPurge case.topology (own_view old) (own_view new) interval many was why
+    → IsFullAsking (MayAskPurge old.case.topology was interval many (floor_of (run_of old.case.topology old.history))) why
+purge-full case old new was interval many why same fails =
+    let shape = old.case.topology in
+    let told = subst (λ (k : CaseShape). FailsPurge k.topology (own_view old) (own_view new) interval many was why) same fails in
+    subst (λ (f : ℕ). IsFullAsking (MayAskPurge shape was interval many f) why) (told.known.same refl)
+    (full-asking (own_view old) (own_view new) (MayAskPurge shape was interval many told.floor) why told.fails)
+
+-- a timer that fails so
+pub fire-full : (case : CaseShape) (old new : BookView) (was : NodeView) (part : ℕ) (why : NodeFault) → case ≡ old.case
+    → FailsFire case (own_view old) (own_view new) part was why → KeepsMarks (own_view old) (own_view new)
+    → IsFullAsking (MayAskFire old.case was part (least (marks_of old.case.topology part old.marks))) why
+fire-full case old new was part why same fails keeps =
+    let shape = old.case.topology in
+    let told = subst (λ (k : CaseShape). FailsFire k (own_view old) (own_view new) part was why) same fails in
+    let low = told.known.at_least in
+    let high = subst (λ (m : List ℕ). told.mark ≤ least (marks_of shape part m)) (keeps.same refl) told.known.at_most in
+    let exact : told.mark ≡ least (marks_of shape part old.marks) = omega (arith, low, high) in
+    subst (λ (m : ℕ). IsFullAsking (MayAskFire old.case was part m) why) exact
+    (full-asking (own_view old) (own_view new) (MayAskFire old.case was part told.mark) why told.fails)
+
+-- ---- what was asked for comes next
+
+-- a book with the entry that was asked for
+abbrev with_asked : BookView → Request → BookView
+with_asked book asked = record book { history = book.history ++ asked.entry ∷ [] }
+
+-- as if it had been written
+as-written : (book : BookView) (MayAsk : Request → Type 0) (asked : Request) → MayAsk asked
+    → HasAskedOne book (with_asked book asked) MayAsk true
+as-written book MayAsk asked may = record {
+  asked = Some asked;
+  done = record {
+    stepped = record { case = refl; limit = refl; tells = refl; faults = omega arith; appended = refl };
+    is_more = refl;
+  };
+  may = may;
+  none = λ e. absurd (cc);
+}
+
+-- a purge that fails so has a row left to purge
+pub purging-full : (start old : BookView) (was : NodeView) (interval : ℕ) (why : NodeFault) → IsPurging start old was interval
+    → IsLawful old.case (core_of old) → IsSettled start.case start.history → (IsSome start.rows → IsQuiet start.case start.history)
+    → (IsSome start.rows → IsInjected start.case start.history)
+    → IsFullAsking (MayAskPurge old.case.topology was interval 1 (floor_of (run_of old.case.topology old.history))) why
+    → IsFullUnended start why
+purging-full start old was interval why on lawful settled quiet injected asking = λ full.
+    let one = asking full in
+    let new = with_asked old one.0 in
+    let MayAsk = MayAskPurge old.case.topology was interval 1 (floor_of (run_of old.case.topology old.history)) in
+    turned-unended start new (purging-turned start old new was interval on lawful settled quiet injected
+    (as-written old MayAsk one.0 one.1))
+
+-- a timer that fails so is due
+pub firing-full : (start old : BookView) (was : NodeView) (part : ℕ) (why : NodeFault) → IsFiring start old was part
+    → IsLawful old.case (core_of old) → IsSettled start.case start.history → (IsSome start.rows → AreExact start)
+    → IsComputation old.case.topology part
+    → IsFullAsking (MayAskFire old.case was part (least (marks_of old.case.topology part old.marks))) why
+    → IsFullUnended start why
+firing-full start old was part why on lawful settled exact is asking = λ full.
+    let one = asking full in
+    let new = with_asked old one.0 in
+    let MayAsk = MayAskFire old.case was part (least (marks_of old.case.topology part old.marks)) in
+    turned-unended start new (firing-turned start old new was part on lawful settled exact is (as-written old MayAsk one.0 one.1))
+
+-- ---- the whole
+
+-- where a claim failed the drain has not claimed each interval
+pub claims-short : (start old new : BookView) (node : NodeView) (interval : ℕ) → IsClaiming start old node interval
+    → interval < interval_count old.case.topology → HasStepped old new None
+    → HasClaimedAll start.case (length start.history) new.history → ⊥
+claims-short start old new node interval on less stepped claimed =
+    let next = on.next in
+    let same : length new.history ≡ length old.history = ap (λ (h : List Entry). length h) stepped.appended in
+    let few : interval < interval_count start.case.topology =
+    subst (λ (c : CaseShape). interval < interval_count c.topology) on.gone.case less in
+    omega (arith, next, same, few, claimed)
+
+-- a turn that fails so is one of a drain that has not ended
+pub turns-full : (start old new : BookView) (node : NodeView) (why : NodeFault) → IsDrainingOn start old node → HasFailed old new why
+    → IsFullUnended old why → why ≡ faults.HistoryFull → WhereTold start (IsUnended start.case new.history)
+turns-full start old new node why on failed unended full = λ told.
+    subst (IsUnended start.case) (sym failed.stepped.appended)
+    (subst (λ (c : CaseShape). IsUnended c old.history) on.gone.case (unended full (on.gone.tells ∙ told)))
+
+-- a drain that failed at its claims has not ended
+pub full-before : (old new : BookView) → (HasClaimedAll old.case (length old.history) new.history → ⊥)
+    → IfSome old.rows (λ _. HasEnded old.case (length old.history) new.history → ⊥)
+full-before old new short = told-rows old.rows (λ told ended. short ended.earlier.earlier.earlier.claimed)
+
+-- and one whose turns failed so
+pub full-after : (old mid new : BookView) → HasGone old mid → WhereTold mid (IsUnended mid.case new.history)
+    → IfSome old.rows (λ _. HasEnded old.case (length old.history) new.history → ⊥)
+full-after old mid new gone unended = told-rows old.rows (λ told.
+    subst (λ (c : CaseShape). HasEnded c (length old.history) new.history → ⊥) gone.case
+    (unended (gone.tells ∙ told) (length old.history)))
+
+-- what holds whatever the fault holds of a fault
+pub on-err : {A E P : Type 0} → (r : Result A E) → P → OnErr r P
+on-err (Ok x) p = tt
+on-err (Err e) p = p

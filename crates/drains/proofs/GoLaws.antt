@@ -1,0 +1,327 @@
+-- How a drain goes on: turns one after another, and what holds once each interval is claimed.
+use Rattle.std.proofs.Common.{◌≡◌, ◌<◌, ◌≤◌, ◌-◌, ◌+◌, ◌⊎◌, ℕ, Bool, true, false, not, cond, List, [], ◌∷◌, length, refl, sym, ◌∙◌, ap, subst, arith, inl, inr}
+use Rattle.std.specs.Prelude.{Option, Some, None, IsSome, IfSome, ◌==◌}
+use Rattle.std.specs.Option.{is_some}
+use Rattle.std.proofs.lemmas.Bool.{cases_lt, le-ltb}
+use Rattle.std.proofs.lemmas.List.{length_push}
+use Rattle.mw_types.specs.declared.entry.Entry.{Entry}
+use Rattle.mw_types.specs.declared.entry.Entry.TheVariants as entries
+use Rattle.topology.specs.Rules.{interval_count}
+use Rattle.topology.specs.Shapes.{injectors_of, parts_of}
+use Rattle.run_history.specs.Cases.{CaseShape}
+use Rattle.run_history.specs.Fences.{Begins, last_claim}
+use Rattle.run_history.specs.Runs.{run_of}
+use Rattle.run_history.specs.Watermarks.{least, low_watermark}
+use Rattle.run_history.proofs.Beginnings.{Begins-itself, Begins-length, Begins-trans}
+use Rattle.run_history.proofs.Claims.{last_claim-push}
+use Rattle.watermark.specs.Marks.{marks_of}
+use Rattle.book.specs.Books.{BookView, core_of}
+use Rattle.book.specs.Lawful.{IsLawful}
+use Rattle.book.specs.Marks.{AreSafe}
+use Rattle.book.specs.OwnDesks.{own_view}
+use Rattle.node.specs.Answers.{AnswersClaim}
+use Rattle.node.specs.Fits.{Fits}
+use Rattle.node.specs.Workers.{NodeView, Worker, goes_into, leases_of, where_passes, with_lease, worker_at}
+use Rattle.node.specs.declared.outcome.NodeFault.{NodeFault}
+use Rattle.node.specs.declared.outcome.Outcome.{Outcome}
+use Rattle.node.specs.declared.outcome.Outcome.TheVariants as outcomes
+use Rattle.drains.specs.Drains.{HasClaimedAll, HasEnded, IsDraining}
+use Rattle.drains.specs.ReportRounds.{marks_after_round}
+use Rattle.drains.specs.Turns.{AreExact, HasFailed, HasFailedIn, HasFirst, HasGone, HasLast, HasStepped, HasTaken, HasTurned, IsAtWork, IsClaiming, IsDrainingOn, IsEndOf, IsNextIn, IsSettled, with_own}
+use Rattle.drains.proofs.RoundLaws.{round-low}
+use Rattle.drains.proofs.LawfulRows.{lawful-rows}
+use Rattle.drains.proofs.TurnLaws.{free-of, held-leased, lease-held, moved-before, sending-none, stepped-by, stepped-on}
+use Rattle.drains.proofs.WholeDrains.{draining-first, draining-push}
+
+-- ---- a step in which nothing was appended
+
+-- the keeper tells as it did
+pub told-on : (old new : BookView) (own : Option Entry) → HasStepped old new own → IsSome old.rows → IsSome new.rows
+told-on old new own stepped told = stepped.tells ∙ told
+
+-- what holds of the case and the history holds as before
+pub fact-on : (Fact : CaseShape → List Entry → Type 0) (old new : BookView) → HasStepped old new None → Fact old.case old.history
+    → Fact new.case new.history
+fact-on Fact old new stepped fact = subst (λ (c : CaseShape). Fact c new.history) (sym stepped.case)
+    (subst (Fact old.case) (sym stepped.appended) fact)
+
+-- and held before
+pub fact-back : (Fact : CaseShape → List Entry → Type 0) (old new : BookView) → HasStepped old new None → Fact new.case new.history
+    → Fact old.case old.history
+fact-back Fact old new stepped fact = subst (λ (c : CaseShape). Fact c old.history) stepped.case
+    (subst (Fact new.case) stepped.appended fact)
+
+-- a turn after it is a turn of the whole
+pub turned-on : (one two three : BookView) (more : Bool) → HasStepped one two None → HasTurned two three more → HasTurned one three more
+turned-on one two three more first turned = record {
+  own = turned.own;
+  stepped = stepped-on one two three turned.own first turned.stepped;
+  is_more = turned.is_more;
+  next = λ told. fact-back (λ (c : CaseShape) (h : List Entry). IfSome turned.own (IsNextIn c h)) one two first
+      (turned.next (told-on one two None first told));
+}
+
+-- a fault after it is a fault of the whole
+pub failed-on : (one two three : BookView) (why : NodeFault) → HasStepped one two None → HasFailed two three why → HasFailed one three why
+failed-on one two three why first failed = record {
+  stepped = stepped-on one two three None first failed.stepped;
+  keeper = λ e. let rose = failed.keeper e in let later = first.faults in omega (arith, rose, later);
+  full = failed.full;
+  damaged = failed.damaged;
+}
+
+-- a turn that wrote nothing
+pub stayed-turn : (old new : BookView) → HasTurned old new false → HasStepped old new None
+stayed-turn old new turned = by_own turned.own turned.is_more turned.stepped
+  where
+    by_own : (own : Option Entry) → is_some own ≡ false → HasStepped old new own → HasStepped old new None
+    by_own None none stepped = stepped
+    by_own (Some entry) none stepped = absurd (cc)
+
+-- a step that wrote nothing is a turn
+pub turned-stayed : (old new : BookView) → HasStepped old new None → HasTurned old new false
+turned-stayed old new stepped = record { own = None; stepped = stepped; is_more = refl; next = λ told. tt }
+
+-- ---- a drain
+
+-- nothing has happened yet
+pub gone-not : (book : BookView) → HasGone book book
+gone-not book = record { case = refl; limit = refl; tells = refl; faults = omega arith; grown = Begins-itself book.history }
+
+-- a step more
+pub gone-step : (start old new : BookView) (own : Option Entry) → HasGone start old → HasStepped old new own → HasGone start new
+gone-step start old new own gone stepped = record {
+  case = stepped.case ∙ gone.case;
+  limit = stepped.limit ∙ gone.limit;
+  tells = stepped.tells ∙ gone.tells;
+  faults = let f = gone.faults in let s = stepped.faults in omega (arith, f, s);
+  grown = Begins-trans start.history old.history new.history gone.grown
+      (subst (Begins old.history) (sym stepped.appended) (longer own old.history));
+}
+  where
+    longer : (o : Option Entry) (h : List Entry) → Begins h (with_own o h)
+    longer None h = Begins-itself h
+    longer (Some entry) h = (entry ∷ [], refl)
+
+-- one going after another
+pub gone-on : (one two three : BookView) → HasGone one two → HasGone two three → HasGone one three
+gone-on one two three first second = record {
+  case = second.case ∙ first.case;
+  limit = second.limit ∙ first.limit;
+  tells = second.tells ∙ first.tells;
+  faults = let f = first.faults in let s = second.faults in omega (arith, f, s);
+  grown = Begins-trans one.history two.history three.history first.grown second.grown;
+}
+
+-- a fault of a step is one of the drain
+pub failed-in : (start old new : BookView) (why : NodeFault) → HasGone start old → HasFailed old new why → HasFailedIn start new why
+failed-in start old new why gone failed = record {
+  keeper = λ e. let rose = failed.keeper e in let later = gone.faults in omega (arith, rose, later);
+  full = failed.full;
+  damaged = failed.damaged;
+}
+
+-- a drain that begins turns
+pub drains-first : (book : BookView) (node : NodeView) → IsAtWork book node → IsDrainingOn book book node
+drains-first book node at = record {
+  gone = gone-not book;
+  at_work = at;
+  goes = λ told from claimed draining. draining;
+}
+
+-- a longer history has as many claims
+claimed-more : (case : CaseShape) (from : ℕ) (front history : List Entry) → Begins front history → HasClaimedAll case from front
+    → HasClaimedAll case from history
+claimed-more case from front history begins claimed = let longer = Begins-length front history begins in omega (arith, longer, claimed)
+
+-- a drain goes on by a turn
+pub drains-on : (start old new : BookView) (was node : NodeView) (more : Bool) → IsDrainingOn start old was → HasTurned old new more
+    → IsAtWork new node → IsDrainingOn start new node
+drains-on start old new was node more on turned at = record {
+  gone = gone-step start old new turned.own on.gone turned.stepped;
+  at_work = at;
+  goes = λ told from claimed draining.
+      subst (IsDraining start.case from) (sym turned.stepped.appended)
+      (by_own turned.own (turned.next (on.gone.tells ∙ told)) from claimed (on.goes told from claimed draining));
+}
+  where
+    by_own : (own : Option Entry) → IfSome own (IsNextIn old.case old.history) → (from : ℕ) → HasClaimedAll start.case from start.history
+        → IsDraining start.case from old.history → IsDraining start.case from (with_own own old.history)
+    by_own None next from claimed draining = draining
+    by_own (Some entry) next from claimed draining =
+        draining-push start.case from old.history entry draining
+        (subst (λ (c : CaseShape). IsNextIn c old.history entry) on.gone.case next from
+        (claimed-more start.case from start.history old.history on.gone.grown claimed))
+
+-- a worker that forgets what it has to send is still at work
+pub at_work-emptied : (book : BookView) (was node : NodeView) → IsAtWork book was → node ≡ record was { outbox = [] }
+    → Fits book.case (own_view book) node → IsAtWork book node
+at_work-emptied book was node at is fits = record {
+  fits = fits;
+  free = ap (λ (n : NodeView). n.prepared) is ∙ at.free;
+  each = subst (λ (n : NodeView). HasFirst book.history n.held (interval_count book.case.topology)) (sym is) at.each;
+}
+
+-- a drain has ended where a turn wrote nothing
+pub drains-end : (start old new : BookView) (was : NodeView) → IsDrainingOn start old was → HasTurned old new false
+    → (IsSome old.rows → IsEndOf old.case old.history) → IsSome start.rows → (from : ℕ) → HasClaimedAll start.case from start.history
+    → HasEnded start.case from new.history
+drains-end start old new was on turned ended told from claimed =
+    subst (HasEnded start.case from) (sym (stayed-turn old new turned).appended)
+    (subst (λ (c : CaseShape). IsEndOf c old.history) on.gone.case (ended (on.gone.tells ∙ told)) from
+    (claimed-more start.case from start.history old.history on.gone.grown claimed))
+
+-- a turn that wrote an entry brings the history nearer to its limit
+pub nearer : (old new : BookView) → HasTurned old new true → length new.history ≤ new.limit
+    → new.limit - length new.history < old.limit - length old.history
+nearer old new turned few = by_own turned.own turned.is_more turned.stepped
+  where
+    by_own : (own : Option Entry) → is_some own ≡ true → HasStepped old new own
+        → new.limit - length new.history < old.limit - length old.history
+    by_own None some stepped = absurd (cc)
+    by_own (Some entry) some stepped =
+        let long : length new.history ≡ length old.history + 1 = ap length stepped.appended ∙ length_push old.history entry in
+        let same = stepped.limit in omega (arith, long, same, few)
+
+-- and so one that tells so, over a lawful book
+pub nearer-more : (old new : BookView) (more : Bool) → HasTurned old new more → IsLawful new.case (core_of new) → more ≡ true
+    → new.limit - length new.history < old.limit - length old.history
+nearer-more old new more turned lawful is = nearer old new (subst (HasTurned old new) is turned) lawful.few
+
+-- ---- the claims
+
+-- a drain that has claimed nothing
+pub claims-first : (book : BookView) (node : NodeView) → Fits book.case (own_view book) node → node.prepared ≡ None → node.number ≡ 0
+    → IsClaiming book book node 0
+claims-first book node fits free first = record {
+  gone = gone-not book;
+  fits = fits;
+  free = free;
+  first_worker = first;
+  first = λ interval less. absurd (omega (arith, less));
+  next = omega arith;
+  draining = draining-first book.case book.history;
+}
+
+-- a claim more
+pub claims-on : (start old new : BookView) (was node : NodeView) (interval : ℕ) → IsClaiming start old was interval
+    → interval < interval_count old.case.topology → HasTaken old new interval was node → IsClaiming start new node (interval + 1)
+claims-on start old new was node interval on less taken = record {
+  gone = gone-step start old new (Some (entries.Claim was.number interval)) on.gone taken.stepped;
+  fits = taken.fits;
+  free = free-of new.case (own_view new) node taken.fits
+      (ap (λ (w : Worker). w.prepared) taken.left
+      ∙ ap (λ o. where_passes (λ sending. not (goes_into old.case.topology interval sending)) o) (sending-none was on.free));
+  first_worker = taken.number ∙ on.first_worker;
+  first = λ other below. by_place other below (cases_lt other interval);
+  next =
+      let long : length new.history ≡ length old.history + 1 =
+      ap length taken.stepped.appended ∙ length_push old.history (entries.Claim was.number interval) in
+      let next = on.next in omega (arith, long, next);
+  draining = subst (IsDraining start.case (length start.history)) (sym taken.stepped.appended)
+      (draining-push start.case (length start.history) old.history (entries.Claim was.number interval) on.draining (record {
+        first_worker = on.first_worker;
+        there = subst (λ (c : CaseShape). interval < interval_count c.topology) on.gone.case less;
+        next = on.next;
+      }));
+}
+  where
+    claim : Entry
+    claim = entries.Claim was.number interval
+
+    -- the lease of an interval is the new one, or as before
+    lease : (other : ℕ) → leases_of node.held other ≡ cond (other == interval) (Some (length old.history)) (leases_of was.held other)
+    lease other = ap (λ (w : Worker). w.leases other) taken.left
+
+    -- the last claim of an interval is the new one, or as before
+    last : (other : ℕ) → last_claim other new.history ≡ cond (interval == other) (Some (length old.history)) (last_claim other old.history)
+    last other = ap (last_claim other) taken.stepped.appended ∙ last_claim-push other old.history claim
+
+    by_place : (other : ℕ) → other < interval + 1 → (other < interval) ⊎ (interval ≤ other) → HasLast new.history node.held other
+    by_place other below (inl less) =
+        let here = on.first other less in
+        let apart : (other == interval) ≡ false = grind (arith, less) in
+        let apart_too : (interval == other) ≡ false = grind (arith, less) in
+        let held = held-leased node.held other here.held.lease.seq (lease other
+        ∙ ap (λ b. cond b (Some (length old.history)) (leases_of was.held other)) apart ∙ lease-held was.held other here.held here.there) in
+        record {
+          held = held.0;
+          there = held.1;
+          last = last other ∙ ap (λ b. cond b (Some (length old.history)) (last_claim other old.history)) apart_too ∙ here.last
+              ∙ ap Some (sym held.2);
+        }
+    by_place other below (inr ge) =
+        let same : (other == interval) ≡ true = grind (arith, below, ge) in
+        let same_too : (interval == other) ≡ true = grind (arith, below, ge) in
+        let held = held-leased node.held other (length old.history) (lease other
+        ∙ ap (λ b. cond b (Some (length old.history)) (leases_of was.held other)) same) in
+        record {
+          held = held.0;
+          there = held.1;
+          last = last other ∙ ap (λ b. cond b (Some (length old.history)) (last_claim other old.history)) same_too
+              ∙ ap Some (sym held.2);
+        }
+
+-- all intervals are claimed
+pub claims-all : (start book : BookView) (node : NodeView) (count : ℕ) → count ≡ interval_count start.case.topology
+    → IsClaiming start book node count → IsAtWork book node × HasClaimedAll start.case (length start.history) book.history
+claims-all start book node count all on = (
+  record {
+    fits = on.fits;
+    free = on.free;
+    each = subst (HasFirst book.history node.held) (all ∙ ap (λ (c : CaseShape). interval_count c.topology) (sym on.gone.case)) on.first;
+  },
+  let next = on.next in omega (arith, next, all),
+)
+
+-- what a claim answers over a book of its own
+pub claim-taken : (old new : BookView) (interval : ℕ) (was node : NodeView) (outcome : Outcome)
+    → AnswersClaim old.case.topology (own_view old) (own_view new) interval was node outcome → Fits old.case (own_view new) node
+    → node.number ≡ was.number → HasTaken old new interval was node
+claim-taken old new interval was node (outcomes.Claimed seq) answers fits number =
+    let stepped = stepped-by old new answers.before (Some (entries.Claim was.number interval)) answers.moved answers.appended in
+    let same : seq ≡ length old.history = answers.number ∙ ap length (moved-before old new answers.before answers.moved) in record {
+      stepped = stepped;
+      fits = subst (λ (c : CaseShape). Fits c (own_view new) node) (sym stepped.case) fits;
+      number = number;
+      left = answers.left ∙ ap (λ (s : ℕ). with_lease old.case.topology interval (Some s) (worker_at was)) same;
+    }
+claim-taken old new interval was node (outcomes.Busy found) answers fits number =
+    absurd (no_turn (answers.1.counts.busy found refl))
+  where
+    no_turn : [] ≡ found ∷ [] → ⊥
+    no_turn e = cc
+claim-taken old new interval was node (outcomes.Committed n) answers fits number = absurd answers
+claim-taken old new interval was node (outcomes.Stale n) answers fits number = absurd answers
+claim-taken old new interval was node outcomes.Prepared answers fits number = absurd answers
+claim-taken old new interval was node outcomes.Duplicate answers fits number = absurd answers
+claim-taken old new interval was node outcomes.NotMine answers fits number = absurd answers
+claim-taken old new interval was node (outcomes.Queued n) answers fits number = absurd answers
+claim-taken old new interval was node (outcomes.Sent n) answers fits number = absurd answers
+claim-taken old new interval was node (outcomes.Copied n) answers fits number = absurd answers
+claim-taken old new interval was node outcomes.Lost answers fits number = absurd answers
+claim-taken old new interval was node (outcomes.Marked n) answers fits number = absurd answers
+claim-taken old new interval was node outcomes.Crashed answers fits number = absurd answers
+claim-taken old new interval was node outcomes.Nothing answers fits number = absurd answers
+
+-- ---- marks
+
+-- the least mark of each computation, by a case, a history and marks
+abbrev ExactOf : CaseShape → List Entry → List ℕ → Type 0
+ExactOf case history marks = (part : ℕ) → injectors_of case.topology ≤ part → part < parts_of case.topology
+    → least (marks_of case.topology part marks) ≡ low_watermark case (run_of case.topology history) part
+
+-- after a round the marks are exact
+pub round-exact : (old new : BookView) → IsLawful old.case (core_of old) → IsSome old.rows → IsSettled old.case old.history
+    → HasStepped old new None → new.marks ≡ marks_after_round old.case (run_of old.case.topology old.history) old.marks → AreExact new
+round-exact old new lawful told settled stepped after =
+    fact-on (λ (c : CaseShape) (h : List Entry). ExactOf c h new.marks) old new stepped
+    (subst (ExactOf old.case old.history) (sym after)
+    (λ part computation there. round-low old.case old.history old.marks part lawful.runnable
+    (lawful-rows old.case old.history old.rows told lawful.held).0 settled lawful.marks (safe old.rows told lawful.safe)
+    (le-ltb part (injectors_of old.case.topology) computation) there))
+  where
+    safe : {X : Type 0} (o : Option X) → IsSome o → IfSome o (λ _. AreSafe old.case (run_of old.case.topology old.history) old.marks)
+        → AreSafe old.case (run_of old.case.topology old.history) old.marks
+    safe None there is = absurd (cc)
+    safe (Some x) there is = is

@@ -1,0 +1,45 @@
+use Rattle.std.proofs.Common.{false, refl, rules}
+use Rattle.std.specs.Prelude.{None, Some}
+use Rattle.topology.specs.Shapes.{injectors_of}
+use Rattle.drains.specs.Turns.{IsNextInjector}
+use Rattle.drains.proofs.GoLaws.{turned-stayed}
+use Rattle.drains.proofs.FullLaws.{line-unended}
+use Rattle.drains.proofs.InjectLaws.{inject-none, inject-turned}
+use Rattle.drains.proofs.Results.{err-then, ok-then}
+use Rattle.drains.proofs.TurnLaws.{stepped-not}
+use Rattle.drains.proofs.injecting.inject_next.Goals as goal
+
+-- a line that was injected is a turn
+pub returns-in-Some-clause-turned : goal.returns-in-Some-clause-turned
+returns-in-Some-clause-turned g c =
+    let old = c.args.book.now in
+    let next : IsNextInjector old.case c.args.node.now (injectors_of old.case.topology) (Some c.in-Some.part) = search rules in
+    ok-then c.inject.result (λ more done. inject-turned old c.inject.new.book c.args.node.now c.in-Some.part more c.requires.at_work
+    c.requires.settled c.requires.quiet next done) c.inject.ensures.asked
+
+-- no line is left where none was injected
+pub returns-in-Some-clause-injected : goal.returns-in-Some-clause-injected
+returns-in-Some-clause-injected g c =
+    let old = c.args.book.now in
+    let next : IsNextInjector old.case c.args.node.now (injectors_of old.case.topology) (Some c.in-Some.part) = search rules in
+    ok-then c.inject.result (λ more done none_more told. inject-none old c.inject.new.book c.args.node.now (Some c.in-Some.part) more
+    c.requires.at_work told next done none_more) c.inject.ensures.asked
+
+-- nothing was done
+pub returns-in-None-clause-turned : goal.returns-in-None-clause-turned
+returns-in-None-clause-turned g c = turned-stayed c.args.book.now c.args.book.now (stepped-not c.args.book.now)
+
+-- as no injector has a line left
+pub returns-in-None-clause-injected : goal.returns-in-None-clause-injected
+returns-in-None-clause-injected g c =
+    let old = c.args.book.now in
+    let next : IsNextInjector old.case c.args.node.now (injectors_of old.case.topology) None = search rules in
+    λ none_more told. inject-none old old c.args.node.now None false c.requires.at_work told next tt refl
+
+-- a line is left where one was to be injected
+pub returns-in-Some-clause-unended : goal.returns-in-Some-clause-unended
+returns-in-Some-clause-unended g c =
+    let old = c.args.book.now in
+    let next : IsNextInjector old.case c.args.node.now (injectors_of old.case.topology) (Some c.in-Some.part) = search rules in
+    err-then c.inject.result (λ why failed full. line-unended old c.args.node.now c.in-Some.part c.requires.at_work next)
+    c.inject.ensures.failed

@@ -1,0 +1,11 @@
+use Rattle.std.proofs.Common.{◌∙◌, ◌+◌, ap, subst, sym}
+use Rattle.drains.specs.Turns.{IsBestLine, lesser_line}
+use Rattle.drains.proofs.InjectLaws.{best-more}
+use Rattle.drains.proofs.injecting.next_injector.Goals as goal
+
+-- an injector more
+pub loop-part-preserved : goal.loop-part-preserved
+loop-part-preserved c =
+    subst (IsBestLine c.args.case.now c.args.node.now (c.loop-part.part + 1))
+    (sym (c.lesser-best.ensures ∙ ap (lesser_line c.loop-part.best) c.line.ensures))
+    (best-more c.args.case.now c.args.node.now c.loop-part.part c.loop-part.best c.loop-part.invariant)

@@ -1,0 +1,3 @@
+pub mod Drains
+pub mod ReportRounds
+pub mod Turns

@@ -1,0 +1,96 @@
+//! One turn of a drain.
+ghost use Rattle.std.specs.Prelude.{◌≡◌, ◌<◌, ◌-◌, ℕ, IfErr, IfOk, OnOk, false, true, length};
+ghost use Rattle.node.specs.Works.{IsWorkOf};
+ghost use Rattle.drains.specs.Turns.{HasFailed, HasTurned, IsAtWork, IsEndOf, IsFullUnended, IsSettled, WhereTold};
+
+use crate::firing::{fire_first, report_all};
+use crate::injecting::inject_next;
+use crate::least_work::work_on;
+use crate::purging::purge_first;
+use book::{Book, NoNote};
+use computations::Computation;
+use mw_types::Duplicate;
+use node::{Node, NodeFault};
+use row_keeper::Keeper;
+use std::alloc::Global;
+
+// Writes the one entry that comes next, and tells whether there was one.
+pub(crate) fn turn<'a, K: Keeper, C: Computation>(
+    alloc: Global,
+    book: &mut Book<'a, K>,
+    work: &C,
+    node: &mut Node<NoNote>,
+) -> Result<bool, NodeFault>
+    requires work { IsWorkOf book.old.case.topology (C.has work.now)
+        (C.gives_record work.now) (C.gives_timer work.now) }
+    requires at_work { IsAtWork book.old node.old }
+    ensures turned { IfOk result (HasTurned book.old book.new) }
+    ensures at_work { OnOk result (IsAtWork book.new node.new) }
+    ensures ended { IfOk result (λ more. more ≡ false →
+        WhereTold book.old (IsEndOf book.old.case book.old.history)) }
+    ensures nearer { IfOk result (λ more. more ≡ true →
+        book.new.limit - length book.new.history < book.old.limit - length book.old.history) }
+    ensures failed { IfErr result (HasFailed book.old book.new) }
+    ensures unended { IfErr result (IsFullUnended book.old) }
+{
+    let turned = turn_once(alloc, book, work, node)?;
+    // Its clauses say that the history is within its limit.
+    book.history();
+    Ok(turned)
+}
+
+// Works on one delivery, where one is not acknowledged, and else goes on to what comes after that.
+fn turn_once<'a, K: Keeper, C: Computation>(
+    alloc: Global,
+    book: &mut Book<'a, K>,
+    work: &C,
+    node: &mut Node<NoNote>,
+) -> Result<bool, NodeFault>
+    requires work { IsWorkOf book.old.case.topology (C.has work.now)
+        (C.gives_record work.now) (C.gives_timer work.now) }
+    requires at_work { IsAtWork book.old node.old }
+    ensures turned { IfOk result (HasTurned book.old book.new) }
+    ensures at_work { OnOk result (IsAtWork book.new node.new) }
+    ensures ended { IfOk result (λ more. more ≡ false →
+        WhereTold book.old (IsEndOf book.old.case book.old.history)) }
+    ensures failed { IfErr result (HasFailed book.old book.new) }
+    ensures unended { IfErr result (IsFullUnended book.old) }
+{
+    let Some((id, sender)) = book.least_sent() else {
+        return go_on(alloc, book, work, node);
+    };
+    let sender = sender.copy(alloc)?;
+    work_on(alloc, book, work, node, id, sender)
+}
+
+// Where all is acknowledged: fires a timer, else injects a line, else has a row forget its ids.
+fn go_on<'a, K: Keeper, C: Computation>(
+    alloc: Global,
+    book: &mut Book<'a, K>,
+    work: &C,
+    node: &mut Node<NoNote>,
+) -> Result<bool, NodeFault>
+    requires work { IsWorkOf book.old.case.topology (C.has work.now)
+        (C.gives_record work.now) (C.gives_timer work.now) }
+    requires at_work { IsAtWork book.old node.old }
+    requires settled { IsSettled book.old.case book.old.history }
+    ensures turned { IfOk result (HasTurned book.old book.new) }
+    ensures at_work { OnOk result (IsAtWork book.new node.new) }
+    ensures ended { IfOk result (λ more. more ≡ false →
+        WhereTold book.old (IsEndOf book.old.case book.old.history)) }
+    ensures failed { IfErr result (HasFailed book.old book.new) }
+    ensures unended { IfErr result (IsFullUnended book.old) }
+{
+    // Its clauses say what always holds of a book.
+    book.history();
+    report_all(alloc, book, node)?;
+    let fired = fire_first(alloc, book, work, node)?;
+    if fired {
+        return Ok(true);
+    }
+    let injected = inject_next(alloc, book, node)?;
+    if injected {
+        return Ok(true);
+    }
+    purge_first(alloc, book, node)
+}
