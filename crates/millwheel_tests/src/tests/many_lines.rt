@@ -1,11 +1,9 @@
-//! A thousand record lines over a hundred keys and twenty windows, against a count by an array. No helper
-//! has a clause, so that no test carries what the calls before have told.
+//! A thousand record lines over a hundred keys and twenty windows, against a count by an array.
+use super::calls::SOLO;
+use super::looks::writes;
 use super::topologies::COUNT;
-use super::{answer, sink};
-use millwheel_cli::Status;
 use mw_types::NoMemory;
 use std::alloc::Global;
-use std::process::Abort;
 use std::test::Fail;
 
 // The key and the timestamp of a line, which three and four lines in a row share.
@@ -17,11 +15,17 @@ fn line_at(line: u32) -> (u32, u32) {
 fn event_file(alloc: Global, lines: u32) -> Result<String, NoMemory> {
     let mut text = String::new(alloc);
     for line in 0..lines {
-        let (key, stamp) = line_at(line);
-        let event = format!(in alloc; "{{\"key\":\"k{key:02}\",\"ts\":{stamp}}}\n")?;
-        text.push_str(event.as_str())?;
+        push_event(alloc, &mut text, line)?;
     }
     Ok(text)
+}
+
+// Appends the line of this number.
+fn push_event(alloc: Global, text: &mut String, line: u32) -> Result<(), NoMemory> {
+    let (key, stamp) = line_at(line);
+    let event = format!(in alloc; "{{\"key\":\"k{key:02}\",\"ts\":{stamp}}}\n")?;
+    text.push_str(event.as_str())?;
+    Ok(())
 }
 
 // How many of these lines each window has of each key: the hundred keys of the first, and so on.
@@ -31,13 +35,18 @@ fn counts(alloc: Global, lines: u32) -> Result<Vec<u32>, NoMemory> {
         counts.push(0u32)?;
     }
     for line in 0..lines {
-        let (key, stamp) = line_at(line);
-        let cell = (stamp / 60).saturating_mul(100).saturating_add(key);
-        if let Some(count) = counts.get_mut(cell as usize) {
-            *count = count.saturating_add(1);
-        }
+        count_line(&mut counts, line);
     }
     Ok(counts)
+}
+
+// Counts the line of this number.
+fn count_line(counts: &mut [u32], line: u32) {
+    let (key, stamp) = line_at(line);
+    let cell = (stamp / 60).saturating_mul(100).saturating_add(key);
+    if let Some(count) = counts.get_mut(cell as usize) {
+        *count = count.saturating_add(1);
+    }
 }
 
 // The text of these counts: a line for each that is not 0, and the summary.
@@ -47,34 +56,52 @@ fn text_of(alloc: Global, counts: &[u32], lines: u32) -> Result<String, NoMemory
     for cell in 0..2000u32 {
         let count = counts.get(cell as usize).copied().unwrap_or(0);
         if count > 0 {
-            let (key, end) = (cell % 100, (cell / 100 + 1) * 60);
-            let line = format!(in alloc;
-                "{{\"key\":\"k{key:02}\",\"stream\":\"windows\",\"ts\":{end},\"value\":{count}}}\n"
-            )?;
-            text.push_str(line.as_str())?;
+            push_window(alloc, &mut text, cell, count)?;
             fired = fired.saturating_add(1);
         }
     }
+    push_summary(alloc, &mut text, fired, lines)?;
+    Ok(text)
+}
+
+// Appends the line of a window of a key.
+fn push_window(alloc: Global, text: &mut String, cell: u32, count: u32) -> Result<(), NoMemory> {
+    let (key, end) = (
+        cell % 100,
+        (cell / 100).saturating_add(1).saturating_mul(60),
+    );
+    let line = format!(in alloc;
+        "{{\"key\":\"k{key:02}\",\"stream\":\"windows\",\"ts\":{end},\"value\":{count}}}\n"
+    )?;
+    text.push_str(line.as_str())?;
+    Ok(())
+}
+
+// Appends the summary.
+fn push_summary(alloc: Global, text: &mut String, fired: u32, lines: u32) -> Result<(), NoMemory> {
     let summary = format!(in alloc;
         "{{\"fired\":{fired},\"handled\":{lines},\"injected\":{lines},\"late\":0}}\n"
     )?;
     text.push_str(summary.as_str())?;
-    Ok(text)
+    Ok(())
 }
 
-// Runs so many lines, and compares the whole text.
-fn counts_as_the_array(rt: &impl Abort, alloc: Global, lines: u32) -> Result<(), Fail> {
-    let events = event_file(alloc, lines)?;
+// The text that is wanted of so many lines.
+fn wanted(alloc: Global, lines: u32) -> Result<String, NoMemory> {
     let counts = counts(alloc, lines)?;
-    let want = text_of(alloc, counts.as_slice(), lines)?;
-    let mut out = sink(alloc);
-    let done = answer(alloc, "solo t.json e", COUNT, events.as_str(), &mut out)?;
-    assert!(rt; done.status == Status::Ok);
-    assert!(rt; out.text() == want.as_bytes());
-    Ok(())
+    text_of(alloc, counts.as_slice(), lines)
+}
+
+// Whether the whole text of so many lines is as the array has it.
+fn are_counted(alloc: Global, lines: u32) -> Result<bool, NoMemory> {
+    let events = event_file(alloc, lines)?;
+    let text = wanted(alloc, lines)?;
+    let files = [("t.json", COUNT), ("e", events.as_str())];
+    writes(alloc, SOLO, &files, text.as_str())
 }
 
 #[test]
 fn a_thousand_lines_are_counted(rt: HostRuntime) -> Result<(), Fail> {
-    counts_as_the_array(&rt, rt.alloc(), 1000)
+    assert!(rt; are_counted(rt.alloc(), 1000)?);
+    Ok(())
 }

@@ -1,10 +1,8 @@
 //! Plans whose steps are done before the drain.
+use super::events::EVENTS;
+use super::looks::{entries, writes};
 use super::topologies::COUNT;
-use super::{EVENTS, called, file, keeper, sink};
-use millwheel_cli::{Done, Status};
-use mw_ports::{FileList, MemShelf, MemSink};
-use mw_types::{CallList, NoMemory};
-use row_keeper::MemKeeper;
+use mw_types::NoMemory;
 use std::alloc::Global;
 use std::test::Fail;
 
@@ -24,43 +22,64 @@ send 1
 take 0 2
 ";
 
-// What a replay of this plan answers, over one count and its three records, and writes to a sink.
-fn replayed(alloc: Global, plan: &str, out: &mut MemSink) -> Result<Done<MemKeeper>, NoMemory> {
-    let mut files = FileList::new(alloc);
-    files.push(file(alloc, "t.json", COUNT)?)?;
-    files.push(file(alloc, "p", plan)?)?;
-    files.push(file(alloc, "e", EVENTS)?)?;
-    let mut shelf = MemShelf::of(files, CallList::new(alloc));
-    called(
-        alloc,
-        "replay --plan p t.json e",
-        &mut shelf,
-        keeper(alloc),
-        out,
-    )
-}
+// The copy of a record comes when its row has forgotten its id.
+const LATE_COPY: &str = "claim 0 0
+claim 0 1
+inject 0 0
+send 0
+copy 0
+take 0 0
+write 0
+send 0
+take 0 2
+purge 0 1
+take 0 1
+";
 
-#[test]
-fn old_owner_is_stale(rt: HostRuntime) -> Result<(), Fail> {
-    let want = r#"{"key":"a","stream":"windows","ts":60,"value":2}
+// A worker crashes once it has written a line and before it sends its record.
+const UNSENT: &str = "claim 0 0
+claim 0 1
+inject 0 0
+crash 0
+claim 1 0
+resend 1
+send 1
+claim 1 1
+take 1 0
+write 1
+";
+
+// A worker crashes once it has prepared a record and before it writes.
+const UNWRITTEN: &str = "claim 0 0
+claim 0 1
+inject 0 0
+send 0
+take 0 0
+crash 0
+";
+
+// Whether a replay of a plan over the first example has the first example's text and so many entries.
+fn is_replayed(alloc: Global, plan: &str, count: usize) -> Result<bool, NoMemory> {
+    let line = "replay --plan p t.json e";
+    let files = [("t.json", COUNT), ("p", plan), ("e", EVENTS)];
+    let text = r#"{"key":"a","stream":"windows","ts":60,"value":2}
 {"key":"a","stream":"windows","ts":120,"value":1}
 {"fired":2,"handled":3,"injected":3,"late":0}
 "#;
-    let mut out = sink(rt.alloc());
-    let done = replayed(rt.alloc(), OLD_OWNER, &mut out)?;
-    assert_eq!(rt; done.status, Status::Ok);
-    assert_eq!(rt; out.text(), want.as_bytes());
-    // The script writes six entries; the drain claims twice, writes three entries for each of two records
-    // and one for each of two timers, and purges once.
-    assert_eq!(rt; done.history.len(), 17);
-    Ok(())
+    Ok(writes(alloc, line, &files, text)? && entries(alloc, line, &files)? == count)
 }
 
+// After the old owner's plan, of six entries, the drain claims twice, writes three entries for each of two
+// records and one for each of two timers, and purges once.
 #[test]
-fn plan_with_unknown_interval(rt: HostRuntime) -> Result<(), Fail> {
-    let mut out = sink(rt.alloc());
-    let done = replayed(rt.alloc(), "claim 0 0\nclaim 0 2\n", &mut out)?;
-    assert_eq!(rt; done.status, Status::PlanRefused { line: 2 });
-    assert!(rt; done.history.is_empty() && out.text().is_empty());
+fn a_crash_or_an_old_owner_changes_no_text(rt: HostRuntime) -> Result<(), Fail> {
+    for (name, plan, count) in [
+        ("old owner is stale", OLD_OWNER, 17),
+        ("late copy", LATE_COPY, 17),
+        ("crash between write and send", UNSENT, 18),
+        ("crash before write", UNWRITTEN, 16),
+    ] {
+        assert!(rt; is_replayed(rt.alloc(), plan, count)?, "{name}");
+    }
     Ok(())
 }

@@ -1,22 +1,39 @@
 //! What is said of each status, and the number with which the process ends.
-use super::{bytes_of, call, sink};
+use super::calls::{bytes_of, numbers, sink};
 use injector::LineWhy;
 use millwheel_cli::{Status, tell};
 use mw_ports::MemSink;
-use mw_types::{CallList, Key, KeyRefusal, Name, RowName};
+use mw_types::{CallList, Key, KeyRefusal, Name, NoMemory, RowName};
 use std::alloc::Global;
-use std::process::Abort;
 use std::test::Fail;
 use topology::TopologyRefusal;
 
-// The status of a number that names a file, a rule or nothing, as the table below has it.
-fn numbered(alloc: Global, number: u8) -> Result<Status, Fail> {
-    Ok(match number {
+// The status of a number, as the table below has it.
+fn numbered(alloc: Global, number: u8) -> Result<Status, KeyRefusal> {
+    match number {
+        3 | 13 | 14 => Ok(of_file(alloc, number)?),
+        4 | 5 | 6 | 15 => Ok(of_rule(number)),
+        10 => not_empty(alloc),
+        12 => damaged(alloc),
+        _ => Ok(alone(number)),
+    }
+}
+
+// The status of a number that names nothing.
+fn alone(number: u8) -> Status {
+    match number {
         0 => Status::Ok,
         2 => Status::Usage,
-        3 => Status::NoFile {
-            name: Name::of(alloc, "t.json")?,
-        },
+        7 => Status::KeeperFault,
+        8 => Status::SinkFault,
+        9 => Status::NoMemory,
+        _ => Status::HistoryFull,
+    }
+}
+
+// The status of a number that names a rule.
+fn of_rule(number: u8) -> Status {
+    match number {
         4 => Status::TopologyRefused {
             why: TopologyRefusal::UnknownStream,
         },
@@ -26,35 +43,49 @@ fn numbered(alloc: Global, number: u8) -> Result<Status, Fail> {
             why: LineWhy::NotJson,
         },
         6 => Status::PlanRefused { line: 2 },
-        7 => Status::KeeperFault,
-        8 => Status::SinkFault,
-        9 => Status::NoMemory,
-        10 | 12 => of_row(alloc, number)?,
-        11 => Status::HistoryFull,
-        13 => Status::ReadFault {
-            name: Name::of(alloc, "e")?,
-        },
-        14 => Status::TooLong {
-            name: Name::of(alloc, "e")?,
-        },
         _ => Status::FileCount {
             files: 1,
             injectors: 2,
         },
+    }
+}
+
+// The status of a number that names a file.
+fn of_file(alloc: Global, number: u8) -> Result<Status, NoMemory> {
+    let name = Name::of(alloc, if number == 3 { "t.json" } else { "e" })?;
+    Ok(match number {
+        3 => Status::NoFile { name },
+        13 => Status::ReadFault { name },
+        _ => Status::TooLong { name },
     })
 }
 
-// The status of a number that names a row.
-fn of_row(alloc: Global, number: u8) -> Result<Status, KeyRefusal> {
+// The status of a keeper that has a row.
+fn not_empty(alloc: Global) -> Result<Status, KeyRefusal> {
     let bytes = bytes_of(alloc, b"\0".as_slice())?;
-    if number == 10 {
-        let key = Key::of(alloc, "h0")?;
-        let name = RowName { part: 1, key };
-        return Ok(Status::NotEmpty { name, bytes });
-    }
+    let key = Key::of(alloc, "h0")?;
+    let name = RowName { part: 1, key };
+    Ok(Status::NotEmpty { name, bytes })
+}
+
+// The status of a keeper whose injector has a damaged row.
+fn damaged(alloc: Global) -> Result<Status, KeyRefusal> {
+    let bytes = bytes_of(alloc, b"\0".as_slice())?;
     let key = Key::none(alloc);
     let name = RowName { part: 0, key };
     Ok(Status::RowDamaged { name, bytes })
+}
+
+// Whether the status of a number is told by this line and this number.
+fn is_told(alloc: Global, number: u8, line: &str) -> Result<bool, KeyRefusal> {
+    let status = numbered(alloc, number)?;
+    Ok(tells(alloc, &status, number, line))
+}
+
+// Whether a status is told by this line and this number.
+fn tells(alloc: Global, status: &Status, number: u8, line: &str) -> bool {
+    let mut err = sink(alloc);
+    tell(alloc, status, &mut err) == number && err.text() == line.as_bytes()
 }
 
 #[test]
@@ -76,24 +107,21 @@ fn each_status_is_told_with_its_number(rt: HostRuntime) -> Result<(), Fail> {
         (14, "millwheel: too long: e\n"),
         (15, "millwheel: 1 event files for 2 injectors\n"),
     ] {
-        let status = numbered(rt.alloc(), number)?;
-        says(&rt, rt.alloc(), &status, number, line);
+        assert!(rt; is_told(rt.alloc(), number, line)?, "{number}");
     }
     Ok(())
 }
 
-// Tells a status, and looks at the line and at the number.
-fn says(rt: &impl Abort, alloc: Global, status: &Status, number: u8, line: &str) {
-    let mut err = sink(alloc);
-    assert_eq!(rt; tell(alloc, status, &mut err), number);
-    assert_eq!(rt; err.text(), line.as_bytes());
+// Whether a full history has its number where nothing can be written after eight bytes.
+fn is_told_in_part(alloc: Global) -> Result<bool, NoMemory> {
+    let failing = numbers(alloc, &[1])?;
+    let mut err = MemSink::of(alloc, 8, failing, CallList::new(alloc));
+    let number = tell(alloc, &Status::HistoryFull, &mut err);
+    Ok(number == 11 && err.text() == b"millwhee".as_slice())
 }
 
 #[test]
 fn a_status_that_is_not_told_has_its_number(rt: HostRuntime) -> Result<(), Fail> {
-    let alloc = rt.alloc();
-    let mut err = MemSink::of(alloc, 8, call(alloc, 1)?, CallList::new(alloc));
-    assert_eq!(rt; tell(alloc, &Status::HistoryFull, &mut err), 11);
-    assert_eq!(rt; err.text(), b"millwhee".as_slice());
+    assert!(rt; is_told_in_part(rt.alloc())?);
     Ok(())
 }

@@ -1,190 +1,184 @@
 //! What is written of a run, by the values of the worked examples.
-use super::topologies::{CHAIN, COUNT, CUTS, HEADS, READERS, SPIKE, TAILS};
-use super::{EVENTS, writes};
+use super::calls::SOLO;
+use super::events::{EVENTS, heads, stamped};
+use super::looks::{entries, has_last_row, writes};
+use super::topologies::{CHAIN, COUNT, CUTS, HEADS, READERS, SPELLED, SPIKE, TAILS, UNREAD};
 use mw_types::NoMemory;
 use std::alloc::Global;
 use std::test::Fail;
 
-#[test]
-fn late_record_counts_as_late(rt: HostRuntime) -> Result<(), Fail> {
-    let events = "{\"watermark\":100}\n{\"key\":\"a\",\"ts\":50}\n";
-    let want = r#"{"fired":0,"handled":1,"injected":1,"late":1}
-"#;
-    let _done = writes(&rt, rt.alloc(), COUNT, events, want)?;
-    Ok(())
+// Whether this is written of an event file.
+fn is_written(alloc: Global, topology: &str, events: &str, text: &str) -> Result<bool, NoMemory> {
+    writes(alloc, SOLO, &[("t.json", topology), ("e", events)], text)
 }
 
-#[test]
-fn record_at_watermark_is_in_time(rt: HostRuntime) -> Result<(), Fail> {
-    let events = "{\"watermark\":100}\n{\"key\":\"a\",\"ts\":100}\n";
-    let want = r#"{"key":"a","stream":"windows","ts":120,"value":1}
-{"fired":1,"handled":1,"injected":1,"late":0}
-"#;
-    let _done = writes(&rt, rt.alloc(), COUNT, events, want)?;
-    Ok(())
-}
-
-#[test]
-fn lower_watermark_changes_nothing(rt: HostRuntime) -> Result<(), Fail> {
-    let events = "{\"watermark\":100}\n{\"watermark\":20}\n{\"key\":\"a\",\"ts\":50}\n";
-    let want = r#"{"fired":0,"handled":1,"injected":1,"late":1}
-"#;
-    let _done = writes(&rt, rt.alloc(), COUNT, events, want)?;
-    Ok(())
-}
-
-#[test]
-fn greatest_timestamp(rt: HostRuntime) -> Result<(), Fail> {
-    let events = "{\"key\":\"a\",\"ts\":4611686018427387904}";
-    let want = r#"{"key":"a","stream":"windows","ts":4611686018427387960,"value":1}
-{"fired":1,"handled":1,"injected":1,"late":0}
-"#;
-    let _done = writes(&rt, rt.alloc(), COUNT, events, want)?;
-    Ok(())
-}
-
-// The event file of one record of the key `a` at each of these timestamps.
-fn stamped(alloc: Global, stamps: &[u64]) -> Result<String, NoMemory> {
-    let mut events = String::new(alloc);
-    for stamp in stamps {
-        let line = format!(in alloc; "{{\"key\":\"a\",\"ts\":{stamp}}}\n")?;
-        events.push_str(line.as_str())?;
-    }
-    Ok(events)
-}
-
-#[test]
-fn spike_above_three_times(rt: HostRuntime) -> Result<(), Fail> {
-    let stamps = [0, 60, 120, 121, 122, 123, 124, 125, 126];
-    let events = stamped(rt.alloc(), &stamps)?;
-    let want = r#"{"key":"a","stream":"alerts","ts":181,"value":7}
-{"fired":6,"handled":12,"injected":9,"late":0}
-"#;
-    let _done = writes(&rt, rt.alloc(), SPIKE, events.as_str(), want)?;
-    Ok(())
-}
-
-#[test]
-fn no_spike_at_three_times(rt: HostRuntime) -> Result<(), Fail> {
-    let events = stamped(rt.alloc(), &[0, 60, 120, 121, 122])?;
-    let want = r#"{"fired":6,"handled":8,"injected":5,"late":0}
-"#;
-    let _done = writes(&rt, rt.alloc(), SPIKE, events.as_str(), want)?;
-    Ok(())
-}
-
-// A thousand records of four heads and ten tails, with a watermark after each fifty and a blank line
-// after each hundred.
-pub(super) fn heads(alloc: Global) -> Result<String, NoMemory> {
-    let mut events = String::new(alloc);
-    for line in 0..1000u32 {
-        let (head, tail, next) = (line % 4, line % 10, line + 1);
-        let event = format!(in alloc;
-            "{{\"key\":\"h{head}/p{tail}\",\"ts\":{line},\"agent\":\"x\"}}\r\n"
-        )?;
-        events.push_str(event.as_str())?;
-        if next % 50 == 0 {
-            let mark = format!(in alloc; "{{\"watermark\":{next}}}\n")?;
-            events.push_str(mark.as_str())?;
-        }
-        if next % 100 == 0 {
-            events.push_str("\n")?;
-        }
-    }
-    Ok(events)
-}
-
-#[test]
-fn windows_by_head(rt: HostRuntime) -> Result<(), Fail> {
-    let events = heads(rt.alloc())?;
-    let want = r#"{"key":"h0","stream":"windows","ts":1000,"value":250}
-{"key":"h1","stream":"windows","ts":1000,"value":250}
-{"key":"h2","stream":"windows","ts":1000,"value":250}
-{"key":"h3","stream":"windows","ts":1000,"value":250}
-{"fired":4,"handled":1000,"injected":1000,"late":0}
-"#;
-    let _done = writes(&rt, rt.alloc(), HEADS, events.as_str(), want)?;
-    Ok(())
-}
-
-#[test]
-fn pass_by_tail(rt: HostRuntime) -> Result<(), Fail> {
-    let events = "{\"key\":\"h/x\",\"ts\":5,\"value\":-3}\n";
-    let want = r#"{"key":"h/x","stream":"copies","ts":5,"value":-3}
-{"fired":0,"handled":1,"injected":1,"late":0}
-"#;
-    let done = writes(&rt, rt.alloc(), TAILS, events, want)?;
-    let rows = done.keeper.rows(rt.alloc())?;
-    assert_eq!(rt; rows.len(), 2);
-    assert_eq!(rt; rows.as_slice()[1].name.part, 1);
-    assert_eq!(rt; rows.as_slice()[1].name.key.text(), "x");
-    Ok(())
-}
-
-#[test]
-fn two_readers_of_one_stream(rt: HostRuntime) -> Result<(), Fail> {
-    let want = r#"{"key":"a","stream":"copies","ts":10,"value":1}
-{"key":"a","stream":"windows","ts":60,"value":1}
-{"fired":1,"handled":2,"injected":1,"late":0}
-"#;
-    let done = writes(
-        &rt,
-        rt.alloc(),
-        READERS,
-        "{\"key\":\"a\",\"ts\":10}\n",
-        want,
-    )?;
-    assert_eq!(rt; done.history.len(), 11);
-    Ok(())
-}
-
-#[test]
-fn a_count_counts_what_a_count_makes(rt: HostRuntime) -> Result<(), Fail> {
-    let want = r#"{"key":"a","stream":"hours","ts":3600,"value":2}
+// Three records of one hour.
+const HOUR: &str = r#"{"key":"a","stream":"hours","ts":3600,"value":2}
 {"fired":3,"handled":5,"injected":3,"late":0}
 "#;
-    let _done = writes(&rt, rt.alloc(), CHAIN, EVENTS, want)?;
-    Ok(())
-}
 
-#[test]
-fn a_count_in_three_intervals(rt: HostRuntime) -> Result<(), Fail> {
-    let mut events = String::new(rt.alloc());
-    for key in ["z", "q", "p", "h", "a"] {
-        let line = format!(in rt.alloc(); "{{\"key\":\"{key}\",\"ts\":10}}\n")?;
-        events.push_str(line.as_str())?;
-    }
-    let want = r#"{"key":"a","stream":"windows","ts":60,"value":1}
+// Five keys, of each one record.
+const FIVE_KEYS: &str = r#"{"key":"z","ts":10}
+{"key":"q","ts":10}
+{"key":"p","ts":10}
+{"key":"h","ts":10}
+{"key":"a","ts":10}
+"#;
+
+// The windows of five keys, in the order of the keys.
+const FIVE_WINDOWS: &str = r#"{"key":"a","stream":"windows","ts":60,"value":1}
 {"key":"h","stream":"windows","ts":60,"value":1}
 {"key":"p","stream":"windows","ts":60,"value":1}
 {"key":"q","stream":"windows","ts":60,"value":1}
 {"key":"z","stream":"windows","ts":60,"value":1}
 {"fired":5,"handled":5,"injected":5,"late":0}
 "#;
-    let _done = writes(&rt, rt.alloc(), CUTS, events.as_str(), want)?;
-    Ok(())
-}
 
-#[test]
-fn other_names_and_spellings_are_taken(rt: HostRuntime) -> Result<(), Fail> {
-    let topology =
-        r#"{ "computations": [{"stream":"sums", "cuts":[], "size":60, "kind":"count", "reads":[{"by":"key","stream":"in_1"}], "name":"c"}],
- "injectors": [{"stream":"in_1","name":"i"}] }"#;
-    let events = "\n{\"value\":-3,\"ts\":59,\"key\":\"b\",\"note\":null}\r\n{\"watermark\":60}\n";
-    let want = r#"{"key":"b","stream":"sums","ts":60,"value":1}
+// A record that is counted and passed on.
+const BOTH: &str = r#"{"key":"a","stream":"copies","ts":10,"value":1}
+{"key":"a","stream":"windows","ts":60,"value":1}
+{"fired":1,"handled":2,"injected":1,"late":0}
+"#;
+
+// One late record.
+const ONE_LATE: &str = r#"{"fired":0,"handled":1,"injected":1,"late":1}
+"#;
+
+// One record in time, at a watermark.
+const ONE_IN_TIME: &str = r#"{"key":"a","stream":"windows","ts":120,"value":1}
 {"fired":1,"handled":1,"injected":1,"late":0}
 "#;
-    let _done = writes(&rt, rt.alloc(), topology, events, want)?;
+
+// One record at the greatest timestamp.
+const GREATEST: &str = r#"{"key":"a","stream":"windows","ts":4611686018427387960,"value":1}
+{"fired":1,"handled":1,"injected":1,"late":0}
+"#;
+
+#[test]
+fn the_watermark_says_what_is_late(rt: HostRuntime) -> Result<(), Fail> {
+    for (name, events, text) in [
+        (
+            "late record counts as late",
+            "{\"watermark\":100}\n{\"key\":\"a\",\"ts\":50}\n",
+            ONE_LATE,
+        ),
+        (
+            "record at watermark is in time",
+            "{\"watermark\":100}\n{\"key\":\"a\",\"ts\":100}\n",
+            ONE_IN_TIME,
+        ),
+        (
+            "lower watermark changes nothing",
+            "{\"watermark\":100}\n{\"watermark\":20}\n{\"key\":\"a\",\"ts\":50}\n",
+            ONE_LATE,
+        ),
+        (
+            "greatest timestamp",
+            "{\"key\":\"a\",\"ts\":4611686018427387904}",
+            GREATEST,
+        ),
+    ] {
+        assert!(rt; is_written(rt.alloc(), COUNT, events, text)?, "{name}");
+    }
+    Ok(())
+}
+
+// One record of a value, and that it is passed on.
+const VALUED: &str = "{\"key\":\"h/x\",\"ts\":5,\"value\":-3}\n";
+
+const PASSED: &str = r#"{"key":"h/x","stream":"copies","ts":5,"value":-3}
+{"fired":0,"handled":1,"injected":1,"late":0}
+"#;
+
+// One record in other spellings, between lines that are none, and what is written of it.
+const ODD: &str = "\n{\"value\":-3,\"ts\":59,\"key\":\"b\",\"note\":null}\r\n{\"watermark\":60}\n";
+
+const SUMMED: &str = r#"{"key":"b","stream":"sums","ts":60,"value":1}
+{"fired":1,"handled":1,"injected":1,"late":0}
+"#;
+
+// What is written of a record that nobody reads.
+const INJECTED: &str = r#"{"key":"b","stream":"raw","ts":7,"value":-3}
+{"fired":0,"handled":0,"injected":1,"late":0}
+"#;
+
+#[test]
+fn each_topology_has_its_text(rt: HostRuntime) -> Result<(), Fail> {
+    for (name, topology, events, text) in [
+        ("pass by tail", TAILS, VALUED, PASSED),
+        (
+            "two readers of one stream",
+            READERS,
+            "{\"key\":\"a\",\"ts\":10}\n",
+            BOTH,
+        ),
+        ("a count counts what a count makes", CHAIN, EVENTS, HOUR),
+        ("a count in three intervals", CUTS, FIVE_KEYS, FIVE_WINDOWS),
+        ("other names and spellings are taken", SPELLED, ODD, SUMMED),
+        (
+            "an unread stream is written",
+            UNREAD,
+            "{\"key\":\"b\",\"ts\":7,\"value\":-3}",
+            INJECTED,
+        ),
+    ] {
+        assert!(rt; is_written(rt.alloc(), topology, events, text)?, "{name}");
+    }
     Ok(())
 }
 
 #[test]
-fn an_unread_stream_is_written(rt: HostRuntime) -> Result<(), Fail> {
-    let topology = r#"{"injectors":[{"name":"clicks","stream":"raw"}],"computations":[]}"#;
-    let events = "{\"key\":\"b\",\"ts\":7,\"value\":-3}";
-    let want = r#"{"key":"b","stream":"raw","ts":7,"value":-3}
-{"fired":0,"handled":0,"injected":1,"late":0}
+fn a_row_is_named_by_the_tail(rt: HostRuntime) -> Result<(), Fail> {
+    let files = [("t.json", TAILS), ("e", VALUED)];
+    assert!(rt; has_last_row(rt.alloc(), SOLO, &files, 2, (1, "x"))?);
+    Ok(())
+}
+
+#[test]
+fn two_readers_of_one_stream_make_eleven_entries(rt: HostRuntime) -> Result<(), Fail> {
+    let files = [("t.json", READERS), ("e", "{\"key\":\"a\",\"ts\":10}\n")];
+    assert!(rt; entries(rt.alloc(), SOLO, &files)? == 11);
+    Ok(())
+}
+
+// Whether this is written of a spike behind a count, over records at these timestamps.
+fn spike_writes(alloc: Global, stamps: &[u64], text: &str) -> Result<bool, NoMemory> {
+    let events = stamped(alloc, stamps)?;
+    is_written(alloc, SPIKE, events.as_str(), text)
+}
+
+#[test]
+fn a_spike_is_above_three_times(rt: HostRuntime) -> Result<(), Fail> {
+    let above = r#"{"key":"a","stream":"alerts","ts":181,"value":7}
+{"fired":6,"handled":12,"injected":9,"late":0}
 "#;
-    let _done = writes(&rt, rt.alloc(), topology, events, want)?;
+    let at = r#"{"fired":6,"handled":8,"injected":5,"late":0}
+"#;
+    let nine = [0, 60, 120, 121, 122, 123, 124, 125, 126];
+    let five = [0, 60, 120, 121, 122];
+    for (name, stamps, text) in [
+        ("spike above three times", nine.as_slice(), above),
+        ("no spike at three times", five.as_slice(), at),
+    ] {
+        assert!(rt; spike_writes(rt.alloc(), stamps, text)?, "{name}");
+    }
+    Ok(())
+}
+
+// Whether this is written of a thousand records by the key's head.
+fn heads_write(alloc: Global, text: &str) -> Result<bool, NoMemory> {
+    let events = heads(alloc)?;
+    is_written(alloc, HEADS, events.as_str(), text)
+}
+
+#[test]
+fn windows_by_head(rt: HostRuntime) -> Result<(), Fail> {
+    let text = r#"{"key":"h0","stream":"windows","ts":1000,"value":250}
+{"key":"h1","stream":"windows","ts":1000,"value":250}
+{"key":"h2","stream":"windows","ts":1000,"value":250}
+{"key":"h3","stream":"windows","ts":1000,"value":250}
+{"fired":4,"handled":1000,"injected":1000,"late":0}
+"#;
+    assert!(rt; heads_write(rt.alloc(), text)?);
     Ok(())
 }

@@ -39,3 +39,11 @@ pub const READERS: &str =
 pub const CHAIN: &str =
     r#"{"injectors":[{"name":"clicks","stream":"raw"}],"computations":[{"name":"per_minute","kind":"count","size":60,"reads":[{"stream":"raw","by":"key"}],"stream":"windows"},{"name":"per_hour","kind":"count","size":3600,"reads":[{"stream":"windows","by":"key"}],"stream":"hours"}]}
 "#;
+
+// A count with other names, its members in another order, and with blanks between them.
+pub const SPELLED: &str =
+    r#"{ "computations": [{"stream":"sums", "cuts":[], "size":60, "kind":"count", "reads":[{"by":"key","stream":"in_1"}], "name":"c"}],
+ "injectors": [{"stream":"in_1","name":"i"}] }"#;
+
+// What is injected is read by nobody.
+pub const UNREAD: &str = r#"{"injectors":[{"name":"clicks","stream":"raw"}],"computations":[]}"#;

@@ -1,15 +1,14 @@
 //! The first example with its rows in a file, which is read back by the database and by a keeper.
+use super::asking::{count, has_row};
+use super::deeds::Deed;
 use super::folder;
-use key_intervals::Bounds;
+use super::lending::dropped;
 use millwheel_cli::{Done, Status, after_closing, keep_name, millwheel_alone, unopened};
 use mw_ports::{FileList, MemShelf, MemSink, NamedFile};
-use mw_types::{Bytes, CallList, Key, Name, NoMemory, Seq};
-use row_keeper::{Keeper, KeptRowList};
-use sqlite::{Connection, Row};
+use mw_types::{Bytes, CallList, Name, NoMemory, Seq};
 use sqlite_keeper::SqliteKeeper;
 use std::alloc::Global;
 use std::fs;
-use std::process::Abort;
 use std::test::Fail;
 
 // One count over windows of 60.
@@ -48,10 +47,25 @@ fn bytes_of(alloc: Global, text: &str) -> Result<Bytes, NoMemory> {
 
 // A file of this name and content.
 fn file(alloc: Global, name: &str, content: &str) -> Result<NamedFile, NoMemory> {
+    let bytes = bytes_of(alloc, content)?;
     Ok(NamedFile {
         name: Name::of(alloc, name)?,
-        bytes: bytes_of(alloc, content)?,
+        bytes,
     })
+}
+
+// The files of the example.
+fn shelf(alloc: Global) -> Result<MemShelf, NoMemory> {
+    let mut files = FileList::new(alloc);
+    for (name, content) in [("t.json", COUNT), ("e", EVENTS)] {
+        files.push(file(alloc, name, content)?)?;
+    }
+    Ok(MemShelf::of(files, CallList::new(alloc)))
+}
+
+// An ample sink.
+fn sink(alloc: Global) -> MemSink {
+    MemSink::of(alloc, 65536, CallList::new(alloc), CallList::new(alloc))
 }
 
 // The words of a command line that keeps the rows in a file.
@@ -63,94 +77,103 @@ fn words(alloc: Global, store: &str) -> Result<Seq<Name>, NoMemory> {
     Ok(words)
 }
 
-// Runs the words over this keeper.
+// The file that the words name.
+fn named(alloc: Global, store: &str) -> Result<Option<Name>, NoMemory> {
+    let words = words(alloc, store)?;
+    keep_name(alloc, words.as_slice())
+}
+
+// Runs the words over this keeper. No other function calls the program.
 fn run(
     alloc: Global,
     words: &[Name],
-    kept: SqliteKeeper,
+    keeper: SqliteKeeper,
     out: &mut MemSink,
 ) -> Result<Done<SqliteKeeper>, NoMemory> {
-    let mut files = FileList::new(alloc);
-    files.push(file(alloc, "t.json", COUNT)?)?;
-    files.push(file(alloc, "e", EVENTS)?)?;
-    let mut shelf = MemShelf::of(files, CallList::new(alloc));
-    Ok(millwheel_alone(alloc, words, &mut shelf, kept, out))
+    let mut shelf = shelf(alloc)?;
+    Ok(millwheel_alone(alloc, words, &mut shelf, keeper, out))
 }
 
-// Runs the example over the file that its words name, and closes that.
-fn kept(rt: &HostRuntime, store: &str, out: &mut MemSink) -> Result<Status, Fail> {
-    let words = words(rt.alloc(), store)?;
-    let Some(name) = keep_name(rt.alloc(), words.as_slice())? else {
-        return Ok(Status::Usage);
-    };
-    let keeper = match SqliteKeeper::at(rt, name.text()) {
-        Ok(keeper) => keeper,
-        Err(fault) => return Ok(unopened(fault)),
-    };
-    let Done { status, keeper, .. } = run(rt.alloc(), words.as_slice(), keeper, out)?;
+// Runs the example over this keeper, and closes that.
+fn run_and_close(
+    alloc: Global,
+    store: &str,
+    keeper: SqliteKeeper,
+    out: &mut MemSink,
+) -> Result<Status, NoMemory> {
+    let words = words(alloc, store)?;
+    let Done { status, keeper, .. } = run(alloc, words.as_slice(), keeper, out)?;
     Ok(after_closing(status, keeper.close()))
 }
 
-// The rows of a file, as the database has them.
-fn rows_of(rt: &HostRuntime, name: &str) -> Result<Vec<Row>, Fail> {
-    let mut connection = Connection::open(rt, name)?;
-    let rows = connection.query_all("SELECT part, key, bytes FROM rows ORDER BY part, key", &[])?;
-    Ok(rows)
+// Runs the example over the file of this name.
+fn kept_in(
+    rt: &HostRuntime,
+    name: &str,
+    store: &str,
+    out: &mut MemSink,
+) -> Result<Status, NoMemory> {
+    match SqliteKeeper::at(rt, name) {
+        Ok(keeper) => run_and_close(rt.alloc(), store, keeper, out),
+        Err(fault) => Ok(unopened(fault)),
+    }
 }
 
-// A row of the database is that of this part, key and bytes.
-fn is_row(rt: &impl Abort, row: &Row, part: u32, key: &[u8], bytes: &[u8]) -> Result<(), Fail> {
-    assert_eq!(rt; row.get::<u32>(0)?, part);
-    let found = row.get::<Vec<u8>>(1)?;
-    assert_eq!(rt; found.as_slice(), key);
-    let found = row.get::<Vec<u8>>(2)?;
-    assert_eq!(rt; found.as_slice(), bytes);
-    Ok(())
+// Runs the example over the file that its words name, and closes that.
+fn kept(rt: &HostRuntime, store: &str, out: &mut MemSink) -> Result<Status, NoMemory> {
+    match named(rt.alloc(), store)? {
+        Some(name) => kept_in(rt, name.text(), store, out),
+        None => Ok(Status::Usage),
+    }
 }
 
-// The rows of a part that a new keeper of a file finds.
-fn found(rt: &HostRuntime, name: &str, part: u32) -> Result<KeptRowList, Fail> {
-    let alloc = rt.alloc();
-    let mut keeper = SqliteKeeper::at(rt, name)?;
-    let bounds = Bounds {
-        part,
-        from: Key::none(alloc),
-        to: None,
-    };
-    Ok(keeper.scan(alloc, &bounds)?)
+// Whether the example is run, and its text written.
+fn is_run(rt: &HostRuntime, store: &str) -> Result<bool, NoMemory> {
+    let mut out = sink(rt.alloc());
+    let status = kept(rt, store, &mut out)?;
+    Ok(status.is_ok() && out.text() == TEXT.as_bytes())
+}
+
+// Whether it is not run, since there are rows, and nothing is written.
+fn is_refused(rt: &HostRuntime, store: &str) -> Result<bool, NoMemory> {
+    let mut out = sink(rt.alloc());
+    let status = kept(rt, store, &mut out)?;
+    Ok(matches!(status, Status::NotEmpty { .. }) && out.text().is_empty())
+}
+
+// Whether the database has the two rows of the example in a file.
+fn has_rows(rt: &HostRuntime, store: &str) -> Result<bool, Fail> {
+    let injector = has_row(rt, store, 0, 0, (b"".as_slice(), INJECTOR))?;
+    let counted = has_row(rt, store, 1, 1, (b"a".as_slice(), COUNTED))?;
+    Ok(injector && counted && count(rt, store)? == 2)
 }
 
 #[test]
 fn a_kept_run_leaves_its_rows_in_the_file(rt: HostRuntime) -> Result<(), Fail> {
-    let alloc = rt.alloc();
+    let store = "one_run/k.db";
     folder::empty(&rt, "one_run")?;
-    let mut out = MemSink::of(alloc, 65536, CallList::new(alloc), CallList::new(alloc));
-    assert_eq!(rt; kept(&rt, "one_run/k.db", &mut out)?, Status::Ok);
-    assert_eq!(rt; out.text(), TEXT.as_bytes());
-    let rows = rows_of(&rt, "one_run/k.db")?;
-    assert_eq!(rt; rows.len(), 2);
-    is_row(&rt, &rows[0], 0, b"", INJECTOR)?;
-    is_row(&rt, &rows[1], 1, b"a", COUNTED)?;
-    let rows = found(&rt, "one_run/k.db", 1)?;
-    assert_eq!(rt; rows.len(), 1);
-    let row = &rows.as_slice()[0];
-    assert_eq!(rt; (row.name.part, row.name.key.text()), (1, "a"));
-    assert_eq!(rt; row.bytes.as_slice(), COUNTED);
+    let is_run = is_run(&rt, store)?;
+    let has_rows = has_rows(&rt, store)?;
+    let is_found = dropped(&rt, store, Deed::HasOne(COUNTED))?;
     fs::remove_dir_all(&rt, "one_run")?;
+    assert!(rt;
+        is_run && has_rows && is_found,
+        "{is_run}, {has_rows}, {is_found}"
+    );
     Ok(())
 }
 
 #[test]
 fn a_second_kept_run_is_refused_and_writes_nothing(rt: HostRuntime) -> Result<(), Fail> {
-    let alloc = rt.alloc();
     let store = "two_runs/k.db";
     folder::empty(&rt, "two_runs")?;
-    let mut first = MemSink::of(alloc, 65536, CallList::new(alloc), CallList::new(alloc));
-    assert_eq!(rt; kept(&rt, store, &mut first)?, Status::Ok);
-    let mut second = MemSink::of(alloc, 65536, CallList::new(alloc), CallList::new(alloc));
-    assert!(rt; matches!(kept(&rt, store, &mut second)?, Status::NotEmpty { .. }));
-    assert!(rt; second.text().is_empty());
-    assert_eq!(rt; rows_of(&rt, store)?.len(), 2);
+    let is_run = is_run(&rt, store)?;
+    let is_refused = is_refused(&rt, store)?;
+    let rows = count(&rt, store)?;
     fs::remove_dir_all(&rt, "two_runs")?;
+    assert!(rt;
+        is_run && is_refused && rows == 2,
+        "{is_run}, {is_refused}, {rows}"
+    );
     Ok(())
 }

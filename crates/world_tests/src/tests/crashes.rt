@@ -1,11 +1,9 @@
 //! Workers that crash, and records that come late.
-use super::tables::plays_all;
+use super::tables::wrong_in;
 use std::test::Fail;
 
 // The record is copied, handled and acknowledged, and its row forgets its id; then the copy comes.
-#[test]
-fn late_copy_is_duplicate(rt: HostRuntime) -> Result<(), Fail> {
-    let table = "claim 0 0 = Claimed 0
+const LATE_COPY: &str = "claim 0 0 = Claimed 0
 claim 0 1 = Claimed 1
 inject 0 0 = Committed 2
 send 0 = Sent 1
@@ -21,14 +19,10 @@ count = entries 6
 drain = Ok
 last = Purge 16
 count = entries 17";
-    plays_all(&rt, rt.alloc(), table)
-}
 
 // A worker crashes once it has written a line and before it sends its record, which the next owner of the
 // injector finds pending.
-#[test]
-fn crash_between_write_and_send(rt: HostRuntime) -> Result<(), Fail> {
-    let table = "claim 0 0 = Claimed 0
+const UNSENT: &str = "claim 0 0 = Claimed 0
 claim 0 1 = Claimed 1
 inject 0 0 = Committed 2
 crash 0 = Crashed
@@ -44,14 +38,10 @@ count = entries 6
 drain = Ok
 last = Purge 17
 count = entries 18";
-    plays_all(&rt, rt.alloc(), table)
-}
 
 // A worker crashes once it has prepared a record and before it writes; nothing is left of that, and the
 // message is gone.
-#[test]
-fn crash_before_write(rt: HostRuntime) -> Result<(), Fail> {
-    let table = "claim 0 0 = Claimed 0
+const UNWRITTEN: &str = "claim 0 0 = Claimed 0
 claim 0 1 = Claimed 1
 inject 0 0 = Committed 2
 send 0 = Sent 1
@@ -67,18 +57,26 @@ last = Inject 0
 drain = Ok
 last = Purge 15
 count = entries 16";
-    plays_all(&rt, rt.alloc(), table)
-}
 
 // A drain that comes to a crash's end once more writes its claims alone.
-#[test]
-fn a_second_drain_claims_alone(rt: HostRuntime) -> Result<(), Fail> {
-    let table = "drain = Ok
+const SECOND_DRAIN: &str = "drain = Ok
 last = Purge 13
 count = entries 14
 crash 0 = Crashed
 drain = Ok
 last = Claim 1
 count = entries 16";
-    plays_all(&rt, rt.alloc(), table)
+
+#[test]
+fn a_crash_or_a_late_copy_changes_nothing_that_is_written(rt: HostRuntime) -> Result<(), Fail> {
+    for (name, table) in [
+        ("late copy is duplicate", LATE_COPY),
+        ("crash between write and send", UNSENT),
+        ("crash before write", UNWRITTEN),
+        ("a second drain claims alone", SECOND_DRAIN),
+    ] {
+        let line = wrong_in(rt.alloc(), table)?;
+        assert!(rt; line == 0, "{name}: line {line}");
+    }
+    Ok(())
 }

@@ -1,6 +1,8 @@
 //! A keeper that does not tell its rows, a keeper that fails, and a book that is full.
-use super::fixtures::{EVENTS, MARKED, MOST, blind_keeper, keeper};
-use super::tables::plays_over;
+use super::fixtures::{CHAIN, COUNT, EVENTS, MARKED, MOST, PASSED, blind_keeper};
+use super::tables::{wrong_line, wrong_over, wrong_where};
+use mw_types::NoMemory;
+use std::alloc::Global;
 use std::test::Fail;
 
 // A row of the count that has handled nothing.
@@ -9,10 +11,11 @@ const NEW_ROW: &[u8] = &[
     0, 0, 0, 0, 0, 0, 0, 0, 0, 0,
 ];
 
+// Bytes that are no row.
+const NO_ROW: &[u8] = &[255];
+
 // Each kind of step over a keeper that does not tell.
-#[test]
-fn a_keeper_that_does_not_tell(rt: HostRuntime) -> Result<(), Fail> {
-    let table = "claim 0 0 = Claimed 0
+const UNTOLD: &str = "claim 0 0 = Claimed 0
 claim 0 1 = Claimed 1
 inject 0 0 = Committed 2
 send 0 = Sent 1
@@ -38,14 +41,9 @@ inject 0 0 = Nothing
 crash 0 = Crashed
 report 0 1 = Nothing
 count = entries 8";
-    let keeper = blind_keeper(rt.alloc(), NEW_ROW)?;
-    plays_over(&rt, rt.alloc(), MARKED, keeper, MOST, table)
-}
 
 // A keeper that shows what is no row lets the interval that has it not be claimed.
-#[test]
-fn a_row_that_is_damaged(rt: HostRuntime) -> Result<(), Fail> {
-    let table = "claim 0 0 = Claimed 0
+const DAMAGED: &str = "claim 0 0 = Claimed 0
 claim 0 1 = RowDamaged
 claim 0 1 = RowDamaged
 inject 0 0 = Committed 1
@@ -54,15 +52,28 @@ count = entries 2
 drain = RowDamaged
 last = Claim 0
 count = entries 3";
-    let keeper = blind_keeper(rt.alloc(), b"\xff".as_slice())?;
-    plays_over(&rt, rt.alloc(), EVENTS, keeper, MOST, table)
+
+// The first wrong line over a keeper that does not tell, and shows these bytes.
+fn wrong_untold(alloc: Global, events: &str, shown: &[u8], table: &str) -> Result<u64, NoMemory> {
+    let keeper = blind_keeper(alloc, shown)?;
+    wrong_over(alloc, (COUNT, events), keeper, MOST, table)
+}
+
+#[test]
+fn a_keeper_does_not_tell_or_shows_what_is_no_row(rt: HostRuntime) -> Result<(), Fail> {
+    for (name, events, shown, table) in [
+        ("a keeper that does not tell", MARKED, NEW_ROW, UNTOLD),
+        ("a row that is damaged", EVENTS, NO_ROW, DAMAGED),
+    ] {
+        let line = wrong_untold(rt.alloc(), events, shown, table)?;
+        assert!(rt; line == 0, "{name}: line {line}");
+    }
+    Ok(())
 }
 
 // A step whose call of the keeper fails leaves the world as it was, but that a message which was taken is
 // gone. The calls that fail are one of each kind.
-#[test]
-fn a_keeper_that_fails(rt: HostRuntime) -> Result<(), Fail> {
-    let table = "claim 0 0 = KeeperFault
+const FAILING: &str = "claim 0 0 = KeeperFault
 inject 0 0 = Nothing
 claim 0 0 = Claimed 0
 claim 0 1 = Claimed 1
@@ -95,14 +106,76 @@ drain = KeeperFault
 count = entries 8
 drain = Ok
 count = entries 15";
-    let keeper = keeper(rt.alloc(), &[1, 4, 6, 8, 10, 12, 15])?;
-    plays_over(&rt, rt.alloc(), MARKED, keeper, MOST, table)
+
+// A timer of the first count whose put fails sends nothing; then its window goes to the second count.
+const UNFIRED: &str = "claim 0 0 = Claimed 0
+claim 0 1 = Claimed 1
+claim 0 2 = Claimed 2
+inject 0 0 = Committed 3
+send 0 = Sent 1
+take 0 0 = Prepared
+write 0 = Committed 4
+send 0 = Sent 1
+take 0 1 = Committed 5
+report 0 0 = Marked 60
+report 0 1 = Marked 60
+fire 0 1 = KeeperFault
+send 0 = Sent 0
+count = entries 6
+fire 0 1 = Committed 6
+last = Fire 60
+send 0 = Sent 1
+take 0 2 = Prepared
+write 0 = Committed 7
+last = Handle 6
+count = entries 8";
+
+// A record whose put fails is not passed on; then it is, beside its acknowledgement.
+const UNPASSED: &str = "claim 0 0 = Claimed 0
+claim 0 1 = Claimed 1
+claim 0 2 = Claimed 2
+inject 0 0 = Committed 3
+send 0 = Sent 1
+take 0 0 = Prepared
+write 0 = KeeperFault
+send 0 = Sent 0
+count = entries 4
+write 0 = Committed 4
+last = Handle 3
+send 0 = Sent 2
+count = entries 5";
+
+#[test]
+fn a_step_whose_keeper_fails_is_not_done(rt: HostRuntime) -> Result<(), Fail> {
+    let each = [1, 4, 6, 8, 10, 12, 15];
+    for (name, case, failing, table) in [
+        (
+            "a keeper that fails",
+            (COUNT, MARKED),
+            each.as_slice(),
+            FAILING,
+        ),
+        (
+            "a timer of a chain",
+            (CHAIN, MARKED),
+            [7].as_slice(),
+            UNFIRED,
+        ),
+        (
+            "a record that is passed on",
+            (PASSED, EVENTS),
+            [5].as_slice(),
+            UNPASSED,
+        ),
+    ] {
+        let line = wrong_where(rt.alloc(), case, failing, table)?;
+        assert!(rt; line == 0, "{name}: line {line}");
+    }
+    Ok(())
 }
 
 // A book that takes three entries refuses the steps that would append a fourth, and no other.
-#[test]
-fn a_history_that_is_full(rt: HostRuntime) -> Result<(), Fail> {
-    let table = "claim 0 0 = Claimed 0
+const FULL: &str = "claim 0 0 = Claimed 0
 claim 0 1 = Claimed 1
 inject 0 0 = Committed 2
 inject 0 0 = HistoryFull
@@ -126,14 +199,9 @@ crash 0 = Crashed
 write 0 = Nothing
 drain = HistoryFull
 count = entries 3";
-    let keeper = keeper(rt.alloc(), &[])?;
-    plays_over(&rt, rt.alloc(), EVENTS, keeper, 3, table)
-}
 
 // A write under a lease that was overtaken is stale also where the history is full.
-#[test]
-fn stale_before_full(rt: HostRuntime) -> Result<(), Fail> {
-    let table = "claim 0 0 = Claimed 0
+const STALE_AND_FULL: &str = "claim 0 0 = Claimed 0
 claim 0 1 = Claimed 1
 inject 0 0 = Committed 2
 send 0 = Sent 1
@@ -143,6 +211,14 @@ inject 0 0 = HistoryFull
 write 0 = Stale 3
 write 0 = Nothing
 count = entries 4";
-    let keeper = keeper(rt.alloc(), &[])?;
-    plays_over(&rt, rt.alloc(), EVENTS, keeper, 4, table)
+
+#[test]
+fn a_full_history_takes_no_entry(rt: HostRuntime) -> Result<(), Fail> {
+    let full = wrong_line(rt.alloc(), (COUNT, EVENTS), &[], 3, FULL)?;
+    let stale = wrong_line(rt.alloc(), (COUNT, EVENTS), &[], 4, STALE_AND_FULL)?;
+    assert!(rt;
+        full == 0 && stale == 0,
+        "full: line {full}, stale before full: line {stale}"
+    );
+    Ok(())
 }

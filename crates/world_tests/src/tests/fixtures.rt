@@ -14,31 +14,41 @@ use std::alloc::Global;
 use topology::{Topology, read};
 use world::World;
 
-// One count over windows of 60.
-const COUNT: &str =
+/// One count over windows of 60.
+pub const COUNT: &str =
     r#"{"injectors":[{"name":"clicks","stream":"raw"}],"computations":[{"name":"per_minute","kind":"count","size":60,"reads":[{"stream":"raw","by":"key"}],"stream":"windows"}]}
 "#;
 
-// Two records in the window that ends at 60, and one in the next.
+/// A count over windows of 3600, of what a count over windows of 60 makes.
+pub const CHAIN: &str =
+    r#"{"injectors":[{"name":"clicks","stream":"raw"}],"computations":[{"name":"per_minute","kind":"count","size":60,"reads":[{"stream":"raw","by":"key"}],"stream":"windows"},{"name":"per_hour","kind":"count","size":3600,"reads":[{"stream":"windows","by":"key"}],"stream":"hours"}]}
+"#;
+
+/// A count over windows of 60, of what is passed on.
+pub const PASSED: &str =
+    r#"{"injectors":[{"name":"clicks","stream":"raw"}],"computations":[{"name":"copy","kind":"pass","reads":[{"stream":"raw","by":"key"}],"stream":"copies"},{"name":"per_minute","kind":"count","size":60,"reads":[{"stream":"copies","by":"key"}],"stream":"windows"}]}
+"#;
+
+/// Two records in the window that ends at 60, and one in the next.
 pub const EVENTS: &str = r#"{"key":"a","ts":10}
 {"key":"a","ts":59}
 {"key":"a","ts":60}
 "#;
 
-// A record in the window that ends at 60, the end of that window, and a record in the next.
+/// A record in the window that ends at 60, the end of that window, and a record in the next.
 pub const MARKED: &str = r#"{"key":"a","ts":10}
 {"watermark":60}
 {"key":"a","ts":70}
 "#;
 
-// How many entries a history may have at most.
+/// How many entries a history may have at most.
 pub const MOST: u64 = 1 << 32;
 
-// The topology of one injector and one count.
-fn count(alloc: Global) -> Result<Topology, NoMemory>
+// The topology of a text, which has one injector.
+fn topology_of(alloc: Global, text: &str) -> Result<Topology, NoMemory>
     ensures { IfOk result (λ topology. injectors_of topology ≡ 1) }
 {
-    let Ok(topology) = read(alloc, COUNT.as_bytes()) else {
+    let Ok(topology) = read(alloc, text.as_bytes()) else {
         return Err(NoMemory);
     };
     if topology.injectors() == 1 {
@@ -60,9 +70,9 @@ fn lines(alloc: Global, events: &str) -> Result<Items, NoMemory> {
     }
 }
 
-// The case of the count over this event file.
-pub(crate) fn case(alloc: Global, events: &str) -> Result<Case, NoMemory> {
-    let topology = count(alloc)?;
+/// The case of a topology of one injector over this event file.
+pub(crate) fn case(alloc: Global, topology: &str, events: &str) -> Result<Case, NoMemory> {
+    let topology = topology_of(alloc, topology)?;
     let mut items = ItemsList::new(alloc);
     items.push(lines(alloc, events)?)?;
     Case::of(alloc, topology, items)

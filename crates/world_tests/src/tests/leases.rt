@@ -1,12 +1,10 @@
 //! Leases that were overtaken, and workers without one.
-use super::tables::plays_all;
+use super::tables::wrong_in;
 use std::test::Fail;
 
 // The second worker claims the count while the first has prepared a record of it. The record is sent once
 // more, to its new owner. Two claims, two lines and what comes of each, two timers and a purge follow.
-#[test]
-fn old_owner_is_stale(rt: HostRuntime) -> Result<(), Fail> {
-    let table = "claim 0 0 = Claimed 0
+const OLD_OWNER: &str = "claim 0 0 = Claimed 0
 claim 0 1 = Claimed 1
 inject 0 0 = Committed 2
 send 0 = Sent 1
@@ -26,14 +24,10 @@ count = entries 6
 drain = Ok
 last = Purge 16
 count = entries 17";
-    plays_all(&rt, rt.alloc(), table)
-}
 
 // Each lease that was overtaken is found stale once, and is gone then; the new owner takes the
 // acknowledgement.
-#[test]
-fn a_report_is_stale_once(rt: HostRuntime) -> Result<(), Fail> {
-    let table = "claim 0 0 = Claimed 0
+const STALE_REPORT: &str = "claim 0 0 = Claimed 0
 claim 0 1 = Claimed 1
 inject 0 0 = Committed 2
 send 0 = Sent 1
@@ -55,13 +49,9 @@ resend 1 = Queued 0
 count = entries 7
 drain = Ok
 count = entries 18";
-    plays_all(&rt, rt.alloc(), table)
-}
 
 // An acknowledgement that is taken under a lease that was overtaken is gone, and a purge is stale too.
-#[test]
-fn an_acknowledgement_is_stale(rt: HostRuntime) -> Result<(), Fail> {
-    let table = "claim 0 0 = Claimed 0
+const STALE_ACK: &str = "claim 0 0 = Claimed 0
 claim 0 1 = Claimed 1
 inject 0 0 = Committed 2
 send 0 = Sent 1
@@ -82,13 +72,9 @@ take 1 3 = Committed 6
 count = entries 7
 drain = Ok
 count = entries 18";
-    plays_all(&rt, rt.alloc(), table)
-}
 
 // A worker sends once more what it knows as pending, though its lease was overtaken, until it learns that.
-#[test]
-fn a_worker_resends_until_its_lease_is_stale(rt: HostRuntime) -> Result<(), Fail> {
-    let table = "claim 0 0 = Claimed 0
+const RESENT: &str = "claim 0 0 = Claimed 0
 inject 0 0 = Committed 1
 claim 1 0 = Claimed 2
 resend 0 = Queued 1
@@ -101,5 +87,17 @@ send 1 = Sent 3
 count = entries 4
 drain = Ok
 count = entries 16";
-    plays_all(&rt, rt.alloc(), table)
+
+#[test]
+fn a_lease_that_was_overtaken_is_stale(rt: HostRuntime) -> Result<(), Fail> {
+    for (name, table) in [
+        ("old owner is stale", OLD_OWNER),
+        ("a report is stale once", STALE_REPORT),
+        ("an acknowledgement is stale", STALE_ACK),
+        ("a worker resends until its lease is stale", RESENT),
+    ] {
+        let line = wrong_in(rt.alloc(), table)?;
+        assert!(rt; line == 0, "{name}: line {line}");
+    }
+    Ok(())
 }

@@ -1,11 +1,9 @@
 //! Messages that are lost, copied, taken and gone, and steps that have nothing to do.
-use super::tables::plays_all;
+use super::tables::wrong_in;
 use std::test::Fail;
 
 // A message that was lost is gone, and its record is sent once more.
-#[test]
-fn a_lost_record_is_sent_again(rt: HostRuntime) -> Result<(), Fail> {
-    let table = "claim 0 0 = Claimed 0
+const LOST: &str = "claim 0 0 = Claimed 0
 claim 0 1 = Claimed 1
 inject 0 0 = Committed 2
 send 0 = Sent 1
@@ -25,13 +23,9 @@ take 0 4 = Nothing
 count = entries 5
 drain = Ok
 count = entries 16";
-    plays_all(&rt, rt.alloc(), table)
-}
 
 // A worker without the lease of a message's row leaves it in flight, be it a record or an acknowledgement.
-#[test]
-fn a_message_for_another_stays(rt: HostRuntime) -> Result<(), Fail> {
-    let table = "claim 0 0 = Claimed 0
+const NOT_MINE: &str = "claim 0 0 = Claimed 0
 claim 1 1 = Claimed 1
 inject 0 0 = Committed 2
 send 0 = Sent 1
@@ -47,13 +41,9 @@ take 0 1 = Nothing
 count = entries 5
 drain = Ok
 count = entries 16";
-    plays_all(&rt, rt.alloc(), table)
-}
 
 // What was taken, what was lost and what was never sent is no message, and no number comes a second time.
-#[test]
-fn a_message_that_is_gone_is_nothing(rt: HostRuntime) -> Result<(), Fail> {
-    let table = "take 0 0 = Nothing
+const GONE: &str = "take 0 0 = Nothing
 copy 0 = Nothing
 lose 0 = Nothing
 claim 0 0 = Claimed 0
@@ -82,14 +72,10 @@ lose 3 = Nothing
 count = entries 5
 drain = Ok
 count = entries 16";
-    plays_all(&rt, rt.alloc(), table)
-}
 
 // While a record is prepared another one waits in flight, and no row forgets; a line is injected and an
 // acknowledgement is written all the same.
-#[test]
-fn a_record_waits_while_one_is_prepared(rt: HostRuntime) -> Result<(), Fail> {
-    let table = "claim 0 0 = Claimed 0
+const WAITING: &str = "claim 0 0 = Claimed 0
 claim 0 1 = Claimed 1
 inject 0 0 = Committed 2
 inject 0 0 = Committed 3
@@ -110,13 +96,9 @@ write 0 = Nothing
 count = entries 8
 drain = Ok
 count = entries 16";
-    plays_all(&rt, rt.alloc(), table)
-}
 
 // A worker that has nothing to send sends nothing, and without a lease it has nothing to do.
-#[test]
-fn nothing_to_do_is_nothing(rt: HostRuntime) -> Result<(), Fail> {
-    let table = "send 0 = Sent 0
+const NOTHING_TO_DO: &str = "send 0 = Sent 0
 resend 0 = Queued 0
 write 0 = Nothing
 fire 0 1 = Nothing
@@ -134,13 +116,9 @@ send 0 = Sent 0
 count = entries 2
 drain = Ok
 count = entries 15";
-    plays_all(&rt, rt.alloc(), table)
-}
 
 // No line is left after the third.
-#[test]
-fn no_line_is_left(rt: HostRuntime) -> Result<(), Fail> {
-    let table = "claim 7 0 = Claimed 0
+const NO_LINE: &str = "claim 7 0 = Claimed 0
 inject 7 0 = Committed 1
 last = Inject 0
 inject 7 0 = Committed 2
@@ -153,5 +131,29 @@ send 7 = Sent 3
 count = entries 4
 drain = Ok
 count = entries 15";
-    plays_all(&rt, rt.alloc(), table)
+
+#[test]
+fn a_message_is_taken_once_and_by_its_worker(rt: HostRuntime) -> Result<(), Fail> {
+    for (name, table) in [
+        ("a lost record is sent again", LOST),
+        ("a message for another stays", NOT_MINE),
+        ("a message that is gone is nothing", GONE),
+        ("a record waits while one is prepared", WAITING),
+    ] {
+        let line = wrong_in(rt.alloc(), table)?;
+        assert!(rt; line == 0, "{name}: line {line}");
+    }
+    Ok(())
+}
+
+#[test]
+fn a_step_that_has_nothing_to_do_is_nothing(rt: HostRuntime) -> Result<(), Fail> {
+    for (name, table) in [
+        ("nothing to do is nothing", NOTHING_TO_DO),
+        ("no line is left", NO_LINE),
+    ] {
+        let line = wrong_in(rt.alloc(), table)?;
+        assert!(rt; line == 0, "{name}: line {line}");
+    }
+    Ok(())
 }

@@ -6,7 +6,7 @@
 ghost use Rattle.std.specs.Prelude.{◌≤◌, ◌^◌, All, IfOk};
 ghost use Rattle.scripts.specs.Steps.{IsStep};
 
-use super::fixtures::{EVENTS, MOST, case, keeper, world};
+use super::fixtures::{COUNT, EVENTS, MOST, case, keeper, world};
 use computations::Kinds;
 use mw_types::{Entry, NoMemory};
 use node::{NodeFault, Outcome};
@@ -14,8 +14,6 @@ use row_keeper::Keeper;
 use run_history::Case;
 use schedules::{Schedule, read_schedule};
 use std::alloc::Global;
-use std::process::Abort;
-use std::test::Fail;
 use world::{Step, World};
 
 // The schedule of a text.
@@ -55,35 +53,26 @@ fn answer<K: Keeper>(
     Ok(world.step(alloc, &step))
 }
 
-// A word and a number.
-fn numbered(alloc: Global, word: &str, number: u64) -> Result<String, NoMemory> {
-    Ok(format!(in alloc; "{word} {number}")?)
-}
+// An answer, as a table has it: its word, and its number where it has one.
+type Said = (&'static str, Option<u64>);
 
-// A word alone.
-fn alone(alloc: Global, word: &str) -> Result<String, NoMemory> {
-    let mut text = String::new(alloc);
-    text.push_str(word)?;
-    Ok(text)
-}
-
-// How a table has an answer.
-fn outcome_text(alloc: Global, outcome: &Outcome) -> Result<String, NoMemory> {
+// How a table has an outcome.
+fn outcome_said(outcome: &Outcome) -> Said {
     match outcome {
-        Outcome::Claimed { seq } => numbered(alloc, "Claimed", *seq),
-        Outcome::Committed { commit } => numbered(alloc, "Committed", *commit),
-        Outcome::Queued { count } => numbered(alloc, "Queued", *count),
-        Outcome::Sent { count } => numbered(alloc, "Sent", *count),
-        Outcome::Copied { message } => numbered(alloc, "Copied", u64::from(*message)),
-        Outcome::Marked { mark } => numbered(alloc, "Marked", *mark),
-        Outcome::Stale { newer } => numbered(alloc, "Stale", *newer),
-        Outcome::Busy { found } => numbered(alloc, "Busy", *found),
-        Outcome::Prepared => alone(alloc, "Prepared"),
-        Outcome::Duplicate => alone(alloc, "Duplicate"),
-        Outcome::NotMine => alone(alloc, "NotMine"),
-        Outcome::Lost => alone(alloc, "Lost"),
-        Outcome::Crashed => alone(alloc, "Crashed"),
-        Outcome::Nothing => alone(alloc, "Nothing"),
+        Outcome::Claimed { seq } => ("Claimed", Some(*seq)),
+        Outcome::Committed { commit } => ("Committed", Some(*commit)),
+        Outcome::Queued { count } => ("Queued", Some(*count)),
+        Outcome::Sent { count } => ("Sent", Some(*count)),
+        Outcome::Copied { message } => ("Copied", Some(u64::from(*message))),
+        Outcome::Marked { mark } => ("Marked", Some(*mark)),
+        Outcome::Stale { newer } => ("Stale", Some(*newer)),
+        Outcome::Busy { found } => ("Busy", Some(*found)),
+        Outcome::Prepared => ("Prepared", None),
+        Outcome::Duplicate => ("Duplicate", None),
+        Outcome::NotMine => ("NotMine", None),
+        Outcome::Lost => ("Lost", None),
+        Outcome::Crashed => ("Crashed", None),
+        Outcome::Nothing => ("Nothing", None),
     }
 }
 
@@ -97,35 +86,36 @@ fn fault_word(fault: &NodeFault) -> &'static str {
     }
 }
 
-// How a table has an answer or a fault.
-fn answer_text(alloc: Global, answer: &Result<Outcome, NodeFault>) -> Result<String, NoMemory> {
-    match answer {
-        Ok(outcome) => outcome_text(alloc, outcome),
-        Err(fault) => alone(alloc, fault_word(fault)),
-    }
-}
-
 // How a table has the last entry: what it is, and for what.
-fn last_text(alloc: Global, entries: &[Entry]) -> Result<String, NoMemory> {
+fn last_said(entries: &[Entry]) -> Said {
     match entries.last() {
-        Some(Entry::Claim { interval, .. }) => numbered(alloc, "Claim", u64::from(*interval)),
-        Some(Entry::Inject { line, .. }) => numbered(alloc, "Inject", u64::from(*line)),
-        Some(Entry::Handle { id, .. }) => numbered(alloc, "Handle", id.commit),
-        Some(Entry::Fire { mark, .. }) => numbered(alloc, "Fire", *mark),
-        Some(Entry::Ack { id, .. }) => numbered(alloc, "Ack", id.commit),
-        Some(Entry::Purge { floor, .. }) => numbered(alloc, "Purge", *floor),
-        None => alone(alloc, "none"),
+        Some(Entry::Claim { interval, .. }) => ("Claim", Some(u64::from(*interval))),
+        Some(Entry::Inject { line, .. }) => ("Inject", Some(u64::from(*line))),
+        Some(Entry::Handle { id, .. }) => ("Handle", Some(id.commit)),
+        Some(Entry::Fire { mark, .. }) => ("Fire", Some(*mark)),
+        Some(Entry::Ack { id, .. }) => ("Ack", Some(id.commit)),
+        Some(Entry::Purge { floor, .. }) => ("Purge", Some(*floor)),
+        None => ("none", None),
     }
 }
 
 // How a table has the end of a drain.
-fn drain_text<K: Keeper>(
+fn drain_said<K: Keeper>(alloc: Global, world: &mut World<'_, K, Kinds>) -> Said {
+    match world.drain(alloc) {
+        Ok(()) => ("Ok", None),
+        Err(fault) => (fault_word(&fault), None),
+    }
+}
+
+// How a table has what the step of a line answers.
+fn step_said<K: Keeper>(
     alloc: Global,
     world: &mut World<'_, K, Kinds>,
-) -> Result<String, NoMemory> {
-    match world.drain(alloc) {
-        Ok(()) => alone(alloc, "Ok"),
-        Err(fault) => alone(alloc, fault_word(&fault)),
+    line: &str,
+) -> Result<Said, NoMemory> {
+    match answer(alloc, world, line)? {
+        Ok(outcome) => Ok(outcome_said(&outcome)),
+        Err(fault) => Ok((fault_word(&fault), None)),
     }
 }
 
@@ -134,66 +124,103 @@ fn said<K: Keeper>(
     alloc: Global,
     world: &mut World<'_, K, Kinds>,
     asked: &str,
-) -> Result<String, NoMemory> {
+) -> Result<Said, NoMemory> {
     if asked == "drain" {
-        return drain_text(alloc, world);
+        return Ok(drain_said(alloc, world));
     }
     if asked == "count" {
-        return numbered(alloc, "entries", world.book().history().len() as u64);
+        return Ok(("entries", Some(world.book().history().len() as u64)));
     }
     if asked == "last" {
-        return last_text(alloc, world.book().history().entries());
+        return Ok(last_said(world.book().history().entries()));
     }
-    let found = answer(alloc, world, asked)?;
-    answer_text(alloc, &found)
+    step_said(alloc, world, asked)
 }
 
-// Looks at one line of a table.
+// Whether an answer is written so.
+fn is_written(alloc: Global, said: Said, want: &str) -> Result<bool, NoMemory> {
+    match said {
+        (word, None) => Ok(word == want),
+        (word, Some(number)) => {
+            let text = format!(in alloc; "{word} {number}")?;
+            Ok(text.as_str() == want)
+        }
+    }
+}
+
+// Whether one line of a table holds.
 fn holds<K: Keeper>(
-    rt: &impl Abort,
     alloc: Global,
     world: &mut World<'_, K, Kinds>,
     line: &str,
-) -> Result<(), Fail> {
-    let Some((asked, want)) = line.split_once(" = ") else {
-        return Err(NoMemory)?;
-    };
-    let text = said(alloc, world, asked)?;
-    assert_eq!(rt; text.as_str(), want, "{line}");
-    Ok(())
+) -> Result<bool, NoMemory> {
+    match line.split_once(" = ") {
+        Some((asked, want)) => {
+            let answer = said(alloc, world, asked)?;
+            is_written(alloc, answer, want)
+        }
+        None => Ok(false),
+    }
 }
 
-// Does each step of a table, and looks at its answer.
-pub(crate) fn plays<K: Keeper>(
-    rt: &impl Abort,
+// Does each step of a table, and answers the number of the first line that does not hold, from 1, or 0.
+fn first_wrong<K: Keeper>(
     alloc: Global,
     world: &mut World<'_, K, Kinds>,
     table: &str,
-) -> Result<(), Fail> {
+) -> Result<u64, NoMemory> {
+    let mut number: u64 = 0;
     for line in table.split('\n') {
-        holds(rt, alloc, world, line)?;
+        number = number.saturating_add(1);
+        if !holds(alloc, world, line)? {
+            return Ok(number);
+        }
     }
-    Ok(())
+    Ok(0)
 }
 
-// Does a table over a new world of this event file and keeper, whose book takes so many entries.
-pub(crate) fn plays_over<K: Keeper>(
-    rt: &impl Abort,
+/// The number of the first line of a table that does not hold, or 0, over a new world of a topology and
+/// an event file and this keeper, whose book takes so many entries.
+pub(crate) fn wrong_over<K: Keeper>(
     alloc: Global,
-    events: &str,
+    files: (&str, &str),
     keeper: K,
     limit: u64,
     table: &str,
-) -> Result<(), Fail>
+) -> Result<u64, NoMemory>
     requires { limit ≤ 2 ^ 32 }
 {
-    let case = case(alloc, events)?;
+    let (topology, events) = files;
+    let case = case(alloc, topology, events)?;
     let mut world = world(alloc, &case, keeper, limit)?;
-    plays(rt, alloc, &mut world, table)
+    first_wrong(alloc, &mut world, table)
 }
 
-// Does a table over the three records and a keeper in memory.
-pub(crate) fn plays_all(rt: &impl Abort, alloc: Global, table: &str) -> Result<(), Fail> {
-    let keeper = keeper(alloc, &[])?;
-    plays_over(rt, alloc, EVENTS, keeper, MOST, table)
+/// The same over a keeper in memory whose calls of these numbers fail.
+pub(crate) fn wrong_line(
+    alloc: Global,
+    files: (&str, &str),
+    failing: &[u64],
+    limit: u64,
+    table: &str,
+) -> Result<u64, NoMemory>
+    requires { limit ≤ 2 ^ 32 }
+{
+    let keeper = keeper(alloc, failing)?;
+    wrong_over(alloc, files, keeper, limit, table)
+}
+
+/// The same over a book that takes as many entries as any.
+pub(crate) fn wrong_where(
+    alloc: Global,
+    files: (&str, &str),
+    failing: &[u64],
+    table: &str,
+) -> Result<u64, NoMemory> {
+    wrong_line(alloc, files, failing, MOST, table)
+}
+
+/// The same over the count, its three records, and a keeper that does not fail.
+pub(crate) fn wrong_in(alloc: Global, table: &str) -> Result<u64, NoMemory> {
+    wrong_where(alloc, (COUNT, EVENTS), &[], table)
 }

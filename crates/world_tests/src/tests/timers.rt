@@ -1,12 +1,10 @@
 //! Reports, timers and purges.
-use super::fixtures::{MARKED, MOST, keeper};
-use super::tables::{plays_all, plays_over};
+use super::fixtures::{COUNT, MARKED};
+use super::tables::{wrong_in, wrong_where};
 use std::test::Fail;
 
 // A timer fires once its interval's mark is at its time, and not while a record is prepared.
-#[test]
-fn a_timer_fires_when_it_is_due(rt: HostRuntime) -> Result<(), Fail> {
-    let table = "claim 0 0 = Claimed 0
+const DUE: &str = "claim 0 0 = Claimed 0
 claim 0 1 = Claimed 1
 report 0 0 = Marked 0
 fire 0 1 = Nothing
@@ -47,14 +45,9 @@ count = entries 11
 drain = Ok
 last = Claim 1
 count = entries 13";
-    let keeper = keeper(rt.alloc(), &[])?;
-    plays_over(&rt, rt.alloc(), MARKED, keeper, MOST, table)
-}
 
 // The next owner of an interval reports what its last owner did.
-#[test]
-fn the_next_owner_reports_the_same(rt: HostRuntime) -> Result<(), Fail> {
-    let table = "claim 0 0 = Claimed 0
+const REPORTED: &str = "claim 0 0 = Claimed 0
 claim 0 1 = Claimed 1
 inject 0 0 = Committed 2
 send 0 = Sent 1
@@ -72,15 +65,10 @@ count = entries 7
 drain = Ok
 last = Purge 13
 count = entries 14";
-    let keeper = keeper(rt.alloc(), &[])?;
-    plays_over(&rt, rt.alloc(), MARKED, keeper, MOST, table)
-}
 
 // A row forgets where it has seen ids and the floor is above its own; the floor stays where the record
 // is not acknowledged.
-#[test]
-fn nothing_to_forget_is_nothing(rt: HostRuntime) -> Result<(), Fail> {
-    let table = "claim 0 0 = Claimed 0
+const FORGOTTEN: &str = "claim 0 0 = Claimed 0
 claim 0 1 = Claimed 1
 purge 0 0 = Nothing
 purge 0 1 = Nothing
@@ -103,5 +91,22 @@ count = entries 7
 drain = Ok
 last = Purge 17
 count = entries 18";
-    plays_all(&rt, rt.alloc(), table)
+
+#[test]
+fn timers_fire_when_they_are_due(rt: HostRuntime) -> Result<(), Fail> {
+    for (name, table) in [
+        ("a timer fires when it is due", DUE),
+        ("the next owner reports the same", REPORTED),
+    ] {
+        let line = wrong_where(rt.alloc(), (COUNT, MARKED), &[], table)?;
+        assert!(rt; line == 0, "{name}: line {line}");
+    }
+    Ok(())
+}
+
+#[test]
+fn nothing_to_forget_is_nothing(rt: HostRuntime) -> Result<(), Fail> {
+    let line = wrong_in(rt.alloc(), FORGOTTEN)?;
+    assert!(rt; line == 0, "line {line}");
+    Ok(())
 }

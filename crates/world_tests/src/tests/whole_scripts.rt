@@ -1,13 +1,11 @@
 //! Whole scripts, whose answers are dropped.
-use super::fixtures::{EVENTS, MOST, case, keeper, world};
+use super::fixtures::{COUNT, EVENTS, MOST, case, keeper, world};
 use super::tables::schedule;
 use computations::Kinds;
-use mw_types::{Entry, NoMemory, RecordId};
+use mw_types::{Entry, NoMemory};
 use node::NodeFault;
 use row_keeper::Keeper;
-use run_history::History;
 use std::alloc::Global;
-use std::process::Abort;
 use std::test::Fail;
 use world::{World, run_script};
 
@@ -33,43 +31,56 @@ fn runs<K: Keeper>(
     Ok(run_script(alloc, world, schedule.steps()))
 }
 
-// The entry of this number is that the record of that one was handled.
-fn handles(rt: &impl Abort, history: &History, number: usize, commit: u64) {
-    match history.entries().get(number) {
-        Some(
-            Entry::Handle {
-                id: RecordId { commit: of, .. },
-                ..
-            },
-        ) => assert_eq!(rt; *of, commit),
-        _ => assert!(rt; false, "no record is handled at {number}"),
+// Does the steps of a text, and says whether they end so with so many entries.
+fn leaves<K: Keeper>(
+    alloc: Global,
+    world: &mut World<'_, K, Kinds>,
+    text: &str,
+    is_ok: bool,
+    entries: usize,
+) -> Result<bool, NoMemory> {
+    let ends_so = runs(alloc, world, text)?.is_ok() == is_ok;
+    Ok(ends_so && world.book().history().len() == entries)
+}
+
+// Drains, and says whether that goes well and leaves so many entries.
+fn drains<K: Keeper>(alloc: Global, world: &mut World<'_, K, Kinds>, entries: usize) -> bool {
+    world.drain(alloc).is_ok() && world.book().history().len() == entries
+}
+
+// Whether the entry of this number is that the record of that one was handled.
+fn handles(entries: &[Entry], number: usize, commit: u64) -> bool {
+    match entries.get(number) {
+        Some(Entry::Handle { id, .. }) => id.commit == commit,
+        _ => false,
     }
 }
 
 // The drain claims as entries 3 and 4, and handles the record as entry 5.
+fn is_handled_by_the_drain(alloc: Global) -> Result<bool, NoMemory> {
+    let case = case(alloc, COUNT, EVENTS)?;
+    let mut world = world(alloc, &case, keeper(alloc, &[])?, MOST)?;
+    let is_left = leaves(alloc, &mut world, UNWRITTEN, true, 3)?;
+    let is_drained = drains(alloc, &mut world, 16);
+    Ok(is_left && is_drained && handles(world.into_book().history().entries(), 5, 2))
+}
+
 #[test]
 fn a_drain_handles_what_was_prepared(rt: HostRuntime) -> Result<(), Fail> {
-    let alloc = rt.alloc();
-    let case = case(alloc, EVENTS)?;
-    let mut world = world(alloc, &case, keeper(alloc, &[])?, MOST)?;
-    assert!(rt; runs(alloc, &mut world, UNWRITTEN)?.is_ok());
-    assert_eq!(rt; world.book().history().len(), 3);
-    assert!(rt; world.drain(alloc).is_ok());
-    let book = world.into_book();
-    assert_eq!(rt; book.history().len(), 16);
-    handles(&rt, book.history(), 5, 2);
+    assert!(rt; is_handled_by_the_drain(rt.alloc())?);
     Ok(())
 }
 
-// A script ends at its first fault, and its later steps are not done.
+// The fourth call of the keeper fails, which the script's third step makes.
+fn ends_at_the_fault(alloc: Global) -> Result<bool, NoMemory> {
+    let case = case(alloc, COUNT, EVENTS)?;
+    let mut world = world(alloc, &case, keeper(alloc, &[3])?, MOST)?;
+    let ends = leaves(alloc, &mut world, UNWRITTEN, false, 2)?;
+    Ok(ends && leaves(alloc, &mut world, "inject 0 0\nclaim 1 1", true, 4)?)
+}
+
 #[test]
 fn a_script_ends_at_a_fault(rt: HostRuntime) -> Result<(), Fail> {
-    let alloc = rt.alloc();
-    let case = case(alloc, EVENTS)?;
-    let mut world = world(alloc, &case, keeper(alloc, &[3])?, MOST)?;
-    assert!(rt; runs(alloc, &mut world, UNWRITTEN)?.is_err());
-    assert_eq!(rt; world.book().history().len(), 2);
-    assert!(rt; runs(alloc, &mut world, "inject 0 0\nclaim 1 1")?.is_ok());
-    assert_eq!(rt; world.into_book().history().len(), 4);
+    assert!(rt; ends_at_the_fault(rt.alloc())?);
     Ok(())
 }
