@@ -12,7 +12,7 @@ use Rattle.mw_types.specs.declared.entry.Entry.{Entry}
 use Rattle.mw_types.specs.declared.entry.Entry.TheVariants.{Claim, Inject, Handle, Fire, Ack, Purge}
 use Rattle.run_history.specs.Made.{row_written}
 use Rattle.run_history.specs.Fences.{IsClaimed, is_claim, later_claim, last_claim}
-use Rattle.run_history.proofs.Lists.{none_some, some_same}
+use Rattle.list_lemmas.proofs.Lists.{none_some, some_same}
 use Rattle.run_history.proofs.Claims.{last_claim-push}
 use Rattle.book.specs.Books.{BookView, LeaseView}
 use Rattle.book.specs.Answers.{IsStaleWhere, IsFullWhere}

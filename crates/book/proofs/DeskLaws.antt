@@ -27,11 +27,6 @@ pub if-telling : {X : Type 0} (told : Option X) (P : Type 0) → IfSome (telling
 if-telling None P is = tt
 if-telling (Some x) P is = is
 
--- a fact that holds anyway holds where rows are told
-pub if-anyway : {X : Type 0} (told : Option X) (P : Type 0) → P → IfSome told (λ _. P)
-if-anyway None P is = tt
-if-anyway (Some x) P is = is
-
 -- a desk tells as long as its book does
 pub telling-same : {X : Type 0} (old new : Option X) → is_some new ≡ is_some old → telling new ≡ telling old
 telling-same None None same = refl

@@ -7,6 +7,7 @@ use Rattle.std.specs.Map.{keys_of}
 use Rattle.std.proofs.lemmas.List.{take_more, take_all, map-append, length-map}
 use Rattle.std.proofs.lemmas.List.Elements.{All-from_recursion, recursion_from_All}
 use Rattle.std.proofs.lemmas.Option.{slice_get_within, get_or_from_slice_get}
+use Rattle.list_lemmas.proofs.Places.{slice_get-some, each-at}
 use Rattle.mw_types.specs.Orders.{row_cmp}
 use Rattle.mw_types.specs.declared.identity.RowName.{RowName}
 use Rattle.mw_types.specs.declared.entry.Entry.{Entry}
@@ -20,8 +21,7 @@ use Rattle.run_history.specs.Cases.{CaseShape, intervals_of}
 use Rattle.run_history.specs.Runs.{run_of}
 use Rattle.run_history.proofs.CaseIntervals.{length-intervals}
 use Rattle.topology.specs.Rules.{interval_count}
-use Rattle.run_history.proofs.Lists.{each-filter}
-use Rattle.history_laws.proofs.StampLaws.{at-each}
+use Rattle.list_lemmas.proofs.Lists.{each-filter}
 use Rattle.history_laws.proofs.StoredLaws.{rows_covered-stored}
 use Rattle.book.specs.Books.{BookView, core_of}
 use Rattle.run_history.specs.Fits.{fits}
@@ -44,12 +44,6 @@ pub found-kept : (case : CaseShape) (history : List Entry) (held : Rows) (bounds
     → AllByRecursion (IsKeepable case (length history)) (rows_covered bounds (run_of case.topology history).rows)
 found-kept case history held bounds is =
     each-filter (IsKeepable case (length history)) (λ (r : RowName × Contents). covers bounds r.0) (run_of case.topology history).rows is.kept
-
--- something stands at each place of a list
-pub some-at : {X : Type 0} (xs : List X) (i : ℕ) → i < length xs → (x : X) × (slice_get xs i ≡ Some x)
-some-at [] i within = absurd (omega (arith, within))
-some-at (x ∷ xs) zero within = (x, refl)
-some-at (x ∷ xs) (suc i) within = some-at xs i (omega (arith, within))
 
 -- what stands at one place of two lists that spell the same
 pub spelled-at : (found : List KeptRow) (rows : List (RowName × Contents)) (i : ℕ) (kept : KeptRow) → map entry_of found ≡ map spelled rows
@@ -81,7 +75,7 @@ kept-at case number found rows i kept each same within at =
         there.1.0 ∙ ap (λ (n : RowName). Some (n, r.1)) (sym name),
         (
           ap (λ (p : RowName × List ℕ). p.1) there.1.1,
-          subst (λ (n : RowName). IsKeepable case number (n, r.1)) (sym name) (at-each (IsKeepable case number) rows i r each there.1.0),
+          subst (λ (n : RowName). IsKeepable case number (n, r.1)) (sym name) (each-at (IsKeepable case number) rows i r each there.1.0),
         ),
       ),
     )
@@ -241,7 +235,7 @@ IsDamaged-read book interval found (refusals.RowDamaged name bytes) lawful there
   untold = told-then book.rows (λ held. HoldsRowsOf book.case book.history held × IsFoundWithin book.case interval found held) _
       (told-both book.rows (HoldsRowsOf book.case book.history) (IsFoundWithin book.case interval found) lawful.held within)
       (λ held p.
-      let bounds = some-at (intervals_of book.case.topology) interval (omega (arith, there, length-intervals book.case.topology)) in
+      let bounds = slice_get-some (intervals_of book.case.topology) interval (omega (arith, there, length-intervals book.case.topology)) in
       let none : refusals.RowDamaged name bytes ≡ refusals.NoMemory = only
       (rows_covered bounds.0 (run_of book.case.topology book.history).rows)
       (found-kept book.case book.history held bounds.0 p.0)

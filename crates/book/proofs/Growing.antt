@@ -1,11 +1,12 @@
 -- A row to whose pending deliveries those of an entry are added, one after another.
-use Rattle.std.proofs.Common.{◌≡◌, ◌≤◌, ◌∙◌, List, [], ◌∷◌, ◌++◌, refl, sym, ap, subst, append_assoc, append-nil}
+use Rattle.std.proofs.Common.{◌≡◌, ◌≤◌, ◌∙◌, List, [], ◌∷◌, ◌++◌, sym, ap, subst, append_assoc, append-nil}
 use Rattle.std.specs.Prelude.{All}
 use Rattle.std.specs.List.{AllByRecursion}
 use Rattle.std.specs.List.Sorted.{IsStrictlySortedBy}
 use Rattle.std.specs.declared.cmp.Ordering.{Ordering}
 use Rattle.std.specs.declared.cmp.Ordering.TheVariants.{Less}
 use Rattle.std.proofs.lemmas.List.Elements.{All-from_recursion, recursion_from_All}
+use Rattle.list_lemmas.proofs.Places.{each-behind}
 use Rattle.mw_types.specs.declared.TheConstants.{MAX_STAMP}
 use Rattle.mw_types.specs.declared.delivery.Delivery.{Delivery}
 use Rattle.row_parts.specs.Contents.{Contents, IsId, delivery_cmp}
@@ -16,11 +17,6 @@ pub record IsGrowing (row grown : Contents) (all left : List Delivery) : Type 0 
   pub same : record grown { pending = grown.pending ++ left } ≡ record row { pending = row.pending ++ all }
   pub ids : AllByRecursion (λ (d : Delivery). IsId d.id) left
   pub stamps : AllByRecursion (λ (d : Delivery). d.item.stamp ≤ MAX_STAMP) left
-
--- what holds of each of two lists together holds of each of the second
-each-behind : {X : Type 0} (P : X → Type 0) (xs ys : List X) → AllByRecursion P (xs ++ ys) → AllByRecursion P ys
-each-behind P [] ys each = each
-each-behind P (x ∷ xs) ys each = each-behind P xs ys each.1
 
 -- in a list in order each before a place is below what stands there
 below-place : {X : Type 0} (R : X → X → Ordering) (xs : List X) (d : X) (ys : List X) → IsStrictlySortedBy R (xs ++ d ∷ ys)

@@ -26,7 +26,7 @@ use Rattle.run_history.specs.Fences.{IsFenced}
 use Rattle.run_history.specs.HistoryLines.{HasLine}
 use Rattle.run_history.specs.Finished.{unfinished, work_in}
 use Rattle.run_history.specs.Stored.{stored_rows}
-use Rattle.run_history.proofs.Lists.{each-weaker}
+use Rattle.list_lemmas.proofs.Lists.{each-weaker}
 use Rattle.history_laws.proofs.RowSteps.{same_row, made_row, row_of-here}
 use Rattle.run_history.proofs.Fenced.{IsFenced-push, claim-under}
 use Rattle.history_laws.proofs.LowLaws.{rows-in_order}

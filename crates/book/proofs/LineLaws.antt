@@ -8,7 +8,7 @@ use Rattle.mw_types.specs.declared.entry.Entry.{Entry}
 use Rattle.row_parts.specs.Contents.{IsId, IsDelivery, same_id}
 use Rattle.run_history.specs.HistoryLines.{HasLine}
 use Rattle.run_history.specs.Made.{found_delivery}
-use Rattle.run_history.proofs.Lists.{find-passes, find-each}
+use Rattle.list_lemmas.proofs.Lists.{find-passes, find-each}
 use Rattle.history_laws.proofs.IdLaws.{same_id-true}
 
 -- each entry of a history has a line, where one more that has one is appended

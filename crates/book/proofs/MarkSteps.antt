@@ -17,7 +17,7 @@ use Rattle.run_history.proofs.CaseIntervals.{length-intervals}
 use Rattle.run_history.specs.Fences.{is_claim, last_claim}
 use Rattle.run_history.specs.Inputs.{IsRunnable}
 use Rattle.run_history.specs.Marks.{IsSafe}
-use Rattle.run_history.proofs.Lists.{none_some}
+use Rattle.list_lemmas.proofs.Lists.{none_some}
 use Rattle.run_history.proofs.Claims.{last_claim-push}
 use Rattle.history_laws.proofs.MarkLaws.{IsSafe-stays}
 use Rattle.history_laws.proofs.ReportLaws.{IsSafe-greater}

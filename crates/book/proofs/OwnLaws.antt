@@ -5,6 +5,7 @@ use Rattle.std.specs.Option.{is_some, option_map_or}
 use Rattle.std.proofs.lemmas.Bool.{eqb-true, eq-eqb}
 use Rattle.std.proofs.lemmas.List.{take_all, drop_all, append-nil}
 use Rattle.std.proofs.lemmas.List.Elements.{All-nil}
+use Rattle.list_lemmas.proofs.Told.{if-anyway}
 use Rattle.mw_types.specs.declared.identity.RecordId.{RecordId}
 use Rattle.mw_types.specs.declared.identity.RowName.{RowName}
 use Rattle.mw_types.specs.declared.entry.Entry.{Entry}
@@ -33,7 +34,7 @@ use Rattle.book.specs.declared.answers.Claimed.{Claimed}
 use Rattle.book.specs.declared.answers.Written.{Written}
 use Rattle.book.specs.declared.proposal.Proposal.{Proposal}
 use Rattle.book.specs.declared.proposal.Proposal.TheVariants as proposals
-use Rattle.book.proofs.DeskLaws.{telling-if, if-telling, if-anyway, telling-same, IsRowSeen-told, MaySettle-told, IsOwnWork-told, IsWritten-telling, IsWrittenBy-telling, AreRowsOf-telling}
+use Rattle.book.proofs.DeskLaws.{telling-if, if-telling, telling-same, IsRowSeen-told, MaySettle-told, IsOwnWork-told, IsWritten-telling, IsWrittenBy-telling, AreRowsOf-telling}
 use Rattle.book.proofs.Numbers.{drop-front, numbers_from-append}
 use Rattle.book.proofs.SeenRows.{part-there, told-then}
 

@@ -6,7 +6,7 @@ use Rattle.std.proofs.lemmas.List.{append-nil}
 use Rattle.mw_types.specs.Causes.{HasCause}
 use Rattle.run_history.specs.Cases.{CaseShape}
 use Rattle.run_history.specs.Fences.{IsCurrent, IsOvertakenBy, last_claim}
-use Rattle.run_history.proofs.Lists.{some_same}
+use Rattle.list_lemmas.proofs.Lists.{some_same}
 use Rattle.watermark.specs.Marks.{mark_of}
 use Rattle.book.specs.Answers.{HasStayed, IsFullWhere, IsSameBook, IsStaleReport, IsStaleWhere}
 use Rattle.book.specs.Books.{BookView, LeaseView, core_of}

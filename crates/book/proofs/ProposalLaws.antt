@@ -6,6 +6,7 @@ use Rattle.std.specs.List.{list_all}
 use Rattle.std.proofs.lemmas.Bool.{and_from, le-leb}
 use Rattle.std.proofs.lemmas.List.{take-append-drop}
 use Rattle.std.proofs.lemmas.List.Folds.{list_all-append}
+use Rattle.list_lemmas.proofs.Tests.{both_true}
 use Rattle.mw_types.specs.declared.identity.RowName.{RowName}
 use Rattle.mw_types.specs.declared.record.Record.{Record}
 use Rattle.mw_types.specs.declared.record.Production.{Production}
@@ -45,7 +46,7 @@ use Rattle.book.specs.Proposals.{IsNextLine, IsHandling, IsFiring, IsDueUnder, I
 use Rattle.book.specs.Appending.{IsNext}
 use Rattle.book.specs.declared.proposal.Proposal.{Proposal}
 use Rattle.book.specs.declared.proposal.Proposal.TheVariants as proposals
-use Rattle.run_history.proofs.Fitting.{both, fits-parts, sent_each-later}
+use Rattle.run_history.proofs.Fitting.{fits-parts, sent_each-later}
 use Rattle.book.proofs.SentLaws.{sent-before}
 use Rattle.book.proofs.SeenRows.{told-both, told-then, row-front, IsNext-seen, IsWritten-next}
 
@@ -173,7 +174,7 @@ fits-injected : (case : CaseShape) (n : ℕ) (name : RowName) (row left : Conten
 fits-injected case n name row left productions late fit injector there state timers pending =
     let parts = fits-parts case n name row fit in
     let lines = length (source_of case name.part) in
-    let old = both (is_cursor_within lines row.state) (length row.timers == 0)
+    let old = both_true (is_cursor_within lines row.state) (length row.timers == 0)
     (sym (suits-injector case name.part row injector) ∙ parts.0) in
     and_from (suits_part case name.part left) (list_all (is_sent_before case.topology (n + 1)) left.pending)
     (suits-injector case name.part left injector

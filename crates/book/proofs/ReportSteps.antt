@@ -13,7 +13,7 @@ use Rattle.run_history.specs.Watermarks.{least, source_mark}
 use Rattle.run_history.specs.Fences.{IsFenced, HasSeen, last_claim, known}
 use Rattle.run_history.specs.Inputs.{IsRunnable}
 use Rattle.run_history.specs.Marks.{own_work}
-use Rattle.run_history.proofs.Lists.{some_same}
+use Rattle.list_lemmas.proofs.Lists.{some_same}
 use Rattle.history_laws.proofs.Along.{run_of-append, AreLegal-apart, along_entries}
 use Rattle.history_laws.proofs.FenceLaws.{claim-within, row_of-seen}
 use Rattle.run_history.proofs.Known.{known-last}

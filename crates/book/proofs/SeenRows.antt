@@ -20,7 +20,7 @@ use Rattle.run_history.proofs.RunLaws.{run_of-push}
 use Rattle.run_history.specs.Fences.{IsClaimed, IsFenced, HasSeen, last_claim, sequencer_of, known}
 use Rattle.run_history.specs.HistoryLines.{HasLine}
 use Rattle.run_history.specs.Finished.{is_handled}
-use Rattle.run_history.proofs.Lists.{none_some}
+use Rattle.list_lemmas.proofs.Lists.{none_some}
 use Rattle.history_laws.proofs.FenceLaws.{claim-within, row_of-seen}
 use Rattle.run_history.proofs.Known.{known-last}
 use Rattle.run_history.proofs.Claims.{last_claim-front}

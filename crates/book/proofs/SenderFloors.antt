@@ -22,7 +22,7 @@ use Rattle.run_history.specs.Runs.{Run, run_of, row_of, row_in}
 use Rattle.run_history.specs.Legal.{floor_of}
 use Rattle.run_history.proofs.Lookups.{each_found}
 use Rattle.run_history.specs.Finished.{all_pending}
-use Rattle.run_history.proofs.Lists.{none_some, each-weaker, each-flat_map, flat_map-each, found_of_each}
+use Rattle.list_lemmas.proofs.Lists.{none_some, each-weaker, each-flat_map, flat_map-each, found_of_each}
 use Rattle.history_laws.proofs.LowLaws.{AreRowsInOrder, rows-in_order}
 use Rattle.history_laws.proofs.FloorLaws.{floor_of-bound, row_of-above}
 use Rattle.history_laws.proofs.IdLaws.{next-length}

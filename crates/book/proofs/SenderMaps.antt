@@ -6,6 +6,7 @@ use Rattle.std.specs.BTreeMap.{insert_entry, is_at}
 use Rattle.std.proofs.lemmas.Map.Lookups.{exact_unsigned}
 use Rattle.std.proofs.lemmas.Bool.{eqb-true, eq-eqb, ltb-true, lt-ltb, cases_lt}
 use Rattle.std.specs.Cmp.{tied_itself, first_so}
+use Rattle.list_lemmas.proofs.Tests.{or_true, equal_from_test}
 use Rattle.mw_types.specs.declared.identity.RecordId.{RecordId}
 use Rattle.mw_types.specs.declared.identity.RowName.{RowName}
 use Rattle.mw_types.specs.Orders.{id_cmp}
@@ -13,7 +14,7 @@ use Rattle.mw_types.proofs.OrderLaws.{id_cmp-total}
 use Rattle.row_parts.specs.Contents.{same_id}
 use Rattle.run_history.proofs.Lookups.{lookup-insert_entry}
 use Rattle.history_laws.proofs.IdLaws.{same_id-itself, same_id-true}
-use Rattle.history_laws.proofs.RowSteps.{both_Equal, from_tie}
+use Rattle.history_laws.proofs.RowSteps.{both_Equal}
 use Rattle.book.specs.Senders.{sender_of}
 use Rattle.book.specs.Sending.{is_among_sent, HasSent, HasForgotten}
 
@@ -31,7 +32,7 @@ is_eq-id_cmp a b = same_test (is_eq (id_cmp a b)) (same_id a b)
   where
     tied : is_eq (id_cmp a b) ≡ true → a ≡ b
     tied tie =
-        let parts = both_Equal (nat_cmp a.commit b.commit) (nat_cmp a.index b.index) (from_tie (id_cmp a b) tie) in
+        let parts = both_Equal (nat_cmp a.commit b.commit) (nat_cmp a.index b.index) (equal_from_test (id_cmp a b) tie) in
         let p = exact_unsigned a.commit b.commit parts.0 in
         let q = exact_unsigned a.index b.index parts.1 in
         λ i. record { commit = p i; index = q i }
@@ -41,11 +42,6 @@ same_id-turned : (a b : RecordId) → same_id a b ≡ same_id b a
 same_id-turned a b = same_test (same_id a b) (same_id b a)
     (λ same. subst (λ (i : RecordId). same_id i a ≡ true) (same_id-true a b same) (same_id-itself a))
     (λ same. subst (λ (i : RecordId). same_id i b ≡ true) (same_id-true b a same) (same_id-itself b))
-
--- what is or is so, is so
-or_true : (b : Bool) → (b || true) ≡ true
-or_true true = refl
-or_true false = refl
 
 -- below the next number are a number and those below it
 below-next : (i n : ℕ) → nat_lt i (n + 1) ≡ ((i == n) || nat_lt i n)

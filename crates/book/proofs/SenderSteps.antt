@@ -21,7 +21,7 @@ use Rattle.row_parts.specs.Contents.{Contents, same_id, without_delivery}
 use Rattle.run_history.specs.Made.{found_delivery, row_written, deliveries_of, deliveries_made, delivery_at, productions_of, late_cause}
 use Rattle.run_history.specs.Runs.{Run, run_of, row_of, followed, changed}
 use Rattle.run_history.proofs.RunLaws.{run_of-push}
-use Rattle.run_history.proofs.Lists.{none_some, some_same, each-weaker}
+use Rattle.list_lemmas.proofs.Lists.{none_some, some_same, each-weaker}
 use Rattle.history_laws.proofs.IdLaws.{same_id-itself, same_id-true, next-length}
 use Rattle.history_laws.proofs.RowSteps.{same_row, on_row_or_not, row_of-here, row_of-elsewhere, row_of-in_order, pending-in_order}
 use Rattle.book.specs.Senders.{IsPendingIn, AreSenders, sender_of}

@@ -6,6 +6,8 @@ use Rattle.std.specs.List.Sorted.{IsStrictlySortedBy}
 use Rattle.std.proofs.lemmas.List.Elements.{All-from_recursion, recursion_from_All}
 use Rattle.std.proofs.lemmas.List.{length-map}
 use Rattle.std.proofs.lemmas.Bool.{and_from, lt-ltb, le-leb, ltb-true}
+use Rattle.list_lemmas.proofs.Places.{each-passes}
+use Rattle.list_lemmas.proofs.Tests.{both_true}
 use Rattle.mw_types.specs.declared.TheConstants.{MAX_STAMP}
 use Rattle.mw_types.specs.declared.identity.RowName.{RowName}
 use Rattle.mw_types.specs.declared.record.Record.{Record}
@@ -17,11 +19,11 @@ use Rattle.topology.specs.declared.subscription.Subscription.{Subscription}
 use Rattle.topology.specs.Shapes.{Shape, ComputationShape, Reading, consumers_of, subscriptions_to, stream_of, injectors_of, parts_of}
 use Rattle.row_parts.specs.Contents.{IsId, delivery_cmp}
 use Rattle.run_history.specs.Made.{deliveries_made, delivery_at, sends_of, produced, row_to}
-use Rattle.run_history.proofs.Lists.{each-all, each-map, each-weaker, each-both, each-flat_map, each-enumerate, sorted-append}
+use Rattle.list_lemmas.proofs.Lists.{each-all, each-map, each-weaker, each-both, each-flat_map, each-enumerate, sorted-append}
 use Rattle.history_laws.proofs.Made.{each_of_commit, deliveries_made-each}
 use Rattle.history_laws.proofs.IdLaws.{made-ascend, across}
 use Rattle.run_history.specs.Fits.{is_sent_before}
-use Rattle.run_history.proofs.Fitting.{both, each-passes, passes-each}
+use Rattle.run_history.proofs.Fitting.{passes-each}
 
 -- ---- ids
 
@@ -88,8 +90,8 @@ pending-sent shape part productions late commit pending sorted before =
     sorted-append delivery_cmp pending (deliveries_made shape part productions late commit) sorted (made-ascend shape [] commit entry)
     (across commit pending (deliveries_made shape part productions late commit)
     (each-weaker (λ (d : Delivery). is_sent_before shape commit d ≡ true) (λ (d : Delivery). d.id.commit < commit)
-    (λ d is. ltb-true d.id.commit commit (both (nat_lt d.id.commit commit) (nat_le (injectors_of shape) d.to.part)
-    (both (nat_lt d.id.commit commit && nat_le (injectors_of shape) d.to.part) (nat_lt d.to.part (parts_of shape)) is).0).0)
+    (λ d is. ltb-true d.id.commit commit (both_true (nat_lt d.id.commit commit) (nat_le (injectors_of shape) d.to.part)
+    (both_true (nat_lt d.id.commit commit && nat_le (injectors_of shape) d.to.part) (nat_lt d.to.part (parts_of shape)) is).0).0)
     pending (each-passes (is_sent_before shape commit) pending before))
     (each_of_commit shape [] commit entry))
 
@@ -117,7 +119,7 @@ consumers-range : (stream : List ℕ) (n : ℕ) (cs : List ComputationShape)
     → AllByRecursion (IsConsumer n (n + length cs)) (flat_map (subscriptions_to stream) (enumerate_from n cs))
 consumers-range stream n [] = tt
 consumers-range stream n (c ∷ cs) =
-    Rattle.run_history.proofs.Lists.each-append (IsConsumer n (n + length (c ∷ cs))) (subscriptions_to stream (n, c)) _
+    Rattle.list_lemmas.proofs.Lists.each-append (IsConsumer n (n + length (c ∷ cs))) (subscriptions_to stream (n, c)) _
     (each-map (IsConsumer n (n + length (c ∷ cs))) (λ (r : Reading). record { to = n; by = r.by }) _
     (each-all _ (λ r. (omega arith, omega arith)) _))
     (each-weaker (IsConsumer (n + 1) ((n + 1) + length cs)) (IsConsumer n (n + length (c ∷ cs)))

@@ -5,7 +5,7 @@ use Rattle.std.proofs.lemmas.List.{take_more, take_all}
 use Rattle.std.proofs.lemmas.List.Elements.{All-append, All-from_recursion}
 use Rattle.row_keeper.specs.Rows.{Rows, entry_of}
 use Rattle.row_keeper.specs.declared.keeper.KeptRow.{KeptRow}
-use Rattle.run_history.proofs.Lists.{none_some}
+use Rattle.list_lemmas.proofs.Lists.{none_some}
 
 -- what holds of the first of a list, and of the next
 pub All-more : {X : Type 0} (P : X → Type 0) (xs : List X) (i : ℕ) (d : X) → i < length xs → All P (take i xs)

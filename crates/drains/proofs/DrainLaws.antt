@@ -1,8 +1,9 @@
 -- A whole drain, by what its claims and its turns say.
-use Rattle.std.proofs.Common.{◌≡◌, ◌<◌, ◌≤◌, ℕ, Bool, true, false, List, length, refl, sym, ◌∙◌, subst, arith}
+use Rattle.std.proofs.Common.{◌≡◌, ◌<◌, ◌≤◌, ℕ, Bool, true, false, List, length, sym, ◌∙◌, subst, arith}
 use Rattle.std.specs.Prelude.{Option, Some, None, IsSome, IfSome}
 use Rattle.std.specs.Option.{is_some}
 use Rattle.std.proofs.lemmas.Bool.{both_ways}
+use Rattle.list_lemmas.proofs.Told.{if-there}
 use Rattle.mw_types.specs.Causes.{Rose}
 use Rattle.mw_types.specs.declared.entry.Entry.{Entry}
 use Rattle.mw_types.specs.declared.delivery.Delivery.{Delivery}
@@ -28,11 +29,6 @@ use Rattle.drains.proofs.LeastWorkLaws.{IsFound, forget-turned, found-handled, s
 use Rattle.drains.proofs.TurnLaws.{stepped-on}
 
 -- ---- where the rows are told
-
--- what holds where the rows are told holds of them
-pub told-rows : {X : Type 0} {F : Type 0} (o : Option X) → (IsSome o → F) → IfSome o (λ _. F)
-told-rows None f = tt
-told-rows (Some x) f = f refl
 
 -- and what holds of them holds where they are told
 rows-told : {X : Type 0} {F : Type 0} (o : Option X) → IsSome o → IfSome o (λ _. F) → F
@@ -83,7 +79,7 @@ pub goes-after : (old mid new : BookView) → HasGone old mid → HasClaimedAll 
     → WhereTold mid ((from : ℕ) → HasClaimedAll mid.case from mid.history → IsDraining mid.case from mid.history
     → IsDraining mid.case from new.history)
     → IfSome old.rows (λ _. IsDraining old.case (length old.history) new.history)
-goes-after old mid new gone claimed draining goes = told-rows old.rows (λ told.
+goes-after old mid new gone claimed draining goes = if-there old.rows (λ told.
     subst (λ (c : CaseShape). HasClaimedAll c (length old.history) mid.history → IsDraining c (length old.history) mid.history
     → IsDraining c (length old.history) new.history) gone.case (goes (gone.tells ∙ told) (length old.history)) claimed draining)
 
@@ -91,7 +87,7 @@ goes-after old mid new gone claimed draining goes = told-rows old.rows (λ told.
 pub ends-after : (old mid new : BookView) → HasGone old mid → HasClaimedAll old.case (length old.history) mid.history
     → WhereTold mid ((from : ℕ) → HasClaimedAll mid.case from mid.history → HasEnded mid.case from new.history)
     → IfSome old.rows (λ _. HasEnded old.case (length old.history) new.history)
-ends-after old mid new gone claimed ends = told-rows old.rows (λ told.
+ends-after old mid new gone claimed ends = if-there old.rows (λ told.
     subst (λ (c : CaseShape). HasClaimedAll c (length old.history) mid.history → HasEnded c (length old.history) new.history)
     gone.case (ends (gone.tells ∙ told) (length old.history)) claimed)
 
@@ -99,7 +95,7 @@ ends-after old mid new gone claimed ends = told-rows old.rows (λ told.
 pub ended-finished : (old new : BookView) → new.case ≡ old.case → is_some new.rows ≡ is_some old.rows
     → IsLawful new.case (core_of new) → IfSome old.rows (λ _. HasEnded old.case (length old.history) new.history)
     → IfSome old.rows (λ _. IsFinished new.case (run_of new.case.topology new.history))
-ended-finished old new same tells lawful ended = told-rows old.rows (λ told.
+ended-finished old new same tells lawful ended = if-there old.rows (λ told.
     let done = subst (λ (c : CaseShape). HasEnded c (length old.history) new.history) (sym same) (rows-told old.rows told ended) in
     injected-finished new.case (length old.history) new.history lawful.runnable
     (lawful-rows new.case new.history new.rows (tells ∙ told) lawful.held).0 done.earlier)
@@ -107,7 +103,7 @@ ended-finished old new same tells lawful ended = told-rows old.rows (λ told.
 -- a drain that failed at its claims is a drain
 pub goes-before : (old new : BookView) → IsDraining old.case (length old.history) new.history
     → IfSome old.rows (λ _. IsDraining old.case (length old.history) new.history)
-goes-before old new draining = told-rows old.rows (λ told. draining)
+goes-before old new draining = if-there old.rows (λ told. draining)
 
 -- a fault of the turns is one of the drain
 pub rose-after : (old mid new : BookView) → HasGone old mid → Rose mid.faults new.faults → Rose old.faults new.faults

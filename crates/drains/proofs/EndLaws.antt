@@ -5,6 +5,7 @@ use Rattle.std.specs.List.{AllByRecursion, range_with_len}
 use Rattle.std.specs.Option.{option_map_or}
 use Rattle.std.proofs.lemmas.Bool.{ltb-true, ltb-false, cases_lt}
 use Rattle.std.proofs.lemmas.Option.{slice_get_past}
+use Rattle.list_lemmas.proofs.Places.{range-each}
 use Rattle.mw_types.specs.declared.TheConstants.{MAX_STAMP, END}
 use Rattle.mw_types.specs.declared.identity.RowName.{RowName}
 use Rattle.mw_types.specs.declared.timer.Timer.{Timer}
@@ -20,7 +21,7 @@ use Rattle.run_history.specs.Watermarks.{cursor_of, source_mark, low_watermark}
 use Rattle.run_history.specs.Legal.{IsLegal}
 use Rattle.run_history.specs.Finished.{all_pending, all_timers, has_line, injectors_left, IsFinished}
 use Rattle.run_history.specs.Inputs.{IsRunnable}
-use Rattle.run_history.proofs.Lists.{none_some, each-weaker}
+use Rattle.list_lemmas.proofs.Lists.{none_some, each-weaker}
 use Rattle.history_laws.specs.Ids.{IsSentBy}
 use Rattle.history_laws.proofs.FeedLaws.{feeds-before}
 use Rattle.history_laws.proofs.LowLaws.{AreRowsInOrder, rows-in_order, LowFrom, from-low}
@@ -30,14 +31,6 @@ use Rattle.history_laws.proofs.UnfinishedLaws.{filter-nil}
 use Rattle.history_laws.proofs.WorkLaws.{DueFrom, WaitsFrom, IsWorkFrom, FeedsFrom}
 use Rattle.drains.specs.Drains.{IsDue, HasInjected}
 use Rattle.drains.proofs.Firsts.{none-row_of, nil-rows}
-
--- what holds of each number of a range holds of a number within it
-range-each : (P : ℕ → Type 0) (a n k : ℕ) → AllByRecursion P (range_with_len a n) → a ≤ k → k < a + n → P k
-range-each P a zero k each from to = absurd (omega (arith, from, to))
-range-each P a (suc n) k each from to = elim (cases_lt a k) [
-  | inl less ↦ range-each P (a + 1) n k each.1 (omega (arith, less)) (omega (arith, to))
-  | inr le ↦ let same : a ≡ k = omega (arith, from, le) in subst P same each.0
-]
 
 -- nothing waits where nothing is pending
 none-waits : (shape : Shape) (run : Run) → all_pending run ≡ [] → (ds : List Delivery) → AllByRecursion (IsSentBy shape run) ds → ds ≡ []

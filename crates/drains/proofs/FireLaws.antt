@@ -24,7 +24,7 @@ use Rattle.row_parts.specs.Orders.{timer_cmp-total}
 use Rattle.run_history.specs.Legal.{IsLegal}
 use Rattle.run_history.specs.Runs.{Run, row_of, run_of}
 use Rattle.run_history.specs.Watermarks.{least, low_watermark}
-use Rattle.run_history.proofs.Lists.{none_some, some_same}
+use Rattle.list_lemmas.proofs.Lists.{none_some, some_same}
 use Rattle.history_laws.proofs.LowLaws.{AreRowsInOrder, rows-in_order}
 use Rattle.watermark.specs.Marks.{marks_of}
 use Rattle.book.specs.Books.{BookView, core_of}

@@ -18,7 +18,7 @@ use Rattle.topology.specs.Shapes.{Shape}
 use Rattle.row_parts.specs.Contents.{Contents, fresh}
 use Rattle.run_history.specs.Cases.{fresh_of}
 use Rattle.run_history.specs.Runs.{Run, row_of}
-use Rattle.run_history.proofs.Lists.{each-append, each-weaker, each-map}
+use Rattle.list_lemmas.proofs.Lists.{each-append, each-weaker, each-map}
 use Rattle.run_history.proofs.Lookups.{each_found}
 use Rattle.history_laws.proofs.LowLaws.{AreRowsInOrder, each-apart}
 use Rattle.history_laws.proofs.RowSteps.{same_row}

@@ -20,7 +20,7 @@ use Rattle.row_parts.specs.Contents.{Contents, fresh}
 use Rattle.run_history.specs.Cases.{fresh_of}
 use Rattle.run_history.specs.Runs.{Run, row_of}
 use Rattle.run_history.specs.Finished.{all_pending}
-use Rattle.run_history.proofs.Lists.{found_of_each, each-weaker}
+use Rattle.list_lemmas.proofs.Lists.{found_of_each, each-weaker}
 use Rattle.run_history.proofs.Lookups.{each_found}
 use Rattle.history_laws.proofs.LowLaws.{AreRowsInOrder}
 use Rattle.history_laws.proofs.RowSteps.{both_Equal, same_row}

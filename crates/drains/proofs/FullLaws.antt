@@ -2,6 +2,7 @@
 use Rattle.std.proofs.Common.{◌≡◌, ◌<◌, ◌≤◌, ℕ, true, List, ◌∷◌, ◌++◌, [], length, refl, sym, ◌∙◌, ap, subst, arith, inl, inr}
 use Rattle.std.specs.Prelude.{Option, Some, None, IsSome, IfSome, Contains, Result, Ok, Err, OnErr}
 use Rattle.std.specs.Option.{is_some}
+use Rattle.list_lemmas.proofs.Told.{if-there}
 use Rattle.mw_types.specs.declared.entry.Entry.{Entry}
 use Rattle.mw_types.specs.declared.identity.RecordId.{RecordId}
 use Rattle.mw_types.specs.declared.identity.RowName.{RowName}
@@ -25,7 +26,7 @@ use Rattle.node.specs.declared.outcome.NodeFault.{NodeFault}
 use Rattle.node.specs.declared.outcome.NodeFault.TheVariants as faults
 use Rattle.drains.specs.Drains.{HasClaimedAll, HasEnded}
 use Rattle.drains.specs.Turns.{AreExact, HasAskedOne, HasFailed, HasGone, HasStepped, HasTurned, IsAtWork, IsClaiming, IsDrainingOn, IsFullAsking, IsFullUnended, IsInjected, IsNextIn, IsNextInjector, IsQuiet, IsSettled, IsUnended, WhereTold}
-use Rattle.drains.proofs.DrainLaws.{told-fact-back, told-rows}
+use Rattle.drains.proofs.DrainLaws.{told-fact-back}
 use Rattle.drains.proofs.FireLoop.{IsFiring, firing-turned}
 use Rattle.drains.proofs.InjectLaws.{found-first}
 use Rattle.drains.proofs.OneStep.{ended-none, none_least}
@@ -162,12 +163,12 @@ turns-full start old new node why on failed unended full = λ told.
 -- a drain that failed at its claims has not ended
 pub full-before : (old new : BookView) → (HasClaimedAll old.case (length old.history) new.history → ⊥)
     → IfSome old.rows (λ _. HasEnded old.case (length old.history) new.history → ⊥)
-full-before old new short = told-rows old.rows (λ told ended. short ended.earlier.earlier.earlier.claimed)
+full-before old new short = if-there old.rows (λ told ended. short ended.earlier.earlier.earlier.claimed)
 
 -- and one whose turns failed so
 pub full-after : (old mid new : BookView) → HasGone old mid → WhereTold mid (IsUnended mid.case new.history)
     → IfSome old.rows (λ _. HasEnded old.case (length old.history) new.history → ⊥)
-full-after old mid new gone unended = told-rows old.rows (λ told.
+full-after old mid new gone unended = if-there old.rows (λ told.
     subst (λ (c : CaseShape). HasEnded c (length old.history) new.history → ⊥) gone.case
     (unended (gone.tells ∙ told) (length old.history)))
 

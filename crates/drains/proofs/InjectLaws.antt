@@ -17,7 +17,7 @@ use Rattle.run_history.specs.Cases.{CaseShape, record_of, source_of}
 use Rattle.run_history.specs.Finished.{has_line, injectors_left}
 use Rattle.run_history.specs.Runs.{Run, run_of}
 use Rattle.run_history.specs.Watermarks.{cursor_in, cursor_of}
-use Rattle.run_history.proofs.Lists.{each-filter, each-weaker, filter-passes, none_some, some_same}
+use Rattle.list_lemmas.proofs.Lists.{each-filter, each-weaker, filter-passes, none_some, some_same}
 use Rattle.book.specs.Books.{BookView}
 use Rattle.holdings.specs.Holding.{HeldView, held_on, row_held}
 use Rattle.node.specs.Asking.{Request, line_asked, next_line}

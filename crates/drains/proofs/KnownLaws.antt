@@ -12,7 +12,7 @@ use Rattle.run_history.specs.Cases.{intervals_of}
 use Rattle.run_history.specs.Fences.{interval_of, known}
 use Rattle.run_history.specs.Runs.{row_of, run_of}
 use Rattle.run_history.proofs.Known.{known-last}
-use Rattle.run_history.proofs.Lists.{none_some}
+use Rattle.list_lemmas.proofs.Lists.{none_some}
 use Rattle.history_laws.proofs.MarkLaws.{covered}
 use Rattle.book.specs.Books.{BookView}
 use Rattle.book.specs.OwnDesks.{own_view, telling}

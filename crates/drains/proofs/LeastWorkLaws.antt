@@ -4,6 +4,7 @@ use Rattle.std.specs.Prelude.{Option, Some, None, IsSome, IfSome, nat_lt, nat_le
 use Rattle.std.specs.List.{list_all}
 use Rattle.std.specs.Option.{is_some, option_and_then, option_map, option_map_or}
 use Rattle.std.proofs.lemmas.Bool.{and_parts, leb-true, ltb-true, le-leb, lt-ltb}
+use Rattle.list_lemmas.proofs.Places.{each-passes}
 use Rattle.mw_types.specs.declared.delivery.Delivery.{Delivery}
 use Rattle.mw_types.specs.declared.entry.Entry.{Entry}
 use Rattle.mw_types.specs.declared.entry.Entry.TheVariants as entries
@@ -17,8 +18,7 @@ use Rattle.run_history.specs.Fits.{is_sent_before, suits_part}
 use Rattle.run_history.specs.Legal.{IsLegal, floor_of}
 use Rattle.run_history.specs.Made.{found_delivery}
 use Rattle.run_history.specs.Runs.{Run, row_of, run_of}
-use Rattle.run_history.proofs.Lists.{find-each, find-passes, none_some}
-use Rattle.run_history.proofs.Fitting.{each-passes}
+use Rattle.list_lemmas.proofs.Lists.{find-each, find-passes, none_some}
 use Rattle.history_laws.proofs.FinishedLaws.{finished-handled}
 use Rattle.history_laws.proofs.IdLaws.{same_id-true}
 use Rattle.history_laws.proofs.SentLaws.{pending-as_made}

@@ -28,7 +28,7 @@ use Rattle.run_history.specs.Runs.{Run, run_of, row_of}
 use Rattle.run_history.specs.Watermarks.{cursor_of, low_watermark}
 use Rattle.run_history.specs.Legal.{floor_of}
 use Rattle.run_history.specs.Finished.{all_pending, is_handled, injectors_left}
-use Rattle.run_history.proofs.Lists.{none_some, some_same, each-weaker, find-passes}
+use Rattle.list_lemmas.proofs.Lists.{none_some, some_same, each-weaker, find-passes}
 use Rattle.history_laws.proofs.IdLaws.{same_id-itself, same_id-true}
 use Rattle.history_laws.proofs.LowLaws.{AreRowsInOrder, rows-in_order}
 use Rattle.book.specs.Senders.{IsLeastSent}

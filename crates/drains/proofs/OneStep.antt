@@ -19,7 +19,7 @@ use Rattle.run_history.specs.Watermarks.{cursor_of, low_watermark}
 use Rattle.run_history.specs.Legal.{MayFollow, MayInject, MayHandle, MayFire, IsLegal, record_outcome, timer_outcome}
 use Rattle.run_history.specs.Fences.{IsFenced, IsUnderLastClaim, sequencer_of}
 use Rattle.run_history.specs.Finished.{is_handled}
-use Rattle.run_history.proofs.Lists.{some_same}
+use Rattle.list_lemmas.proofs.Lists.{some_same}
 use Rattle.run_history.proofs.Beginnings.{Begins-itself}
 use Rattle.history_laws.proofs.Along.{AreLegal-apart}
 use Rattle.history_laws.proofs.SenderLaws.{one_sender}

@@ -32,7 +32,7 @@ use Rattle.run_history.specs.Legal.{IsLegal, floor_of}
 use Rattle.run_history.specs.Made.{found_delivery}
 use Rattle.run_history.specs.Runs.{Run, row_of, run_of}
 use Rattle.run_history.proofs.IntervalLaws.{are-intervals, interval_of-has}
-use Rattle.run_history.proofs.Lists.{each-weaker, find-each, find-passes, some_same}
+use Rattle.list_lemmas.proofs.Lists.{each-weaker, find-each, find-passes, some_same}
 use Rattle.history_laws.specs.Ids.{TellsWhatWaits}
 use Rattle.history_laws.proofs.FinishedLaws.{legal-floors}
 use Rattle.history_laws.proofs.IdLaws.{legal-ids, legal-tells, same_id-true}

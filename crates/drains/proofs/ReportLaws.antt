@@ -10,7 +10,7 @@ use Rattle.run_history.specs.Runs.{run_of}
 use Rattle.run_history.specs.Watermarks.{least}
 use Rattle.run_history.proofs.CaseIntervals.{length-intervals}
 use Rattle.run_history.proofs.Known.{known-last}
-use Rattle.run_history.proofs.Lists.{some_same}
+use Rattle.list_lemmas.proofs.Lists.{some_same}
 use Rattle.watermark.specs.Marks.{feeding_marks, mark_of}
 use Rattle.book.specs.Books.{BookView}
 use Rattle.book.specs.Marks.{reported, with_mark}

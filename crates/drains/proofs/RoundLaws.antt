@@ -22,7 +22,7 @@ use Rattle.run_history.specs.Legal.{IsLegal}
 use Rattle.run_history.specs.Finished.{all_pending}
 use Rattle.run_history.specs.Inputs.{IsRunnable}
 use Rattle.run_history.specs.Marks.{own_work, IsSafe}
-use Rattle.run_history.proofs.Lists.{none_some, some_same, each-weaker, each-map}
+use Rattle.list_lemmas.proofs.Lists.{none_some, some_same, each-weaker, each-map}
 use Rattle.history_laws.proofs.FeedLaws.{feeds-before}
 use Rattle.history_laws.proofs.FitLaws.{AreOfKind, legal-of_kind}
 use Rattle.history_laws.proofs.LowLaws.{AreRowsInOrder, rows-in_order, least-bound, bound-each, low-from, low_under-end, LowFrom, LowFrom-any_depth, each-every}

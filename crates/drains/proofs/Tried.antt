@@ -1,12 +1,14 @@
 -- What a drain does next, by tests of all that the rows of a run hold, for a run that can be computed.
 use Rattle.std.proofs.Common.{◌≡◌, ◌≢◌, ◌⊎◌, ◌&&◌, ◌||◌, Bool, true, false, List, [], ◌∷◌, refl, sym, ◌∙◌, ap, subst, arith, inl, inr}
 use Rattle.std.specs.Prelude.{Option, Some, None, IsSome, Contains, nat_lt}
-use Rattle.std.specs.List.{AllByRecursion, list_all}
+use Rattle.std.specs.List.{list_all}
 use Rattle.std.specs.Cmp.{tied_itself}
 use Rattle.std.specs.Ordering.{is_eq, is_gt, ordering_then}
 use Rattle.std.specs.declared.cmp.Ordering.TheVariants.{Equal}
 use Rattle.std.proofs.lemmas.Bool.{and_parts, ltb-true}
 use Rattle.std.proofs.lemmas.List.Elements.{All-contains, All-from_recursion}
+use Rattle.list_lemmas.proofs.Tests.{equal_from_test}
+use Rattle.list_lemmas.proofs.Places.{each-passes}
 use Rattle.mw_types.specs.Orders.{id_cmp, row_cmp, timer_cmp, key_cmp}
 use Rattle.mw_types.proofs.OrderLaws.{id_cmp-total, key_cmp-total}
 use Rattle.mw_types.specs.declared.identity.RecordId.{RecordId}
@@ -20,29 +22,23 @@ use Rattle.run_history.specs.Made.{found_delivery}
 use Rattle.run_history.specs.Runs.{Run, row_of}
 use Rattle.run_history.specs.Watermarks.{low_watermark}
 use Rattle.history_laws.proofs.IdLaws.{same_id-true}
-use Rattle.history_laws.proofs.RowSteps.{from_tie, same_row}
-use Rattle.run_history.proofs.Lists.{find-each, find-passes}
+use Rattle.history_laws.proofs.RowSteps.{same_row}
+use Rattle.list_lemmas.proofs.Lists.{find-each, find-passes}
 use Rattle.book.specs.Senders.{IsPendingIn, IsLeastSent}
 use Rattle.drains.specs.Drains.{IsDue}
 use Rattle.drains.proofs.FirstItems.{row_of-named}
-
--- each element passes a test that all pass
-all-each : {X : Type 0} (test : X → Bool) (xs : List X) → list_all test xs ≡ true → AllByRecursion (λ x. test x ≡ true) xs
-all-each test [] all = tt
-all-each test (x ∷ xs) all =
-    let parts = and_parts (test x) (list_all test xs) all in (parts.0, all-each test xs parts.1)
 
 -- what all rows of a run pass, and a fresh row, the row of each name passes
 row-passes : (shape : Shape) (run : Run) (test : RowName → Contents → Bool)
     → list_all (λ (r : RowName × Contents). test r.0 r.1) run.rows ≡ true
     → (name : RowName) → test name (fresh (fresh_of shape name.part)) ≡ true → test name (row_of shape run name) ≡ true
 row-passes shape run test all name new =
-    row_of-named shape (λ n c. test n c ≡ true) name run.rows (all-each (λ (r : RowName × Contents). test r.0 r.1) run.rows all) new
+    row_of-named shape (λ n c. test n c ≡ true) name run.rows (each-passes (λ (r : RowName × Contents). test r.0 r.1) run.rows all) new
 
 -- an element of a list that all pass a test passes it
 has-passes : {X : Type 0} (test : X → Bool) (xs : List X) (x : X) → list_all test xs ≡ true → Contains xs x → test x ≡ true
 has-passes test xs x all has = All-contains (λ y. test y ≡ true) xs x
-    (All-from_recursion (λ y. test y ≡ true) xs (all-each test xs all)) has
+    (All-from_recursion (λ y. test y ≡ true) xs (each-passes test xs all)) has
 
 -- of two tests of which one passes, the one does or the other
 either : (a b : Bool) → (a || b) ≡ true → (a ≡ true) ⊎ (b ≡ true)
@@ -67,7 +63,7 @@ alone-least shape run id sender alone pending = record {
     by_found other name (Some d) is some =
         let passes = find-each (λ (e : Delivery). same_id e.id id ≡ true) (λ (e : Delivery). same_id e.id other)
         (row_of shape run name).pending d
-        (all-each (λ (e : Delivery). same_id e.id id) (row_of shape run name).pending
+        (each-passes (λ (e : Delivery). same_id e.id id) (row_of shape run name).pending
         (row-passes shape run (λ n c. list_all (λ (e : Delivery). same_id e.id id) c.pending) alone name refl)) is in
         let own = same_id-true d.id id passes in
         let as_other = same_id-true d.id other
@@ -113,7 +109,7 @@ due-alone case run row timer alone other another is =
         let due = is.due in absurd (omega (arith, later, due))
     by_test (inr both) =
         let parts = and_parts (is_eq (row_cmp other row)) (is_eq (timer_cmp timer another)) both in
-        (same_row other row parts.0, from_tie (timer_cmp timer another) parts.1)
+        (same_row other row parts.0, equal_from_test (timer_cmp timer another) parts.1)
 
 -- and so it is the least
 pub alone-first : (row other : RowName) (timer another : Timer) → other ≡ row → timer_cmp timer another ≡ Equal
@@ -139,7 +135,7 @@ seen-alone shape run row other alone some =
     by_seen (id ∷ ids) is all =
         let passes = and_parts (is_eq (row_cmp row other)) (list_all (λ (x : RecordId). is_eq (row_cmp row other)) ids)
         (subst (λ l. list_all (λ (x : RecordId). is_eq (row_cmp row other)) l ≡ true) is all) in
-        ap is_gt (from_tie (row_cmp row other) passes.0)
+        ap is_gt (equal_from_test (row_cmp row other) passes.0)
 
 -- whether no row has seen ids
 abbrev pub is_none_seen : Run → Bool

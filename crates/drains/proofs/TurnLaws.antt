@@ -13,7 +13,7 @@ use Rattle.run_history.proofs.IntervalLaws.{interval_of-has}
 use Rattle.std.proofs.lemmas.Option.{slice_get_within}
 use Rattle.run_history.specs.Fences.{IsCurrent, interval_of, is_claim, last_claim}
 use Rattle.run_history.proofs.Claims.{last_claim-push}
-use Rattle.run_history.proofs.Lists.{some_same, none_some}
+use Rattle.list_lemmas.proofs.Lists.{some_same, none_some}
 use Rattle.book.specs.Books.{BookView, LeaseView}
 use Rattle.book.specs.DeskReasons.{HasClaimReason, IsDamageOf, IsDecided, IsNoDamage}
 use Rattle.book.specs.Desks.{DeskView, HasLooked, HasMoved}

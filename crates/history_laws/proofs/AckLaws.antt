@@ -22,7 +22,7 @@ use Rattle.run_history.specs.Runs.{Run, run_of, row_of, followed, changed, empty
 use Rattle.run_history.specs.Legal.{MayFollow, IsLegal, floor_of}
 use Rattle.run_history.specs.Finished.{acknowledges, is_acknowledged, all_pending}
 use Rattle.history_laws.specs.Ids.{IsSentBy, IsFloor}
-use Rattle.run_history.proofs.Lists.{none_some, some_same, each-append, each-all, each-weaker, each-both, each-filter, find-each, find-passes, find-more, filter-passes, each-flat_map}
+use Rattle.list_lemmas.proofs.Lists.{none_some, some_same, each-append, each-all, each-weaker, each-both, each-filter, find-each, find-passes, find-more, filter-passes, each-flat_map}
 use Rattle.history_laws.proofs.Along.{along_history}
 use Rattle.history_laws.proofs.Made.{each_of_commit}
 use Rattle.history_laws.proofs.FloorLaws.{row_of-above, floor_of-reached}

@@ -18,7 +18,7 @@ use Rattle.run_history.specs.Runs.{Run, run_of, row_of, followed}
 use Rattle.run_history.specs.Legal.{MayFollow, IsLegal}
 use Rattle.run_history.specs.Finished.{acknowledges, is_acknowledged, all_pending}
 use Rattle.history_laws.specs.Ids.{is_unacknowledged}
-use Rattle.run_history.proofs.Lists.{none_some, some_same, each-weaker, filter-filter, filter-all, find-each, find-kept, find-passes}
+use Rattle.list_lemmas.proofs.Lists.{none_some, some_same, each-weaker, filter-filter, filter-all, find-each, find-kept, find-passes}
 use Rattle.history_laws.proofs.Along.{along_history}
 use Rattle.history_laws.proofs.Made.{each_of_commit}
 use Rattle.history_laws.proofs.IdLaws.{same_id-true, passes_once, left_push, none_taken}
@@ -69,7 +69,7 @@ new-left case history run entry acked may =
     filter-all (is_unacknowledged (history ++ entry ∷ [])) (deliveries_of case.topology run.made run.next entry)
     (each-weaker (λ (d : Delivery). d.id.commit ≡ run.next) (λ (d : Delivery). is_unacknowledged (history ++ entry ∷ []) d ≡ true)
     (λ d is. ap not (acknowledges_not-next run.made run.next d (history ++ entry ∷ []) acked.made.order.below is
-    (Rattle.run_history.proofs.Lists.each-append (Rattle.history_laws.proofs.AckLaws.WasPending run.made) history (entry ∷ []) acked.was
+    (Rattle.list_lemmas.proofs.Lists.each-append (Rattle.history_laws.proofs.AckLaws.WasPending run.made) history (entry ∷ []) acked.was
     (acknowledged-made case run entry acked.made may, tt))))
     (deliveries_of case.topology run.made run.next entry) (each_of_commit case.topology run.made run.next entry))
 

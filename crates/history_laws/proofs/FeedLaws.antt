@@ -17,7 +17,7 @@ use Rattle.topology.specs.declared.subscription.Subscription.{Subscription}
 use Rattle.topology.specs.Shapes.{Shape, InjectorShape, ComputationShape, Reading, parts_of, injectors_of, streams_of, stream_of, computation_of, kind_of, reads_of, subscriptions_to, consumers_of, reads_stream, feeds_of}
 use Rattle.topology.specs.Rules.{IsTopology, all_differ}
 use Rattle.topology.specs.Kept.{numbers_from}
-use Rattle.run_history.proofs.Lists.{each-append, each-weaker, each-map, each-all, some_same, none_some}
+use Rattle.list_lemmas.proofs.Lists.{each-append, each-weaker, each-map, each-all, some_same, none_some}
 
 -- an element of a list is one of a longer list
 Contains-cons : {X : Type 0} (y : X) (xs : List X) (x : X) → Contains xs x → Contains (y ∷ xs) x

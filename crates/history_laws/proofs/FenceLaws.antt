@@ -14,7 +14,7 @@ use Rattle.run_history.specs.Cases.{fresh_of}
 use Rattle.run_history.specs.Runs.{Run, run_of, row_in, row_of}
 use Rattle.run_history.specs.Fences.{interval_of, sequencer_of, is_claim, last_claim, IsFenced, HasSeen, HasSeenAll, known}
 use Rattle.run_history.proofs.RunLaws.{run_of-push}
-use Rattle.run_history.proofs.Lists.{each-append, each-weaker}
+use Rattle.list_lemmas.proofs.Lists.{each-append, each-weaker}
 use Rattle.run_history.proofs.Beginnings.{each-begins}
 use Rattle.run_history.proofs.Claims.{last_claim-front, last_claim-at}
 use Rattle.run_history.proofs.Fenced.{IsFenced-begins, carried}

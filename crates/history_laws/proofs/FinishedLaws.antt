@@ -7,6 +7,7 @@ use Rattle.std.specs.declared.cmp.Ordering.TheVariants.{Less, Equal, Greater}
 use Rattle.std.proofs.lemmas.Bool.{ltb-true, ltb-false, le-leb, both_ways}
 use Rattle.std.proofs.lemmas.List.Folds.{list_any-append}
 use Rattle.std.proofs.lemmas.Map.Lookups.{exact_unsigned}
+use Rattle.list_lemmas.proofs.Tests.{or_true}
 use Rattle.mw_types.specs.declared.identity.RecordId.{RecordId}
 use Rattle.mw_types.specs.declared.identity.RowName.{RowName}
 use Rattle.mw_types.specs.declared.delivery.Delivery.{Delivery}
@@ -21,17 +22,12 @@ use Rattle.run_history.specs.Runs.{Run, run_of, row_of, followed, changed, noted
 use Rattle.run_history.specs.Legal.{MayFollow, IsLegal, floor_of}
 use Rattle.run_history.specs.Finished.{handles, is_handled}
 use Rattle.history_laws.specs.Ids.{is_left}
-use Rattle.run_history.proofs.Lists.{some_same, each-append, each-weaker, find-none, find-kept, filter-passes, each-filter}
+use Rattle.list_lemmas.proofs.Lists.{some_same, each-append, each-weaker, find-none, find-kept, filter-passes, each-filter}
 use Rattle.history_laws.proofs.Along.{along_history}
 use Rattle.history_laws.proofs.IdLaws.{same_id-true, same_id-itself, AreIds, WasMade, legal-ids, legal-tells, is_handled-push}
 use Rattle.history_laws.proofs.FloorLaws.{floor_of-followed}
 use Rattle.history_laws.proofs.PendingLaws.{waiting-above}
 use Rattle.history_laws.proofs.RowSteps.{row_of-step, row_of-here, both_Equal}
-
--- one of two tests passes
-or_right : (a : Bool) → (a || true) ≡ true
-or_right true = refl
-or_right false = refl
 
 -- two tests of which one passes, where the other is known
 or_cases : (a b : Bool) → (a || b) ≡ true → a ≡ false → b ≡ true
@@ -100,7 +96,7 @@ noted-keeps id new row done = elim (nat_lt id.commit row.floor) as
       | true ↦ λ d. refl
       | false ↦ λ d. elim (nat_lt new.commit row.floor) as (λ b. list_any (same_id id) (cond b row.seen (with_id new row.seen)) ≡ true) [
         | true ↦ d
-        | false ↦ with_id-has id new row.seen (ap (λ b. same_id id new || b) d ∙ or_right (same_id id new))
+        | false ↦ with_id-has id new row.seen (ap (λ b. same_id id new || b) d ∙ or_true (same_id id new))
       ]
     ] done
 
@@ -267,7 +263,7 @@ changed-seen history entry sent row each = by_kind entry
           | true ↦ old (Handle seq name id effects)
           | false ↦ with_id-each (λ (i : RecordId). is_handled i (history ++ Handle seq name id effects ∷ []) ≡ true) id row.seen
               (is_handled-push id history (Handle seq name id effects)
-              ∙ ap (λ b. is_handled id history || (b || false)) (same_id-itself id) ∙ or_right (is_handled id history))
+              ∙ ap (λ b. is_handled id history || (b || false)) (same_id-itself id) ∙ or_true (is_handled id history))
               (old (Handle seq name id effects))
         ]
     by_kind (Fire seq name timer mark effects) = old (Fire seq name timer mark effects)

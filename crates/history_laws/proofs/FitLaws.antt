@@ -28,7 +28,7 @@ use Rattle.run_history.specs.Legal.{MayFollow, IsLegal}
 use Rattle.run_history.specs.Watermarks.{cursor_in}
 use Rattle.run_history.specs.Fits.{is_cursor_within, is_sent_before, suits_part, fits}
 use Rattle.run_history.proofs.Fitting.{kind-none, kind-some, passes-each, fresh_state-kind}
-use Rattle.run_history.proofs.Lists.{some_same, each-append, each-all, each-weaker, each-filter, each-both}
+use Rattle.list_lemmas.proofs.Lists.{some_same, each-append, each-all, each-weaker, each-filter, each-both}
 use Rattle.history_laws.proofs.Along.{along_history}
 use Rattle.history_laws.proofs.Made.{deliveries_made-each}
 use Rattle.history_laws.proofs.FeedLaws.{consumers-there, injector-no_kind}

@@ -18,7 +18,7 @@ use Rattle.run_history.specs.Made.{row_written, deliveries_of}
 use Rattle.run_history.specs.Runs.{Run, run_of, row_of, changed, row_after, followed, empty_run}
 use Rattle.run_history.specs.Legal.{floor_of}
 use Rattle.run_history.proofs.Lookups.{each-insert_entry}
-use Rattle.run_history.proofs.Lists.{each-append, each-filter, each-flat_map, flat_map-each, found_of_each}
+use Rattle.list_lemmas.proofs.Lists.{each-append, each-filter, each-flat_map, flat_map-each, found_of_each}
 use Rattle.history_laws.proofs.Made.{each_of_commit}
 
 -- the least of some numbers and a bound is at most the bound

@@ -27,7 +27,7 @@ use Rattle.run_history.specs.Runs.{Run, run_of, followed, empty_run, still_unhan
 use Rattle.run_history.specs.Legal.{MayFollow, IsLegal}
 use Rattle.run_history.specs.Finished.{handles, is_handled}
 use Rattle.history_laws.specs.Ids.{is_left, TellsWhatWaits}
-use Rattle.run_history.proofs.Lists.{each-append, each-all, each-weaker, find-passes, find-each, find-more, filter-filter, filter-all, sorted-append, find-in_part, find-each_self}
+use Rattle.list_lemmas.proofs.Lists.{each-append, each-all, each-weaker, find-passes, find-each, find-more, filter-filter, filter-all, sorted-append, find-in_part, find-each_self}
 use Rattle.history_laws.proofs.Along.{along_history, along_any}
 use Rattle.history_laws.proofs.Made.{each_of_commit}
 

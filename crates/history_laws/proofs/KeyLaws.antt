@@ -35,7 +35,7 @@ use Rattle.run_history.specs.Finished.{handles}
 use Rattle.run_history.specs.Legal.{IsLegal, MayFollow}
 use Rattle.run_history.specs.Made.{deliveries_made, deliveries_of, found_delivery, row_written}
 use Rattle.run_history.specs.Runs.{Run, followed, row_in, row_of, run_of, still_unhandled}
-use Rattle.run_history.proofs.Lists.{each-all, each-append, each-filter, each-weaker, find-each, none_some, some_same}
+use Rattle.list_lemmas.proofs.Lists.{each-all, each-append, each-filter, each-weaker, find-each, none_some, some_same}
 use Rattle.history_laws.specs.Keys.{AreKeyed, HasKeys}
 use Rattle.history_laws.proofs.Along.{along_history}
 use Rattle.history_laws.proofs.IdLaws.{still_unhandled-filter}

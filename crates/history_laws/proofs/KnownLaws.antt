@@ -19,7 +19,8 @@ use Rattle.run_history.specs.Marks.{own_work, row_marks, stated_marks}
 use Rattle.run_history.specs.Runs.{Run, row_of, run_of}
 use Rattle.run_history.specs.Watermarks.{cursor_in, least, source_mark}
 use Rattle.run_history.proofs.IntervalLaws.{are-intervals, has-interval_of}
-use Rattle.run_history.proofs.Lists.{each-append, each-at}
+use Rattle.list_lemmas.proofs.Lists.{each-append}
+use Rattle.list_lemmas.proofs.Places.{each-at}
 use Rattle.history_laws.proofs.CoveredLaws.{rows_covered-known}
 use Rattle.history_laws.proofs.FenceLaws.{row_in-known}
 

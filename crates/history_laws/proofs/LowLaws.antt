@@ -24,7 +24,7 @@ use Rattle.run_history.specs.Watermarks.{least, waiting_stamps, timer_times, tim
 use Rattle.run_history.specs.Legal.{MayFollow, IsLegal}
 use Rattle.run_history.proofs.Lookups.{each_found, sorted-insert_entry}
 use Rattle.run_history.specs.Inputs.{IsRunnable}
-use Rattle.run_history.proofs.Lists.{each-append, each-weaker, each-both}
+use Rattle.list_lemmas.proofs.Lists.{each-append, each-weaker, each-both}
 use Rattle.history_laws.proofs.Along.{run_of-append, AreLegal-apart, along_entries, along_any}
 use Rattle.history_laws.proofs.FeedLaws.{feeds-before}
 use Rattle.history_laws.proofs.IdLaws.{AreIds, AreIds-followed, legal-ids}

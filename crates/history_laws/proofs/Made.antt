@@ -13,7 +13,7 @@ use Rattle.mw_types.specs.declared.entry.Entry.{Entry}
 use Rattle.topology.specs.Shapes.{Shape, consumers_of}
 use Rattle.run_history.specs.Made.{row_written, deliveries_of, deliveries_made, delivery_at, productions_of, late_cause, produced, row_to, sends_of}
 use Rattle.run_history.specs.Runs.{Run, followed}
-use Rattle.run_history.proofs.Lists.{each-append, each-map, each-all, each-weaker, each-enumerate, each-flat_map}
+use Rattle.list_lemmas.proofs.Lists.{each-append, each-map, each-all, each-weaker, each-enumerate, each-flat_map}
 
 -- what an entry makes has the entry's commit number
 pub each_of_commit : (shape : Shape) (made : List Delivery) (commit : ℕ) (entry : Entry)

@@ -9,6 +9,7 @@ use Rattle.std.specs.BTreeMap.{is_at}
 use Rattle.std.specs.Map.{lookup}
 use Rattle.std.proofs.lemmas.Bool.{eqb-true, eq-eqb, cases_lt}
 use Rattle.std.proofs.lemmas.List.Elements.{All-from_recursion, recursion_from_All}
+use Rattle.list_lemmas.proofs.Places.{each-at}
 use Rattle.mw_types.specs.declared.TheConstants.{END}
 use Rattle.mw_types.specs.declared.identity.RowName.{RowName}
 use Rattle.mw_types.specs.declared.timer.Timer.{Timer}
@@ -31,13 +32,13 @@ use Rattle.run_history.specs.Legal.{MayFollow, AreLegal, IsLegal}
 use Rattle.run_history.proofs.Lookups.{each_found}
 use Rattle.run_history.specs.Inputs.{IsRunnable}
 use Rattle.run_history.specs.Marks.{stamps_pending, row_marks, stated_marks, own_work, part_work, work_under, work_above, IsSafe}
-use Rattle.run_history.proofs.Lists.{each-append, each-weaker, each-both, each-map}
+use Rattle.list_lemmas.proofs.Lists.{each-append, each-weaker, each-both, each-map}
 use Rattle.history_laws.proofs.Along.{run_of-append, AreLegal-apart, along_entries}
 use Rattle.history_laws.proofs.FeedLaws.{feeds-before}
 use Rattle.history_laws.proofs.IdLaws.{AreIds, AreIds-followed, legal-ids}
 use Rattle.history_laws.proofs.PendingLaws.{AreSent, AreSent-followed, legal-sent}
 use Rattle.history_laws.proofs.RowSteps.{same_row}
-use Rattle.history_laws.proofs.StampLaws.{AreInTime, AreInTime-followed, legal-in_time, at-each}
+use Rattle.history_laws.proofs.StampLaws.{AreInTime, AreInTime-followed, legal-in_time}
 use Rattle.history_laws.proofs.LowLaws.{AreRowsInOrder, rows-in_order, least-end, least-bound, bound-each, each-apart, from_passing, to_passing, each-every}
 use Rattle.history_laws.proofs.OwnLaws.{IsRowFrom, IsOwnFrom, OfPart, IsPartFrom, IsOwnFrom-followed}
 
@@ -103,7 +104,7 @@ intervals-part shape a (suc n) =
 -- each interval of a number is of a part that is there
 pub interval-there : (shape : Shape) (i : ℕ) (b : Bounds) → slice_get (intervals_of shape) i ≡ Some b → b.part < parts_of shape
 interval-there shape i b at =
-    let below = at-each (λ (b : Bounds). b.part < 0 + parts_of shape) (intervals_of shape) i b
+    let below = each-at (λ (b : Bounds). b.part < 0 + parts_of shape) (intervals_of shape) i b
     (intervals-part shape 0 (parts_of shape)) at in omega (arith, below)
 
 -- ---- own work as a bound

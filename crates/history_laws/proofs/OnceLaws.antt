@@ -17,7 +17,7 @@ use Rattle.run_history.specs.Runs.{Run, run_of, row_of, empty_run}
 use Rattle.run_history.specs.Legal.{IsLegal}
 use Rattle.run_history.specs.Finished.{handles, is_handled, acknowledges, is_acknowledged, all_pending, IsFinished}
 use Rattle.history_laws.specs.Ids.{is_left, IsSentBy}
-use Rattle.run_history.proofs.Lists.{none_some, each-weaker, find-each, find-passes, filter-passes}
+use Rattle.list_lemmas.proofs.Lists.{none_some, each-weaker, find-each, find-passes, filter-passes}
 use Rattle.history_laws.proofs.Along.{AreLegal-apart}
 use Rattle.history_laws.proofs.IdLaws.{same_id-true, legal-ids}
 use Rattle.history_laws.proofs.AckLaws.{legal-acknowledged}

@@ -3,6 +3,7 @@ use Rattle.std.proofs.Common.{◌≡◌, ℕ, ◌≤◌, Bool, true, List, [], �
 use Rattle.std.specs.Prelude.{⊤, Some, not}
 use Rattle.std.specs.List.{AllByRecursion}
 use Rattle.std.proofs.lemmas.List.Elements.{All-contains, All-from_recursion}
+use Rattle.list_lemmas.proofs.Places.{each-at}
 use Rattle.mw_types.specs.declared.identity.RecordId.{RecordId}
 use Rattle.mw_types.specs.declared.identity.RowName.{RowName}
 use Rattle.mw_types.specs.declared.record.Record.{Record}
@@ -20,13 +21,13 @@ use Rattle.run_history.specs.Watermarks.{source_mark}
 use Rattle.run_history.specs.Legal.{MayFollow}
 use Rattle.run_history.specs.Inputs.{IsRunnable}
 use Rattle.history_laws.specs.Ids.{IsSentBy}
-use Rattle.run_history.proofs.Lists.{some_same, each-append, each-all, each-weaker, each-filter, find-each}
+use Rattle.list_lemmas.proofs.Lists.{some_same, each-append, each-all, each-weaker, each-filter, find-each}
 use Rattle.history_laws.proofs.Made.{deliveries_made-each}
 use Rattle.history_laws.proofs.HandlerBounds.{IsTimerAfter}
 use Rattle.history_laws.proofs.IdLaws.{AreIds}
 use Rattle.history_laws.proofs.PendingLaws.{AreSent}
 use Rattle.history_laws.proofs.RowSteps.{row_of-step}
-use Rattle.history_laws.proofs.StampLaws.{AreInTime, with_timers-each, at-each, handle-after, fire-after}
+use Rattle.history_laws.proofs.StampLaws.{AreInTime, with_timers-each, handle-after, fire-after}
 use Rattle.history_laws.proofs.WorkLaws.{DueFrom, set_again-from, productions-from, handled-late, injected-from, source_mark-followed}
 
 -- a delivery, where it is not late, has at least this timestamp
@@ -111,7 +112,7 @@ module _ (case : CaseShape) (history : List Entry) (run : Run) (x part : ℕ) (r
       made-own case.topology row_name.part effects.productions timer.late run.next x
       (λ on_time.
       productions-from x timer.time effects.productions
-      (at-each (DueFrom x) (row_of case.topology run row_name).timers 0 timer
+      (each-at (DueFrom x) (row_of case.topology run row_name).timers 0 timer
       (subst (λ (n : RowName). AllByRecursion (DueFrom x) (row_of case.topology run n).timers)
       (sym (some_same row_name name written)) row.timers) may.least_timer on_time)
       (fire-after case run seq row_name timer fire_mark effects in_time may).productions)

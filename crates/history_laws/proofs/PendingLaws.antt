@@ -20,7 +20,7 @@ use Rattle.run_history.specs.Runs.{Run, run_of, row_of, followed, changed, still
 use Rattle.run_history.specs.Legal.{MayFollow, IsLegal, floor_of}
 use Rattle.run_history.specs.Finished.{handles}
 use Rattle.history_laws.specs.Ids.{IsSentBy}
-use Rattle.run_history.proofs.Lists.{none_some, some_same, each-append, each-all, each-weaker, each-filter, each-both, find-none, find-none_each, find-kept, find-more, find-behind, find-each}
+use Rattle.list_lemmas.proofs.Lists.{none_some, some_same, each-append, each-all, each-weaker, each-filter, each-both, find-none, find-none_each, find-kept, find-more, find-behind, find-each}
 use Rattle.history_laws.proofs.Along.{along_history}
 use Rattle.history_laws.proofs.Made.{each_of_commit, deliveries_made-each}
 use Rattle.history_laws.proofs.FeedLaws.{consumers-fed}

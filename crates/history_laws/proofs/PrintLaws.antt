@@ -24,7 +24,7 @@ use Rattle.run_history.specs.Made.{found_delivery, productions_of}
 use Rattle.run_history.specs.Runs.{Run, run_of, row_in, row_of, followed}
 use Rattle.run_history.specs.Legal.{MayFollow, IsLegal}
 use Rattle.run_history.specs.Printing.{IsOnPart, IsPrintable}
-use Rattle.run_history.proofs.Lists.{each-append}
+use Rattle.list_lemmas.proofs.Lists.{each-append}
 use Rattle.history_laws.proofs.Along.{along_history}
 use Rattle.history_laws.proofs.PendingLaws.{was_some, kind-there}
 use Rattle.history_laws.proofs.RowSteps.{RowStep, row_step}

@@ -22,7 +22,7 @@ use Rattle.run_history.specs.Legal.{IsLegal}
 use Rattle.history_laws.specs.Ids.{IsSentBy}
 use Rattle.run_history.specs.Inputs.{IsRunnable}
 use Rattle.run_history.specs.Marks.{own_work, work_above, IsSafe, IsUnderMarks}
-use Rattle.run_history.proofs.Lists.{each-weaker, each-both, find-each}
+use Rattle.list_lemmas.proofs.Lists.{each-weaker, each-both, find-each}
 use Rattle.history_laws.proofs.PendingLaws.{AreSent, legal-sent}
 use Rattle.history_laws.proofs.WorkLaws.{WaitsFrom, IsWorkFrom, FeedsFrom}
 use Rattle.history_laws.proofs.LowLaws.{rows-in_order, LowFrom, from-low}

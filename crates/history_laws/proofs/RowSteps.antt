@@ -13,6 +13,7 @@ use Rattle.std.specs.BTreeMap.{is_at, insert_entry}
 use Rattle.std.specs.Map.{lookup}
 use Rattle.std.proofs.lemmas.Map.Lookups.{exact_unsigned, exact_bytes}
 use Rattle.std.proofs.lemmas.List.Kept.{IsStrictlySortedBy-filter}
+use Rattle.list_lemmas.proofs.Tests.{equal_from_test}
 use Rattle.mw_types.specs.declared.identity.RowName.{RowName}
 use Rattle.mw_types.specs.declared.delivery.Delivery.{Delivery}
 use Rattle.mw_types.specs.declared.entry.Entry.{Entry}
@@ -25,7 +26,7 @@ use Rattle.run_history.specs.Cases.{fresh_of}
 use Rattle.run_history.specs.Made.{row_written, deliveries_of}
 use Rattle.run_history.specs.Runs.{Run, run_of, row_in, row_of, row_after, followed, changed, empty_run}
 use Rattle.run_history.proofs.Lookups.{lookup-insert_entry, each-insert_entry}
-use Rattle.run_history.proofs.Lists.{none_some, some_same, each-weaker, each-filter, found_of_each, sorted-append}
+use Rattle.list_lemmas.proofs.Lists.{none_some, some_same, each-weaker, each-filter, found_of_each, sorted-append}
 use Rattle.history_laws.proofs.Along.{along_any}
 use Rattle.history_laws.proofs.Made.{each_of_commit}
 use Rattle.history_laws.proofs.IdLaws.{across, below_next, made-ascend}
@@ -36,16 +37,10 @@ both_Equal Less b e = absurd (cc)
 both_Equal Equal b e = (refl, e)
 both_Equal Greater b e = absurd (cc)
 
--- an order is Equal where it says that it ties
-pub from_tie : (o : Ordering) → is_eq o ≡ true → o ≡ Equal
-from_tie Less e = cc
-from_tie Equal e = refl
-from_tie Greater e = cc
-
 -- rows that tie are the same
 pub same_row : (a b : RowName) → is_at (row_cmp a) b ≡ true → a ≡ b
 same_row a b tie =
-    let k = both_Equal _ _ (from_tie (row_cmp a b) tie) in
+    let k = both_Equal _ _ (equal_from_test (row_cmp a b) tie) in
     let p = exact_unsigned a.part b.part k.0 in
     let q = exact_bytes a.key b.key k.1 in
     λ i. record { part = p i; key = q i }

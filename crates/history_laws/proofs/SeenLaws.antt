@@ -2,10 +2,11 @@
 use Rattle.std.proofs.Common.{◌≡◌, ◌≢◌, ℕ, ◌<◌, Bool, true, false, List, [], ◌∷◌, ◌++◌, length, take, drop, fold, refl, sym, ◌∙◌, ap, subst, arith, append_assoc, length-append}
 use Rattle.std.specs.Prelude.{Option, Some, None, IsSome, IsNone, filter, not, ◌||◌, slice_get}
 use Rattle.std.specs.Option.{option_map}
-use Rattle.std.specs.List.{AllByRecursion, list_any}
+use Rattle.std.specs.List.{AllByRecursion}
 use Rattle.std.proofs.lemmas.List.{append-nil, take-append-drop}
 use Rattle.std.proofs.lemmas.List.Folds.{list_any-append}
 use Rattle.std.proofs.lemmas.List.Elements.{recursion_from_All}
+use Rattle.list_lemmas.proofs.Places.{each-behind}
 use Rattle.mw_types.specs.declared.identity.RecordId.{RecordId}
 use Rattle.mw_types.specs.declared.identity.RowName.{RowName}
 use Rattle.mw_types.specs.declared.kind.Kind.{Kind}
@@ -17,7 +18,7 @@ use Rattle.computations.specs.Handlers.{effects_of_record, effects_of_timer}
 use Rattle.row_parts.specs.Contents.{Contents, same_id}
 use Rattle.run_history.specs.Cases.{CaseShape}
 use Rattle.run_history.specs.Made.{found_delivery, row_written, deliveries_of}
-use Rattle.run_history.specs.Runs.{Run, run_of, row_in, row_of, followed}
+use Rattle.run_history.specs.Runs.{Run, run_of, row_of, followed}
 use Rattle.run_history.specs.Watermarks.{cursor_in}
 use Rattle.run_history.specs.Legal.{MayFollow, MayClaim, IsLegal}
 use Rattle.run_history.proofs.RunLaws.{IsLegal-push}
@@ -26,7 +27,7 @@ use Rattle.run_history.specs.Finished.{handles, is_handled}
 use Rattle.history_laws.specs.Ids.{is_left}
 use Rattle.run_history.specs.Inputs.{IsRunnable}
 use Rattle.history_laws.specs.Writes.{IsSeenWrite, IsLegalAndFenced}
-use Rattle.run_history.proofs.Lists.{some_same, find-each, find-kept, find-more, find-passes, filter-passes}
+use Rattle.list_lemmas.proofs.Lists.{some_same, find-each, find-kept, find-more, find-passes, filter-passes}
 use Rattle.history_laws.proofs.Along.{run_of-append, AreLegal-apart}
 use Rattle.history_laws.proofs.FloorLaws.{floor_of-rises}
 use Rattle.history_laws.proofs.IdLaws.{same_id-true, WasMade, legal-ids, waits_as_made}
@@ -82,11 +83,6 @@ pub spares-seen : (shape : Shape) (interval seq : ℕ) (front rest : List Entry)
 spares-seen shape interval seq front rest fenced seen =
     spares-rest shape interval seq rest front fenced seen.last (claim-within interval seq front rest seen.all)
     (recursion_from_All (λ (e : Entry). sequencer_of e ≢ Some seq) rest seen.all.own)
-
--- what holds of the entries of a history holds of those behind a beginning
-each-behind : {X : Type 0} (P : X → Type 0) (xs ys : List X) → AllByRecursion P (xs ++ ys) → AllByRecursion P ys
-each-behind P [] ys each = each
-each-behind P (x ∷ xs) ys each = each-behind P xs ys each.1
 
 -- entries that spare an interval handle no delivery to one of its rows
 handles-none : (shape : Shape) (interval : ℕ) (made : List Delivery) (d : Delivery) (entries : List Entry)

@@ -11,7 +11,7 @@ use Rattle.topology.specs.Shapes.{Shape}
 use Rattle.row_parts.specs.Contents.{Contents, same_id}
 use Rattle.run_history.specs.Made.{found_delivery, row_written, deliveries_of}
 use Rattle.run_history.specs.Runs.{Run, run_of, row_of, followed, changed, empty_run}
-use Rattle.run_history.proofs.Lists.{some_same, each-append, each-weaker, each-filter, find-each, find-passes}
+use Rattle.list_lemmas.proofs.Lists.{some_same, each-append, each-weaker, each-filter, find-each, find-passes}
 use Rattle.run_history.proofs.Beginnings.{slice_get-more, slice_get-last}
 use Rattle.history_laws.specs.Ids.{IsMadeOn}
 use Rattle.history_laws.proofs.Along.{along_all}

@@ -15,7 +15,7 @@ use Rattle.run_history.specs.Runs.{Run, run_of, row_of, followed, changed, empty
 use Rattle.run_history.specs.Legal.{IsLegal}
 use Rattle.run_history.specs.Finished.{is_handled}
 use Rattle.history_laws.specs.Ids.{is_left}
-use Rattle.run_history.proofs.Lists.{none_some, each-append, each-weaker, each-both, each-filter, find-each, find-kept, find-more, find-passes}
+use Rattle.list_lemmas.proofs.Lists.{none_some, each-append, each-weaker, each-both, each-filter, find-each, find-kept, find-more, find-passes}
 use Rattle.history_laws.proofs.Along.{along_any}
 use Rattle.history_laws.proofs.Made.{each_of_commit}
 use Rattle.history_laws.proofs.IdLaws.{same_id-true, each_found_delivery, made-ascend, IsMadeInOrder, IsMadeInOrder-followed, IsMadeInOrder-empty, legal-ids}

@@ -1,5 +1,5 @@
 -- No timestamp of a legal history is above the greatest.
-use Rattle.std.proofs.Common.{◌≡◌, ℕ, ◌+◌, ◌<◌, ◌≤◌, Bool, true, false, cond, List, [], ◌∷◌, ◌++◌, refl, sym, ◌∙◌, ap, subst, arith}
+use Rattle.std.proofs.Common.{◌≡◌, ℕ, ◌+◌, ◌<◌, ◌≤◌, Bool, List, [], ◌∷◌, ◌++◌, refl, sym, ◌∙◌, ap, subst, arith}
 use Rattle.std.specs.Prelude.{⊤, Option, Some, None, All, not, slice_get, unwrap_or}
 use Rattle.std.specs.Option.{option_map}
 use Rattle.std.specs.List.{AllByRecursion}
@@ -8,6 +8,7 @@ use Rattle.std.specs.declared.cmp.Ordering.TheVariants.{Less, Equal, Greater}
 use Rattle.std.proofs.lemmas.List.Elements.{All-get_or}
 use Rattle.std.proofs.lemmas.Map.Lookups.{exact_unsigned}
 use Rattle.std.proofs.lemmas.Option.{slice_get_within, get_or_from_slice_get}
+use Rattle.list_lemmas.proofs.Places.{each-at}
 use Rattle.mw_types.specs.declared.TheConstants.{MAX_STAMP, INPUT_MAX}
 use Rattle.mw_types.specs.declared.identity.RecordId.{RecordId}
 use Rattle.mw_types.specs.declared.identity.RowName.{RowName}
@@ -30,7 +31,7 @@ use Rattle.run_history.specs.Runs.{Run, run_of, row_of, followed, changed, with_
 use Rattle.run_history.specs.Legal.{MayFollow, IsLegal}
 use Rattle.run_history.specs.Inputs.{IsRunnable}
 use Rattle.run_history.specs.Finished.{handles}
-use Rattle.run_history.proofs.Lists.{none_some, some_same, each-append, each-all, each-weaker, each-filter, find-each}
+use Rattle.list_lemmas.proofs.Lists.{each-append, each-all, each-weaker, each-filter, find-each}
 use Rattle.history_laws.proofs.Along.{along_history}
 use Rattle.history_laws.proofs.Made.{deliveries_made-each}
 use Rattle.history_laws.proofs.FeedLaws.{kind-ranged}
@@ -122,12 +123,6 @@ pub record AreInTime (run : Run) : Type 0 where
 pub row_of-in_time : (shape : Shape) (run : Run) (name : RowName) → AreInTime run → InTime (row_of shape run name).timers
 row_of-in_time shape run name in_time = row_of-each shape run name (λ (c : Contents). InTime c.timers) in_time.timers tt
 
--- what stands at a place of a list has what each has
-pub at-each : {X : Type 0} (P : X → Type 0) (xs : List X) (n : ℕ) (x : X) → AllByRecursion P xs → slice_get xs n ≡ Some x → P x
-at-each P [] n x each at = absurd (none_some x at)
-at-each P (y ∷ ys) Rattle.std.proofs.Common.zero x each at = subst P (some_same y x at) each.0
-at-each P (y ∷ ys) (Rattle.std.proofs.Common.suc n) x each at = at-each P ys n x each.1 at
-
 -- a handled record that waited, with what its computation's handler leaves of it
 pub handle-after : (case : CaseShape) (run : Run) (seq : ℕ) (row : RowName) (id : RecordId) (effects : EffectsView) → IsRunnable case
     → AreInTime run
@@ -145,7 +140,7 @@ handle-after case run seq row id effects runs in_time may =
 pub fire-in_time : (case : CaseShape) (run : Run) (seq : ℕ) (row : RowName) (timer : Timer) (mark : ℕ) (effects : EffectsView) → AreInTime run
     → MayFollow case run (Fire seq row timer mark effects) → timer.time ≤ MAX_STAMP
 fire-in_time case run seq row timer mark effects in_time may =
-    at-each (λ (t : Timer). t.time ≤ MAX_STAMP) (row_of case.topology run row).timers 0 timer
+    each-at (λ (t : Timer). t.time ≤ MAX_STAMP) (row_of case.topology run row).timers 0 timer
     (row_of-in_time case.topology run row in_time) may.least_timer
 
 -- a fired timer, with what its computation's handler leaves of it

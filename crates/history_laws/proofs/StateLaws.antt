@@ -1,8 +1,7 @@
 -- The state of each row of a legal history is within bounds, where the history is not too long.
-use Rattle.std.proofs.Common.{◌≡◌, ◌==◌, ℕ, ℤ, ◌+◌, ◌<◌, ◌≤◌, ◌^◌, ◌-◌, Bool, true, false, cond, Option, Some, None, List, [], ◌∷◌, ◌++◌, length, map, find, refl, sym, ◌∙◌, ap, subst, arith}
+use Rattle.std.proofs.Common.{◌≡◌, ◌==◌, ℕ, ℤ, ◌+◌, ◌<◌, ◌≤◌, ◌^◌, ◌-◌, true, false, cond, Option, Some, None, List, [], ◌∷◌, ◌++◌, length, map, refl, ◌∙◌, ap, subst, arith}
 use Rattle.std.specs.Prelude.{filter, not, nat_lt, slice_get}
 use Rattle.std.specs.Option.{option_map, option_map_or}
-use Rattle.std.specs.List.{AllByRecursion}
 use Rattle.std.specs.Ordering.{match_ordering, nat_cmp}
 use Rattle.std.specs.declared.cmp.Ordering.TheVariants.{Less, Equal, Greater}
 use Rattle.mw_types.specs.declared.TheConstants.{MAX_STAMP}
@@ -32,7 +31,7 @@ use Rattle.run_history.specs.Runs.{Run, run_of, row_of, followed, changed, advan
 use Rattle.run_history.specs.Legal.{MayFollow, IsLegal}
 use Rattle.run_history.specs.Inputs.{IsRunnable}
 use Rattle.run_history.proofs.Fitting.{IsWithin-fresh_state}
-use Rattle.run_history.proofs.Lists.{some_same, find-each}
+use Rattle.list_lemmas.proofs.Lists.{some_same, find-each, length-filter}
 use Rattle.history_laws.proofs.Along.{along_history}
 use Rattle.history_laws.proofs.FeedLaws.{kind-ranged}
 use Rattle.history_laws.proofs.FitLaws.{AreOfKind, AreOfKind-followed, of_kind, AreOfKind-empty}
@@ -57,14 +56,6 @@ length-entered number x change (y ∷ ys) =
       | Equal ↦ omega arith
       | Greater ↦ omega (arith, length-entered number x change ys)
     ]
-
--- a filter leaves no more than there was
-length-left : {X : Type 0} (test : X → Bool) (xs : List X) → length (filter test xs) ≤ length xs
-length-left test [] = omega arith
-length-left test (x ∷ xs) = elim (test x) as (λ b. length (cond b (x ∷ filter test xs) (filter test xs)) ≤ length (x ∷ xs)) [
-  | true ↦ omega (arith, length-left test xs)
-  | false ↦ omega (arith, length-left test xs)
-]
 
 -- a record adds at most one element to a state
 record-size : (kind : Kind) (key : List ℕ) (state : State) (item : Record)
@@ -100,7 +91,7 @@ record-size kinds.Pass key (states.Spike late held known) item = omega arith
 count_timer-size : (key : List ℕ) (late : ℕ) (windows : List Window) (due : Option Window)
     → size_of (count_timer key late windows due).state ≤ length windows + 1
 count_timer-size key late windows None = omega arith
-count_timer-size key late windows (Some due) = omega (arith, length-left (λ (w : Window). not (w.end == due.end)) windows)
+count_timer-size key late windows (Some due) = omega (arith, length-filter (λ (w : Window). not (w.end == due.end)) windows)
 
 -- a total that is due adds none
 spike_timer-size : (last times : ℕ) (key : List ℕ) (late : ℕ) (held : List HeldTotal) (known : List ℤ) (due : Option HeldTotal)
@@ -110,8 +101,8 @@ spike_timer-size last times key late held known (Some due) =
     let state = states.Spike late (filter (λ h. not (h.stamp == due.stamp)) held) (known_with last known due.value) in
     elim (is_spike last times known due.value) as (λ b. size_of
     (cond b (outcome_with_record state key (due_time due.stamp) due.value) (unchanged state)).state ≤ length held + 1) [
-      | true ↦ omega (arith, length-left (λ (h : HeldTotal). not (h.stamp == due.stamp)) held)
-      | false ↦ omega (arith, length-left (λ (h : HeldTotal). not (h.stamp == due.stamp)) held)
+      | true ↦ omega (arith, length-filter (λ (h : HeldTotal). not (h.stamp == due.stamp)) held)
+      | false ↦ omega (arith, length-filter (λ (h : HeldTotal). not (h.stamp == due.stamp)) held)
     ]
 
 -- a timer adds at most one element to a state

@@ -1,10 +1,11 @@
 -- How much work is left: what one more entry makes of it, and that a finished run is done.
 use Rattle.std.proofs.Common.{◌≡◌, ◌≢◌, ℕ, zero, suc, ◌+◌, ◌<◌, ◌≤◌, Bool, true, false, cond, ◌&&◌, ◌==◌, List, [], ◌∷◌, ◌++◌, length, refl, sym, ◌∙◌, ap, subst, arith, inl, inr}
 use Rattle.std.specs.Prelude.{Option, Some, None, filter, nat_lt}
-use Rattle.std.specs.Option.{option_map, option_map_or}
+use Rattle.std.specs.Option.{option_map_or}
 use Rattle.std.specs.List.{AllByRecursion, flat_map, range_with_len}
 use Rattle.std.proofs.lemmas.Bool.{ltb-true, ltb-false, lt-ltb, cases_lt, ne_eqb}
 use Rattle.std.proofs.lemmas.Option.{slice_get_within}
+use Rattle.list_lemmas.proofs.Places.{range-each}
 use Rattle.mw_types.specs.declared.identity.RowName.{RowName}
 use Rattle.mw_types.specs.declared.record.Record.{Record}
 use Rattle.mw_types.specs.declared.kind.Kind.{Kind}
@@ -23,7 +24,7 @@ use Rattle.run_history.specs.Watermarks.{cursor_in, cursor_of}
 use Rattle.run_history.specs.Legal.{MayFollow, IsLegal, IsDone}
 use Rattle.run_history.specs.Finished.{all_pending, all_timers, has_line, injectors_left, unfinished, IsFinished, row_has_line, work_in}
 use Rattle.history_laws.specs.Ids.{IsSentBy}
-use Rattle.run_history.proofs.Lists.{none_some, some_same}
+use Rattle.list_lemmas.proofs.Lists.{none_some, some_same}
 use Rattle.history_laws.proofs.Along.{along_history}
 use Rattle.history_laws.proofs.FeedLaws.{injector-no_kind}
 use Rattle.history_laws.proofs.PendingLaws.{was_some, legal-sent}
@@ -121,14 +122,6 @@ filter-nil test (x ∷ xs) none =
       | true ↦ λ e f. cc
       | false ↦ λ e f. (e, filter-nil test xs f)
     ] refl none
-
--- what holds of each number of a range holds of a number within it
-range-each : (P : ℕ → Type 0) (a n k : ℕ) → AllByRecursion P (range_with_len a n) → a ≤ k → k < a + n → P k
-range-each P a zero k each from to = absurd (omega (arith, from, to))
-range-each P a (suc n) k each from to = elim (cases_lt a k) [
-  | inl less ↦ range-each P (a + 1) n k each.1 (omega (arith, less)) (omega (arith, to))
-  | inr le ↦ let same : a ≡ k = omega (arith, from, le) in subst P same each.0
-]
 
 -- a finished run is done
 pub finished-done : (case : CaseShape) (history : List Entry) → IsLegal case history → IsFinished case (run_of case.topology history)

@@ -6,6 +6,7 @@ use Rattle.std.specs.List.{AllByRecursion}
 use Rattle.std.specs.Cmp.{first_so, second_so}
 use Rattle.std.proofs.lemmas.Bool.{eqb-true, eq-eqb, ltb-false, both_ways}
 use Rattle.std.proofs.lemmas.List.Elements.{All-contains, All-from_recursion}
+use Rattle.list_lemmas.proofs.Places.{each-at}
 use Rattle.mw_types.specs.declared.TheConstants.{INPUT_MAX, END}
 use Rattle.mw_types.specs.declared.identity.RecordId.{RecordId}
 use Rattle.mw_types.specs.declared.identity.RowName.{RowName}
@@ -31,14 +32,14 @@ use Rattle.run_history.specs.Watermarks.{cursor_in, cursor_of, source_mark}
 use Rattle.run_history.specs.Legal.{MayFollow}
 use Rattle.run_history.specs.Finished.{handles}
 use Rattle.run_history.specs.Inputs.{IsRunnable}
-use Rattle.run_history.proofs.Lists.{none_some, some_same, each-append, each-weaker, each-filter, find-each}
+use Rattle.list_lemmas.proofs.Lists.{none_some, some_same, each-append, each-weaker, each-filter, find-each}
 use Rattle.history_laws.proofs.Made.{deliveries_made-each}
 use Rattle.history_laws.proofs.FeedLaws.{consumers-fed, injector-no_kind}
 use Rattle.history_laws.proofs.HandlerBounds.{IsTimerAfter, IsProductionAfter}
 use Rattle.history_laws.proofs.IdLaws.{AreIds, waits_as_made, still_unhandled-filter}
 use Rattle.history_laws.proofs.PendingLaws.{was_some, kind-there}
 use Rattle.history_laws.proofs.RowSteps.{row_of-step}
-use Rattle.history_laws.proofs.StampLaws.{AreInTime, source_of-source, line_of, line-each, with_timers-each, at-each, handle-after, fire-after}
+use Rattle.history_laws.proofs.StampLaws.{AreInTime, source_of-source, line_of, line-each, with_timers-each, handle-after, fire-after}
 
 -- a delivery, where it goes to this part and is not late, has at least this timestamp
 abbrev pub WaitsFrom : ℕ → ℕ → Delivery → Type 0
@@ -171,7 +172,7 @@ sent-from case history run (Fire seq row timer mark effects) x reader runs ids i
     (All-contains (FeedsFrom case run x (IsWorkFrom case.topology run x)) (feeds_of case.topology reader) row.part
     (All-from_recursion (FeedsFrom case run x (IsWorkFrom case.topology run x)) (feeds_of case.topology reader) feeds) fed) in
     productions-from x timer.time effects.productions
-    (at-each (DueFrom x) (row_of case.topology run row).timers 0 timer (work.timers row refl) may.least_timer on_time)
+    (each-at (DueFrom x) (row_of case.topology run row).timers 0 timer (work.timers row refl) may.least_timer on_time)
     (fire-after case run seq row timer mark effects in_time may).productions)
 sent-from case history run _ x reader runs ids in_time may feeds = tt
 

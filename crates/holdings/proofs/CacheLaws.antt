@@ -18,7 +18,7 @@ use Rattle.mw_types.proofs.OrderLaws.{row_cmp-total}
 use Rattle.row_parts.specs.Contents.{Contents}
 use Rattle.row_parts.specs.Places.{IsGap, IsHit, IsHitOrGap}
 use Rattle.row_parts.proofs.PlaceLemmas.{is_place}
-use Rattle.run_history.proofs.Lists.{each-append, each-weaker, none_some}
+use Rattle.list_lemmas.proofs.Lists.{each-append, each-weaker, none_some}
 use Rattle.run_history.proofs.Lookups.{lookup-insert_entry, same_entries, shadowed, sorted-insert_entry, swapped}
 use Rattle.history_laws.proofs.RowSteps.{same_row}
 use Rattle.book.specs.Claims.{named}

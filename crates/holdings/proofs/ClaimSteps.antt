@@ -8,6 +8,7 @@ use Rattle.std.specs.BTreeMap.{is_at}
 use Rattle.std.proofs.lemmas.Bool.{eq-eqb}
 use Rattle.std.proofs.lemmas.List.Elements.{All-append, All-from_recursion, recursion_from_All}
 use Rattle.std.proofs.lemmas.Map.Entries.{lookup-filter-keys}
+use Rattle.list_lemmas.proofs.Told.{if-same}
 use Rattle.mw_types.specs.Orders.{row_cmp}
 use Rattle.mw_types.specs.declared.identity.RowName.{RowName}
 use Rattle.mw_types.specs.declared.entry.Entry.{Entry}
@@ -25,7 +26,7 @@ use Rattle.run_history.proofs.Claims.{last_claim-push}
 use Rattle.run_history.proofs.Fitting.{fits-fresh, fits-later}
 use Rattle.run_history.proofs.IntervalLaws.{are-intervals, has-interval_of, interval_of-has}
 use Rattle.run_history.proofs.Known.{known-last}
-use Rattle.run_history.proofs.Lists.{none_some, some_same}
+use Rattle.list_lemmas.proofs.Lists.{none_some, some_same}
 use Rattle.run_history.proofs.RunLaws.{run_of-push}
 use Rattle.history_laws.proofs.RowSteps.{row_in-elsewhere, same_row}
 use Rattle.book.specs.Books.{LeaseView}
@@ -36,7 +37,7 @@ use Rattle.book.specs.declared.answers.Claimed.{Claimed}
 use Rattle.book.specs.declared.answers.NamedRow.{NamedRow}
 use Rattle.holdings.specs.Holding.{AreAllHeld, AreRowsHeld, HeldView, KeepsHeld, KeepsOthers, held_at, row_held}
 use Rattle.holdings.specs.Steps.{KeepsAll}
-use Rattle.holdings.proofs.HeldRows.{AreKnown, AreRowsHeld-more, told-so}
+use Rattle.holdings.proofs.HeldRows.{AreKnown, AreRowsHeld-more}
 use Rattle.holdings.proofs.HeldSteps.{AreAllHeld-here}
 
 -- what holds of each row that was answered, and of a fresh one, holds of the one that is found under a name
@@ -118,7 +119,7 @@ module _ (case : CaseShape) (old new : DeskView) (worker interval : ℕ) (bounds
   -- what was answered is right
   pub AreRowsHeld-claimed : AreRowsHeld case new (claimed_view answer)
   AreRowsHeld-claimed = record {
-    known = told-so old.told new.told ((b : Bounds) → slice_get (intervals_of case.topology) interval ≡ Some b
+    known = if-same old.told new.told ((b : Bounds) → slice_get (intervals_of case.topology) interval ≡ Some b
         → map named answer.rows ≡ rows_covered b (run_of case.topology claimed.before).rows)
         (AreKnown case new.seen (claimed_view answer)) claimed.moved.told
         (λ all name lies. found_there name (lies ∙ ap Some lease_interval) (all bounds at)

@@ -11,13 +11,14 @@ use Rattle.std.specs.declared.cmp.Ordering.{Ordering}
 use Rattle.std.specs.declared.cmp.Ordering.TheVariants.{Less, Equal, Greater}
 use Rattle.std.proofs.lemmas.Bool.Decides.{nat_tests}
 use Rattle.std.proofs.lemmas.Cmp.{nat_cmp_total}
+use Rattle.list_lemmas.proofs.Tests.{both_true}
 use Rattle.mw_types.specs.Orders.{row_cmp, timer_cmp}
 use Rattle.mw_types.specs.declared.identity.RowName.{RowName}
 use Rattle.mw_types.specs.declared.timer.Timer.{Timer}
 use Rattle.mw_types.proofs.OrderLaws.{row_cmp-total}
 use Rattle.row_parts.specs.Contents.{Contents}
 use Rattle.run_history.specs.Runs.{cached, row_in}
-use Rattle.run_history.proofs.Lists.{none_some, some_same}
+use Rattle.list_lemmas.proofs.Lists.{none_some, some_same}
 use Rattle.history_laws.proofs.RowSteps.{same_row}
 use Rattle.holdings.specs.Dues.{AreDues, due_at, due_name, due_of, due_order, is_same_due, timer_at}
 use Rattle.holdings.specs.Firsts.{HasPicked}
@@ -62,11 +63,6 @@ equal_flag false true is = absurd (true≢false (sym is))
 equal_flag true false is = absurd (true≢false (sym is))
 equal_flag true true is = refl
 
--- both of two tests hold
-both-true : (a b : Bool) → (a && b) ≡ true → (a ≡ true) × (b ≡ true)
-both-true true b is = (refl, is)
-both-true false b is = absurd (true≢false (sym is))
-
 -- timers of one row that are the same are the same to the order
 pub same_due : (name : RowName) (before after : Option Timer) → is_same_due before after ≡ true
     → option_map (due_at name) before ≡ option_map (due_at name) after
@@ -74,7 +70,7 @@ same_due name None None is = refl
 same_due name None (Some b) is = absurd (true≢false (sym is))
 same_due name (Some a) None is = absurd (true≢false (sym is))
 same_due name (Some a) (Some b) is =
-    let both = both-true ((a.time == b.time) && (a.tag == b.tag)) (beq a.late b.late) is in
+    let both = both_true ((a.time == b.time) && (a.tag == b.tag)) (beq a.late b.late) is in
     let place = both.0 in
     let time : a.time ≡ b.time = grind (arith, nat_tests, place) in
     let tag : a.tag ≡ b.tag = grind (arith, nat_tests, place) in

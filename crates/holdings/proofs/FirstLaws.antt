@@ -14,7 +14,7 @@ use Rattle.mw_types.specs.Orders.{row_cmp}
 use Rattle.mw_types.specs.declared.identity.RowName.{RowName}
 use Rattle.mw_types.proofs.OrderLaws.{row_cmp-total}
 use Rattle.row_parts.specs.Contents.{Contents}
-use Rattle.run_history.proofs.Lists.{each-append, each-weaker, none_some, some_same}
+use Rattle.list_lemmas.proofs.Lists.{each-append, each-weaker, none_some, some_same}
 use Rattle.run_history.proofs.Lookups.{each_found}
 use Rattle.history_laws.proofs.RowSteps.{same_row}
 use Rattle.book.specs.Claims.{named}

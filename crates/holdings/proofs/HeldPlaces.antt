@@ -4,7 +4,7 @@ use Rattle.std.specs.Prelude.{Option, Some, None, slice_set, unwrap_or, ◌⊎�
 use Rattle.std.proofs.lemmas.Bool.{cases_lt}
 use Rattle.std.proofs.lemmas.List.{length-set, get_or-set_same, get_or-set_other}
 use Rattle.std.proofs.lemmas.Option.{slice_get_past, unwrap_or-slice_get}
-use Rattle.run_history.proofs.Lists.{none_some}
+use Rattle.list_lemmas.proofs.Lists.{none_some}
 use Rattle.holdings.specs.Holding.{HeldView, KeepsOthers, held_at}
 
 -- what is held of an interval is what stands at its place

@@ -8,6 +8,7 @@ use Rattle.std.specs.Ordering.{is_eq}
 use Rattle.std.specs.Cmp.{tied_itself}
 use Rattle.std.proofs.lemmas.Bool.{both_ways}
 use Rattle.std.proofs.lemmas.List.Elements.{All-append, All-from_recursion}
+use Rattle.list_lemmas.proofs.Told.{if-same}
 use Rattle.mw_types.specs.Orders.{row_cmp}
 use Rattle.mw_types.specs.declared.identity.RowName.{RowName}
 use Rattle.mw_types.specs.declared.entry.Entry.{Entry}
@@ -24,7 +25,7 @@ use Rattle.run_history.proofs.Claims.{last_claim-push}
 use Rattle.run_history.proofs.Fenced.{IsFenced-begins}
 use Rattle.run_history.proofs.Fitting.{fits-more}
 use Rattle.run_history.proofs.Known.{known-last}
-use Rattle.run_history.proofs.Lists.{none_some, some_same}
+use Rattle.list_lemmas.proofs.Lists.{none_some, some_same}
 use Rattle.run_history.proofs.Lookups.{lookup-insert_entry, same_entries, sorted-insert_entry}
 use Rattle.run_history.proofs.RunLaws.{run_of-push}
 use Rattle.history_laws.proofs.FenceLaws.{row_in-known}
@@ -41,14 +42,6 @@ use Rattle.holdings.specs.Holding.{AreRowsHeld, HeldView, row_held, with_row}
 use Rattle.holdings.proofs.CacheLaws.{apart-tied, tied_row}
 
 -- ---- what is told
-
--- what follows from what is told is told
-pub told-so : {X : Type 0} (o p : Option X) (P Q : Type 0) → p ≡ o → (P → Q) → IfSome o (λ _. P) → IfSome p (λ _. Q)
-told-so {X} o p P Q same so is = subst (λ (x : Option X). IfSome x (λ _. Q)) (sym same) (here o is)
-  where
-    here : (x : Option X) → IfSome x (λ _. P) → IfSome x (λ _. Q)
-    here None told = tt
-    here (Some x) told = so told
 
 -- what follows from two things that are told is told
 pub told-both : {X : Type 0} (o p : Option X) (P Q R : Type 0) → p ≡ o → (P → Q → R) → IfSome o (λ _. P) → IfSome o (λ _. Q) → IfSome p (λ _. R)
@@ -141,7 +134,7 @@ pub AreRowsHeld-more : (case : CaseShape) (old new : DeskView) (held : HeldView)
     → IsClaimed held.lease.interval held.lease.seq old.seen → new.seen ≡ old.seen ++ rest → CarryNot held.lease.seq rest
     → new.told ≡ old.told → AreRowsHeld case old held → AreRowsHeld case new held
 AreRowsHeld-more case old new held rest fenced claimed more none told are = record {
-  known = told-so old.told new.told (AreKnown case old.seen held) (AreKnown case new.seen held) told
+  known = if-same old.told new.told (AreKnown case old.seen held) (AreKnown case new.seen held) told
       (λ each name lies. each name lies
       ∙ sym (known-stays case.topology held.lease old.seen rest name (subst (IsFenced case.topology) more fenced) claimed none lies)
       ∙ ap (λ (h : List Entry). row_of case.topology (run_of case.topology (known held.lease.interval held.lease.seq h)) name) (sym more))
@@ -174,7 +167,7 @@ pub AreRowsHeld-cached : (case : CaseShape) (desk : DeskView) (name : RowName) (
     → AreRowsHeld case desk (with_row name (row_held case.topology held name) held)
 AreRowsHeld-cached case desk name held lies are =
     let after = with_row name (row_held case.topology held name) held in record {
-      known = told-so desk.told desk.told (AreKnown case desk.seen held) (AreKnown case desk.seen after) refl
+      known = if-same desk.told desk.told (AreKnown case desk.seen held) (AreKnown case desk.seen after) refl
           (λ each other there. row_held-same case.topology name other held ∙ each other there) are.known;
       fit = λ other there part. subst (λ (r : Contents). fits case (length desk.seen) other r ≡ true)
           (sym (row_held-same case.topology name other held)) (are.fit other there part);
@@ -349,7 +342,7 @@ pub held-known : (case : CaseShape) (desk : DeskView) (name : RowName) (held : H
 held-known case desk name held row same are lies part is = record {
   fit = subst (λ (c : CaseShape). fits c (length desk.seen) name row ≡ true) (sym same)
       (subst (λ (r : Contents). fits case (length desk.seen) name r ≡ true) (sym is) (are.fit name lies part));
-  known = told-so desk.told desk.told (AreKnown case desk.seen held)
+  known = if-same desk.told desk.told (AreKnown case desk.seen held)
       (row ≡ row_of desk.case.topology (run_of desk.case.topology (known held.lease.interval held.lease.seq desk.seen)) name) refl
       (λ each. is ∙ each name lies
       ∙ ap (λ (c : CaseShape). row_of c.topology (run_of c.topology (known held.lease.interval held.lease.seq desk.seen)) name) (sym same))

@@ -17,7 +17,7 @@ use Rattle.row_parts.specs.Contents.{Contents, fresh}
 use Rattle.run_history.specs.Cases.{CaseShape, fresh_of}
 use Rattle.run_history.specs.Runs.{cached, row_in}
 use Rattle.run_history.specs.Fences.{IsFenced, interval_of, sequencer_of}
-use Rattle.run_history.proofs.Lists.{none_some, some_same}
+use Rattle.list_lemmas.proofs.Lists.{none_some, some_same}
 use Rattle.book.specs.Books.{LeaseView}
 use Rattle.book.specs.Desking.{IsRowKnown, MayAsk}
 use Rattle.book.specs.Desks.{DeskView, HasLooked, IsSound}

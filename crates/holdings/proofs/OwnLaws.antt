@@ -1,9 +1,11 @@
 -- The own work of an interval that is held is that of what is known under its lease.
-use Rattle.std.proofs.Common.{◌≡◌, ◌-◌, ℕ, true, cond, zero, suc, List, [], ◌∷◌, ◌++◌, map, refl, sym, ◌∙◌, ap, subst, arith}
+use Rattle.std.proofs.Common.{◌≡◌, ◌-◌, ℕ, true, cond, List, [], ◌∷◌, ◌++◌, map, refl, sym, ◌∙◌, ap, subst, arith}
 use Rattle.std.specs.Prelude.{min, Some, None, IfSome, slice_get, unwrap_or}
 use Rattle.std.specs.Option.{option_map}
 use Rattle.std.specs.List.{AllByRecursion, flat_map}
 use Rattle.std.proofs.lemmas.Bool.{eq-eqb}
+use Rattle.list_lemmas.proofs.Places.{each-at}
+use Rattle.list_lemmas.proofs.Told.{if-same}
 use Rattle.mw_types.specs.declared.identity.RowName.{RowName}
 use Rattle.key_intervals.specs.declared.bounds.Bounds.{Bounds}
 use Rattle.key_intervals.specs.Intervals.{bounds_from, bounds_of, covers}
@@ -16,11 +18,11 @@ use Rattle.run_history.specs.Marks.{own_work, row_marks, stated_marks}
 use Rattle.run_history.specs.Runs.{cached, run_of}
 use Rattle.run_history.specs.Watermarks.{least, source_mark}
 use Rattle.run_history.proofs.IntervalLaws.{are-intervals, has-interval_of, interval_of-has}
-use Rattle.run_history.proofs.Lists.{each-append, none_some, some_same}
+use Rattle.list_lemmas.proofs.Lists.{each-append, some_same}
 use Rattle.history_laws.proofs.LowLaws.{least-end, rows-in_order}
 use Rattle.book.specs.Desks.{DeskView}
 use Rattle.holdings.specs.Holding.{HeldView, IsHeld}
-use Rattle.holdings.proofs.HeldRows.{AreKnown, told-so}
+use Rattle.holdings.proofs.HeldRows.{AreKnown}
 use Rattle.holdings.proofs.WorkLaws.{covered-all, least-append, own_work-cached}
 
 -- ---- the interval of an injector
@@ -54,12 +56,6 @@ all-own shape [] = tt
 all-own shape (part ∷ parts) = each-append (HasOwnRow shape) (bounds_from part [] (cuts_of shape part))
     (bounds_of (map (λ (p : ℕ). record { part = p; cuts = cuts_of shape p }) parts))
     (bounds-own shape part [] (cuts_of shape part) (λ is. (no-cuts shape part is, refl))) (all-own shape parts)
-
--- what holds of each holds of the one at a place
-each-at : {X : Type 0} (P : X → Type 0) (xs : List X) (i : ℕ) (x : X) → AllByRecursion P xs → slice_get xs i ≡ Some x → P x
-each-at P [] i x each at = absurd (none_some x at)
-each-at P (y ∷ ys) zero x each at = subst P (some_same y x at) each.0
-each-at P (y ∷ ys) (suc i) x each at = each-at P ys i x each.1 at
 
 -- ---- by the rows that are cached
 
@@ -97,7 +93,7 @@ module _ (case : CaseShape) (desk : DeskView) (interval : ℕ) (held : HeldView)
       → IfSome desk.told (λ _. own ≡ own_work case (run_of case.topology (known held.lease.interval held.lease.seq desk.seen)) bounds)
   own_work-known rules own is =
       let seen = known held.lease.interval held.lease.seq desk.seen in
-      told-so desk.told desk.told (AreKnown case desk.seen held) (own ≡ own_work case (run_of case.topology seen) bounds) refl
+      if-same desk.told desk.told (AreKnown case desk.seen held) (own ≡ own_work case (run_of case.topology seen) bounds) refl
       (λ each. is ∙ own_work-cached case held.rows (run_of case.topology seen) bounds (record { sorted = fits.rows.ordered })
       (rows-in_order case.topology seen)
       (λ name has. each name (has-interval_of case.topology interval name (are-intervals case.topology rules) (bounds, at, has)

@@ -13,7 +13,7 @@ use Rattle.mw_types.specs.declared.identity.RowName.{RowName}
 use Rattle.mw_types.proofs.OrderLaws.{row_cmp-total}
 use Rattle.row_parts.specs.Contents.{Contents}
 use Rattle.run_history.specs.Runs.{cached, row_in}
-use Rattle.run_history.proofs.Lists.{none_some, some_same}
+use Rattle.list_lemmas.proofs.Lists.{none_some, some_same}
 use Rattle.history_laws.proofs.RowSteps.{same_row}
 use Rattle.holdings.specs.Keyed.{has_key, ties}
 use Rattle.holdings.specs.Purges.{IsFirstToPurge, forgets}

@@ -13,7 +13,7 @@ use Rattle.std.proofs.lemmas.Map.Made.{keys_of-map_values, lookup-map_values}
 use Rattle.mw_types.specs.Orders.{row_cmp}
 use Rattle.mw_types.specs.declared.identity.RowName.{RowName}
 use Rattle.mw_types.proofs.OrderLaws.{row_cmp-total}
-use Rattle.run_history.proofs.Lists.{each-weaker, none_some, some_same}
+use Rattle.list_lemmas.proofs.Lists.{each-weaker, none_some, some_same}
 use Rattle.run_history.proofs.Lookups.{each_found, lookup-insert_entry, same_entries, sorted-insert_entry}
 use Rattle.history_laws.proofs.RowSteps.{same_row}
 use Rattle.book.specs.declared.answers.NamedRow.{NamedRow}

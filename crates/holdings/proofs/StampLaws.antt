@@ -1,6 +1,6 @@
 -- The stamps of rows, one a row that has work: they are changed with one row, and the least of them is the oldest work.
 use Rattle.std.proofs.Common.{◌≡◌, ◌≢◌, ◌<◌, ◌≤◌, ◌+◌, ◌-◌, ℕ, zero, suc, List, [], ◌∷◌, length, map, refl, sym, ◌∙◌, ap, subst, arith, inl, inr, sum_by}
-use Rattle.std.specs.Prelude.{Box, Contains, Err, IfOk, IfSome, None, Ok, OnOk, Option, Result, Some, unwrap_or}
+use Rattle.std.specs.Prelude.{Box, Contains, Err, IfOk, IfSome, None, Ok, Option, Result, Some, unwrap_or}
 use Rattle.std.specs.Option.{option_and_then, option_map}
 use Rattle.std.specs.Result.{result_ok}
 use Rattle.std.specs.List.{flat_map}
@@ -135,11 +135,6 @@ least-stamps rows stamps are =
     ∙ sym (least-flat_map (λ (r : RowName × Contents). row_marks r.1) rows)
 
 -- ---- one stamp
-
--- what follows from what holds after a call that was accepted
-pub on-ok : {T E P Q : Type 0} (result : Result T E) → (P → Q) → OnOk result P → OnOk result Q
-on-ok (Ok x) so is = so is
-on-ok (Err e) so is = tt
 
 -- one stamp more, by what the stamps say
 pub restamped-new : (after : ℕ) (old new : List ℕ) → IsPermutation (after ∷ old) new → HasRestamped None after old new

@@ -21,7 +21,7 @@ use Rattle.run_history.specs.Cases.{CaseShape, is_injector, source_of}
 use Rattle.run_history.specs.Marks.{own_work}
 use Rattle.run_history.specs.Runs.{Run, cached, row_in, row_of}
 use Rattle.run_history.specs.Watermarks.{cursor_in, least}
-use Rattle.run_history.proofs.Lists.{each-weaker, filter-all}
+use Rattle.list_lemmas.proofs.Lists.{each-weaker, filter-all}
 use Rattle.run_history.proofs.Lookups.{each_found}
 use Rattle.history_laws.proofs.LowLaws.{AreRowsInOrder, least-end}
 use Rattle.history_laws.proofs.MarkLaws.{OfBounds, from-own, own-end, own-from}

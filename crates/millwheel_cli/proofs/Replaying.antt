@@ -1,5 +1,5 @@
 -- What the steps of a script and the drain behind them write in a world.
-use Rattle.std.proofs.Common.{◌≡◌, ◌∙◌, ◌≤◌, ◌<◌, ◌+◌, ◌++◌, List, length, Option, Some, None, IfSome, Result, Ok, Err, OnOk, sym, ap, subst, inl, inr, true≢false, arith}
+use Rattle.std.proofs.Common.{◌≡◌, ◌∙◌, ◌≤◌, ◌<◌, ◌+◌, ◌++◌, List, length, Option, Some, None, IfSome, sym, ap, subst, inl, inr, true≢false, arith}
 use Rattle.std.specs.Option.{is_some}
 use Rattle.mw_types.specs.declared.entry.Entry.{Entry}
 use Rattle.std.proofs.lemmas.List.{length-append}
@@ -102,8 +102,3 @@ pub replayed_of : (case : CaseShape) (found : Option Rows) (steps : List Step) (
     → IfSome found (λ _. GoesOn case (scripted_history case steps) history) → IfSome found (λ _. IsReplayed case steps history)
 replayed_of case None steps history is = tt
 replayed_of case (Some rows) steps history is = inr is
-
--- what follows of something with Ok
-pub on_ok : {T E P Q : Type 0} (result : Result T E) → (P → Q) → OnOk result P → OnOk result Q
-on_ok (Ok x) f is = f is
-on_ok (Err why) f is = tt

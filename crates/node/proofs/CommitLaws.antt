@@ -1,5 +1,5 @@
 -- What a node is once an entry that it asked for stands.
-use Rattle.std.proofs.Common.{◌≡◌, ◌∙◌, ◌≤◌, ℕ, Bool, true, false, ◌||◌, List, [], ◌∷◌, ◌++◌, length, refl, sym, ap, subst, inl, inr}
+use Rattle.std.proofs.Common.{◌≡◌, ◌∙◌, ◌≤◌, ℕ, true, false, ◌||◌, List, [], ◌∷◌, ◌++◌, length, refl, sym, ap, subst, inl, inr}
 use Rattle.std.specs.Prelude.{All, IfSome, Option, Some, None}
 use Rattle.std.specs.List.{list_any}
 use Rattle.std.specs.Option.{option_and_then, option_map, option_map_or}
@@ -7,6 +7,8 @@ use Rattle.std.proofs.Math.Path.{fun_ext}
 use Rattle.std.proofs.lemmas.Bool.{cases_eq}
 use Rattle.std.proofs.lemmas.List.Elements.{All-append, All-from_recursion}
 use Rattle.std.proofs.lemmas.List.Folds.{list_any-append}
+use Rattle.list_lemmas.proofs.Tests.{or_true}
+use Rattle.list_lemmas.proofs.Told.{if-anyway}
 use Rattle.mw_types.specs.Outcomes.{EffectsView}
 use Rattle.mw_types.specs.declared.delivery.Delivery.{Delivery}
 use Rattle.mw_types.specs.declared.entry.Entry.{Entry}
@@ -87,11 +89,6 @@ committed shape old new asked after node commit a on late left = record {
       ap (messages_from asked.name) (made-late shape a.before asked.entry asked.name asked.late commit on a.number is));
 }
 
--- what holds is so where it is told
-pub told-any : {X : Type 0} (o : Option X) (P : Type 0) → P → IfSome o (λ _. P)
-told-any None P is = tt
-told-any (Some x) P is = is
-
 -- ---- a record that was handled
 
 -- the record that is handled is as late as it was made
@@ -104,10 +101,6 @@ late-handled case old new before sender delivery seq name effects moved sent =
     ap (λ (o : Option Delivery). option_map_or (λ (d : Delivery). d.item.late) o false)
     (ap (λ (h : List Entry). found_delivery delivery.id (run_of shape h).made) moved.more
     ∙ found-more shape old.seen moved.others delivery.id delivery is.made))
-
-or_true : (b : Bool) → (b || true) ≡ true
-or_true true = refl
-or_true false = refl
 
 -- the record is handled then
 handled-last : (seen before : List Entry) (seq : ℕ) (name : RowName) (id : RecordId) (effects : EffectsView)
@@ -138,7 +131,7 @@ Fits-written case old new node held sender delivery effects lease commit a fit w
     let entry = entries.Handle lease.seq delivery.to delivery.id effects in
     let more = more-by old new lease entry commit a in
     let ack : IsOutgoing case new (outgoing.Ack sender delivery.id) = record {
-      so = told-any new.told (is_handled delivery.id new.seen ≡ true)
+      so = if-anyway new.told (is_handled delivery.id new.seen ≡ true)
           (handled-last new.seen a.before lease.seq delivery.to delivery.id effects a.appended);
       addressed = work.sent.addressed.from;
     } in

@@ -15,7 +15,7 @@ use Rattle.run_history.specs.Legal.{IsLegal}
 use Rattle.run_history.specs.Made.{deliveries_of, found_delivery}
 use Rattle.run_history.specs.Runs.{Run, empty_run, followed, row_of, run_of}
 use Rattle.run_history.proofs.Known.{known-begins}
-use Rattle.run_history.proofs.Lists.{each-append, each-weaker, find-behind, find-each}
+use Rattle.list_lemmas.proofs.Lists.{each-append, each-weaker, find-behind, find-each}
 use Rattle.history_laws.proofs.Along.{AreLegal-apart, run_of-append}
 use Rattle.history_laws.proofs.FinishedLaws.{finished-handled, is_handled-more, unmade-unfinished}
 use Rattle.history_laws.proofs.FloorLaws.{floor_of-below}

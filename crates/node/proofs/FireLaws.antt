@@ -6,6 +6,7 @@ use Rattle.std.specs.Ordering.{is_le, is_lt, nat_cmp, ordering_reverse, ordering
 use Rattle.std.specs.declared.cmp.Ordering.{Ordering}
 use Rattle.std.specs.declared.cmp.Ordering.TheVariants.{Less, Equal, Greater}
 use Rattle.std.proofs.lemmas.Bool.{cases_eq, eq-eqb, eqb-true, leb-false, leb-true}
+use Rattle.list_lemmas.proofs.Tests.{less_from_test, both_true}
 use Rattle.mw_types.specs.Orders.{key_cmp, row_cmp}
 use Rattle.mw_types.specs.declared.identity.RowName.{RowName}
 use Rattle.mw_types.specs.declared.timer.Timer.{Timer}
@@ -16,9 +17,8 @@ use Rattle.row_parts.specs.Contents.{Contents, fresh}
 use Rattle.run_history.specs.Cases.{fresh_of, intervals_of}
 use Rattle.run_history.specs.Fences.{interval_of}
 use Rattle.run_history.specs.Runs.{cached, row_in}
-use Rattle.run_history.proofs.Fitting.{both}
 use Rattle.run_history.proofs.IntervalLaws.{interval_of-has}
-use Rattle.run_history.proofs.Lists.{some_same}
+use Rattle.list_lemmas.proofs.Lists.{some_same}
 use Rattle.holdings.specs.Firsts.{HasPicked}
 use Rattle.holdings.specs.Holding.{HeldView, held_at}
 use Rattle.holdings.specs.Timers.{IsFirstTimer, due_cmp, pair_of, timer_of}
@@ -34,16 +34,10 @@ use Rattle.node.proofs.PurgeLaws.{held-on-at}
 
 -- ---- the order of timers
 
--- what is less
-less : (o : Ordering) → is_lt o ≡ true → o ≡ Less
-less Less is = refl
-less Equal is = absurd cc
-less Greater is = absurd cc
-
 -- what is not before a timer is not before one that is before it
 past-before : (a b t : RowName × Timer) → is_lt (due_cmp b a) ≡ true → is_lt (due_cmp t a) ≡ false → is_lt (due_cmp t b) ≡ false
 past-before a b t before past = not_less (due_cmp t b) (λ first.
-    let whole : due_cmp t a ≡ Less = due_cmp-total.trans t b a first (less (due_cmp b a) before) in
+    let whole : due_cmp t a ≡ Less = due_cmp-total.trans t b a first (less_from_test (due_cmp b a) before) in
     absurd (let e : true ≡ false = sym (ap is_lt whole) ∙ past in cc))
 
 -- what is not before a timer is not before one that it is not before
@@ -61,25 +55,25 @@ past-behind a b t behind past = not_less (due_cmp t a) (λ first. by_order (due_
 
 -- ---- the least of some timers
 
--- of two least timers the one that is before is the least of both
+-- of two least timers the one that is before is the least of both_true
 pub least-earlier : (One Other Both : RowName × Timer → Type 0) (one other : Option RowTimer)
     → ((t : RowName × Timer) → One t → Both t) → ((t : RowName × Timer) → Other t → Both t)
     → ((t : RowName × Timer) → Both t → One t ⊎ Other t)
     → IsLeastTimer One one → IsLeastTimer Other other → IsLeastTimer Both (earlier_timer one other)
-least-earlier One Other Both None None left right split is more = λ t both. elim (split t both) [
+least-earlier One Other Both None None left right split is more = λ t both_true. elim (split t both_true) [
   | inl x ↦ is t x
   | inr y ↦ more t y
 ]
 least-earlier One Other Both (Some a) None left right split is more = (
   left (pair_of a) is.0,
-  λ t both. elim (split t both) [
+  λ t both_true. elim (split t both_true) [
     | inl x ↦ is.1 t x
     | inr y ↦ absurd (more t y)
   ],
 )
 least-earlier One Other Both None (Some b) left right split is more = (
   right (pair_of b) more.0,
-  λ t both. elim (split t both) [
+  λ t both_true. elim (split t both_true) [
     | inl x ↦ absurd (is t x)
     | inr y ↦ more.1 t y
   ],
@@ -89,14 +83,14 @@ least-earlier One Other Both (Some a) (Some b) left right split is more = by_tes
     by_test : (c : Bool) → is_lt (due_cmp (pair_of b) (pair_of a)) ≡ c → IsLeastTimer Both (Some (if c then b else a))
     by_test true before = (
       right (pair_of b) more.0,
-      λ t both. elim (split t both) [
+      λ t both_true. elim (split t both_true) [
         | inl x ↦ past-before (pair_of a) (pair_of b) t before (is.1 t x)
         | inr y ↦ more.1 t y
       ],
     )
     by_test false behind = (
       left (pair_of a) is.0,
-      λ t both. elim (split t both) [
+      λ t both_true. elim (split t both_true) [
         | inl x ↦ is.1 t x
         | inr y ↦ past-behind (pair_of a) (pair_of b) t behind (more.1 t y)
       ],
@@ -180,15 +174,15 @@ pub lies-part : (shape : Shape) (i : ℕ) (name : RowName) (b : Bounds) → inte
 lies-part shape i name b lies at =
     let has = interval_of-has shape i name lies in
     let h = has.0 in
-    let first = both ((h.part == name.part) && is_le (key_cmp h.from name.key)) (ends_after h.to name.key) has.2 in
+    let first = both_true ((h.part == name.part) && is_le (key_cmp h.from name.key)) (ends_after h.to name.key) has.2 in
     ap (λ (c : Bounds). c.part) (some_same b h (sym at ∙ has.1))
-    ∙ eqb-true h.part name.part (both (h.part == name.part) (is_le (key_cmp h.from name.key)) first.0).0
+    ∙ eqb-true h.part name.part (both_true (h.part == name.part) (is_le (key_cmp h.from name.key)) first.0).0
 
 -- a place that is there
 below : (all : List Bounds) (k : ℕ) (b : Bounds) → slice_get all k ≡ Some b → k < length all
 below [] k b at = absurd cc
 below (c ∷ cs) zero b at = omega arith
-below (c ∷ cs) (suc k) b at = let less = below cs k b at in omega (arith, less)
+below (c ∷ cs) (suc k) b at = let less_from_test = below cs k b at in omega (arith, less_from_test)
 
 -- a row that is there
 there-some : (o : Option Contents) (row : Contents) → o ≡ Some row → IsSome o

@@ -4,6 +4,7 @@ use Rattle.std.specs.Prelude.{All, IfErr, IfOk, IfSome, Option, Some, None, Resu
 use Rattle.std.specs.Option.{option_map}
 use Rattle.std.proofs.lemmas.List.{length-append}
 use Rattle.std.proofs.lemmas.List.Elements.{All-append}
+use Rattle.list_lemmas.proofs.Told.{if-anyway}
 use Rattle.mw_types.specs.Outcomes.{EffectsView}
 use Rattle.mw_types.specs.declared.entry.Entry.{Entry}
 use Rattle.mw_types.specs.declared.entry.Entry.TheVariants as entries
@@ -18,7 +19,7 @@ use Rattle.run_history.specs.Fences.{interval_of}
 use Rattle.run_history.specs.Legal.{timer_outcome}
 use Rattle.run_history.specs.Made.{deliveries_made, late_cause}
 use Rattle.run_history.specs.Runs.{cached, row_in, run_of}
-use Rattle.run_history.proofs.Lists.{some_same}
+use Rattle.list_lemmas.proofs.Lists.{some_same}
 use Rattle.book.specs.Books.{LeaseView}
 use Rattle.book.specs.Desking.{HasWritten}
 use Rattle.book.specs.Desks.{DeskView, HasLooked, IsSound}
@@ -38,7 +39,7 @@ use Rattle.node.specs.Works.{IsStateThere}
 use Rattle.node.specs.declared.outcome.NodeFault.{NodeFault}
 use Rattle.node.specs.declared.outcome.Outcome.{Outcome}
 use Rattle.node.specs.declared.outcome.Outcome.TheVariants as outcomes
-use Rattle.node.proofs.CommitLaws.{IsAppended, committed, grown-by, leases-written, more-by, told-any}
+use Rattle.node.proofs.CommitLaws.{IsAppended, committed, grown-by, leases-written, more-by}
 use Rattle.node.proofs.FitLaws.{outbox-more}
 use Rattle.node.proofs.PurgeLaws.{held-at-on, ok-answers}
 use Rattle.node.proofs.LookLaws.{err-fails, fault-later, some-later}
@@ -155,7 +156,7 @@ Fits-fired case old new node interval name timer mark effects commit after h fit
       work = subst (λ (o : Option WorkView). IfSome o (IsWork case new after)) (sym free) tt;
       outbox = All-append (IsOutgoing case new) node.outbox made (outbox-more case old new node.outbox more fits.outbox)
           (made-outgoing case new a.before entry name timer.late commit a.appended refl a.number
-          (told-any new.told (late_cause (run_of shape a.before).made entry ≡ timer.late) refl) addressed);
+          (if-anyway new.told (late_cause (run_of shape a.before).made entry ≡ timer.late) refl) addressed);
     }
 
 -- what is asked of a timer that is the next
@@ -205,7 +206,7 @@ answers-fired case old new node mark interval name timer effects commit after se
       asked,
       subst (λ (held : HeldView). MayAskFire case node name.part mark (firing name timer mark effects held)) same may,
       committed shape old new asked (worker_at node) last commit a refl
-          (told-any old.told (late_cause (run_of shape a.before).made asked.entry ≡ timer.late) refl) left,
+          (if-anyway old.told (late_cause (run_of shape a.before).made asked.entry ≡ timer.late) refl) left,
     )
 
 -- ---- under the least known mark

@@ -5,6 +5,7 @@ use Rattle.std.specs.Ordering.{is_le, is_lt}
 use Rattle.std.specs.declared.cmp.Ordering.{Ordering}
 use Rattle.std.specs.declared.cmp.Ordering.TheVariants.{Less, Equal, Greater}
 use Rattle.std.proofs.lemmas.Bool.{eqb-true, le-leb, leb-true, lt-ltb, ltb-true}
+use Rattle.list_lemmas.proofs.Tests.{both_true}
 use Rattle.mw_types.specs.Orders.{key_cmp, row_cmp}
 use Rattle.mw_types.specs.declared.identity.RowName.{RowName}
 use Rattle.key_intervals.specs.Intervals.{ends_after}
@@ -13,9 +14,8 @@ use Rattle.row_parts.specs.Contents.{Contents, fresh}
 use Rattle.run_history.specs.Cases.{CaseShape, fresh_of}
 use Rattle.run_history.specs.Fences.{interval_of}
 use Rattle.run_history.specs.Runs.{cached, row_in}
-use Rattle.run_history.proofs.Fitting.{both}
 use Rattle.run_history.proofs.IntervalLaws.{interval_of-has}
-use Rattle.run_history.proofs.Lists.{some_same}
+use Rattle.list_lemmas.proofs.Lists.{some_same}
 use Rattle.history_laws.proofs.MarkLaws.{interval-there}
 use Rattle.book.specs.Desks.{DeskView, HasLooked, IsSound}
 use Rattle.holdings.specs.Firsts.{HasPicked}
@@ -38,9 +38,9 @@ pub part-there : (shape : Shape) (i : ℕ) (name : RowName) → interval_of shap
 part-there shape i name lies =
     let has = interval_of-has shape i name lies in
     let b = has.0 in
-    let first = both ((b.part == name.part) && is_le (key_cmp b.from name.key)) (ends_after b.to name.key) has.2 in
+    let first = both_true ((b.part == name.part) && is_le (key_cmp b.from name.key)) (ends_after b.to name.key) has.2 in
     subst (λ (p : ℕ). p < parts_of shape)
-    (eqb-true b.part name.part (both (b.part == name.part) (is_le (key_cmp b.from name.key)) first.0).0) (interval-there shape i b has.1)
+    (eqb-true b.part name.part (both_true (b.part == name.part) (is_le (key_cmp b.from name.key)) first.0).0) (interval-there shape i b has.1)
 
 -- the rows that are cached of an interval lie in it
 pub rows-within : (case : CaseShape) (desk : DeskView) (node : NodeView) (interval : ℕ) → Fits case desk node
@@ -67,7 +67,7 @@ passes false is = absurd cc
 picked-forgets : (floor least : ℕ) (row : Contents) → forgets floor least row ≡ Some tt
     → (max 1 least ≤ length row.seen) × (row.floor < floor)
 picked-forgets floor least row is =
-    let two = both (nat_lt row.floor floor) (nat_le (max 1 least) (length row.seen)) (passes (nat_lt row.floor floor && nat_le
+    let two = both_true (nat_lt row.floor floor) (nat_le (max 1 least) (length row.seen)) (passes (nat_lt row.floor floor && nat_le
     (max 1 least) (length row.seen)) is) in (
       leb-true (max 1 least) (length row.seen) two.1,
       ltb-true row.floor floor two.0,

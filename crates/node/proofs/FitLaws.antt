@@ -5,7 +5,8 @@ use Rattle.std.specs.Option.{option_and_then, option_map, option_map_or}
 use Rattle.std.proofs.Math.Path.{fun_ext}
 use Rattle.std.proofs.lemmas.Bool.{cases_eq, eq-eqb, ne_eqb}
 use Rattle.std.proofs.lemmas.List.{append-nil}
-use Rattle.std.proofs.lemmas.List.Elements.{All-append, All-from_recursion, All-weaker}
+use Rattle.std.proofs.lemmas.List.Elements.{All-append, All-weaker}
+use Rattle.list_lemmas.proofs.Told.{if-same}
 use Rattle.mw_types.specs.Outcomes.{EffectsView}
 use Rattle.mw_types.specs.declared.delivery.Delivery.{Delivery}
 use Rattle.mw_types.specs.declared.entry.Entry.{Entry}
@@ -92,11 +93,6 @@ looked_twice old mid new one two = looked-moved old mid new new.seen one two
 
 -- ---- what was sent and what is prepared
 
--- what is told stays told
-pub step-told : {X : Type 0} (old new : Option X) (P Q : Type 0) → new ≡ old → (P → Q) → IfSome old (λ _. P) → IfSome new (λ _. Q)
-step-told {X = X} None new P Q same step was = subst (λ (o : Option X). IfSome o (λ _. Q)) (sym same) tt
-step-told {X = X} (Some x) new P Q same step was = subst (λ (o : Option X). IfSome o (λ _. Q)) (sym same) (step was)
-
 -- what a message says stays so
 pub so-more : (case : CaseShape) (front rest : List Entry) (message : Outgoing) → IsSoIn case front message
     → IsSoIn case (front ++ rest) message
@@ -110,7 +106,7 @@ so-more case front rest (outgoing.Ack to id) so = is_handled-more id front rest 
 pub outgoing-more : (case : CaseShape) (old new : DeskView) (message : Outgoing) → HasMore old new
     → IsOutgoing case old message → IsOutgoing case new message
 outgoing-more case old new message more is = record {
-  so = step-told old.told new.told (IsSoIn case old.seen message) (IsSoIn case new.seen message) more.told
+  so = if-same old.told new.told (IsSoIn case old.seen message) (IsSoIn case new.seen message) more.told
       (λ was. subst (λ (h : List Entry). IsSoIn case h message) (sym more.more) (so-more case old.seen more.rest message was)) is.so;
   addressed = is.addressed;
 }

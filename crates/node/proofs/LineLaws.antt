@@ -4,6 +4,7 @@ use Rattle.std.specs.Prelude.{All, IfErr, IfOk, IfSome, Option, Some, None}
 use Rattle.std.specs.Option.{option_and_then, option_map}
 use Rattle.std.proofs.lemmas.Bool.{cases_eq, lt-ltb}
 use Rattle.std.proofs.lemmas.List.Elements.{All-append}
+use Rattle.list_lemmas.proofs.Told.{if-anyway}
 use Rattle.mw_types.specs.Outcomes.{EffectsView}
 use Rattle.mw_types.specs.declared.delivery.Delivery.{Delivery}
 use Rattle.mw_types.specs.declared.entry.Entry.{Entry}
@@ -18,7 +19,7 @@ use Rattle.run_history.specs.Cases.{CaseShape, record_of, source_of}
 use Rattle.run_history.specs.Fences.{interval_of}
 use Rattle.run_history.specs.Made.{late_cause}
 use Rattle.run_history.specs.Runs.{run_of}
-use Rattle.run_history.proofs.Lists.{some_same}
+use Rattle.list_lemmas.proofs.Lists.{some_same}
 use Rattle.book.specs.Desks.{DeskView, HasLooked, IsSound}
 use Rattle.book.specs.Proposals.{IsHandling, IsNextLine}
 use Rattle.book.specs.declared.desk_refusal.DeskRefusal.{DeskRefusal}
@@ -35,7 +36,7 @@ use Rattle.node.specs.Steps.{HasYielded, answered}
 use Rattle.node.specs.Workers.{NodeView, WorkView, messages_from, with_outgoing, worker_at}
 use Rattle.node.specs.declared.outcome.Outcome.TheVariants as outcomes
 use Rattle.node.specs.declared.outgoing.Outgoing.TheVariants as outgoing
-use Rattle.node.proofs.CommitLaws.{IsAppended, committed, grown-by, held-at-on, leases-written, more-by, told-any}
+use Rattle.node.proofs.CommitLaws.{IsAppended, committed, grown-by, held-at-on, leases-written, more-by}
 use Rattle.node.proofs.FiringLaws.{small-number}
 use Rattle.node.proofs.FitLaws.{HasMore, fails-refused, held-interval, outbox-more, outgoing-more}
 use Rattle.node.proofs.PurgeLaws.{ok-answers}
@@ -205,7 +206,7 @@ Fits-injected case old new node interval part line item commit after is h fit in
       work = works-apart case old new node.held after interval part line commit node.prepared more injector h fits.work;
       outbox = All-append (IsOutgoing case new) node.outbox made (outbox-more case old new node.outbox more fits.outbox)
           (made-outgoing case new a.before entry name item.late commit a.appended refl a.number
-          (told-any new.told (late_cause (run_of shape a.before).made entry ≡ item.late) refl)
+          (if-anyway new.told (late_cause (run_of shape a.before).made entry ≡ item.late) refl)
           (addressed commit (small-number old new h.held.lease entry commit sound a)));
     }
 
@@ -230,7 +231,7 @@ answers-injected case old new node interval part line item commit after next cov
     subst (λ (o : Option Request). AnswersAsked shape old new o (worker_at node) node last (outcomes.Committed commit))
     (sym (asked-line case node part line item next is ∙ ap (λ (held : HeldView). Some (injecting part line item held)) same))
     (committed shape old new asked (worker_at node) last commit a refl
-    (told-any old.told (late_cause (run_of shape a.before).made asked.entry ≡ asked.late) refl) left)
+    (if-anyway old.told (late_cause (run_of shape a.before).made asked.entry ≡ asked.late) refl) left)
 
 -- ---- a refusal
 

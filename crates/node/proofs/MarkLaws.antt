@@ -7,7 +7,7 @@ use Rattle.key_intervals.specs.declared.bounds.Bounds.{Bounds}
 use Rattle.topology.specs.Shapes.{Shape}
 use Rattle.run_history.specs.Cases.{intervals_of}
 use Rattle.run_history.specs.Watermarks.{least}
-use Rattle.run_history.proofs.Lists.{some_same}
+use Rattle.list_lemmas.proofs.Lists.{some_same}
 use Rattle.history_laws.proofs.LowLaws.{bound-each, least-bound, least-end}
 use Rattle.watermark.specs.Marks.{mark_of, marks_in, marks_of}
 use Rattle.book.specs.Desks.{DeskView}

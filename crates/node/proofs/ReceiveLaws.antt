@@ -3,6 +3,7 @@ use Rattle.std.proofs.Common.{◌≡◌, ◌∙◌, Bool, true, false, List, [],
 use Rattle.std.specs.Prelude.{IfSome, IsSome, Option, Some, None, if◌then◌else◌}
 use Rattle.std.proofs.lemmas.List.Elements.{All-append, All-from_recursion}
 use Rattle.std.specs.Option.{is_some, option_map_or}
+use Rattle.list_lemmas.proofs.Told.{if-anyway, if-same}
 use Rattle.mw_types.specs.Outcomes.{EffectsView}
 use Rattle.mw_types.specs.declared.delivery.Delivery.{Delivery}
 use Rattle.mw_types.specs.declared.entry.Entry.{Entry}
@@ -22,9 +23,8 @@ use Rattle.node.specs.declared.outcome.Outcome.{Outcome}
 use Rattle.node.specs.declared.outcome.Outcome.TheVariants as outcomes
 use Rattle.node.specs.declared.outgoing.Outgoing.{Outgoing}
 use Rattle.node.specs.declared.outgoing.Outgoing.TheVariants as outgoing
-use Rattle.node.proofs.CommitLaws.{told-any}
 use Rattle.holdings.proofs.HeldSteps.{AreAllHeld-looked}
-use Rattle.node.proofs.FitLaws.{Fits-kept, keeps-same, more-looked, so-more, step-told}
+use Rattle.node.proofs.FitLaws.{Fits-kept, keeps-same, more-looked, so-more}
 
 -- ---- what a message says, once its note was met
 
@@ -48,13 +48,13 @@ pub so_met : (case : CaseShape) (old new : DeskView) (sight : Option Sight) (mes
     → IsSoBy sight message → IsVouchedFor case old sight message → TellsUnlessAlone old sight → HasMet sight new → HasLooked old new
     → IfSome new.told (λ _. IsSoIn case new.seen message)
 so_met case old new None message same so vouched tells met looked =
-    step-told old.told new.told (IsSoIn case old.seen message) (IsSoIn case new.seen message) looked.told
+    if-same old.told new.told (IsSoIn case old.seen message) (IsSoIn case new.seen message) looked.told
     (λ was. subst (λ (h : List Entry). IsSoIn case h message) (sym looked.more) (so-more case old.seen looked.others message was))
     (vouched-told case old message vouched tells)
 so_met case old new (Some sight) message same so vouched tells met looked =
     let here : IsSoIn case sight.seen message =
     subst (λ (k : CaseShape). IsSoIn k sight.seen message) (met.0 ∙ looked.case ∙ same) so in
-    told-any new.told (IsSoIn case new.seen message)
+    if-anyway new.told (IsSoIn case new.seen message)
     (subst (λ (h : List Entry). IsSoIn case h message) met.1.1 (so-more case sight.seen met.1.0 message here))
 
 -- ---- what a node answers to a record

@@ -5,6 +5,8 @@ use Rattle.std.specs.List.{AllByRecursion, enumerate_from, flat_map, list_all}
 use Rattle.std.specs.Option.{option_map_or}
 use Rattle.std.proofs.lemmas.Bool.{leb-true, ltb-true}
 use Rattle.std.proofs.lemmas.List.Elements.{All-from_recursion, recursion_from_All}
+use Rattle.list_lemmas.proofs.Tests.{both_true}
+use Rattle.list_lemmas.proofs.Places.{each-behind}
 use Rattle.mw_types.specs.declared.TheConstants.{MAX_STAMP}
 use Rattle.mw_types.specs.declared.delivery.Delivery.{Delivery}
 use Rattle.mw_types.specs.declared.entry.Entry.{Entry}
@@ -19,7 +21,6 @@ use Rattle.run_history.specs.Fits.{is_sent_before}
 use Rattle.run_history.specs.Made.{deliveries_made, deliveries_of, delivery_at, found_delivery, late_cause, produced, productions_of, row_written, sends_of}
 use Rattle.run_history.specs.Runs.{Run, run_of}
 use Rattle.run_history.proofs.Beginnings.{slice_get-last}
-use Rattle.run_history.proofs.Fitting.{both}
 use Rattle.run_history.proofs.Making.{consumers_few}
 use Rattle.run_history.proofs.RunLaws.{run_of-push}
 use Rattle.history_laws.proofs.IdLaws.{each_found_delivery, made-in_order, next-length}
@@ -54,8 +55,8 @@ made-numbered shape name productions late commit = renumbered-each name commit
 -- a delivery that was made goes to a computation
 pub goes-there : (shape : Shape) (number : ℕ) (d : Delivery) → is_sent_before shape number d ≡ true → IsComputation shape d.to.part
 goes-there shape number d is =
-    let first = both (nat_lt d.id.commit number && nat_le (injectors_of shape) d.to.part) (nat_lt d.to.part (parts_of shape)) is in
-    let second = both (nat_lt d.id.commit number) (nat_le (injectors_of shape) d.to.part) first.0 in record {
+    let first = both_true (nat_lt d.id.commit number && nat_le (injectors_of shape) d.to.part) (nat_lt d.to.part (parts_of shape)) is in
+    let second = both_true (nat_lt d.id.commit number) (nat_le (injectors_of shape) d.to.part) first.0 in record {
       no_injector = leb-true (injectors_of shape) d.to.part second.1;
       there = ltb-true d.to.part (parts_of shape) first.1;
     }
@@ -66,7 +67,7 @@ deliverable-each : (shape : Shape) (name : RowName) (number : ℕ) (ds : List De
     → list_all (is_sent_before shape number) ds ≡ true → AllByRecursion (IsAddressed shape) (messages_from name ds)
 deliverable-each shape name number [] from ids stamps before = tt
 deliverable-each shape name number (d ∷ ds) from ids stamps before =
-    let parts = both (is_sent_before shape number d) (list_all (is_sent_before shape number) ds) before in (
+    let parts = both_true (is_sent_before shape number d) (list_all (is_sent_before shape number) ds) before in (
       record { id = ids.0; stamp = stamps.0; to = goes-there shape number d parts.0; from = from },
       deliverable-each shape name number ds from ids.1 stamps.1 parts.1,
     )
@@ -89,10 +90,6 @@ made-addressed shape name productions late commit rules from few stamps small =
     (sent-before shape name.part productions late commit))
 
 -- ---- who made it
-
-each-behind : {X : Type 0} (P : X → Type 0) (xs ys : List X) → AllByRecursion P (xs ++ ys) → AllByRecursion P ys
-each-behind P [] ys each = each
-each-behind P (x ∷ xs) ys each = each-behind P xs ys each.1
 
 -- deliveries that are found in a history, and have the number of an entry on this row
 sent-each : (case : CaseShape) (seen : List Entry) (name : RowName) (entry : Entry) (commit : ℕ) (ds : List Delivery)

@@ -5,6 +5,7 @@ use Rattle.std.specs.List.{list_any}
 use Rattle.std.specs.Prelude.{IfErr, IfOk, IfSome, Option, Some, None, Result, Ok, Err, if◌then◌else◌}
 use Rattle.std.specs.Option.{is_some, option_and_then, option_map}
 use Rattle.std.proofs.lemmas.Bool.{cases_eq}
+use Rattle.list_lemmas.proofs.Told.{if-anyway}
 use Rattle.mw_types.specs.Outcomes.{EffectsView}
 use Rattle.mw_types.specs.declared.delivery.Delivery.{Delivery}
 use Rattle.mw_types.specs.declared.entry.Entry.TheVariants as entries
@@ -16,7 +17,7 @@ use Rattle.run_history.specs.Cases.{CaseShape}
 use Rattle.run_history.specs.Fences.{interval_of}
 use Rattle.run_history.specs.Made.{found_delivery}
 use Rattle.run_history.specs.Runs.{written_row}
-use Rattle.run_history.proofs.Lists.{some_same}
+use Rattle.list_lemmas.proofs.Lists.{some_same}
 use Rattle.book.specs.Books.{LeaseView}
 use Rattle.book.specs.Desking.{HasStored}
 use Rattle.book.specs.Desks.{DeskView, HasLooked}
@@ -37,7 +38,7 @@ use Rattle.node.specs.declared.outcome.Outcome.{Outcome}
 use Rattle.node.specs.declared.outcome.Outcome.TheVariants as outcomes
 use Rattle.node.specs.declared.outgoing.Outgoing.{Outgoing}
 use Rattle.node.specs.declared.outgoing.Outgoing.TheVariants as outgoing
-use Rattle.node.proofs.CommitLaws.{IsAppended, committed, grown-by, held-on-at, leases-written, more-by, told-any}
+use Rattle.node.proofs.CommitLaws.{IsAppended, committed, grown-by, held-on-at, leases-written, more-by}
 use Rattle.node.proofs.FitLaws.{HasMore, fails-refused, held-interval, outbox-more, outgoing-more}
 use Rattle.node.proofs.PurgeLaws.{holding, ok-answers}
 use Rattle.node.proofs.RefusedLaws.{reason-at, refused-held}
@@ -203,7 +204,7 @@ answers-settled case old new node interval to id commit after h covers pending =
     ack-answers shape old new node (holding after node) to id h.held (outcomes.Committed commit)
     (held-on-at shape node.held to interval h.held covers h.was) pending
     (committed shape old new asked (worker_at node) (holding after node) commit
-    (appended-settled shape old new interval to id commit node.held after h) refl (told-any old.told _ refl) left)
+    (appended-settled shape old new interval to id commit node.held after h) refl (if-anyway old.told _ refl) left)
 
 -- the desk refused
 pub answers-unsettled : (case : CaseShape) (old new : DeskView) (was mid node : NodeView) (interval : ℕ) (here : HeldView) (to : RowName)

@@ -4,6 +4,7 @@ use Rattle.std.specs.Prelude.{Option, Some, None, if◌then◌else◌, ◌==◌}
 use Rattle.std.specs.List.{list_all}
 use Rattle.std.specs.Option.{option_map, option_map_or}
 use Rattle.std.proofs.lemmas.Bool.{le-ltb}
+use Rattle.list_lemmas.proofs.Tests.{both_true}
 use Rattle.mw_types.specs.Outcomes.{EffectsView}
 use Rattle.mw_types.specs.declared.identity.RowName.{RowName}
 use Rattle.mw_types.specs.declared.kind.Kind.{Kind}
@@ -14,8 +15,7 @@ use Rattle.row_parts.specs.Contents.{Contents}
 use Rattle.run_history.specs.Cases.{CaseShape, is_injector, source_of}
 use Rattle.run_history.specs.Fits.{is_cursor_within, is_sent_before, suits_part}
 use Rattle.run_history.specs.Legal.{record_outcome}
-use Rattle.run_history.proofs.Fitting.{both}
-use Rattle.run_history.proofs.Lists.{some_same}
+use Rattle.list_lemmas.proofs.Lists.{some_same}
 use Rattle.book.specs.Desks.{DeskView}
 use Rattle.book.proofs.ProposalLaws.{record-suits}
 use Rattle.holdings.specs.Holding.{AreAllHeld, HeldView, held_on, row_held}
@@ -48,7 +48,7 @@ state-held case desk all name held fit is there =
     let here = fit.each on.0 held on.2 in
     let fitting = here.rows.fit name (on.1 ∙ sym (ap Some here.of_interval)) is.there in
     suits-state case name.part row is
-    (both (suits_part case name.part row) (list_all (is_sent_before shape (length desk.seen)) row.pending) fitting).0
+    (both_true (suits_part case name.part row) (list_all (is_sent_before shape (length desk.seen)) row.pending) fitting).0
 
 -- a handler makes few records of a record
 pub few-handled : (case : CaseShape) (name : RowName) (row : Contents) (item : Record) (effects : EffectsView)

@@ -14,6 +14,7 @@ use Rattle.std.proofs.lemmas.List.Sorted.{Contains-permutation, IsPermutation-sy
 use Rattle.std.proofs.lemmas.List.Sums.{AllPass-from_list_all}
 use Rattle.std.proofs.lemmas.Map.Lookups.{exact_unsigned}
 use Rattle.std.proofs.lemmas.Option.{slice_get_within}
+use Rattle.list_lemmas.proofs.Tests.{equal_from_test, both_true}
 use Rattle.mw_types.specs.Orders.{id_cmp, row_cmp}
 use Rattle.mw_types.specs.declared.delivery.Delivery.{Delivery}
 use Rattle.mw_types.specs.declared.entry.Entry.{Entry}
@@ -27,13 +28,12 @@ use Rattle.run_history.specs.Fences.{interval_of, known}
 use Rattle.run_history.specs.Fits.{is_sent_before, suits_part}
 use Rattle.run_history.specs.Made.{found_delivery, row_written}
 use Rattle.run_history.specs.Runs.{cached, row_in, row_of, run_of}
-use Rattle.run_history.proofs.Fitting.{both}
 use Rattle.run_history.proofs.IntervalLaws.{interval_of-has}
 use Rattle.run_history.proofs.Known.{known-begins}
-use Rattle.run_history.proofs.Lists.{some_same}
+use Rattle.list_lemmas.proofs.Lists.{some_same}
 use Rattle.history_laws.specs.Ids.{IsMadeOn}
 use Rattle.history_laws.proofs.IdLaws.{each_found_delivery}
-use Rattle.history_laws.proofs.RowSteps.{both_Equal, from_tie, same_row}
+use Rattle.history_laws.proofs.RowSteps.{both_Equal, same_row}
 use Rattle.history_laws.proofs.SeenLaws.{found-more}
 use Rattle.history_laws.proofs.SenderLaws.{IsMadeOn-more, pending-on}
 use Rattle.history_laws.proofs.SentLaws.{pending-made, row_of-made}
@@ -136,7 +136,7 @@ kept-at all i s is = subst (λ (o : Option Contents). IfSome o (λ (row : Conten
 tied-same : (shape : Shape) (all : List (Option HeldView)) (i j : ℕ) (s t : Sent) → AreAllWithin shape all → IsFoundAt all i s
     → IsFoundAt all j t → is_eq (again_cmp s t) ≡ true → s ≡ t
 tied-same shape all i j s t within one other tie =
-    let k = both_Equal _ _ (from_tie (again_cmp s t) tie) in
+    let k = both_Equal _ _ (equal_from_test (again_cmp s t) tie) in
     let ids = tied-ids s.delivery.id t.delivery.id k.0 in
     let senders = same_row s.sender t.sender (ap is_eq k.1) in
     let intervals : i ≡ j = some_same i j (sym (lies-at shape all i s within one.at) ∙ ap (interval_of shape) senders
@@ -239,7 +239,7 @@ sent-addressed case desk all i s fit is =
     (part_within shape is.at.held.lease.interval has.0 has.1) in
     let same : row_held shape is.at.held s.sender ≡ row =
     ap (λ (o : Option Contents). unwrap_or o (fresh (fresh_of shape s.sender.part))) is.at.pending.there in
-    let suits = both (suits_part case s.sender.part (row_held shape is.at.held s.sender)) _ (here.rows.fit s.sender lies from) in
+    let suits = both_true (suits_part case s.sender.part (row_held shape is.at.held s.sender)) _ (here.rows.fit s.sender lies from) in
     let before = subst (λ (r : Contents). list_all (is_sent_before shape (length desk.seen)) r.pending ≡ true)
     same suits.1 in
     let goes = All-contains (λ (e : Delivery). is_sent_before shape (length desk.seen) e ≡ true) row.pending d

@@ -7,6 +7,7 @@ use Rattle.std.specs.List.Sorted.{IsStrictlySortedBy}
 use Rattle.std.specs.Int.{w64, to_be_bytes}
 use Rattle.std.proofs.lemmas.Bool.{lt-ltb, le-leb}
 use Rattle.std.proofs.lemmas.List.Elements.{All-from_recursion, recursion_from_All}
+use Rattle.list_lemmas.proofs.Lists.{some_same, each-both}
 use Rattle.mw_types.specs.declared.TheConstants.{MAX_STAMP}
 use Rattle.mw_types.specs.declared.state.State.{State}
 use Rattle.mw_types.specs.declared.timer.Timer.{Timer}
@@ -18,9 +19,9 @@ use Rattle.row_parts.specs.Contents.{Contents, IsRow, IsId, IsDelivery, delivery
 use Rattle.row_parts.specs.Orders.{timer_cmp-total, delivery_cmp-total}
 use Rattle.row_parts.specs.Spelling.{spelling_of, state_spelling, timer_spelling, delivery_spelling, id_spelling, list_spelling, IsSpelledState, IsSpelledRow, DeliveryFits}
 use Rattle.row_parts.specs.Reading.{◌>>=◌, keep, number_at, state_at, ascending_at, timer_at, delivery_at, id_at}
-use Rattle.row_parts.proofs.Codec.{IsBytes, some_is, Reads, as_read, nothing_at, nothing_reads, pair_at, pair_reads, made_reads, more, bind_assoc, ascending_reads}
+use Rattle.row_parts.proofs.Codec.{IsBytes, Reads, as_read, nothing_at, nothing_reads, pair_at, pair_reads, made_reads, more, bind_assoc, ascending_reads}
 use Rattle.row_parts.proofs.PartLaws.{u64_reads, timer_reads, delivery_reads, id_reads, at_most, below, both}
-use Rattle.row_parts.proofs.StateLaws.{state_reads, weaker, twice, whole_takes, whole_again}
+use Rattle.row_parts.proofs.StateLaws.{state_reads, weaker, whole_takes, whole_again}
 use Rattle.record_codec.specs.Reading.{kept_from, lists_at, fields_at, row_at, whole_row}
 
 -- ---- the fields
@@ -147,9 +148,9 @@ fits_row row is =
           (
             (r.state, is.state),
             (
-              ((r.timers.few, twice _ _ row.timers (recursion_from_All (λ (t : Timer). t.time ≤ MAX_STAMP) row.timers r.timers.times) (recursion_from_All (λ (t : Timer). t.tag < 2 ^ 64) row.timers is.tags)), r.timers.ascending),
+              ((r.timers.few, each-both _ _ row.timers (recursion_from_All (λ (t : Timer). t.time ≤ MAX_STAMP) row.timers r.timers.times) (recursion_from_All (λ (t : Timer). t.tag < 2 ^ 64) row.timers is.tags)), r.timers.ascending),
               (
-                ((r.pending.few, twice _ _ row.pending (recursion_from_All IsDelivery row.pending r.pending.each) (recursion_from_All DeliveryFits row.pending is.pending)), r.pending.ascending),
+                ((r.pending.few, each-both _ _ row.pending (recursion_from_All IsDelivery row.pending r.pending.each) (recursion_from_All DeliveryFits row.pending is.pending)), r.pending.ascending),
                 (((r.seen.few, recursion_from_All IsId row.seen r.seen.each), r.seen.ascending), tt),
               ),
             ),
@@ -209,7 +210,7 @@ unfolding whole_row
 row_read bytes row fits is = ap whole_row is ∙ whole_again row_at row_reads row fits
 
 pub same_row : (row answered : Contents) → Some row ≡ Some answered → answered ≡ row
-same_row row answered e = sym (some_is row answered e)
+same_row row answered e = sym (some_same row answered e)
 
 -- no row is read where nothing is
 pub none_read : (bytes : List ℕ) (row : Contents) → whole_row bytes ≡ None → IsSpelledRow row → bytes ≡ spelling_of row → ⊥

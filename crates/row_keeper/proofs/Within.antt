@@ -4,13 +4,13 @@ use Rattle.std.specs.List.{AllByRecursion}
 use Rattle.std.specs.List.Sorted.{IsStrictlySortedBy}
 use Rattle.std.specs.Map.{keys_of}
 use Rattle.std.specs.Ordering.{is_le, is_lt}
-use Rattle.std.specs.declared.cmp.Ordering.{Ordering}
-use Rattle.std.specs.declared.cmp.Ordering.TheVariants.{Less, Equal, Greater}
+use Rattle.std.specs.declared.cmp.Ordering.TheVariants.{Less}
 use Rattle.std.specs.declared.ops.Bound.TheVariants.{Included, Unbounded}
 use Rattle.std.specs.BTreeMap.Range.{entries_between}
 use Rattle.std.proofs.lemmas.List.Elements.{filter_passes, recursion_from_All, All-weaker}
 use Rattle.std.proofs.lemmas.List.Kept.{IsStrictlySortedBy-filter}
 use Rattle.std.proofs.lemmas.Map.Keys.{sorted_head, sorted_tail}
+use Rattle.list_lemmas.proofs.Tests.{less_from_test}
 use Rattle.mw_types.proofs.OrderLaws.{key_cmp-total}
 use Rattle.mw_types.specs.Orders.{row_cmp, key_cmp}
 use Rattle.mw_types.specs.declared.identity.RowName.{RowName}
@@ -72,11 +72,6 @@ from_start b rows o = record {
 pub within_from_start : (b : Bounds) (rows : Rows) → rows_covered b (entries_between row_cmp (Included (start_of b)) Unbounded rows) ≡ rows_covered b rows
 within_from_start b rows = filter_twice (λ row. covers b row.0) (λ row. at_or_after b row.0)
     (λ row h. to_test (begins_by row.0 b) (begins_by_row b row.0 h)) rows
-
-less_from_test : (o : Ordering) → is_lt o ≡ true → o ≡ Less
-less_from_test Less e = refl
-less_from_test Equal e = absurd (true≢false (sym e))
-less_from_test Greater e = absurd (true≢false (sym e))
 
 -- what goes on past a key goes on past those before it
 ends_after_earlier : (to : Option (List ℕ)) (key later : List ℕ) → key_cmp key later ≡ Less → ends_after to later ≡ true → ends_after to key ≡ true

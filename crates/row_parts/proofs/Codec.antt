@@ -10,6 +10,7 @@ use Rattle.std.specs.Int.{Width, w16, w32, w64, byte_len, from_be_bytes, to_be_b
 use Rattle.std.proofs.lemmas.Bool.{cases_lt, ltb-false, le-ltb}
 use Rattle.std.proofs.lemmas.List.{append-nil, take_at, drop_at, take-append-drop, length-append, length-take, get_or-drop, get_or-take, get_or_past}
 use Rattle.std.proofs.lemmas.Nat.{be_bytes_2, be_bytes_4, be_bytes_8, from_be_bytes-to_be_bytes_2, from_be_bytes-to_be_bytes_4, from_be_bytes-to_be_bytes_8}
+use Rattle.list_lemmas.proofs.Lists.{some_same}
 use Rattle.row_parts.specs.Spelling.{list_spelling}
 use Rattle.row_parts.specs.Reading.{◌>>=◌, keep, number_at, times_at, list_at, ascends, ascending_at}
 use Rattle.row_parts.proofs.Ascending.{ascends_decides}
@@ -51,9 +52,6 @@ guard_some false x y e = (refl, cc)
 pub keep_some : {A : Type 0} (b : Bool) (x y : A) → keep b x ≡ Some y → (b ≡ true) × (x ≡ y)
 keep_some true x y e = (refl, cc)
 keep_some false x y e = absurd cc
-
-pub some_is : {A : Type 0} (x y : A) → Some x ≡ Some y → x ≡ y
-some_is x y e = cc
 
 -- what is read is spelled so and fits, and what fits is read from its spelling
 pub record Reads {X : Type 0} (spelling : X → List ℕ) (Fits : X → Type 0) (read : List ℕ → Option (X × List ℕ)) : Type 0 where
@@ -133,7 +131,7 @@ nothing_at bytes = Some (tt, bytes)
 
 pub nothing_reads : Reads (λ (x : ⊤). []) (λ x. ⊤) nothing_at
 nothing_reads = record {
-  takes = λ bytes x fits e. subst (λ (y : ⊤ × List ℕ). (bytes ≡ [] ++ y.1) × IsBytes y.1 × ⊤) (some_is (tt, bytes) x e) (refl, fits, tt);
+  takes = λ bytes x fits e. subst (λ (y : ⊤ × List ℕ). (bytes ≡ [] ++ y.1) × IsBytes y.1 × ⊤) (some_same (tt, bytes) x e) (refl, fits, tt);
   again = λ x rest fits. refl;
 }
 
@@ -156,7 +154,7 @@ pair_reads {X} {Y} {s} {t} {F} {G} r q one two = record {
       let whole : bytes ≡ (s a.0.0 ++ t b.0.0) ++ b.0.1 = t1.0 ∙ ap (λ (l : List ℕ). s a.0.0 ++ l) t2.0
       ∙ sym (append_assoc (s a.0.0) (t b.0.0) b.0.1) in
       subst (λ (y : (X × Y) × List ℕ). (bytes ≡ (s y.0.0 ++ t y.0.1) ++ y.1) × IsBytes y.1 × (F y.0.0 × G y.0.1))
-      (some_is ((a.0.0, b.0.0), b.0.1) x b.2) (whole, t2.1, (t1.2, t2.2));
+      (some_same ((a.0.0, b.0.0), b.0.1) x b.2) (whole, t2.1, (t1.2, t2.2));
   again = λ p rest fits.
       ap (pair_at r q) (append_assoc (s p.0) (t p.1) rest) ∙ rw (one.again p.0 (t p.1 ++ rest) fits.0, two.again p.1 rest fits.1) refl;
 }
@@ -214,7 +212,7 @@ times_take : {X : Type 0} {s : X → List ℕ} {F : X → Type 0} (r : List ℕ 
 unfolding times_at
 times_take {X} {s} {F} r reads zero bytes x fits e =
     subst (λ (y : List X × List ℕ). (bytes ≡ flat_map s y.0 ++ y.1) × IsBytes y.1 × (length y.0 ≡ 0) × AllByRecursion F y.0)
-    (some_is ([], bytes) x e) (refl, fits, refl, tt)
+    (some_same ([], bytes) x e) (refl, fits, refl, tt)
 times_take {X} {s} {F} r reads (suc n) bytes x fits e =
     let a = bind_some (r bytes) (λ first. times_at r n first.1 >>= λ others. Some (first.0 ∷ others.0, others.1)) x e in
     let b = bind_some (times_at r n a.0.1) (λ others. Some (a.0.0 ∷ others.0, others.1)) x a.2 in
@@ -224,7 +222,7 @@ times_take {X} {s} {F} r reads (suc n) bytes x fits e =
     let whole : bytes ≡ (s a.0.0 ++ flat_map s b.0.0) ++ b.0.1 = first.0 ∙ ap (λ (l : List ℕ). s a.0.0 ++ l) others.0
     ∙ sym (append_assoc (s a.0.0) (flat_map s b.0.0) b.0.1) in
     subst (λ (y : List X × List ℕ). (bytes ≡ flat_map s y.0 ++ y.1) × IsBytes y.1 × (length y.0 ≡ suc n) × AllByRecursion F y.0)
-    (some_is made x b.2) (whole, others.1, ap suc others.2, (first.2, others.3))
+    (some_same made x b.2) (whole, others.1, ap suc others.2, (first.2, others.3))
 
 times_again : {X : Type 0} {s : X → List ℕ} {F : X → Type 0} (r : List ℕ → Option (X × List ℕ)) → Reads s F r
     → (xs : List X) (rest : List ℕ) → AllByRecursion F xs → times_at r (length xs) (flat_map s xs ++ rest) ≡ Some (xs, rest)

@@ -10,6 +10,7 @@ use Rattle.std.proofs.Math.Facts.{sfits_to_z, Fits-of_z, Fits-of_lt}
 use Rattle.std.proofs.lemmas.Bool.Decides.{Decides-and}
 use Rattle.std.proofs.lemmas.List.{append-nil, take_at, drop_at, take-append-drop, length-append, length-take}
 use Rattle.std.proofs.lemmas.Str.{IsUtf8-from_is_utf8, is_utf8-from_IsUtf8}
+use Rattle.list_lemmas.proofs.Lists.{some_same}
 use Rattle.mw_types.specs.declared.TheConstants.{MAX_STAMP}
 use Rattle.mw_types.specs.declared.state.Window.{Window}
 use Rattle.mw_types.specs.declared.state.HeldTotal.{HeldTotal}
@@ -21,7 +22,7 @@ use Rattle.mw_types.specs.declared.delivery.Delivery.{Delivery}
 use Rattle.row_parts.specs.Contents.{IsId, IsKey, IsDelivery}
 use Rattle.row_parts.specs.Spelling.{signed_spelling, flag_spelling, key_spelling, id_spelling, window_spelling, held_spelling, timer_spelling, name_spelling, record_spelling, delivery_spelling, DeliveryFits}
 use Rattle.row_parts.specs.Reading.{keep, number_at, signed_at, flag_at, key_at, id_at, window_at, held_at, timer_at, name_at, after_key_at, record_at, delivery_at, ◌>>=◌}
-use Rattle.row_parts.proofs.Codec.{IsBytes, IsBytes-drop, bind_some, bind_assoc, bind_same, keep_some, some_is, Reads, as_read, wide16, wide32, wide64, number_reads, nothing_at, nothing_reads, pair_at, pair_reads, made_reads, more}
+use Rattle.row_parts.proofs.Codec.{IsBytes, IsBytes-drop, bind_some, bind_assoc, bind_same, keep_some, Reads, as_read, wide16, wide32, wide64, number_reads, nothing_at, nothing_reads, pair_at, pair_reads, made_reads, more}
 
 pub u16_reads : Reads (to_be_bytes w16) (λ n. n < 2 ^ 16) (number_at w16)
 u16_reads = number_reads w16 (2 ^ 16) wide16
@@ -42,7 +43,7 @@ signed_reads = record {
       let whole : bytes ≡ to_be_bytes w64 (cast_unsigned w64 (cast_signed w64 a.0.0)) ++ a.0.1 = t.0
       ∙ ap (λ (n : ℕ). to_be_bytes w64 n ++ a.0.1) (sym back) in
       subst (λ (y : ℤ × List ℕ). (bytes ≡ signed_spelling y.0 ++ y.1) × IsBytes y.1 × FitsSigned w64 y.0)
-      (some_is (cast_signed w64 a.0.0, a.0.1) x a.2) (whole, t.1, sfits_to_z {w = w64} {n = a.0.0} (Fits-of_lt t.2));
+      (some_same (cast_signed w64 a.0.0, a.0.1) x a.2) (whole, t.1, sfits_to_z {w = w64} {n = a.0.0} (Fits-of_lt t.2));
   again = λ z rest fits. rw (
     u64_reads.again (cast_unsigned w64 z) rest
         (omega (arith, Fits-of_z {w = w64} {z = z} fits)),
@@ -58,10 +59,10 @@ flag_takes : (bytes : List ℕ) (x : Bool × List ℕ) → IsBytes bytes → fla
 unfolding flag_at
 flag_takes [] x fits e = absurd cc
 flag_takes (zero ∷ bytes) x fits e =
-    subst (λ (y : Bool × List ℕ). (0 ∷ bytes ≡ flag_spelling y.0 ++ y.1) × IsBytes y.1 × ⊤) (some_is (false, bytes) x e)
+    subst (λ (y : Bool × List ℕ). (0 ∷ bytes ≡ flag_spelling y.0 ++ y.1) × IsBytes y.1 × ⊤) (some_same (false, bytes) x e)
     (refl, IsBytes-rest 0 bytes fits, tt)
 flag_takes (suc zero ∷ bytes) x fits e =
-    subst (λ (y : Bool × List ℕ). (1 ∷ bytes ≡ flag_spelling y.0 ++ y.1) × IsBytes y.1 × ⊤) (some_is (true, bytes) x e)
+    subst (λ (y : Bool × List ℕ). (1 ∷ bytes ≡ flag_spelling y.0 ++ y.1) × IsBytes y.1 × ⊤) (some_same (true, bytes) x e)
     (refl, IsBytes-rest 1 bytes fits, tt)
 flag_takes (suc (suc b) ∷ bytes) x fits e = absurd cc
 

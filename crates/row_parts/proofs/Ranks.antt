@@ -16,6 +16,7 @@ use Rattle.row_parts.specs.Contents.{is_timer, same_id, delivery_cmp}
 use Rattle.row_parts.specs.Places.{IsGap, timer_rank, id_rank, delivery_rank, IsHitOrGap}
 use Rattle.row_parts.proofs.PlaceLemmas.{is_place, gap_at_end}
 use Rattle.std.specs.declared.cmp.Ordering.TheVariants.{Less, Equal, Greater}
+use Rattle.list_lemmas.proofs.Tests.{less_from_test}
 
 -- a timer is the one that is wanted where its rank is equal
 pub is_timer-rank : (tag time : ℕ) (t : Timer) → is_timer tag time t ≡ is_eq (timer_rank tag time t)
@@ -47,11 +48,6 @@ pub id_is_place : (id : RecordId) (ids : List RecordId) (found : Result ℕ ℕ)
     → IsBinarySearchResult (id_rank id) ids found → IsHitOrGap (id_rank id) ids found
 id_is_place id ids found sorted within at = is_place (λ (x : RecordId). x) id_cmp-total id ids found sorted within at
 
-is_less : (r : Ordering) → is_lt r ≡ true → r ≡ Less
-is_less Less e = refl
-is_less Equal e = absurd cc
-is_less Greater e = absurd cc
-
 -- `<` of ids is their order
 pub below_is : (r q : Ordering) → is_some_and is_lt (partial_ordering_then (Some r) (Some q)) ≡ is_lt (ordering_then r q)
 below_is Less q = refl
@@ -64,7 +60,7 @@ pub id_at_end : (id : RecordId) (ids : List RecordId) (last : RecordId) → IsSt
 id_at_end id ids last sorted at_end below =
     let within : length ids - 1 < length ids = slice_get_within ids (length ids - 1) last at_end in
     gap_at_end (λ (x : RecordId). x) id_cmp-total id ids last sorted (omega arith)
-    (get_or_from_slice_get ids (length ids - 1) last last at_end) (is_less (id_cmp last id) below)
+    (get_or_from_slice_get ids (length ids - 1) last last at_end) (less_from_test (id_cmp last id) below)
 
 -- a binary search for a delivery
 pub delivery_is_place : (id : RecordId) (ds : List Delivery) (found : Result ℕ ℕ) → IsStrictlySortedBy delivery_cmp ds

@@ -10,7 +10,7 @@ use Rattle.std.proofs.lemmas.List.{length-set, length_push, set-get_or}
 use Rattle.std.proofs.lemmas.List.Edits.{length-insert}
 use Rattle.std.proofs.lemmas.List.Elements.{All-from_recursion, recursion_from_All, All-filter, All-push, All-weaker, filter_passes}
 use Rattle.std.proofs.lemmas.List.Kept.{IsStrictlySortedBy-filter}
-use Rattle.std.proofs.lemmas.List.Filters.{length-filter_both}
+use Rattle.list_lemmas.proofs.Lists.{length-filter}
 use Rattle.mw_types.specs.declared.TheConstants.{MAX_STAMP}
 use Rattle.mw_types.specs.declared.state.State.{State}
 use Rattle.mw_types.specs.declared.timer.Timer.{Timer}
@@ -36,10 +36,6 @@ IsRow-fresh state within = record {
   floor = omega arith;
   last = omega arith;
 }
-
--- a filter leaves no more than there was
-length-filter : {X : Type 0} (p : X → Bool) (xs : List X) → length (filter p xs) ≤ length xs
-length-filter p xs = omega (arith, length-filter_both p (λ x. not (p x)) (λ x. refl) xs)
 
 -- ---- timers
 

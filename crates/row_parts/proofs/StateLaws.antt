@@ -10,6 +10,7 @@ use Rattle.std.specs.Int.{w32, w64, to_be_bytes}
 use Rattle.std.proofs.lemmas.Bool.{eqb-true}
 use Rattle.std.proofs.lemmas.List.{append-nil, nil_from_length}
 use Rattle.std.proofs.lemmas.List.Elements.{All-from_recursion, recursion_from_All}
+use Rattle.list_lemmas.proofs.Lists.{some_same, each-both}
 use Rattle.mw_types.specs.declared.TheConstants.{MAX_STAMP}
 use Rattle.mw_types.specs.declared.state.Window.{Window}
 use Rattle.mw_types.specs.declared.state.HeldTotal.{HeldTotal}
@@ -21,7 +22,7 @@ use Rattle.row_parts.specs.declared.refusal.StateRefusal.TheVariants as refusals
 use Rattle.row_parts.specs.Orders.{window_cmp, held_cmp, window_cmp-total, held_cmp-total}
 use Rattle.row_parts.specs.Spelling.{signed_spelling, window_spelling, held_spelling, list_spelling, state_spelling, IsSpelledState}
 use Rattle.row_parts.specs.Reading.{◌>>=◌, keep, Gives, number_at, signed_at, window_at, held_at, list_at, ascending_at, injector_at, count_at, spike_at, pass_at, state_of, state_at, whole_state}
-use Rattle.row_parts.proofs.Codec.{IsBytes, bind_some, keep_some, some_is, Reads, nothing_at, nothing_reads, pair_at, pair_reads, more, list_reads, ascending_reads}
+use Rattle.row_parts.proofs.Codec.{IsBytes, bind_some, keep_some, Reads, nothing_at, nothing_reads, pair_at, pair_reads, more, list_reads, ascending_reads}
 use Rattle.row_parts.proofs.PartLaws.{u32_reads, u64_reads, signed_reads, window_reads, held_reads, always, at_most, both}
 
 -- ---- lists of a state
@@ -30,11 +31,6 @@ use Rattle.row_parts.proofs.PartLaws.{u32_reads, u64_reads, signed_reads, window
 pub weaker : {X : Type 0} {P Q : X → Type 0} → ((x : X) → P x → Q x) → (xs : List X) → AllByRecursion P xs → AllByRecursion Q xs
 weaker f [] all = tt
 weaker f (x ∷ xs) all = (f x all.0, weaker f xs all.1)
-
--- what holds of each element twice
-pub twice : {X : Type 0} (P Q : X → Type 0) (xs : List X) → AllByRecursion P xs → AllByRecursion Q xs → AllByRecursion (λ x. P x × Q x) xs
-twice P Q [] p q = tt
-twice P Q (x ∷ xs) p q = ((p.0, q.0), twice P Q xs p.1 q.1)
 
 heads : {X : Type 0} (f : X → ℕ) (x : X) (xs : List X) → AllByRecursion (λ y. on f nat_cmp x y ≡ Less) xs
     → AllByRecursion (λ n. nat_cmp (f x) n ≡ Less) (map f xs)
@@ -74,7 +70,7 @@ windows_read : (ws : List Window) → AreWindows ws → ReadWindows ws
 windows_read ws are = (
   (
     are.few,
-    twice _ _ ws (recursion_from_All (λ (w : Window). w.end ≤ MAX_STAMP) ws are.ends)
+    each-both _ _ ws (recursion_from_All (λ (w : Window). w.end ≤ MAX_STAMP) ws are.ends)
         (recursion_from_All (λ (w : Window). w.count ≤ MAX_STAMP) ws are.counts),
   ),
   sorted_by_keys (λ (w : Window). w.end) ws are.ascending,
@@ -100,7 +96,7 @@ held_read : (hs : List HeldTotal) → AreHeld hs → All (λ (h : HeldTotal). Fi
 held_read hs are values = (
   (
     are.few,
-    twice _ _ hs (recursion_from_All (λ (h : HeldTotal). h.stamp ≤ MAX_STAMP) hs are.stamps)
+    each-both _ _ hs (recursion_from_All (λ (h : HeldTotal). h.stamp ≤ MAX_STAMP) hs are.stamps)
         (recursion_from_All (λ (h : HeldTotal). FitsSigned w64 h.value) hs values),
   ),
   sorted_by_keys (λ (h : HeldTotal). h.stamp) hs are.ascending,
@@ -281,7 +277,7 @@ state_only bytes answer given state fits is = by answer
   where
     by : (answer : Result State StateRefusal) → Gives (λ state. state) answer (Some state)
         → MatchResult answer (λ answered. answered ≡ state) (λ refusal. refusal ≡ refusals.NoMemory)
-    by (Ok answered) g = sym (some_is state answered g)
+    by (Ok answered) g = sym (some_same state answered g)
     by (Err refusals.NoMemory) g = refl
     by (Err refusals.Damaged) g = absurd cc
 

@@ -10,7 +10,7 @@ use Rattle.mw_types.specs.declared.entry.Entry.{Entry}
 use Rattle.mw_types.specs.declared.entry.Entry.TheVariants.{Claim}
 use Rattle.run_history.specs.Fences.{is_claim, later_claim, last_claim}
 use Rattle.run_history.proofs.Making.{enumerate_from-append}
-use Rattle.run_history.proofs.Lists.{some_same, none_some}
+use Rattle.list_lemmas.proofs.Lists.{some_same, none_some}
 
 -- the last claim among entries that are numbered from n on, after an earlier one
 abbrev pub claim_from : ℕ → ℕ → Option ℕ → List Entry → Option ℕ

@@ -11,7 +11,7 @@ use Rattle.mw_types.specs.declared.entry.Entry.TheVariants.{Claim}
 use Rattle.topology.specs.Shapes.{Shape}
 use Rattle.run_history.specs.Made.{row_written}
 use Rattle.run_history.specs.Fences.{Begins, interval_of, sequencer_of, last_claim, IsUnderLastClaim, IsFenced}
-use Rattle.run_history.proofs.Lists.{some_same, none_some}
+use Rattle.list_lemmas.proofs.Lists.{some_same, none_some}
 use Rattle.run_history.proofs.Beginnings.{Begins-trans, Begins-length, Begins-push, push_same, Begins-take, Begins-entry}
 
 -- a beginning of a fenced history is fenced

@@ -1,9 +1,11 @@
 -- Rows that fit their names, and stay so.
-use Rattle.std.proofs.Common.{◌≡◌, ℕ, ◌+◌, ◌<◌, ◌≤◌, Bool, true, false, cond, List, [], ◌∷◌, length, refl, sym, ◌∙◌, ap, subst, arith, ◌&&◌, suc, zero, ◌-◌}
+use Rattle.std.proofs.Common.{◌≡◌, ℕ, ◌+◌, ◌<◌, ◌≤◌, Bool, true, false, cond, List, [], ◌∷◌, length, refl, sym, ◌∙◌, ap, subst, arith, ◌&&◌, ◌-◌}
 use Rattle.std.specs.Prelude.{Option, Some, None, slice_get, nat_lt, nat_le, filter}
 use Rattle.std.specs.Option.{option_map_or, option_map}
 use Rattle.std.specs.List.{AllByRecursion, list_all}
 use Rattle.std.proofs.lemmas.Bool.{ltb-true, lt-ltb, and_from, ltb-false, le-leb}
+use Rattle.list_lemmas.proofs.Places.{slice_get-some}
+use Rattle.list_lemmas.proofs.Tests.{both_true}
 use Rattle.mw_types.specs.declared.identity.RowName.{RowName}
 use Rattle.mw_types.specs.declared.delivery.Delivery.{Delivery}
 use Rattle.mw_types.specs.declared.kind.Kind.{Kind}
@@ -12,23 +14,13 @@ use Rattle.topology.specs.Shapes.{Shape, injectors_of, parts_of, kind_of, Comput
 use Rattle.row_parts.specs.Contents.{fresh, Contents}
 use Rattle.run_history.specs.Cases.{fresh_of, CaseShape, is_injector, source_of}
 use Rattle.run_history.specs.Fits.{is_sent_before, suits_part, fits, is_cursor_within}
-use Rattle.run_history.proofs.Lists.{none_some}
+use Rattle.list_lemmas.proofs.Lists.{none_some}
 use Rattle.computations.specs.Handlers.{has_kind, fresh_state}
 use Rattle.computations.proofs.Fresh.{AreWindows-none, AreHeld-none}
 use Rattle.mw_types.specs.declared.kind.Kind.TheVariants as kinds
 use Rattle.mw_types.specs.declared.state.State.TheVariants as states
 
--- both of two, where both are true
-pub both : (a b : Bool) → (a && b) ≡ true → (a ≡ true) × (b ≡ true)
-both true b e = (refl, e)
-both false b e = absurd cc
-
 -- ---- each of a list
-
--- each passes a test, by recursion
-pub each-passes : {X : Type 0} (test : X → Bool) (xs : List X) → list_all test xs ≡ true → AllByRecursion (λ x. test x ≡ true) xs
-each-passes test [] all = tt
-each-passes test (x ∷ xs) all = let parts = both (test x) (list_all test xs) all in (parts.0, each-passes test xs parts.1)
 
 -- and back
 pub passes-each : {X : Type 0} (test : X → Bool) (xs : List X) → AllByRecursion (λ x. test x ≡ true) xs → list_all test xs ≡ true
@@ -41,8 +33,8 @@ passes-each test (x ∷ xs) each = and_from (test x) (list_all test xs) each.0 (
 sent-later : (shape : Shape) (n m : ℕ) (d : Delivery) → n ≤ m → is_sent_before shape n d ≡ true → is_sent_before shape m d ≡ true
 sent-later shape n m d le is =
     let early = nat_lt d.id.commit n && nat_le (injectors_of shape) d.to.part in
-    let parts = both early (nat_lt d.to.part (parts_of shape)) is in
-    let first = both (nat_lt d.id.commit n) (nat_le (injectors_of shape) d.to.part) parts.0 in
+    let parts = both_true early (nat_lt d.to.part (parts_of shape)) is in
+    let first = both_true (nat_lt d.id.commit n) (nat_le (injectors_of shape) d.to.part) parts.0 in
     let less = ltb-true d.id.commit n first.0 in
     and_from (nat_lt d.id.commit m && nat_le (injectors_of shape) d.to.part) (nat_lt d.to.part (parts_of shape))
     (and_from (nat_lt d.id.commit m) (nat_le (injectors_of shape) d.to.part)
@@ -53,7 +45,7 @@ pub sent_each-more : (shape : Shape) (n m : ℕ) (ds : List Delivery) → n ≤ 
     → list_all (is_sent_before shape n) ds ≡ true → list_all (is_sent_before shape m) ds ≡ true
 sent_each-more shape n m [] le all = refl
 sent_each-more shape n m (d ∷ ds) le all =
-    let parts = both (is_sent_before shape n d) (list_all (is_sent_before shape n) ds) all in
+    let parts = both_true (is_sent_before shape n d) (list_all (is_sent_before shape n) ds) all in
     and_from (is_sent_before shape m d) (list_all (is_sent_before shape m) ds)
     (sent-later shape n m d le parts.0) (sent_each-more shape n m ds le parts.1)
 
@@ -66,7 +58,7 @@ sent_each-later shape n ds = sent_each-more shape n (n + 1) ds (omega arith)
 pub passes-filter : {X : Type 0} (test keep : X → Bool) (xs : List X) → list_all test xs ≡ true → list_all test (filter keep xs) ≡ true
 passes-filter test keep [] all = refl
 passes-filter {X} test keep (x ∷ xs) all =
-    let parts = both (test x) (list_all test xs) all in
+    let parts = both_true (test x) (list_all test xs) all in
     elim (keep x) as (λ b. list_all test (cond b (x ∷ filter keep xs) (filter keep xs)) ≡ true) [
       | true ↦ and_from (test x) (list_all test (filter keep xs)) parts.0 (passes-filter test keep xs parts.1)
       | false ↦ passes-filter test keep xs parts.1
@@ -75,7 +67,7 @@ passes-filter {X} test keep (x ∷ xs) all =
 -- the two parts of what fits
 pub fits-parts : (case : CaseShape) (n : ℕ) (name : RowName) (row : Contents) → fits case n name row ≡ true
     → (suits_part case name.part row ≡ true) × (list_all (is_sent_before case.topology n) row.pending ≡ true)
-fits-parts case n name row is = both (suits_part case name.part row) (list_all (is_sent_before case.topology n) row.pending) is
+fits-parts case n name row is = both_true (suits_part case name.part row) (list_all (is_sent_before case.topology n) row.pending) is
 
 -- a row that fits still does after any number of entries
 pub fits-more : (case : CaseShape) (n m : ℕ) (name : RowName) (row : Contents) → n ≤ m
@@ -118,12 +110,6 @@ pub IsWithin-fresh_state : (kind : Kind) → IsWithin (fresh_state kind)
 IsWithin-fresh_state (kinds.Count size) = (omega arith, AreWindows-none)
 IsWithin-fresh_state (kinds.Spike last times) = (omega arith, AreHeld-none, omega arith)
 IsWithin-fresh_state kinds.Pass = omega arith
-
--- a place of a list has an element
-slice_get-some : {X : Type 0} (xs : List X) (n : ℕ) → n < length xs → (x : X) × (slice_get xs n ≡ Some x)
-slice_get-some [] n less = absurd (omega (arith, less))
-slice_get-some (x ∷ xs) zero less = (x, refl)
-slice_get-some (x ∷ xs) (suc n) less = slice_get-some xs n (omega (arith, less))
 
 -- a computation that is there has a kind
 pub kind-some : (shape : Shape) (part : ℕ) → is_injector shape part ≡ false → part < parts_of shape

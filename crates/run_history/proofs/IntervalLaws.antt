@@ -11,7 +11,7 @@ use Rattle.topology.specs.Shapes.{Shape, parts_of, cuts_of}
 use Rattle.topology.specs.Rules.{IsTopology, part_cuts_of}
 use Rattle.run_history.specs.Fences.{interval_of}
 use Rattle.run_history.specs.Cases.{intervals_of}
-use Rattle.run_history.proofs.Lists.{some_same, none_some}
+use Rattle.list_lemmas.proofs.Lists.{some_same, none_some}
 use Rattle.run_history.proofs.CaseIntervals.{part_cuts_of-numbered, part_cuts_of-cuts, intervals-few}
 use Rattle.key_intervals.proofs.Made as made
 use Rattle.key_intervals.proofs.Lookup.{one_interval}

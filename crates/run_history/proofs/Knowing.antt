@@ -20,7 +20,7 @@ use Rattle.topology.specs.declared.subscription.Subscription.{Subscription}
 use Rattle.topology.specs.Shapes.{Shape, consumers_of}
 use Rattle.run_history.specs.Made.{produced, sends_of, delivery_at, deliveries_made, deliveries_of, found_delivery, late_cause, productions_of, row_written}
 use Rattle.run_history.specs.Printing.{KnowsLate, sends_made}
-use Rattle.run_history.proofs.Lists.{each-all, each-append, each-map}
+use Rattle.list_lemmas.proofs.Lists.{each-all, each-append, each-map}
 
 -- whether the delivery of an id is late
 abbrev late_of : RecordId → List Delivery → Bool

@@ -7,7 +7,7 @@ use Rattle.std.proofs.lemmas.List.{take-append-drop, length-take, drop_all}
 use Rattle.std.proofs.lemmas.List.Sums.{take_while-cons}
 use Rattle.mw_types.specs.declared.entry.Entry.{Entry}
 use Rattle.run_history.specs.Fences.{Begins, is_claim, last_claim, known}
-use Rattle.run_history.proofs.Lists.{each-weaker}
+use Rattle.list_lemmas.proofs.Lists.{each-weaker}
 use Rattle.run_history.proofs.Claims.{claim_from, last_claim-append, claims-none}
 
 -- a filter of the front of a list ends where its test first fails

@@ -5,7 +5,7 @@ use Rattle.json.specs.Token.{Token, begin_object, end_object, key, string, numbe
 use Rattle.run_history.specs.Texts.{ResultLine, line_data}
 use Rattle.run_history.specs.Printing.{number_tokens, text_tokens, tokens_of}
 use Rattle.run_history.proofs.EntryTexts.{signed_decimal-of_integer}
-use Rattle.run_history.proofs.Lists.{append_then}
+use Rattle.list_lemmas.proofs.Lists.{append_then}
 
 -- what is written of a line's key and stream
 pub texts_written : (line : ResultLine) (k s : List ℕ) (old keyed streamed : List Token) → k ≡ line.key → s ≡ line.stream

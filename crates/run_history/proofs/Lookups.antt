@@ -10,7 +10,8 @@ use Rattle.std.specs.List.Sorted.{IsStrictlySortedBy}
 use Rattle.std.specs.Map.{lookup, keys_of}
 use Rattle.std.specs.BTreeMap.{insert_entry, is_at}
 use Rattle.std.proofs.lemmas.Map.Entries.{lookup-filter-keys}
-use Rattle.run_history.proofs.Lists.{none_some, some_same}
+use Rattle.list_lemmas.proofs.Tests.{equal_from_test}
+use Rattle.list_lemmas.proofs.Lists.{none_some, some_same}
 
 -- of two tests that are the same, the inner one is never reached
 pub shadowed : {A : Type 0} (b : Bool) (x y z : A) → cond b x z ≡ cond b x (cond b y z)
@@ -21,12 +22,6 @@ shadowed false x y z = refl
 pub swapped : {A : Type 0} (a b : Bool) (x y z : A) → (a ≡ true → b ≡ false) → cond a x (cond b y z) ≡ cond b y (cond a x z)
 swapped true b x y z apart = ap (λ c. cond true x (cond c y z)) (apart refl) ∙ sym (ap (λ c. cond c y (cond true x z)) (apart refl))
 swapped false b x y z apart = refl
-
--- an order that is Equal is one that ties
-equal_from_tie : (o : Ordering) → is_eq o ≡ true → o ≡ Equal
-equal_from_tie Equal e = refl
-equal_from_tie Less e = cc
-equal_from_tie Greater e = cc
 
 -- an order that is no tie, by its value
 no_tie : (o p : Ordering) → o ≡ p → is_eq p ≡ false → is_eq o ≡ false
@@ -52,7 +47,7 @@ module _ {K X : Type 0} {R : K → K → Ordering} (o : IsTotalOrder R) where
             ∙ ap (λ r. cond (is_eq r) (Some v) (lookup (is_at (R q)) (e ∷ es))) (sym (alike_right o k e.0 q p))
         | Greater ↦ λ p. ap (cond (is_eq (R q e.0)) (Some e.1)) (lookup-insert_entry es k v q)
             ∙ swapped (is_eq (R q e.0)) (is_eq (R q k)) (Some e.1) (Some v) (lookup (is_at (R q)) es)
-            (λ at. no_tie (R q k) Less (o.congr q e.0 k (equal_from_tie (R q e.0) at) ∙ o.antisymm e.0 k ∙ ap ordering_reverse p) refl)
+            (λ at. no_tie (R q k) Less (o.congr q e.0 k (equal_from_test (R q e.0) at) ∙ o.antisymm e.0 k ∙ ap ordering_reverse p) refl)
       ] refl
 
   -- each entry is the one that a look-up of its key finds
@@ -135,7 +130,7 @@ module _ {K X : Type 0} {R : K → K → Ordering} (o : IsTotalOrder R) where
       -- behind equal first entries each look-up finds the same too
       behind : R e.0 f.0 ≡ Equal → (q : K) → (b : Bool) → is_eq (R q e.0) ≡ b → lookup (is_at (R q)) es ≡ lookup (is_at (R q)) fs
       behind at q true is =
-          let tied : R q e.0 ≡ Equal = equal_from_tie (R q e.0) is in
+          let tied : R q e.0 ≡ Equal = equal_from_test (R q e.0) is in
           lookup-above q e.0 es tied one.0 ∙ sym (lookup-above q f.0 fs (sym (alike_right o e.0 f.0 q at) ∙ tied) other.0)
       behind at q false is =
           sym (ap (λ b. cond b (Some e.1) (lookup (is_at (R q)) es)) is) ∙ same q
@@ -187,7 +182,7 @@ module _ {K X : Type 0} {R : K → K → Ordering} (o : IsTotalOrder R) where
       (λ q. by_key q es ∙ by_test q (p q) refl ∙ sym (by_key q fs))
     where
       by_key : (q : K) (gs : List (K × X)) → lookup (is_at (R q)) (filter (λ e. p e.0) gs) ≡ cond (p q) (lookup (is_at (R q)) gs) None
-      by_key q gs = lookup-filter-keys (is_at (R q)) p (p q) (λ k at. ap p (sym (tie q k (equal_from_tie (R q k) at)))) gs
+      by_key q gs = lookup-filter-keys (is_at (R q)) p (p q) (λ k at. ap p (sym (tie q k (equal_from_test (R q k) at)))) gs
 
       by_test : (q : K) (b : Bool) → p q ≡ b → cond (p q) (lookup (is_at (R q)) es) None ≡ cond (p q) (lookup (is_at (R q)) fs) None
       by_test q true is = ap (λ b. cond b (lookup (is_at (R q)) es) None) is ∙ same q is

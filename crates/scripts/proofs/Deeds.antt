@@ -18,7 +18,7 @@ use Rattle.run_history.specs.Marks.{own_work}
 use Rattle.run_history.specs.Runs.{run_of}
 use Rattle.run_history.specs.Watermarks.{cursor_in, least}
 use Rattle.watermark.specs.Marks.{marks_of}
-use Rattle.run_history.proofs.Lists.{none_some}
+use Rattle.list_lemmas.proofs.Lists.{none_some}
 use Rattle.book.specs.Books.{LeaseView}
 use Rattle.book.specs.Marks.{reported}
 use Rattle.node.specs.Workers.{Sending, Worker, where_passes, with_outgoing, with_written}

@@ -23,7 +23,7 @@ use Rattle.run_history.specs.Watermarks.{cursor_in, least}
 use Rattle.run_history.proofs.Claims.{last_claim-latest}
 use Rattle.run_history.proofs.Fenced.{IsFenced-push, entry-under}
 use Rattle.run_history.proofs.IntervalLaws.{are-intervals, has-interval_of}
-use Rattle.run_history.proofs.Lists.{filter-passes, find-each, none_some, some_same}
+use Rattle.list_lemmas.proofs.Lists.{filter-passes, find-each, none_some, some_same}
 use Rattle.watermark.specs.Marks.{marks_of}
 use Rattle.book.specs.Books.{LeaseView}
 use Rattle.node.specs.Workers.{Worker, where_passes, with_written}

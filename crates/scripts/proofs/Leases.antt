@@ -9,7 +9,7 @@ use Rattle.mw_types.specs.declared.identity.RowName.{RowName}
 use Rattle.topology.specs.Shapes.{Shape}
 use Rattle.run_history.specs.Made.{row_written}
 use Rattle.run_history.proofs.Beginnings.{slice_get-last, slice_get-more}
-use Rattle.run_history.proofs.Lists.{none_some, some_same}
+use Rattle.list_lemmas.proofs.Lists.{none_some, some_same}
 use Rattle.node.specs.Workers.{Worker, idle, sends, with_lease, with_outgoing}
 use Rattle.scripts.specs.Acts.{with_sends}
 use Rattle.scripts.specs.Keeping.{AreApart, AreClaimed}

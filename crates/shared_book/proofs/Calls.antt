@@ -11,7 +11,7 @@ use Rattle.row_parts.specs.Contents.{Contents}
 use Rattle.run_history.specs.Cases.{CaseShape}
 use Rattle.run_history.specs.Runs.{run_of, written_row}
 use Rattle.run_history.specs.Fences.{IsClaimed, sequencer_of, interval_of}
-use Rattle.run_history.proofs.Lists.{some_same, none_some}
+use Rattle.list_lemmas.proofs.Lists.{some_same, none_some}
 use Rattle.book.specs.Books.{CoreView, BookView, LeaseView, core_of}
 use Rattle.book.specs.Lawful.{IsLawful}
 use Rattle.book.specs.Answers.{IsSameBook, IsStaleWhere, IsWritten}

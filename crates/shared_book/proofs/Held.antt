@@ -1,7 +1,8 @@
 -- Whether a lease is among some leases.
-use Rattle.std.proofs.Common.{inl, inr, ◌≡◌, ◌⊎◌, ◌∙◌, ℕ, Bool, true, false, true≢false, ◌&&◌, ◌==◌, List, [], ◌∷◌, ◌++◌, refl, sym, ap, subst, ⊎_elim}
+use Rattle.std.proofs.Common.{inl, inr, ◌≡◌, ◌⊎◌, ◌∙◌, Bool, true, false, ◌&&◌, ◌==◌, List, [], ◌∷◌, ◌++◌, refl, sym, subst, ⊎_elim}
 use Rattle.std.specs.Prelude.{◌||◌}
 use Rattle.std.proofs.lemmas.Bool.{eqb-true, eq-eqb}
+use Rattle.list_lemmas.proofs.Tests.{both_true}
 use Rattle.book.specs.Books.{LeaseView}
 use Rattle.shared_book.specs.Lists.{IsIn}
 use Rattle.shared_book.specs.SharedDesks.{is_held}
@@ -12,16 +13,10 @@ use Rattle.shared_book.proofs.Moves.{off}
 abbrev same_lease : LeaseView → LeaseView → Bool
 same_lease one other = (one.interval == other.interval) && (one.seq == other.seq)
 
--- two tests that pass together pass each
-both : (a b : Bool) → (a && b) ≡ true → (a ≡ true) × (b ≡ true)
-both true true is = (refl, refl)
-both true false is = absurd (off is)
-both false b is = absurd (off is)
-
 -- two leases that test as one are one
 one-lease : (one other : LeaseView) → same_lease one other ≡ true → other ≡ one
 one-lease one other is =
-    let parts = both (one.interval == other.interval) (one.seq == other.seq) is in
+    let parts = both_true (one.interval == other.interval) (one.seq == other.seq) is in
     let interval = eqb-true one.interval other.interval parts.0 in
     let seq = eqb-true one.seq other.seq parts.1 in
     λ i. record { interval = sym interval i; seq = sym seq i }

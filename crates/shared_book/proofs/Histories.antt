@@ -15,7 +15,7 @@ use Rattle.run_history.specs.Cases.{CaseShape}
 use Rattle.run_history.specs.Runs.{Run, empty_run, followed}
 use Rattle.run_history.specs.Legal.{IsLegal, AreLegal}
 use Rattle.run_history.specs.Fences.{Begins, IsClaimed, IsFenced, HasSeenAll, interval_of, last_claim, sequencer_of}
-use Rattle.run_history.proofs.Lists.{some_same, none_some}
+use Rattle.list_lemmas.proofs.Lists.{some_same, none_some}
 use Rattle.run_history.proofs.Claims.{last_claim-within}
 use Rattle.run_history.proofs.Fenced.{IsFenced-at}
 use Rattle.run_history.proofs.Beginnings.{Begins-at, slice_get-more, slice_get-last}

@@ -3,6 +3,7 @@ use Rattle.std.proofs.Common.{◌≡◌, ◌≢◌, ◌∙◌, ◌<◌, ◌≤�
 use Rattle.std.specs.Prelude.{IfSome, Option, max, slice_set, unwrap_or}
 use Rattle.std.proofs.lemmas.List.{length-replicate, length-take}
 use Rattle.std.proofs.lemmas.Option.{slice_get_past}
+use Rattle.list_lemmas.proofs.Told.{if-anyway}
 use mathlib.Core.Logic.{dite}
 use native.Mathlib.Decide.{ℕ_discrete, dec_lt}
 use Rattle.mw_types.specs.declared.entry.Entry.{Entry}
@@ -18,7 +19,7 @@ use Rattle.watermark.specs.Marks.{mark_of}
 use Rattle.book.specs.Books.{BookView, CoreView, core_of}
 use Rattle.book.specs.Marks.{AreSafe}
 use Rattle.book.specs.OwnDesks.{telling}
-use Rattle.book.proofs.DeskLaws.{if-anyway, telling-if}
+use Rattle.book.proofs.DeskLaws.{telling-if}
 use Rattle.book.proofs.MarkSteps.{mark-here, mark-other}
 use Rattle.book.proofs.SeenRows.{told-both, told-then}
 use Rattle.shared_book.specs.declared.views.Basis.{Basis}

@@ -1,6 +1,7 @@
 -- What a desk knew before its turn is right in the turn, whatever others appended.
 use Rattle.std.proofs.Common.{◌≡◌, ◌∙◌, ◌≤◌, ◌++◌, ℕ, true, List, length, sym, ap, subst, arith}
 use Rattle.std.specs.Prelude.{IfSome, IsSome, Option, Some, None, unwrap_or}
+use Rattle.list_lemmas.proofs.Told.{if-anyway}
 use Rattle.mw_types.specs.declared.entry.Entry.{Entry}
 use Rattle.mw_types.specs.declared.identity.RecordId.{RecordId}
 use Rattle.mw_types.specs.declared.identity.RowName.{RowName}
@@ -31,7 +32,7 @@ use Rattle.book.specs.OwnDesks.{telling}
 use Rattle.book.specs.Proposals.{IsProposedOf}
 use Rattle.book.specs.declared.proposal.Proposal.{Proposal}
 use Rattle.book.specs.declared.proposal.Proposal.TheVariants as proposals
-use Rattle.book.proofs.DeskLaws.{if-anyway, if-telling, telling-if}
+use Rattle.book.proofs.DeskLaws.{if-telling, telling-if}
 use Rattle.book.proofs.ReportSteps.{are-under_low}
 use Rattle.book.proofs.SeenRows.{part-there, told-both, told-then}
 use Rattle.shared_book.specs.declared.views.Basis.{Basis}

@@ -16,7 +16,7 @@ use Rattle.run_history.specs.Cases.{CaseShape}
 use Rattle.run_history.specs.Legal.{AreLegal, IsLegal, MayAcknowledge, MayClaim, MayFire, MayFollow, MayHandle, MayInject, MayPurge, record_outcome}
 use Rattle.run_history.specs.Made.{found_delivery}
 use Rattle.run_history.specs.Runs.{Run, empty_run, followed, row_of}
-use Rattle.run_history.proofs.Lists.{some_same}
+use Rattle.list_lemmas.proofs.Lists.{some_same}
 use Rattle.book.specs.Books.{LeaseView}
 use Rattle.shared_book.specs.declared.views.Basis.{Basis}
 use Rattle.shared_book.specs.SharedDesks.{IsKeptOfSeat, KnownView}

@@ -1,12 +1,11 @@
 -- What the test of an answer shows.
-use Rattle.std.proofs.Common.{◌≡◌, ◌∷◌, [], List, Bool, true, false, true≢false, refl, sym, map, ◌&&◌}
+use Rattle.std.proofs.Common.{◌≡◌, ◌∷◌, [], List, true, map, ◌&&◌}
 use Rattle.std.specs.List.{All, AllByRecursion}
 use Rattle.std.specs.List.Sorted.{IsStrictlySortedBy}
 use Rattle.std.specs.Map.{keys_of}
-use Rattle.std.specs.Ordering.{is_lt}
-use Rattle.std.specs.declared.cmp.Ordering.{Ordering}
-use Rattle.std.specs.declared.cmp.Ordering.TheVariants.{Less, Equal, Greater}
+use Rattle.std.specs.declared.cmp.Ordering.TheVariants.{Less}
 use Rattle.std.proofs.lemmas.List.Elements.{All-from_recursion}
+use Rattle.list_lemmas.proofs.Tests.{both_true, less_from_test}
 use Rattle.mw_types.proofs.OrderLaws.{row_cmp-total}
 use Rattle.mw_types.specs.Orders.{row_cmp}
 use Rattle.mw_types.specs.declared.identity.RowName.{RowName}
@@ -16,21 +15,11 @@ use Rattle.row_keeper.specs.Rows.{AreInOrder, entry_of}
 use Rattle.row_keeper.specs.declared.keeper.KeptRow.{KeptRow}
 use Rattle.sqlite_keeper.specs.Checks.{are_within, do_ascend, is_below_first}
 
--- both of two tests that are passed together
-both : (s t : Bool) → (s && t) ≡ true → (s ≡ true) × (t ≡ true)
-both true t e = (refl, e)
-both false t e = absurd (true≢false (sym e))
-
-less_from_test : (o : Ordering) → is_lt o ≡ true → o ≡ Less
-less_from_test Less e = refl
-less_from_test Equal e = absurd (true≢false (sym e))
-less_from_test Greater e = absurd (true≢false (sym e))
-
 each_within : (b : Bounds) (rows : List KeptRow) → are_within b rows ≡ true
     → AllByRecursion (λ (row : KeptRow). covers b row.name ≡ true) rows
 each_within b [] e = tt
 each_within b (row ∷ rows) e =
-    let parts = both (covers b row.name) (are_within b rows) e in
+    let parts = both_true (covers b row.name) (are_within b rows) e in
     (parts.0, each_within b rows parts.1)
 
 -- rows that pass the test of the interval lie in it
@@ -59,5 +48,5 @@ pub ascending_in_order : (rows : List KeptRow) → do_ascend rows ≡ true → A
 unfolding IsStrictlySortedBy
 ascending_in_order [] e = tt
 ascending_in_order (row ∷ rows) e =
-    let parts = both (is_below_first row rows) (do_ascend rows) e in
+    let parts = both_true (is_below_first row rows) (do_ascend rows) e in
     before_ascending row rows parts.0 (ascending_in_order rows parts.1)

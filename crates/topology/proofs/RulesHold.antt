@@ -1,5 +1,5 @@
 -- A shape that keeps the rules of a file is a topology.
-use Rattle.std.proofs.Common.{◌≡◌, ℕ, zero, suc, ◌+◌, ◌-◌, ◌≤◌, Bool, true, false, cond, nat_le, nat_lt, nat_eq, List, [], ◌∷◌, length, take, sum_by, slice_get, unwrap_or, option_map, Option, None, All, Contains, Result, Ok, Ordering, Less, Equal, Greater, true≢false, refl, sym, ◌∙◌, ap, subst, arith}
+use Rattle.std.proofs.Common.{◌≡◌, ℕ, zero, suc, ◌+◌, ◌-◌, ◌≤◌, Bool, true, false, cond, nat_le, nat_lt, nat_eq, List, [], ◌∷◌, length, take, sum_by, slice_get, unwrap_or, option_map, Option, None, All, Contains, Result, Ok, Less, true≢false, refl, sym, ◌∙◌, ap, subst, arith}
 use Rattle.std.specs.Result.{is_ok}
 use Rattle.std.specs.Ordering.{is_lt}
 use Rattle.std.specs.List.{list_any, list_all, enumerate_from, AllByRecursion}
@@ -10,6 +10,7 @@ use Rattle.std.proofs.lemmas.Bool.Decides.{nat_tests}
 use Rattle.std.proofs.lemmas.List.Elements.{All-nil, All-weaker}
 use Rattle.std.proofs.lemmas.List.Sums.{AllPass-from_list_all}
 use Rattle.std.proofs.lemmas.Map.Views.{Contains-from_any}
+use Rattle.list_lemmas.proofs.Tests.{less_from_test}
 use Rattle.mw_types.specs.Orders.{key_cmp}
 use Rattle.mw_types.specs.Kinds.{IsKind}
 use Rattle.mw_types.specs.declared.kind.Kind.{Kind}
@@ -89,17 +90,11 @@ in_range-is_kind (Spike last times) e =
     (leb-true _ _ of_last.0, leb-true _ _ of_last.1, leb-true _ _ but_last.1, leb-true _ _ (and_parts _ _ e).1)
 in_range-is_kind Pass e = tt
 
--- an order that is tested as below is below
-lt-less : (o : Ordering) → is_lt o ≡ true → o ≡ Less
-lt-less Less e = refl
-lt-less Equal e = absurd (true≢false (sym e))
-lt-less Greater e = absurd (true≢false (sym e))
-
 -- a cut is below those after it
 less_than_all : (cut : List ℕ) (cuts : List (List ℕ)) → list_all (λ later. is_lt (key_cmp cut later)) cuts ≡ true
     → AllByRecursion (λ later. key_cmp cut later ≡ Less) cuts
 less_than_all cut [] e = tt
-less_than_all cut (later ∷ cuts) e = (lt-less _ (and_parts _ _ e).0, less_than_all cut cuts (and_parts _ _ e).1)
+less_than_all cut (later ∷ cuts) e = (less_from_test _ (and_parts _ _ e).0, less_than_all cut cuts (and_parts _ _ e).1)
 
 -- so cuts ascend
 is_ascending-sorted : (cuts : List (List ℕ)) → is_ascending cuts ≡ true → IsStrictlySortedBy key_cmp cuts

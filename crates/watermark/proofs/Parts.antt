@@ -9,7 +9,8 @@ use Rattle.key_intervals.proofs.Made.{has_part}
 use Rattle.topology.specs.Shapes.{Shape, parts_of, cuts_of}
 use Rattle.topology.specs.Rules.{part_cuts_of}
 use Rattle.run_history.specs.Cases.{intervals_of}
-use Rattle.run_history.proofs.Lists.{each-append, each-at}
+use Rattle.list_lemmas.proofs.Lists.{each-append}
+use Rattle.list_lemmas.proofs.Places.{each-at}
 use Rattle.run_history.proofs.CaseIntervals.{part_cuts_of-numbered}
 use Rattle.watermark.specs.Marks.{marks_in, marks_of}
 

@@ -1,10 +1,10 @@
 -- What marks bound, one for each interval, where each is safe: the work above what they feed, and the low watermarks.
-use Rattle.std.proofs.Common.{◌≡◌, ◌∙◌, ℕ, zero, suc, ◌+◌, ◌<◌, ◌≤◌, ◌==◌, Bool, true, false, cond, List, [], ◌∷◌, length, map, sym, ap, subst, refl, arith}
-use Rattle.std.specs.Prelude.{All, Option, Some, None, get_or, slice_get}
+use Rattle.std.proofs.Common.{◌≡◌, ◌∙◌, ℕ, zero, suc, ◌+◌, ◌<◌, ◌≤◌, ◌==◌, Bool, true, false, cond, List, [], ◌∷◌, length, map, sym, ap, subst, arith}
+use Rattle.std.specs.Prelude.{All, Option, Some, None, slice_get}
 use Rattle.std.specs.List.{AllByRecursion, list_any, cons_option}
 use Rattle.std.specs.Option.{option_map_or}
 use Rattle.std.proofs.lemmas.Bool.{eq-eqb}
-use Rattle.std.proofs.lemmas.List.Folds.{list_any_at}
+use Rattle.list_lemmas.proofs.Places.{any-here}
 use Rattle.mw_types.specs.declared.entry.Entry.{Entry}
 use Rattle.key_intervals.specs.declared.bounds.Bounds.{Bounds}
 use Rattle.topology.specs.Shapes.{feeds_of, parts_of}
@@ -14,7 +14,7 @@ use Rattle.run_history.specs.Legal.{IsLegal}
 use Rattle.run_history.specs.Marks.{IsSafe, IsUnderMarks}
 use Rattle.run_history.specs.Runs.{Run, run_of}
 use Rattle.run_history.specs.Watermarks.{least, low_watermark}
-use Rattle.run_history.proofs.Lists.{none_some, some_same}
+use Rattle.list_lemmas.proofs.Lists.{none_some, some_same}
 use Rattle.history_laws.proofs.LowLaws.{bound-each}
 use Rattle.history_laws.proofs.ReportLaws.{marks-low}
 use Rattle.watermark.specs.Marks.{feeding_marks, mark_of, marks_in, marks_of, numbers_in}
@@ -25,11 +25,6 @@ AreAllSafe case run marks = (interval : ℕ) (bounds : Bounds) → slice_get (in
     → IsSafe case run bounds (mark_of marks interval)
 
 -- ---- the marks of what feeds an interval
-
--- each of some parts is among them
-pub any-here : (parts : List ℕ) (k d : ℕ) → k < length parts → list_any (λ part. part == get_or parts k d) parts ≡ true
-any-here parts k d within = list_any_at (λ part. part == get_or parts k d) parts k d within
-    (eq-eqb (get_or parts k d) (get_or parts k d) refl)
 
 -- a bound of the marks of the intervals of some parts is one of the mark of each of these intervals
 pub among-bound : (x : ℕ) (f : ℕ → ℕ) (parts : List ℕ) (n : ℕ) (all : List Bounds) (k : ℕ) (b : Bounds)

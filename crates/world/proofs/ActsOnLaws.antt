@@ -1,6 +1,7 @@
 -- A worker's call over its own book is the step of the script, in each scripted world of that book.
 use Rattle.std.proofs.Common.{◌≡◌, ◌∙◌, ◌<◌, ℕ, refl, sym, ap, subst}
-use Rattle.std.specs.Prelude.{Option, None, Some, IsSome, IfOk, IfSome, Result, Ok, Err}
+use Rattle.std.specs.Prelude.{IsSome, IfOk, Result, Ok, Err}
+use Rattle.list_lemmas.proofs.Told.{if-there}
 use Rattle.topology.specs.Rules.{interval_count}
 use Rattle.run_history.specs.Cases.{CaseShape}
 use Rattle.book.specs.Books.{BookView, core_of}
@@ -26,11 +27,6 @@ use Rattle.world.proofs.deeds.Reports.{report-acts}
 use Rattle.world.proofs.deeds.Resends.{resend-acts}
 use Rattle.world.proofs.deeds.Writes.{write-acts}
 
--- a fact where something is told
-pub when-told : {X : Type 0} {P : Type 0} (o : Option X) → (IsSome o → P) → IfSome o (λ _. P)
-when-told None f = tt
-when-told (Some x) f = f refl
-
 -- a worker is about to act
 pub acting : (old : BookView) (was : NodeView) (world : World) → IsSome old.rows → IsLawful old.case (core_of old) → FitsOwn old was
     → IsWorldAt old was world → IsActing old.case old world was.number was
@@ -50,7 +46,7 @@ pub inject-on : (case : CaseShape) (old new : BookView) (was node : NodeView) (p
     → IsLawful old.case (core_of old) → KeepsMarks (own_view old) (own_view new) → FitsOwn old was
     → AnswersAsked case.topology (own_view old) (own_view new) (line_asked case was part) (worker_at was) was node outcome
     → ActsOn (steps.Inject was.number part) old was new node outcome
-inject-on case old new was node part outcome same lawful marks fits answers = when-told old.rows (λ told world at.
+inject-on case old new was node part outcome same lawful marks fits answers = if-there old.rows (λ told world at.
     inject-acts old.case old new world was.number was node part outcome (acting old was world told lawful fits at) (marks.same refl)
     (subst (λ (k : CaseShape). AnswersAsked k.topology (own_view old) (own_view new) (line_asked k was part) (worker_at was) was node outcome)
     same answers))
@@ -61,7 +57,7 @@ pub write-on : (case : CaseShape) (old new : BookView) (was node : NodeView) (ou
     → AnswersAsked case.topology (own_view old) (own_view new) (work_asked case.topology was)
     (with_written (sending_of was) (worker_at was)) was node outcome
     → ActsOn (steps.Write was.number) old was new node outcome
-write-on case old new was node outcome same lawful marks fits answers = when-told old.rows (λ told world at.
+write-on case old new was node outcome same lawful marks fits answers = if-there old.rows (λ told world at.
     write-acts old.case old new world was.number was node outcome (acting old was world told lawful fits at) (marks.same refl)
     (subst (λ (k : CaseShape). AnswersAsked k.topology (own_view old) (own_view new) (work_asked k.topology was)
     (with_written (sending_of was) (worker_at was)) was node outcome) same answers))
@@ -71,7 +67,7 @@ pub fire-on : (case : CaseShape) (old new : BookView) (was node : NodeView) (par
     → IsLawful old.case (core_of old) → KeepsMarks (own_view old) (own_view new) → FitsOwn old was
     → AnswersFire case (own_view old) (own_view new) part was node outcome
     → ActsOn (steps.Fire was.number part) old was new node outcome
-fire-on case old new was node part outcome same lawful marks fits answers = when-told old.rows (λ told world at.
+fire-on case old new was node part outcome same lawful marks fits answers = if-there old.rows (λ told world at.
     fire-acts old.case old new world was.number was node part outcome (acting old was world told lawful fits at) (marks.same refl)
     (subst (λ (k : CaseShape). AnswersFire k (own_view old) (own_view new) part was node outcome) same answers))
 
@@ -80,14 +76,14 @@ pub purge-on : (case : CaseShape) (old new : BookView) (was node : NodeView) (in
     → IsLawful old.case (core_of old) → KeepsMarks (own_view old) (own_view new) → FitsOwn old was
     → AnswersPurge case.topology (own_view old) (own_view new) interval 1 was node outcome
     → ActsOn (steps.Purge was.number interval) old was new node outcome
-purge-on case old new was node interval outcome same lawful marks fits answers = when-told old.rows (λ told world at.
+purge-on case old new was node interval outcome same lawful marks fits answers = if-there old.rows (λ told world at.
     purge-acts old.case old new world was.number was node interval outcome (acting old was world told lawful fits at) (marks.same refl)
     (subst (λ (k : CaseShape). AnswersPurge k.topology (own_view old) (own_view new) interval 1 was node outcome) same answers))
 
 -- what is sent again
 pub resend-on : (old : BookView) (was node : NodeView) (outcome : Outcome) → IsLawful old.case (core_of old) → FitsOwn old was
     → AnswersSweep (own_view old) was node outcome → ActsOn (steps.Resend was.number) old was old node outcome
-resend-on old was node outcome lawful fits answers = when-told old.rows (λ told world at.
+resend-on old was node outcome lawful fits answers = if-there old.rows (λ told world at.
     resend-acts old.case old world was.number was node outcome (acting old was world told lawful fits at) answers)
 
 -- a report
@@ -96,7 +92,7 @@ pub report-on : (case : CaseShape) (old new : BookView) (was node : NodeView) (i
     → interval < interval_count old.case.topology
     → AnswersReport case (own_view old) (own_view new) (held_at was.held interval) was node outcome
     → ActsOn (steps.Report was.number interval) old was new node outcome
-report-on case old new was node interval outcome same lawful marks fits within answers = when-told old.rows (λ told world at.
+report-on case old new was node interval outcome same lawful marks fits within answers = if-there old.rows (λ told world at.
     report-acts old.case old new world was.number was node interval outcome (acting old was world told lawful fits at) marks within
     (subst (λ (k : CaseShape). AnswersReport k (own_view old) (own_view new) (held_at was.held interval) was node outcome) same answers))
 

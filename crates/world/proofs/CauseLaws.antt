@@ -11,7 +11,7 @@ use Rattle.topology.specs.Shapes.{Shape}
 use Rattle.row_parts.specs.Contents.{is_finished}
 use Rattle.run_history.specs.Cases.{CaseShape}
 use Rattle.run_history.specs.Fences.{is_claim}
-use Rattle.run_history.proofs.Lists.{none_some, some_same}
+use Rattle.list_lemmas.proofs.Lists.{none_some, some_same}
 use Rattle.book.specs.Books.{BookView, LeaseView}
 use Rattle.book.specs.OwnDesks.{own_view}
 use Rattle.book.specs.declared.proposal.Proposal.{Proposal}

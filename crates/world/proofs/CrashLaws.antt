@@ -1,6 +1,7 @@
 -- A worker that crashes.
 use Rattle.std.proofs.Common.{◌≡◌, ◌∙◌, sym, ap}
-use Rattle.run_history.proofs.Lists.{none_some}
+use Rattle.list_lemmas.proofs.Told.{if-there}
+use Rattle.list_lemmas.proofs.Lists.{none_some}
 use Rattle.book.specs.Books.{BookView, core_of}
 use Rattle.book.specs.Lawful.{IsLawful}
 use Rattle.book.specs.OwnDesks.{own_view}
@@ -11,7 +12,7 @@ use Rattle.node.proofs.FitLaws.{grown_looked, looked_not}
 use Rattle.scripts.specs.declared.step.Step.TheVariants as steps
 use Rattle.world.specs.Standing.{FitsOwn}
 use Rattle.world.specs.WorkerCalls.{ActsOn, HasCalled, HasLeases}
-use Rattle.world.proofs.ActsOnLaws.{acting, when-told}
+use Rattle.world.proofs.ActsOnLaws.{acting}
 use Rattle.world.proofs.deeds.Crashes.{crash-acts}
 
 -- it has no lease
@@ -33,5 +34,5 @@ crash-called book was node lawful number nothing fits = record {
 -- and it does what a scripted worker does
 pub crash-on : (book : BookView) (was node : NodeView) → IsLawful book.case (core_of book) → FitsOwn book was
     → worker_at node ≡ idle → ActsOn (steps.Crash was.number) book was book node outcomes.Crashed
-crash-on book was node lawful fits nothing = when-told book.rows (λ told world at.
+crash-on book was node lawful fits nothing = if-there book.rows (λ told world at.
     crash-acts book.case book world was.number was node (acting book was world told lawful fits at) nothing)

@@ -1,6 +1,7 @@
 -- A world in which a worker has sent all that it had to send.
 use Rattle.std.proofs.Common.{◌≡◌, ◌∙◌, ℕ, List, refl, sym, ap, subst}
 use Rattle.std.specs.Prelude.{Option, Some, slice_get}
+use Rattle.list_lemmas.proofs.Told.{if-there}
 use Rattle.book.specs.Books.{BookView}
 use Rattle.book.specs.declared.own_desk.NoNote.{NoNote}
 use Rattle.node.specs.Workers.{NodeView, worker_at}
@@ -16,7 +17,6 @@ use Rattle.world.specs.Stepping.{HasActed}
 use Rattle.drains.specs.Turns.{HasFailed}
 use Rattle.world.specs.WorkerCalls.{SendsOn, world_with}
 use Rattle.world.specs.WorldStates.{WorldState, flight_of, world_of}
-use Rattle.world.proofs.ActsOnLaws.{when-told}
 use Rattle.drains.proofs.TurnLaws.{failed-not}
 use Rattle.world.proofs.WorldSteps.{at-world, changed, rested-at, world-changed}
 
@@ -25,7 +25,7 @@ pub sent-at : (state : WorldState) (book : BookView) (number : ℕ) (was node : 
     (outcome : Outcome) → IsWorld state → slice_get state.nodes number ≡ Some was
     → SendsOn state.book was (flight_of state.flight) book node (flight_of after) outcome
     → HasActed (steps.Send number) state (changed state book number node after) outcome
-sent-at state book number was node after outcome is at sends = when-told state.book.rows
+sent-at state book number was node after outcome is at sends = if-there state.book.rows
     (λ told. ap (λ (w : World). (outcome, w)) (world-changed state book number node after
     ∙ ap (λ (n : ℕ). let w : World = record (world_with book n node (world_of state)) { flight = flight_of after } in w)
     (sym (is.numbered number was at)))

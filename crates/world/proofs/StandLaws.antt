@@ -10,7 +10,7 @@ use Rattle.mw_types.specs.declared.entry.Entry.{Entry}
 use Rattle.mw_types.specs.declared.entry.Entry.TheVariants as entries
 use Rattle.run_history.specs.Fences.{CarryNot, sequencer_of}
 use Rattle.run_history.proofs.Beginnings.{slice_get-more}
-use Rattle.run_history.proofs.Lists.{none_some, some_same}
+use Rattle.list_lemmas.proofs.Lists.{none_some, some_same}
 use Rattle.book.specs.Books.{BookView}
 use Rattle.book.specs.OwnDesks.{own_view}
 use Rattle.book.specs.declared.own_desk.NoNote.{NoNote}

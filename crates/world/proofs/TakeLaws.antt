@@ -2,6 +2,7 @@
 use Rattle.std.proofs.Common.{◌≡◌, ◌∙◌, ◌↔◌, ℕ, Bool, true, false, refl, sym, ap, subst}
 use Rattle.std.specs.Prelude.{Option, None, Some, IsSome, IfSome, if◌then◌else◌}
 use Rattle.std.specs.Option.{is_some, option_and_then, option_map, option_map_or}
+use Rattle.list_lemmas.proofs.Told.{if-there}
 use Rattle.mw_types.specs.declared.delivery.Delivery.{Delivery}
 use Rattle.mw_types.specs.declared.identity.RowName.{RowName}
 use Rattle.topology.specs.Shapes.{Shape}
@@ -26,7 +27,7 @@ use Rattle.scripts.specs.Acts.{must_wait}
 use Rattle.scripts.specs.Worlds.{lease_of, lease_on, row_of_message}
 use Rattle.world.specs.Standing.{FitsOwn}
 use Rattle.world.specs.WorkerCalls.{IsReady, TakesOn, answered_in_place}
-use Rattle.world.proofs.ActsOnLaws.{acting, when-told}
+use Rattle.world.proofs.ActsOnLaws.{acting}
 use Rattle.drains.proofs.TurnLaws.{free-of}
 use Rattle.world.proofs.deeds.Takes.{ack-acts, prepare-acts}
 
@@ -140,7 +141,7 @@ pub handle-on : (case : CaseShape) (old new : BookView) (was node : NodeView) (d
     → (outcome, worker_at node) ≡ taken_from case.topology was (outgoing.Deliver delivery sender)
     → (number : ℕ) → TakesOn number (outgoing.Deliver delivery sender) old was new node outcome
 handle-on case old new was node delivery sender outcome same lawful marks fits left looked is number =
-    when-told old.rows (λ told world at flying.
+    if-there old.rows (λ told world at flying.
     let taken = outgoing.Deliver delivery sender in
     let may = left-none old.case.topology was taken left in
     prepare-acts old.case old new world was.number was node number taken outcome (acting old was world told lawful fits at)
@@ -155,7 +156,7 @@ pub ack-on : (case : CaseShape) (old new : BookView) (was node : NodeView) (take
     → AnswersAckOf case.topology (own_view old) (own_view new) taken was node outcome
     → (number : ℕ) → TakesOn number taken old was new node outcome
 ack-on case old new was node taken outcome same lawful marks fits left ack answers number =
-    when-told old.rows (λ told world at flying.
+    if-there old.rows (λ told world at flying.
     ack-acts old.case old new world was.number was node number taken outcome (acting old was world told lawful fits at)
     (marks.same refl) flying ack (left-none old.case.topology was taken left).1
     (subst (λ (k : CaseShape). AnswersAckOf k.topology (own_view old) (own_view new) taken was node outcome) same answers))

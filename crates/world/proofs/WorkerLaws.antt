@@ -9,7 +9,7 @@ use Rattle.topology.specs.Shapes.{Shape}
 use Rattle.row_parts.specs.Contents.{is_finished}
 use Rattle.run_history.specs.Cases.{CaseShape}
 use Rattle.run_history.proofs.Beginnings.{slice_get-last}
-use Rattle.run_history.proofs.Lists.{some_same}
+use Rattle.list_lemmas.proofs.Lists.{some_same}
 use Rattle.book.specs.Books.{BookView}
 use Rattle.book.specs.Desks.{HasLooked, IsSound, KeepsMarks}
 use Rattle.book.specs.OwnDesks.{own_view}

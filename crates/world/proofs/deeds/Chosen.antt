@@ -5,7 +5,7 @@ use Rattle.std.specs.Option.{option_and_then}
 use Rattle.mw_types.specs.declared.identity.RowName.{RowName}
 use Rattle.topology.specs.Shapes.{Shape}
 use Rattle.run_history.specs.Cases.{CaseShape}
-use Rattle.run_history.proofs.Lists.{none_some}
+use Rattle.list_lemmas.proofs.Lists.{none_some}
 use Rattle.book.specs.Books.{BookView}
 use Rattle.book.specs.Desks.{DeskView}
 use Rattle.book.specs.declared.proposal.Proposal.{Proposal}

@@ -7,7 +7,7 @@ use Rattle.topology.specs.Shapes.{Shape}
 use Rattle.run_history.specs.Cases.{CaseShape}
 use Rattle.run_history.specs.Fences.{interval_of, known}
 use Rattle.run_history.specs.Runs.{row_of, run_of}
-use Rattle.run_history.proofs.Lists.{none_some}
+use Rattle.list_lemmas.proofs.Lists.{none_some}
 use Rattle.book.specs.Books.{BookView, LeaseView}
 use Rattle.book.specs.Desks.{DeskView}
 use Rattle.book.specs.OwnDesks.{own_view}

@@ -21,7 +21,7 @@ use Rattle.run_history.specs.Fences.{interval_of, known}
 use Rattle.run_history.specs.Runs.{row_in}
 use Rattle.run_history.proofs.IntervalLaws.{are-intervals, has-interval_of, interval_of-has}
 use Rattle.run_history.proofs.Lookups.{each_found}
-use Rattle.run_history.proofs.Lists.{some_same}
+use Rattle.list_lemmas.proofs.Lists.{some_same}
 use Rattle.history_laws.proofs.LowLaws.{rows-in_order}
 use Rattle.history_laws.proofs.RowSteps.{same_row}
 use Rattle.book.specs.Books.{BookView, LeaseView}

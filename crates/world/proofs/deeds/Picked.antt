@@ -8,7 +8,7 @@ use Rattle.std.specs.Map.{keys_of}
 use Rattle.std.specs.Ordering.{min_by_ordering, ordering_reverse}
 use Rattle.std.specs.declared.cmp.Ordering.{Ordering}
 use Rattle.std.specs.declared.cmp.Ordering.TheVariants.{Less, Equal, Greater}
-use Rattle.run_history.proofs.Lists.{none_some, some_same}
+use Rattle.list_lemmas.proofs.Lists.{none_some, some_same}
 use Rattle.world.proofs.deeds.Members.{IsIn, each-in}
 
 -- one of a list is not above any other of it

@@ -6,6 +6,7 @@ use Rattle.std.specs.Ordering.{is_eq, ordering_reverse}
 use Rattle.std.specs.declared.cmp.Ordering.{Ordering}
 use Rattle.std.specs.declared.cmp.Ordering.TheVariants.{Less, Equal, Greater}
 use Rattle.std.proofs.lemmas.Bool.{lt-ltb, ltb-true}
+use Rattle.list_lemmas.proofs.Tests.{both_true}
 use Rattle.mw_types.specs.Orders.{row_cmp}
 use Rattle.mw_types.specs.declared.identity.RowName.{RowName}
 use Rattle.mw_types.proofs.OrderLaws.{row_cmp-total}
@@ -15,8 +16,7 @@ use Rattle.run_history.specs.Cases.{CaseShape}
 use Rattle.run_history.specs.Fences.{interval_of}
 use Rattle.run_history.specs.Legal.{floor_of}
 use Rattle.run_history.specs.Runs.{run_of}
-use Rattle.run_history.proofs.Fitting.{both}
-use Rattle.run_history.proofs.Lists.{some_same}
+use Rattle.list_lemmas.proofs.Lists.{some_same}
 use Rattle.history_laws.proofs.RowSteps.{same_row}
 use Rattle.book.specs.Books.{BookView}
 use Rattle.book.specs.OwnDesks.{own_view}
@@ -54,7 +54,7 @@ has-passes shape held floor name has = let row = row_held shape held name in
 passes-has : (shape : Shape) (held : HeldView) (floor : ℕ) (name : RowName)
     → may_forget floor (name, row_held shape held name) ≡ true → HasToForget shape held 1 floor name
 passes-has shape held floor name passes = let row = row_held shape held name in
-    let two = both (nat_lt 0 (length row.seen)) (nat_lt row.floor floor) passes in record {
+    let two = both_true (nat_lt 0 (length row.seen)) (nat_lt row.floor floor) passes in record {
       many = let m = ltb-true 0 (length row.seen) two.0 in omega (arith, m);
       rises = ltb-true row.floor floor two.1;
     }

@@ -3,6 +3,7 @@ use Rattle.std.proofs.Common.{◌≡◌, ◌∙◌, ◌<◌, ℕ, refl, sym, ap,
 use Rattle.std.specs.Prelude.{IfSome, None, Option, Some, slice_get, slice_set}
 use Rattle.std.specs.Option.{option_map, option_map_or}
 use Rattle.std.proofs.lemmas.List.{append-nil}
+use Rattle.list_lemmas.proofs.Places.{slice_get-some}
 use Rattle.key_intervals.specs.declared.bounds.Bounds.{Bounds}
 use Rattle.topology.specs.Rules.{interval_count}
 use Rattle.topology.specs.Shapes.{Shape}
@@ -14,7 +15,6 @@ use Rattle.run_history.proofs.CaseIntervals.{length-intervals}
 use Rattle.book.specs.Books.{BookView}
 use Rattle.book.specs.Marks.{reported, with_mark}
 use Rattle.book.specs.OwnDesks.{own_view}
-use Rattle.book.proofs.FoundRows.{some-at}
 use Rattle.holdings.specs.Holding.{HeldView, held_at}
 use Rattle.holdings.proofs.OwnLaws.{own_work-known}
 use Rattle.node.specs.Answers.{AnswersReport, AnswersReportOf, IsMarked}
@@ -33,7 +33,7 @@ use Rattle.world.proofs.deeds.Left.{acted-same, acting-alone, acting-of, idle-ac
 bounds-there : (shape : Shape) (interval : ℕ) → interval < interval_count shape
     → (bounds : Bounds) × (slice_get (intervals_of shape) interval ≡ Some bounds)
 bounds-there shape interval within =
-    some-at (intervals_of shape) interval (subst (λ n. interval < n) (sym (length-intervals shape)) within)
+    slice_get-some (intervals_of shape) interval (subst (λ n. interval < n) (sym (length-intervals shape)) within)
 
 -- what is reported under a lease is what is held of its interval
 under-is : (case : CaseShape) (old : BookView) (world : World) (number : ℕ) (was : NodeView) (interval : ℕ) (held : HeldView)

@@ -16,7 +16,7 @@ use Rattle.run_history.specs.Fences.{interval_of, known}
 use Rattle.run_history.specs.Made.{found_delivery, row_written}
 use Rattle.run_history.specs.Runs.{cached, row_in, row_of, run_of}
 use Rattle.run_history.proofs.Known.{known-begins}
-use Rattle.run_history.proofs.Lists.{none_some, some_same}
+use Rattle.list_lemmas.proofs.Lists.{none_some, some_same}
 use Rattle.history_laws.proofs.IdLaws.{each_found_delivery, made-in_order, same_id-itself}
 use Rattle.history_laws.proofs.SeenLaws.{found-more}
 use Rattle.history_laws.proofs.SentLaws.{pending-as_made}

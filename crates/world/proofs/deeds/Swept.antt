@@ -15,7 +15,7 @@ use Rattle.holdings.specs.declared.pending.Sent.{Sent}
 use Rattle.node.specs.Answers.{sent_again}
 use Rattle.node.specs.Workers.{where_passes}
 use Rattle.node.specs.declared.outgoing.Outgoing.TheVariants as outgoing
-use Rattle.run_history.proofs.Lists.{none_some, some_same}
+use Rattle.list_lemmas.proofs.Lists.{none_some, some_same}
 
 -- records stand by their ids
 abbrev pub by_id : Sent → Sent → Ordering

@@ -17,7 +17,7 @@ use Rattle.row_parts.specs.Orders.{timer_cmp-total}
 use Rattle.run_history.specs.Cases.{CaseShape, fresh_of}
 use Rattle.run_history.specs.Fences.{known}
 use Rattle.run_history.specs.Runs.{row_in}
-use Rattle.run_history.proofs.Lists.{none_some, some_same}
+use Rattle.list_lemmas.proofs.Lists.{none_some, some_same}
 use Rattle.history_laws.proofs.RowSteps.{both_Equal, same_row}
 use Rattle.book.specs.Books.{BookView}
 use Rattle.holdings.specs.Holding.{HeldView, held_on, row_held}

@@ -1,7 +1,8 @@
 use Rattle.std.proofs.Common.{◌≡◌, ◌∙◌, Err, refl, sym, ap, inr}
+use Rattle.list_lemmas.proofs.Told.{on_ok-map}
 use Rattle.run_history.specs.Cases.{CaseShape}
 use Rattle.mw_types.proofs.CauseLaws.{Rose-before}
-use Rattle.millwheel_cli.proofs.Replaying.{script_stopped, script_unended, drained_behind, whole_behind, unended_behind, replayed_of, on_ok}
+use Rattle.millwheel_cli.proofs.Replaying.{script_stopped, script_unended, drained_behind, whole_behind, unended_behind, replayed_of}
 use Rattle.millwheel_cli.proofs.run.replay.Goals as goal
 
 -- ---- the script stopped
@@ -55,5 +56,5 @@ returns-clause-whole g c =
     let old = c.args.world.now.book in
     let mid = c.run_script.new.world.book in
     let script = c.in_ok-run_script.ensures in
-    on_ok _ (λ ended. whole_behind old.case mid.case old.rows mid.rows _ _ c.args.steps.now mid.history _ script.case script.tells
+    on_ok-map _ (λ ended. whole_behind old.case mid.case old.rows mid.rows _ _ c.args.steps.now mid.history _ script.case script.tells
     c.requires.begun script.done refl c.drain.ensures.grown c.drain.ensures.draining ended) c.drain.ensures.ended

@@ -1,8 +1,8 @@
 use Rattle.std.proofs.Common.{◌≡◌, ◌∙◌, ap, rules, sym}
+use Rattle.list_lemmas.proofs.Told.{on_ok-map}
 use Rattle.mw_types.specs.Outcomes.{EffectsView}
 use Rattle.run_history.specs.Cases.{CaseShape}
 use Rattle.holdings.proofs.HeldSteps.{ok-so}
-use Rattle.holdings.proofs.StampLaws.{on-ok}
 use Rattle.node.proofs.WrittenLaws.{addressed-here, made-here}
 use Rattle.node.proofs.sends.made_by.Goals as goal
 
@@ -26,6 +26,6 @@ returns-clause-addressed c =
     let topology : c.case.inside.topology ≡ shape = ap (λ (k : CaseShape). k.topology) c.case.view_is in
     let productions : c.as_slice-productions.result.now ≡ effects.productions =
     c.as_slice-productions.ensures.elements ∙ ap (λ (e : EffectsView). e.productions) c.effects.view_is in
-    on-ok c.made.result
+    on_ok-map c.made.result
     (λ is. addressed-here c.case.inside.topology shape c.as_slice-productions.result.now effects.productions c.args.name.now c.args.late
     topology productions is) c.made.ensures.addressed

@@ -1,6 +1,6 @@
 use Rattle.std.proofs.Common.{ℕ, refl, arith}
 use Rattle.mw_types.specs.declared.delivery.Delivery.{Delivery}
-use Rattle.run_history.proofs.Lists.{none_some}
+use Rattle.list_lemmas.proofs.Lists.{none_some}
 use Rattle.worked_examples.specs.First.{row_a, record_at}
 use Rattle.worked_examples.proofs.first.first_example.Goals as goal
 

@@ -1,10 +1,10 @@
 use Rattle.std.specs.Prelude.{drop}
-use Rattle.world.proofs.ActsOnLaws.{when-told}
+use Rattle.list_lemmas.proofs.Told.{if-there}
 use Rattle.world.proofs.RunLaws.{faulted-history, run-begun}
 use Rattle.world.proofs.script_runs.run_script.Goals as goal
 
 -- after a fault the history begins what the script writes
 pub returns-in_err-step-clause-begun : goal.returns-in_err-step-clause-begun
-returns-in_err-step-clause-begun g c = when-told c.args.world.now.book.rows (λ told.
+returns-in_err-step-clause-begun g c = if-there c.args.world.now.book.rows (λ told.
     run-begun c.args.world.now c.loop-step.world c.step.new.self (drop c.loop-step.step-index c.args.steps.now) c.args.steps.now
     c.loop-step.invariant (faulted-history _ c.loop-step.world c.step.new.self c.in_err-step.ensures.kept) told)

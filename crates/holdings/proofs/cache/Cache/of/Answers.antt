@@ -4,7 +4,7 @@ use Rattle.std.specs.List.Sorted.{IsStrictlySortedBy}
 use Rattle.std.specs.Map.{lookup}
 use Rattle.std.specs.BTreeMap.{is_at}
 use Rattle.mw_types.specs.Orders.{row_cmp}
-use Rattle.run_history.proofs.Lists.{each-all}
+use Rattle.list_lemmas.proofs.Lists.{each-all}
 use Rattle.mw_types.specs.declared.identity.RowName.{RowName}
 use Rattle.row_parts.specs.Contents.{Contents}
 use Rattle.book.specs.declared.answers.NamedRow.{NamedRow}

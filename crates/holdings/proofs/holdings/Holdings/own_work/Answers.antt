@@ -5,7 +5,7 @@ use Rattle.topology.specs.Rules.{IsTopology}
 use Rattle.run_history.specs.Cases.{CaseShape, intervals_of}
 use Rattle.run_history.specs.Marks.{own_work}
 use Rattle.run_history.specs.Runs.{cached}
-use Rattle.run_history.proofs.Lists.{some_same}
+use Rattle.list_lemmas.proofs.Lists.{some_same}
 use Rattle.book.specs.Conditions.{IsOwnWork}
 use Rattle.holdings.specs.Holding.{HeldView, held_at}
 use Rattle.holdings.specs.Steps.{IsOldest}

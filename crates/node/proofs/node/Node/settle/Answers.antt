@@ -2,7 +2,7 @@ use Rattle.std.proofs.Common.{rules, ◌≡◌, ◌∙◌, true, ap, subst, sym,
 use Rattle.std.specs.Prelude.{IfErr, IfOk, OnErr, Some, Result}
 use Rattle.std.specs.Option.{is_some}
 use Rattle.run_history.specs.Made.{found_delivery}
-use Rattle.run_history.proofs.Lists.{some_same}
+use Rattle.list_lemmas.proofs.Lists.{some_same}
 use Rattle.holdings.specs.Holding.{HeldView, IsRefusedOf, held_at, held_on, row_held}
 use Rattle.node.specs.declared.outcome.NodeFault.{NodeFault}
 use Rattle.node.specs.declared.outcome.Outcome.{Outcome}

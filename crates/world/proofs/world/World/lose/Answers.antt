@@ -1,9 +1,9 @@
 use Rattle.std.proofs.Common.{refl, subst}
+use Rattle.list_lemmas.proofs.Told.{if-there}
 use Rattle.node.specs.Workers.{idle}
 use Rattle.scripts.specs.declared.step.Step.TheVariants as steps
 use Rattle.world.specs.Stepping.{HasActed}
 use Rattle.world.specs.WorldStates.{WorldState, world_of}
-use Rattle.world.proofs.ActsOnLaws.{when-told}
 use Rattle.world.proofs.world.World.lose.Goals as goal
 
 -- a message is lost as in the script
@@ -12,7 +12,7 @@ returns-clause-acted g c =
     let state : WorldState = record { book = c.self.inside.book; nodes = c.self.inside.nodes.items; flight = c.self.inside.flight.items } in
     let new : WorldState = record state { flight = c.lose.new.flight.items } in
     subst (λ (s : WorldState). HasActed (steps.Lose c.args.message) s new c.lose.result) c.self.view_is
-    (when-told state.book.rows (λ told. c.lose.ensures.acted state.book.case (world_of state) refl))
+    (if-there state.book.rows (λ told. c.lose.ensures.acted state.book.case (world_of state) refl))
 
 -- its answer names no number that wants a cause
 pub returns-clause-cause : goal.returns-clause-cause

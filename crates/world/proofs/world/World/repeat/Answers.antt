@@ -1,10 +1,10 @@
 use Rattle.std.proofs.Common.{refl, subst}
 use Rattle.std.specs.Prelude.{IfOk}
+use Rattle.list_lemmas.proofs.Told.{if-there}
 use Rattle.node.specs.Workers.{idle}
 use Rattle.scripts.specs.declared.step.Step.TheVariants as steps
 use Rattle.world.specs.Stepping.{HasActed}
 use Rattle.world.specs.WorldStates.{WorldState, world_of}
-use Rattle.world.proofs.ActsOnLaws.{when-told}
 use Rattle.drains.proofs.Results.{ok-then}
 use Rattle.world.proofs.world.World.repeat.Goals as goal
 
@@ -14,7 +14,7 @@ returns-clause-acted g c =
     let state : WorldState = record { book = c.self.inside.book; nodes = c.self.inside.nodes.items; flight = c.self.inside.flight.items } in
     let new : WorldState = record state { flight = c.repeat.new.flight.items } in
     subst (λ (s : WorldState). IfOk c.repeat.result (HasActed (steps.Repeat c.args.message) s new)) c.self.view_is
-    (ok-then c.repeat.result (λ outcome acts. when-told state.book.rows (λ told. acts state.book.case (world_of state) refl))
+    (ok-then c.repeat.result (λ outcome acts. if-there state.book.rows (λ told. acts state.book.case (world_of state) refl))
     c.repeat.ensures.acted)
 
 -- its answer names no number that wants a cause

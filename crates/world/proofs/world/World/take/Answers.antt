@@ -1,5 +1,6 @@
 use Rattle.std.proofs.Common.{◌≡◌, subst, sym, rules}
 use Rattle.std.specs.Prelude.{IfOk, None, OnErr, Some, slice_get, slice_set, unwrap_or}
+use Rattle.list_lemmas.proofs.Told.{if-there}
 use Rattle.run_history.specs.Cases.{CaseShape}
 use Rattle.book.specs.OwnDesks.{own_view}
 use Rattle.node.specs.Messages.{IsAddressed}
@@ -11,7 +12,6 @@ use Rattle.world.specs.Standing.{IsWorld}
 use Rattle.world.specs.Stepping.{HasActed, HasFaulted, IsCausedBy}
 use Rattle.world.specs.WorkerCalls.{answered_in_place}
 use Rattle.world.specs.WorldStates.{WorldState, world_of}
-use Rattle.world.proofs.ActsOnLaws.{when-told}
 use Rattle.drains.proofs.Results.{ok-then}
 use Rattle.world.proofs.TakeLaws.{ready-of}
 use Rattle.world.proofs.TakeSteps.{found-sent, take-left, take-not, taken-at, taken-rested, taken-stands}
@@ -27,7 +27,7 @@ returns-in_default-clause-acted g c =
     let state : WorldState = record { book = c.self.inside.book; nodes = c.self.inside.nodes.items; flight = c.self.inside.flight.items } in
     let at : unwrap_or (slice_get state.flight c.args.message) None ≡ None = search rules in
     subst (λ (s : WorldState). HasActed (steps.Take c.args.worker c.args.message) s s outcomes.Nothing) c.self.view_is
-    (when-told state.book.rows (λ told. take-not state.book.case state c.args.worker c.args.message at))
+    (if-there state.book.rows (λ told. take-not state.book.case state c.args.worker c.args.message at))
 
 -- the message goes to a row that may be there
 pub answered_in_place-requires-clause-addressed : goal.answered_in_place-requires-clause-addressed
@@ -53,7 +53,7 @@ returns-in-Some-answered_in_place-clause-acted g c =
     let left : answered_in_place c.case-case.result.now.topology (worker_at c.index-here.result.now) (outgoing_of c.in-Some.found.now)
     ≡ Some c.in-Some-answered_in_place.outcome = search rules in
     subst (λ (s : WorldState). HasActed (steps.Take c.args.worker c.args.message) s s c.in-Some-answered_in_place.outcome) c.self.view_is
-    (when-told state.book.rows (λ told. take-left state.book.case state c.args.worker c.args.message c.index-here.result.now
+    (if-there state.book.rows (λ told. take-left state.book.case state c.args.worker c.args.message c.index-here.result.now
     c.in-Some.found.now c.in-Some-answered_in_place.outcome here at
     (subst (λ (k : CaseShape). answered_in_place k.topology (worker_at c.index-here.result.now) (outgoing_of c.in-Some.found.now)
     ≡ Some c.in-Some-answered_in_place.outcome) c.case-case.ensures.case left)))

@@ -1,6 +1,6 @@
 -- What holds of each element of a list, where the list is joined, filtered or searched.
-use Rattle.std.proofs.Common.{◌≡◌, ℕ, zero, suc, ◌+◌, Bool, true, false, cond, ◌&&◌, List, [], ◌∷◌, ◌++◌, map, refl, sym, ◌∙◌, ap, subst, append_assoc}
-use Rattle.std.specs.Prelude.{Some, None, unwrap_or, find, filter, slice_get}
+use Rattle.std.proofs.Common.{◌≡◌, ◌≤◌, ℕ, ◌+◌, Bool, true, false, cond, ◌&&◌, List, [], ◌∷◌, ◌++◌, length, map, refl, sym, ◌∙◌, ap, subst, append_assoc, arith}
+use Rattle.std.specs.Prelude.{Some, None, unwrap_or, find, filter}
 use Rattle.std.specs.Option.{option_or}
 use Rattle.std.specs.List.{AllByRecursion, enumerate_from, flat_map}
 use Rattle.std.specs.List.Sorted.{IsStrictlySortedBy}
@@ -44,12 +44,6 @@ each-map P f (x ∷ xs) each = (each.0, each-map P f xs each.1)
 pub each-all : {X : Type 0} (P : X → Type 0) → ((x : X) → P x) → (xs : List X) → AllByRecursion P xs
 each-all P always [] = tt
 each-all P always (x ∷ xs) = (always x, each-all P always xs)
-
--- what holds of each holds of the one at a place
-pub each-at : {X : Type 0} (P : X → Type 0) (xs : List X) (i : ℕ) (x : X) → AllByRecursion P xs → slice_get xs i ≡ Some x → P x
-each-at P [] i x each at = absurd (none_some x at)
-each-at P (y ∷ ys) zero x each at = subst P (some_same y x at) each.0
-each-at P (y ∷ ys) (suc i) x each at = each-at P ys i x each.1 at
 
 -- what holds of each value, and of a value to fall back on, holds of the one that is found
 pub found_of_each : {K X : Type 0} (P : X → Type 0) (test : K → Bool) (es : List (K × X)) (d : X)
@@ -229,3 +223,11 @@ filter-passes {X} test (x ∷ xs) =
       | true ↦ λ e. (e, filter-passes test xs)
       | false ↦ λ e. filter-passes test xs
     ] refl
+
+-- a filter leaves no more than there was
+pub length-filter : {X : Type 0} (test : X → Bool) (xs : List X) → length (filter test xs) ≤ length xs
+length-filter test [] = omega arith
+length-filter test (x ∷ xs) = elim (test x) as (λ b. length (cond b (x ∷ filter test xs) (filter test xs)) ≤ length (x ∷ xs)) [
+  | true ↦ omega (arith, length-filter test xs)
+  | false ↦ omega (arith, length-filter test xs)
+]
