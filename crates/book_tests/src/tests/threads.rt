@@ -108,7 +108,7 @@ fn one_thread<K: Keeper, R: Wait + Abort>(
 
 // A seat deals its first number to a thread, and the rest of them in a thread beside it; the seats are
 // joined once both have ended.
-#[tactic(auto, using(crate::proofs::Sending::core_send, crate::proofs::Sending::seat_send))]
+#[tactic(auto, using(shared_book::proofs::Sending::core_send, shared_book::proofs::Sending::seat_send))]
 fn in_threads<K: Keeper + Send, R: Threads + Wait + Abort + Sync>(
     rt: &R,
     alloc: Global,
