@@ -18,11 +18,7 @@ pub const FIRST: Files<'static> = &[("t.json", COUNT), ("e", EVENTS)];
 
 /// The bytes of a text.
 pub(super) fn bytes_of(alloc: Global, text: &[u8]) -> Result<Bytes, NoMemory> {
-    let mut bytes = Bytes::new(alloc);
-    for byte in text {
-        bytes.push(*byte)?;
-    }
-    Ok(bytes)
+    Ok(Bytes::from_vec(text.to_vec(alloc)?))
 }
 
 // A file of this name and content.
