@@ -96,11 +96,11 @@ shorter : (case : CaseShape) (front history whole : List Entry)
     → GoesOn case front history → IsLegalAndFenced case history → Begins front whole → IsDrained case (length front) whole
     → IsLegalAndFenced case whole → (whole ≡ history → ⊥) → length history < length whole
 shorter case front history whole law goes mine begins drained other apart =
-    let draining = subst (IsDraining case (length front)) goes.begins.1 goes.draining in
-    let ended = subst (IsDrained case (length front)) begins.1 drained in
+    let draining = subst (IsDraining case (length front)) (sym goes.begins.1) goes.draining in
+    let ended = subst (IsDrained case (length front)) (sym begins.1) drained in
     let way : Begins (front ++ goes.begins.0) (front ++ begins.0) = law case front goes.begins.0 begins.0 draining
-    (subst (IsLegalAndFenced case) goes.begins.1 mine) ended (subst (IsLegalAndFenced case) begins.1 other) in
-    by_rest way.0 (begins.1 ∙ way.1 ∙ ap (λ h. h ++ way.0) (sym goes.begins.1))
+    (subst (IsLegalAndFenced case) (sym goes.begins.1) mine) ended (subst (IsLegalAndFenced case) (sym begins.1) other) in
+    by_rest way.0 (sym begins.1 ∙ sym way.1 ∙ ap (λ h. h ++ way.0) goes.begins.1)
   where
     by_rest : (rest : List Entry) → whole ≡ history ++ rest → length history < length whole
     by_rest [] is = absurd (apart (is ∙ append-nil history))
