@@ -9,6 +9,8 @@ each OTHER program, and whether all wrote the same text. Another build comes fro
 
     git worktree add ../older COMMIT && (cd ../older && ./build.sh)
     ./measure.py crates/millwheel/out/millwheel ../older/crates/millwheel/out/millwheel
+
+`./build-unproved.py` makes a program in minutes that is compiled alike and not proved, for a change before its proof.
 """
 import hashlib
 import os
