@@ -72,7 +72,7 @@ def command(program: str, topology: str, events: list[str]) -> list[str]:
 
 def words_said(text: bytes) -> str:
     """What a run said on standard error."""
-    return text.decode(errors="replace").strip()
+    return text.decode(errors="replace").rstrip("\n")
 
 
 def run(program: str, topology: dict, events: list[bytes]) -> Answer:
