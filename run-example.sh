@@ -1,10 +1,24 @@
 #!/usr/bin/env bash
-# Shows a run within a minute, with --history its steps too, and with --plan plan a run whose first owner is
-# refused: the crates are compiled with checks and run, and nothing is proved.
-# What is proved, and by what, README.md says; ./build.sh proves and builds the program itself.
-cd "$(dirname "$0")/crates/millwheel_in_memory" || exit 1
-echo "compiling with checks, and without a proof: this shows a run and proves nothing. It takes about a minute the first time ..." >&2
-mode=solo
-[ "${1:-}" = --plan ] && mode=replay
-exec rt try --data t.json=../../examples/t.json --data e=../../examples/e --data plan=../../examples/old_owner.plan \
-    -- "$mode" "$@" t.json e
+# Shows a run of the small example, or with the word `requests` of the two web logs of docs/EXAMPLE.md:
+#     ./run-example.sh [requests] [--history] [--plan old_owner.plan]
+# The program is built first, once, without a proof, so this shows a run and proves nothing: ./build.sh does.
+cd "$(dirname "$0")" || exit 1
+program="$PWD/target/unproved/millwheel_in_memory"
+if [ ! -x "$program" ] || [ -n "$(find crates.txt crates/*/src -newer "$program" -print -quit)" ]; then
+    echo "building without a proof, which takes one and a half minutes of a processor; later runs begin at once ..." >&2
+    mkdir -p "$(dirname "$program")"
+    ./build-unproved.py millwheel_in_memory "$program" > /dev/null 2> "$program.log" || { cat "$program.log" >&2; exit 1; }
+fi
+mode=solo folder=examples files=(t.json e) options=()
+for word in "$@"; do
+    case "$word" in
+    requests) folder=examples/requests files=(topology.json front1.jsonl front2.jsonl) ;;
+    --plan | --plan=*) mode=replay options+=("$word") ;;
+    *) options+=("$word") ;;
+    esac
+done
+cd "$folder" || exit 1
+if [ "$folder" = examples/requests ]; then
+    ./make-logs.py && for front in front1 front2; do jq -cR -f to-events.jq $front.log > $front.jsonl || exit 1; done
+fi
+exec "$program" "$mode" "${options[@]}" "${files[@]}"

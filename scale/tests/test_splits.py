@@ -83,7 +83,7 @@ class Text(unittest.TestCase):
         self.assertEqual([result.row_parts(line).key for line in sorted(lines, key=result.order)], wanted)
 
     def test_numbers_stand_by_their_size(self):
-        lines = [b'{"key":"a","stream":"s","ts":%d,"value":%d}' % pair for pair in ((9, -5), (9, 3), (10, -20), (10, -3))]
+        lines = [b'{"key":"a","stream":"s","ts":%d,"value":%d}' % pair for pair in ((9, -5), (9, 3), (10, 9), (10, 20))]
         self.assertEqual(sorted(reversed(lines), key=result.order), lines)
 
     def test_ranges_in_order_are_the_text(self):

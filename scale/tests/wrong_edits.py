@@ -49,7 +49,8 @@ EDITS = {
     "values stand as texts": ("result", "key, row.value\n", "key, b\"%d\" % row.value\n", "tests.test_splits"),
     "ranges are cut apart from their order": ("result", "bisect.bisect_right(bounds, place_of(line))", "len(line) % 3",
                                               "tests.test_splits"),
-    "late lines are no part of the summary": ("members", "late)\n", "injected)\n", "tests.test_members"),
+    "late lines are no part of the summary": ("members", "self.injected, self.late)", "self.injected, self.injected)",
+                                              "tests.test_members"),
     "a hot value is tried by its cut": ("job", "if has_hot_piece(job, cluster, cut, injected):", "if False:",
                                         BESIDE + "test_a_hot_value_is_seen_before_its_cut"),
 }
