@@ -1,6 +1,6 @@
 -- What is reported under the last claim of an interval is at most the interval's work by the whole history, and the marks are at
 -- most the low watermarks.
-use Rattle.std.proofs.Common.{◌≡◌, ℕ, ◌+◌, ◌<◌, ◌≤◌, ◌==◌, true, List, [], ◌∷◌, ◌++◌, take, drop, sym, ◌∙◌, ap, subst, arith}
+use Rattle.std.proofs.Common.{◌≡◌, ℕ, ◌<◌, ◌≤◌, true, List, ◌++◌, take, drop, sym, ap, subst, arith}
 use Rattle.std.specs.Prelude.{◌↔◌, min, Option, Some, None, IfSome, Err, slice_get}
 use Rattle.std.proofs.lemmas.List.{take-append-drop}
 use Rattle.mw_types.specs.declared.entry.Entry.{Entry}

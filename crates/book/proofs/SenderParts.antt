@@ -1,5 +1,5 @@
 -- Whoever sent an id that is pending is a row of a part that is there.
-use Rattle.std.proofs.Common.{◌≡◌, ◌<◌, ℕ, Bool, true, false, cond, List, [], ◌∷◌, fold, refl, sym, ap, subst}
+use Rattle.std.proofs.Common.{◌≡◌, ◌<◌, Bool, true, false, cond, List, [], ◌∷◌, fold, refl, sym, subst}
 use Rattle.std.specs.Prelude.{All, IfSome, None, Option, Some, unwrap_or}
 use Rattle.std.specs.Option.{is_some, option_map_or}
 use Rattle.std.specs.BTreeMap.{insert_entry, is_at}

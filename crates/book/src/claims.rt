@@ -193,12 +193,16 @@ fn fitting(
         (λ why. why ≢ refusals.NoMemory → why ≡ refusals.RowDamaged kept.now.name kept.now.bytes) }
 {
     if !fits(case, number, &kept.name, &row) {
+        drop(row);
         return Err(damaged(alloc, kept));
     }
-    Ok(NamedRow {
-        name: kept.name.copy(alloc)?,
-        row,
-    })
+    match kept.name.copy(alloc) {
+        Ok(name) => Ok(NamedRow { name, row }),
+        Err(NoMemory) => {
+            drop(row);
+            Err(ClaimRefusal::NoMemory)
+        }
+    }
 }
 
 // Bytes that are no row that fits their name.

@@ -2,9 +2,9 @@
 ghost use Rattle.std.specs.Prelude.{◌≡◌, ◌+◌, ◌<◌, ◌≤◌, ◌^◌, All, IfOk, OnOk, false, true};
 ghost use Rattle.mw_types.specs.Bounds.{IsWithin};
 ghost use Rattle.mw_types.specs.declared.TheConstants.{MAX_STAMP};
-ghost use Rattle.mw_types.specs.declared.entry.Entry.TheVariants.{Fire, Handle};
+ghost use Rattle.mw_types.specs.declared.entry.Entry.TheVariants.{Ack, Fire, Handle, Purge};
 ghost use Rattle.mw_types.specs.declared.state.State.TheVariants.{Injector};
-ghost use Rattle.row_parts.specs.Contents.{IsId, is_finished, with_id, without_timer};
+ghost use Rattle.row_parts.specs.Contents.{IsId, ids_from, is_finished, with_id, without_delivery, without_timer};
 ghost use Rattle.run_history.specs.Made.{produced};
 ghost use Rattle.run_history.specs.Runs.{with_timers};
 ghost use Rattle.run_history.specs.Fits.{fits};
@@ -12,6 +12,7 @@ ghost use Rattle.book.specs.Proposals.{IsEntryOf, IsFiring, IsHandling, IsNextLi
 
 use crate::pending::with_sent;
 use crate::proposal::Proposal;
+use crate::rows::{purged, settled};
 use mw_types::{
     Delivery, Duplicate, Effects, Entry, IdList, NoMemory, Production, Record, RecordId, RowName,
     State, Timer,
@@ -201,9 +202,26 @@ fn noted(alloc: Global, row: &Row, id: RecordId, effects: &Effects) -> Result<Ro
     }) }
 {
     let mut noted = with_state(alloc, row, &effects.state)?;
-    set_timers(&mut noted, effects.timers.as_slice())?;
-    noted.note_handled(id)?;
+    if let Err(want) = note(&mut noted, id, effects.timers.as_slice()) {
+        drop(noted);
+        return Err(want);
+    }
     Ok(noted)
+}
+
+// Sets timers of a row, and notes that it has handled the record of this id.
+fn note(row: &mut Row, id: RecordId, set: &[Timer]) -> Result<(), NoMemory>
+    requires id { IsId id }
+    requires new { is_finished id row.old ≡ false }
+    requires times { All (λ t. t.time ≤ MAX_STAMP) set.now }
+    ensures { OnOk result (row.new ≡ record row.old {
+      timers = with_timers set.now row.old.timers;
+      seen = with_id id row.old.seen;
+    }) }
+{
+    set_timers(row, set)?;
+    row.note_handled(id)?;
+    Ok(())
 }
 
 // A copy of a row in this state, with room for one more id.
@@ -307,4 +325,59 @@ fn taken(alloc: Global, row: &Row, timer: Timer, effects: &Effects) -> Result<Ro
     let mut taken = with_state(alloc, row, &effects.state)?;
     taken.take_timer(timer.tag, timer.time);
     Ok(taken)
+}
+
+// What it writes that an id is settled.
+pub(crate) fn settling(
+    alloc: Global,
+    seq: u64,
+    name: &RowName,
+    row: &Row,
+    id: RecordId,
+    commit: u64,
+) -> Result<Step, NoMemory>
+    requires { commit < 2 ^ 32 }
+    ensures entry { IfOk result (λ step. step.entry ≡ Ack seq name.now id) }
+    ensures left { IfOk result (λ step. step.left ≡ record row.now {
+      pending = without_delivery id row.now.pending;
+      last = commit;
+    }) }
+{
+    let row_name = name.copy(alloc)?;
+    let left = settled(alloc, row, id, commit)?;
+    let entry = Entry::Ack {
+        seq,
+        row: row_name,
+        id,
+    };
+    Ok(Step { entry, left })
+}
+
+// What it writes that a row forgets the ids below a floor.
+pub(crate) fn purging(
+    alloc: Global,
+    seq: u64,
+    name: &RowName,
+    row: &Row,
+    floor: u64,
+    commit: u64,
+) -> Result<Step, NoMemory>
+    requires commit { commit < 2 ^ 32 }
+    requires rises { row.now.floor ≤ floor }
+    requires few { floor ≤ 2 ^ 32 }
+    ensures entry { IfOk result (λ step. step.entry ≡ Purge seq name.now floor) }
+    ensures left { IfOk result (λ step. step.left ≡ record row.now {
+      floor = floor;
+      seen = ids_from floor row.now.seen;
+      last = commit;
+    }) }
+{
+    let row_name = name.copy(alloc)?;
+    let left = purged(alloc, row, floor, commit)?;
+    let entry = Entry::Purge {
+        seq,
+        row: row_name,
+        floor,
+    };
+    Ok(Step { entry, left })
 }

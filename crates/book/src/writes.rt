@@ -13,12 +13,11 @@ ghost use Rattle.book.specs.Appending.{IsNext, later_than, sent_by};
 
 use crate::answers::Written;
 use crate::books::Book;
-use crate::entries::{Step, step_of};
+use crate::entries::{Step, purging, settling, step_of};
 use crate::lease::Lease;
 use crate::proposal::Proposal;
 use crate::refusals::WriteRefusal;
-use crate::rows::{purged, settled};
-use mw_types::{Duplicate, Entry, RecordId, RowName};
+use mw_types::{Entry, RecordId, RowName};
 use row_keeper::Keeper;
 use row_parts::Row;
 use std::alloc::Global;
@@ -97,12 +96,8 @@ impl<'a, K: Keeper> Book<'a, K> {
             Ok(commit) => commit,
             Err(why) => return Err(why),
         };
-        let left = settled(alloc, row, id, commit)?;
-        let entry = Entry::Ack {
-            seq: lease.seq,
-            row: name.copy(alloc)?,
-            id,
-        };
+        let made = settling(alloc, lease.seq, name, row, id, commit)?;
+        let Step { entry, left } = made;
         self.append_row(alloc, name, row, entry, left, 0)
     }
 
@@ -137,12 +132,8 @@ impl<'a, K: Keeper> Book<'a, K> {
             Ok(commit) => commit,
             Err(why) => return Err(why),
         };
-        let left = purged(alloc, row, floor, commit)?;
-        let entry = Entry::Purge {
-            seq: lease.seq,
-            row: name.copy(alloc)?,
-            floor,
-        };
+        let made = purging(alloc, lease.seq, name, row, floor, commit)?;
+        let Step { entry, left } = made;
         self.append_row(alloc, name, row, entry, left, 0)
     }
 
@@ -209,9 +200,16 @@ impl<'a, K: Keeper> Book<'a, K> {
     {
         let commit = self.core.history.len() as u64;
         let case = self.case;
-        self.core
-            .append(alloc, case, entry, name, before, &row, sent)?;
-        Ok(Written { commit, row })
+        match self
+            .core
+            .append(alloc, case, entry, name, before, &row, sent)
+        {
+            Ok(()) => Ok(Written { commit, row }),
+            Err(fault) => {
+                drop(row);
+                Err(fault.into())
+            }
+        }
     }
 }
 

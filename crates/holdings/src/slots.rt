@@ -91,10 +91,18 @@ impl Slots {
         ensures unchanged { OnErr result (self.new ≡ self.old) }
     {
         let at = count(&self.rows);
-        add_place(alloc, &mut self.rows, &mut self.places, &name, at)?;
-        self.rows.push_reserved(NamedRow { name, row });
-        self.last.set(at);
-        Ok(())
+        match add_place(alloc, &mut self.rows, &mut self.places, &name, at) {
+            Ok(()) => {
+                self.rows.push_reserved(NamedRow { name, row });
+                self.last.set(at);
+                Ok(())
+            }
+            Err(want) => {
+                drop(name);
+                drop(row);
+                Err(want)
+            }
+        }
     }
 
     // Puts another row in the place of one that is there.

@@ -5,7 +5,6 @@ use Rattle.std.specs.Bool.{Decides}
 use Rattle.std.specs.List.{AllByRecursion}
 use Rattle.std.specs.List.Sorted.{IsStrictlySortedBy}
 use Rattle.std.specs.Int.{w64, to_be_bytes}
-use Rattle.std.proofs.lemmas.Bool.{lt-ltb, le-leb}
 use Rattle.std.proofs.lemmas.List.Elements.{All-from_recursion, recursion_from_All}
 use Rattle.list_lemmas.proofs.Lists.{some_same, each-both}
 use Rattle.mw_types.specs.declared.TheConstants.{MAX_STAMP}
@@ -22,7 +21,7 @@ use Rattle.row_parts.specs.Reading.{◌>>=◌, keep, number_at, state_at, ascend
 use Rattle.row_parts.proofs.Codec.{IsBytes, Reads, as_read, nothing_at, nothing_reads, pair_at, pair_reads, made_reads, more, bind_assoc, ascending_reads}
 use Rattle.row_parts.proofs.PartLaws.{u64_reads, timer_reads, delivery_reads, id_reads, at_most, below, both}
 use Rattle.row_parts.proofs.StateLaws.{state_reads, weaker, whole_takes, whole_again}
-use Rattle.record_codec.specs.Reading.{kept_from, lists_at, fields_at, row_at, whole_row}
+use Rattle.record_codec.specs.Reading.{kept_from, Lists, are_within, row_with, lists_at, fields_at, row_at, whole_row}
 
 -- ---- the fields
 
@@ -173,14 +172,13 @@ fields_reads =
 pub fields_row : (bytes rest : List ℕ) (row : Contents) → IsBytes bytes → fields_at bytes ≡ Some (row, rest) → IsRow row
 fields_row bytes rest row are e = (fields_reads.takes bytes (row, rest) are e).2.is_row
 
--- fields that are read one after the other
-pub fields_read : (bytes r1 r2 r3 r4 : List ℕ) (row : Contents) → number_at w64 bytes ≡ Some (row.last, r1)
-    → number_at w64 r1 ≡ Some (row.floor, r2) → state_at r2 ≡ Some (row.state, r3)
-    → lists_at r3 ≡ Some ((row.timers, (row.pending, row.seen)), r4)
-    → row.last < 2 ^ 32 → row.floor ≤ 2 ^ 32 → kept_from row.floor row.seen ≡ true → fields_at bytes ≡ Some (row, r4)
+-- fields that are read one after the other, within their bounds
+pub fields_read : (bytes r1 r2 r3 r4 : List ℕ) (last floor : ℕ) (state : State) (lists : Lists)
+    → number_at w64 bytes ≡ Some (last, r1) → number_at w64 r1 ≡ Some (floor, r2) → state_at r2 ≡ Some (state, r3)
+    → lists_at r3 ≡ Some (lists, r4) → are_within last floor lists ≡ true
+    → fields_at bytes ≡ Some (row_with last floor state lists, r4)
 unfolding fields_at
-fields_read bytes r1 r2 r3 r4 row e1 e2 e3 e4 last floor kept =
-    rw (e1, e2, e3, e4, lt-ltb row.last (2 ^ 32) last, le-leb row.floor (2 ^ 32) floor, kept) refl
+fields_read bytes r1 r2 r3 r4 last floor state lists e1 e2 e3 e4 within = rw (e1, e2, e3, e4, within) refl
 
 -- ---- rows
 

@@ -2,6 +2,7 @@
 use Rattle.std.specs.Prelude.{ℕ, zero, suc, List, [], ◌∷◌, length, Option, Some, None, Bool, ◌&&◌, ◌==◌, nat_lt, nat_le, ◌^◌}
 use Rattle.std.specs.List.{list_all}
 use Rattle.std.specs.Int.{w64}
+use Rattle.mw_types.specs.declared.state.State.{State}
 use Rattle.mw_types.specs.declared.timer.Timer.{Timer}
 use Rattle.mw_types.specs.declared.delivery.Delivery.{Delivery}
 use Rattle.mw_types.specs.declared.identity.RecordId.{RecordId}
@@ -21,24 +22,32 @@ lists_at bytes = do
   seen ← ascending_at id_cmp id_at pending.1
   Some ((timers.0, (pending.0, seen.0)), seen.1)
 
+-- the lists of a row, as they are read
+abbrev pub Lists : Type 0
+Lists = List Timer × (List Delivery × List RecordId)
+
+-- whether a row's numbers are within their bounds
+abbrev pub are_within : ℕ → ℕ → Lists → Bool
+are_within last floor lists = nat_lt last (2 ^ 32) && nat_le floor (2 ^ 32) && kept_from floor lists.1.1
+
+-- the row of these fields
+abbrev pub row_with : ℕ → ℕ → State → Lists → Contents
+row_with last floor state lists =
+    record { state = state; timers = lists.0; pending = lists.1.0; seen = lists.1.1; floor = floor; last = last }
+
+-- what follows a row's numbers and its state
+abbrev pub rest_at : ℕ → ℕ → State → List ℕ → Option (Contents × List ℕ)
+rest_at last floor state bytes = do
+  lists ← lists_at bytes
+  keep (are_within last floor lists.0) (row_with last floor state lists.0, lists.1)
+
 -- what follows the version
 unfoldable pub fields_at : List ℕ → Option (Contents × List ℕ)
 fields_at bytes = do
   last ← number_at w64 bytes
   floor ← number_at w64 last.1
   state ← state_at floor.1
-  lists ← lists_at state.1
-  keep (nat_lt last.0 (2 ^ 32) && nat_le floor.0 (2 ^ 32) && kept_from floor.0 lists.0.1.1) (
-    record {
-      state = state.0;
-      timers = lists.0.0;
-      pending = lists.0.1.0;
-      seen = lists.0.1.1;
-      floor = floor.0;
-      last = last.0;
-    },
-    lists.1,
-  )
+  rest_at last.0 floor.0 state.0 state.1
 
 -- a row
 unfoldable pub row_at : List ℕ → Option (Contents × List ℕ)

@@ -1,13 +1,13 @@
 //! Reading a row.
-ghost use Rattle.std.specs.Prelude.{◌≡◌, ◌≢◌, nat_le, Ok, Err, IfOk, IsErrOf, MatchResult};
+ghost use Rattle.std.specs.Prelude.{◌≡◌, ◌≢◌, true, nat_le, List, ℕ, Some, Ok, Err, IfOk, IsErrOf, MatchResult};
 ghost use Rattle.std.specs.List.{list_all};
-ghost use Rattle.row_parts.specs.Contents.{Contents};
+ghost use Rattle.row_parts.specs.Contents.{Contents, IsRow};
 ghost use Rattle.row_parts.specs.Spelling.{spelling_of, IsSpelledRow};
-ghost use Rattle.row_parts.specs.Reading.{Gives};
-ghost use Rattle.record_codec.specs.Reading.{kept_from, lists_at, fields_at, row_at, whole_row};
+ghost use Rattle.row_parts.specs.Reading.{Gives, keep};
+ghost use Rattle.record_codec.specs.Reading.{kept_from, Lists, are_within, row_with, rest_at, lists_at, fields_at, row_at, whole_row};
 
 use crate::refusal::RowRefusal;
-use mw_types::{Delivery, DeliveryList, IdList, RecordId, Timer, TimerList};
+use mw_types::{Delivery, DeliveryList, IdList, RecordId, State, Timer, TimerList};
 use row_parts::{Row, Spelled, StateRefusal, take_ascending, take_state};
 use std::alloc::Global;
 
@@ -35,15 +35,20 @@ fn take_lists(alloc: Global, bytes: &[u8]) -> Result<(Lists, &[u8]), StateRefusa
     Ok(((timers, (pending, seen)), rest))
 }
 
-// Reads what follows a row's version.
-#[tactic(auto, unfolding(crate::specs::Reading::fields_at))]
-fn take_fields(alloc: Global, bytes: &[u8]) -> Result<(Row, &[u8]), StateRefusal>
-    ensures { Gives (λ x. (x.0, x.1.now)) result (fields_at bytes.now) }
+// Reads the lists of a row after its numbers and its state, and answers the row.
+fn take_rest(
+    alloc: Global,
+    last: u64,
+    floor: u64,
+    state: State,
+    bytes: &[u8],
+) -> Result<(Row, &[u8]), StateRefusal>
+    // What the lists may be is known to whoever read what stands before them.
+    requires { (lists : Lists) (rest : List ℕ) → lists_at bytes.now ≡ Some (lists, rest)
+        → are_within last floor lists ≡ true → IsRow (row_with last floor state lists) }
+    ensures { Gives (λ x. (x.0, x.1.now)) result (rest_at last floor state bytes.now) }
 {
-    let (last, rest) = u64::take(alloc, bytes)?;
-    let (floor, rest) = u64::take(alloc, rest)?;
-    let (state, rest) = take_state(alloc, rest)?;
-    let ((timers, (pending, seen)), rest) = take_lists(alloc, rest)?;
+    let ((timers, (pending, seen)), rest) = take_lists(alloc, bytes)?;
     if last < ENTRIES && floor <= ENTRIES && is_kept_from(floor, seen.as_slice()) {
         let row = Row {
             state,
@@ -55,8 +60,23 @@ fn take_fields(alloc: Global, bytes: &[u8]) -> Result<(Row, &[u8]), StateRefusal
         };
         Ok((row, rest))
     } else {
+        drop(timers);
+        drop(pending);
+        drop(seen);
+        drop(state);
         Err(StateRefusal::Damaged)
     }
+}
+
+// Reads what follows a row's version.
+#[tactic(auto, unfolding(crate::specs::Reading::fields_at))]
+fn take_fields(alloc: Global, bytes: &[u8]) -> Result<(Row, &[u8]), StateRefusal>
+    ensures { Gives (λ x. (x.0, x.1.now)) result (fields_at bytes.now) }
+{
+    let (last, rest) = u64::take(alloc, bytes)?;
+    let (floor, rest) = u64::take(alloc, rest)?;
+    let (state, rest) = take_state(alloc, rest)?;
+    take_rest(alloc, last, floor, state, rest)
 }
 
 // Reads a row from the front.
@@ -79,6 +99,7 @@ fn take_whole(alloc: Global, bytes: &[u8]) -> Result<Row, StateRefusal>
     if rest.is_empty() {
         Ok(row)
     } else {
+        drop(row);
         Err(StateRefusal::Damaged)
     }
 }

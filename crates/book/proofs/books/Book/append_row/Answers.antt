@@ -8,38 +8,38 @@ use Rattle.book.specs.Appending.{IsNext, sent_by}
 use Rattle.book.specs.Senders.{AreSenders}
 use Rattle.book.proofs.Keeping.{IsLawful-next, IsLawful-stays}
 use Rattle.book.proofs.SenderSteps.{senders-next, senders-unsent}
+use Rattle.book.proofs.books.Book.append_row.Goals.{in-Ok, in-Err}
 use Rattle.book.proofs.books.Book.append_row.Goals as goal
 
--- the entry may come next, and its row was stored
-pub invariant_of-self-2 : goal.invariant_of-self-2
-invariant_of-self-2 g c =
-    IsLawful-next c.self.inside.case.now c.self.inside.core c.append.new.self c.args.name.now c.args.entry c.args.before.now c.args.row
-    c.self.invariant
-    (subst (λ (b : BookView). IsNext b.case (core_of b) c.args.name.now c.args.entry c.args.row) (sym c.self.view_is) c.requires.next)
-    c.in_ok-append.ensures.own
-    (subst (λ (b : BookView). IfSome b.rows (λ _. c.args.before.now ≡ row_of b.case.topology
-    (run_of b.case.topology b.history) c.args.name.now)) (sym c.self.view_is) c.requires.was)
-    (c.in_ok-append.ensures.left
-    ∙ (λ i. (c.self.inside.core.work + work_in (c.self-inside.view_is i).case.now c.args.name.now c.args.row)
-    - work_in (c.self-inside.view_is i).case.now c.args.name.now c.args.before.now))
-    c.in_ok-append.ensures.appended
-    c.in_ok-append.ensures.stored
-    c.append.ensures.limit
-    (subst (λ (h : List Entry). AreSenders c.self.inside.case.now.topology
-    (run_of c.self.inside.case.now.topology h) c.append.new.self.unacknowledged)
-    (sym c.in_ok-append.ensures.appended)
-    (senders-next c.self.inside.case.now.topology c.self.inside.core.history c.args.entry c.args.name.now c.args.sent
-    c.self.inside.core.unacknowledged c.append.new.self.unacknowledged c.requires.next.on_row
-    (subst (λ (b : BookView). c.args.sent ≡ sent_by b.case.topology b.history c.args.entry) (sym c.self.view_is) c.requires.sent)
-    c.self.invariant.senders c.in_ok-append.ensures.senders))
-    c.append.ensures.marks
-
--- nothing was appended
+-- the entry may come next, and its row was stored; or nothing was appended
 pub invariant_of-self : goal.invariant_of-self
-invariant_of-self g c =
-    IsLawful-stays c.self.inside.case.now c.self.inside.core c.append.new.self c.self.invariant
-    c.in_err-append.ensures.history c.in_err-append.ensures.rows c.append.ensures.limit c.in_err-append.ensures.same_left
-    c.in_err-append.ensures.same_senders c.append.ensures.marks
+invariant_of-self g c = elim c.match-append.branch [
+  | in-Ok w ↦
+      IsLawful-next c.self.inside.case.now c.self.inside.core c.append.new.self c.args.name.now c.args.entry c.args.before.now c.args.row
+      c.self.invariant
+      (subst (λ (b : BookView). IsNext b.case (core_of b) c.args.name.now c.args.entry c.args.row) (sym c.self.view_is) c.requires.next)
+      w.in-Ok.ensures.own
+      (subst (λ (b : BookView). IfSome b.rows (λ _. c.args.before.now ≡ row_of b.case.topology
+      (run_of b.case.topology b.history) c.args.name.now)) (sym c.self.view_is) c.requires.was)
+      (w.in-Ok.ensures.left
+      ∙ (λ i. (c.self.inside.core.work + work_in (c.self-inside.view_is i).case.now c.args.name.now c.args.row)
+      - work_in (c.self-inside.view_is i).case.now c.args.name.now c.args.before.now))
+      w.in-Ok.ensures.appended
+      w.in-Ok.ensures.stored
+      c.append.ensures.limit
+      (subst (λ (h : List Entry). AreSenders c.self.inside.case.now.topology
+      (run_of c.self.inside.case.now.topology h) c.append.new.self.unacknowledged)
+      (sym w.in-Ok.ensures.appended)
+      (senders-next c.self.inside.case.now.topology c.self.inside.core.history c.args.entry c.args.name.now c.args.sent
+      c.self.inside.core.unacknowledged c.append.new.self.unacknowledged c.requires.next.on_row
+      (subst (λ (b : BookView). c.args.sent ≡ sent_by b.case.topology b.history c.args.entry) (sym c.self.view_is) c.requires.sent)
+      c.self.invariant.senders w.in-Ok.ensures.senders))
+      c.append.ensures.marks
+  | in-Err w ↦
+      IsLawful-stays c.self.inside.case.now c.self.inside.core c.append.new.self c.self.invariant
+      w.in-Err.ensures.history w.in-Err.ensures.rows c.append.ensures.limit w.in-Err.ensures.same_left
+      w.in-Err.ensures.same_senders c.append.ensures.marks
+]
 
 -- nothing is known of the entry that comes
 pub append-requires-clause-unsent : goal.append-requires-clause-unsent

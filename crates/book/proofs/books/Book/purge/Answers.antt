@@ -3,7 +3,7 @@ use Rattle.mw_types.specs.declared.entry.Entry.{Entry}
 use Rattle.mw_types.specs.declared.entry.Entry.TheVariants.{Purge}
 use Rattle.book.specs.Books.{core_of}
 use Rattle.run_history.specs.Runs.{written_row}
-use Rattle.book.specs.Appending.{IsNext}
+use Rattle.book.specs.Appending.{IsNext, sent_by}
 use Rattle.book.proofs.ClaimLaws.{stale-again}
 use Rattle.book.proofs.SeenRows.{IsNext-purged, IsWritten-result, IfOk-row, row-was, when-written, claimed-whole}
 use Rattle.book.proofs.books.Book.purge.Goals as goal
@@ -16,13 +16,13 @@ returns-in-Err-clause-stale g c = stale-again c.args.self.now.history c.args.lea
 pub append_row-requires : goal.append_row-requires
 append_row-requires g c =
     let entry = Purge c.args.lease.now.seq c.args.name.now c.args.floor in
-    let same : Purge c.lease.inside.seq c.in_ok-copy.field-0 c.args.floor ≡ entry
-    = λ i. Purge (c.lease.view_is i).seq (c.in_ok-copy.ensures.copied i) c.args.floor in record {
-      next = subst (λ (e : Entry). IsNext c.args.self.now.case (core_of c.args.self.now) c.args.name.now e c.in_ok-left.left) (sym same)
-          (IsNext-purged c.args.self.now c.args.lease.now c.args.front c.args.name.now c.args.row.now c.in_ok-left.left c.args.floor
+    let same : c.in_ok-made.made.entry ≡ entry
+    = c.in_ok-made.ensures.entry ∙ (λ i. Purge (c.lease.view_is i).seq c.args.name.now c.args.floor) in record {
+      next = subst (λ (e : Entry). IsNext c.args.self.now.case (core_of c.args.self.now) c.args.name.now e c.in_ok-made.made.left) (sym same)
+          (IsNext-purged c.args.self.now c.args.lease.now c.args.front c.args.name.now c.args.row.now c.in_ok-made.made.left c.args.floor
           c.admit.ensures.lawful c.requires.lease c.requires.row c.requires.floor c.in-Ok.ensures.last c.in-Ok.ensures.room
-          (c.in_ok-left.ensures ∙ ap (λ n. written_row n entry [] c.args.row.now) c.in-Ok.ensures.commit));
-      sent = refl;
+          (c.in_ok-made.ensures.left ∙ ap (λ n. written_row n entry [] c.args.row.now) c.in-Ok.ensures.commit));
+      sent = subst (λ (e : Entry). 0 ≡ sent_by c.args.self.now.case.topology c.args.self.now.history e) (sym same) refl;
       was = row-was c.args.self.now c.args.lease.now c.args.front c.args.name.now c.args.row.now c.admit.ensures.lawful c.requires.lease
           c.requires.row c.in-Ok.ensures.last;
     }
@@ -31,10 +31,10 @@ append_row-requires g c =
 pub returns-clause-written : goal.returns-clause-written
 returns-clause-written g c =
     let entry = Purge c.args.lease.now.seq c.args.name.now c.args.floor in
-    let same : Purge c.lease.inside.seq c.in_ok-copy.field-0 c.args.floor ≡ entry
-    = λ i. Purge (c.lease.view_is i).seq (c.in_ok-copy.ensures.copied i) c.args.floor in
-    let left : c.in_ok-left.left ≡ written_row (length c.args.self.now.history) entry [] c.args.row.now
-    = c.in_ok-left.ensures ∙ ap (λ n. written_row n entry [] c.args.row.now) c.in-Ok.ensures.commit in
+    let same : c.in_ok-made.made.entry ≡ entry
+    = c.in_ok-made.ensures.entry ∙ (λ i. Purge (c.lease.view_is i).seq c.args.name.now c.args.floor) in
+    let left : c.in_ok-made.made.left ≡ written_row (length c.args.self.now.history) entry [] c.args.row.now
+    = c.in_ok-made.ensures.left ∙ ap (λ n. written_row n entry [] c.args.row.now) c.in-Ok.ensures.commit in
     IsWritten-result c.args.self.now c.append_row.new.self c.args.lease.now c.args.name.now entry _ _ c.append_row.result
     (IsNext-purged c.args.self.now c.args.lease.now c.args.front c.args.name.now c.args.row.now _ c.args.floor
     c.admit.ensures.lawful c.requires.lease c.requires.row c.requires.floor c.in-Ok.ensures.last c.in-Ok.ensures.room refl)

@@ -5,7 +5,7 @@ use Rattle.std.specs.Prelude.{All}
 use Rattle.row_parts.specs.Contents.{Contents, IsId, IsDelivery}
 use Rattle.book.specs.Books.{core_of}
 use Rattle.run_history.specs.Runs.{written_row}
-use Rattle.book.specs.Appending.{IsNext}
+use Rattle.book.specs.Appending.{IsNext, sent_by}
 use Rattle.book.proofs.ClaimLaws.{stale-again}
 use Rattle.book.proofs.LineLaws.{found-id}
 use Rattle.book.proofs.SeenRows.{IsNext-settled, IsWritten-result, IfOk-row, row-was, when-written, claimed-whole}
@@ -21,13 +21,13 @@ append_row-requires g c =
     let entry = Ack c.args.lease.now.seq c.args.name.now c.args.id in
     let is : IsId c.args.id = found-id c.args.id c.args.row.now.pending
     (subst (λ (r : Contents). All IsDelivery r.pending) c.row.view_is c.row.invariant.pending.each) c.requires.id.pending in
-    let same : Ack c.lease.inside.seq c.in_ok-copy.field-0 c.args.id ≡ entry
-    = λ i. Ack (c.lease.view_is i).seq (c.in_ok-copy.ensures.copied i) c.args.id in record {
-      next = subst (λ (e : Entry). IsNext c.args.self.now.case (core_of c.args.self.now) c.args.name.now e c.in_ok-left.left) (sym same)
-          (IsNext-settled c.args.self.now c.args.lease.now c.args.front c.args.name.now c.args.row.now c.in_ok-left.left c.args.id
+    let same : c.in_ok-made.made.entry ≡ entry
+    = c.in_ok-made.ensures.entry ∙ (λ i. Ack (c.lease.view_is i).seq c.args.name.now c.args.id) in record {
+      next = subst (λ (e : Entry). IsNext c.args.self.now.case (core_of c.args.self.now) c.args.name.now e c.in_ok-made.made.left) (sym same)
+          (IsNext-settled c.args.self.now c.args.lease.now c.args.front c.args.name.now c.args.row.now c.in_ok-made.made.left c.args.id
           c.admit.ensures.lawful c.requires.lease c.requires.row c.requires.id c.in-Ok.ensures.last c.in-Ok.ensures.room is
-          (c.in_ok-left.ensures ∙ ap (λ n. written_row n entry [] c.args.row.now) c.in-Ok.ensures.commit));
-      sent = refl;
+          (c.in_ok-made.ensures.left ∙ ap (λ n. written_row n entry [] c.args.row.now) c.in-Ok.ensures.commit));
+      sent = subst (λ (e : Entry). 0 ≡ sent_by c.args.self.now.case.topology c.args.self.now.history e) (sym same) refl;
       was = row-was c.args.self.now c.args.lease.now c.args.front c.args.name.now c.args.row.now c.admit.ensures.lawful c.requires.lease
           c.requires.row c.in-Ok.ensures.last;
     }
@@ -38,10 +38,10 @@ returns-clause-written g c =
     let entry = Ack c.args.lease.now.seq c.args.name.now c.args.id in
     let is : IsId c.args.id = found-id c.args.id c.args.row.now.pending
     (subst (λ (r : Contents). All IsDelivery r.pending) c.row.view_is c.row.invariant.pending.each) c.requires.id.pending in
-    let same : Ack c.lease.inside.seq c.in_ok-copy.field-0 c.args.id ≡ entry
-    = λ i. Ack (c.lease.view_is i).seq (c.in_ok-copy.ensures.copied i) c.args.id in
-    let left : c.in_ok-left.left ≡ written_row (length c.args.self.now.history) entry [] c.args.row.now
-    = c.in_ok-left.ensures ∙ ap (λ n. written_row n entry [] c.args.row.now) c.in-Ok.ensures.commit in
+    let same : c.in_ok-made.made.entry ≡ entry
+    = c.in_ok-made.ensures.entry ∙ (λ i. Ack (c.lease.view_is i).seq c.args.name.now c.args.id) in
+    let left : c.in_ok-made.made.left ≡ written_row (length c.args.self.now.history) entry [] c.args.row.now
+    = c.in_ok-made.ensures.left ∙ ap (λ n. written_row n entry [] c.args.row.now) c.in-Ok.ensures.commit in
     IsWritten-result c.args.self.now c.append_row.new.self c.args.lease.now c.args.name.now entry _ _ c.append_row.result
     (IsNext-settled c.args.self.now c.args.lease.now c.args.front c.args.name.now c.args.row.now _ c.args.id
     c.admit.ensures.lawful c.requires.lease c.requires.row c.requires.id c.in-Ok.ensures.last c.in-Ok.ensures.room is refl)

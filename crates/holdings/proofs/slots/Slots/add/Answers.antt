@@ -11,31 +11,31 @@ use Rattle.holdings.proofs.SlotLaws.{no_place, placed-add, slots-add}
 use Rattle.holdings.proofs.slots.Slots.add.Goals as goal
 
 -- the places of the names, with one more
-pub invariant_of-self-2 : goal.invariant_of-self-2
-invariant_of-self-2 c =
+pub invariant_of-self : goal.invariant_of-self
+invariant_of-self c =
     let rows = c.self.inside.rows.items in
     let places = c.self.inside.places.entries in
     let row : NamedRow = record { name = c.args.name; row = c.args.row } in
     let none : lookup (is_at (row_cmp c.args.name)) places ≡ None = no_place rows places c.args.name
     (ap (λ (l : List (RowName × Contents)). lookup (is_at (row_cmp c.args.name)) l) c.self.view_is ∙ c.requires.new) in
     let rows_now : c.push_reserved.new.self.items ≡ rows ++ row ∷ [] =
-    c.push_reserved.ensures.items ∙ ap (λ (l : List NamedRow). l ++ row ∷ []) c.in_ok-add_place.ensures.rows in
+    c.push_reserved.ensures.items ∙ ap (λ (l : List NamedRow). l ++ row ∷ []) c.in-Ok.ensures.rows in
     let entries : c.add_place.new.places.entries ≡ insert_entry row_cmp places c.args.name (length rows) =
-    c.in_ok-add_place.ensures.places
+    c.in-Ok.ensures.places
     ∙ ap (λ (n : ℕ). insert_entry row_cmp places c.args.name n) (c.count-at.ensures ∙ ap length c.deref.ensures.value) in
     subst (λ (l : List NamedRow). AreSlots l c.add_place.new.places.entries) (sym rows_now)
     (subst (λ (es : List (RowName × ℕ)). AreSlots (rows ++ row ∷ []) es) (sym entries) (slots-add rows places row c.self.invariant none))
 
 -- a row at a new place is put among all
-pub returns-clause-entries : goal.returns-clause-entries
-returns-clause-entries c =
+pub returns-in-Ok-clause-entries : goal.returns-in-Ok-clause-entries
+returns-in-Ok-clause-entries c =
     let rows = c.self.inside.rows.items in
     let places = c.self.inside.places.entries in
     let row : NamedRow = record { name = c.args.name; row = c.args.row } in
     let rows_now : c.push_reserved.new.self.items ≡ rows ++ row ∷ [] =
-    c.push_reserved.ensures.items ∙ ap (λ (l : List NamedRow). l ++ row ∷ []) c.in_ok-add_place.ensures.rows in
+    c.push_reserved.ensures.items ∙ ap (λ (l : List NamedRow). l ++ row ∷ []) c.in-Ok.ensures.rows in
     let entries : c.add_place.new.places.entries ≡ insert_entry row_cmp places c.args.name (length rows) =
-    c.in_ok-add_place.ensures.places
+    c.in-Ok.ensures.places
     ∙ ap (λ (n : ℕ). insert_entry row_cmp places c.args.name n) (c.count-at.ensures ∙ ap length c.deref.ensures.value) in
     ap (λ (l : List NamedRow). placed l c.add_place.new.places.entries) rows_now
     ∙ ap (placed (rows ++ row ∷ [])) entries
