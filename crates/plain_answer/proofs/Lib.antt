@@ -1,3 +1,7 @@
+pub mod Totals
+pub mod Stories
+pub mod Handled
+pub mod Sent
 pub mod Filters
 pub mod Counting
 pub mod Timing

@@ -1,23 +1,22 @@
 -- The plain count of a case: what each stream has, worked out from the records of the files alone, with no history, timers or
 -- watermarks, and the text that this makes. It cites no word of what handlers do. Own.
 -- Streams stand in the order of their parts, injectors first. A member that is late is in no window and at no place.
-use Rattle.std.specs.Prelude.{◌≡◌, ℕ, ◌+◌, ◌-◌, ◌%◌, ◌==◌, ◌&&◌, not, nat_le, nat_eq, if◌then◌else◌, false, List, [], ◌∷◌, ◌++◌, length, map, filter, fold, drop, count_by, sum_by, codes}
+use Rattle.std.specs.Prelude.{◌≡◌, ℕ, ◌+◌, ◌-◌, ◌%◌, ◌==◌, ◌&&◌, not, nat_le, nat_eq, Bool, if◌then◌else◌, false, List, [], ◌∷◌, ◌++◌, length, map, filter, fold, drop, count_by, sum_by, codes}
 use Rattle.std.specs.Prelude.{ℤ, pos, ◌+ℤ◌, ◌*ℤ◌, int_lt}
 use Rattle.std.specs.Int.{int_max}
 use Rattle.std.specs.Ordering.{nat_cmp}
-use Rattle.std.specs.List.{flat_map, enumerate_from}
+use Rattle.std.specs.List.{flat_map, enumerate_from, range_with_len}
 use Rattle.std.specs.List.Sorted.{IsPermutation, IsSorted}
 use Rattle.std.specs.Cmp.Lexicographic.{pointwise}
 use Rattle.mw_types.specs.declared.kind.Kind.{Kind}
 use Rattle.mw_types.specs.declared.kind.Kind.TheVariants.{Count, Spike, Pass}
 use Rattle.mw_types.specs.declared.record.Record.{Record}
 use Rattle.mw_types.specs.declared.identity.RowName.{RowName}
-use Rattle.mw_types.specs.Orders.{key_cmp}
 use Rattle.injector.specs.Sources.{Source, SourceLine}
 use Rattle.topology.specs.declared.subscription.Subscription.{Subscription}
-use Rattle.topology.specs.Shapes.{Shape, ComputationShape, consumers_of, stream_of}
+use Rattle.topology.specs.Shapes.{Shape, ComputationShape, injectors_of, consumers_of, stream_of}
 use Rattle.row_parts.specs.Contents.{put_in}
-use Rattle.run_history.specs.Cases.{CaseShape, record_of}
+use Rattle.run_history.specs.Cases.{CaseShape, record_of, source_of}
 use Rattle.run_history.specs.Made.{sends_of}
 use Rattle.run_history.specs.Texts.{ResultLine, line_cmp, as_line, line_data}
 use Rattle.serde_json.specs.Data.{Data, object, member, no_members, number, unsigned}
@@ -34,16 +33,21 @@ members_read shape streams part = map (λ (r : RowName × Record). (r.0.key, r.1
 
 -- what a row of this key reads that is in time
 abbrev pub row_members : List ℕ → List Keyed → List Record
-row_members key reads = map (λ (r : Keyed). r.1) (filter (λ (r : Keyed). pointwise nat_eq r.0 key && not r.1.late) reads)
+row_members key reads = map (λ (r : Keyed). r.1) (filter (λ (r : Keyed). pointwise nat_eq key r.0 && not r.1.late) reads)
 
--- the keys of the rows that read something in time, once each, in order
-abbrev pub row_keys : List Keyed → List (List ℕ)
-row_keys reads = fold (λ keys key. put_in key_cmp (λ new old. old) key keys) []
-    (map (λ (r : Keyed). r.0) (filter (λ (r : Keyed). not r.1.late) reads))
+-- what a test tells apart, once each
+abbrev pub once_each : {X : Type 0} → (X → X → Bool) → List X → List X
+once_each same [] = []
+once_each same (x ∷ xs) = x ∷ filter (λ y. not (same x y)) (once_each same xs)
 
 -- numbers, once each, ascending
-abbrev pub once_each : List ℕ → List ℕ
-once_each numbers = fold (λ found n. put_in nat_cmp (λ new old. old) n found) [] numbers
+abbrev pub ascending : List ℕ → List ℕ
+ascending numbers = fold (λ found n. put_in nat_cmp (λ new old. old) n found) [] numbers
+
+-- the keys of the rows that read something in time, once each
+abbrev pub row_keys : List Keyed → List (List ℕ)
+row_keys reads = once_each (pointwise nat_eq)
+    (map (λ (r : Keyed). r.0) (filter (λ (r : Keyed). not r.1.late) reads))
 
 -- where the window of a timestamp ends: at the next multiple of its size
 abbrev pub plain_end : ℕ → ℕ → ℕ
@@ -57,7 +61,7 @@ windows_in size key items = map (λ end. record {
       value = pos (count_by (λ (r : Record). plain_end size r.stamp == end) items);
       late = false;
     })
-    (once_each (map (λ (r : Record). plain_end size r.stamp) items))
+    (once_each nat_eq (map (λ (r : Record). plain_end size r.stamp) items))
 
 -- the greatest of the values, and of this one
 abbrev pub greatest_of : ℤ → List Record → ℤ
@@ -71,7 +75,7 @@ greatest (r ∷ rs) = greatest_of r.value rs
 -- the places of a row: each timestamp of a record, with the greatest value at it
 abbrev pub places_in : List Record → List (ℕ × ℤ)
 places_in items = map (λ stamp. (stamp, greatest (filter (λ (r : Record). r.stamp == stamp) items)))
-    (once_each (map (λ (r : Record). r.stamp) items))
+    (ascending (map (λ (r : Record). r.stamp) items))
 
 -- the sum of the last so many values
 abbrev pub sum_of_last : ℕ → List ℤ → ℤ
@@ -102,6 +106,10 @@ fires_of (Count size) reads = sum_by (λ key. length (windows_in size key (row_m
 fires_of (Spike last times) reads = sum_by (λ key. length (places_in (row_members key reads))) (row_keys reads)
 fires_of Pass reads = 0
 
+-- the sources of the injectors, in their order
+abbrev pub sources_of : CaseShape → List Source
+sources_of case = map (source_of case) (range_with_len 0 (injectors_of case.topology))
+
 -- what an injector gives: its records
 abbrev pub injected_of : Source → List Record
 injected_of source = map (λ (l : SourceLine). record_of l.item) source
@@ -114,12 +122,12 @@ streams_with shape streams computations = fold
 
 -- the streams of all parts
 abbrev pub plain_streams : CaseShape → List (List Record)
-plain_streams case = streams_with case.topology (map injected_of case.sources) case.topology.computations
+plain_streams case = streams_with case.topology (map injected_of (sources_of case)) case.topology.computations
 
 -- what the computations read, each with its kind
 abbrev pub plain_members : CaseShape → List (Kind × List Keyed)
 plain_members case = map (λ (c : ℕ × ComputationShape). (c.1.kind, members_read case.topology (plain_streams case) c.0))
-    (enumerate_from (length case.sources) case.topology.computations)
+    (enumerate_from (injectors_of case.topology) case.topology.computations)
 
 -- how many timers fire, and how many records are handled
 abbrev pub fired_of : CaseShape → ℕ
@@ -130,10 +138,10 @@ handled_of case = sum_by (λ (c : Kind × List Keyed). length c.1) (plain_member
 
 -- how many records the files have, and how many of them are late
 abbrev pub injected_count : CaseShape → ℕ
-injected_count case = sum_by (λ (source : Source). length source) case.sources
+injected_count case = sum_by (λ (source : Source). length source) (sources_of case)
 
 abbrev pub late_count : CaseShape → ℕ
-late_count case = sum_by (λ (source : Source). count_by (λ (l : SourceLine). l.item.late) source) case.sources
+late_count case = sum_by (λ (source : Source). count_by (λ (l : SourceLine). l.item.late) source) (sources_of case)
 
 -- ---- the text
 
