@@ -2,6 +2,8 @@ pub mod Totals
 pub mod Stories
 pub mod Handled
 pub mod Sent
+pub mod Members
+pub mod Injected
 pub mod Filters
 pub mod Counting
 pub mod Timing
