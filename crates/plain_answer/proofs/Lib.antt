@@ -4,6 +4,7 @@ pub mod Handled
 pub mod Sent
 pub mod Members
 pub mod Injected
+pub mod Passing
 pub mod Filters
 pub mod Counting
 pub mod Timing
@@ -11,3 +12,8 @@ pub mod Grading
 pub mod WindowLaws
 pub mod Opening
 pub mod Producing
+pub mod Setting
+pub mod Closing
+pub mod Firing
+pub mod Once
+pub mod PlainCounts

@@ -38,7 +38,7 @@ use Rattle.plain_answer.proofs.Grading.{IsGraded, AreGraded, next-graded}
 use Rattle.plain_answer.proofs.WindowLaws.{HasWindows, HasWindows-next}
 
 -- what an entry does on a row: nothing, or one thing that keeps windows that fired closed
-abbrev Does : ℕ → List Deed → List Deed → Type 0
+abbrev pub Does : ℕ → List Deed → List Deed → Type 0
 Does size done ds = (ds ≡ []) ⊎ ((d : Deed) × (ds ≡ d ∷ []) × IsTimely size done d)
 
 module _ (case : CaseShape) (name : RowName) (size : ℕ) (runs : IsRunnable case) (kind : kind_of case.topology name.part ≡ Some (kinds.Count size)) where
@@ -55,7 +55,7 @@ module _ (case : CaseShape) (name : RowName) (size : ℕ) (runs : IsRunnable cas
   some_size = (kind-ranged shape name.part (kinds.Count size) runs.topology kind).0
 
   -- each time that the row fired is passed
-  abbrev ArePassed : List Deed → Run → Type 0
+  abbrev pub ArePassed : List Deed → Run → Type 0
   ArePassed deeds run = (time : ℕ) → 0 < fired_at time deeds → (depth : ℕ) → LowFrom case run time depth name.part
 
   -- a record in time goes into no window that fired
@@ -79,7 +79,7 @@ module _ (case : CaseShape) (name : RowName) (size : ℕ) (runs : IsRunnable cas
       ]
 
   -- what an entry does on the row
-  does : (deeds : List Deed) (run : Run) (entry : Entry) → ArePassed deeds run → AreGraded shape run
+  pub does : (deeds : List Deed) (run : Run) (entry : Entry) → ArePassed deeds run → AreGraded shape run
       → MayFollow case run entry → Does size deeds (deeds_in name run entry)
   does deeds run (Claim worker interval) passed below may = inl refl
   does deeds run (Inject seq part line item) passed below may = inl refl
@@ -175,15 +175,16 @@ module _ (case : CaseShape) (name : RowName) (size : ℕ) (runs : IsRunnable cas
     | inr one ↦ subst (λ l. length (deeds ++ l) ≤ length deeds + 1) (sym one.1) (omega (arith, length-append deeds (one.0 ∷ [])))
   ]
 
-  record Holds (done : List Entry) (run : Run) : Type 0 where
-    same : run ≡ (told_of shape name done).run
-    whole : run ≡ run_of shape done
-    ids : AreIds done run
-    in_time : AreInTime run
-    graded : AreGraded shape run
-    passed : ArePassed (deeds_of shape name done) run
-    few : length (deeds_of shape name done) ≤ length done
-    windows : length done < MAX_STAMP → HasWindows size (deeds_of shape name done) (windows_after size (deeds_of shape name done))
+  -- all of it, along a history
+  pub record Holds (done : List Entry) (run : Run) : Type 0 where
+    pub same : run ≡ (told_of shape name done).run
+    pub whole : run ≡ run_of shape done
+    pub ids : AreIds done run
+    pub in_time : AreInTime run
+    pub graded : AreGraded shape run
+    pub passed : ArePassed (deeds_of shape name done) run
+    pub few : length (deeds_of shape name done) ≤ length done
+    pub windows : length done < MAX_STAMP → HasWindows size (deeds_of shape name done) (windows_after size (deeds_of shape name done))
 
   next-holds : (done : List Entry) (run : Run) (entry : Entry) → Holds done run → MayFollow case run entry
       → Holds (done ++ entry ∷ []) (followed shape run entry)
@@ -226,7 +227,10 @@ module _ (case : CaseShape) (name : RowName) (size : ℕ) (runs : IsRunnable cas
     windows = λ short. record { ascending = tt; each = λ end. refl };
   }
 
+  pub holds-all : (history : List Entry) → IsLegal case history → Holds history (run_of shape history)
+  holds-all history legal = along_history case Holds next-holds first-holds history legal
+
   pub window-open : (history : List Entry) → IsLegal case history → length history < MAX_STAMP → (end : ℕ)
       → find (λ (w : Window). w.end == end) (windows_after size (deeds_of shape name history)) ≡ open_window size end (deeds_of shape name history)
   window-open history legal short end =
-      ((along_history case Holds next-holds first-holds history legal).windows short).each end
+      ((holds-all history legal).windows short).each end

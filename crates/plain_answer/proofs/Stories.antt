@@ -55,7 +55,7 @@ deeds-push shape name h entry =
 -- ---- along legal histories
 
 -- a legal history with an entry that may follow is legal
-legal-push : (case : CaseShape) (h : List Entry) (entry : Entry) (run : Run) → AreLegal case run h
+pub legal-push : (case : CaseShape) (h : List Entry) (entry : Entry) (run : Run) → AreLegal case run h
     → MayFollow case (fold (followed case.topology) run h) entry → AreLegal case run (h ++ entry ∷ [])
 legal-push case [] entry run legal may = (may, tt)
 legal-push case (e ∷ es) entry run legal may = (legal.0, legal-push case es entry (followed case.topology run e) legal.1 may)

@@ -36,7 +36,8 @@ use Rattle.plain_answer.proofs.Counting.{IsCounted, step, fresh-counted, tie, de
 abbrev has_timer : ℕ → List Timer → Bool
 has_timer time ts = list_any (is_timer 0 time) ts
 
-or-either : (a b : Bool) → b ≡ true → (a || b) ≡ true
+-- one of two passes where the second does
+pub or-either : (a b : Bool) → b ≡ true → (a || b) ≡ true
 or-either true b e = refl
 or-either false b e = e
 

@@ -1,13 +1,13 @@
 -- What a history handled, and what it put into the streams, in the order of its entries.
 -- No clause of another crate cites this module. Own.
-use Rattle.std.specs.Prelude.{ℕ, Bool, List, [], ◌++◌, map, fold, option_to_list}
+use Rattle.std.specs.Prelude.{ℕ, ◌==◌, if◌then◌else◌, Bool, List, [], ◌++◌, map, fold, option_to_list}
 use Rattle.std.specs.Option.{option_map_or}
 use Rattle.mw_types.specs.declared.identity.RowName.{RowName}
 use Rattle.mw_types.specs.declared.record.Record.{Record}
 use Rattle.mw_types.specs.declared.record.Production.{Production}
 use Rattle.mw_types.specs.declared.delivery.Delivery.{Delivery}
 use Rattle.mw_types.specs.declared.entry.Entry.{Entry}
-use Rattle.mw_types.specs.declared.entry.Entry.TheVariants.{Handle}
+use Rattle.mw_types.specs.declared.entry.Entry.TheVariants.{Handle, Fire}
 use Rattle.topology.specs.Shapes.{Shape}
 use Rattle.run_history.specs.Made.{found_delivery, row_written, productions_of, late_cause, produced}
 use Rattle.run_history.specs.Runs.{Run, followed, empty_run}
@@ -56,3 +56,8 @@ done_of shape history = (story_of shape history).done
 -- what a history put into the streams
 abbrev pub out_of : Shape → List Entry → List Member
 out_of shape history = (story_of shape history).out
+
+-- how often an entry fires a timer of a part: once or not
+abbrev pub fires_on : ℕ → Entry → ℕ
+fires_on part (Fire seq row timer mark effects) = if row.part == part then 1 else 0
+fires_on part _ = 0
