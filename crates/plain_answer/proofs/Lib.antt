@@ -17,3 +17,6 @@ pub mod Closing
 pub mod Firing
 pub mod Once
 pub mod PlainCounts
+pub mod Taking
+pub mod CountPlain
+pub mod Parts
