@@ -20,3 +20,5 @@ pub mod PlainCounts
 pub mod Taking
 pub mod CountPlain
 pub mod Parts
+pub mod Lines
+pub mod Numbers

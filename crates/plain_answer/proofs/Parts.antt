@@ -239,6 +239,22 @@ module _ (case : CaseShape) (h : List Entry) (runs : IsRunnable case) (legal : I
       (subst (λ l. Knows l (a + 1 + k)) (append_assoc streams (x ∷ []) (map injected_of (map (source_of case) (range_with_len (a + 1) k))))
       (knows-injectors k (a + 1) (streams ++ x ∷ []) (omega (arith, within)) next))
 
+  -- at the end what injectors put into the streams are the records of their files
+  all-injectors : Knows (map injected_of (sources_of case)) (0 + injectors_of shape)
+  all-injectors = knows-injectors (injectors_of shape) 0 [] (omega arith) (record { long = refl; totals = λ g. none g out })
+    where
+      none : (g : Member → ℕ) (os : List Member) → total (λ (o : Member). when (nat_lt o.0 0) (g o)) os ≡ 0
+      none g [] = refl
+      none g (o ∷ os) =
+          let here : nat_lt o.0 0 ≡ false = grind (arith, nat_tests) in
+          omega (arith, ap (λ b. when b (g o)) here, none g os)
+
+  pub injectors-known : (g : Member → ℕ)
+      → total (λ (o : Member). when (nat_lt o.0 (injectors_of shape)) (g o)) out ≡ stream_total g 0 (map injected_of (sources_of case))
+  injectors-known g =
+      let same : injectors_of shape ≡ 0 + injectors_of shape = omega arith in
+      ap (λ n. total (λ (o : Member). when (nat_lt o.0 n) (g o)) out) same ∙ all-injectors.totals g
+
   -- what a part reads of the streams before it
   reads-known : (streams : List (List Record)) (n : ℕ) → Knows streams n → HaveSameTotals (reads_done n (done_of shape h)) (members_read shape streams n)
   reads-known streams n knows g =
@@ -275,17 +291,11 @@ module _ (case : CaseShape) (h : List Entry) (runs : IsRunnable case) (legal : I
 
   all-known : Knows (plain_streams case) (parts_of shape)
   all-known =
-      let first = knows-injectors (injectors_of shape) 0 [] (omega arith) (record { long = refl; totals = λ g. none g out }) in
       let same : 0 + injectors_of shape ≡ injectors_of shape + 0 = omega arith in
       let last : injectors_of shape + 0 + length shape.computations ≡ parts_of shape = omega arith in
       subst (Knows (plain_streams case)) last
-      (knows-computations [] shape.computations (map injected_of (sources_of case)) refl (subst (Knows (map injected_of (sources_of case))) same first))
-    where
-      none : (g : Member → ℕ) (os : List Member) → total (λ (o : Member). when (nat_lt o.0 0) (g o)) os ≡ 0
-      none g [] = refl
-      none g (o ∷ os) =
-          let here : nat_lt o.0 0 ≡ false = grind (arith, nat_tests) in
-          omega (arith, ap (λ b. when b (g o)) here, none g os)
+      (knows-computations [] shape.computations (map injected_of (sources_of case)) refl
+      (subst (Knows (map injected_of (sources_of case))) same all-injectors))
 
   -- at the end what is in the streams is what is there plainly
   pub out-plain : (g : Member → ℕ) → total g out ≡ stream_total g 0 (plain_streams case)
