@@ -22,3 +22,4 @@ pub mod CountPlain
 pub mod Parts
 pub mod Lines
 pub mod Numbers
+pub mod Results
