@@ -1,0 +1,4 @@
+pub mod Plain
+pub mod Grades
+pub mod Deeds
+pub mod Stories
