@@ -3,8 +3,8 @@
 
     ./measure.py PROGRAM [OTHER ..]
 
-makes the inputs in a temporary folder, runs `PROGRAM solo TOPOLOGY EVENTS` over each with 4 GB of memory at most,
-and prints processor seconds (the least of three runs), peak memory in MB and the exit status; beside it the same of
+makes the inputs in a temporary folder, runs `PROGRAM solo TOPOLOGY EVENTS` over each with 4 GiB of memory at most,
+and prints processor seconds (the least of three runs), peak memory in MiB and the exit status; beside it the same of
 each OTHER program, and whether all wrote the same text. Another build comes from an older commit:
 
     git worktree add ../older COMMIT && (cd ../older && ./build.sh)
@@ -58,7 +58,7 @@ def make(room, entry):
 
 
 def run(program, topology, events):
-    """One run: processor seconds, peak memory in MB, exit status, and a sum of the text."""
+    """One run: processor seconds, peak memory in MiB, exit status, and a sum of the text."""
     child = subprocess.Popen(
         [program, "solo", topology, events],
         stdout=subprocess.PIPE,
@@ -84,7 +84,7 @@ def main():
         columns = []
         for seen in runs:
             seconds = min(one[0] for one in seen)
-            columns.append("%6.2f s %6.0f MB status %d" % (seconds, max(one[1] for one in seen), seen[0][2]))
+            columns.append("%6.2f s %6.0f MiB status %d" % (seconds, max(one[1] for one in seen), seen[0][2]))
         done = {one[3] for seen in runs for one in seen if one[2] == 0}
         same = "" if len(done) <= 1 else "   TEXTS DIFFER"
         print("%-52s %s%s" % (entry[0], "   ".join(columns), same), flush=True)

@@ -222,7 +222,7 @@ def readings_of(computation: dict) -> dict[str, list[str]]:
 
 def part_of(job: Job, cluster: Cluster, computation: dict, streams: dict[str, Stream]) -> tuple[Stream, Numbers]:
     """What one computation gives."""
-    kind = {name: value for name, value in computation.items() if name in ("kind", "size", "last", "times")}
+    kind = {name: value for name, value in computation.items() if name not in ("name", "reads", "stream", "cuts")}
     reads = readings_of(computation)
     if kind["kind"] == "pass":
         work = partial(one_part.run_pass, job.program, kind, job.limits)

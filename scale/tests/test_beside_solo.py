@@ -153,6 +153,25 @@ class BesideSolo(unittest.TestCase):
             for by_parts in (False, True):
                 self.same(topology, [events], shard=shard, by_parts=by_parts, block=3000)
 
+    def test_a_run_that_fails_in_passing_is_tried_again(self):
+        flaky = os.path.join(self.folder, "flaky")
+        with open(flaky, "w") as out:
+            out.write('#!/bin/sh\nmkdir "$0.1" 2> /dev/null && exit 9\nmkdir "$0.2" 2> /dev/null && exit 9\n')
+            out.write('exec "%s" "$@"\n' % PROGRAM)
+        os.chmod(flaky, 0o755)
+        names = self.files([b'{"key":"a","ts":1}\n'])
+        with tempfile.TemporaryDirectory() as out:
+            run_job(self.client, Job(flaky, by_head(COUNT), names, out))
+            with open(os.path.join(out, "000000.jsonl"), "rb") as text:
+                self.assertIn(text.read(), self.solo(by_head(COUNT), names)[2])
+        self.assertTrue(os.path.isdir(flaky + ".2"))
+
+    def test_a_run_that_always_fails_ends_the_job(self):
+        with tempfile.TemporaryDirectory() as out:
+            with self.assertRaises(OSError):
+                run_job(self.client, Job("/bin/false.not", by_head(COUNT), self.files([b'{"key":"a","ts":1}\n']), out))
+            self.assertEqual(os.listdir(out), [])
+
     def test_a_timestamp_between_parts_that_no_file_may_have_ends_the_job(self):
         topology = by_head({"kind": "count", "size": 60})
         topology["computations"].append({**SPIKE, "name": "d", "reads": [{"stream": "t", "by": "tail"}], "stream": "u"})
