@@ -169,8 +169,13 @@ fn handled(
         delivery.item.late,
         commit,
     )?;
-    let entry = handle_entry(alloc, seq, name, delivery.id, effects)?;
-    Ok(Step { entry, left })
+    match handle_entry(alloc, seq, name, delivery.id, effects) {
+        Ok(entry) => Ok(Step { entry, left }),
+        Err(want) => {
+            drop(left);
+            Err(want)
+        }
+    }
 }
 
 // The entry of a handled record.
@@ -291,8 +296,13 @@ fn fired(
         timer.late,
         commit,
     )?;
-    let entry = fire_entry(alloc, seq, name, timer, mark, effects)?;
-    Ok(Step { entry, left })
+    match fire_entry(alloc, seq, name, timer, mark, effects) {
+        Ok(entry) => Ok(Step { entry, left }),
+        Err(want) => {
+            drop(left);
+            Err(want)
+        }
+    }
 }
 
 // The entry of a fired timer.

@@ -58,7 +58,9 @@ pub fn drain<'a, K: Keeper, C: Computation>(
     ensures damaged { IfErr result (λ why. IsDamageOf (own_view book.new) (refusal_of why)) }
 {
     let mut node = Node::new(alloc, 0);
-    drain_by(alloc, book, work, &mut node)
+    let drained = drain_by(alloc, book, work, &mut node);
+    drop(node);
+    drained
 }
 
 // A worker that has nothing works off all that a book has left to do.

@@ -51,17 +51,27 @@ pub(crate) fn work_on<'a, K: Keeper, C: Computation>(
     let parts = case.topology.parts();
     let part = sender.part;
     if parts <= part {
+        drop(sender);
         return Ok(false);
     }
     // Most records were handled right before, and so no row is looked up for them.
     if is_last_handled(book.history(), id) {
         return acknowledge(alloc, book, node, sender, id);
     }
-    let found = sent(alloc, case, node, &sender, id)?;
+    let found = match sent(alloc, case, node, &sender, id) {
+        Ok(found) => found,
+        Err(NoMemory) => {
+            drop(sender);
+            return Err(NodeFault::NoMemory);
+        }
+    };
     match found {
         Some(delivery) => work_on_sent(alloc, book, work, node, sender, delivery),
         // Only over a keeper whose rows are wrong: what was read there is not what was written.
-        None => Ok(false),
+        None => {
+            drop(sender);
+            Ok(false)
+        }
     }
 }
 
@@ -91,10 +101,15 @@ fn work_on_sent<'a, K: Keeper, C: Computation>(
     book.history();
     let (finished, full) = standing(book, node, &delivery);
     if finished {
-        return acknowledge(alloc, book, node, sender, delivery.id);
+        let id = delivery.id;
+        drop(delivery);
+        return acknowledge(alloc, book, node, sender, id);
     }
     if full {
-        return forget(alloc, book, node, &delivery.to);
+        drop(sender);
+        let forgotten = forget(alloc, book, node, &delivery.to);
+        drop(delivery);
+        return forgotten;
     }
     handle(alloc, book, work, node, sender, delivery)
 }

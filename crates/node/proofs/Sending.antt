@@ -1,6 +1,6 @@
 -- Workers and what they send each other may cross threads.
 use denote.RattleType.{RattleType}
-use denote.Param.Send.{IsSend, IsSync, sendable}
+use denote.Param.Send.{IsSend, sendable}
 use Rattle.std.proofs.Crossing.{crosses}
 use Rattle.book.specs.declared.desk.Seen.{Ghosts}
 use Rattle.mw_types.proofs.delivery.Delivery.TheSendSync as deliveries

@@ -1,6 +1,6 @@
 -- What a node leaves once its desk has taken what it had prepared, or has refused it.
 use Rattle.std.proofs.Common.{◌≡◌, ◌∙◌, ◌<◌, ◌+◌, ◌^◌, ℕ, Bool, List, [], ◌∷◌, ◌++◌, length, map, refl, sym, ap, subst, arith}
-use Rattle.std.specs.Prelude.{All, IfErr, IfOk, IfSome, Option, Some, None}
+use Rattle.std.specs.Prelude.{All, IfErr, IfOk, Option, Some, None}
 use Rattle.std.proofs.lemmas.List.{length-append}
 use Rattle.mw_types.specs.Outcomes.{EffectsView}
 use Rattle.mw_types.specs.declared.delivery.Delivery.{Delivery}
@@ -10,18 +10,14 @@ use Rattle.mw_types.specs.declared.identity.RecordId.{RecordId}
 use Rattle.mw_types.specs.declared.identity.RowName.{RowName}
 use Rattle.mw_types.specs.declared.record.Production.{Production}
 use Rattle.topology.specs.Shapes.{Shape}
-use Rattle.row_parts.specs.Contents.{Contents}
 use Rattle.run_history.specs.Cases.{CaseShape}
 use Rattle.run_history.specs.Fences.{interval_of}
 use Rattle.run_history.specs.Made.{deliveries_made}
-use Rattle.book.specs.Books.{LeaseView}
-use Rattle.book.specs.Desking.{HasWritten}
 use Rattle.book.specs.Desks.{DeskView, HasLooked, IsSound}
-use Rattle.book.specs.declared.answers.Written.{Written}
 use Rattle.book.specs.declared.desk_refusal.DeskRefusal.{DeskRefusal}
 use Rattle.book.specs.declared.proposal.Proposal.{Proposal}
 use Rattle.book.specs.declared.proposal.Proposal.TheVariants as proposals
-use Rattle.holdings.specs.Holding.{AreAllHeld, HeldView, HoldsEntry, IsRefusedOf}
+use Rattle.holdings.specs.Holding.{AreAllHeld, HeldView, IsRefusedOf}
 use Rattle.node.specs.Answers.{AnswersAsked, AnswersWrite, FailsAsked, HasGrown, HasKept}
 use Rattle.node.specs.Asking.{Request, handled_as, work_asked}
 use Rattle.node.specs.Fits.{Fits}
@@ -29,7 +25,7 @@ use Rattle.node.specs.Messages.{IsAddressed}
 use Rattle.node.specs.Outboxes.{numbered}
 use Rattle.node.specs.Steps.{HasYielded, answered}
 use Rattle.node.specs.WorkSteps.{HoldsWork}
-use Rattle.node.specs.Workers.{NodeView, Sending, Worker, WorkView, messages_from, sending_in}
+use Rattle.node.specs.Workers.{NodeView, Worker, WorkView, messages_from}
 use Rattle.node.specs.declared.outgoing.Outgoing.{Outgoing}
 use Rattle.node.specs.declared.outgoing.Outgoing.TheVariants as outgoing
 use Rattle.node.proofs.CommitLaws.{Fits-written, IsAppended, appended-handled, grown-by, held-at-on, work-asked, work-of, written_by}

@@ -189,15 +189,23 @@ fn write_fire<D: Desk>(
 {
     let timer = found.timer;
     let name = &found.name;
-    let made = made_by(alloc, case, name, &effects, timer.late)?;
+    let made = match made_by(alloc, case, name, &effects, timer.late) {
+        Ok(made) => made,
+        Err(NoMemory) => {
+            drop(effects);
+            return Err(DeskRefusal::NoMemory);
+        }
+    };
     let proposal = Proposal::Fire {
         timer,
         mark,
         effects,
     };
-    write_made(
+    let written = write_made(
         held, outbox, alloc, desk, case, interval, name, &proposal, made,
-    )
+    );
+    drop(proposal);
+    written
 }
 
 // What a handler leaves of a timer of a row that is held of an interval.

@@ -29,8 +29,13 @@ pub fn handled<C: Computation>(
         record_outcome case.now name.now row.now item.now ≡ Some effects) }
 {
     let mut context = Context::for_record(alloc, &name.key, &row.state, item)?;
-    work.on_record(alloc, name.part, &mut context, item)?;
-    Ok(context.into_effects())
+    match work.on_record(alloc, name.part, &mut context, item) {
+        Ok(()) => Ok(context.into_effects()),
+        Err(want) => {
+            drop(context);
+            Err(want)
+        }
+    }
 }
 
 /// What a computation leaves of a timer of a row, for a caller that follows a history.
@@ -50,6 +55,11 @@ pub fn fired<C: Computation>(
         timer_outcome case.now name.now row.now timer.now ≡ Some effects) }
 {
     let mut context = Context::for_timer(alloc, &name.key, &row.state, timer)?;
-    work.on_timer(alloc, name.part, &mut context, timer)?;
-    Ok(context.into_effects())
+    match work.on_timer(alloc, name.part, &mut context, timer) {
+        Ok(()) => Ok(context.into_effects()),
+        Err(want) => {
+            drop(context);
+            Err(want)
+        }
+    }
 }

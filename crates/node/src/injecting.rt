@@ -170,9 +170,11 @@ fn write_line<D: Desk>(
     ensures home { D.home desk.new ≡ D.home desk.old }
 {
     let proposal = Proposal::Inject { line };
-    write_made(
+    let written = write_made(
         held, outbox, alloc, desk, case, interval, name, &proposal, made,
-    )
+    );
+    drop(proposal);
+    written
 }
 
 // The name of an injector's row.

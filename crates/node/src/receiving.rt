@@ -5,6 +5,7 @@ ghost use Rattle.topology.specs.Shapes.{Shape};
 ghost use Rattle.row_parts.specs.Contents.{is_finished};
 ghost use Rattle.run_history.specs.Legal.{record_outcome};
 ghost use Rattle.book.specs.Desks.{DeskView, HasLooked, IsSound, KeepsMarks};
+ghost use Rattle.book.specs.declared.proposal.Proposal.TheVariants as proposals;
 ghost use Rattle.holdings.specs.Holding.{row_held};
 ghost use Rattle.node.specs.Answers.{HasKept, taken_from, taken_in};
 ghost use Rattle.node.specs.Fits.{Fits};
@@ -99,20 +100,30 @@ impl<N: Seen> Node<N> {
         ensures fault { IfErr result (λ fault. fault ≡ NodeFault.NoMemory) }
     {
         if self.prepared.is_some() {
+            let_go(delivery, sender);
             return Ok(Outcome::Nothing);
         }
         let interval = case.interval_of(&delivery.to);
         let Some(held) = self.held.get(interval) else {
+            let_go(delivery, sender);
             return Ok(Outcome::NotMine);
         };
         if is_finished(held, &delivery) {
-            self.acknowledge(sender, delivery.id)?;
+            let id = delivery.id;
+            drop(delivery);
+            self.acknowledge(sender, id)?;
             return Ok(Outcome::Duplicate);
         }
-        let effects = handled_on(alloc, work, case, held, &delivery)?;
-        let proposal = Proposal::Handle { delivery, effects };
-        self.prepared = Some(Work { sender, proposal });
-        Ok(Outcome::Prepared)
+        match handled_on(alloc, work, case, held, &delivery) {
+            Ok(effects) => {
+                keep(&mut self.prepared, delivery, effects, sender);
+                Ok(Outcome::Prepared)
+            }
+            Err(NoMemory) => {
+                let_go(delivery, sender);
+                Err(NodeFault::NoMemory)
+            }
+        }
     }
 
     // Sends word once more that a record was handled.
@@ -126,6 +137,18 @@ impl<N: Seen> Node<N> {
         self.outbox.put_ack(sender, id);
         Ok(())
     }
+}
+
+// Lets go of a record that is not prepared.
+fn let_go(_delivery: Delivery, _sender: RowName) {}
+
+// Keeps that a record was handled, until it is written.
+fn keep(prepared: &mut Option<Work>, delivery: Delivery, effects: Effects, sender: RowName)
+    ensures { prepared.new
+        ≡ Some (record { sender = sender; proposal = proposals.Handle delivery effects }) }
+{
+    let proposal = Proposal::Handle { delivery, effects };
+    drop(prepared.replace(Work { sender, proposal }));
 }
 
 // Whether a record is finished in its row as it is held.
@@ -161,7 +184,9 @@ fn handled_on<C: Computation>(
         Some(row) => handled(alloc, work, case, name, row, &delivery.item),
         None => {
             let row = first_row(alloc, case, name.part);
-            handled(alloc, work, case, name, &row, &delivery.item)
+            let made = handled(alloc, work, case, name, &row, &delivery.item);
+            drop(row);
+            made
         }
     }
 }

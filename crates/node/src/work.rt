@@ -71,5 +71,5 @@ pub(crate) fn is_prepared_in(case: &Case, interval: u32, prepared: &Option<Work>
 pub(crate) fn unprepared(prepared: &mut Option<Work>)
     ensures { prepared.new ≡ None }
 {
-    *prepared = None;
+    drop(prepared.take());
 }

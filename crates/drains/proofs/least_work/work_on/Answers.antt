@@ -1,12 +1,12 @@
-use Rattle.std.proofs.Common.{◌≡◌, ◌<◌, rules, subst, true}
-use Rattle.std.specs.Prelude.{IfErr, IfSome, None, Some}
+use Rattle.std.proofs.Common.{◌≡◌, ◌<◌, refl, rules, subst, true}
+use Rattle.std.specs.Prelude.{IfSome, None, Some}
 use Rattle.topology.specs.Shapes.{parts_of}
 use Rattle.run_history.specs.Finished.{is_handled}
 use Rattle.node.specs.declared.outcome.NodeFault.TheVariants as faults
 use Rattle.drains.specs.Turns.{CanBeKept}
 use Rattle.drains.proofs.DrainLaws.{found-least, no-sender, sent-by}
 use Rattle.drains.proofs.GoLaws.{turned-stayed}
-use Rattle.drains.proofs.Results.{err-then, ok-then}
+use Rattle.drains.proofs.Results.{ok-then}
 use Rattle.drains.proofs.LeastWorkLaws.{ack-least, ack-more, pending-sent, sent-own}
 use Rattle.drains.proofs.TurnLaws.{failed-not, stepped-not}
 use Rattle.drains.proofs.least_work.work_on.Goals as goal
@@ -43,17 +43,15 @@ returns-then-is_last_handled-clause-more g c =
     (λ told. handled) done) c.acknowledge.ensures.asked
 
 -- there was no memory for what was found
-pub returns-in_err-found-clause-failed : goal.returns-in_err-found-clause-failed
-returns-in_err-found-clause-failed g c =
-    let none : IfErr c.from_residual.result (λ why. why ≡ faults.NoMemory) = search rules in
-    err-then c.from_residual.result (λ why is. failed-not c.args.book.now why is) none
+pub returns-in-Err-clause-failed : goal.returns-in-Err-clause-failed
+returns-in-Err-clause-failed g c = failed-not c.args.book.now faults.NoMemory refl
 
 -- the least id is that of what was found
 pub work_on_sent-requires-clause-least : goal.work_on_sent-requires-clause-least
 work_on_sent-requires-clause-least g c =
     found-least c.args.book.now c.args.node.now c.args.sender c.args.id c.in-Some.delivery
-    (sent-by c.case-case.result.now c.args.book.now c.args.node.now c.args.sender c.args.id c.in_ok-found.found (Some c.in-Some.delivery)
-    c.case-case.ensures.case c.in_ok-found.ensures.sent c.in-Some.is) c.requires.least
+    (sent-by c.case-case.result.now c.args.book.now c.args.node.now c.args.sender c.args.id c.in-Ok.found (Some c.in-Some.delivery)
+    c.case-case.ensures.case c.in-Ok.ensures.sent c.in-Some.is) c.requires.least
 
 -- its sender's part is there
 pub work_on_sent-requires-clause-part : goal.work_on_sent-requires-clause-part
@@ -65,12 +63,12 @@ work_on_sent-requires-clause-part g c =
 pub work_on_sent-requires-clause-sent : goal.work_on_sent-requires-clause-sent
 work_on_sent-requires-clause-sent g c =
     sent-own c.args.book.now.case.topology c.args.node.now c.args.sender c.args.id c.in-Some.delivery
-    (sent-by c.case-case.result.now c.args.book.now c.args.node.now c.args.sender c.args.id c.in_ok-found.found (Some c.in-Some.delivery)
-    c.case-case.ensures.case c.in_ok-found.ensures.sent c.in-Some.is)
+    (sent-by c.case-case.result.now c.args.book.now c.args.node.now c.args.sender c.args.id c.in-Ok.found (Some c.in-Some.delivery)
+    c.case-case.ensures.case c.in-Ok.ensures.sent c.in-Some.is)
 
 -- and can be kept
 pub work_on_sent-requires-clause-kept : goal.work_on_sent-requires-clause-kept
-work_on_sent-requires-clause-kept g c = subst (λ o. IfSome o CanBeKept) c.in-Some.is c.in_ok-found.ensures.kept
+work_on_sent-requires-clause-kept g c = subst (λ o. IfSome o CanBeKept) c.in-Some.is c.in-Ok.ensures.kept
 
 -- nothing was done
 pub returns-in-None-clause-turned : goal.returns-in-None-clause-turned
@@ -82,5 +80,5 @@ returns-in-None-clause-more g c = λ told.
     let same : c.parts-parts.result ≡ parts_of c.args.book.now.case.topology = search rules in
     absurd (pending-sent c.args.book.now c.args.node.now c.args.sender c.args.id c.requires.at_work told
     (subst (λ n. c.args.sender.part < n) same c.if-parts-part.false) c.requires.least.pending
-    (sent-by c.case-case.result.now c.args.book.now c.args.node.now c.args.sender c.args.id c.in_ok-found.found None
-    c.case-case.ensures.case c.in_ok-found.ensures.sent c.in-None.is))
+    (sent-by c.case-case.result.now c.args.book.now c.args.node.now c.args.sender c.args.id c.in-Ok.found None
+    c.case-case.ensures.case c.in-Ok.ensures.sent c.in-None.is))

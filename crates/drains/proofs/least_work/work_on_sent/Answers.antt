@@ -62,8 +62,8 @@ returns-then-finished-clause-more g c =
     c.acknowledge.ensures.asked
 
 -- its row may be there
-pub forget-requires-clause-part : goal.forget-requires-clause-part
-forget-requires-clause-part g c =
+pub forget-forgotten-requires-clause-part : goal.forget-forgotten-requires-clause-part
+forget-forgotten-requires-clause-part g c =
     let found : IsFound c.args.book.now c.args.node.now c.args.sender c.args.delivery = record {
       at_work = c.requires.at_work;
       lawful = c.history.ensures.lawful;
@@ -84,8 +84,8 @@ returns-then-full-clause-turned g c =
       sent = c.requires.sent;
     } in
     let left = sym c.standing-finished.ensures.finished ∙ c.if-finished.false in
-    ok-then c.forget.result (λ more done. forgot-turned c.args.book.now c.forget.new.book c.args.node.now c.args.sender
-    c.args.delivery more found left done) c.forget.ensures.asked
+    ok-then c.forget-forgotten.result (λ more done. forgot-turned c.args.book.now c.forget-forgotten.new.book c.args.node.now c.args.sender
+    c.args.delivery more found left done) c.forget-forgotten.ensures.asked
 
 -- and writes an entry
 pub returns-then-full-clause-more : goal.returns-then-full-clause-more
@@ -98,9 +98,9 @@ returns-then-full-clause-more g c =
       sent = c.requires.sent;
     } in
     let full = sym c.standing-finished.ensures.full ∙ c.if-full.true in
-    ok-then c.forget.result (λ more done told. forget-more c.args.book.now c.forget.new.book c.args.node.now c.args.delivery.to more
+    ok-then c.forget-forgotten.result (λ more done told. forget-more c.args.book.now c.forget-forgotten.new.book c.args.node.now c.args.delivery.to more
     c.requires.at_work (found-part c.args.book.now c.args.node.now c.args.sender c.args.delivery found) full done)
-    c.forget.ensures.asked
+    c.forget-forgotten.ensures.asked
 
 -- the record may be delivered
 pub handle-requires-clause-deliverable : goal.handle-requires-clause-deliverable

@@ -13,8 +13,8 @@ made_by-requires-clause-few g c =
     (c.requires.left c.requires.set)
 
 -- it may be proposed that the timer fires
-pub write_made-requires-clause-proposal : goal.write_made-requires-clause-proposal
-write_made-requires-clause-proposal g c =
+pub write_made-written-requires-clause-proposal : goal.write_made-written-requires-clause-proposal
+write_made-written-requires-clause-proposal g c =
     fire-proposable c.args.case.now c.args.held.now c.args.interval c.args.found.now.name c.args.found.now.timer c.args.mark c.args.effects
     c.requires.set (c.requires.left c.requires.set)
 
@@ -22,7 +22,7 @@ write_made-requires-clause-proposal g c =
 pub returns-clause-sent : goal.returns-clause-sent
 returns-clause-sent g c =
     let box = c.args.outbox.now.messages in
-    let left = c.write_made.new.outbox.messages in
+    let left = c.write_made-written.new.outbox.messages in
     let sends = handler_sends c.args.case.now.topology c.args.found.now.name c.args.effects c.args.found.now.timer.late in
-    ok-so (λ (commit : ℕ). left ≡ box ++ map (numbered commit) c.in_ok-made.made.items) (λ (commit : ℕ). left ≡ box ++ sends commit)
-    c.write_made.result (λ commit is. is ∙ ap (λ (l : List Outgoing). box ++ l) (c.in_ok-made.ensures.made commit)) c.write_made.ensures.sent
+    ok-so (λ (commit : ℕ). left ≡ box ++ map (numbered commit) c.in-Ok.made.items) (λ (commit : ℕ). left ≡ box ++ sends commit)
+    c.write_made-written.result (λ commit is. is ∙ ap (λ (l : List Outgoing). box ++ l) (c.in-Ok.ensures.made commit)) c.write_made-written.ensures.sent

@@ -1,4 +1,4 @@
-use Rattle.std.proofs.Common.{◌≡◌, ◌∙◌, ap, rules, sym}
+use Rattle.std.proofs.Common.{◌≡◌, ◌∙◌, ap}
 use Rattle.list_lemmas.proofs.Told.{on_ok-map}
 use Rattle.mw_types.specs.Outcomes.{EffectsView}
 use Rattle.run_history.specs.Cases.{CaseShape}

@@ -1,4 +1,4 @@
-use Rattle.std.proofs.Common.{◌≡◌, ◌∙◌, ap, subst}
+use Rattle.std.proofs.Common.{◌∙◌, ap, subst}
 use Rattle.mw_types.specs.declared.identity.RowName.{RowName}
 use Rattle.run_history.specs.Made.{deliveries_made}
 use Rattle.book.specs.declared.proposal.Proposal.{Proposal}

@@ -1,6 +1,5 @@
-use Rattle.std.proofs.Common.{◌≡◌, ◌∙◌, List, ap, subst, sym, refl}
+use Rattle.std.proofs.Common.{◌∙◌, List, ap, subst, sym, refl}
 use Rattle.std.specs.Prelude.{IfErr, IfOk, OnErr, Result}
-use Rattle.run_history.specs.Cases.{CaseShape}
 use Rattle.holdings.specs.Holding.{IsRefusedOf}
 use Rattle.node.specs.declared.outcome.NodeFault.{NodeFault}
 use Rattle.node.specs.declared.outcome.Outcome.{Outcome}

@@ -1,10 +1,10 @@
 use Rattle.std.proofs.Common.{◌≡◌, ◌∙◌, ap, subst, sym}
-use Rattle.std.specs.Prelude.{Some}
+use Rattle.std.specs.Prelude.{Option, Some}
 use Rattle.std.specs.Option.{option_and_then}
 use Rattle.holdings.specs.Holding.{held_at, held_on}
 use Rattle.node.specs.Fits.{Fits}
 use Rattle.node.specs.Messages.{IsOutgoing}
-use Rattle.node.specs.Workers.{NodeView}
+use Rattle.node.specs.Workers.{NodeView, WorkView}
 use Rattle.node.specs.declared.outgoing.Outgoing.TheVariants as outgoing
 use Rattle.node.proofs.CopyLaws.{handled-held}
 use Rattle.node.proofs.ReceiveLaws.{Fits-again, Fits-new}
@@ -26,12 +26,13 @@ returns-then-is_finished-clause-fits g c = λ desk sound fits sent.
     (Fits-again case desk c.args.self.now c.args.delivery c.args.sender ack fits)
 
 -- a record that is not is prepared
-pub returns-clause-fits : goal.returns-clause-fits
-returns-clause-fits g c = λ desk sound fits sent.
+pub returns-in-Ok-clause-fits : goal.returns-in-Ok-clause-fits
+returns-in-Ok-clause-fits g c = λ desk sound fits sent.
     let case = c.args.case.now in
     let node : NodeView = record { number = c.self.inside.number; held = c.self.inside.held; prepared = c.self.inside.prepared; outbox = c.self.inside.outbox.messages } in
     let was : Fits case desk node = subst (Fits case desk) (sym c.self.view_is) fits in
     let there : held_on case.topology node.held c.args.delivery.to ≡ Some c.in-Some.held.now =
     ap (option_and_then (held_at node.held)) c.interval_of-interval.ensures.interval ∙ sym c.in-Some.ensures.held in
-    Fits-new case desk node c.args.delivery c.args.sender c.in_ok-effects.effects c.in-Some.held.now there
-    (sym (c.is_finished.ensures case.topology) ∙ c.if-is_finished.false) c.in_ok-effects.ensures.does c.requires.deliverable was sent
+    subst (λ (p : Option WorkView). Fits case desk (record node { prepared = p })) (sym c.keep.ensures)
+    (Fits-new case desk node c.args.delivery c.args.sender c.in-Ok.effects c.in-Some.held.now there
+    (sym (c.is_finished.ensures case.topology) ∙ c.if-is_finished.false) c.in-Ok.ensures.does c.requires.deliverable was sent)
