@@ -23,3 +23,4 @@ pub mod Parts
 pub mod Lines
 pub mod Numbers
 pub mod Results
+pub mod Places
