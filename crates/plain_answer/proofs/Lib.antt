@@ -24,3 +24,6 @@ pub mod Lines
 pub mod Numbers
 pub mod Results
 pub mod Places
+pub mod Orders
+pub mod Spiking
+pub mod SpikePlain
