@@ -183,7 +183,7 @@ timer-key size key (states.Spike late held known) timer = tt
 timer-key size key (states.Pass late) timer = tt
 
 -- records of another key are at no place of this one
-other-key : (place : List ℕ × ℕ) (own : List ℕ) (late : Bool) (ps : List Production) → pointwise nat_eq place.0 own ≡ false
+pub other-key : (place : List ℕ × ℕ) (own : List ℕ) (late : Bool) (ps : List Production) → pointwise nat_eq place.0 own ≡ false
     → AllByRecursion (λ (p : Production). p.key ≡ own) ps → filter (at_place place) (map (produced late) ps) ≡ []
 other-key place own late [] other each = refl
 other-key place own late (p ∷ ps) other each =

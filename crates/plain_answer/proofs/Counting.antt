@@ -81,7 +81,7 @@ pub tie : (name : RowName) → is_at (row_cmp name) name ≡ true
 tie name = ap is_eq (tied_itself row_cmp-total name)
 
 -- and with no other
-apart-false : (name row : RowName) → (Some row ≡ Some name → ⊥) → is_at (row_cmp name) row ≡ false
+pub apart-false : (name row : RowName) → (Some row ≡ Some name → ⊥) → is_at (row_cmp name) row ≡ false
 apart-false name row apart = elim (is_at (row_cmp name) row) as (λ b. is_at (row_cmp name) row ≡ b → b ≡ false) [
   | true ↦ λ e. absurd (apart (ap Some (sym (same_row name row e))))
   | false ↦ λ e. refl

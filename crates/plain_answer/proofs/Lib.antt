@@ -23,3 +23,7 @@ pub mod Parts
 pub mod Lines
 pub mod Numbers
 pub mod Results
+pub mod Places
+pub mod Orders
+pub mod Spiking
+pub mod SpikePlain

@@ -1,7 +1,8 @@
 -- What a history handled, and what it put into the streams, in the order of its entries.
 -- No clause of another crate cites this module. Own.
-use Rattle.std.specs.Prelude.{ℕ, ◌==◌, if◌then◌else◌, Bool, List, [], ◌++◌, map, fold, option_to_list}
+use Rattle.std.specs.Prelude.{ℕ, ◌==◌, if◌then◌else◌, Bool, List, [], ◌∷◌, ◌++◌, map, fold, option_to_list}
 use Rattle.std.specs.Option.{option_map_or}
+use Rattle.std.specs.List.{flat_map}
 use Rattle.mw_types.specs.declared.identity.RowName.{RowName}
 use Rattle.mw_types.specs.declared.record.Record.{Record}
 use Rattle.mw_types.specs.declared.record.Production.{Production}
@@ -61,3 +62,12 @@ out_of shape history = (story_of shape history).out
 abbrev pub fires_on : ℕ → Entry → ℕ
 fires_on part (Fire seq row timer mark effects) = if row.part == part then 1 else 0
 fires_on part _ = 0
+
+-- the keys of the rows of a part on which an entry fires
+abbrev pub fired_keys_by : ℕ → Entry → List (List ℕ)
+fired_keys_by part (Fire seq row timer mark effects) = if row.part == part then row.key ∷ [] else []
+fired_keys_by part _ = []
+
+-- the keys of the rows of a part that fired, as often as they did
+abbrev pub fired_keys : ℕ → List Entry → List (List ℕ)
+fired_keys part history = flat_map (fired_keys_by part) history

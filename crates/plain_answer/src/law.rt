@@ -1,0 +1,18 @@
+//! The text of a finished run.
+ghost use Rattle.std.specs.Prelude.{ℕ, List, length, ◌≤◌, ◌^◌};
+ghost use Rattle.mw_types.specs.declared.entry.Entry.{Entry};
+ghost use Rattle.run_history.specs.Cases.{CaseShape};
+ghost use Rattle.run_history.specs.Finished.{IsFinished};
+ghost use Rattle.run_history.specs.Inputs.{IsRunnable};
+ghost use Rattle.run_history.specs.Legal.{IsLegal};
+ghost use Rattle.run_history.specs.Runs.{run_of};
+ghost use Rattle.run_history.specs.Texts.{IsResultText};
+ghost use Rattle.plain_answer.specs.Plain.{IsPlainText};
+
+/// The result text of a run that is at its end is the plain count of its files, whatever the order of
+/// its entries was, and whoever wrote them.
+pub fn results_are_the_plain_count()
+    ensures plain { (case : CaseShape) (history : List Entry) (text : List ℕ) →
+        IsRunnable case → IsLegal case history → IsFinished case (run_of case.topology history) →
+        length history ≤ 2 ^ 32 → IsResultText case.topology history text → IsPlainText case text }
+{}
