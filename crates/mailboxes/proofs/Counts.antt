@@ -1,5 +1,5 @@
 -- Each move of a mailbox keeps its counts.
-use Rattle.std.proofs.Common.{◌≡◌, ◌≢◌, ◌⊎◌, ◌∙◌, ℕ, zero, suc, ◌+◌, Bool, true, false, true≢false, List, [], ◌∷◌, ◌++◌, length, set, refl, sym, ap, subst, ⊎_elim, arith, length-append}
+use Rattle.std.proofs.Common.{◌≡◌, ◌≢◌, ◌∙◌, ℕ, zero, suc, ◌+◌, true≢false, List, [], ◌∷◌, ◌++◌, length, set, refl, sym, ap, ⊎_elim, arith, length-append}
 use mathlib.Core.Option.{some, some-ne-none, some-injective}
 use lib.ListN.{get_elem?}
 use Rattle.crossbeam_queue.specs.Fifo.{Pushes, Pops, Forks, Learns}
@@ -87,9 +87,9 @@ deals pass v items views is at =
           omega arith;
       only = λ j u at' alone. ⊎_elim
           (λ (was : get_elem? mid j ≡ some u). ⊎_elim
-              (λ (x : (j ≡ pass) × (w ≡ u)). absurd (true≢false (sym alone ∙ sym (ap (λ (h : Hand). h.alone) x.1))))
-              (λ (x : (j ≢ pass) × (get_elem? views j ≡ some u)). absurd (other views pass j v u at x.1 x.0 (is.only j u x.1 alone)))
-              (at_set views pass j w u was))
+          (λ (x : (j ≡ pass) × (w ≡ u)). absurd (true≢false (sym alone ∙ sym (ap (λ (h : Hand). h.alone) x.1))))
+          (λ (x : (j ≢ pass) × (get_elem? views j ≡ some u)). absurd (other views pass j v u at x.1 x.0 (is.only j u x.1 alone)))
+          (at_set views pass j w u was))
           (λ (new : new_hand ≡ u). absurd (true≢false (sym alone ∙ sym (ap (λ (h : Hand). h.alone) new))))
           (at_snoc mid new_hand u j at');
     }

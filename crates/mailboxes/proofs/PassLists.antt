@@ -1,5 +1,5 @@
 -- Lists of new passes.
-use Rattle.std.proofs.Common.{◌≡◌, ◌∙◌, ◌+◌, ◌++◌, ◌∷◌, ◌<◌, ℕ, zero, suc, List, [], length, refl, sym, ap, subst, arith, length-append}
+use Rattle.std.proofs.Common.{◌≡◌, ◌+◌, ◌++◌, ◌∷◌, ◌<◌, ℕ, suc, List, [], length, refl, sym, ap, subst, arith, length-append}
 use Rattle.std.specs.Prelude.{get_or, slice_set}
 use Rattle.mailboxes.specs.PassLists.{AllFrom}
 
@@ -33,6 +33,6 @@ dealt {X = X} fact xs new y z n many some first next all is = (
       (from-push fact 0 (slice_set xs 0 y) z n (let same = set-length xs y in omega (arith, many, same)) next
       (first-set fact 0 xs y (omega (arith, many, some)) first all)),
   let same = set-length xs y in
-  let more = ap length is in
-  omega (arith, many, same, more, length-append (slice_set xs 0 y) (z ∷ [])),
+      let more = ap length is in
+      omega (arith, many, same, more, length-append (slice_set xs 0 y) (z ∷ [])),
 )

@@ -1,15 +1,15 @@
 //! A mailbox.
-ghost use Rattle.std.specs.Prelude.{◌≡◌, ◌<◌, ◌≤◌, true, length, All, IfErr, IfNone, IfOk, IfSome, OnErr, OnOk};
+ghost use Rattle.std.specs.Prelude.{◌≡◌, ◌<◌, ◌≤◌, length, All, IfErr, IfNone, IfOk, IfSome, OnErr, OnOk};
 ghost use Rattle.crossbeam_queue.specs.Passes.{IsPassOf, ruled_capacity, view};
 ghost use Rattle.node.specs.Messages.{IsAddressed};
 ghost use Rattle.node.specs.Received.{note_of, outgoing_of};
 ghost use Rattle.mailboxes.specs.Mailboxes.{IsLeft, with_put, with_take};
-ghost use Rattle.mailboxes.specs.PassLists.{AllFrom, IsNewPass};
+ghost use Rattle.mailboxes.specs.PassLists.{AllFrom, IsLonePass, IsNewPass};
 
 use crate::hand::{Put, Taken};
 use crate::letter::Letter;
 use crate::office::Office;
-use crate::passes::{Line, MailPass, deal_all};
+use crate::passes::{Line, MailPass, passes_of};
 use book::Seen;
 use mw_types::NoMemory;
 use node::Message;
@@ -47,11 +47,11 @@ impl<N: Seen, J: Office> Mailbox<N, J> {
             AllFrom (λ place p. IsNewPass made.0.line place p.pass p.place) 0 made.1.items) }
         ensures many { IfOk result (λ made. length made.1.items ≡ passes) }
         ensures alone { IfOk result (λ made. passes ≡ 1 →
-            All (λ p. (view p.pass).alone ≡ true) made.1.items) }
+            All (λ p. IsLonePass made.0.line p.pass) made.1.items) }
     {
         let (line, pass) = Line::ruled(alloc, capacity as usize)?;
         let first = MailPass { pass, place: 0 };
-        let all = deal_all(alloc, &line, first, passes)?;
+        let all = passes_of(alloc, &line, first, passes)?;
         Ok((Mailbox { line }, all))
     }
 

@@ -1,5 +1,5 @@
 //! The passes of a mailbox.
-ghost use Rattle.std.specs.Prelude.{◌≡◌, ◌<◌, IfOk, length};
+ghost use Rattle.std.specs.Prelude.{◌≡◌, ◌<◌, ◌∷◌, [], IfOk, length};
 ghost use Rattle.crossbeam_queue.specs.Passes.{IsPassOf, view};
 ghost use Rattle.mailboxes.specs.Mailboxes.{beside};
 ghost use Rattle.mailboxes.specs.PassLists.{AllFrom, IsNewPass};
@@ -51,8 +51,43 @@ fn deal<N: Seen, J: Office>(
     }
 }
 
+// The one pass of a mailbox.
+fn lone<N: Seen, J: Office>(
+    alloc: Global,
+    first: MailPass<N, J>,
+) -> Result<Vec<MailPass<N, J>>, NoMemory>
+    ensures passes { IfOk result (λ all. all.items ≡ first ∷ []) }
+{
+    let mut all = Vec::new(alloc);
+    all.push(first)?;
+    Ok(all)
+}
+
 // So many passes, of which this one is the first.
-pub(crate) fn deal_all<N: Seen, J: Office>(
+fn deal_all<N: Seen, J: Office>(
+    alloc: Global,
+    line: &Line<N, J>,
+    first: MailPass<N, J>,
+    passes: u32,
+) -> Result<Vec<MailPass<N, J>>, NoMemory>
+    requires some { 0 < passes }
+    requires first { IsNewPass line.now 0 first.pass first.place }
+
+    ensures passes { IfOk result (λ all.
+        AllFrom (λ place p. IsNewPass line.now place p.pass p.place) 0 all.items) }
+    ensures many { IfOk result (λ all. length all.items ≡ passes) }
+{
+    let mut all = Vec::new(alloc);
+    all.push(first)?;
+    for place in 1..passes {
+        let next = deal(line, &mut all[0], place);
+        all.push(next)?;
+    }
+    Ok(all)
+}
+
+// So many passes, of which this one is the first; where there is no other it stays as it is.
+pub(crate) fn passes_of<N: Seen, J: Office>(
     alloc: Global,
     line: &Line<N, J>,
     first: MailPass<N, J>,
@@ -66,11 +101,9 @@ pub(crate) fn deal_all<N: Seen, J: Office>(
     ensures many { IfOk result (λ all. length all.items ≡ passes) }
     ensures alone { IfOk result (λ all. passes ≡ 1 → all.items ≡ first ∷ []) }
 {
-    let mut all = Vec::new(alloc);
-    all.push(first)?;
-    for place in 1..passes {
-        let next = deal(line, &mut all[0], place);
-        all.push(next)?;
+    if passes == 1 {
+        lone(alloc, first)
+    } else {
+        deal_all(alloc, line, first, passes)
     }
-    Ok(all)
 }
