@@ -1,0 +1,4 @@
+pub mod Working
+pub mod Serving
+pub mod CallLaws
+pub mod FaultLaws

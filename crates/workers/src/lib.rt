@@ -1,0 +1,7 @@
+//! Workers that are threads: what a worker does in its turn of work, over the desk of a shared book.
+#![tactic(auto)]
+
+mod orders;
+mod tries;
+
+pub use orders::Orders;
