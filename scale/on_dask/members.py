@@ -10,6 +10,7 @@ from dataclasses import dataclass, field
 WATERMARK_EVERY = 64
 # The greatest timestamp that an event file may state.
 INPUT_MAX = 1 << 62
+KEY = b',"key":'
 MEMBER = re.compile(rb'\{"ts":([0-9]+),"value":(-?[0-9]+),"key":(.*)\}\n?')
 
 
@@ -61,8 +62,8 @@ def parts_of(line: bytes) -> tuple[bytes, int, int]:
 
 
 def key_of(line: bytes) -> bytes:
-    """A member's key as it is spelled."""
-    return MEMBER.fullmatch(line).group(3)
+    """A member's key as it is spelled; only numbers stand before it, so no key's own text is found."""
+    return line[line.index(KEY) + len(KEY) : line.rindex(b"}")]
 
 
 def stamp_of(line: bytes) -> int:
