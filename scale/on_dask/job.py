@@ -296,6 +296,7 @@ def data_at(chunk: list[tuple[int, bytes]], at: int) -> bytes:
 
 def write_text(job: Job, cluster: Cluster, ranges: db.Bag, numbers: Numbers) -> None:
     """Writes each range by the worker that has it, and the summary behind them when all are there."""
+    os.makedirs(job.out, exist_ok=True)
     places = cluster.told(ranges.map(partial(result.write_range, job.out)))
     result.write_range(job.out, (max(places, default=-1) + 1, numbers.line()))
 
