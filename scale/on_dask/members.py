@@ -57,8 +57,10 @@ def member_line(key: bytes, stamp: int, value: int) -> bytes:
 
 def parts_of(line: bytes) -> tuple[bytes, int, int]:
     """A member's key as it is spelled, its timestamp and its value."""
-    stamp, value, key = MEMBER.fullmatch(line).groups()
-    return key, int(stamp), int(value)
+    found = MEMBER.fullmatch(line)
+    if not found:
+        raise ValueError("no member: %r" % line)
+    return found[3], int(found[1]), int(found[2])
 
 
 def key_of(line: bytes) -> bytes:

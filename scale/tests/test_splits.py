@@ -6,7 +6,7 @@ from on_dask import one_cut, one_part, result
 from on_dask.members import Chunk, lines_of, member_line, parts_of
 from on_dask.program import WATERMARK_BYTES, Limits
 
-SMALL = Limits(lines=5, bytes=1 << 20)
+SMALL = Limits(lines=5, file_bytes=1 << 20)
 
 
 def members(*pairs: tuple[str, int]) -> list[bytes]:
