@@ -49,7 +49,8 @@ class Picture:
 
     def __init__(self, lanes: list[int], columns: int, step: int):
         self.tops = {lane: TOP + LANE * place for place, lane in enumerate(sorted(set(lanes)))}
-        self.step, self.columns, self.parts = step, columns, []
+        self.step, self.columns = step, columns
+        self.parts: list[str] = []
 
     def x(self, column: float) -> float:
         return LEFT + self.step * (column + 0.5)
@@ -138,7 +139,7 @@ def folded(picture: Picture, history: list[dict], lanes: list[int], width: int) 
         for lane in sorted({lane for _, lane in column}):
             counted = Counter(entry["do"] for entry, of in column if of == lane)
             told = ", ".join("%d %s" % (many, kind) for kind, many in counted.items())
-            bottom = picture.tops[lane] + LANE - 8
+            bottom = float(picture.tops[lane] + LANE - 8)
             for kind, many in sorted(counted.items()):
                 height = (LANE - 30) * many / width
                 bottom -= height

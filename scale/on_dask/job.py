@@ -294,10 +294,11 @@ def data_at(chunk: list[tuple[int, bytes]], at: int) -> bytes:
     return chunk[at][1]
 
 
-def write_text(job: Job, cluster: Cluster, ranges: db.Bag, numbers: Numbers) -> None:
+def write_text(folder: str, cluster: Cluster, ranges: db.Bag, numbers: Numbers) -> None:
     """Writes each range by the worker that has it, and the summary behind them when all are there."""
-    places = cluster.told(ranges.map(partial(result.write_range, job.out)))
-    result.write_range(job.out, (max(places, default=-1) + 1, numbers.line()))
+    os.makedirs(folder, exist_ok=True)
+    places = cluster.told(ranges.map(partial(result.write_range, folder)))
+    result.write_range(folder, (max(places, default=-1) + 1, numbers.line()))
 
 
 def run_job(client: Client, job: Job) -> None:
@@ -314,6 +315,6 @@ def run_job(client: Client, job: Job) -> None:
     ranges = in_ranges(job, cluster, streams)
     cluster.progress.tell("")
     if job.out:
-        write_text(job, cluster, ranges, numbers)
+        write_text(job.out, cluster, ranges, numbers)
     else:
         print_text(cluster, ranges, numbers)

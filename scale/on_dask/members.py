@@ -10,6 +10,7 @@ from dataclasses import dataclass, field
 WATERMARK_EVERY = 64
 # The greatest timestamp that an event file may state.
 INPUT_MAX = 1 << 62
+KEY = b',"key":'
 MEMBER = re.compile(rb'\{"ts":([0-9]+),"value":(-?[0-9]+),"key":(.*)\}\n?')
 
 
@@ -56,13 +57,15 @@ def member_line(key: bytes, stamp: int, value: int) -> bytes:
 
 def parts_of(line: bytes) -> tuple[bytes, int, int]:
     """A member's key as it is spelled, its timestamp and its value."""
-    stamp, value, key = MEMBER.fullmatch(line).groups()
-    return key, int(stamp), int(value)
+    found = MEMBER.fullmatch(line)
+    if not found:
+        raise ValueError("no member: %r" % line)
+    return found[3], int(found[1]), int(found[2])
 
 
 def key_of(line: bytes) -> bytes:
-    """A member's key as it is spelled."""
-    return MEMBER.fullmatch(line).group(3)
+    """A member's key as it is spelled; only numbers stand before it, so no key's own text is found."""
+    return line[line.index(KEY) + len(KEY) : line.rindex(b"}")]
 
 
 def stamp_of(line: bytes) -> int:

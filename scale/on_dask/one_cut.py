@@ -12,17 +12,10 @@ from .members import Chunk, Numbers, event_file, key_of, lines_of
 
 # What is shuffled: a shard, the injector's number, and lines in time and late ones.
 Routed = tuple[int, int, bytes, bytes]
+# The lines of a shard: of each injector those in time and the late ones.
+Files = list[tuple[list[bytes], list[bytes]]]
 # A shard that is cut so often has one value of the cut, or nearly.
 DEEPEST = 40
-
-
-@dataclass(frozen=True)
-class Placed:
-    """A line of a shard: the injector's number, whether it is late, and the member."""
-
-    injector: int
-    late: bool
-    line: bytes
 
 
 @dataclass
@@ -66,58 +59,58 @@ def route(injector: int, cut: str, shards: int, chunk: Chunk) -> list[Routed]:
     return [(shard, injector, b"".join(timely), b"".join(late)) for shard, (timely, late) in found.items()]
 
 
-def placed_lines(routed: list[Routed]) -> list[Placed]:
+def files_of(injectors: int, routed: list[Routed]) -> Files:
     """The lines of a shard."""
-    pairs = [(number, late, data) for _, number, *parts in routed for late, data in zip((False, True), parts)]
-    return [Placed(number, late, line) for number, late, data in pairs for line in lines_of(data)]
+    files: Files = [([], []) for _ in range(injectors)]
+    for _, number, timely, late in routed:
+        files[number][0].extend(lines_of(timely))
+        files[number][1].extend(lines_of(late))
+    return files
 
 
-def split(cut: str, depth: int, lines: list[Placed]) -> list[list[Placed]]:
-    """A shard in two by another number of the cut; alone where all lines have one value of it."""
-    halves: dict[int, list[Placed]] = {}
-    pieces = set()
-    for one in lines:
-        piece = cut_key(cut, key_of(one.line))
-        pieces.add(piece)
-        halves.setdefault(number_of(b"%d " % depth + piece) % 2, []).append(one)
-    return list(halves.values()) if len(pieces) > 1 else []
+def all_lines(files: Files) -> list[bytes]:
+    """All lines of a shard."""
+    return [line for timely, late in files for line in timely + late]
 
 
-def runs_of(cut: str, limits: program.Limits, lines: list[Placed]) -> list[list[Placed]] | None:
-    """The lines of a shard in runs within the limits, or None where one value of the cut has too many."""
-    open_ones, fit = [(lines, 0)], []
+def split(cut: str, depth: int, files: Files) -> list[Files]:
+    """A shard in two by another number of the cut."""
+    halves: list[Files] = [[([], []) for _ in files] for _ in range(2)]
+    for number, lines in enumerate(files):
+        for late in range(2):
+            for line in lines[late]:
+                half = number_of(b"%d " % depth + cut_key(cut, key_of(line))) % 2
+                halves[half][number][late].append(line)
+    return halves
+
+
+def runs_of(cut: str, limits: program.Limits, files: Files) -> list[Files] | None:
+    """A shard in runs within the limits, or None where one value of the cut has too many lines."""
+    open_ones, fit = [(files, 0)], []
     while open_ones:
         some, depth = open_ones.pop()
-        if limits.hold([one.line for one in some]):
+        lines = all_lines(some)
+        if limits.hold(lines):
             fit.append(some)
-            continue
-        parts = split(cut, depth, some)
-        if not parts or depth > DEEPEST:
+        elif depth > DEEPEST or len({cut_key(cut, key_of(line)) for line in lines}) == 1:
             return None
-        open_ones += [(part, depth + 1) for part in parts]
+        else:
+            open_ones += [(half, depth + 1) for half in split(cut, depth, some) if all_lines(half)]
     return fit
-
-
-def files_of(topology: dict, lines: list[Placed]) -> list[bytes]:
-    """An event file for each injector."""
-    found = []
-    for number in range(len(topology["injectors"])):
-        mine = [one for one in lines if one.injector == number]
-        found.append(event_file([x.line for x in mine if not x.late], [x.line for x in mine if x.late]))
-    return found
 
 
 def run_shard(path: str, topology: dict, cut: str, limits: program.Limits, group: tuple[int, list[Routed]]) -> ShardText:
     """The topology over one shard, in several runs where one would be too long."""
-    runs = runs_of(cut, limits, placed_lines(group[1]))
+    runs = runs_of(cut, limits, files_of(len(topology["injectors"]), group[1]))
     if runs is None:
         return ShardText(hot=True)
     rows, numbers = [], Numbers()
-    for lines in runs:
-        answer = program.run(path, topology, files_of(topology, lines))
+    for files in runs:
+        answer = program.run(path, topology, [event_file(timely, late) for timely, late in files])
         told = Numbers(**answer.summary)
-        if (told.injected, told.late) != (len(lines), sum(one.late for one in lines)):
-            raise AssertionError("a run of %d lines told %s" % (len(lines), told))
+        given = (len(all_lines(files)), sum(len(late) for _, late in files))
+        if (told.injected, told.late) != given:
+            raise AssertionError("a run of %d lines, %d of them late, told %s" % (*given, told))
         rows += answer.lines
         numbers += told
     return ShardText(b"".join(row + b"\n" for row in rows), numbers)

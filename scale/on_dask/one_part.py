@@ -63,7 +63,7 @@ def runs_by_time(last: int, limits: program.Limits, row: list[bytes]) -> list[Ru
     """A row that is too long for a run, by time. Each run but the first begins with the last places before its own,
     which give nothing there, since too few are before them."""
     kept = greatest_by_place(row)
-    room = min(limits.lines, limits.bytes // (max(map(len, kept)) + program.WATERMARK_BYTES))
+    room = min(limits.lines, limits.file_bytes // (max(map(len, kept)) + program.WATERMARK_BYTES))
     step = max(1, room - last)
     runs = []
     for start in range(0, len(kept), step):
@@ -75,7 +75,8 @@ def runs_by_time(last: int, limits: program.Limits, row: list[bytes]) -> list[Ru
 
 def spike_runs(last: int, limits: program.Limits, timely: list[bytes]) -> list[Run]:
     """The runs of a spike's shard: rows that fit stay whole, as many in a run as fit."""
-    whole, long = [], []
+    whole: list[list[bytes]] = []
+    long: list[list[bytes]] = []
     for row in by_row(timely):
         (whole if limits.hold(row) else long).append(row)
     runs = [Run(some, []) for some in limits.packed(whole)]
@@ -141,7 +142,8 @@ def run_pass_once(path: str, kind: dict, timely: list[bytes], late: list[bytes])
 
 def run_pass(path: str, kind: dict, limits: program.Limits, times: int, chunk: Chunk) -> Chunk:
     """A pass over one chunk, which it reads so many times: late members stay late."""
-    runs = [(some, []) for some in limits.pieces(lines_of(chunk.timely) * times)]
+    runs: list[tuple[list[bytes], list[bytes]]] = []
+    runs += [(some, []) for some in limits.pieces(lines_of(chunk.timely) * times)]
     runs += [([], some) for some in limits.pieces(lines_of(chunk.late) * times)]
     found = Chunk()
     for timely, late in runs:

@@ -31,11 +31,11 @@ class Limits:
     """What one run is given at most: record lines, and bytes of an event file; below the program's own limits."""
 
     lines: int = 250_000
-    bytes: int = 30 << 20
+    file_bytes: int = 30 << 20
 
     def hold(self, lines: list[bytes]) -> bool:
         """Whether one run may have these lines."""
-        return len(lines) <= self.lines and sum(map(len, lines)) + WATERMARK_BYTES * len(lines) <= self.bytes
+        return len(lines) <= self.lines and sum(map(len, lines)) + WATERMARK_BYTES * len(lines) <= self.file_bytes
 
     def packed(self, groups: Iterable[list[bytes]]) -> list[list[bytes]]:
         """The lines of these groups, each group whole and in its order, as few runs as they fill one after the other;
@@ -44,7 +44,7 @@ class Limits:
         lines = size = 0
         for group in groups:
             cost = sum(map(len, group)) + WATERMARK_BYTES * len(group)
-            if not runs or lines + len(group) > self.lines or size + cost > self.bytes:
+            if not runs or lines + len(group) > self.lines or size + cost > self.file_bytes:
                 runs.append([])
                 lines = size = 0
             runs[-1] += group

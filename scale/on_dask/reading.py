@@ -50,7 +50,7 @@ def scan(block: bytes) -> Scan:
     if b"watermark" in block or b"\\" in block:
         may_state = (line for line in block.split(b"\n") if b"watermark" in line or b"\\" in line)
         mark = max(map(stated_by, may_state), default=0)
-    return Scan(mark, block.count(b"\n") + (not block.endswith(b"\n") and block != b""))
+    return Scan(mark, block.count(b"\n") + int(block[-1:] not in (b"", b"\n")))
 
 
 def first_refused(path: str, lines: list[bytes], limits: program.Limits) -> BadLine | None:
@@ -76,7 +76,8 @@ def lines_to_read(block: bytes) -> list[tuple[int, bytes]]:
 
 def members_of(lines: list[bytes], mark: int) -> Chunk:
     """The members of lines that are known to be good, before which this watermark stood."""
-    timely, late = [], []
+    timely: list[bytes] = []
+    late: list[bytes] = []
     for line in lines:
         plain = PLAIN.fullmatch(line)
         if plain:

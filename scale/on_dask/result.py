@@ -29,8 +29,10 @@ class Row:
 
 def row_parts(line: bytes) -> Row:
     """What a result line says."""
-    key, stream, stamp, value = RESULT.fullmatch(line).groups()
-    return Row(key, stream, int(stamp), int(value))
+    found = RESULT.fullmatch(line)
+    if not found:
+        raise ValueError("no result line: %r" % line)
+    return Row(found[1], found[2], int(found[3]), int(found[4]))
 
 
 def rows_of_text(shard: ShardText) -> list[bytes]:

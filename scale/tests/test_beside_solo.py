@@ -89,7 +89,7 @@ class BesideSolo(unittest.TestCase):
             topology = cases.topology(rng)
             events = [cases.events(rng, rng.choice([0, 3, 30, 90]), 0.1) for _ in topology["injectors"]]
             how = {"by_parts": rng.random() < 0.4, "block": rng.choice([200, 1000, 1 << 20]), "shard": rng.choice([20, 60, 1000])}
-            how["limits"] = rng.choice([Limits(), Limits(lines=20), Limits(lines=70, bytes=9000)])
+            how["limits"] = rng.choice([Limits(), Limits(lines=20), Limits(lines=70, file_bytes=9000)])
             text = self.same(topology, events, **how)
             way = "refused" if not text else "parts" if how["by_parts"] or not cut_of(topology) else "one cut"
             seen[way] += 1
@@ -140,7 +140,7 @@ class BesideSolo(unittest.TestCase):
 
     def test_a_shard_whose_bytes_are_too_many_goes_part_by_part(self):
         events = b"".join(b'{"key":"h/%d","ts":%d}\n' % (n, n) for n in range(200))
-        self.same(by_head(COUNT), [events], limits=Limits(bytes=3000))
+        self.same(by_head(COUNT), [events], limits=Limits(file_bytes=3000))
 
     def test_shards_are_a_matter_of_memory_alone(self):
         rng = random.Random(7)

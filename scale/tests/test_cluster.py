@@ -47,10 +47,19 @@ class OnClusters(unittest.TestCase):
     def at(self, name: str) -> str:
         return os.path.join(self.folder, name)
 
-    def words(self, *options: str) -> list[str]:
+    def words(self, *options: str, program: str = PROGRAM) -> list[str]:
         """The words of the script, for small shards."""
         sizes = ["--shard", "300", "--block", "20000"]
-        return [SCRIPT, "--program", PROGRAM, *sizes, *options, self.at("topology"), self.at("events")]
+        return [SCRIPT, "--program", program, *sizes, *options, self.at("topology"), self.at("events")]
+
+    def counting_program(self, runs: str) -> str:
+        """A program that leaves a file in this folder for each run."""
+        name = self.at("counting")
+        with open(name, "w") as out:
+            out.write('#!/bin/sh\ntouch "%s/$$"\nsleep 0.1\nexec "%s" "$@"\n' % (runs, PROGRAM))
+        os.chmod(name, 0o755)
+        os.mkdir(runs)
+        return name
 
     def started(self, *words: str, log: str = "/dev/null") -> subprocess.Popen:
         """A process that ends with the test, in an empty folder of its own."""
@@ -101,13 +110,13 @@ class OnClusters(unittest.TestCase):
     def test_a_killed_worker_changes_nothing(self):
         where = self.cluster()
         first, _ = self.worker(*where), self.worker(*where)
-        folder = self.at("out")
-        job = subprocess.Popen(self.words(*where, "--parts", "--out", folder), stderr=subprocess.PIPE)
+        folder, runs = self.at("out"), self.at("runs")
+        words = self.words(*where, "--parts", "--out", folder, program=self.counting_program(runs))
+        job = subprocess.Popen(words, stderr=subprocess.PIPE)
         self.stack.callback(job.wait)
-        self.wait_for(lambda: os.path.exists(folder))
-        time.sleep(float(os.environ.get("KILL_AFTER", "4")))
-        self.assertIsNone(job.poll(), "the job was over before its worker was killed: take a smaller KILL_AFTER")
+        self.wait_for(lambda: len(os.listdir(runs)) >= 12)
         os.kill(first.pid, signal.SIGKILL)
+        self.assertIsNone(job.poll())
         said = job.communicate(timeout=300)[1]
         self.assertEqual(job.returncode, 0, said)
         text = b""

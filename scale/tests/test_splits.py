@@ -6,7 +6,7 @@ from on_dask import one_cut, one_part, result
 from on_dask.members import Chunk, lines_of, member_line, parts_of
 from on_dask.program import WATERMARK_BYTES, Limits
 
-SMALL = Limits(lines=5, bytes=1 << 20)
+SMALL = Limits(lines=5, file_bytes=1 << 20)
 
 
 def members(*pairs: tuple[str, int]) -> list[bytes]:
@@ -16,26 +16,27 @@ def members(*pairs: tuple[str, int]) -> list[bytes]:
 class OneCut(unittest.TestCase):
     def test_each_line_is_in_one_shard(self):
         timely, late = members(*((k, n) for n, k in enumerate("abcdefgh" * 4))), members(("a", 1), ("z", 2))
-        routed = one_cut.route(3, "key", 4, Chunk(b"".join(timely), b"".join(late)))
-        self.assertEqual(sorted(one.line for one in one_cut.placed_lines(routed)), sorted(timely + late))
-        self.assertEqual(sorted(one.line for one in one_cut.placed_lines(routed) if one.late), sorted(late))
-        self.assertEqual({one.injector for one in one_cut.placed_lines(routed)}, {3})
-        shards = {key: {shard for shard, _, *parts in routed for data in parts if b'"%s"' % key in data} for key in (b"a", b"h")}
-        self.assertEqual([len(some) for some in shards.values()], [1, 1])
+        routed = one_cut.route(1, "key", 4, Chunk(b"".join(timely), b"".join(late)))
+        files = one_cut.files_of(2, routed)
+        self.assertEqual([sorted(some) for some in files[1]], [sorted(timely), sorted(late)])
+        self.assertEqual(files[0], ([], []))
+        for key in (b'"a"', b'"h"'):
+            self.assertEqual(len({shard for shard, _, *parts in routed for data in parts if key in data}), 1)
 
     def test_a_shard_is_cut_until_its_runs_fit(self):
-        lines = [one_cut.Placed(0, False, line) for line in members(*((k + "/x", n) for n, k in enumerate("abcdefgh" * 2)))]
-        runs = one_cut.runs_of("head", SMALL, lines)
-        self.assertEqual(sorted(one.line for run in runs for one in run), sorted(one.line for one in lines))
-        self.assertLessEqual(max(map(len, runs)), 5)
-        for run in runs:
-            others = [one.line[-8:] for other in runs if other is not run for one in other]
-            self.assertFalse({one.line[-8:] for one in run} & set(others))
+        lines = members(*((k + "/%d" % n, n) for n, k in enumerate("abcdefgh" * 2)))
+        runs = one_cut.runs_of("head", SMALL, [(lines[:9], []), ([], lines[9:])])
+        self.assertEqual(sorted(line for run in runs for line in one_cut.all_lines(run)), sorted(lines))
+        self.assertEqual(sorted(line for run in runs for line in run[0][0]), sorted(lines[:9]))
+        heads = [{one_cut.cut_key("head", one_cut.key_of(line)) for line in one_cut.all_lines(run)} for run in runs]
+        self.assertEqual(sum(map(len, heads)), 8)
+        self.assertLessEqual(max(len(one_cut.all_lines(run)) for run in runs), 5)
 
     def test_one_value_that_is_too_much_is_told(self):
-        lines = [one_cut.Placed(0, False, line) for line in members(*(("h/%d" % n, n) for n in range(6)))]
-        self.assertIsNone(one_cut.runs_of("head", SMALL, lines))
-        self.assertTrue(one_cut.run_shard("no program", {}, "head", SMALL, (0, [(0, 0, b"".join(x.line for x in lines), b"")])).hot)
+        lines = members(*(("h/%d" % n, n) for n in range(6)))
+        self.assertIsNone(one_cut.runs_of("head", SMALL, [(lines, [])]))
+        group = (0, [(0, 0, b"".join(lines), b"")])
+        self.assertTrue(one_cut.run_shard("no program", {"injectors": [{}]}, "head", SMALL, group).hot)
 
 
 class OnePart(unittest.TestCase):
