@@ -2,6 +2,9 @@ pub mod Refusals
 pub mod Reasons
 pub mod Sources
 pub mod Loading
+pub mod LoadTopology
+pub mod LoadLines
+pub mod LoadTaken
 pub mod Statuses
 pub mod Replaying
 pub mod Running

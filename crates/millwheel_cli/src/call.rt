@@ -53,7 +53,13 @@ fn read_solo<S: Shelf>(alloc: Global, shelf: &mut S, inputs: &Inputs) -> Result<
     let events = inputs.events.as_slice();
     let count = count_of(events)?;
     let topology = read_topology(alloc, shelf, count, &inputs.topology)?;
-    let sources = read_sources(alloc, shelf, events)?;
+    let sources = match read_sources(alloc, shelf, events) {
+        Ok(sources) => sources,
+        Err(refusal) => {
+            drop(topology);
+            return Err(refusal);
+        }
+    };
     let case = Case::of(alloc, topology, sources)?;
     let steps = no_steps(alloc, &case)?;
     let wanted = wanted_of(inputs.history);
@@ -86,7 +92,14 @@ fn read_replay<S: Shelf>(
     let count = count_of(events)?;
     let topology = read_topology(alloc, shelf, count, &inputs.topology)?;
     let (topology, steps) = read_plan(alloc, shelf, topology, plan)?;
-    let sources = read_sources(alloc, shelf, events)?;
+    let sources = match read_sources(alloc, shelf, events) {
+        Ok(sources) => sources,
+        Err(refusal) => {
+            drop(topology);
+            drop(steps);
+            return Err(refusal);
+        }
+    };
     let case = Case::of(alloc, topology, sources)?;
     let wanted = wanted_of(inputs.history);
     Ok(Task {

@@ -1,8 +1,7 @@
 -- What a node leaves when word comes that what a row sent was handled.
-use Rattle.std.proofs.Common.{◌≡◌, ◌∙◌, ℕ, ◌||◌, true, false, List, [], ◌∷◌, length, refl, sym, ap, subst, inl, inr}
+use Rattle.std.proofs.Common.{◌≡◌, ◌∙◌, ℕ, true, false, List, [], length, refl, sym, ap, subst, inl, inr}
 use Rattle.std.proofs.lemmas.List.{append-nil}
-use Rattle.std.specs.List.{list_any}
-use Rattle.std.specs.Prelude.{IfErr, IfOk, IfSome, Option, Some, None, Result, Ok, Err, if◌then◌else◌}
+use Rattle.std.specs.Prelude.{IfErr, IfOk, IfSome, Option, Some, None, Result, Ok, Err}
 use Rattle.std.specs.Option.{is_some, option_and_then, option_map}
 use Rattle.std.proofs.lemmas.Bool.{cases_eq}
 use Rattle.list_lemmas.proofs.Told.{if-anyway}
@@ -12,7 +11,7 @@ use Rattle.mw_types.specs.declared.entry.Entry.TheVariants as entries
 use Rattle.mw_types.specs.declared.identity.RecordId.{RecordId}
 use Rattle.mw_types.specs.declared.identity.RowName.{RowName}
 use Rattle.topology.specs.Shapes.{Shape}
-use Rattle.row_parts.specs.Contents.{Contents, same_id}
+use Rattle.row_parts.specs.Contents.{Contents}
 use Rattle.run_history.specs.Cases.{CaseShape}
 use Rattle.run_history.specs.Fences.{interval_of}
 use Rattle.run_history.specs.Made.{found_delivery}
@@ -52,13 +51,6 @@ settled_as to id held = record { lease = held.lease; name = to; entry = entries.
 mapped-some : {X Y : Type 0} (y : Y) (o : Option X) → is_some o ≡ true → option_map (λ (x : X). y) o ≡ Some y
 mapped-some y None is = absurd cc
 mapped-some y (Some x) is = refl
-
--- an id is pending where one of the deliveries has it
-pub found-any : (id : RecordId) (ds : List Delivery)
-    → is_some (found_delivery id ds) ≡ list_any (λ (d : Delivery). same_id d.id id) ds
-found-any id [] = refl
-found-any id (d ∷ ds) = elim (same_id d.id id) as (λ b. is_some (if b then Some d else found_delivery id ds)
-    ≡ (b || list_any (λ (e : Delivery). same_id e.id id) ds)) [ true ↦ refl | false ↦ found-any id ds ]
 
 -- it is asked where the id is pending
 pub pending-asked : (shape : Shape) (to : RowName) (id : RecordId) (held : HeldView)

@@ -24,7 +24,7 @@ use crate::sends::made;
 use crate::writes::write_made;
 use book::{Desk, DeskRefusal, Proposal, Seen};
 use holdings::{Held, Holdings};
-use mw_types::{Key, NoMemory, Production, Record, RowName, State};
+use mw_types::{Key, NoMemory, Production, Record, RowName};
 use run_history::Case;
 use std::alloc::Global;
 use topology::Topology;
@@ -206,18 +206,8 @@ fn cursor_of(held: &Held, name: &RowName) -> u32
         result ≡ cursor_in (row_held shape held.now name.now).state }
 {
     match held.row(name) {
-        Some(row) => cursor_in(&row.state),
+        Some(row) => row.cursor(),
         None => 0,
-    }
-}
-
-// How many lines a state says were injected.
-fn cursor_in(state: &State) -> u32
-    ensures { result ≡ cursor_in state.now }
-{
-    match state {
-        State::Injector { cursor } => *cursor,
-        _ => 0,
     }
 }
 

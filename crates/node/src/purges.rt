@@ -1,5 +1,5 @@
 //! Purges: rows forget the ids of records that are finished.
-ghost use Rattle.std.specs.Prelude.{◌≡◌, ◌<◌, ◌≤◌, ◌↔◌, IfErr, IfOk, IsFalse, IsTrue, OnErr, Some, length, max};
+ghost use Rattle.std.specs.Prelude.{◌≡◌, ◌<◌, ◌≤◌, ◌↔◌, IfErr, IfOk, IsFalse, IsTrue, OnErr, Some};
 ghost use Rattle.topology.specs.Shapes.{Shape, parts_of};
 ghost use Rattle.book.specs.Desks.{HasLooked, KeepsMarks};
 ghost use Rattle.holdings.specs.Holding.{HeldView, held_at, held_on};
@@ -14,7 +14,6 @@ use crate::outcome::{NodeFault, Outcome};
 use book::{Desk, Seen};
 use holdings::Held;
 use mw_types::{Duplicate, NoMemory, RowName};
-use row_parts::Row;
 use run_history::Case;
 use std::alloc::Global;
 
@@ -185,15 +184,7 @@ fn has_to_forget(held: &Held, name: &RowName, least: u32, floor: u64) -> bool
         IsTrue result ↔ HasToForget shape held.now least floor name.now }
 {
     match held.row(name) {
-        Some(row) => has_ids(row, least, floor),
+        Some(row) => row.has_ids(least, floor),
         None => false,
     }
-}
-
-// Whether a row has so many ids, and one at least, and a floor below this one.
-fn has_ids(row: &Row, least: u32, floor: u64) -> bool
-    ensures { IsTrue result
-        ↔ (max 1 least ≤ length row.now.seen) × (row.now.floor < floor) }
-{
-    least.max(1) as usize <= row.seen.len() && row.floor < floor
 }

@@ -1,10 +1,8 @@
 //! Acknowledgements that come to a worker.
 ghost use Rattle.std.specs.Prelude.{◌≡◌, ◌<◌, IfErr, IfOk, IfSome, OnErr, true};
-ghost use Rattle.std.specs.List.{list_any};
 ghost use Rattle.std.specs.Option.{is_some};
 ghost use Rattle.run_history.specs.Finished.{is_handled};
 ghost use Rattle.run_history.specs.Made.{found_delivery};
-ghost use Rattle.row_parts.specs.Contents.{same_id};
 ghost use Rattle.topology.specs.Shapes.{Shape, parts_of};
 ghost use Rattle.book.specs.Desks.{HasLooked, KeepsMarks};
 ghost use Rattle.holdings.specs.Holding.{held_on, row_held};
@@ -19,7 +17,7 @@ use crate::node::Node;
 use crate::outcome::{NodeFault, Outcome};
 use book::{Desk, Seen};
 use holdings::Held;
-use mw_types::{Delivery, RecordId, RowName};
+use mw_types::{RecordId, RowName};
 use run_history::Case;
 use std::alloc::Global;
 
@@ -121,28 +119,7 @@ fn is_pending(held: &Held, to: &RowName, id: RecordId) -> bool
         result ≡ is_some (found_delivery id (row_held shape held.now to.now).pending) }
 {
     match held.row(to) {
-        Some(row) => has_id(row.pending.as_slice(), id),
+        Some(row) => row.is_pending(id),
         None => false,
     }
-}
-
-// Whether a delivery of this id is found among these.
-fn has_id(deliveries: &[Delivery], id: RecordId) -> bool
-    ensures { result ≡ is_some (found_delivery id deliveries.now) }
-{
-    is_among(deliveries, id)
-}
-
-// Whether one of these has this id.
-fn is_among(deliveries: &[Delivery], id: RecordId) -> bool
-    ensures { result ≡ list_any (λ d. same_id d.id id) deliveries.now }
-{
-    deliveries.iter().any(|d| is_same(d.id, id))
-}
-
-// Whether two ids are the same.
-fn is_same(a: RecordId, b: RecordId) -> bool
-    ensures { result ≡ same_id a b }
-{
-    a.commit == b.commit && a.index == b.index
 }

@@ -96,15 +96,22 @@ impl Database {
     /// Commits what waits for it, and takes the log into the file.
     pub(crate) fn close(self) -> Result<(), KeeperFault> {
         let mut database = self;
-        database.standing()?;
-        if database.waiting > 0 {
-            database.commit()?;
+        match database.commit_rest() {
+            Ok(()) => shut(database),
+            Err(fault) => {
+                drop(database);
+                Err(fault)
+            }
         }
-        let Database { connection, .. } = database;
-        match connection.close() {
-            Ok(()) => Ok(()),
-            Err(error) => Err(fault_of(error)),
+    }
+
+    // Commits what waits for it.
+    fn commit_rest(&mut self) -> Result<(), KeeperFault> {
+        self.standing()?;
+        if self.waiting > 0 {
+            self.commit()?;
         }
+        Ok(())
     }
 
     // Fails where puts that were answered are undone.
@@ -164,6 +171,25 @@ impl Database {
         };
         self.range
             .query_all(&mut self.connection, params![bounds.part, from, to])
+    }
+}
+
+// Takes the log of a database into the file, after all that waited is committed.
+fn shut(database: Database) -> Result<(), KeeperFault> {
+    let Database {
+        connection,
+        put,
+        range,
+        first,
+        waiting: _,
+        undone: _,
+    } = database;
+    drop(put);
+    drop(range);
+    drop(first);
+    match connection.close() {
+        Ok(()) => Ok(()),
+        Err(error) => Err(fault_of(error)),
     }
 }
 

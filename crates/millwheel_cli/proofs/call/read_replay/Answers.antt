@@ -12,8 +12,8 @@ returns-in_err-topology-2-clause-refused g c =
           c.in_err-topology-2.ensures.refused,
     )
 
-pub returns-in_err-sources-clause-refused : goal.returns-in_err-sources-clause-refused
-returns-in_err-sources-clause-refused g c =
+pub returns-in-Err-clause-refused : goal.returns-in-Err-clause-refused
+returns-in-Err-clause-refused g c =
     let before = c.in_ok-topology.ensures in
     let planned = c.in_ok-topology-2.ensures in
     let files = g.S.Shelf.files c.args.shelf.now in
@@ -28,5 +28,5 @@ returns-in_err-sources-clause-refused g c =
           (planned.files ∙ before.files) before.topology
           (plan_same files (g.S.Shelf.files c.read_topology.new.shelf) (Some c.args.plan.now) shape steps before.files planned.plan)
           (omega (arith, before.faults_later, planned.faults_later)) (omega (arith, before.lacks_later, planned.lacks_later))
-          c.in_err-sources.ensures.refused,
+          c.in-Err.ensures.refused,
     )
