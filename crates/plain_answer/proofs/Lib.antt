@@ -26,4 +26,5 @@ pub mod Results
 pub mod Places
 pub mod Orders
 pub mod Spiking
+pub mod Greatest
 pub mod SpikePlain

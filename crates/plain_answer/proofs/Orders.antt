@@ -9,7 +9,7 @@ use Rattle.std.proofs.lemmas.Bool.Decides.{nat_tests}
 use Rattle.std.proofs.lemmas.Int.{clamps, ints}
 use Rattle.std.proofs.lemmas.Map.Lookups.{exact_unsigned, exact_signed, exact_pairs}
 use Rattle.list_lemmas.proofs.Tests.{equal_from_test}
-use Rattle.plain_answer.specs.Plain.{with_place}
+use Rattle.plain_answer.specs.Places.{with_place}
 use Rattle.plain_answer.proofs.Totals.{total, when, total-append, HaveSameTotals}
 
 -- ---- any fold

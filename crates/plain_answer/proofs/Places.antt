@@ -15,7 +15,8 @@ use Rattle.mw_types.specs.declared.timer.Timer.{Timer}
 use Rattle.row_parts.specs.Contents.{with_timer, without_timer, is_timer, set_again}
 use Rattle.computations.specs.Handlers.{due_time, held_with, is_spike, known_with}
 use Rattle.computations.specs.Entering.{entered-recursion}
-use Rattle.plain_answer.specs.Plain.{with_place, sum_of_last, spike_at, spikes_in}
+use Rattle.plain_answer.specs.Plain.{sum_of_last, spike_at, spikes_in}
+use Rattle.plain_answer.specs.Places.{with_place}
 
 -- ---- as the state holds them
 

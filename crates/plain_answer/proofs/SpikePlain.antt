@@ -20,10 +20,12 @@ use Rattle.run_history.specs.Runs.{run_of}
 use Rattle.run_history.specs.Legal.{IsLegal, IsDone}
 use Rattle.history_laws.proofs.RowSteps.{row_of-each}
 use Rattle.list_lemmas.proofs.Lists.{each-append, each-map, each-all}
-use Rattle.plain_answer.specs.Plain.{Keyed, row_members, row_keys, place_of, places_in, sum_of_last, spike_at, spikes_in, plain_of, fires_of}
+use Rattle.plain_answer.specs.Plain.{Keyed, row_members, row_keys, places_in, sum_of_last, spike_at, spikes_in, plain_of, fires_of}
+use Rattle.plain_answer.specs.Places.{place_of}
 use Rattle.plain_answer.specs.Stories.{done_of, out_of, fires_on, fired_keys_by, fired_keys}
 use Rattle.plain_answer.proofs.Closing.{same-key, key-itself}
 use Rattle.plain_answer.proofs.Filters.{by_keys}
+use Rattle.plain_answer.proofs.Greatest.{places-fold}
 use Rattle.plain_answer.proofs.Members.{out_at}
 use Rattle.plain_answer.proofs.Once.{filter-flat_map, flat_map-filter, filter-once}
 use Rattle.plain_answer.proofs.Orders.{places-same}
@@ -168,6 +170,7 @@ module _ (case : CaseShape) (part last times : ℕ) (runs : IsRunnable case) (ki
           sym was.timers ∙ row_of-each shape (run_of shape h) (name key) (λ (c : Contents). c.timers ≡ []) done.fired refl in
       sym (append-nil was.rang) ∙ ap (λ l. was.rang ++ map held_place l) (sym (no-held was.held none))
       ∙ was.places ∙ places-same (pairs_of (name key) (done_of shape h)) (map place_of (row_members key ms)) (row-reads key)
+      ∙ sym (places-fold (row_members key ms))
     where
       no-held : (held : List HeldTotal) → map held_timer held ≡ [] → held ≡ []
       no-held [] none = refl

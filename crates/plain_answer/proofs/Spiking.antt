@@ -44,7 +44,8 @@ use Rattle.history_laws.proofs.StampLaws.{legal-in_time}
 use Rattle.history_laws.proofs.WorkLaws.{WaitsFrom, IsWorkFrom}
 use Rattle.list_lemmas.proofs.Lists.{none_some, some_same, each-append, each-weaker, find-each}
 use Rattle.plain_answer.specs.Grades.{grade}
-use Rattle.plain_answer.specs.Plain.{with_place, sum_of_last, spike_at, spikes_in}
+use Rattle.plain_answer.specs.Plain.{sum_of_last, spike_at, spikes_in}
+use Rattle.plain_answer.specs.Places.{with_place}
 use Rattle.plain_answer.specs.Stories.{handled_by, added_by, done_of, out_of, fired_keys_by, fired_keys}
 use Rattle.plain_answer.proofs.Closing.{same-key, key-itself}
 use Rattle.plain_answer.proofs.Counting.{tie, apart-false}

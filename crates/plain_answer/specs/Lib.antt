@@ -2,3 +2,4 @@ pub mod Plain
 pub mod Grades
 pub mod Deeds
 pub mod Stories
+pub mod Places

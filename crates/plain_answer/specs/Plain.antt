@@ -59,18 +59,23 @@ windows_in size key items = map (λ end. record {
     })
     (once_each nat_eq (map (λ (r : Record). plain_end size r.stamp) items))
 
--- places with one more: a timestamp that is there stays once, with the greater of the values
-abbrev pub with_place : List (ℕ × ℤ) → ℕ × ℤ → List (ℕ × ℤ)
-with_place places place =
-    put_in (λ (new old : ℕ × ℤ). nat_cmp new.0 old.0) (λ (new old : ℕ × ℤ). (old.0, int_max old.1 new.1)) place places
+-- numbers, once each, ascending
+abbrev pub ascending : List ℕ → List ℕ
+ascending numbers = fold (λ found n. put_in nat_cmp (λ new old. old) n found) [] numbers
 
--- the place of a record: its timestamp, with its value
-abbrev pub place_of : Record → ℕ × ℤ
-place_of r = (r.stamp, r.value)
+-- the greatest of the values, and of this one
+abbrev pub greatest_of : ℤ → List Record → ℤ
+greatest_of value items = fold (λ most (r : Record). int_max most r.value) value items
+
+-- the greatest value among some records
+abbrev pub greatest : List Record → ℤ
+greatest [] = pos 0
+greatest (r ∷ rs) = greatest_of r.value rs
 
 -- the places of a row: each timestamp of a record, ascending, with the greatest value at it
 abbrev pub places_in : List Record → List (ℕ × ℤ)
-places_in items = fold with_place [] (map place_of items)
+places_in items = map (λ stamp. (stamp, greatest (filter (λ (r : Record). r.stamp == stamp) items)))
+    (ascending (map (λ (r : Record). r.stamp) items))
 
 -- the sum of the last so many values
 abbrev pub sum_of_last : ℕ → List ℤ → ℤ
