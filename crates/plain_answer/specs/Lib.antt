@@ -3,3 +3,4 @@ pub mod Grades
 pub mod Deeds
 pub mod Stories
 pub mod Places
+pub mod Rows

@@ -10,5 +10,8 @@
 mod examples;
 mod law;
 
-pub use examples::{one_count_counts_plainly, totals_are_spikes_by_those_before};
+pub use examples::{
+    a_late_record_counts_as_late, a_window_far_above_is_a_spike, the_greatest_total_stands,
+    two_readings_are_two_members, two_windows_are_counted,
+};
 pub use law::results_are_the_plain_count;
