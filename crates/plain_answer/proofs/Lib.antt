@@ -28,3 +28,4 @@ pub mod Orders
 pub mod Spiking
 pub mod Greatest
 pub mod SpikePlain
+pub mod OneText

@@ -56,13 +56,13 @@ module _ {X : Type 0} (same : X → X → Bool) (tells : (x y : X) → same x y 
 
 -- ---- lines
 
-line_cmp-total : IsTotalOrder line_cmp
+pub line_cmp-total : IsTotalOrder line_cmp
 line_cmp-total = then_total (on_total (λ (l : ResultLine). l.stream) nat_list_cmp_total)
     (then_total (on_total (λ (l : ResultLine). l.stamp) nat_cmp_total)
     (then_total (on_total (λ (l : ResultLine). l.key) nat_list_cmp_total) (on_total (λ (l : ResultLine). l.value) int_cmp_total)))
 
 -- lines that tie are one
-same-line : (a b : ResultLine) → is_eq (line_cmp a b) ≡ true → a ≡ b
+pub same-line : (a b : ResultLine) → is_eq (line_cmp a b) ≡ true → a ≡ b
 same-line a b e =
     let one = both_Equal (key_cmp a.stream b.stream)
         (ordering_then (nat_cmp a.stamp b.stamp) (ordering_then (key_cmp a.key b.key) (int_cmp a.value b.value)))

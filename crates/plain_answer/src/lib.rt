@@ -14,4 +14,4 @@ pub use examples::{
     a_late_record_counts_as_late, a_window_far_above_is_a_spike, the_greatest_total_stands,
     two_readings_are_two_members, two_windows_are_counted,
 };
-pub use law::results_are_the_plain_count;
+pub use law::{a_case_has_one_plain_text, results_are_the_plain_count};
