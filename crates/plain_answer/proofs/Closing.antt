@@ -74,13 +74,13 @@ closed-took : (size : ℕ) (key : List ℕ) (end : ℕ) (deeds : List Deed) (sta
     → closed size key end (deeds ++ took stamp late ∷ []) ≡ closed size key end deeds
 closed-took size key end deeds stamp true timely =
     let t : taken_into size end (deeds ++ took stamp true ∷ []) ≡ taken_into size end deeds =
-        sum_by_push (takes_into size end) deeds (took stamp true) ∙ omega arith in
+    sum_by_push (takes_into size end) deeds (took stamp true) ∙ omega arith in
     let f : fired_at end (deeds ++ took stamp true ∷ []) ≡ fired_at end deeds =
-        sum_by_push (fires_at end) deeds (took stamp true) ∙ omega arith in
+    sum_by_push (fires_at end) deeds (took stamp true) ∙ omega arith in
     λ i. closed_at key end (f i) (t i)
 closed-took size key end deeds stamp false timely =
     let f : fired_at end (deeds ++ took stamp false ∷ []) ≡ fired_at end deeds =
-        sum_by_push (fires_at end) deeds (took stamp false) ∙ omega arith in
+    sum_by_push (fires_at end) deeds (took stamp false) ∙ omega arith in
     elim (window_end size stamp == end) as
     (λ b. (window_end size stamp == end) ≡ b → closed size key end (deeds ++ took stamp false ∷ []) ≡ closed size key end deeds) [
       | true ↦ λ e.
@@ -90,8 +90,8 @@ closed-took size key end deeds stamp false timely =
           ∙ sym (ap (λ n. closed_at key end n (taken_into size end deeds)) none)
       | false ↦ λ e.
           let t : taken_into size end (deeds ++ took stamp false ∷ []) ≡ taken_into size end deeds =
-              sum_by_push (takes_into size end) deeds (took stamp false)
-              ∙ ap (λ b. taken_into size end deeds + cond b 1 0) e ∙ omega arith in
+          sum_by_push (takes_into size end) deeds (took stamp false)
+          ∙ ap (λ b. taken_into size end deeds + cond b 1 0) e ∙ omega arith in
           λ i. closed_at key end (f i) (t i)
     ] refl
 
@@ -143,7 +143,7 @@ closed-fired size key end time deeds =
           | true ↦ λ e.
               let same : time ≡ end = grind (arith, nat_tests) in
               let g : fired_at end (deeds ++ fired time ∷ []) ≡ fired_at end deeds + 1 =
-                  f ∙ ap (λ b. fired_at end deeds + cond b 1 0) e in
+              f ∙ ap (λ b. fired_at end deeds + cond b 1 0) e in
               let some : (fired_at end (deeds ++ fired time ∷ []) == 0) ≡ false = grind (arith, nat_tests, g) in
               ap (λ n. closed size key end deeds ++ cond (fired_at n deeds == 0) (counted_at key n (taken_into size n deeds)) []) same
               ∙ both (fired_at end deeds) (taken_into size end deeds)
@@ -151,7 +151,7 @@ closed-fired size key end time deeds =
               ∙ ap (counted_at key end) t)
           | false ↦ λ e.
               let g : fired_at end (deeds ++ fired time ∷ []) ≡ fired_at end deeds =
-                  f ∙ ap (λ b. fired_at end deeds + cond b 1 0) e ∙ omega arith in
+              f ∙ ap (λ b. fired_at end deeds + cond b 1 0) e ∙ omega arith in
               append-nil (closed size key end deeds) ∙ sym (λ i. closed_at key end (g i) (t i))
         ] refl
 
@@ -261,12 +261,12 @@ module _ (case : CaseShape) (name : RowName) (size end : ℕ) (runs : IsRunnable
       let set = each-at (IsSet (windows_after size deeds)) (row_of shape run name).timers 0 timer (legal-set case name size kind h legal) may.least_timer in
       let same : (name.part == name.part) ≡ true = eq-eqb name.part name.part refl in
       let produces = fire-produces case name size runs kind h [] seq timer mark effects
-          (legal-push case h entry empty_run legal may) short set.0 in
+      (legal-push case h entry empty_run legal may) short set.0 in
       let adds : out_at name.part (added_by run entry) ≡ map (produced false) (closing name.key (open_window size timer.time deeds)) =
-          added-here name.part run entry name refl same ∙ (λ i. map (produced (set.1 i)) (produces i)) in
+      added-here name.part run entry name refl same ∙ (λ i. map (produced (set.1 i)) (produces i)) in
       let does : deeds_in name run entry ≡ fired timer.time ∷ [] =
-          ap (λ b. cond b (cond (timer.tag == 0) (fired timer.time ∷ []) []) []) (tie name)
-          ∙ ap (λ n. cond (n == 0) (fired timer.time ∷ []) []) set.0 in
+      ap (λ b. cond b (cond (timer.tag == 0) (fired timer.time ∷ []) []) []) (tie name)
+      ∙ ap (λ n. cond (n == 0) (fired timer.time ∷ []) []) set.0 in
       ap (λ l. closed size name.key end deeds ++ here l) adds
       ∙ closed-fired size name.key end timer.time deeds
       ∙ ap (λ l. closed size name.key end (deeds ++ l)) (sym does)
@@ -300,7 +300,7 @@ module _ (case : CaseShape) (name : RowName) (size end : ℕ) (runs : IsRunnable
           (λ b. (row.part == name.part) ≡ b → here (out_at name.part (added_by (run_of shape h) (Handle seq row id effects))) ≡ []) [
             | true ↦ λ e.
                 let left = record-left case (run_of shape h) row id effects (kinds.Count size) may
-                    (kind-at shape name.part row.part (kinds.Count size) kind e) in
+                (kind-at shape name.part row.part (kinds.Count size) kind e) in
                 ap here (added-here name.part (run_of shape h) (Handle seq row id effects) row refl e
                 ∙ ap (map (produced (late_cause (run_of shape h).made (Handle seq row id effects))))
                 (sym (ap (λ (o : EffectsView). o.productions) left)
@@ -326,7 +326,7 @@ module _ (case : CaseShape) (name : RowName) (size end : ℕ) (runs : IsRunnable
           (λ b. (row.part == name.part) ≡ b → here (out_at name.part (added_by (run_of shape h) (Fire seq row timer mark effects))) ≡ []) [
             | true ↦ λ e.
                 let left = timer-left case (run_of shape h) row timer mark effects (kinds.Count size) may
-                    (kind-at shape name.part row.part (kinds.Count size) kind e) in
+                (kind-at shape name.part row.part (kinds.Count size) kind e) in
                 ap here (added-here name.part (run_of shape h) (Fire seq row timer mark effects) row refl e)
                 ∙ other-key (name.key, end) row.key timer.late effects.productions (key-differs row e apart)
                 (subst (λ (o : EffectsView). AllByRecursion (λ (p : Production). p.key ≡ row.key) o.productions) left

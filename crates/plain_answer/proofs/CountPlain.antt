@@ -56,7 +56,7 @@ module _ (case : CaseShape) (part size : ℕ) (runs : IsRunnable case) (kind : k
       → open_window size end (deeds_of shape name h) ≡ None
   none-open name of end =
       let timers : (row_of shape (run_of shape h) name).timers ≡ [] =
-          row_of-each shape (run_of shape h) name (λ (c : Contents). c.timers ≡ []) done.fired refl in
+      row_of-each shape (run_of shape h) name (λ (c : Contents). c.timers ≡ []) done.fired refl in
       sym (window-open case name size runs of h legal short end)
       ∙ ap (find (λ (w : Window). w.end == end)) (no-window case name size of h legal timers)
 

@@ -130,14 +130,14 @@ module _ (case : CaseShape) (name : RowName) (size : ℕ) (kind : kind_of case.t
       let ws : List Window = windows_after size s.deeds in
       let item : Record = may.delivery.item in
       let does : effects_of_record (kinds.Count size) name.key (row_of shape s.run name).state item ≡ effects =
-          some_same _ effects (sym (ap (option_map (λ k. effects_of_record k name.key (row_of shape s.run name).state item)) kind) ∙ may.does) in
+      some_same _ effects (sym (ap (option_map (λ k. effects_of_record k name.key (row_of shape s.run name).state item)) kind) ∙ may.does) in
       let left : count_record size has.late ws item ≡ effects =
-          sym (ap (λ st. effects_of_record (kinds.Count size) name.key st item) has.is) ∙ does in
+      sym (ap (λ st. effects_of_record (kinds.Count size) name.key st item) has.is) ∙ does in
       let state = record-state size has.late ws item in
       let here : (row_of shape (followed shape s.run entry) name).state ≡ effects.state =
-          ap (λ c. c.state) (row_of-here shape s.run entry name refl) in
+      ap (λ c. c.state) (row_of-here shape s.run entry name refl) in
       let takes : deeds_in name s.run entry ≡ took item.stamp item.late ∷ [] =
-          ap (λ b. cond b (taken (found_delivery id s.run.unhandled)) []) (tie name) ∙ ap taken may.waits in
+      ap (λ b. cond b (taken (found_delivery id s.run.unhandled)) []) (tie name) ∙ ap taken may.waits in
       more s entry state.0 (took item.stamp item.late ∷ []) takes (here ∙ ap (λ (o : EffectsView). o.state) (sym left) ∙ state.1)
 
   -- a timer fires
@@ -147,11 +147,11 @@ module _ (case : CaseShape) (name : RowName) (size : ℕ) (kind : kind_of case.t
       let entry : Entry = Fire seq name timer mark effects in
       let ws : List Window = windows_after size s.deeds in
       let does : effects_of_timer (kinds.Count size) name.key (row_of shape s.run name).state timer ≡ effects =
-          some_same _ effects (sym (ap (option_map (λ k. effects_of_timer k name.key (row_of shape s.run name).state timer)) kind) ∙ may.does) in
+      some_same _ effects (sym (ap (option_map (λ k. effects_of_timer k name.key (row_of shape s.run name).state timer)) kind) ∙ may.does) in
       let left : count_timer name.key has.late ws (window_due ws timer) ≡ effects =
-          sym (ap (λ st. effects_of_timer (kinds.Count size) name.key st timer) has.is) ∙ does in
+      sym (ap (λ st. effects_of_timer (kinds.Count size) name.key st timer) has.is) ∙ does in
       let here : (row_of shape (followed shape s.run entry) name).state ≡ effects.state =
-          ap (λ c. c.state) (row_of-here shape s.run entry name refl) in
+      ap (λ c. c.state) (row_of-here shape s.run entry name refl) in
       let ds : List Deed = cond (timer.tag == 0) (fired timer.time ∷ []) [] in
       let does_fire : deeds_in name s.run entry ≡ ds = ap (λ b. cond b ds []) (tie name) in
       more s entry has.late ds does_fire (here ∙ ap (λ (o : EffectsView). o.state) (sym left) ∙ timer-state size name.key has.late ws timer)
@@ -195,7 +195,7 @@ module _ (case : CaseShape) (name : RowName) (size : ℕ) (kind : kind_of case.t
       → Holds (done ++ entry ∷ []) (followed shape run entry)
   next-holds done run entry holds may =
       let next : told_of shape name (done ++ entry ∷ []) ≡ told shape name (told_of shape name done) entry =
-          fold-append (told shape name) (record { run = empty_run; deeds = [] }) done (entry ∷ []) in
+      fold-append (told shape name) (record { run = empty_run; deeds = [] }) done (entry ∷ []) in
       let follows : MayFollow case (told_of shape name done).run entry = subst (λ (r : Run). MayFollow case r entry) holds.same may in
       record {
         same = ap (λ (r : Run). followed shape r entry) holds.same ∙ ap (λ (s : Told). s.run) (sym next);

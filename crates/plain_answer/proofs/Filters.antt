@@ -55,9 +55,9 @@ module _ {X K : Type 0} (at : K → X → Bool) (key : X → K) (own : (x : X) �
       let dropped : filter q all ≡ filter q xs = ap (λ b. cond (not b) (x ∷ filter q xs) (filter q xs)) (own x) in
       let fewer : length (filter q all) ≤ n = omega (arith, few, filter-le q xs, ap length dropped) in
       let rest = by_keys n (filter q all) (filter q ys) fewer
-          (λ k. filter-comm (at k) q all ∙ ap (filter q) (same k) ∙ filter-comm q (at k) ys) in
+      (λ k. filter-comm (at k) q all ∙ ap (filter q) (same k) ∙ filter-comm q (at k) ys) in
       let both = IsPermutation-append (filter p all) (filter p ys) (filter q all) (filter q ys)
-          (subst (λ l. IsPermutation (filter p all) l) (same (key x)) (IsPermutation-refl (filter p all))) rest in
+      (subst (λ l. IsPermutation (filter p all) l) (same (key x)) (IsPermutation-refl (filter p all))) rest in
       IsPermutation-trans all (filter p all ++ filter q all) ys
       (IsPermutation-filter_both p q (λ y. refl) all)
       (IsPermutation-trans (filter p all ++ filter q all) (filter p ys ++ filter q ys) ys both

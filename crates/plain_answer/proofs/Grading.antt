@@ -163,7 +163,7 @@ module _ (case : CaseShape) (runs : IsRunnable case) where
       let stamp : may.delivery.item.stamp ≤ grade may.delivery.to.part = find-each IsGraded (λ (d : Delivery). same_id d.id id) run.unhandled may.delivery graded.waiting may.waits in
       let here : may.delivery.item.stamp ≤ grade row.part = subst (λ (r : RowName). may.delivery.item.stamp ≤ grade r.part) may.to_row stamp in
       let near : IsNear may.delivery.item.stamp effects = subst (IsNear may.delivery.item.stamp) kind.2
-          (record-near kind.0 row.key (row_of shape run row).state may.delivery.item (kind-ranged shape row.part kind.0 runs.topology kind.1)) in
+      (record-near kind.0 row.key (row_of shape run row).state may.delivery.item (kind-ranged shape row.part kind.0 runs.topology kind.1)) in
       sent-graded shape row.part effects.productions _ run.next runs.topology (kind-there shape row.part kind.0 kind.1)
       (each-weaker (λ (p : Production). p.stamp ≤ may.delivery.item.stamp + 2 ^ 40) (λ (p : Production). p.stamp ≤ grade row.part + 2 ^ 40)
       (λ p low. omega (arith, low, here)) effects.productions near.productions)
@@ -188,9 +188,9 @@ module _ (case : CaseShape) (runs : IsRunnable case) where
       let kind = was_some (λ (kind : Kind). effects_of_record kind row.key (row_of shape run row).state may.delivery.item) (kind_of shape row.part) effects may.does in
       let stamp : may.delivery.item.stamp ≤ grade may.delivery.to.part = find-each IsGraded (λ (d : Delivery). same_id d.id id) run.unhandled may.delivery graded.waiting may.waits in
       let there : may.delivery.item.stamp ≤ grade name.part =
-          subst (λ (r : RowName). may.delivery.item.stamp ≤ grade r.part) same (subst (λ (r : RowName). may.delivery.item.stamp ≤ grade r.part) may.to_row stamp) in
+      subst (λ (r : RowName). may.delivery.item.stamp ≤ grade r.part) same (subst (λ (r : RowName). may.delivery.item.stamp ≤ grade r.part) may.to_row stamp) in
       let near : IsNear may.delivery.item.stamp effects = subst (IsNear may.delivery.item.stamp) kind.2
-          (record-near kind.0 row.key (row_of shape run row).state may.delivery.item (kind-ranged shape row.part kind.0 runs.topology kind.1)) in
+      (record-near kind.0 row.key (row_of shape run row).state may.delivery.item (kind-ranged shape row.part kind.0 runs.topology kind.1)) in
       with_timers-each (IsDueBy name.part) (λ t u tied p q. q) effects.timers (row_of shape run name).timers
       (each-weaker (λ (t : Timer). t.time ≤ may.delivery.item.stamp + 2 ^ 40) (IsDueBy name.part) (λ t low. omega (arith, low, there)) effects.timers near.timers)
       (graded.timers name)

@@ -141,8 +141,11 @@ places-with items r (n ∷ ns) up absent present =
           let here : (n == r.stamp) ≡ true = grind (arith, nat_tests) in
           let has = present (ap (λ b. b || list_any (λ m. m == r.stamp) ns) here) in
           let later : AllByRecursion (λ m. r.stamp < m) ns = subst (λ k. AllByRecursion (λ m. k < m) ns) (sym same) up.0 in
-          (λ i. (n, (subst (λ k. greatest (at_stamp k (items ++ r ∷ [])) ≡ int_max (greatest (at_stamp k items)) r.value) same
-          (greatest-push items r has.0 has.1 has.2)) i) ∷ later-stay items r ns later i)
+          (λ i. (
+            n,
+            (subst (λ k. greatest (at_stamp k (items ++ r ∷ [])) ≡ int_max (greatest (at_stamp k items)) r.value) same
+                (greatest-push items r has.0 has.1 has.2)) i,
+          ) ∷ later-stay items r ns later i)
       | Greater ↦ λ e.
           let other : (r.stamp == n) ≡ false = grind (arith, nat_tests) in
           let back : (n == r.stamp) ≡ false = grind (arith, nat_tests) in

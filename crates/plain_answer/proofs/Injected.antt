@@ -110,11 +110,11 @@ module _ (case : CaseShape) (part : ℕ) (is : is_injector case.topology part �
       ] refl
   step h (Handle seq row id effects) legal may was =
       let kind = was_some (λ (kind : Kind). effects_of_record kind row.key (row_of shape (run_of shape h) row).state may.delivery.item)
-          (kind_of shape row.part) effects may.does in
+      (kind_of shape row.part) effects may.does in
       elsewhere h (Handle seq row id effects) row was refl (injector-apart shape part row.part kind.0 is kind.1)
   step h (Fire seq row timer mark effects) legal may was =
       let kind = was_some (λ (kind : Kind). effects_of_timer kind row.key (row_of shape (run_of shape h) row).state timer)
-          (kind_of shape row.part) effects may.does in
+      (kind_of shape row.part) effects may.does in
       elsewhere h (Fire seq row timer mark effects) row was refl (injector-apart shape part row.part kind.0 is kind.1)
   step h (Ack seq row id) legal may was =
       stays h (Ack seq row id) was (added-nothing (Ack seq row id) refl)

@@ -65,8 +65,8 @@ line_cmp-total = then_total (on_total (λ (l : ResultLine). l.stream) nat_list_c
 pub same-line : (a b : ResultLine) → is_eq (line_cmp a b) ≡ true → a ≡ b
 same-line a b e =
     let one = both_Equal (key_cmp a.stream b.stream)
-        (ordering_then (nat_cmp a.stamp b.stamp) (ordering_then (key_cmp a.key b.key) (int_cmp a.value b.value)))
-        (equal_from_test (line_cmp a b) e) in
+    (ordering_then (nat_cmp a.stamp b.stamp) (ordering_then (key_cmp a.key b.key) (int_cmp a.value b.value)))
+    (equal_from_test (line_cmp a b) e) in
     let two = both_Equal (nat_cmp a.stamp b.stamp) (ordering_then (key_cmp a.key b.key) (int_cmp a.value b.value)) one.1 in
     let three = both_Equal (key_cmp a.key b.key) (int_cmp a.value b.value) two.1 in
     λ i. record {
@@ -87,9 +87,13 @@ streams-lines : (shape : Shape) (g : ResultLine → ℕ) (n : ℕ) (streams : Li
     ≡ stream_total (λ o. when (is_unread shape o.0) (g (plain_line (stream_of shape o.0) o.1))) n streams
 streams-lines shape g n [] = refl
 streams-lines shape g n (x ∷ xs) =
-    omega (arith, total-append g (lines_unread (consumers_of shape n) (stream_of shape n) x)
-    (flat_map (λ (s : ℕ × List Record). lines_unread (consumers_of shape s.0) (stream_of shape s.0) s.1) (enumerate_from (n + 1) xs)),
-    unread-total (consumers_of shape n) g (stream_of shape n) x, streams-lines shape g (n + 1) xs)
+    omega (
+      arith,
+      total-append g (lines_unread (consumers_of shape n) (stream_of shape n) x)
+          (flat_map (λ (s : ℕ × List Record). lines_unread (consumers_of shape s.0) (stream_of shape s.0) s.1) (enumerate_from (n + 1) xs)),
+      unread-total (consumers_of shape n) g (stream_of shape n) x,
+      streams-lines shape g (n + 1) xs,
+    )
 
 -- at the end the lines of what was emitted are the plain lines
 pub lines-plain : (case : CaseShape) (h : List Entry) → IsRunnable case → IsLegal case h → IsDone case (run_of case.topology h) → IsPlain case h

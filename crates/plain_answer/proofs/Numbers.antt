@@ -83,8 +83,14 @@ each-placed shape P holds front (c ∷ cs) all =
 handles-length : (case : CaseShape) (h : List Entry) → IsLegal case h → total (λ e. when (is_handle e) 1) h ≡ length (done_of case.topology h)
 handles-length case = along_legal case (λ h. total (λ e. when (is_handle e) 1) h ≡ length (done_of case.topology h))
     (λ h entry legal may was.
-    omega (arith, was, total-push (λ e. when (is_handle e) 1) h entry, one (run_of case.topology h) entry may,
-    ap length (done-push case.topology h entry), length-append (done_of case.topology h) (handled_by (run_of case.topology h) entry)))
+    omega (
+      arith,
+      was,
+      total-push (λ e. when (is_handle e) 1) h entry,
+      one (run_of case.topology h) entry may,
+      ap length (done-push case.topology h entry),
+      length-append (done_of case.topology h) (handled_by (run_of case.topology h) entry),
+    ))
     refl
   where
     one : (run : Run) (entry : Entry) → MayFollow case run entry → when (is_handle entry) 1 ≡ length (handled_by run entry)
@@ -109,7 +115,7 @@ done-placed case = along_legal case (λ h. AllByRecursion (IsPlaced case.topolog
     new : (run : Run) (entry : Entry) → MayFollow case run entry → AllByRecursion (IsPlaced case.topology) (handled_by run entry)
     new run (Handle seq row id effects) may =
         let kind = was_some (λ (kind : Kind). effects_of_record kind row.key (row_of case.topology run row).state may.delivery.item)
-            (kind_of case.topology row.part) effects may.does in
+        (kind_of case.topology row.part) effects may.does in
         subst (λ o. AllByRecursion (IsPlaced case.topology) (option_to_list o)) (sym may.waits)
         (kind-placed case.topology may.delivery.to.part kind.0 (ap (λ (r : RowName). kind_of case.topology r.part) may.to_row ∙ kind.1), tt)
     new run (Claim worker interval) may = tt
@@ -132,9 +138,13 @@ fires-placed case = along_legal case
     (λ h. total (λ e. when (is_fire e) 1) h
     ≡ total (λ e. total (λ (c : ℕ × ComputationShape). fires_on c.0 e) (enumerate_from (injectors_of case.topology) case.topology.computations)) h)
     (λ h entry legal may was.
-    omega (arith, was, total-push (λ e. when (is_fire e) 1) h entry,
-    total-push (λ e. total (λ (c : ℕ × ComputationShape). fires_on c.0 e) (enumerate_from (injectors_of case.topology) case.topology.computations)) h entry,
-    one (run_of case.topology h) entry may))
+    omega (
+      arith,
+      was,
+      total-push (λ e. when (is_fire e) 1) h entry,
+      total-push (λ e. total (λ (c : ℕ × ComputationShape). fires_on c.0 e) (enumerate_from (injectors_of case.topology) case.topology.computations)) h entry,
+      one (run_of case.topology h) entry may,
+    ))
     refl
   where
     none : (cs : List (ℕ × ComputationShape)) → ◌≡◌ {A = ℕ} 0 (total (λ (c : ℕ × ComputationShape). 0) cs)
@@ -145,7 +155,7 @@ fires-placed case = along_legal case
         → when (is_fire entry) 1 ≡ total (λ (c : ℕ × ComputationShape). fires_on c.0 entry) (enumerate_from (injectors_of case.topology) case.topology.computations)
     one run (Fire seq row timer mark effects) may =
         let kind = was_some (λ (kind : Kind). effects_of_timer kind row.key (row_of case.topology run row).state timer)
-            (kind_of case.topology row.part) effects may.does in
+        (kind_of case.topology row.part) effects may.does in
         sym (kind-placed case.topology row.part kind.0 kind.1)
     one run (Claim worker interval) may = none (enumerate_from (injectors_of case.topology) case.topology.computations)
     one run (Inject seq part line item) may = none (enumerate_from (injectors_of case.topology) case.topology.computations)
@@ -166,8 +176,14 @@ injected-total case f = along_legal case
     (λ h. total (of_injected f) h ≡ total (λ (o : Member). when (nat_lt o.0 (injectors_of case.topology)) (f o.1)) (out_of case.topology h))
     (λ h entry legal may was.
     let of : Member → ℕ = λ o. when (nat_lt o.0 (injectors_of case.topology)) (f o.1) in
-    omega (arith, was, total-push (of_injected f) h entry, one (run_of case.topology h) entry may,
-    ap (total of) (out-push case.topology h entry), total-append of (out_of case.topology h) (added_by (run_of case.topology h) entry)))
+    omega (
+      arith,
+      was,
+      total-push (of_injected f) h entry,
+      one (run_of case.topology h) entry may,
+      ap (total of) (out-push case.topology h entry),
+      total-append of (out_of case.topology h) (added_by (run_of case.topology h) entry),
+    ))
     refl
   where
     -- a computation's productions are not injected
@@ -191,11 +207,11 @@ injected-total case f = along_legal case
         none ∙ sym (ap (λ b. when b (f item) + 0) is)
     one run (Handle seq row id effects) may =
         let kind = was_some (λ (kind : Kind). effects_of_record kind row.key (row_of case.topology run row).state may.delivery.item)
-            (kind_of case.topology row.part) effects may.does in
+        (kind_of case.topology row.part) effects may.does in
         produces row.part (late_cause run.made (Handle seq row id effects)) effects.productions (no-injector row.part kind.0 kind.1)
     one run (Fire seq row timer mark effects) may =
         let kind = was_some (λ (kind : Kind). effects_of_timer kind row.key (row_of case.topology run row).state timer)
-            (kind_of case.topology row.part) effects may.does in
+        (kind_of case.topology row.part) effects may.does in
         produces row.part timer.late effects.productions (no-injector row.part kind.0 kind.1)
     one run (Claim worker interval) may = refl
     one run (Ack seq row id) may = refl

@@ -87,19 +87,19 @@ module _ (case : CaseShape) (name : RowName) (size : ℕ) (runs : IsRunnable cas
       elim (is_at (row_cmp name) row) as
       (λ b. is_at (row_cmp name) row ≡ b → Does size deeds (cond b (taken (found_delivery id run.unhandled)) [])) [
         | true ↦ λ e. inr (
-            took may.delivery.item.stamp may.delivery.item.late,
-            ap taken may.waits,
-            timely deeds run id may.delivery passed below may.waits (may.to_row ∙ sym (same_row name row e)) may.delivery.item.late refl,
-          )
+          took may.delivery.item.stamp may.delivery.item.late,
+          ap taken may.waits,
+          timely deeds run id may.delivery passed below may.waits (may.to_row ∙ sym (same_row name row e)) may.delivery.item.late refl,
+        )
         | false ↦ λ e. inl refl
       ] refl
   does deeds run (Fire seq row timer mark effects) passed below may =
       elim (is_at (row_cmp name) row) as
       (λ b. Does size deeds (cond b (cond (timer.tag == 0) (fired timer.time ∷ []) []) [])) [
         | true ↦ elim (timer.tag == 0) as (λ b. Does size deeds (cond b (fired timer.time ∷ []) [])) [
-            | true ↦ inr (fired timer.time, refl, tt)
-            | false ↦ inl refl
-          ]
+          | true ↦ inr (fired timer.time, refl, tt)
+          | false ↦ inl refl
+        ]
         | false ↦ inl refl
       ]
   does deeds run (Ack seq row id) passed below may = inl refl

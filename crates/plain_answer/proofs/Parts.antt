@@ -66,15 +66,19 @@ streams-sent : (shape : Shape) (g : RowName × Record → ℕ) (n : ℕ) (stream
     ≡ stream_total (λ o. total g (sends shape o)) n streams
 streams-sent shape g n [] = refl
 streams-sent shape g n (x ∷ xs) =
-    omega (arith, total-append g (flat_map (sends_of (consumers_of shape n)) x)
-    (flat_map (λ (s : ℕ × List Record). flat_map (sends_of (consumers_of shape s.0)) s.1) (enumerate_from (n + 1) xs)),
-    total-flat_map g (sends_of (consumers_of shape n)) x, streams-sent shape g (n + 1) xs)
+    omega (
+      arith,
+      total-append g (flat_map (sends_of (consumers_of shape n)) x)
+          (flat_map (λ (s : ℕ × List Record). flat_map (sends_of (consumers_of shape s.0)) s.1) (enumerate_from (n + 1) xs)),
+      total-flat_map g (sends_of (consumers_of shape n)) x,
+      streams-sent shape g (n + 1) xs,
+    )
 
 pub members-total : (shape : Shape) (g : Keyed → ℕ) (streams : List (List Record)) (part : ℕ)
     → total g (members_read shape streams part) ≡ stream_total (of_member shape part g) 0 streams
 members-total shape g streams part =
     let all : List (RowName × Record) =
-        flat_map (λ (s : ℕ × List Record). flat_map (sends_of (consumers_of shape s.0)) s.1) (enumerate_from 0 streams) in
+    flat_map (λ (s : ℕ × List Record). flat_map (sends_of (consumers_of shape s.0)) s.1) (enumerate_from 0 streams) in
     total-map g (λ (r : RowName × Record). (r.0.key, r.1)) (filter (λ (r : RowName × Record). r.0.part == part) all)
     ∙ total-filter (λ (r : RowName × Record). g (r.0.key, r.1)) (λ (r : RowName × Record). r.0.part == part) all
     ∙ streams-sent shape (to_part part g) 0 streams
@@ -99,11 +103,11 @@ entry-there case run (Inject seq part line item) may =
     let less = ltb-true part (injectors_of case.topology) may.injector in (omega (arith, less), tt)
 entry-there case run (Handle seq row id effects) may =
     let kind = was_some (λ (kind : Kind). effects_of_record kind row.key (row_of case.topology run row).state may.delivery.item)
-        (kind_of case.topology row.part) effects may.does in
+    (kind_of case.topology row.part) effects may.does in
     added-there case.topology run (Handle seq row id effects) row refl (kind-there case.topology row.part kind.0 kind.1)
 entry-there case run (Fire seq row timer mark effects) may =
     let kind = was_some (λ (kind : Kind). effects_of_timer kind row.key (row_of case.topology run row).state timer)
-        (kind_of case.topology row.part) effects may.does in
+    (kind_of case.topology row.part) effects may.does in
     added-there case.topology run (Fire seq row timer mark effects) row refl (kind-there case.topology row.part kind.0 kind.1)
 entry-there case run (Ack seq row id) may = tt
 entry-there case run (Purge seq row floor) may = tt
@@ -132,7 +136,7 @@ later-unread case part g o runs there behind =
     (each-weaker (λ (s : Subscription). Contains (feeds_of case.topology s.to) o.0) (λ (s : Subscription). (s.to == part) ≡ false)
     (λ (s : Subscription) has.
     let above : o.0 < s.to = All-contains (λ f. f < s.to) (feeds_of case.topology s.to) o.0
-        (All-from_recursion (λ f. f < s.to) (feeds_of case.topology s.to) (feeds-before case.topology s.to runs.topology)) has in
+    (All-from_recursion (λ f. f < s.to) (feeds_of case.topology s.to) (feeds-before case.topology s.to runs.topology)) has in
     let far : part < s.to = omega (arith, behind, above) in
     apart s.to part far)
     (consumers_of case.topology o.0) (consumers-fed case.topology o.0 there))
@@ -279,10 +283,10 @@ module _ (case : CaseShape) (h : List Entry) (runs : IsRunnable case) (legal : I
       let x : List Record = plain_of c.kind (members_read shape streams n) in
       let at : n ≡ length streams = sym knows.long in
       let next = knows-push streams n x knows
-          (plain n c.kind (kind_of-place shape front c cs all) (members_read shape streams n) (reads-known streams n knows)) in
+      (plain n c.kind (kind_of-place shape front c cs all) (members_read shape streams n) (reads-known streams n knows)) in
       let longer : n + 1 ≡ injectors_of shape + length (front ++ c ∷ []) = omega (arith, length-append front (c ∷ [])) in
       let same : injectors_of shape + length (front ++ c ∷ []) + length cs ≡ injectors_of shape + length front + length (c ∷ cs) =
-          omega (arith, length-append front (c ∷ [])) in
+      omega (arith, length-append front (c ∷ [])) in
       subst (Knows (streams_with shape streams (c ∷ cs))) same
       (subst (λ k. Knows (streams_with shape (streams ++ plain_of c.kind (members_read shape streams k) ∷ []) cs)
       (injectors_of shape + length (front ++ c ∷ []) + length cs)) at

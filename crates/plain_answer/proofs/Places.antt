@@ -197,7 +197,7 @@ lastly-push last values value = by_size (nat_le (length values) last) refl
         let k : ℕ = length values - last in
         let within : length values - last ≤ length values = omega arith in
         let left : length (lastly last values ++ value ∷ []) - last ≡ 1 =
-            omega (arith, length-append (lastly last values) (value ∷ []), length-drop (length values - last) values, many) in
+        omega (arith, length-append (lastly last values) (value ∷ []), length-drop (length values - last) values, many) in
         let more : suc (length values - last) ≡ length (values ++ value ∷ []) - last = omega (arith, length-append values (value ∷ []), many) in
         ap (λ n. drop n (lastly last values ++ value ∷ [])) left
         ∙ ap (drop 1) (sym (drop-less (length values - last) values (value ∷ []) within))

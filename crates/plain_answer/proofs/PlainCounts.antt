@@ -49,7 +49,7 @@ some-in size end (r ∷ rs) =
       | false ↦ λ e.
           let other : (plain_end size r.stamp == end) ≡ false = turned end (plain_end size r.stamp) false e in
           let none : 0 + total (λ (r : Record). when (plain_end size r.stamp == end) 1) rs
-              ≡ total (λ (r : Record). when (plain_end size r.stamp == end) 1) rs = omega arith in
+          ≡ total (λ (r : Record). when (plain_end size r.stamp == end) 1) rs = omega arith in
           some-in size end rs
           ∙ sym (ap (λ b. not (when b 1 + total (λ (r : Record). when (plain_end size r.stamp == end) 1) rs == 0)) other
           ∙ ap (λ n. not (n == 0)) none)
@@ -101,9 +101,9 @@ none-into size key end (m ∷ ms) none =
     (λ b. list_any (pointwise nat_eq key) (map (λ (m : Keyed). m.0) (cond (not b) (m ∷ filter (λ (m : Keyed). not m.1.late) ms) (filter (λ (m : Keyed). not m.1.late) ms))) ≡ false
     → when (pointwise nat_eq key m.0 && not b) (when (plain_end size m.1.stamp == end) 1) + total (into size key end) ms ≡ 0) [
       | true ↦ λ n. elim (pointwise nat_eq key m.0) as (λ c. when (c && false) (when (plain_end size m.1.stamp == end) 1) + total (into size key end) ms ≡ 0) [
-          | true ↦ omega (arith, none-into size key end ms n)
-          | false ↦ omega (arith, none-into size key end ms n)
-        ]
+        | true ↦ omega (arith, none-into size key end ms n)
+        | false ↦ omega (arith, none-into size key end ms n)
+      ]
       | false ↦ λ n. elim (pointwise nat_eq key m.0) as
           (λ c. (c || list_any (pointwise nat_eq key) (map (λ (m : Keyed). m.0) (filter (λ (m : Keyed). not m.1.late) ms))) ≡ false
           → when (c && true) (when (plain_end size m.1.stamp == end) 1) + total (into size key end) ms ≡ 0) [

@@ -43,11 +43,11 @@ module _ (case : CaseShape) (name : RowName) (size : ℕ) (runs : IsRunnable cas
       let long = length-append before (entry ∷ after) in
       let opened = window-open case name size runs kind before apart.0 (omega (arith, few, long)) timer.time in
       let does : effects_of_timer (kinds.Count size) name.key (row_of shape (run_of shape before) name).state timer ≡ effects =
-          some_same _ effects (sym (ap (option_map (λ k. effects_of_timer k name.key (row_of shape (run_of shape before) name).state timer)) kind) ∙ may.does) in
+      some_same _ effects (sym (ap (option_map (λ k. effects_of_timer k name.key (row_of shape (run_of shape before) name).state timer)) kind) ∙ may.does) in
       let left : count_timer name.key counted.0 ws (window_due ws timer) ≡ effects =
-          sym (ap (λ st. effects_of_timer (kinds.Count size) name.key st timer) counted.1) ∙ does in
+      sym (ap (λ st. effects_of_timer (kinds.Count size) name.key st timer) counted.1) ∙ does in
       let due : window_due ws timer ≡ open_window size timer.time (deeds_of shape name before) =
-          ap (λ n. cond (n == 0) (find (λ (w : Window). w.end == timer.time) ws) None) tag ∙ opened in
+      ap (λ n. cond (n == 0) (find (λ (w : Window). w.end == timer.time) ws) None) tag ∙ opened in
       ap (λ (o : EffectsView). o.productions) (sym left)
       ∙ productions-closing name.key counted.0 ws (window_due ws timer)
       ∙ ap (closing name.key) due

@@ -65,9 +65,14 @@ sent-total case g = along_legal case
     let run : Run = run_of case.topology h in
     let sent : List Delivery = deliveries_of case.topology run.made run.next entry in
     let core : total (λ (d : Delivery). g (send_of d)) (run.made ++ sent)
-        ≡ total (λ o. total g (sends case.topology o)) (out_of case.topology h ++ added_by run entry) =
-        omega (arith, was, entry-sent case.topology g run entry, total-append (λ (d : Delivery). g (send_of d)) run.made sent,
-        total-append (λ o. total g (sends case.topology o)) (out_of case.topology h) (added_by run entry)) in
+    ≡ total (λ o. total g (sends case.topology o)) (out_of case.topology h ++ added_by run entry) =
+    omega (
+      arith,
+      was,
+      entry-sent case.topology g run entry,
+      total-append (λ (d : Delivery). g (send_of d)) run.made sent,
+      total-append (λ o. total g (sends case.topology o)) (out_of case.topology h) (added_by run entry),
+    ) in
     ap (λ (r : Run). total (λ (d : Delivery). g (send_of d)) r.made) (run-push case.topology h entry) ∙ core
     ∙ ap (total (λ o. total g (sends case.topology o))) (sym (out-push case.topology h entry)))
     refl
@@ -125,8 +130,13 @@ emitted-total case g = along_legal case
     let new : List Emission = emissions_of case.topology run.made run.next entry in
     let read : Member → ℕ = λ o. when (is_unread case.topology o.0) (g o) in
     let core : total (λ (e : Emission). g (emitted e)) (run.emissions ++ new) ≡ total read (out_of case.topology h ++ added_by run entry) =
-        omega (arith, was, entry-emitted case.topology g run entry, total-append (λ (e : Emission). g (emitted e)) run.emissions new,
-        total-append read (out_of case.topology h) (added_by run entry)) in
+    omega (
+      arith,
+      was,
+      entry-emitted case.topology g run entry,
+      total-append (λ (e : Emission). g (emitted e)) run.emissions new,
+      total-append read (out_of case.topology h) (added_by run entry),
+    ) in
     ap (λ (r : Run). total (λ (e : Emission). g (emitted e)) r.emissions) (run-push case.topology h entry) ∙ core
     ∙ ap (total read) (sym (out-push case.topology h entry)))
     refl

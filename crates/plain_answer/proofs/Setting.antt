@@ -47,9 +47,9 @@ has-counted end own (w ∷ ws) has =
       | Less ↦ or-either (own == end) (has_window end (w ∷ ws)) has
       | Equal ↦ has
       | Greater ↦ elim (w.end == end) as (λ b. (b || has_window end ws) ≡ true → (b || has_window end (counted ws own)) ≡ true) [
-          | true ↦ λ h. refl
-          | false ↦ λ h. has-counted end own ws h
-        ] has
+        | true ↦ λ h. refl
+        | false ↦ λ h. has-counted end own ws h
+      ] has
     ]
 
 -- and the window in which it is counted is open
@@ -161,10 +161,10 @@ module _ (case : CaseShape) (name : RowName) (size : ℕ) (kind : kind_of case.t
       let item : Record = may.delivery.item in
       let counts = count-windows case name size kind h legal in
       let left : count_record size counts.0 ws item ≡ effects =
-          sym (ap (λ st. effects_of_record (kinds.Count size) name.key st item) counts.1)
-          ∙ record-left case run name id effects (kinds.Count size) may kind in
+      sym (ap (λ st. effects_of_record (kinds.Count size) name.key st item) counts.1)
+      ∙ record-left case run name id effects (kinds.Count size) may kind in
       let takes : deeds_in name run entry ≡ took item.stamp item.late ∷ [] =
-          ap (λ b. cond b (taken (found_delivery id run.unhandled)) []) (tie name) ∙ ap taken may.waits in
+      ap (λ b. cond b (taken (found_delivery id run.unhandled)) []) (tie name) ∙ ap taken may.waits in
       more h entry (took item.stamp item.late ∷ []) (with_timers (count_record size counts.0 ws item).timers ts) takes
       (ap (λ c. c.timers) (row_of-here shape run entry name refl) ∙ ap (λ (o : EffectsView). with_timers o.timers ts) (sym left))
       (record-set size counts.0 ws ts item was)
@@ -178,8 +178,8 @@ module _ (case : CaseShape) (name : RowName) (size : ℕ) (kind : kind_of case.t
       let ts : List Timer = (row_of shape run name).timers in
       let tag : timer.tag ≡ 0 = (each-at (IsSet ws) ts 0 timer was may.least_timer).0 in
       let does : deeds_in name run entry ≡ fired timer.time ∷ [] =
-          ap (λ b. cond b (cond (timer.tag == 0) (fired timer.time ∷ []) []) []) (tie name)
-          ∙ ap (λ n. cond (n == 0) (fired timer.time ∷ []) []) tag in
+      ap (λ b. cond b (cond (timer.tag == 0) (fired timer.time ∷ []) []) []) (tie name)
+      ∙ ap (λ n. cond (n == 0) (fired timer.time ∷ []) []) tag in
       more h entry (fired timer.time ∷ []) (without_timer 0 timer.time ts) does
       (ap (λ c. c.timers) (row_of-here shape run entry name refl) ∙ ap (λ n. without_timer n timer.time ts) tag)
       (others-set timer.time ws ts was)

@@ -167,7 +167,7 @@ module _ (case : CaseShape) (part last times : ℕ) (runs : IsRunnable case) (ki
   all-rang key =
       let was = legal-spiked case (name key) last times runs kind h legal in
       let none : map held_timer was.held ≡ [] =
-          sym was.timers ∙ row_of-each shape (run_of shape h) (name key) (λ (c : Contents). c.timers ≡ []) done.fired refl in
+      sym was.timers ∙ row_of-each shape (run_of shape h) (name key) (λ (c : Contents). c.timers ≡ []) done.fired refl in
       sym (append-nil was.rang) ∙ ap (λ l. was.rang ++ map held_place l) (sym (no-held was.held none))
       ∙ was.places ∙ places-same (pairs_of (name key) (done_of shape h)) (map place_of (row_members key ms)) (row-reads key)
       ∙ sym (places-fold (row_members key ms))

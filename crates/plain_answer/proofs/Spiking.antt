@@ -275,7 +275,7 @@ module _ (case : CaseShape) (name : RowName) (last times : ℕ) (runs : IsRunnab
   below-now h id d p passed waits to_row in_time small =
       let work : IsWorkFrom shape (run_of shape h) (due_time p.0) name.part = passed zero in
       let from : WaitsFrom (due_time p.0) name.part d =
-          find-each (WaitsFrom (due_time p.0) name.part) (λ (e : Delivery). same_id e.id id) (run_of shape h).unhandled d work.waiting waits in
+      find-each (WaitsFrom (due_time p.0) name.part) (λ (e : Delivery). same_id e.id id) (run_of shape h).unhandled d work.waiting waits in
       let due : due_time p.0 ≤ d.item.stamp = from (and_from _ _ (eq-eqb d.to.part name.part (ap (λ (r : RowName). r.part) to_row)) (ap not in_time)) in
       omega (arith, due, small)
 
@@ -284,7 +284,7 @@ module _ (case : CaseShape) (name : RowName) (last times : ℕ) (runs : IsRunnab
       → d.item.stamp < MAX_STAMP
   small h id d legal waits to_row =
       let graded : d.item.stamp ≤ grade d.to.part = find-each IsGraded (λ (e : Delivery). same_id e.id id) (run_of shape h).unhandled d
-          (legal-graded case h runs legal).waiting waits in
+      (legal-graded case h runs legal).waiting waits in
       let here : d.item.stamp ≤ grade name.part = subst (λ (r : RowName). d.item.stamp ≤ grade r.part) to_row graded in
       omega (arith, here, there, few_parts)
 
@@ -339,7 +339,7 @@ module _ (case : CaseShape) (name : RowName) (last times : ℕ) (runs : IsRunnab
           (pair true is) nothing refl
       by_late false is =
           let more = subst (HoldsMore was.late was.held (lastly last (values was.rang)) d.item) left
-              (holds-more was.late was.held (lastly last (values was.rang)) d.item is) in
+          (holds-more was.late was.held (lastly last (values was.rang)) d.item is) in
           let low : d.item.stamp < MAX_STAMP = small h id d legal may.waits may.to_row in
           let place : ℕ × ℤ = (d.item.stamp, d.item.value) in record {
             late = was.late;
@@ -399,41 +399,41 @@ module _ (case : CaseShape) (name : RowName) (last times : ℕ) (runs : IsRunnab
           let is : held_timer t ≡ timer = some_same (held_timer t) timer (sym (ap (λ l. slice_get l 0) timers) ∙ may.least_timer) in
           let of = fires-first last times name.key was.late t hs (values was.rang) climb low in
           let left : effects_of_timer (kinds.Spike last times) name.key (states.Spike was.late (t ∷ hs) (lastly last (values was.rang))) (held_timer t) ≡ effects =
-              ap (effects_of_timer (kinds.Spike last times) name.key (states.Spike was.late (t ∷ hs) (lastly last (values was.rang)))) is
-              ∙ sym (ap (λ st. effects_of_timer (kinds.Spike last times) name.key st timer) state)
-              ∙ timer-left case run name timer mark effects (kinds.Spike last times) may kind in
+          ap (effects_of_timer (kinds.Spike last times) name.key (states.Spike was.late (t ∷ hs) (lastly last (values was.rang)))) is
+          ∙ sym (ap (λ st. effects_of_timer (kinds.Spike last times) name.key st timer) state)
+          ∙ timer-left case run name timer mark effects (kinds.Spike last times) may kind in
           let left_state : effects.state ≡ states.Spike was.late hs (lastly last (values was.rang ++ t.value ∷ [])) =
-              sym (ap (λ (o : EffectsView). o.state) left) ∙ of.state in
+          sym (ap (λ (o : EffectsView). o.state) left) ∙ of.state in
           let produces : map (produced timer.late) effects.productions ≡ spike_at last times name.key (values was.rang) t.stamp t.value =
-              sym (λ i. map (produced (is i).late) (left i).productions) ∙ of.productions in
+          sym (λ i. map (produced (is i).late) (left i).productions) ∙ of.productions in
           let adds : out_at name.part (added_by run entry) ≡ spike_at last times name.key (values was.rang) t.stamp t.value =
-              added-here name.part run entry name refl self ∙ produces in record {
-                late = was.late;
-                rang = was.rang ++ held_place t ∷ [];
-                held = hs;
-                state = ap (λ (r : Run). (row_of shape r name).state) (run-push shape h entry)
-                    ∙ ap (λ (c : Contents). c.state) here ∙ left_state
-                    ∙ ap (λ l. states.Spike was.late hs (lastly last l)) (sym (values-push was.rang (held_place t)));
-                timers = ap (λ (r : Run). (row_of shape r name).timers) (run-push shape h entry)
-                    ∙ ap (λ (c : Contents). c.timers) here
-                    ∙ (λ i. without_timer (sym is i).tag (sym is i).time (timers i))
-                    ∙ first-timer t hs climb low;
-                places = append_assoc was.rang (held_place t ∷ []) (map held_place hs) ∙ places
-                    ∙ sym (ap (placed name) (done-push shape h entry) ∙ placed-push name (done_of shape h) []);
-                climb = climb.1;
-                low = low.1;
-                passed = passed-next h entry (was.rang ++ held_place t ∷ []) legal may
-                    (each-append (IsPassed run) was.rang (held_place t ∷ []) was.passed
-                    (passed-now t.stamp t.value (ap (λ (t : Timer). t.time) (sym is)), tt));
-                stream = stream-next h entry (spike_at last times name.key (values was.rang) t.stamp t.value)
-                    (ap own adds ∙ own-spike (nat_le last (length (values was.rang)) && int_lt (pos times *ℤ sum_of_last last (values was.rang)) (t.value *ℤ pos last)) t)
-                    ∙ ap (λ l. l ++ spike_at last times name.key (values was.rang) t.stamp t.value) was.stream
-                    ∙ sym (spikes-push last times name.key [] was.rang t.stamp t.value);
-                fires = fires-next h entry (name.key ∷ [])
-                    (ap (λ b. filter (pointwise nat_eq name.key) (cond b (name.key ∷ []) [])) self
-                    ∙ ap (λ b. cond b (name.key ∷ []) []) (key-itself name.key))
-                    ∙ ap (λ l. l ++ name.key ∷ []) was.fires ∙ sym (keys-push was.rang (held_place t));
-              }
+          added-here name.part run entry name refl self ∙ produces in record {
+            late = was.late;
+            rang = was.rang ++ held_place t ∷ [];
+            held = hs;
+            state = ap (λ (r : Run). (row_of shape r name).state) (run-push shape h entry)
+                ∙ ap (λ (c : Contents). c.state) here ∙ left_state
+                ∙ ap (λ l. states.Spike was.late hs (lastly last l)) (sym (values-push was.rang (held_place t)));
+            timers = ap (λ (r : Run). (row_of shape r name).timers) (run-push shape h entry)
+                ∙ ap (λ (c : Contents). c.timers) here
+                ∙ (λ i. without_timer (sym is i).tag (sym is i).time (timers i))
+                ∙ first-timer t hs climb low;
+            places = append_assoc was.rang (held_place t ∷ []) (map held_place hs) ∙ places
+                ∙ sym (ap (placed name) (done-push shape h entry) ∙ placed-push name (done_of shape h) []);
+            climb = climb.1;
+            low = low.1;
+            passed = passed-next h entry (was.rang ++ held_place t ∷ []) legal may
+                (each-append (IsPassed run) was.rang (held_place t ∷ []) was.passed
+                (passed-now t.stamp t.value (ap (λ (t : Timer). t.time) (sym is)), tt));
+            stream = stream-next h entry (spike_at last times name.key (values was.rang) t.stamp t.value)
+                (ap own adds ∙ own-spike (nat_le last (length (values was.rang)) && int_lt (pos times *ℤ sum_of_last last (values was.rang)) (t.value *ℤ pos last)) t)
+                ∙ ap (λ l. l ++ spike_at last times name.key (values was.rang) t.stamp t.value) was.stream
+                ∙ sym (spikes-push last times name.key [] was.rang t.stamp t.value);
+            fires = fires-next h entry (name.key ∷ [])
+                (ap (λ b. filter (pointwise nat_eq name.key) (cond b (name.key ∷ []) [])) self
+                ∙ ap (λ b. cond b (name.key ∷ []) []) (key-itself name.key))
+                ∙ ap (λ l. l ++ name.key ∷ []) was.fires ∙ sym (keys-push was.rang (held_place t));
+          }
         where
           values-push : (ps : List (ℕ × ℤ)) (p : ℕ × ℤ) → values (ps ++ p ∷ []) ≡ values ps ++ p.1 ∷ []
           values-push [] p = refl
@@ -503,7 +503,7 @@ module _ (case : CaseShape) (name : RowName) (last times : ℕ) (runs : IsRunnab
           (λ b. (row.part == name.part) ≡ b → own (out_at name.part (added_by (run_of shape h) (Fire seq row timer mark effects))) ≡ []) [
             | true ↦ λ e.
                 let left = timer-left case (run_of shape h) row timer mark effects (kinds.Spike last times) may
-                    (kind-at shape name.part row.part (kinds.Spike last times) kind e) in
+                (kind-at shape name.part row.part (kinds.Spike last times) kind e) in
                 ap own (added-here name.part (run_of shape h) (Fire seq row timer mark effects) row refl e)
                 ∙ other-row row.key timer.late effects.productions (differs e)
                 (subst (λ (o : EffectsView). AllByRecursion (λ (p : Production). p.key ≡ row.key) o.productions) left

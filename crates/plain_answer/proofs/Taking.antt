@@ -91,9 +91,14 @@ taken-done case name size end = along_legal case
     let deeds : List Deed = deeds_of case.topology name h in
     let new : List Deed = deeds_in name (run_of case.topology h) entry in
     let core : taken_into size end (deeds ++ new)
-        ≡ total (brings name size end) (done_of case.topology h ++ handled_by (run_of case.topology h) entry) =
-        omega (arith, was, one case name size end (run_of case.topology h) entry may, sum_by-append (takes_into size end) deeds new,
-        total-append (brings name size end) (done_of case.topology h) (handled_by (run_of case.topology h) entry)) in
+    ≡ total (brings name size end) (done_of case.topology h ++ handled_by (run_of case.topology h) entry) =
+    omega (
+      arith,
+      was,
+      one case name size end (run_of case.topology h) entry may,
+      sum_by-append (takes_into size end) deeds new,
+      total-append (brings name size end) (done_of case.topology h) (handled_by (run_of case.topology h) entry),
+    ) in
     ap (taken_into size end) (deeds-push case.topology name h entry) ∙ core
     ∙ ap (total (brings name size end)) (sym (done-push case.topology h entry)))
     refl
@@ -109,9 +114,11 @@ done-graded case runs = along_legal case (λ h. AllByRecursion IsGraded (done_of
     new : (h : List Entry) (entry : Entry) → IsLegal case h → MayFollow case (run_of case.topology h) entry
         → AllByRecursion IsGraded (handled_by (run_of case.topology h) entry)
     new h (Handle seq row id effects) legal may =
-        subst (λ o. AllByRecursion IsGraded (option_to_list o)) (sym may.waits)
-        (find-each IsGraded (λ (d : Delivery). same_id d.id id) (run_of case.topology h).unhandled may.delivery
-        (legal-graded case h runs legal).waiting may.waits, tt)
+        subst (λ o. AllByRecursion IsGraded (option_to_list o)) (sym may.waits) (
+          find-each IsGraded (λ (d : Delivery). same_id d.id id) (run_of case.topology h).unhandled may.delivery
+              (legal-graded case h runs legal).waiting may.waits,
+          tt,
+        )
     new h (Claim worker interval) legal may = tt
     new h (Inject seq part line item) legal may = tt
     new h (Fire seq row timer mark effects) legal may = tt

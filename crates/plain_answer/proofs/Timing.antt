@@ -49,9 +49,9 @@ has-mono time t (u ∷ us) has =
       | Less ↦ or-either (is_timer 0 time t) (has_timer time (u ∷ us)) has
       | Equal ↦ has
       | Greater ↦ elim (is_timer 0 time u) as (λ b. (b || has_timer time us) ≡ true → (b || has_timer time (with_timer t us)) ≡ true) [
-          | true ↦ λ h. refl
-          | false ↦ λ h. has-mono time t us h
-        ] has
+        | true ↦ λ h. refl
+        | false ↦ λ h. has-mono time t us h
+      ] has
     ]
 
 -- timers that tie have one time and one tag
@@ -90,9 +90,9 @@ has-without time tag at (u ∷ us) other has =
           let not_here : is_timer 0 time u ≡ false = grind (arith, nat_tests) in
           has-without time tag at us other (sym (ap (λ b. b || has_timer time us) not_here) ∙ has)
       | false ↦ λ e. elim (is_timer 0 time u) as (λ b. (b || has_timer time us) ≡ true → (b || has_timer time (without_timer tag at us)) ≡ true) [
-          | true ↦ λ h. refl
-          | false ↦ λ h. has-without time tag at us other h
-        ] has
+        | true ↦ λ h. refl
+        | false ↦ λ h. has-without time tag at us other h
+      ] has
     ] refl
 
 -- each window has a timer
@@ -171,13 +171,13 @@ module _ (case : CaseShape) (name : RowName) (size : ℕ) (kind : kind_of case.t
       let item : Record = may.delivery.item in
       let late : ℕ = has.counted.late in
       let does : effects_of_record (kinds.Count size) name.key (row_of shape s.run name).state item ≡ effects =
-          some_same _ effects (sym (ap (option_map (λ k. effects_of_record k name.key (row_of shape s.run name).state item)) kind) ∙ may.does) in
+      some_same _ effects (sym (ap (option_map (λ k. effects_of_record k name.key (row_of shape s.run name).state item)) kind) ∙ may.does) in
       let left : count_record size late ws item ≡ effects =
-          sym (ap (λ st. effects_of_record (kinds.Count size) name.key st item) has.counted.is) ∙ does in
+      sym (ap (λ st. effects_of_record (kinds.Count size) name.key st item) has.counted.is) ∙ does in
       let here : (row_of shape (followed shape s.run entry) name).timers ≡ with_timers effects.timers ts =
-          ap (λ c. c.timers) (row_of-here shape s.run entry name refl) in
+      ap (λ c. c.timers) (row_of-here shape s.run entry name refl) in
       let takes : deeds_in name s.run entry ≡ took item.stamp item.late ∷ [] =
-          ap (λ b. cond b (taken (found_delivery id s.run.unhandled)) []) (tie name) ∙ ap taken may.waits in
+      ap (λ b. cond b (taken (found_delivery id s.run.unhandled)) []) (tie name) ∙ ap taken may.waits in
       more s entry (took item.stamp item.late ∷ []) (with_timers (count_record size late ws item).timers ts) has may takes
       (here ∙ ap (λ (o : EffectsView). with_timers o.timers ts) (sym left)) (record-timed size late ws ts item has.timed)
 
@@ -187,7 +187,7 @@ module _ (case : CaseShape) (name : RowName) (size : ℕ) (kind : kind_of case.t
       let entry : Entry = Fire seq name timer mark effects in
       let ts : List Timer = (row_of shape s.run name).timers in
       let here : (row_of shape (followed shape s.run entry) name).timers ≡ without_timer timer.tag timer.time ts =
-          ap (λ c. c.timers) (row_of-here shape s.run entry name refl) in
+      ap (λ c. c.timers) (row_of-here shape s.run entry name refl) in
       let ds : List Deed = cond (timer.tag == 0) (fired timer.time ∷ []) [] in
       more s entry ds (without_timer timer.tag timer.time ts) has may (ap (λ b. cond b ds []) (tie name)) here
       (timer-timed size (windows_after size s.deeds) ts timer has.timed)
@@ -228,7 +228,7 @@ module _ (case : CaseShape) (name : RowName) (size : ℕ) (kind : kind_of case.t
       → Holds (done ++ entry ∷ []) (followed shape run entry)
   next-holds done run entry holds may =
       let next : told_of shape name (done ++ entry ∷ []) ≡ told shape name (told_of shape name done) entry =
-          fold-append (told shape name) (record { run = empty_run; deeds = [] }) done (entry ∷ []) in
+      fold-append (told shape name) (record { run = empty_run; deeds = [] }) done (entry ∷ []) in
       let follows : MayFollow case (told_of shape name done).run entry = subst (λ (r : Run). MayFollow case r entry) holds.same may in
       record {
         same = ap (λ (r : Run). followed shape r entry) holds.same ∙ ap (λ (s : Told). s.run) (sym next);
@@ -246,8 +246,8 @@ module _ (case : CaseShape) (name : RowName) (size : ℕ) (kind : kind_of case.t
       → windows_after size (deeds_of shape name history) ≡ []
   no-window history legal none =
       let all = along_history case Holds next-holds
-          (record { same = refl; is_timed = record { counted = fresh-counted case name size kind; timed = tt } }) history legal in
+      (record { same = refl; is_timed = record { counted = fresh-counted case name size kind; timed = tt } }) history legal in
       let timers : (row_of shape (told_of shape name history).run name).timers ≡ [] =
-          ap (λ (r : Run). (row_of shape r name).timers) (sym all.same) ∙ none in
+      ap (λ (r : Run). (row_of shape r name).timers) (sym all.same) ∙ none in
       none-timed (windows_after size (deeds_of shape name history))
       (subst (λ ts. AreTimed (windows_after size (deeds_of shape name history)) ts) timers all.is_timed.timed)

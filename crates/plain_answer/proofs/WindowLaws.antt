@@ -217,7 +217,7 @@ HasWindows-next size done ws (took stamp false) few timely has = record {
               subst (λ o. find (λ w. w.end == o) (counted ws end) ≡ open_window size o (done ++ d ∷ [])) same here
           | false ↦ λ e.
               let t : taken_into size other (done ++ d ∷ []) ≡ taken_into size other done =
-                  sum-snoc (takes_into size other) done d ∙ ap (λ b. taken_into size other done + cond b 1 0) e ∙ omega arith in
+              sum-snoc (takes_into size other) done d ∙ ap (λ b. taken_into size other done + cond b 1 0) e ∙ omega arith in
               let f : fired_at other (done ++ d ∷ []) ≡ fired_at other done = sum-snoc (fires_at other) done d ∙ omega arith in
               find-counted-other end other ws e ∙ has.each other
               ∙ sym (ap (λ n. opened other n (taken_into size other (done ++ d ∷ []))) f ∙ ap (opened other (fired_at other done)) t)
@@ -227,7 +227,7 @@ HasWindows-next size done ws (took stamp false) few timely has = record {
         here =
             let same : (end == end) ≡ true = grind (arith, nat_tests) in
             let t : taken_into size end (done ++ d ∷ []) ≡ taken_into size end done + 1 =
-                sum-snoc (takes_into size end) done d ∙ ap (λ b. taken_into size end done + cond b 1 0) same in
+            sum-snoc (takes_into size end) done d ∙ ap (λ b. taken_into size end done + cond b 1 0) same in
             let f : fired_at end (done ++ d ∷ []) ≡ 0 = sum-snoc (fires_at end) done d ∙ omega (arith, timely) in
             let few_taken : taken_into size end done < MAX_STAMP = omega (arith, few, sum-few size end done) in
             find-counted end ws has.ascending

@@ -52,11 +52,11 @@ plain_end size stamp = stamp - stamp % size + size
 -- the windows of a row: each end of a record's window, with how many records' windows end there
 abbrev pub windows_in : ℕ → List ℕ → List Record → List Record
 windows_in size key items = map (λ end. record {
-      key = key;
-      stamp = end;
-      value = pos (count_by (λ (r : Record). plain_end size r.stamp == end) items);
-      late = false;
-    })
+  key = key;
+  stamp = end;
+  value = pos (count_by (λ (r : Record). plain_end size r.stamp == end) items);
+  late = false;
+})
     (once_each nat_eq (map (λ (r : Record). plain_end size r.stamp) items))
 
 -- numbers, once each, ascending
