@@ -97,13 +97,16 @@ closed-took size key end deeds stamp false timely =
 
 -- what a window that closes puts into the stream
 closing-at : (key : List ℕ) (end time fires takes : ℕ)
-    → filter (at_place (key, end)) (map (produced false) (closing key (cond (fires == 0) (cond (takes == 0) None (Some (record { end = time; count = takes }))) None)))
+    → filter (at_place (key, end)) (map (produced false) (closing key
+    (cond (fires == 0) (cond (takes == 0) None (Some (record { end = time; count = takes }))) None)))
     ≡ cond (time == end) (cond (fires == 0) (counted_at key time takes) []) []
 closing-at key end time fires takes = elim (fires == 0) as
-    (λ b. filter (at_place (key, end)) (map (produced false) (closing key (cond b (cond (takes == 0) None (Some (record { end = time; count = takes }))) None)))
+    (λ b. filter (at_place (key, end)) (map (produced false) (closing key
+    (cond b (cond (takes == 0) None (Some (record { end = time; count = takes }))) None)))
     ≡ cond (time == end) (cond b (counted_at key time takes) []) []) [
       | true ↦ elim (takes == 0) as
-          (λ c. filter (at_place (key, end)) (map (produced false) (closing key (cond c None (Some (record { end = time; count = takes })))))
+          (λ c. filter (at_place (key, end)) (map (produced false)
+          (closing key (cond c None (Some (record { end = time; count = takes })))))
           ≡ cond (time == end) (cond c [] (count_at key time takes ∷ [])) []) [
             | true ↦ nothing (time == end)
             | false ↦ ap (λ b. cond (b && (time == end)) (count_at key time takes ∷ []) []) (key-itself key)
@@ -130,15 +133,18 @@ closed-fired size key end time deeds =
 
     -- behind the window that fires now
     both : (fires takes : ℕ) → closed_at key end fires takes ++ cond (fires == 0) (counted_at key end takes) [] ≡ counted_at key end takes
-    both fires takes = elim (fires == 0) as (λ b. cond b [] (counted_at key end takes) ++ cond b (counted_at key end takes) [] ≡ counted_at key end takes) [
-      | true ↦ refl
-      | false ↦ append-nil (counted_at key end takes)
-    ]
+    both fires takes = elim (fires == 0) as (λ b. cond b [] (counted_at key end takes) ++ cond b (counted_at key end takes) []
+        ≡ counted_at key end takes) [
+          | true ↦ refl
+          | false ↦ append-nil (counted_at key end takes)
+        ]
 
-    by_time : closed size key end deeds ++ cond (time == end) (cond (fired_at time deeds == 0) (counted_at key time (taken_into size time deeds)) []) []
+    by_time : closed size key end deeds ++ cond (time == end)
+        (cond (fired_at time deeds == 0) (counted_at key time (taken_into size time deeds)) []) []
         ≡ closed size key end (deeds ++ fired time ∷ [])
     by_time = elim (time == end) as
-        (λ b. (time == end) ≡ b → closed size key end deeds ++ cond b (cond (fired_at time deeds == 0) (counted_at key time (taken_into size time deeds)) []) []
+        (λ b. (time == end) ≡ b → closed size key end deeds ++ cond b
+        (cond (fired_at time deeds == 0) (counted_at key time (taken_into size time deeds)) []) []
         ≡ closed size key end (deeds ++ fired time ∷ [])) [
           | true ↦ λ e.
               let same : time ≡ end = grind (arith, nat_tests) in
@@ -162,7 +168,8 @@ pub record-nothing : (size : ℕ) (key : List ℕ) (state : State) (item : Recor
     → (effects_of_record (kinds.Count size) key state item).productions ≡ []
 record-nothing size key (states.Count late windows) item =
     elim item.late as (λ b. (cond b (unchanged (states.Count (one_more late) windows))
-    (outcome_with_timer (states.Count late (counted windows (window_end size item.stamp))) (window_end size item.stamp) item)).productions ≡ []) [
+    (outcome_with_timer (states.Count late (counted windows (window_end size item.stamp)))
+    (window_end size item.stamp) item)).productions ≡ []) [
       | true ↦ refl
       | false ↦ refl
     ]
@@ -258,7 +265,8 @@ module _ (case : CaseShape) (name : RowName) (size end : ℕ) (runs : IsRunnable
       let run : Run = run_of shape h in
       let entry : Entry = Fire seq name timer mark effects in
       let deeds : List Deed = deeds_of shape name h in
-      let set = each-at (IsSet (windows_after size deeds)) (row_of shape run name).timers 0 timer (legal-set case name size kind h legal) may.least_timer in
+      let set = each-at (IsSet (windows_after size deeds)) (row_of shape run name).timers 0 timer
+      (legal-set case name size kind h legal) may.least_timer in
       let same : (name.part == name.part) ≡ true = eq-eqb name.part name.part refl in
       let produces = fire-produces case name size runs kind h [] seq timer mark effects
       (legal-push case h entry empty_run legal may) short set.0 in
@@ -272,7 +280,8 @@ module _ (case : CaseShape) (name : RowName) (size end : ℕ) (runs : IsRunnable
       ∙ ap (λ l. closed size name.key end (deeds ++ l)) (sym does)
 
   -- a row of another key of the part
-  key-differs : (row : RowName) → (row.part == name.part) ≡ true → is_at (row_cmp name) row ≡ false → pointwise nat_eq name.key row.key ≡ false
+  key-differs : (row : RowName) → (row.part == name.part) ≡ true → is_at (row_cmp name) row ≡ false
+      → pointwise nat_eq name.key row.key ≡ false
   key-differs row part apart = elim (pointwise nat_eq name.key row.key) as (λ b. pointwise nat_eq name.key row.key ≡ b → b ≡ false) [
     | true ↦ λ e.
         let parts : row.part ≡ name.part = grind (arith, nat_tests) in
@@ -281,7 +290,8 @@ module _ (case : CaseShape) (name : RowName) (size end : ℕ) (runs : IsRunnable
     | false ↦ λ e. refl
   ] refl
 
-  adds-here : (h : List Entry) (entry : Entry) → IsLegal case h → MayFollow case (run_of shape h) entry → length (h ++ entry ∷ []) < MAX_STAMP
+  adds-here : (h : List Entry) (entry : Entry) → IsLegal case h → MayFollow case (run_of shape h) entry
+      → length (h ++ entry ∷ []) < MAX_STAMP
       → closed size name.key end (deeds_of shape name h) ++ here (out_at name.part (added_by (run_of shape h) entry))
       ≡ closed size name.key end (deeds_of shape name h ++ deeds_in name (run_of shape h) entry)
   adds-here h (Claim worker interval) legal may short = quiet h (Claim worker interval) legal may refl nil-no_fire
@@ -310,18 +320,22 @@ module _ (case : CaseShape) (name : RowName) (size end : ℕ) (runs : IsRunnable
   adds-here h (Fire seq row timer mark effects) legal may short =
       elim (is_at (row_cmp name) row) as
       (λ b. is_at (row_cmp name) row ≡ b
-      → closed size name.key end (deeds_of shape name h) ++ here (out_at name.part (added_by (run_of shape h) (Fire seq row timer mark effects)))
+      → closed size name.key end (deeds_of shape name h) ++ here
+      (out_at name.part (added_by (run_of shape h) (Fire seq row timer mark effects)))
       ≡ closed size name.key end (deeds_of shape name h ++ deeds_in name (run_of shape h) (Fire seq row timer mark effects))) [
         | true ↦ λ e.
-            subst (λ (r : RowName). MayFire case (run_of shape h) r timer mark effects → length (h ++ Fire seq r timer mark effects ∷ []) < MAX_STAMP
-            → closed size name.key end (deeds_of shape name h) ++ here (out_at name.part (added_by (run_of shape h) (Fire seq r timer mark effects)))
+            subst (λ (r : RowName). MayFire case (run_of shape h) r timer mark effects
+            → length (h ++ Fire seq r timer mark effects ∷ []) < MAX_STAMP
+            → closed size name.key end (deeds_of shape name h) ++ here
+            (out_at name.part (added_by (run_of shape h) (Fire seq r timer mark effects)))
             ≡ closed size name.key end (deeds_of shape name h ++ deeds_in name (run_of shape h) (Fire seq r timer mark effects)))
             (same_row name row e) (λ m s. fires-here h seq timer mark effects legal m s) may short
         | false ↦ λ e. quiet h (Fire seq row timer mark effects) legal may (nothing e)
             (λ time is. nil-no_fire time (sym (ap (λ b. cond b (cond (timer.tag == 0) (fired timer.time ∷ []) []) []) e) ∙ is))
       ] refl
     where
-      nothing : is_at (row_cmp name) row ≡ false → here (out_at name.part (added_by (run_of shape h) (Fire seq row timer mark effects))) ≡ []
+      nothing : is_at (row_cmp name) row ≡ false → here (out_at name.part
+          (added_by (run_of shape h) (Fire seq row timer mark effects))) ≡ []
       nothing apart = elim (row.part == name.part) as
           (λ b. (row.part == name.part) ≡ b → here (out_at name.part (added_by (run_of shape h) (Fire seq row timer mark effects))) ≡ []) [
             | true ↦ λ e.

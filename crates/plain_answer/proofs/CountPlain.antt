@@ -71,7 +71,8 @@ module _ (case : CaseShape) (part size : ℕ) (runs : IsRunnable case) (kind : k
       own : (r : Record) → at_place (r.key, r.stamp) r ≡ true
       own r = (λ i. key-itself r.key i && (r.stamp == r.stamp)) ∙ eq-eqb r.stamp r.stamp refl
 
-      same : (place : List ℕ × ℕ) → filter (at_place place) (out_at part (out_of shape h)) ≡ filter (at_place place) (plain_of (kinds.Count size) ms)
+      same : (place : List ℕ × ℕ) → filter (at_place place) (out_at part (out_of shape h))
+          ≡ filter (at_place place) (plain_of (kinds.Count size) ms)
       same (key, end) =
           let name : RowName = record { part = part; key = key } in
           legal-closed case name size end runs kind h legal short

@@ -1,7 +1,6 @@
 -- A permutation, key by key. A key is anything that a test tells: `at k x` says whether the key of x is k.
-use Rattle.std.proofs.Common.{◌≡◌, ℕ, zero, suc, ◌≤◌, ◌==◌, Bool, true, false, cond, not, List, [], ◌∷◌, ◌++◌, length, filter, refl, sym, ap, ◌∙◌, subst, arith}
+use Rattle.std.proofs.Common.{◌≡◌, ℕ, zero, suc, ◌≤◌, Bool, true, false, cond, not, List, [], ◌∷◌, ◌++◌, length, filter, refl, sym, ap, ◌∙◌, subst, arith}
 use Rattle.std.specs.List.Sorted.{IsPermutation}
-use Rattle.std.proofs.lemmas.Bool.Decides.{nat_tests}
 use Rattle.std.proofs.lemmas.List.Sorted.{IsPermutation-refl, IsPermutation-sym, IsPermutation-trans, IsPermutation-append, IsPermutation-filter_both}
 
 -- filters go in any order
@@ -62,10 +61,3 @@ module _ {X K : Type 0} (at : K → X → Bool) (key : X → K) (own : (x : X) �
       (IsPermutation-filter_both p q (λ y. refl) all)
       (IsPermutation-trans (filter p all ++ filter q all) (filter p ys ++ filter q ys) ys both
       (IsPermutation-sym ys (filter p ys ++ filter q ys) (IsPermutation-filter_both p q (λ y. refl) ys)))
-
-pub by_number : (X : Type 0) (key : X → ℕ) (xs ys : List X) → ((k : ℕ) → filter (λ x. key x == k) xs ≡ filter (λ x. key x == k) ys) → IsPermutation xs ys
-by_number X key xs ys same =
-    by_keys (λ k x. key x == k) key (λ x. itself (key x)) (length xs) xs ys (omega arith) same
-  where
-    itself : (n : ℕ) → (n == n) ≡ true
-    itself n = grind (arith, nat_tests)

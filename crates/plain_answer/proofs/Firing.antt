@@ -52,7 +52,8 @@ module _ (case : CaseShape) (part size : ℕ) (kind : kind_of case.topology part
       ] refl
   one h (Fire seq row timer mark effects) legal may =
       elim (row.part == part) as
-      (λ b. (row.part == part) ≡ b → ◌≡◌ {A = ℕ} (cond b 1 0) (length (out_at part (added_by (run_of shape h) (Fire seq row timer mark effects))))) [
+      (λ b. (row.part == part) ≡ b → ◌≡◌ {A = ℕ} (cond b 1 0)
+      (length (out_at part (added_by (run_of shape h) (Fire seq row timer mark effects))))) [
         | true ↦ λ e.
             let run : Run = run_of shape h in
             let of = kind-at shape part row.part (kinds.Count size) kind e in
@@ -80,7 +81,8 @@ module _ (case : CaseShape) (part size : ℕ) (kind : kind_of case.topology part
   pub count-fires : (h : List Entry) → IsLegal case h → total (fires_on part) h ≡ length (out_at part (out_of shape h))
   count-fires = along_legal case (λ h. total (fires_on part) h ≡ length (out_at part (out_of shape h)))
       (λ h entry legal may was.
-      let grown = ap length (ap (out_at part) (out-push shape h entry) ∙ out_at-append part (out_of shape h) (added_by (run_of shape h) entry)) in
+      let grown = ap length (ap (out_at part) (out-push shape h entry)
+      ∙ out_at-append part (out_of shape h) (added_by (run_of shape h) entry)) in
       omega (
         arith,
         was,

@@ -130,7 +130,8 @@ places-with items r (n ∷ ns) up absent present =
     elim (nat_cmp r.stamp n) as
     (λ o. nat_cmp r.stamp n ≡ o
     → map (place_at (items ++ r ∷ [])) (match_ordering o (r.stamp ∷ n ∷ ns) (n ∷ ns) (n ∷ with_number r.stamp ns))
-    ≡ match_ordering o (place_of r ∷ map (place_at items) (n ∷ ns)) ((n, int_max (greatest (at_stamp n items)) r.value) ∷ map (place_at items) ns)
+    ≡ match_ordering o (place_of r ∷ map (place_at items) (n ∷ ns))
+    ((n, int_max (greatest (at_stamp n items)) r.value) ∷ map (place_at items) ns)
     (place_at items n ∷ with_place (map (place_at items) ns) (place_of r))) [
       | Less ↦ λ e.
           let less : r.stamp < n = grind (arith, nat_tests) in
@@ -180,8 +181,12 @@ stands-with items r ns stands = record {
     by_present : (s : ℕ) (b : Bool) → (r.stamp == s) ≡ b → (b || list_any (λ m. m == s) ns) ≡ true
         → (q : Record) × (qs : List Record) × (at_stamp s (items ++ r ∷ []) ≡ q ∷ qs)
     by_present s true e some =
-        let all = behind s (at_stamp s items) in
-        (all.0, all.1, filter-append (λ (q : Record). q.stamp == s) items (r ∷ []) ∙ ap (λ b. at_stamp s items ++ cond b (r ∷ []) []) e ∙ all.2)
+        let all = behind s (at_stamp s items) in (
+          all.0,
+          all.1,
+          filter-append (λ (q : Record). q.stamp == s) items (r ∷ [])
+              ∙ ap (λ b. at_stamp s items ++ cond b (r ∷ []) []) e ∙ all.2,
+        )
     by_present s false e some =
         let was = stands.present s some in (was.0, was.1, at_stamp-other items r s e ∙ was.2)
 

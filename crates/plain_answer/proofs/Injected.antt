@@ -68,7 +68,8 @@ module _ (case : CaseShape) (part : ℕ) (is : is_injector case.topology part �
       differ same = grind (arith, nat_tests)
 
   -- the next line
-  line-more : (n : ℕ) (l : SourceLine) → slice_get (source_of case part) n ≡ Some l → first_records n ++ record_of l.item ∷ [] ≡ first_records (n + 1)
+  line-more : (n : ℕ) (l : SourceLine) → slice_get (source_of case part) n ≡ Some l → first_records n ++ record_of l.item ∷ []
+      ≡ first_records (n + 1)
   line-more n l at =
       let within = slice_get_within (source_of case part) n l at in
       let here : get_or (source_of case part) n l ≡ l = get_or_from_slice_get (source_of case part) n l l at in
@@ -76,7 +77,8 @@ module _ (case : CaseShape) (part : ℕ) (is : is_injector case.topology part �
       (take_more (source_of case part) n l within ∙ ap (λ k. take n (source_of case part) ++ k ∷ []) here)
       ∙ push (take n (source_of case part)))
     where
-      push : (ls : List SourceLine) → map (λ (l : SourceLine). record_of l.item) (ls ++ l ∷ []) ≡ map (λ (l : SourceLine). record_of l.item) ls ++ record_of l.item ∷ []
+      push : (ls : List SourceLine) → map (λ (l : SourceLine). record_of l.item) (ls ++ l ∷ [])
+          ≡ map (λ (l : SourceLine). record_of l.item) ls ++ record_of l.item ∷ []
       push [] = refl
       push (k ∷ ks) = ap (λ r. record_of k.item ∷ r) (push ks)
 
@@ -100,7 +102,8 @@ module _ (case : CaseShape) (part : ℕ) (is : is_injector case.topology part �
   step : (h : List Entry) (entry : Entry) → IsLegal case h → MayFollow case (run_of shape h) entry → Injected h → Injected (h ++ entry ∷ [])
   step h (Claim worker interval) legal may was =
       stays h (Claim worker interval) was refl
-      (λ n state. ap (λ (c : Contents). c.state) (row_of-elsewhere shape (run_of shape h) (Claim worker interval) name (none_some name)) ∙ state)
+      (λ n state. ap (λ (c : Contents). c.state) (row_of-elsewhere shape (run_of shape h) (Claim worker interval) name
+      (none_some name)) ∙ state)
   step h (Inject seq other line item) legal may was =
       elim (other == part) as (λ b. (other == part) ≡ b → Injected (h ++ Inject seq other line item ∷ [])) [
         | true ↦ λ e. let same : part ≡ other = grind (arith, nat_tests) in
@@ -127,7 +130,8 @@ module _ (case : CaseShape) (part : ℕ) (is : is_injector case.topology part �
       (λ n state. row_of-step shape (run_of shape h) (Purge seq row floor) name (λ c. c.state ≡ states.Injector n) state (λ written. state))
 
   no_kind : kind_of shape part ≡ None
-  no_kind = ap (λ b. option_map (λ (c : ComputationShape). c.kind) (cond b None (slice_get shape.computations (part - injectors_of shape)))) is
+  no_kind = ap (λ b. option_map (λ (c : ComputationShape). c.kind)
+      (cond b None (slice_get shape.computations (part - injectors_of shape)))) is
 
   -- after each legal history an injector's stream has its lines up to its cursor
   pub legal-injected : (h : List Entry) → IsLegal case h → Injected h

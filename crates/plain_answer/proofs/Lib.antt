@@ -25,6 +25,7 @@ pub mod Numbers
 pub mod Results
 pub mod Places
 pub mod Orders
+pub mod SpikeSteps
 pub mod Spiking
 pub mod Greatest
 pub mod SpikePlain

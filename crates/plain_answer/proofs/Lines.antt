@@ -83,7 +83,8 @@ unread-total [] g stream items = total-map g (plain_line stream) items
 unread-total (s ∷ ss) g stream items = sym (total-zero items)
 
 streams-lines : (shape : Shape) (g : ResultLine → ℕ) (n : ℕ) (streams : List (List Record))
-    → total g (flat_map (λ (s : ℕ × List Record). lines_unread (consumers_of shape s.0) (stream_of shape s.0) s.1) (enumerate_from n streams))
+    → total g (flat_map (λ (s : ℕ × List Record). lines_unread (consumers_of shape s.0) (stream_of shape s.0) s.1)
+    (enumerate_from n streams))
     ≡ stream_total (λ o. when (is_unread shape o.0) (g (plain_line (stream_of shape o.0) o.1))) n streams
 streams-lines shape g n [] = refl
 streams-lines shape g n (x ∷ xs) =
@@ -96,7 +97,8 @@ streams-lines shape g n (x ∷ xs) =
     )
 
 -- at the end the lines of what was emitted are the plain lines
-pub lines-plain : (case : CaseShape) (h : List Entry) → IsRunnable case → IsLegal case h → IsDone case (run_of case.topology h) → IsPlain case h
+pub lines-plain : (case : CaseShape) (h : List Entry) → IsRunnable case → IsLegal case h → IsDone case (run_of case.topology h)
+    → IsPlain case h
     → IsPermutation (map (line_of case.topology) (run_of case.topology h).emissions) (plain_lines case)
 lines-plain case h runs legal done plain =
     totals-permutation (λ a b. is_eq (line_cmp a b)) same-line (λ a. ap is_eq (tied_itself line_cmp-total a))

@@ -57,14 +57,16 @@ out_at-other part own late (p ∷ ps) other =
 pub added-here : (part : ℕ) (run : Run) (entry : Entry) (row : RowName) → row_written entry ≡ Some row → (row.part == part) ≡ true
     → out_at part (added_by run entry) ≡ map (produced (late_cause run.made entry)) (productions_of entry)
 added-here part run entry row written same =
-    ap (λ o. out_at part (option_map_or (λ (row : RowName). map (member_of row.part (late_cause run.made entry)) (productions_of entry)) o [])) written
+    ap (λ o. out_at part (option_map_or (λ (row : RowName). map (member_of row.part (late_cause run.made entry))
+    (productions_of entry)) o [])) written
     ∙ out_at-here part row.part (late_cause run.made entry) (productions_of entry) same
 
 -- and of another
 pub added-other : (part : ℕ) (run : Run) (entry : Entry) (row : RowName) → row_written entry ≡ Some row → (row.part == part) ≡ false
     → out_at part (added_by run entry) ≡ []
 added-other part run entry row written other =
-    ap (λ o. out_at part (option_map_or (λ (row : RowName). map (member_of row.part (late_cause run.made entry)) (productions_of entry)) o [])) written
+    ap (λ o. out_at part (option_map_or (λ (row : RowName). map (member_of row.part (late_cause run.made entry))
+    (productions_of entry)) o [])) written
     ∙ out_at-other part row.part (late_cause run.made entry) (productions_of entry) other
 
 -- an injector is no computation

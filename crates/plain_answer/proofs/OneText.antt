@@ -24,7 +24,8 @@ module _ {X : Type 0} (R : X → X → Ordering) (order : IsTotalOrder R) (tells
   head-least x xs sorted =
       recursion_from_All (λ y. is_lt (R y x) ≡ false) xs
       (All-from_get_or (λ y. is_lt (R y x) ≡ false) xs x
-      (λ i less. sorted_far (λ y z. is_lt (R y z)) (ranks_by order (λ y. y)) (x ∷ xs) sorted 0 (suc i) x (omega arith) (omega (arith, less))))
+      (λ i less. sorted_far (λ y z. is_lt (R y z)) (ranks_by order (λ y. y)) (x ∷ xs) sorted 0 (suc i) x (omega arith)
+      (omega (arith, less))))
 
   -- and the rest is in order
   tail-sorted : (x : X) (xs : List X) → IsSorted R (x ∷ xs) → IsSorted R xs
@@ -66,7 +67,8 @@ module _ {X : Type 0} (R : X → X → Ordering) (order : IsTotalOrder R) (tells
   sorted-same (x ∷ xs) (y ∷ ys) one other totals =
       let x_here : when (is_eq (R x x)) 1 ≡ 1 = ap (λ b. when b 1) (itself x) in
       let y_here : when (is_eq (R y y)) 1 ≡ 1 = ap (λ b. when b 1) (itself y) in
-      let x_there = one-of x y (y ∷ ys) (not_itself y, head-least y ys other) (omega (arith, totals (λ z. when (is_eq (R x z)) 1), x_here)) in
+      let x_there = one-of x y (y ∷ ys) (not_itself y, head-least y ys other)
+      (omega (arith, totals (λ z. when (is_eq (R x z)) 1), x_here)) in
       let y_there = one-of y x (x ∷ xs) (not_itself x, head-least x xs one) (omega (arith, totals (λ z. when (is_eq (R y z)) 1), y_here)) in
       let same : x ≡ y = neither-less x y x_there y_there in
       (λ i. same i ∷ sorted-same xs ys (tail-sorted x xs one) (tail-sorted y ys other) (λ g. omega (arith, totals g, ap g same)) i)
@@ -78,5 +80,6 @@ one-text case one other is also =
     ∙ ap (λ lines. flat_map (λ (line : ResultLine). as_line (line_data line)) lines ++ as_line (plain_summary case))
     (sorted-same line_cmp line_cmp-total same-line is.lines also.lines is.in_order also.in_order
     (totals-permuted is.lines also.lines
-    (IsPermutation-trans is.lines (plain_lines case) also.lines (IsPermutation-sym (plain_lines case) is.lines is.each_once) also.each_once)))
+    (IsPermutation-trans is.lines (plain_lines case) also.lines
+    (IsPermutation-sym (plain_lines case) is.lines is.each_once) also.each_once)))
     ∙ sym also.spelled

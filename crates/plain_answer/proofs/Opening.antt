@@ -41,7 +41,8 @@ use Rattle.plain_answer.proofs.WindowLaws.{HasWindows, HasWindows-next}
 abbrev pub Does : ℕ → List Deed → List Deed → Type 0
 Does size done ds = (ds ≡ []) ⊎ ((d : Deed) × (ds ≡ d ∷ []) × IsTimely size done d)
 
-module _ (case : CaseShape) (name : RowName) (size : ℕ) (runs : IsRunnable case) (kind : kind_of case.topology name.part ≡ Some (kinds.Count size)) where
+module _ (case : CaseShape) (name : RowName) (size : ℕ) (runs : IsRunnable case)
+    (kind : kind_of case.topology name.part ≡ Some (kinds.Count size)) where
   abbrev shape : Shape
   shape = case.topology
 
@@ -61,16 +62,20 @@ module _ (case : CaseShape) (name : RowName) (size : ℕ) (runs : IsRunnable cas
   -- a record in time goes into no window that fired
   timely : (deeds : List Deed) (run : Run) (id : RecordId) (d : Delivery) → ArePassed deeds run
       → AreGraded shape run
-      → found_delivery id run.unhandled ≡ Some d → d.to ≡ name → (late : Bool) → d.item.late ≡ late → IsTimely size deeds (took d.item.stamp late)
+      → found_delivery id run.unhandled ≡ Some d → d.to ≡ name → (late : Bool) → d.item.late ≡ late
+      → IsTimely size deeds (took d.item.stamp late)
   timely deeds run id d passed below waits to_row true is_late = tt
   timely deeds run id d passed below waits to_row false in_time =
       let end : ℕ = window_end size d.item.stamp in
       elim (cases_lt 0 (fired_at end deeds)) [
         | inl some ↦
             let work : IsWorkFrom shape run end name.part = passed end some zero in
-            let from : WaitsFrom end name.part d = find-each (WaitsFrom end name.part) (λ (e : Delivery). same_id e.id id) run.unhandled d work.waiting waits in
-            let not_before : end ≤ d.item.stamp = from (and_from _ _ (eq-eqb d.to.part name.part (ap (λ (r : RowName). r.part) to_row)) (ap not in_time)) in
-            let graded : d.item.stamp ≤ grade d.to.part = find-each IsGraded (λ (e : Delivery). same_id e.id id) run.unhandled d below.waiting waits in
+            let from : WaitsFrom end name.part d = find-each (WaitsFrom end name.part)
+            (λ (e : Delivery). same_id e.id id) run.unhandled d work.waiting waits in
+            let not_before : end ≤ d.item.stamp = from (and_from _ _
+            (eq-eqb d.to.part name.part (ap (λ (r : RowName). r.part) to_row)) (ap not in_time)) in
+            let graded : d.item.stamp ≤ grade d.to.part = find-each IsGraded
+            (λ (e : Delivery). same_id e.id id) run.unhandled d below.waiting waits in
             let here : d.item.stamp ≤ grade name.part = subst (λ (r : RowName). d.item.stamp ≤ grade r.part) to_row graded in
             let small : d.item.stamp < MAX_STAMP = omega (arith, here, there, few_parts) in
             let after : d.item.stamp < end = omega (arith, small, some_size) in
@@ -122,10 +127,12 @@ module _ (case : CaseShape) (name : RowName) (size : ℕ) (runs : IsRunnable cas
       taken-none (Some d) s = omega (arith, s)
   fires-low run (Fire seq row timer mark effects) may time some =
       elim (is_at (row_cmp name) row) as
-      (λ b. is_at (row_cmp name) row ≡ b → 0 < fired_at time (cond b (cond (timer.tag == 0) (fired timer.time ∷ []) []) []) → time ≤ low_watermark case run name.part) [
+      (λ b. is_at (row_cmp name) row ≡ b → 0 < fired_at time (cond b (cond (timer.tag == 0) (fired timer.time ∷ []) []) [])
+      → time ≤ low_watermark case run name.part) [
         | true ↦ λ e s.
             let part : row.part ≡ name.part = ap (λ (r : RowName). r.part) (sym (same_row name row e)) in
-            let mark_low : mark ≤ low_watermark case run name.part = subst (λ p. mark ≤ low_watermark case run p) part may.under_watermark in
+            let mark_low : mark ≤ low_watermark case run name.part = subst
+            (λ p. mark ≤ low_watermark case run p) part may.under_watermark in
             let is : time ≡ timer.time = by_tag (timer.tag == 0) s in
             omega (arith, may.due, mark_low, is)
         | false ↦ λ e s. absurd (omega (arith, s))
@@ -142,7 +149,8 @@ module _ (case : CaseShape) (name : RowName) (size : ℕ) (runs : IsRunnable cas
   fires-low run (Purge seq row floor) may time some = absurd (omega (arith, some))
 
   -- times that were passed still are, and so is what the entry fires
-  passed-next : (done : List Entry) (run : Run) (entry : Entry) (deeds : List Deed) → AreIds done run → AreInTime run → MayFollow case run entry
+  passed-next : (done : List Entry) (run : Run) (entry : Entry) (deeds : List Deed) → AreIds done run → AreInTime run
+      → MayFollow case run entry
       → ArePassed deeds run → ArePassed (deeds ++ deeds_in name run entry) (followed shape run entry)
   passed-next done run entry deeds ids in_time may passed time some depth =
       LowFrom-followed case done run entry time runs ids in_time may depth name.part before
@@ -231,6 +239,7 @@ module _ (case : CaseShape) (name : RowName) (size : ℕ) (runs : IsRunnable cas
   holds-all history legal = along_history case Holds next-holds first-holds history legal
 
   pub window-open : (history : List Entry) → IsLegal case history → length history < MAX_STAMP → (end : ℕ)
-      → find (λ (w : Window). w.end == end) (windows_after size (deeds_of shape name history)) ≡ open_window size end (deeds_of shape name history)
+      → find (λ (w : Window). w.end == end) (windows_after size (deeds_of shape name history))
+      ≡ open_window size end (deeds_of shape name history)
   window-open history legal short end =
       ((holds-all history legal).windows short).each end

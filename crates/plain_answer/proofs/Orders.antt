@@ -109,9 +109,11 @@ places-swap (p ∷ ps) a b = by (places-swap ps a b) (nat_cmp a.0 p.0) refl (nat
         → with_place ((p.0, int_max p.1 x.1) ∷ ps) y ≡ with_place (p ∷ with_place ps y) x
     equal_greater x y e f = ap (λ o. put o (p.0, int_max p.1 x.1) ps y) f ∙ sym (ap (λ o. put o p (with_place ps y) x) e)
 
-    by : with_place (with_place ps a) b ≡ with_place (with_place ps b) a → (oa : Ordering) → nat_cmp a.0 p.0 ≡ oa → (ob : Ordering) → nat_cmp b.0 p.0 ≡ ob
+    by : with_place (with_place ps a) b ≡ with_place (with_place ps b) a → (oa : Ordering) → nat_cmp a.0 p.0 ≡ oa → (ob : Ordering)
+        → nat_cmp b.0 p.0 ≡ ob
         → with_place (put oa p ps a) b ≡ with_place (put ob p ps b) a
-    by rest Less e Less f = two-swap a b (p ∷ ps) (with_place (p ∷ ps) a) (with_place (p ∷ ps) b) (ap (λ o. put o p ps b) f) (ap (λ o. put o p ps a) e)
+    by rest Less e Less f = two-swap a b (p ∷ ps) (with_place (p ∷ ps) a) (with_place (p ∷ ps) b) (ap (λ o. put o p ps b) f)
+        (ap (λ o. put o p ps a) e)
     by rest Less e Equal f = less_equal a b e f
     by rest Less e Greater f = less_greater a b e f
     by rest Equal e Less f = sym (less_equal b a f e)

@@ -91,7 +91,8 @@ IsThere shape o = o.0 < parts_of shape
 added-there : (shape : Shape) (run : Run) (entry : Entry) (row : RowName) → row_written entry ≡ Some row → row.part < parts_of shape
     → AllByRecursion (IsThere shape) (added_by run entry)
 added-there shape run entry row written there =
-    subst (λ o. AllByRecursion (IsThere shape) (option_map_or (λ (row : RowName). map (member_of row.part (late_cause run.made entry)) (productions_of entry)) o []))
+    subst (λ o. AllByRecursion (IsThere shape) (option_map_or
+    (λ (row : RowName). map (member_of row.part (late_cause run.made entry)) (productions_of entry)) o []))
     (sym written)
     (each-map (IsThere shape) (member_of row.part (late_cause run.made entry)) (productions_of entry)
     (each-all (λ (p : Production). row.part < parts_of shape) (λ p. there) (productions_of entry)))
@@ -153,7 +154,8 @@ slice_get-middle (y ∷ ys) x rest = slice_get-middle ys x rest
 pub kind_of-place : (shape : Shape) (front : List ComputationShape) (c : ComputationShape) (rest : List ComputationShape)
     → shape.computations ≡ front ++ c ∷ rest → kind_of shape (injectors_of shape + length front) ≡ Some c.kind
 kind_of-place shape front c rest all =
-    ap (λ b. option_map (λ (c : ComputationShape). c.kind) (cond b None (slice_get shape.computations (injectors_of shape + length front - injectors_of shape))))
+    ap (λ b. option_map (λ (c : ComputationShape). c.kind) (cond b None
+    (slice_get shape.computations (injectors_of shape + length front - injectors_of shape))))
     (behind (injectors_of shape) (length front))
     ∙ (λ i. option_map (λ (c : ComputationShape). c.kind) (slice_get (all i) (back i)))
     ∙ ap (option_map (λ (c : ComputationShape). c.kind)) (slice_get-middle front c rest)
@@ -200,7 +202,8 @@ module _ (case : CaseShape) (h : List Entry) (runs : IsRunnable case) (legal : I
     long = omega (arith, length-append streams (x ∷ []), knows.long);
     totals = λ g.
         let long : 0 + length streams ≡ n = omega (arith, knows.long) in
-        total-same (λ (o : Member). when (nat_lt o.0 (n + 1)) (g o)) (λ o. when (nat_lt o.0 n) (g o) + when (o.0 == n) (g (n, o.1))) out (one g)
+        total-same (λ (o : Member). when (nat_lt o.0 (n + 1)) (g o))
+        (λ o. when (nat_lt o.0 n) (g o) + when (o.0 == n) (g (n, o.1))) out (one g)
         ∙ total-both (λ (o : Member). when (nat_lt o.0 n) (g o)) (λ o. when (o.0 == n) (g (n, o.1))) out
         ∙ (λ i. knows.totals g i + (sym (out_at-total (λ r. g (n, r)) n out) ∙ same (λ r. g (n, r))
         ∙ ap (λ k. total (λ r. g (k, r)) x) (sym long)) i)
@@ -260,11 +263,13 @@ module _ (case : CaseShape) (h : List Entry) (runs : IsRunnable case) (legal : I
       ap (λ n. total (λ (o : Member). when (nat_lt o.0 n) (g o)) out) same ∙ all-injectors.totals g
 
   -- what a part reads of the streams before it
-  reads-known : (streams : List (List Record)) (n : ℕ) → Knows streams n → HaveSameTotals (reads_done n (done_of shape h)) (members_read shape streams n)
+  reads-known : (streams : List (List Record)) (n : ℕ) → Knows streams n
+      → HaveSameTotals (reads_done n (done_of shape h)) (members_read shape streams n)
   reads-known streams n knows g =
       reads-out n g
       ∙ total-each (of_member shape n g) (λ (o : Member). when (nat_lt o.0 n) (of_member shape n g o)) out
-      (each-weaker (IsThere shape) (λ o. of_member shape n g o ≡ when (nat_lt o.0 n) (of_member shape n g o)) one out (out-there case h legal))
+      (each-weaker (IsThere shape) (λ o. of_member shape n g o ≡ when (nat_lt o.0 n) (of_member shape n g o)) one out
+      (out-there case h legal))
       ∙ knows.totals (of_member shape n g) ∙ sym (members-total shape g streams n)
     where
       one : (o : Member) → IsThere shape o → of_member shape n g o ≡ when (nat_lt o.0 n) (of_member shape n g o)
@@ -274,7 +279,8 @@ module _ (case : CaseShape) (h : List Entry) (runs : IsRunnable case) (legal : I
       ] refl
 
   knows-computations : (front cs : List ComputationShape) (streams : List (List Record)) → shape.computations ≡ front ++ cs
-      → Knows streams (injectors_of shape + length front) → Knows (streams_with shape streams cs) (injectors_of shape + length front + length cs)
+      → Knows streams (injectors_of shape + length front)
+      → Knows (streams_with shape streams cs) (injectors_of shape + length front + length cs)
   knows-computations front [] streams all knows =
       let same : injectors_of shape + length front ≡ injectors_of shape + length front + 0 = omega arith in
       subst (Knows streams) same knows

@@ -45,7 +45,8 @@ items-append [] other = refl
 items-append (d ∷ ds) other = ap (λ l. d.item ∷ l) (items-append ds other)
 
 -- a kind of a part, by the number of the part
-pub kind-at : (shape : Shape) (part own : ℕ) (kind : Kind) → kind_of shape part ≡ Some kind → (own == part) ≡ true → kind_of shape own ≡ Some kind
+pub kind-at : (shape : Shape) (part own : ℕ) (kind : Kind) → kind_of shape part ≡ Some kind → (own == part) ≡ true
+    → kind_of shape own ≡ Some kind
 kind-at shape part own kind of e = let same : own ≡ part = grind (arith, nat_tests) in ap (kind_of shape) same ∙ of
 
 -- what a handler of this kind left of a record
@@ -156,7 +157,8 @@ module _ (case : CaseShape) (part : ℕ) (kind : kind_of case.topology part ≡ 
           let of = kind-at shape part row.part kinds.Pass kind (ap (λ (r : RowName). r.part == part) same ∙ here) in
           let left = record-left case (run_of shape h) row id effects kinds.Pass may of in
           (λ i. Rattle.run_history.specs.Runs.with_timers
-          ((sym (ap (λ (o : EffectsView). o.timers) left) ∙ pass-timers row.key (row_of shape (run_of shape h) row).state may.delivery.item) i) (was i))
+          ((sym (ap (λ (o : EffectsView). o.timers) left)
+          ∙ pass-timers row.key (row_of shape (run_of shape h) row).state may.delivery.item) i) (was i))
       after h (Fire seq row timer mark effects) may was written sent =
           ap (Rattle.row_parts.specs.Contents.without_timer timer.tag timer.time) was
       after h (Claim worker interval) may was written sent = was
@@ -171,10 +173,11 @@ module _ (case : CaseShape) (part : ℕ) (kind : kind_of case.topology part ≡ 
       refl
     where
       one : (h : List Entry) (entry : Entry) → IsLegal case h → MayFollow case (run_of shape h) entry → fires_on part entry ≡ 0
-      one h (Fire seq row timer mark effects) legal may = elim (row.part == part) as (λ b. (row.part == part) ≡ b → ◌≡◌ {A = ℕ} (cond b 1 0) 0) [
-        | true ↦ λ e. absurd (none_some timer (sym (ap (λ ts. slice_get ts 0) (no-timers row e h legal)) ∙ may.least_timer))
-        | false ↦ λ e. refl
-      ] refl
+      one h (Fire seq row timer mark effects) legal may = elim (row.part == part) as
+          (λ b. (row.part == part) ≡ b → ◌≡◌ {A = ℕ} (cond b 1 0) 0) [
+            | true ↦ λ e. absurd (none_some timer (sym (ap (λ ts. slice_get ts 0) (no-timers row e h legal)) ∙ may.least_timer))
+            | false ↦ λ e. refl
+          ] refl
       one h (Claim worker interval) legal may = refl
       one h (Inject seq other line item) legal may = refl
       one h (Handle seq row id effects) legal may = refl

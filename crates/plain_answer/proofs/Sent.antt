@@ -114,9 +114,11 @@ entry-emitted shape g run entry = by_row (row_written entry)
         (option_map_or (λ (row : RowName). map (member_of row.part (late_cause run.made entry)) (productions_of entry)) o [])
     by_row None = refl
     by_row (Some row) =
-        emissions-total (consumers_of shape row.part) g row.part run.next (map (produced (late_cause run.made entry)) (productions_of entry))
+        emissions-total (consumers_of shape row.part) g row.part run.next
+        (map (produced (late_cause run.made entry)) (productions_of entry))
         ∙ total-map (λ r. when (is_unread shape row.part) (g (row.part, r))) (produced (late_cause run.made entry)) (productions_of entry)
-        ∙ sym (total-map (λ (o : Member). when (is_unread shape o.0) (g o)) (member_of row.part (late_cause run.made entry)) (productions_of entry))
+        ∙ sym (total-map (λ (o : Member). when (is_unread shape o.0) (g o)) (member_of row.part (late_cause run.made entry))
+        (productions_of entry))
 
 -- what was emitted is what is in the streams that nothing reads
 pub emitted-total : (case : CaseShape) (g : Member → ℕ) (h : List Entry) → IsLegal case h

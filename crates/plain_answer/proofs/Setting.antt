@@ -185,10 +185,12 @@ module _ (case : CaseShape) (name : RowName) (size : ℕ) (kind : kind_of case.t
       (others-set timer.time ws ts was)
 
   same-row : (h : List Entry) (entry : Entry) → AreSet h → deeds_in name (run_of shape h) entry ≡ []
-      → (row_of shape (followed shape (run_of shape h) entry) name).timers ≡ (row_of shape (run_of shape h) name).timers → AreSet (h ++ entry ∷ [])
+      → (row_of shape (followed shape (run_of shape h) entry) name).timers ≡ (row_of shape (run_of shape h) name).timers
+      → AreSet (h ++ entry ∷ [])
   same-row h entry was does timers = more h entry [] (row_of shape (run_of shape h) name).timers does timers was
 
-  on_row : (h : List Entry) (entry : Entry) → IsLegal case h → MayFollow case (run_of shape h) entry → AreSet h → row_written entry ≡ Some name
+  on_row : (h : List Entry) (entry : Entry) → IsLegal case h → MayFollow case (run_of shape h) entry → AreSet h → row_written entry
+      ≡ Some name
       → AreSet (h ++ entry ∷ [])
   on_row h (Claim worker interval) legal may was here = absurd (none_some name here)
   on_row h (Inject seq part line item) legal may was here =

@@ -31,7 +31,8 @@ use Rattle.plain_answer.proofs.Once.{filter-flat_map, flat_map-filter, filter-on
 use Rattle.plain_answer.proofs.Orders.{places-same}
 use Rattle.plain_answer.proofs.Places.{held_place, held_timer}
 use Rattle.plain_answer.proofs.Results.{AreSpikesPlain}
-use Rattle.plain_answer.proofs.Spiking.{is_mine, pair_of, pairs_of, legal-spiked}
+use Rattle.plain_answer.proofs.SpikeSteps.{is_mine, pair_of, pairs_of}
+use Rattle.plain_answer.proofs.Spiking.{legal-spiked}
 use Rattle.plain_answer.proofs.Taking.{member_read, reads_done, reads_done-total, is_at-both}
 use Rattle.plain_answer.proofs.Totals.{total, when, total-map, total-filter, total-same, total-sum_by, total-length, HaveSameTotals, totals-permuted}
 
@@ -46,8 +47,10 @@ no-members : (key : List ℕ) (ms : List Keyed) → list_any (pointwise nat_eq k
 no-members key [] none = refl
 no-members key (m ∷ ms) none =
     elim m.1.late as
-    (λ b. list_any (pointwise nat_eq key) (map (λ (m : Keyed). m.0) (cond (not b) (m ∷ filter (λ (m : Keyed). not m.1.late) ms) (filter (λ (m : Keyed). not m.1.late) ms))) ≡ false
-    → map (λ (m : Keyed). m.1) (cond (pointwise nat_eq key m.0 && not b) (m ∷ filter (λ (m : Keyed). pointwise nat_eq key m.0 && not m.1.late) ms)
+    (λ b. list_any (pointwise nat_eq key) (map (λ (m : Keyed). m.0)
+    (cond (not b) (m ∷ filter (λ (m : Keyed). not m.1.late) ms) (filter (λ (m : Keyed). not m.1.late) ms))) ≡ false
+    → map (λ (m : Keyed). m.1) (cond (pointwise nat_eq key m.0 && not b)
+    (m ∷ filter (λ (m : Keyed). pointwise nat_eq key m.0 && not m.1.late) ms)
     (filter (λ (m : Keyed). pointwise nat_eq key m.0 && not m.1.late) ms)) ≡ []) [
       | true ↦ λ n. elim (pointwise nat_eq key m.0) as
           (λ c. map (λ (m : Keyed). m.1) (cond (c && false) (m ∷ filter (λ (m : Keyed). pointwise nat_eq key m.0 && not m.1.late) ms)
@@ -108,7 +111,8 @@ spikes-key last times key before (p ∷ ps) =
     (one (nat_le last (length before) && int_lt (pos times *ℤ sum_of_last last before) (p.1 *ℤ pos last)))
     (spikes-key last times key (before ++ p.1 ∷ []) ps)
   where
-    one : (b : Bool) → AllByRecursion (λ (r : Record). r.key ≡ key) (cond b (record { key = key; stamp = p.0 + 1; value = p.1; late = false } ∷ []) [])
+    one : (b : Bool) → AllByRecursion (λ (r : Record). r.key ≡ key)
+        (cond b (record { key = key; stamp = p.0 + 1; value = p.1; late = false } ∷ []) [])
     one true = (refl, tt)
     one false = tt
 
@@ -129,7 +133,8 @@ fires-keys part (e ∷ es) =
     one (Ack seq row id) = refl
     one (Purge seq row floor) = refl
 
-module _ (case : CaseShape) (part last times : ℕ) (runs : IsRunnable case) (kind : kind_of case.topology part ≡ Some (kinds.Spike last times))
+module _ (case : CaseShape) (part last times : ℕ) (runs : IsRunnable case)
+    (kind : kind_of case.topology part ≡ Some (kinds.Spike last times))
     (h : List Entry) (legal : IsLegal case h) (done : IsDone case (run_of case.topology h))
     (ms : List Keyed) (reads : HaveSameTotals (reads_done part (done_of case.topology h)) ms) where
   abbrev shape : Shape
@@ -143,12 +148,14 @@ module _ (case : CaseShape) (part last times : ℕ) (runs : IsRunnable case) (ki
   row-reads key g =
       total-map g pair_of (filter (is_mine (name key)) (done_of shape h))
       ∙ total-filter (λ (d : Delivery). g (pair_of d)) (is_mine (name key)) (done_of shape h)
-      ∙ total-same (λ (d : Delivery). when (is_mine (name key) d) (g (pair_of d))) (λ (d : Delivery). when (d.to.part == part) (of_member (member_read d)))
+      ∙ total-same (λ (d : Delivery). when (is_mine (name key) d) (g (pair_of d)))
+      (λ (d : Delivery). when (d.to.part == part) (of_member (member_read d)))
       (done_of shape h) one
       ∙ sym (reads_done-total of_member part (done_of shape h))
       ∙ reads of_member
       ∙ sym (total-filter (λ (m : Keyed). g (place_of m.1)) (λ (m : Keyed). pointwise nat_eq key m.0 && not m.1.late) ms)
-      ∙ sym (total-map (λ (r : Record). g (place_of r)) (λ (m : Keyed). m.1) (filter (λ (m : Keyed). pointwise nat_eq key m.0 && not m.1.late) ms))
+      ∙ sym (total-map (λ (r : Record). g (place_of r)) (λ (m : Keyed). m.1)
+      (filter (λ (m : Keyed). pointwise nat_eq key m.0 && not m.1.late) ms))
       ∙ sym (total-map g place_of (row_members key ms))
     where
       of_member : Keyed → ℕ
@@ -200,7 +207,8 @@ module _ (case : CaseShape) (part last times : ℕ) (runs : IsRunnable case) (ki
       (legal-spiked case (name key) last times runs kind h legal).fires
       ∙ ap (map (λ (p : ℕ × ℤ). key)) (all-rang key)
       ∙ sym (row-at (λ (k : List ℕ). k) fired ms
-      (λ k. each-map (λ y. y ≡ k) (λ (p : ℕ × ℤ). k) (places_in (row_members k ms)) (each-all (λ p. k ≡ k) (λ p. refl) (places_in (row_members k ms))))
+      (λ k. each-map (λ y. y ≡ k) (λ (p : ℕ × ℤ). k) (places_in (row_members k ms))
+      (each-all (λ p. k ≡ k) (λ p. refl) (places_in (row_members k ms))))
       (λ k none. ap (λ l. map (λ (p : ℕ × ℤ). k) (places_in l)) none) key))) (λ k. 1)
       ∙ total-length (flat_map fired (row_keys ms))
       ∙ length-flat_map fired (row_keys ms)
@@ -213,7 +221,8 @@ module _ (case : CaseShape) (part last times : ℕ) (runs : IsRunnable case) (ki
       fired k = map (λ (p : ℕ × ℤ). k) (places_in (row_members k ms))
 
 -- the spikes of a finished history are plain
-pub spikes-plain : (case : CaseShape) → IsRunnable case → (h : List Entry) → IsLegal case h → IsDone case (run_of case.topology h) → AreSpikesPlain case h
+pub spikes-plain : (case : CaseShape) → IsRunnable case → (h : List Entry) → IsLegal case h → IsDone case (run_of case.topology h)
+    → AreSpikesPlain case h
 spikes-plain case runs h legal done = record {
   streams = λ part last times kind ms reads. spike-plain case part last times runs kind h legal done ms reads;
   fires = λ part last times kind ms reads. spike-fires case part last times runs kind h legal done ms reads;

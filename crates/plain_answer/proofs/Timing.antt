@@ -69,7 +69,8 @@ own-timer t zero_tag = grind (arith, nat_tests)
 has-own : (t : Timer) (ts : List Timer) → t.tag ≡ 0 → has_timer t.time (with_timer t ts) ≡ true
 has-own t [] zero_tag = ap (λ b. b || false) (own-timer t zero_tag)
 has-own t (u ∷ us) zero_tag =
-    elim (timer_cmp t u) as (λ o. timer_cmp t u ≡ o → has_timer t.time (match_ordering o (t ∷ u ∷ us) (set_again t u ∷ us) (u ∷ with_timer t us)) ≡ true) [
+    elim (timer_cmp t u) as (λ o. timer_cmp t u ≡ o
+    → has_timer t.time (match_ordering o (t ∷ u ∷ us) (set_again t u ∷ us) (u ∷ with_timer t us)) ≡ true) [
       | Less ↦ λ e. ap (λ b. b || has_timer t.time (u ∷ us)) (own-timer t zero_tag)
       | Equal ↦ λ e.
           let same = tie_same t u e in
@@ -81,7 +82,8 @@ has-own t (u ∷ us) zero_tag =
     ] refl
 
 -- a timer of another time, or where another tag is taken, stays
-has-without : (time tag at : ℕ) (ts : List Timer) → ((tag == 0) && (time == at)) ≡ false → has_timer time ts ≡ true → has_timer time (without_timer tag at ts) ≡ true
+has-without : (time tag at : ℕ) (ts : List Timer) → ((tag == 0) && (time == at)) ≡ false → has_timer time ts ≡ true
+    → has_timer time (without_timer tag at ts) ≡ true
 has-without time tag at [] other has = has
 has-without time tag at (u ∷ us) other has =
     elim (is_timer tag at u) as
@@ -89,10 +91,11 @@ has-without time tag at (u ∷ us) other has =
       | true ↦ λ e.
           let not_here : is_timer 0 time u ≡ false = grind (arith, nat_tests) in
           has-without time tag at us other (sym (ap (λ b. b || has_timer time us) not_here) ∙ has)
-      | false ↦ λ e. elim (is_timer 0 time u) as (λ b. (b || has_timer time us) ≡ true → (b || has_timer time (without_timer tag at us)) ≡ true) [
-        | true ↦ λ h. refl
-        | false ↦ λ h. has-without time tag at us other h
-      ] has
+      | false ↦ λ e. elim (is_timer 0 time u) as (λ b. (b || has_timer time us) ≡ true
+          → (b || has_timer time (without_timer tag at us)) ≡ true) [
+            | true ↦ λ h. refl
+            | false ↦ λ h. has-without time tag at us other h
+          ] has
     ] refl
 
 -- each window has a timer
@@ -110,7 +113,8 @@ record-timed size late ws ts item timed =
       | false ↦
           let end : ℕ = window_end size item.stamp in
           let t : Timer = record { tag = 0; time = end; late = item.late } in
-          entered-recursion (λ (w : Window). w.end) (record { end = end; count = 1 }) (λ (w : Window). record w { count = one_more w.count })
+          entered-recursion (λ (w : Window). w.end) (record { end = end; count = 1 })
+          (λ (w : Window). record w { count = one_more w.count })
           (λ (w : Window). has_timer w.end (with_timer t ts) ≡ true) (has-own t ts refl) (λ w p. p) ws
           (each-weaker (λ (w : Window). has_timer w.end ts ≡ true) (λ (w : Window). has_timer w.end (with_timer t ts) ≡ true)
           (λ w p. has-mono w.end t ts p) ws timed)
@@ -122,7 +126,8 @@ closed-timed : (at : ℕ) (ws : List Window) (ts : List Timer) → AreTimed ws t
 closed-timed at [] ts timed = tt
 closed-timed at (w ∷ ws) ts timed =
     elim (w.end == at) as
-    (λ b. (w.end == at) ≡ b → AreTimed (cond (not b) (w ∷ filter (λ (w : Window). not (w.end == at)) ws) (filter (λ (w : Window). not (w.end == at)) ws)) (without_timer 0 at ts)) [
+    (λ b. (w.end == at) ≡ b → AreTimed (cond (not b) (w ∷ filter (λ (w : Window). not (w.end == at)) ws)
+    (filter (λ (w : Window). not (w.end == at)) ws)) (without_timer 0 at ts)) [
       | true ↦ λ e. closed-timed at ws ts timed.1
       | false ↦ λ e. (has-without w.end 0 at ts e timed.0, closed-timed at ws ts timed.1)
     ] refl
@@ -132,12 +137,14 @@ timer-timed : (size : ℕ) (ws : List Window) (ts : List Timer) (timer : Timer) 
     → AreTimed (fold (after_deed size) ws (cond (timer.tag == 0) (fired timer.time ∷ []) [])) (without_timer timer.tag timer.time ts)
 timer-timed size ws ts timer timed =
     elim (timer.tag == 0) as
-    (λ b. (timer.tag == 0) ≡ b → AreTimed (fold (after_deed size) ws (cond b (fired timer.time ∷ []) [])) (without_timer timer.tag timer.time ts)) [
+    (λ b. (timer.tag == 0) ≡ b → AreTimed (fold (after_deed size) ws (cond b (fired timer.time ∷ []) []))
+    (without_timer timer.tag timer.time ts)) [
       | true ↦ λ e.
           let zero_tag : 0 ≡ timer.tag = grind (arith, nat_tests) in
           subst (λ n. AreTimed (filter (λ (w : Window). not (w.end == timer.time)) ws) (without_timer n timer.time ts)) zero_tag
           (closed-timed timer.time ws ts timed)
-      | false ↦ λ e. each-weaker (λ (w : Window). has_timer w.end ts ≡ true) (λ (w : Window). has_timer w.end (without_timer timer.tag timer.time ts) ≡ true)
+      | false ↦ λ e. each-weaker (λ (w : Window). has_timer w.end ts ≡ true)
+          (λ (w : Window). has_timer w.end (without_timer timer.tag timer.time ts) ≡ true)
           (λ w p. has-without w.end timer.tag timer.time ts (ap (λ b. b && (w.end == timer.time)) e) p) ws timed
     ] refl
 
@@ -151,14 +158,16 @@ module _ (case : CaseShape) (name : RowName) (size : ℕ) (kind : kind_of case.t
     timed : AreTimed (windows_after size s.deeds) (row_of shape s.run name).timers
 
   -- with some more deeds
-  more : (s : Told) (entry : Entry) (ds : List Deed) (ts : List Timer) → IsTimed s → MayFollow case s.run entry → deeds_in name s.run entry ≡ ds
+  more : (s : Told) (entry : Entry) (ds : List Deed) (ts : List Timer) → IsTimed s → MayFollow case s.run entry
+      → deeds_in name s.run entry ≡ ds
       → (row_of shape (followed shape s.run entry) name).timers ≡ ts → AreTimed (fold (after_deed size) (windows_after size s.deeds) ds) ts
       → IsTimed (told shape name s entry)
   more s entry ds ts has may does timers timed = record {
     counted = step case name size kind s entry has.counted may;
     timed = subst (λ l. AreTimed l (row_of shape (followed shape s.run entry) name).timers)
         (sym (fold-append (after_deed size) [] s.deeds (deeds_in name s.run entry)))
-        (subst (λ l. AreTimed (fold (after_deed size) (windows_after size s.deeds) l) (row_of shape (followed shape s.run entry) name).timers) (sym does)
+        (subst (λ l. AreTimed (fold (after_deed size) (windows_after size s.deeds) l)
+        (row_of shape (followed shape s.run entry) name).timers) (sym does)
         (subst (λ l. AreTimed (fold (after_deed size) (windows_after size s.deeds) ds) l) (sym timers) timed));
   }
 
@@ -171,7 +180,8 @@ module _ (case : CaseShape) (name : RowName) (size : ℕ) (kind : kind_of case.t
       let item : Record = may.delivery.item in
       let late : ℕ = has.counted.late in
       let does : effects_of_record (kinds.Count size) name.key (row_of shape s.run name).state item ≡ effects =
-      some_same _ effects (sym (ap (option_map (λ k. effects_of_record k name.key (row_of shape s.run name).state item)) kind) ∙ may.does) in
+      some_same _ effects (sym (ap (option_map (λ k. effects_of_record k name.key (row_of shape s.run name).state item)) kind)
+      ∙ may.does) in
       let left : count_record size late ws item ≡ effects =
       sym (ap (λ st. effects_of_record (kinds.Count size) name.key st item) has.counted.is) ∙ does in
       let here : (row_of shape (followed shape s.run entry) name).timers ≡ with_timers effects.timers ts =
@@ -196,7 +206,8 @@ module _ (case : CaseShape) (name : RowName) (size : ℕ) (kind : kind_of case.t
       → (row_of shape (followed shape s.run entry) name).timers ≡ (row_of shape s.run name).timers → IsTimed (told shape name s entry)
   same-row s entry has may does timers = more s entry [] (row_of shape s.run name).timers has may does timers has.timed
 
-  on_row : (s : Told) (entry : Entry) → IsTimed s → MayFollow case s.run entry → row_written entry ≡ Some name → IsTimed (told shape name s entry)
+  on_row : (s : Told) (entry : Entry) → IsTimed s → MayFollow case s.run entry → row_written entry ≡ Some name
+      → IsTimed (told shape name s entry)
   on_row s (Claim worker interval) has may here = absurd (none_some name here)
   on_row s (Inject seq part line item) has may here =
       let same : part ≡ name.part = ap (λ (r : RowName). r.part) (some_same _ name here) in
@@ -217,7 +228,8 @@ module _ (case : CaseShape) (name : RowName) (size : ℕ) (kind : kind_of case.t
   timed-step : (s : Told) (entry : Entry) → IsTimed s → MayFollow case s.run entry → IsTimed (told shape name s entry)
   timed-step s entry has may = elim (on_row_or_not entry name) [
     | inl here ↦ on_row s entry has may here
-    | inr apart ↦ same-row s entry has may (deeds-apart name s.run entry apart) (ap (λ c. c.timers) (row_of-elsewhere shape s.run entry name apart))
+    | inr apart ↦ same-row s entry has may (deeds-apart name s.run entry apart)
+        (ap (λ c. c.timers) (row_of-elsewhere shape s.run entry name apart))
   ]
 
   record Holds (done : List Entry) (run : Run) : Type 0 where

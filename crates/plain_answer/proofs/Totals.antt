@@ -36,10 +36,11 @@ total-map g f (x ∷ xs) = ap (λ n. g (f x) + n) (total-map g f xs)
 
 pub total-filter : {X : Type 0} (g : X → ℕ) (p : X → Bool) (xs : List X) → total g (filter p xs) ≡ total (λ x. when (p x) (g x)) xs
 total-filter g p [] = refl
-total-filter g p (x ∷ xs) = elim (p x) as (λ b. total g (cond b (x ∷ filter p xs) (filter p xs)) ≡ when b (g x) + total (λ x. when (p x) (g x)) xs) [
-  | true ↦ ap (λ n. g x + n) (total-filter g p xs)
-  | false ↦ omega (arith, total-filter g p xs)
-]
+total-filter g p (x ∷ xs) = elim (p x) as (λ b. total g (cond b (x ∷ filter p xs) (filter p xs))
+    ≡ when b (g x) + total (λ x. when (p x) (g x)) xs) [
+      | true ↦ ap (λ n. g x + n) (total-filter g p xs)
+      | false ↦ omega (arith, total-filter g p xs)
+    ]
 
 pub total-length : {X : Type 0} (xs : List X) → total (λ x. 1) xs ≡ length xs
 total-length [] = refl
@@ -66,7 +67,8 @@ total-both f g [] = refl
 total-both f g (x ∷ xs) = omega (arith, total-both f g xs)
 
 -- a sum of sums, the other way round
-pub total-swap : {X Y : Type 0} (f : X → Y → ℕ) (xs : List X) (ys : List Y) → total (λ x. total (f x) ys) xs ≡ total (λ y. total (λ x. f x y) xs) ys
+pub total-swap : {X Y : Type 0} (f : X → Y → ℕ) (xs : List X) (ys : List Y) → total (λ x. total (f x) ys) xs
+    ≡ total (λ y. total (λ x. f x y) xs) ys
 total-swap f [] ys = sym (total-zero ys)
 total-swap f (x ∷ xs) ys =
     ap (λ n. total (f x) ys + n) (total-swap f xs ys) ∙ sym (total-both (f x) (λ y. total (λ x. f x y) xs) ys)

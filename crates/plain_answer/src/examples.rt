@@ -32,8 +32,8 @@ pub fn a_late_record_counts_as_late()
     ensures late { late_count late_case ≡ 1 }
 {}
 
-/// Windows of 1, 1 and 7 records: twice 7 is above three times the sum of the two before. Of 1, 1 and 3
-/// the last is not above it.
+/// Windows of 1, 1 and 7 records: twice 7 is above three times the sum of the two before. Of 1, 1
+/// and 3 the last is not above it.
 pub fn a_window_far_above_is_a_spike()
     ensures above { plain_lines (spike_case (121 ∷ 122 ∷ 123 ∷ 124 ∷ 125 ∷ 126 ∷ []))
         ≡ record { stream = codes "alerts"; stamp = 181; key = key_a; value = pos 7 } ∷ [] }
@@ -44,8 +44,8 @@ pub fn a_window_far_above_is_a_spike()
     ensures not_above_handled { handled_of (spike_case (121 ∷ 122 ∷ [])) ≡ 8 }
 {}
 
-/// Two injectors, of which one has a late line, a count that reads one of them by the head of its keys,
-/// and a spike that reads each window twice: each window comes to one place, and is no spike.
+/// Two injectors, of which one has a late line, a count that reads one of them by the head of its
+/// keys, and a spike that reads each window twice: each window comes to one place, and is no spike.
 pub fn two_readings_are_two_members()
     ensures lines { plain_lines wide_case ≡ [] }
     ensures fired { fired_of wide_case ≡ 4 }

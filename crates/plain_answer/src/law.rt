@@ -9,8 +9,8 @@ ghost use Rattle.run_history.specs.Runs.{run_of};
 ghost use Rattle.run_history.specs.Texts.{IsResultText};
 ghost use Rattle.plain_answer.specs.Plain.{IsPlainText};
 
-/// The result text of a run that is at its end is the plain count of its files, whatever the order of
-/// its entries was, and whoever wrote them.
+/// The result text of a run that is at its end is the plain count of its files, whatever the order
+/// of its entries was, and whoever wrote them.
 pub fn results_are_the_plain_count()
     ensures plain { (case : CaseShape) (history : List Entry) (text : List ℕ) →
         IsRunnable case → IsLegal case history → IsFinished case (run_of case.topology history) →

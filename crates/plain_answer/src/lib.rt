@@ -2,9 +2,11 @@
 //!
 //! The definition cites no history, no handler, no timer and no watermark: a stream has what its
 //! injector's file has, or what its computation makes of all that it reads at once. Stands on
-//! `history_laws`. Public contract: the result text of every legal and finished history of a case is
-//! the plain count of the case, in whatever order its entries came. Definition: `specs/Plain.antt`,
-//! which is to be read from the top; no clause of another crate cites the other files of `specs/`.
+//! `history_laws`. Public contract: the result text of every legal and finished history of a case
+//! is the plain count of the case, in whatever order its entries came, and a case has one plain
+//! text. Definition: `specs/Plain.antt`, which is to be read from the top, and `specs/Rows.antt`
+//! with cases that were worked by hand; no clause of another crate cites the other files of
+//! `specs/`.
 #![tactic(auto)]
 
 mod examples;
