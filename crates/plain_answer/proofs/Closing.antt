@@ -47,6 +47,7 @@ use Rattle.plain_answer.proofs.Stories.{deeds-push, out-push, legal-push, along_
 pub same-key : (a b : List ℕ) → pointwise nat_eq a b ≡ true → a ≡ b
 same-key a b e = (slice_eq-Decides Decides-eqb a b (pointwise nat_eq a b) refl).0 e
 
+-- a key passes as itself
 pub key-itself : (a : List ℕ) → pointwise nat_eq a a ≡ true
 key-itself a = (slice_eq-Decides Decides-eqb a a (pointwise nat_eq a a) refl).1 refl
 
@@ -66,6 +67,7 @@ counted_at key end count = cond (count == 0) [] (count_at key end count ∷ [])
 abbrev pub closed_at : List ℕ → ℕ → ℕ → ℕ → List Record
 closed_at key end fires takes = cond (fires == 0) [] (counted_at key end takes)
 
+-- by what a row took and fired
 abbrev pub closed : ℕ → List ℕ → ℕ → List Deed → List Record
 closed size key end deeds = closed_at key end (fired_at end deeds) (taken_into size end deeds)
 
@@ -203,9 +205,11 @@ module _ (case : CaseShape) (name : RowName) (size end : ℕ) (runs : IsRunnable
   abbrev shape : Shape
   shape = case.topology
 
+  -- the stream's members at this place
   abbrev here : List Record → List Record
   here = filter (at_place (name.key, end))
 
+  -- what is in the stream at this place is of what the row took and fired
   abbrev IsClosed : List Entry → Type 0
   IsClosed h = length h < MAX_STAMP → here (out_at name.part (out_of shape h)) ≡ closed size name.key end (deeds_of shape name h)
 
@@ -250,6 +254,7 @@ module _ (case : CaseShape) (name : RowName) (size end : ℕ) (runs : IsRunnable
   nil-no_fire : (time : ℕ) → ◌≡◌ {A = List Deed} [] (fired time ∷ []) → ⊥
   nil-no_fire time e = cc
 
+  -- and no record that is taken is one
   taken-no_fire : (o : Option Delivery) (b : Bool) (time : ℕ) → cond b (taken o) [] ≡ fired time ∷ [] → ⊥
   taken-no_fire o false time e = nil-no_fire time e
   taken-no_fire None true time e = nil-no_fire time e
@@ -290,6 +295,7 @@ module _ (case : CaseShape) (name : RowName) (size end : ℕ) (runs : IsRunnable
     | false ↦ λ e. refl
   ] refl
 
+  -- what an entry adds at this place, by its kind
   adds-here : (h : List Entry) (entry : Entry) → IsLegal case h → MayFollow case (run_of shape h) entry
       → length (h ++ entry ∷ []) < MAX_STAMP
       → closed size name.key end (deeds_of shape name h) ++ here (out_at name.part (added_by (run_of shape h) entry))

@@ -197,6 +197,7 @@ module _ (case : CaseShape) (name : RowName) (size : ℕ) (kind : kind_of case.t
     same : run ≡ (told_of shape name done).run
     counted : IsCounted (told_of shape name done)
 
+  -- both with one more entry
   next-holds : (done : List Entry) (run : Run) (entry : Entry) → Holds done run → MayFollow case run entry
       → Holds (done ++ entry ∷ []) (followed shape run entry)
   next-holds done run entry holds may =
@@ -208,6 +209,7 @@ module _ (case : CaseShape) (name : RowName) (size : ℕ) (kind : kind_of case.t
         counted = subst IsCounted (sym next) (step (told_of shape name done) entry holds.counted follows);
       }
 
+  -- after each legal history
   pub count-windows : (history : List Entry) → IsLegal case history
       → (late : ℕ) × ((row_of shape (run_of shape history) name).state
       ≡ states.Count late (windows_after size (deeds_of shape name history)))

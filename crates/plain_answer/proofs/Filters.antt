@@ -44,6 +44,7 @@ module _ {X K : Type 0} (at : K → X → Bool) (key : X → K) (own : (x : X) �
       nil≢cons : {y : X} {ys : List X} → ◌≡◌ {A = List X} [] (y ∷ ys) → ⊥
       nil≢cons e = cc
 
+  -- lists with the same elements of each key, of at most so many elements, are permutations
   pub by_keys : (n : ℕ) (xs ys : List X) → length xs ≤ n → AreSame xs ys → IsPermutation xs ys
   by_keys n [] ys few same = subst (λ l. IsPermutation [] l) (none_left ys same) (IsPermutation-refl [])
   by_keys zero (x ∷ xs) ys few same = absurd (omega (arith, few))

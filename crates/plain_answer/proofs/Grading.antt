@@ -49,6 +49,7 @@ record IsNear (stamp : ℕ) (o : EffectsView) : Type 0 where
   timers : AllByRecursion (λ (t : Timer). t.time ≤ stamp + 2 ^ 40) o.timers
   productions : AllByRecursion (λ (p : Production). p.stamp ≤ stamp + 2 ^ 40) o.productions
 
+-- of a record
 record-near : (kind : Kind) (key : List ℕ) (state : State) (item : Record) → IsKind kind
     → IsNear item.stamp (effects_of_record kind key state item)
 record-near (kinds.Count size) key (states.Count late windows) item ranged =
@@ -82,11 +83,13 @@ record-near kinds.Pass key (states.Spike late held known) item ranged = record {
 abbrev AreBy : ℕ → EffectsView → Type 0
 AreBy time o = AllByRecursion (λ (p : Production). p.stamp ≤ time) o.productions
 
+-- of a count
 count-by : (key : List ℕ) (late time : ℕ) (windows : List Window) (due : Option Window) → IfSome due (λ w. w.end ≡ time)
     → AreBy time (count_timer key late windows due)
 count-by key late time windows None ends = tt
 count-by key late time windows (Some due) ends = (omega (arith, ends), tt)
 
+-- of a spike
 spike-by : (last times : ℕ) (key : List ℕ) (late time : ℕ) (held : List HeldTotal) (known : List ℤ) (due : Option HeldTotal)
     → IfSome due (λ h. due_time h.stamp ≡ time) → AreBy time (spike_timer last times key late held known due)
 spike-by last times key late time held known None ends = tt
@@ -98,6 +101,7 @@ spike-by last times key late time held known (Some due) ends =
       | false ↦ tt
     ]
 
+-- a window that is due ends at the time of its timer
 window-ends : (windows : List Window) (timer : Timer) → IfSome (window_due windows timer) (λ w. w.end ≡ timer.time)
 window-ends windows timer = elim (timer.tag == 0) as (λ b. IfSome (cond b (find (λ (w : Window). w.end == timer.time) windows) None)
     (λ w. w.end ≡ timer.time)) [
@@ -105,6 +109,7 @@ window-ends windows timer = elim (timer.tag == 0) as (λ b. IfSome (cond b (find
       | false ↦ tt
     ]
 
+-- a total that is due is due at the time of its timer
 total-ends : (held : List HeldTotal) (timer : Timer) → IfSome (total_due held timer) (λ h. due_time h.stamp ≡ timer.time)
 total-ends held timer = elim (timer.tag == 0) as (λ b. IfSome
     (cond b (find (λ (h : HeldTotal). due_time h.stamp == timer.time) held) None) (λ h. due_time h.stamp ≡ timer.time)) [
@@ -112,6 +117,7 @@ total-ends held timer = elim (timer.tag == 0) as (λ b. IfSome
       | false ↦ tt
     ]
 
+-- of a timer, whatever the kind
 timer-by : (kind : Kind) (key : List ℕ) (state : State) (timer : Timer) → AreBy timer.time (effects_of_timer kind key state timer)
 timer-by (kinds.Count size) key (states.Count late windows) timer = count-by key late timer.time windows (window_due windows timer)
     (window-ends windows timer)
@@ -127,9 +133,11 @@ timer-by kinds.Pass key state timer = tt
 
 -- ---- along a history
 
+-- a delivery is within its part's grade
 abbrev pub IsGraded : Delivery → Type 0
 IsGraded d = d.item.stamp ≤ grade d.to.part
 
+-- a timer of a part is due within a step of the part's grade
 abbrev pub IsDueBy : ℕ → Timer → Type 0
 IsDueBy part t = t.time ≤ grade part + 2 ^ 40
 
@@ -218,6 +226,7 @@ module _ (case : CaseShape) (runs : IsRunnable case) where
   timers-near run (Ack seq row id) sent name graded may here = graded.timers name
   timers-near run (Purge seq row floor) sent name graded may here = graded.timers name
 
+  -- one more entry keeps it so
   pub next-graded : (done : List Entry) (run : Run) (entry : Entry) → AreGraded shape run → MayFollow case run entry
       → AreGraded shape (followed shape run entry)
   next-graded done run entry graded may =
@@ -231,10 +240,12 @@ module _ (case : CaseShape) (runs : IsRunnable case) where
             (λ written. timers-near run entry (deliveries_of shape run.made run.next entry) name graded may written);
       }
 
+  -- after each legal history
   pub graded-all : (history : List Entry) → IsLegal case history → AreGraded shape (run_of shape history)
   graded-all history legal = along_history case (λ done run. AreGraded shape run) next-graded
       (record { made = tt; waiting = tt; timers = λ name. tt }) history legal
 
+-- the same, for a caller with a case
 pub legal-graded : (case : CaseShape) (history : List Entry) → IsRunnable case → IsLegal case history
     → AreGraded case.topology (run_of case.topology history)
 legal-graded case history runs legal = graded-all case runs history legal

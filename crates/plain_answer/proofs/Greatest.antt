@@ -23,10 +23,12 @@ abbrev Climbs : List ℕ → Type 0
 Climbs [] = Unit {0}
 Climbs (n ∷ ns) = AllByRecursion (λ m. n < m) ns × Climbs ns
 
+-- what is below the first is below the others
 above : (a b : ℕ) (ns : List ℕ) → a < b → AllByRecursion (λ m. b < m) ns → AllByRecursion (λ m. a < m) ns
 above a b [] lt each = tt
 above a b (n ∷ ns) lt each = (omega (arith, lt, each.0), above a b ns lt each.1)
 
+-- what is below all is below them with one more
 with_number-above : (a n : ℕ) (ns : List ℕ) → a < n → AllByRecursion (λ m. a < m) ns → AllByRecursion (λ m. a < m) (with_number n ns)
 with_number-above a n [] lt each = (lt, tt)
 with_number-above a n (m ∷ ms) lt each =
@@ -36,6 +38,7 @@ with_number-above a n (m ∷ ms) lt each =
       | Greater ↦ (each.0, with_number-above a n ms lt each.1)
     ]
 
+-- numbers that ascend still do with one more
 Climbs-with : (n : ℕ) (ns : List ℕ) → Climbs ns → Climbs (with_number n ns)
 Climbs-with n [] up = (tt, tt)
 Climbs-with n (m ∷ ms) up =
@@ -71,6 +74,7 @@ with_number-has s n (m ∷ ms) =
 
 -- ---- one more record
 
+-- the timestamps of records
 abbrev stamps : List Record → List ℕ
 stamps items = map (λ (r : Record). r.stamp) items
 
@@ -94,6 +98,7 @@ greatest-push items r first rest is =
     ∙ fold-append (λ most (q : Record). int_max most q.value) first.value rest (r ∷ [])
     ∙ sym (ap (λ l. int_max (greatest l) r.value) is)
 
+-- with the first record of a timestamp
 greatest-first : (items : List Record) (r : Record) → at_stamp r.stamp items ≡ []
     → greatest (at_stamp r.stamp (items ++ r ∷ [])) ≡ r.value
 greatest-first items r none =

@@ -32,6 +32,7 @@ module _ (case : CaseShape) (part : ℕ) (is : is_injector case.topology part �
   abbrev shape : Shape
   shape = case.topology
 
+  -- the row of the injector
   abbrev name : RowName
   name = record { part = part; key = [] }
 
@@ -82,6 +83,7 @@ module _ (case : CaseShape) (part : ℕ) (is : is_injector case.topology part �
       push [] = refl
       push (k ∷ ks) = ap (λ r. record_of k.item ∷ r) (push ks)
 
+  -- an entry that injects the next line
   injects : (h : List Entry) (seq line : ℕ) (item : Record) → Injected h → MayInject case (run_of shape h) part line item
       → Injected (h ++ Inject seq part line item ∷ [])
   injects h seq line item was may =
@@ -99,6 +101,7 @@ module _ (case : CaseShape) (part : ℕ) (is : is_injector case.topology part �
             ∙ line-more was.cursor l.0 here;
       }
 
+  -- one more entry, by its kind
   step : (h : List Entry) (entry : Entry) → IsLegal case h → MayFollow case (run_of shape h) entry → Injected h → Injected (h ++ entry ∷ [])
   step h (Claim worker interval) legal may was =
       stays h (Claim worker interval) was refl
@@ -129,6 +132,7 @@ module _ (case : CaseShape) (part : ℕ) (is : is_injector case.topology part �
       stays h (Purge seq row floor) was refl
       (λ n state. row_of-step shape (run_of shape h) (Purge seq row floor) name (λ c. c.state ≡ states.Injector n) state (λ written. state))
 
+  -- an injector is of no kind
   no_kind : kind_of shape part ≡ None
   no_kind = ap (λ b. option_map (λ (c : ComputationShape). c.kind)
       (cond b None (slice_get shape.computations (part - injectors_of shape)))) is

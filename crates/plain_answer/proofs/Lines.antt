@@ -56,6 +56,7 @@ module _ {X : Type 0} (same : X → X → Bool) (tells : (x y : X) → same x y 
 
 -- ---- lines
 
+-- lines are in a total order
 pub line_cmp-total : IsTotalOrder line_cmp
 line_cmp-total = then_total (on_total (λ (l : ResultLine). l.stream) nat_list_cmp_total)
     (then_total (on_total (λ (l : ResultLine). l.stamp) nat_cmp_total)
@@ -82,6 +83,7 @@ unread-total : (ss : List Subscription) (g : ResultLine → ℕ) (stream : List 
 unread-total [] g stream items = total-map g (plain_line stream) items
 unread-total (s ∷ ss) g stream items = sym (total-zero items)
 
+-- and of all streams
 streams-lines : (shape : Shape) (g : ResultLine → ℕ) (n : ℕ) (streams : List (List Record))
     → total g (flat_map (λ (s : ℕ × List Record). lines_unread (consumers_of shape s.0) (stream_of shape s.0) s.1)
     (enumerate_from n streams))

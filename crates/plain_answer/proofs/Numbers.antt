@@ -82,6 +82,7 @@ each-placed shape P holds front (c ∷ cs) all =
 
 -- ---- records that are handled
 
+-- as many entries handle as records were handled
 handles-length : (case : CaseShape) (h : List Entry) → IsLegal case h → total (λ e. when (is_handle e) 1) h
     ≡ length (done_of case.topology h)
 handles-length case = along_legal case (λ h. total (λ e. when (is_handle e) 1) h ≡ length (done_of case.topology h))
@@ -109,6 +110,7 @@ abbrev IsPlaced : Shape → Delivery → Type 0
 IsPlaced shape d = total (λ (c : ℕ × ComputationShape). when (d.to.part == c.0) 1)
     (enumerate_from (injectors_of shape) shape.computations) ≡ 1
 
+-- each that was handled
 done-placed : (case : CaseShape) (h : List Entry) → IsLegal case h → AllByRecursion (IsPlaced case.topology) (done_of case.topology h)
 done-placed case = along_legal case (λ h. AllByRecursion (IsPlaced case.topology) (done_of case.topology h))
     (λ h entry legal may was.
@@ -136,6 +138,7 @@ abbrev pub FiresPlainly : CaseShape → List Entry → Type 0
 FiresPlainly case h = (part : ℕ) (kind : Kind) → kind_of case.topology part ≡ Some kind → (ms : List Keyed)
     → HaveSameTotals (reads_done part (done_of case.topology h)) ms → total (fires_on part) h ≡ fires_of kind ms
 
+-- each fire is on one computation
 fires-placed : (case : CaseShape) (h : List Entry) → IsLegal case h
     → total (λ e. when (is_fire e) 1) h
     ≡ total (λ e. total (λ (c : ℕ × ComputationShape). fires_on c.0 e)
@@ -179,6 +182,7 @@ abbrev of_injected : (Record → ℕ) → Entry → ℕ
 of_injected f (Inject seq part line item) = f item
 of_injected f _ = 0
 
+-- what entries inject is what is in the streams of injectors
 injected-total : (case : CaseShape) (f : Record → ℕ) (h : List Entry) → IsLegal case h
     → total (of_injected f) h ≡ total (λ (o : Member). when (nat_lt o.0 (injectors_of case.topology)) (f o.1)) (out_of case.topology h)
 injected-total case f = along_legal case
@@ -227,6 +231,7 @@ injected-total case f = along_legal case
     one run (Ack seq row id) may = refl
     one run (Purge seq row floor) may = refl
 
+-- a sum over the records of sources
 sources-total : (f : Record → ℕ) (n : ℕ) (sources : List Source)
     → stream_total (λ (o : Member). f o.1) n (map injected_of sources) ≡ total (λ source. total f (injected_of source)) sources
 sources-total f n [] = refl
@@ -239,9 +244,11 @@ module _ (case : CaseShape) (h : List Entry) (runs : IsRunnable case) (legal : I
   abbrev shape : Shape
   shape = case.topology
 
+  -- the computations by their numbers
   abbrev placed : List (ℕ × ComputationShape)
   placed = enumerate_from (injectors_of shape) shape.computations
 
+  -- how many records were handled
   pub handled-plain : count_by is_handle h ≡ handled_of case
   handled-plain =
       sym (total-count_by is_handle h) ∙ handles-length case h legal ∙ sym (total-length (done_of shape h))
@@ -257,6 +264,7 @@ module _ (case : CaseShape) (h : List Entry) (runs : IsRunnable case) (legal : I
       (λ (c : ℕ × ComputationShape). (c.1.kind, members_read shape (plain_streams case) c.0)) placed)
       ∙ total-sum_by (λ (c : Kind × List Keyed). length c.1) (plain_members case)
 
+  -- how many timers fired
   pub fired-plain : FiresPlainly case h → count_by is_fire h ≡ fired_of case
   fired-plain fires =
       sym (total-count_by is_fire h) ∙ fires-placed case h legal
@@ -277,6 +285,7 @@ module _ (case : CaseShape) (h : List Entry) (runs : IsRunnable case) (legal : I
       none_before : injectors_of shape + 0 ≡ injectors_of shape
       none_before = omega arith
 
+  -- how many records were injected
   pub injected-plain : count_by is_inject h ≡ injected_count case
   injected-plain =
       sym (total-count_by is_inject h)
@@ -296,6 +305,7 @@ module _ (case : CaseShape) (h : List Entry) (runs : IsRunnable case) (legal : I
       one (Ack seq row id) = refl
       one (Purge seq row floor) = refl
 
+  -- how many of them were late
   pub late-plain : count_by is_late h ≡ late_count case
   late-plain =
       sym (total-count_by is_late h)

@@ -42,9 +42,11 @@ module _ {X : Type 0} (R : X → X → Ordering) (order : IsTotalOrder R) (tells
         | false ↦ λ e s. one-of x y zs each.1 (omega (arith, s))
       ] refl some
 
+  -- each ties with itself
   itself : (x : X) → is_eq (R x x) ≡ true
   itself x = ap is_eq (tied_itself order x)
 
+  -- and is not less than itself
   not_itself : (x : X) → is_lt (R x x) ≡ false
   not_itself x = ap is_lt (tied_itself order x)
 

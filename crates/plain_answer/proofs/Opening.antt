@@ -46,12 +46,15 @@ module _ (case : CaseShape) (name : RowName) (size : ℕ) (runs : IsRunnable cas
   abbrev shape : Shape
   shape = case.topology
 
+  -- the part is there
   there : name.part < parts_of shape
   there = kind-there shape name.part (kinds.Count size) kind
 
+  -- there are at most 48 parts
   few_parts : parts_of shape ≤ 48
   few_parts = omega (arith, runs.topology.few_injectors, runs.topology.few_computations)
 
+  -- windows last something
   some_size : 1 ≤ size
   some_size = (kind-ranged shape name.part (kinds.Count size) runs.topology kind).0
 
@@ -177,6 +180,7 @@ module _ (case : CaseShape) (name : RowName) (size : ℕ) (runs : IsRunnable cas
             (HasWindows-next size deeds (windows_after size deeds) one.0 few one.2 has)
       ])
 
+  -- an entry does one thing at most
   few-next : (deeds ds : List Deed) → Does size deeds ds → length (deeds ++ ds) ≤ length deeds + 1
   few-next deeds ds what = elim what [
     | inl none ↦ subst (λ l. length (deeds ++ l) ≤ length deeds + 1) (sym none) (omega (arith, length-append deeds []))
@@ -194,6 +198,7 @@ module _ (case : CaseShape) (name : RowName) (size : ℕ) (runs : IsRunnable cas
     pub few : length (deeds_of shape name done) ≤ length done
     pub windows : length done < MAX_STAMP → HasWindows size (deeds_of shape name done) (windows_after size (deeds_of shape name done))
 
+  -- all of it with one more entry
   next-holds : (done : List Entry) (run : Run) (entry : Entry) → Holds done run → MayFollow case run entry
       → Holds (done ++ entry ∷ []) (followed shape run entry)
   next-holds done run entry holds may = record {
@@ -223,6 +228,7 @@ module _ (case : CaseShape) (name : RowName) (size : ℕ) (runs : IsRunnable cas
       what : Does size (deeds_of shape name done) (deeds_in name run entry)
       what = does (deeds_of shape name done) run entry holds.passed holds.graded may
 
+  -- before any entry
   first-holds : Holds [] empty_run
   first-holds = record {
     same = refl;
@@ -235,9 +241,11 @@ module _ (case : CaseShape) (name : RowName) (size : ℕ) (runs : IsRunnable cas
     windows = λ short. record { ascending = tt; each = λ end. refl };
   }
 
+  -- after each legal history
   pub holds-all : (history : List Entry) → IsLegal case history → Holds history (run_of shape history)
   holds-all history legal = along_history case Holds next-holds first-holds history legal
 
+  -- the window that ends at a time is open where something was taken into it and it has not fired
   pub window-open : (history : List Entry) → IsLegal case history → length history < MAX_STAMP → (end : ℕ)
       → find (λ (w : Window). w.end == end) (windows_after size (deeds_of shape name history))
       ≡ open_window size end (deeds_of shape name history)

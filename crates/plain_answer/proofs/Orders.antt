@@ -22,6 +22,7 @@ module _ {X B : Type 0} (same : X → X → Bool) (tells : (x y : X) → same x 
     back : List X
     is : ys ≡ front ++ x ∷ back
 
+  -- what is counted in a list is one of its elements
   within : (x : X) (ys : List X) → 0 < total (λ y. when (same x y) 1) ys → IsWithin x ys
   within x [] some = absurd (omega (arith, some))
   within x (y ∷ ys) some = elim (same x y) as
@@ -51,9 +52,11 @@ module _ {X B : Type 0} (same : X → X → Bool) (tells : (x y : X) → same x 
 
 -- ---- places
 
+-- the greater of two, either way
 max-swap : (x y : ℤ) → int_max x y ≡ int_max y x
 max-swap x y = omega (arith, ints, clamps)
 
+-- the greatest of three, either way
 max-swaps : (m a b : ℤ) → int_max (int_max m a) b ≡ int_max (int_max m b) a
 max-swaps m a b = omega (arith, ints, clamps)
 
@@ -129,6 +132,7 @@ places-swap (p ∷ ps) a b = by (places-swap ps a b) (nat_cmp a.0 p.0) refl (nat
 abbrev pair_cmp : ℕ × ℤ → ℕ × ℤ → Ordering
 pair_cmp p q = ordering_then (nat_cmp p.0 q.0) (int_cmp p.1 q.1)
 
+-- pairs are in a total order
 pair_cmp-total : IsTotalOrder pair_cmp
 pair_cmp-total = then_total (on_total (λ (p : ℕ × ℤ). p.0) nat_cmp_total) (on_total (λ (p : ℕ × ℤ). p.1) int_cmp_total)
 

@@ -44,6 +44,7 @@ abbrev pub stream_total : (Member → ℕ) → ℕ → List (List Record) → �
 stream_total g n [] = 0
 stream_total g n (x ∷ xs) = total (λ r. g (n, r)) x + stream_total g (n + 1) xs
 
+-- with one more stream
 stream_total-push : (g : Member → ℕ) (n : ℕ) (xs : List (List Record)) (x : List Record)
     → stream_total g n (xs ++ x ∷ []) ≡ stream_total g n xs + total (λ r. g (n + length xs, r)) x
 stream_total-push g n [] x =
@@ -61,6 +62,7 @@ to_part part g s = when (s.0.part == part) (g (s.0.key, s.1))
 abbrev of_member : Shape → ℕ → (Keyed → ℕ) → Member → ℕ
 of_member shape part g o = total (to_part part g) (sends shape o)
 
+-- a sum over all that streams send
 streams-sent : (shape : Shape) (g : RowName × Record → ℕ) (n : ℕ) (streams : List (List Record))
     → total g (flat_map (λ (s : ℕ × List Record). flat_map (sends_of (consumers_of shape s.0)) s.1) (enumerate_from n streams))
     ≡ stream_total (λ o. total g (sends shape o)) n streams
@@ -74,6 +76,7 @@ streams-sent shape g n (x ∷ xs) =
       streams-sent shape g (n + 1) xs,
     )
 
+-- a sum over what a part reads of streams
 pub members-total : (shape : Shape) (g : Keyed → ℕ) (streams : List (List Record)) (part : ℕ)
     → total g (members_read shape streams part) ≡ stream_total (of_member shape part g) 0 streams
 members-total shape g streams part =
@@ -85,9 +88,11 @@ members-total shape g streams part =
 
 -- ---- parts that are there
 
+-- a member is of a part that is there
 abbrev pub IsThere : Shape → Member → Type 0
 IsThere shape o = o.0 < parts_of shape
 
+-- what a row of a part that is there adds
 added-there : (shape : Shape) (run : Run) (entry : Entry) (row : RowName) → row_written entry ≡ Some row → row.part < parts_of shape
     → AllByRecursion (IsThere shape) (added_by run entry)
 added-there shape run entry row written there =
@@ -97,6 +102,7 @@ added-there shape run entry row written there =
     (each-map (IsThere shape) (member_of row.part (late_cause run.made entry)) (productions_of entry)
     (each-all (λ (p : Production). row.part < parts_of shape) (λ p. there) (productions_of entry)))
 
+-- what an entry adds
 entry-there : (case : CaseShape) (run : Run) (entry : Entry) → MayFollow case run entry
     → AllByRecursion (IsThere case.topology) (added_by run entry)
 entry-there case run (Claim worker interval) may = tt
@@ -113,6 +119,7 @@ entry-there case run (Fire seq row timer mark effects) may =
 entry-there case run (Ack seq row id) may = tt
 entry-there case run (Purge seq row floor) may = tt
 
+-- what is in the streams after each legal history
 pub out-there : (case : CaseShape) (h : List Entry) → IsLegal case h → AllByRecursion (IsThere case.topology) (out_of case.topology h)
 out-there case = along_legal case (λ h. AllByRecursion (IsThere case.topology) (out_of case.topology h))
     (λ h entry legal may was.
@@ -123,6 +130,7 @@ out-there case = along_legal case (λ h. AllByRecursion (IsThere case.topology) 
 
 -- ---- a part reads what is before it
 
+-- where no subscription is of a part, nothing is sent to it
 none-read : (shape : Shape) (part : ℕ) (g : Keyed → ℕ) (item : Record) (ss : List Subscription)
     → AllByRecursion (λ (s : Subscription). (s.to == part) ≡ false) ss → total (to_part part g) (sends_of ss item) ≡ 0
 none-read shape part g item [] each = refl
@@ -130,6 +138,7 @@ none-read shape part g item (s ∷ ss) each =
     let here : when (s.to == part) (g ((row_to item s).key, item)) ≡ 0 = ap (λ b. when b (g ((row_to item s).key, item))) each.0 in
     omega (arith, here, none-read shape part g item ss each.1)
 
+-- a part reads nothing of a part behind it
 later-unread : (case : CaseShape) (part : ℕ) (g : Keyed → ℕ) (o : Member) → IsRunnable case → IsThere case.topology o → part ≤ o.0
     → of_member case.topology part g o ≡ 0
 later-unread case part g o runs there behind =
@@ -147,10 +156,12 @@ later-unread case part g o runs there behind =
 
 -- ---- kinds by their places
 
+-- the first element behind some others
 slice_get-middle : {X : Type 0} (front : List X) (x : X) (rest : List X) → slice_get (front ++ x ∷ rest) (length front) ≡ Some x
 slice_get-middle [] x rest = refl
 slice_get-middle (y ∷ ys) x rest = slice_get-middle ys x rest
 
+-- the kind of the computation at a place
 pub kind_of-place : (shape : Shape) (front : List ComputationShape) (c : ComputationShape) (rest : List ComputationShape)
     → shape.computations ≡ front ++ c ∷ rest → kind_of shape (injectors_of shape + length front) ≡ Some c.kind
 kind_of-place shape front c rest all =
@@ -179,6 +190,7 @@ module _ (case : CaseShape) (h : List Entry) (runs : IsRunnable case) (legal : I
   abbrev shape : Shape
   shape = case.topology
 
+  -- what the history put into the streams
   abbrev out : List Member
   out = out_of shape h
 
@@ -232,6 +244,7 @@ module _ (case : CaseShape) (h : List Entry) (runs : IsRunnable case) (legal : I
       was.members ∙ ap (first_records case part is) all
       ∙ ap (map (λ (l : SourceLine). record_of l.item)) (take_all (length (source_of case part)) (source_of case part) (omega arith))
 
+  -- the streams of injectors, one after another
   knows-injectors : (k a : ℕ) (streams : List (List Record)) → a + k ≤ injectors_of shape → Knows streams a
       → Knows (streams ++ map injected_of (map (source_of case) (range_with_len a k))) (a + k)
   knows-injectors zero a streams within knows =
@@ -256,6 +269,7 @@ module _ (case : CaseShape) (h : List Entry) (runs : IsRunnable case) (legal : I
           let here : nat_lt o.0 0 ≡ false = grind (arith, nat_tests) in
           omega (arith, ap (λ b. when b (g o)) here, none g os)
 
+  -- a sum over them
   pub injectors-known : (g : Member → ℕ)
       → total (λ (o : Member). when (nat_lt o.0 (injectors_of shape)) (g o)) out ≡ stream_total g 0 (map injected_of (sources_of case))
   injectors-known g =
@@ -278,6 +292,7 @@ module _ (case : CaseShape) (h : List Entry) (runs : IsRunnable case) (legal : I
         | false ↦ λ e. later-unread case n g o runs there (ltb-false o.0 n e)
       ] refl
 
+  -- and those of computations, one after another
   knows-computations : (front cs : List ComputationShape) (streams : List (List Record)) → shape.computations ≡ front ++ cs
       → Knows streams (injectors_of shape + length front)
       → Knows (streams_with shape streams cs) (injectors_of shape + length front + length cs)
@@ -299,6 +314,7 @@ module _ (case : CaseShape) (h : List Entry) (runs : IsRunnable case) (legal : I
       (knows-computations (front ++ c ∷ []) cs (streams ++ x ∷ [])
       (all ∙ sym (append_assoc front (c ∷ []) cs)) (subst (Knows (streams ++ x ∷ [])) longer next)))
 
+  -- and so those of all parts
   all-known : Knows (plain_streams case) (parts_of shape)
   all-known =
       let same : 0 + injectors_of shape ≡ injectors_of shape + 0 = omega arith in

@@ -37,9 +37,11 @@ use Rattle.plain_answer.proofs.Members.{out_at, out_at-append, added-here, added
 abbrev pub done_at : ℕ → List Delivery → List Delivery
 done_at part ds = filter (λ (d : Delivery). d.to.part == part) ds
 
+-- the records of deliveries
 abbrev pub items : List Delivery → List Record
 items ds = map (λ (d : Delivery). d.item) ds
 
+-- the records of two lists
 items-append : (one other : List Delivery) → items (one ++ other) ≡ items one ++ items other
 items-append [] other = refl
 items-append (d ∷ ds) other = ap (λ l. d.item ∷ l) (items-append ds other)
@@ -63,6 +65,7 @@ pub timer-left : (case : CaseShape) (run : Run) (row : RowName) (timer : Timer) 
 timer-left case run row timer mark effects kind may of = some_same _ effects
     (sym (ap (option_map (λ k. effects_of_timer k row.key (row_of case.topology run row).state timer)) of) ∙ may.does)
 
+-- a pass produces the record again
 pass-productions : (key : List ℕ) (state : State) (item : Record) → has_kind kinds.Pass state ≡ true
     → (effects_of_record kinds.Pass key state item).productions ≡ record { key = item.key; stamp = item.stamp; value = item.value } ∷ []
 pass-productions key (states.Pass late) item is = refl
@@ -70,6 +73,7 @@ pass-productions key (states.Injector cursor) item is = absurd cc
 pass-productions key (states.Count late windows) item is = absurd cc
 pass-productions key (states.Spike late held known) item is = absurd cc
 
+-- a pass sets no timer
 pass-timers : (key : List ℕ) (state : State) (item : Record) → (effects_of_record kinds.Pass key state item).timers ≡ []
 pass-timers key (states.Pass late) item = refl
 pass-timers key (states.Injector cursor) item = refl
@@ -80,6 +84,7 @@ module _ (case : CaseShape) (part : ℕ) (kind : kind_of case.topology part ≡ 
   abbrev shape : Shape
   shape = case.topology
 
+  -- the stream has what the rows handled
   abbrev IsPassed : List Entry → Type 0
   IsPassed h = out_at part (out_of shape h) ≡ items (done_at part (done_of shape h))
 
@@ -141,6 +146,7 @@ module _ (case : CaseShape) (part : ℕ) (kind : kind_of case.topology part ≡ 
 
   -- ---- no row of a pass has a timer
 
+  -- no row of a pass has a timer
   no-timers : (name : RowName) → (name.part == part) ≡ true → (h : List Entry) → IsLegal case h
       → (row_of shape (run_of shape h) name).timers ≡ []
   no-timers name here = along_legal case (λ h. (row_of shape (run_of shape h) name).timers ≡ [])

@@ -59,14 +59,17 @@ abbrev pub Climb : List HeldTotal → Type 0
 Climb [] = Unit {0}
 Climb (h ∷ hs) = AllByRecursion (λ (g : HeldTotal). h.stamp < g.stamp) hs × Climb hs
 
+-- and are below the greatest timestamp
 abbrev pub AreLow : List HeldTotal → Type 0
 AreLow held = AllByRecursion (λ (h : HeldTotal). h.stamp < MAX_STAMP) held
 
+-- what is before the first total is before the others
 below_others : (n : ℕ) (h : HeldTotal) (hs : List HeldTotal) → n < h.stamp → AllByRecursion (λ (g : HeldTotal). h.stamp < g.stamp) hs
     → AllByRecursion (λ (g : HeldTotal). n < g.stamp) hs
 below_others n h [] lt rest = tt
 below_others n h (g ∷ gs) lt rest = (omega (arith, lt, rest.0), below_others n h gs lt rest.1)
 
+-- they still ascend with one more
 pub Climb-held : (held : List HeldTotal) (stamp : ℕ) (value : ℤ) → Climb held → Climb (held_with held stamp value)
 Climb-held [] stamp value up = (tt, tt)
 Climb-held (h ∷ hs) stamp value up =
@@ -83,6 +86,7 @@ Climb-held (h ∷ hs) stamp value up =
       )
     ] refl
 
+-- and are still below the greatest timestamp
 pub AreLow-held : (held : List HeldTotal) (stamp : ℕ) (value : ℤ) → stamp < MAX_STAMP → AreLow held → AreLow (held_with held stamp value)
 AreLow-held held stamp value low lows =
     entered-recursion (λ (g : HeldTotal). g.stamp) (record { stamp = stamp; value = value })
@@ -181,11 +185,13 @@ first-total h hs up =
 abbrev pub lastly : ℕ → List ℤ → List ℤ
 lastly last values = drop (length values - last) values
 
+-- to drop no more than a list has
 drop-less : {X : Type 0} (k : ℕ) (xs ys : List X) → k ≤ length xs → drop k (xs ++ ys) ≡ drop k xs ++ ys
 drop-less zero xs ys less = refl
 drop-less (suc k) [] ys less = absurd (omega (arith, less))
 drop-less (suc k) (x ∷ xs) ys less = drop-less k xs ys (omega (arith, less))
 
+-- to drop one more
 drop-one : {X : Type 0} (k : ℕ) (xs : List X) → drop 1 (drop k xs) ≡ drop (suc k) xs
 drop-one zero xs = refl
 drop-one (suc k) [] = refl

@@ -22,6 +22,7 @@ into size key end m = when (pointwise nat_eq key m.0 && not m.1.late) (when (pla
 abbrev in_window : ℕ → ℕ → List Record → ℕ
 in_window size end items = count_by (λ (r : Record). plain_end size r.stamp == end) items
 
+-- the count of a window is a sum over what the part reads
 counted-into : (size : ℕ) (key : List ℕ) (end : ℕ) (ms : List Keyed) → in_window size end (row_members key ms)
     ≡ total (into size key end) ms
 counted-into size key end ms =

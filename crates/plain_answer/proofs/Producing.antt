@@ -32,6 +32,7 @@ module _ (case : CaseShape) (name : RowName) (size : ℕ) (runs : IsRunnable cas
   abbrev shape : Shape
   shape = case.topology
 
+  -- where the row fires it produces the window that is open there
   pub fire-produces : (before after : List Entry) (seq : ℕ) (timer : Timer) (mark : ℕ) (effects : EffectsView)
       → IsLegal case (before ++ Fire seq name timer mark effects ∷ after)
       → length (before ++ Fire seq name timer mark effects ∷ after) < MAX_STAMP → timer.tag ≡ 0

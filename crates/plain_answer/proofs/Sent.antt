@@ -32,6 +32,7 @@ forget : (g : RowName × Record → ℕ) (n commit : ℕ) (ss : List (RowName ×
 forget g n commit [] = refl
 forget g n commit (s ∷ ss) = ap (λ m. g s + m) (forget g (n + 1) commit ss)
 
+-- what productions of a part become
 deliveries-total : (shape : Shape) (g : RowName × Record → ℕ) (part commit : ℕ) (late : Bool) (ps : List Production)
     → total (λ (d : Delivery). g (send_of d)) (deliveries_made shape part ps late commit)
     ≡ total (λ o. total g (sends shape o)) (map (member_of part late) ps)
@@ -41,6 +42,7 @@ deliveries-total shape g part commit late ps =
     ∙ total-map (λ r. total g (sends_of (consumers_of shape part) r)) (produced late) ps
     ∙ sym (total-map (λ o. total g (sends shape o)) (member_of part late) ps)
 
+-- what an entry makes
 entry-sent : (shape : Shape) (g : RowName × Record → ℕ) (run : Run) (entry : Entry)
     → total (λ (d : Delivery). g (send_of d)) (deliveries_of shape run.made run.next entry)
     ≡ total (λ o. total g (sends shape o)) (added_by run entry)
@@ -92,16 +94,19 @@ is_unread shape part = none_reads (consumers_of shape part)
 abbrev pub emitted : Emission → Member
 emitted e = (e.part, e.item)
 
+-- records with an entry's ids
 emit : (g : Member → ℕ) (part n commit : ℕ) (rs : List Record)
     → total (λ (e : Emission). g (emitted e)) (map (emission_at part commit) (enumerate_from n rs)) ≡ total (λ r. g (part, r)) rs
 emit g part n commit [] = refl
 emit g part n commit (r ∷ rs) = ap (λ m. g (part, r) + m) (emit g part (n + 1) commit rs)
 
+-- what records of a part become where nothing reads
 emissions-total : (ss : List Subscription) (g : Member → ℕ) (part commit : ℕ) (rs : List Record)
     → total (λ (e : Emission). g (emitted e)) (emissions_to ss part commit rs) ≡ total (λ r. when (none_reads ss) (g (part, r))) rs
 emissions-total [] g part commit rs = emit g part 0 commit rs
 emissions-total (s ∷ ss) g part commit rs = sym (total-zero rs)
 
+-- what an entry emits
 entry-emitted : (shape : Shape) (g : Member → ℕ) (run : Run) (entry : Entry)
     → total (λ (e : Emission). g (emitted e)) (emissions_of shape run.made run.next entry)
     ≡ total (λ (o : Member). when (is_unread shape o.0) (g o)) (added_by run entry)

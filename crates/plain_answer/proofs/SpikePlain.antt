@@ -140,6 +140,7 @@ module _ (case : CaseShape) (part last times : ℕ) (runs : IsRunnable case)
   abbrev shape : Shape
   shape = case.topology
 
+  -- the row of a key
   abbrev name : List ℕ → RowName
   name key = record { part = part; key = key }
 
@@ -170,12 +171,12 @@ module _ (case : CaseShape) (part last times : ℕ) (runs : IsRunnable case)
           ∙ both (d.to.part == part) (pointwise nat_eq key d.to.key) (not d.item.late) (g (pair_of d))
 
   -- at the end each place of a row fired
-  all-rang : (key : List ℕ) → (legal-spiked case (name key) last times runs kind h legal).rang ≡ places_in (row_members key ms)
-  all-rang key =
+  all-over : (key : List ℕ) → (legal-spiked case (name key) last times runs kind h legal).over ≡ places_in (row_members key ms)
+  all-over key =
       let was = legal-spiked case (name key) last times runs kind h legal in
       let none : map held_timer was.held ≡ [] =
       sym was.timers ∙ row_of-each shape (run_of shape h) (name key) (λ (c : Contents). c.timers ≡ []) done.fired refl in
-      sym (append-nil was.rang) ∙ ap (λ l. was.rang ++ map held_place l) (sym (no-held was.held none))
+      sym (append-nil was.over) ∙ ap (λ l. was.over ++ map held_place l) (sym (no-held was.held none))
       ∙ was.places ∙ places-same (pairs_of (name key) (done_of shape h)) (map place_of (row_members key ms)) (row-reads key)
       ∙ sym (places-fold (row_members key ms))
     where
@@ -191,7 +192,7 @@ module _ (case : CaseShape) (part last times : ℕ) (runs : IsRunnable case)
       (length (out_at part (out_of shape h))) (out_at part (out_of shape h)) (plain_of (kinds.Spike last times) ms) (omega arith)
       (λ key.
       (legal-spiked case (name key) last times runs kind h legal).stream
-      ∙ ap (spikes_in last times key []) (all-rang key)
+      ∙ ap (spikes_in last times key []) (all-over key)
       ∙ sym (row-at (λ (r : Record). r.key) (λ k. spikes_in last times k [] (places_in (row_members k ms))) ms
       (λ k. spikes-key last times k [] (places_in (row_members k ms)))
       (λ k none. ap (λ l. spikes_in last times k [] (places_in l)) none) key)))
@@ -205,7 +206,7 @@ module _ (case : CaseShape) (part last times : ℕ) (runs : IsRunnable case)
       (length (fired_keys part h)) (fired_keys part h) (flat_map fired (row_keys ms)) (omega arith)
       (λ key.
       (legal-spiked case (name key) last times runs kind h legal).fires
-      ∙ ap (map (λ (p : ℕ × ℤ). key)) (all-rang key)
+      ∙ ap (map (λ (p : ℕ × ℤ). key)) (all-over key)
       ∙ sym (row-at (λ (k : List ℕ). k) fired ms
       (λ k. each-map (λ y. y ≡ k) (λ (p : ℕ × ℤ). k) (places_in (row_members k ms))
       (each-all (λ p. k ≡ k) (λ p. refl) (places_in (row_members k ms))))

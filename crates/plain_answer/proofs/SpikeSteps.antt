@@ -68,6 +68,7 @@ due-first h hs = ap (λ b. cond b (Some h) (find (λ (g : HeldTotal). due_time g
 abbrev pub spike_record_at : List ℕ → ℕ → ℤ → List Record
 spike_record_at key stamp value = record { key = key; stamp = stamp; value = value; late = false } ∷ []
 
+-- one timer
 abbrev pub timer_at : ℕ → Bool → List Timer
 timer_at time late = record { tag = 0; time = time; late = late } ∷ []
 
@@ -77,6 +78,7 @@ pub record FiresFirst (last times : ℕ) (key : List ℕ) (late : ℕ) (hs : Lis
   pub state : o.state ≡ states.Spike late hs (lastly last (values ++ h.value ∷ []))
   pub productions : map (produced false) o.productions ≡ spike_at last times key values h.stamp h.value
 
+-- that is what the handler does
 pub fires-first : (last times : ℕ) (key : List ℕ) (late : ℕ) (h : HeldTotal) (hs : List HeldTotal) (values : List ℤ) → Climb (h ∷ hs)
     → AreLow (h ∷ hs)
     → FiresFirst last times key late hs values h (effects_of_timer (kinds.Spike last times) key
@@ -113,6 +115,7 @@ pub record HoldsMore (late : ℕ) (held : List HeldTotal) (known : List ℤ) (it
   pub state : o.state ≡ states.Spike late (held_with held item.stamp item.value) known
   pub timers : o.timers ≡ record { tag = 0; time = due_time item.stamp; late = false } ∷ []
 
+-- that is what the handler does
 pub holds-more : (late : ℕ) (held : List HeldTotal) (known : List ℤ) (item : Record) → item.late ≡ false
     → HoldsMore late held known item (spike_record late held known item)
 holds-more late held known item in_time =
@@ -141,6 +144,7 @@ pair_of d = (d.item.stamp, d.item.value)
 abbrev pub pairs_of : RowName → List Delivery → List (ℕ × ℤ)
 pairs_of name ds = map pair_of (filter (is_mine name) ds)
 
+-- the places of two lists
 pairs-append : (name : RowName) (one other : List Delivery) → pairs_of name (one ++ other) ≡ pairs_of name one ++ pairs_of name other
 pairs-append name [] other = refl
 pairs-append name (d ∷ ds) other = elim (is_mine name d) as

@@ -59,9 +59,11 @@ module _ (case : CaseShape) (name : RowName) (last times : ℕ) (runs : IsRunnab
   abbrev shape : Shape
   shape = case.topology
 
+  -- the part is there
   there : name.part < parts_of shape
   there = kind-there shape name.part (kinds.Spike last times) kind
 
+  -- there are at most 48 parts
   few_parts : parts_of shape ≤ 48
   few_parts = omega (arith, runs.topology.few_injectors, runs.topology.few_computations)
 
@@ -69,6 +71,7 @@ module _ (case : CaseShape) (name : RowName) (last times : ℕ) (runs : IsRunnab
   abbrev own : List Record → List Record
   own = filter (λ (r : Record). pointwise nat_eq name.key r.key)
 
+  -- the values of places
   abbrev values : List (ℕ × ℤ) → List ℤ
   values ps = map (λ (p : ℕ × ℤ). p.1) ps
 
@@ -79,16 +82,16 @@ module _ (case : CaseShape) (name : RowName) (last times : ℕ) (runs : IsRunnab
   -- the places that fired, and the totals that are held: together they are the places so far
   pub record IsSpiked (h : List Entry) : Type 0 where
     pub late : ℕ
-    pub rang : List (ℕ × ℤ)
+    pub over : List (ℕ × ℤ)
     pub held : List HeldTotal
-    pub state : (row_of shape (run_of shape h) name).state ≡ states.Spike late held (lastly last (values rang))
+    pub state : (row_of shape (run_of shape h) name).state ≡ states.Spike late held (lastly last (values over))
     pub timers : (row_of shape (run_of shape h) name).timers ≡ map held_timer held
-    pub places : rang ++ map held_place held ≡ placed name (done_of shape h)
+    pub places : over ++ map held_place held ≡ placed name (done_of shape h)
     pub climb : Climb held
     pub low : AreLow held
-    pub passed : AllByRecursion (IsPassed (run_of shape h)) rang
-    pub stream : own (out_at name.part (out_of shape h)) ≡ spikes_in last times name.key [] rang
-    pub fires : filter (pointwise nat_eq name.key) (fired_keys name.part h) ≡ map (λ (p : ℕ × ℤ). name.key) rang
+    pub passed : AllByRecursion (IsPassed (run_of shape h)) over
+    pub stream : own (out_at name.part (out_of shape h)) ≡ spikes_in last times name.key [] over
+    pub fires : filter (pointwise nat_eq name.key) (fired_keys name.part h) ≡ map (λ (p : ℕ × ℤ). name.key) over
 
   -- times that are passed still are
   passed-next : (h : List Entry) (entry : Entry) (ps : List (ℕ × ℤ)) → IsLegal case h → MayFollow case (run_of shape h) entry
@@ -122,7 +125,7 @@ module _ (case : CaseShape) (name : RowName) (last times : ℕ) (runs : IsRunnab
 
   -- an entry that does nothing on the row but for its late records
   quiet : (h : List Entry) (entry : Entry) (late : ℕ) (was : IsSpiked h) → IsLegal case h → MayFollow case (run_of shape h) entry
-      → (row_of shape (followed shape (run_of shape h) entry) name).state ≡ states.Spike late was.held (lastly last (values was.rang))
+      → (row_of shape (followed shape (run_of shape h) entry) name).state ≡ states.Spike late was.held (lastly last (values was.over))
       → (row_of shape (followed shape (run_of shape h) entry) name).timers ≡ (row_of shape (run_of shape h) name).timers
       → pairs_of name (handled_by (run_of shape h) entry) ≡ []
       → own (out_at name.part (added_by (run_of shape h) entry)) ≡ []
@@ -130,7 +133,7 @@ module _ (case : CaseShape) (name : RowName) (last times : ℕ) (runs : IsRunnab
       → IsSpiked (h ++ entry ∷ [])
   quiet h entry late was legal may state timers pairs adds fires = record {
     late = late;
-    rang = was.rang;
+    over = was.over;
     held = was.held;
     state = ap (λ (r : Run). (row_of shape r name).state) (run-push shape h entry) ∙ state;
     timers = ap (λ (r : Run). (row_of shape r name).timers) (run-push shape h entry) ∙ timers ∙ was.timers;
@@ -139,7 +142,7 @@ module _ (case : CaseShape) (name : RowName) (last times : ℕ) (runs : IsRunnab
         ∙ ap (fold with_place (placed name (done_of shape h))) pairs);
     climb = was.climb;
     low = was.low;
-    passed = passed-next h entry was.rang legal may was.passed;
+    passed = passed-next h entry was.over legal may was.passed;
     stream = stream-next h entry [] adds ∙ append-nil (own (out_at name.part (out_of shape h))) ∙ was.stream;
     fires = fires-next h entry [] fires ∙ append-nil (filter (pointwise nat_eq name.key) (fired_keys name.part h)) ∙ was.fires;
   }
@@ -166,6 +169,7 @@ module _ (case : CaseShape) (name : RowName) (last times : ℕ) (runs : IsRunnab
       let here : d.item.stamp ≤ grade name.part = subst (λ (r : RowName). d.item.stamp ≤ grade r.part) to_row graded in
       omega (arith, here, there, few_parts)
 
+  -- the part is itself
   self : (name.part == name.part) ≡ true
   self = eq-eqb name.part name.part refl
 
@@ -183,7 +187,7 @@ module _ (case : CaseShape) (name : RowName) (last times : ℕ) (runs : IsRunnab
       d : Delivery
       d = may.delivery
 
-      left : spike_record was.late was.held (lastly last (values was.rang)) d.item ≡ effects
+      left : spike_record was.late was.held (lastly last (values was.over)) d.item ≡ effects
       left = sym (ap (λ st. effects_of_record (kinds.Spike last times) name.key st d.item) was.state)
           ∙ record-left case run name id effects (kinds.Spike last times) may kind
 
@@ -210,18 +214,18 @@ module _ (case : CaseShape) (name : RowName) (last times : ℕ) (runs : IsRunnab
 
       by_late : (b : Bool) → d.item.late ≡ b → IsSpiked (h ++ Handle seq name id effects ∷ [])
       by_late true is =
-          let kept = sym left ∙ holds-late was.late was.held (lastly last (values was.rang)) d.item is in
+          let kept = sym left ∙ holds-late was.late was.held (lastly last (values was.over)) d.item is in
           quiet h entry (one_more was.late) was legal may
           (ap (λ (c : Contents). c.state) here ∙ ap (λ (o : EffectsView). o.state) kept)
           (ap (λ (c : Contents). c.timers) here ∙ ap (λ (o : EffectsView). with_timers o.timers (row_of shape run name).timers) kept)
           (pair true is) nothing refl
       by_late false is =
-          let more = subst (HoldsMore was.late was.held (lastly last (values was.rang)) d.item) left
-          (holds-more was.late was.held (lastly last (values was.rang)) d.item is) in
+          let more = subst (HoldsMore was.late was.held (lastly last (values was.over)) d.item) left
+          (holds-more was.late was.held (lastly last (values was.over)) d.item is) in
           let low : d.item.stamp < MAX_STAMP = small h id d legal may.waits may.to_row in
           let place : ℕ × ℤ = (d.item.stamp, d.item.value) in record {
             late = was.late;
-            rang = was.rang;
+            over = was.over;
             held = held_with was.held d.item.stamp d.item.value;
             state = ap (λ (r : Run). (row_of shape r name).state) (run-push shape h entry)
                 ∙ ap (λ (c : Contents). c.state) here ∙ more.state;
@@ -229,17 +233,17 @@ module _ (case : CaseShape) (name : RowName) (last times : ℕ) (runs : IsRunnab
                 ∙ ap (λ (c : Contents). c.timers) here
                 ∙ (λ i. with_timers (more.timers i) (was.timers i))
                 ∙ timers-held was.held d.item.stamp d.item.value low was.low;
-            places = ap (λ l. was.rang ++ l) (places-held was.held d.item.stamp d.item.value)
-                ∙ sym (place-behind was.rang (map held_place was.held) place
+            places = ap (λ l. was.over ++ l) (places-held was.held d.item.stamp d.item.value)
+                ∙ sym (place-behind was.over (map held_place was.held) place
                 (each-weaker (IsPassed run) (λ (p : ℕ × ℤ). p.0 < d.item.stamp)
-                (λ p passed. below-now h id d p passed may.waits may.to_row is low) was.rang was.passed))
+                (λ p passed. below-now h id d p passed may.waits may.to_row is low) was.over was.passed))
                 ∙ ap (λ l. with_place l place) was.places
                 ∙ sym (ap (placed name) (done-push shape h entry)
                 ∙ placed-push name (done_of shape h) (handled_by run entry)
                 ∙ ap (fold with_place (placed name (done_of shape h))) (pair false is));
             climb = Climb-held was.held d.item.stamp d.item.value was.climb;
             low = AreLow-held was.held d.item.stamp d.item.value low was.low;
-            passed = passed-next h entry was.rang legal may was.passed;
+            passed = passed-next h entry was.over legal may was.passed;
             stream = stream-next h entry [] nothing ∙ append-nil (own (out_at name.part (out_of shape h))) ∙ was.stream;
             fires = fires-next h entry [] refl ∙ append-nil (filter (pointwise nat_eq name.key) (fired_keys name.part h)) ∙ was.fires;
           }
@@ -269,50 +273,50 @@ module _ (case : CaseShape) (name : RowName) (last times : ℕ) (runs : IsRunnab
           LowFrom-any_depth case run (due_time stamp) runs.topology (parts_of shape) name.part at_most
           (low-from case run (due_time stamp) (parts_of shape) name.part low) depth
 
-      by_held : (held : List HeldTotal) → (row_of shape run name).state ≡ states.Spike was.late held (lastly last (values was.rang))
-          → (row_of shape run name).timers ≡ map held_timer held → was.rang ++ map held_place held ≡ placed name (done_of shape h)
+      by_held : (held : List HeldTotal) → (row_of shape run name).state ≡ states.Spike was.late held (lastly last (values was.over))
+          → (row_of shape run name).timers ≡ map held_timer held → was.over ++ map held_place held ≡ placed name (done_of shape h)
           → Climb held → AreLow held → IsSpiked (h ++ Fire seq name timer mark effects ∷ [])
       by_held [] state timers places climb low = absurd (none_first (row_of shape run name).timers timers may.least_timer)
       by_held (t ∷ hs) state timers places climb low =
           let is : held_timer t ≡ timer = some_same (held_timer t) timer (sym (ap (λ l. slice_get l 0) timers) ∙ may.least_timer) in
-          let of = fires-first last times name.key was.late t hs (values was.rang) climb low in
+          let of = fires-first last times name.key was.late t hs (values was.over) climb low in
           let left : effects_of_timer (kinds.Spike last times) name.key
-          (states.Spike was.late (t ∷ hs) (lastly last (values was.rang))) (held_timer t) ≡ effects =
-          ap (effects_of_timer (kinds.Spike last times) name.key (states.Spike was.late (t ∷ hs) (lastly last (values was.rang)))) is
+          (states.Spike was.late (t ∷ hs) (lastly last (values was.over))) (held_timer t) ≡ effects =
+          ap (effects_of_timer (kinds.Spike last times) name.key (states.Spike was.late (t ∷ hs) (lastly last (values was.over)))) is
           ∙ sym (ap (λ st. effects_of_timer (kinds.Spike last times) name.key st timer) state)
           ∙ timer-left case run name timer mark effects (kinds.Spike last times) may kind in
-          let left_state : effects.state ≡ states.Spike was.late hs (lastly last (values was.rang ++ t.value ∷ [])) =
+          let left_state : effects.state ≡ states.Spike was.late hs (lastly last (values was.over ++ t.value ∷ [])) =
           sym (ap (λ (o : EffectsView). o.state) left) ∙ of.state in
-          let produces : map (produced timer.late) effects.productions ≡ spike_at last times name.key (values was.rang) t.stamp t.value =
+          let produces : map (produced timer.late) effects.productions ≡ spike_at last times name.key (values was.over) t.stamp t.value =
           sym (λ i. map (produced (is i).late) (left i).productions) ∙ of.productions in
-          let adds : out_at name.part (added_by run entry) ≡ spike_at last times name.key (values was.rang) t.stamp t.value =
+          let adds : out_at name.part (added_by run entry) ≡ spike_at last times name.key (values was.over) t.stamp t.value =
           added-here name.part run entry name refl self ∙ produces in record {
             late = was.late;
-            rang = was.rang ++ held_place t ∷ [];
+            over = was.over ++ held_place t ∷ [];
             held = hs;
             state = ap (λ (r : Run). (row_of shape r name).state) (run-push shape h entry)
                 ∙ ap (λ (c : Contents). c.state) here ∙ left_state
-                ∙ ap (λ l. states.Spike was.late hs (lastly last l)) (sym (values-push was.rang (held_place t)));
+                ∙ ap (λ l. states.Spike was.late hs (lastly last l)) (sym (values-push was.over (held_place t)));
             timers = ap (λ (r : Run). (row_of shape r name).timers) (run-push shape h entry)
                 ∙ ap (λ (c : Contents). c.timers) here
                 ∙ (λ i. without_timer (sym is i).tag (sym is i).time (timers i))
                 ∙ first-timer t hs climb low;
-            places = append_assoc was.rang (held_place t ∷ []) (map held_place hs) ∙ places
+            places = append_assoc was.over (held_place t ∷ []) (map held_place hs) ∙ places
                 ∙ sym (ap (placed name) (done-push shape h entry) ∙ placed-push name (done_of shape h) []);
             climb = climb.1;
             low = low.1;
-            passed = passed-next h entry (was.rang ++ held_place t ∷ []) legal may
-                (each-append (IsPassed run) was.rang (held_place t ∷ []) was.passed
+            passed = passed-next h entry (was.over ++ held_place t ∷ []) legal may
+                (each-append (IsPassed run) was.over (held_place t ∷ []) was.passed
                 (passed-now t.stamp t.value (ap (λ (t : Timer). t.time) (sym is)), tt));
-            stream = stream-next h entry (spike_at last times name.key (values was.rang) t.stamp t.value)
-                (ap own adds ∙ own-spike (nat_le last (length (values was.rang)) && int_lt
-                (pos times *ℤ sum_of_last last (values was.rang)) (t.value *ℤ pos last)) t)
-                ∙ ap (λ l. l ++ spike_at last times name.key (values was.rang) t.stamp t.value) was.stream
-                ∙ sym (spikes-push last times name.key [] was.rang t.stamp t.value);
+            stream = stream-next h entry (spike_at last times name.key (values was.over) t.stamp t.value)
+                (ap own adds ∙ own-spike (nat_le last (length (values was.over)) && int_lt
+                (pos times *ℤ sum_of_last last (values was.over)) (t.value *ℤ pos last)) t)
+                ∙ ap (λ l. l ++ spike_at last times name.key (values was.over) t.stamp t.value) was.stream
+                ∙ sym (spikes-push last times name.key [] was.over t.stamp t.value);
             fires = fires-next h entry (name.key ∷ [])
                 (ap (λ b. filter (pointwise nat_eq name.key) (cond b (name.key ∷ []) [])) self
                 ∙ ap (λ b. cond b (name.key ∷ []) []) (key-itself name.key))
-                ∙ ap (λ l. l ++ name.key ∷ []) was.fires ∙ sym (keys-push was.rang (held_place t));
+                ∙ ap (λ l. l ++ name.key ∷ []) was.fires ∙ sym (keys-push was.over (held_place t));
           }
         where
           values-push : (ps : List (ℕ × ℤ)) (p : ℕ × ℤ) → values (ps ++ p ∷ []) ≡ values ps ++ p.1 ∷ []
@@ -350,6 +354,7 @@ module _ (case : CaseShape) (name : RowName) (last times : ℕ) (runs : IsRunnab
       (ap (λ (c : Contents). c.state) (row_of-elsewhere shape (run_of shape h) entry name apart) ∙ was.state)
       (ap (λ (c : Contents). c.timers) (row_of-elsewhere shape (run_of shape h) entry name apart)) pairs adds fires
 
+  -- an entry on another row, or on none
   off_row : (h : List Entry) (entry : Entry) → IsLegal case h → MayFollow case (run_of shape h) entry → IsSpiked h
       → (row_written entry ≡ Some name → ⊥) → IsSpiked (h ++ entry ∷ [])
   off_row h (Claim worker interval) legal may was apart = elsewhere h (Claim worker interval) legal may was apart refl refl refl
@@ -449,7 +454,7 @@ module _ (case : CaseShape) (name : RowName) (last times : ℕ) (runs : IsRunnab
   first-spiked : IsSpiked []
   first-spiked = record {
     late = 0;
-    rang = [];
+    over = [];
     held = [];
     state = ap (λ k. option_map_or fresh_state k (states.Injector 0)) kind ∙ ap (states.Spike 0 []) (sym (drop-nil (0 - last)));
     timers = refl;

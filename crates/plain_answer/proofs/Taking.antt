@@ -138,6 +138,7 @@ member_read d = (d.to.key, d.item)
 abbrev pub reads_done : ℕ → List Delivery → List Keyed
 reads_done part ds = map member_read (done_at part ds)
 
+-- a sum over what rows of a part handled
 pub reads_done-total : (g : Keyed → ℕ) (part : ℕ) (ds : List Delivery)
     → total g (reads_done part ds) ≡ total (λ (d : Delivery). when (d.to.part == part) (g (member_read d))) ds
 reads_done-total g part ds = total-map g member_read (done_at part ds)

@@ -62,6 +62,7 @@ tie_same a b e =
     let tag : nat_cmp a.tag b.tag ≡ Equal = both.1 in
     (grind (arith, nat_tests), grind (arith, nat_tests))
 
+-- a timer with the tag 0 is one of its time
 own-timer : (t : Timer) → t.tag ≡ 0 → is_timer 0 t.time t ≡ true
 own-timer t zero_tag = grind (arith, nat_tests)
 
@@ -171,6 +172,7 @@ module _ (case : CaseShape) (name : RowName) (size : ℕ) (kind : kind_of case.t
         (subst (λ l. AreTimed (fold (after_deed size) (windows_after size s.deeds) ds) l) (sym timers) timed));
   }
 
+  -- a record is handled
   handles : (s : Told) (seq : ℕ) (id : RecordId) (effects : EffectsView) → IsTimed s → (may : MayHandle case s.run name id effects)
       → IsTimed (told shape name s (Handle seq name id effects))
   handles s seq id effects has may =
@@ -191,6 +193,7 @@ module _ (case : CaseShape) (name : RowName) (size : ℕ) (kind : kind_of case.t
       more s entry (took item.stamp item.late ∷ []) (with_timers (count_record size late ws item).timers ts) has may takes
       (here ∙ ap (λ (o : EffectsView). with_timers o.timers ts) (sym left)) (record-timed size late ws ts item has.timed)
 
+  -- a timer fires
   fires : (s : Told) (seq : ℕ) (timer : Timer) (mark : ℕ) (effects : EffectsView) → IsTimed s → MayFire case s.run name timer mark effects
       → IsTimed (told shape name s (Fire seq name timer mark effects))
   fires s seq timer mark effects has may =
@@ -202,10 +205,12 @@ module _ (case : CaseShape) (name : RowName) (size : ℕ) (kind : kind_of case.t
       more s entry ds (without_timer timer.tag timer.time ts) has may (ap (λ b. cond b ds []) (tie name)) here
       (timer-timed size (windows_after size s.deeds) ts timer has.timed)
 
+  -- an entry that leaves the row
   same-row : (s : Told) (entry : Entry) → IsTimed s → MayFollow case s.run entry → deeds_in name s.run entry ≡ []
       → (row_of shape (followed shape s.run entry) name).timers ≡ (row_of shape s.run name).timers → IsTimed (told shape name s entry)
   same-row s entry has may does timers = more s entry [] (row_of shape s.run name).timers has may does timers has.timed
 
+  -- an entry on the row
   on_row : (s : Told) (entry : Entry) → IsTimed s → MayFollow case s.run entry → row_written entry ≡ Some name
       → IsTimed (told shape name s entry)
   on_row s (Claim worker interval) has may here = absurd (none_some name here)
@@ -225,6 +230,7 @@ module _ (case : CaseShape) (name : RowName) (size : ℕ) (kind : kind_of case.t
   on_row s (Purge seq row floor) has may here =
       same-row s (Purge seq row floor) has may refl (ap (λ c. c.timers) (row_of-here shape s.run (Purge seq row floor) name here))
 
+  -- any entry
   timed-step : (s : Told) (entry : Entry) → IsTimed s → MayFollow case s.run entry → IsTimed (told shape name s entry)
   timed-step s entry has may = elim (on_row_or_not entry name) [
     | inl here ↦ on_row s entry has may here
@@ -232,10 +238,12 @@ module _ (case : CaseShape) (name : RowName) (size : ℕ) (kind : kind_of case.t
         (ap (λ c. c.timers) (row_of-elsewhere shape s.run entry name apart))
   ]
 
+  -- the run is the history's, and each window has a timer
   record Holds (done : List Entry) (run : Run) : Type 0 where
     same : run ≡ (told_of shape name done).run
     is_timed : IsTimed (told_of shape name done)
 
+  -- both with one more entry
   next-holds : (done : List Entry) (run : Run) (entry : Entry) → Holds done run → MayFollow case run entry
       → Holds (done ++ entry ∷ []) (followed shape run entry)
   next-holds done run entry holds may =
@@ -247,6 +255,7 @@ module _ (case : CaseShape) (name : RowName) (size : ℕ) (kind : kind_of case.t
         is_timed = subst IsTimed (sym next) (timed-step (told_of shape name done) entry holds.is_timed follows);
       }
 
+  -- without timers there is no window
   none-timed : (ws : List Window) → AreTimed ws [] → ws ≡ []
   none-timed [] timed = refl
   none-timed (w ∷ ws) timed = absurd (no_false timed.0)
@@ -254,6 +263,7 @@ module _ (case : CaseShape) (name : RowName) (size : ℕ) (kind : kind_of case.t
       no_false : false ≡ true → ⊥
       no_false e = cc
 
+  -- where the row has no timers no window is open
   pub no-window : (history : List Entry) → IsLegal case history → (row_of shape (run_of shape history) name).timers ≡ []
       → windows_after size (deeds_of shape name history) ≡ []
   no-window history legal none =

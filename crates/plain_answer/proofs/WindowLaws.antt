@@ -24,6 +24,7 @@ absent end (w ∷ ws) below =
     let other : (w.end == end) ≡ false = grind (arith, nat_tests) in
     ap (λ b. cond b (Some w) (find (λ w. w.end == end) ws)) other ∙ absent end ws below.1
 
+-- what is before the first window is before the others
 below_others : (n : ℕ) (w : Window) (ws : List Window) → n < w.end → AllByRecursion (λ (z : Window). w.end < z.end) ws
     → AllByRecursion (λ (z : Window). n < z.end) ws
 below_others n w [] lt rest = tt
@@ -131,6 +132,7 @@ Ascends-counted end (w ∷ ws) up =
           | Greater ↦ (each.0, above n end ws lt each.1)
         ]
 
+-- what is above a number is above it where some are left out
 each-filter : (n : ℕ) (p : Window → Bool) (ws : List Window) → AllByRecursion (λ (z : Window). n < z.end) ws
     → AllByRecursion (λ (z : Window). n < z.end) (filter p ws)
 each-filter n p [] each = tt
@@ -138,6 +140,7 @@ each-filter n p (w ∷ ws) each =
     elim (p w) as (λ b. AllByRecursion (λ (z : Window). n < z.end) (cond b (w ∷ filter p ws) (filter p ws)))
     [ true ↦ (each.0, each-filter n p ws each.1) | false ↦ each-filter n p ws each.1 ]
 
+-- windows ascend where some are left out
 Ascends-filter : (p : Window → Bool) (ws : List Window) → Ascends ws → Ascends (filter p ws)
 Ascends-filter p [] up = tt
 Ascends-filter p (w ∷ ws) up =
@@ -188,6 +191,7 @@ with_one-opened end takes few =
           ap (open_at end) room ∙ sym (ap (λ b. cond b None (open_at end (takes + 1))) some)
     ] refl
 
+-- with one more deed
 pub HasWindows-next : (size : ℕ) (done : List Deed) (ws : List Window) (d : Deed) → length done < MAX_STAMP → IsTimely size done d
     → HasWindows size done ws → HasWindows size (done ++ d ∷ []) (after_deed size ws d)
 HasWindows-next size done ws (took stamp true) few timely has = record {
