@@ -29,4 +29,6 @@ pub mod SpikeSteps
 pub mod Spiking
 pub mod Greatest
 pub mod SpikePlain
+pub mod Headline
 pub mod OneText
+pub mod Same

@@ -103,7 +103,7 @@ module _ {Y : Type 0} (of : Y → List ℕ) where
       by_any false e = sym (none key (no-members key ms e))
 
 -- each spike of a row has the row's key
-spikes-key : (last times : ℕ) (key : List ℕ) (before : List ℤ) (places : List (ℕ × ℤ))
+pub spikes-key : (last times : ℕ) (key : List ℕ) (before : List ℤ) (places : List (ℕ × ℤ))
     → AllByRecursion (λ (r : Record). r.key ≡ key) (spikes_in last times key before places)
 spikes-key last times key before [] = tt
 spikes-key last times key before (p ∷ ps) =

@@ -1,6 +1,7 @@
 pub mod Plain
-pub mod Grades
-pub mod Deeds
-pub mod Stories
-pub mod Places
+pub mod Ends
 pub mod Rows
+pub mod Stories
+pub mod Deeds
+pub mod Grades
+pub mod Places
