@@ -32,3 +32,4 @@ pub mod SpikePlain
 pub mod Headline
 pub mod OneText
 pub mod Same
+pub mod Tallying

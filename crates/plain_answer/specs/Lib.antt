@@ -5,3 +5,4 @@ pub mod Stories
 pub mod Deeds
 pub mod Grades
 pub mod Places
+pub mod Tallies
