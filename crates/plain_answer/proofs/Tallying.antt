@@ -1,6 +1,6 @@
 -- What a count gives is what its windows tally, one member after another. On the way to the code of the plain text.
 use Rattle.std.proofs.Common.{◌≡◌, ℕ, ◌+◌, ◌≤◌, ◌==◌, ◌&&◌, not, Bool, true, false, cond, List, [], ◌∷◌, ◌++◌, length, map, filter, fold, Option, Some, None, refl, sym, ◌∙◌, ap, subst, arith}
-use Rattle.std.specs.Prelude.{nat_eq, unwrap_or}
+use Rattle.std.specs.Prelude.{nat_eq, unwrap_or, Result, Ok, Err, IfOk}
 use Rattle.std.specs.declared.cmp.Ordering.TheVariants.{Less}
 use Rattle.std.specs.Cmp.Lexicographic.{pointwise}
 use Rattle.std.specs.Cmp.{IsTotalOrder, then_total, on_total, nat_cmp_total, tied_itself}
@@ -188,3 +188,11 @@ tally-plain size ms =
     (λ r. (λ i. key-itself r.key i && (r.stamp == r.stamp)) ∙ eq-eqb r.stamp r.stamp refl)
     (length (plain_of (kinds.Count size) ms)) (plain_of (kinds.Count size) ms) (map window_given (tally_of size ms)) (omega arith)
     (λ w. plain-at size w.0 w.1 ms ∙ sym (tally-at size ms w))
+
+-- what is made of such a tally is what a count gives plainly
+pub given-plain : {A E : Type 0} (items : A → List Record) (size : ℕ) (ms : List Keyed) (tally : List ((List ℕ × ℕ) × ℕ)) (result : Result A E)
+    → tally ≡ tally_of size ms → IfOk result (λ a. items a ≡ map window_given tally)
+    → IfOk result (λ a. IsPermutation (plain_of (kinds.Count size) ms) (items a))
+given-plain items size ms tally (Err why) is given = tt
+given-plain items size ms tally (Ok a) is given =
+    subst (IsPermutation (plain_of (kinds.Count size) ms)) (sym (given ∙ ap (map window_given) is)) (tally-plain size ms)

@@ -11,11 +11,13 @@
 
 mod examples;
 mod law;
+mod windows;
 
 pub use examples::{
     a_late_record_counts_as_late, a_window_far_above_is_a_spike, the_greatest_total_stands,
     two_readings_are_two_members, two_windows_are_counted,
 };
+pub use windows::windows_of;
 pub use law::{
     a_case_has_one_plain_text, finished_runs_write_one_text, results_are_the_plain_count,
 };
