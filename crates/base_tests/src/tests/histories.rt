@@ -54,9 +54,17 @@ type Both = ((usize, usize), (usize, usize));
 fn takes_back(alloc: Global) -> Result<bool, NoMemory> {
     let mut history = History::new(alloc);
     let was_empty = history.is_empty();
-    history.push(injected(alloc))?;
+    let pushed = history.push(injected(alloc));
     let holds = history.entries().len() == 1;
-    Ok(was_empty && holds && history.pop().is_some() && history.pop().is_none())
+    let first = history.pop();
+    let is_first = first.is_some();
+    drop(first);
+    let second = history.pop();
+    let is_last = second.is_none();
+    drop(second);
+    drop(history);
+    pushed?;
+    Ok(was_empty && holds && is_first && is_last)
 }
 
 // The same of the parts of one count.
