@@ -2,6 +2,7 @@
 //! two seats.
 mod acts;
 mod busy;
+mod crossing;
 mod entries;
 mod example;
 mod failing;
@@ -9,3 +10,4 @@ mod overtaken;
 mod same_answers;
 mod seats;
 mod starts;
+mod threads;
