@@ -2,6 +2,7 @@
 //! two seats.
 mod acts;
 mod busy;
+mod closing;
 mod crossing;
 mod entries;
 mod example;

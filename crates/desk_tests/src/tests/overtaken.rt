@@ -201,8 +201,8 @@ const SETTLE: Row<'static> = Row {
     ],
 };
 
-// Worker 1 claims the count's interval when worker 0 knows that the timer is due. The claim is entry 5,
-// behind the acknowledgement.
+// Worker 1 claims the count's interval when worker 0 knows that the timer is due. The claim is entry 6,
+// behind worker 0's second one.
 const FIRE: Row<'static> = Row {
     before: &[
         (Act::ClaimSource, Answer::Claimed(0)),
@@ -212,22 +212,24 @@ const FIRE: Row<'static> = Row {
         (Act::Write, Answer::Committed(3)),
         (Act::Take, Answer::Committed(4)),
         (Act::ReportSource, Answer::Marked(60)),
+        (Act::ClaimSource, Answer::Claimed(5)),
         (Act::ReportCount, Answer::Marked(60)),
     ],
-    between: &[(Act::ClaimCount, Answer::Claimed(5))],
-    after: &[(Act::Fire, Answer::Stale(5)), (Act::Fire, Answer::Nothing)],
+    between: &[(Act::ClaimCount, Answer::Claimed(6))],
+    after: &[(Act::Fire, Answer::Stale(6)), (Act::Fire, Answer::Nothing)],
     entries: &[
         Told::Claim(0, 0),
         Told::Claim(0, 1),
         Told::Inject(0, 0),
         Told::Handle(1, 2),
         Told::Ack(0, 2),
+        Told::Claim(0, 0),
         Told::Claim(1, 1),
     ],
 };
 
 // Worker 1 claims the count's interval when worker 0 has fired the timer, and the row of the key a has an id
-// to forget. The claim is entry 6, behind the timer's.
+// to forget. The claim is entry 7, behind the timer's.
 const PURGE: Row<'static> = Row {
     before: &[
         (Act::ClaimSource, Answer::Claimed(0)),
@@ -237,12 +239,13 @@ const PURGE: Row<'static> = Row {
         (Act::Write, Answer::Committed(3)),
         (Act::Take, Answer::Committed(4)),
         (Act::ReportSource, Answer::Marked(60)),
+        (Act::ClaimSource, Answer::Claimed(5)),
         (Act::ReportCount, Answer::Marked(60)),
-        (Act::Fire, Answer::Committed(5)),
+        (Act::Fire, Answer::Committed(6)),
     ],
-    between: &[(Act::ClaimCount, Answer::Claimed(6))],
+    between: &[(Act::ClaimCount, Answer::Claimed(7))],
     after: &[
-        (Act::Purge, Answer::Stale(6)),
+        (Act::Purge, Answer::Stale(7)),
         (Act::Purge, Answer::Nothing),
     ],
     entries: &[
@@ -251,13 +254,16 @@ const PURGE: Row<'static> = Row {
         Told::Inject(0, 0),
         Told::Handle(1, 2),
         Told::Ack(0, 2),
+        Told::Claim(0, 0),
         Told::Fire(1, 60),
         Told::Claim(1, 1),
     ],
 };
 
-// Worker 1 claims the injector's interval before worker 0 reports. The claim is entry 2. The other interval
-// is still worker 0's, whose mark is not above 0 while the injector's is 0.
+// Worker 1 claims the injector's interval before worker 0 reports. The claim is entry 2. A report under a lease
+// that is stale is answered too, and harmless: the mark is that of the injector's file, which states no
+// watermark before its first line. The other interval is still worker 0's, whose mark is not above 0 while
+// the injector's is 0.
 const REPORT: Row<'static> = Row {
     before: &[
         (Act::ClaimSource, Answer::Claimed(0)),
@@ -265,18 +271,42 @@ const REPORT: Row<'static> = Row {
     ],
     between: &[(Act::ClaimSource, Answer::Claimed(2))],
     after: &[
-        (Act::ReportSource, Answer::Stale(2)),
-        (Act::ReportSource, Answer::Nothing),
+        (Act::ReportSource, Answer::Marked(0)),
+        (Act::ReportSource, Answer::Marked(0)),
         (Act::ReportCount, Answer::Marked(0)),
     ],
     entries: &[Told::Claim(0, 0), Told::Claim(0, 1), Told::Claim(1, 0)],
+};
+
+// Worker 1 claims the count's interval when the injector's mark is 60. The claim is entry 5. Worker 0's lease was
+// settled while that mark was 0, and vouches for no more.
+const RAISE: Row<'static> = Row {
+    before: &[
+        (Act::ClaimSource, Answer::Claimed(0)),
+        (Act::ClaimCount, Answer::Claimed(1)),
+        (Act::Inject, Answer::Committed(2)),
+        (Act::Take, Answer::Prepared),
+        (Act::Write, Answer::Committed(3)),
+        (Act::Take, Answer::Committed(4)),
+        (Act::ReportSource, Answer::Marked(60)),
+    ],
+    between: &[(Act::ClaimCount, Answer::Claimed(5))],
+    after: &[(Act::ReportCount, Answer::Marked(0))],
+    entries: &[
+        Told::Claim(0, 0),
+        Told::Claim(0, 1),
+        Told::Inject(0, 0),
+        Told::Handle(1, 2),
+        Told::Ack(0, 2),
+        Told::Claim(1, 1),
+    ],
 };
 
 #[test]
 fn stale_across_seats(rt: HostRuntime) -> Result<(), Fail> {
     let alloc = rt.alloc();
     let given = two_lines_example(alloc)?;
-    for row in [INJECT, HANDLE, SETTLE, FIRE, PURGE, REPORT] {
+    for row in [INJECT, HANDLE, SETTLE, FIRE, PURGE, REPORT, RAISE] {
         plays(&rt, alloc, &given, Play::Overtaking(&row), row.entries);
     }
     Ok(())
