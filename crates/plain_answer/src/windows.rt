@@ -13,8 +13,8 @@ use std::collections::BTreeMap;
 type Tally = BTreeMap<(Key, u64), u64>;
 
 /// What a count with windows of this size, in whole microseconds, gives of all the members that it
-/// reads, each with the key of the row that reads it. For an end or a number past the greatest there
-/// is no memory.
+/// reads, each with the key of the row that reads it. For an end or a number past the greatest
+/// there is no memory.
 pub fn windows_of(
     alloc: Global,
     size: u64,
