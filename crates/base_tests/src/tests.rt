@@ -17,7 +17,7 @@ mod shared_lists;
 mod topologies;
 mod types;
 
-use mw_types::{Key, NoMemory};
+use mw_types::{Key, NoMemory, Seq};
 use std::alloc::Global;
 
 // The key of this text. It has no clause, so that no caller carries what `Key::of` tells, which would be
@@ -27,4 +27,14 @@ fn key_of(alloc: Global, text: &str) -> Result<Key, NoMemory> {
         Ok(key) => Ok(key),
         Err(_) => Err(NoMemory),
     }
+}
+
+// Whether a list has these elements. It is handed over, so that it is let go here alone.
+fn are<X: PartialEq + Drop>(list: Seq<X>, want: &[X]) -> bool {
+    list.as_slice() == want
+}
+
+// Why something was refused, if it was. What was made is let go here alone.
+fn refusal_of<T: Drop, E: Drop>(given: Result<T, E>) -> Option<E> {
+    given.err()
 }

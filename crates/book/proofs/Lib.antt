@@ -19,3 +19,4 @@ pub mod DeskLaws
 pub mod OwnLaws
 pub mod OwnReasons
 pub mod FirstLaws
+pub mod PutMarks

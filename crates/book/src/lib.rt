@@ -19,6 +19,7 @@ mod desk_refusal;
 mod entries;
 mod fitting;
 mod lease;
+mod marking;
 mod own_desk;
 mod pending;
 mod proposal;

@@ -2,6 +2,8 @@
 //! two seats.
 mod acts;
 mod busy;
+mod closing;
+mod crossing;
 mod entries;
 mod example;
 mod failing;
@@ -9,3 +11,4 @@ mod overtaken;
 mod same_answers;
 mod seats;
 mod starts;
+mod threads;

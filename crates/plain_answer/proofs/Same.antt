@@ -48,7 +48,8 @@ plain_of-same (kinds.Count size) ms ns same =
 plain_of-same (kinds.Spike last times) ms ns same =
     totals-permuted (plain_of (kinds.Spike last times) ms) (plain_of (kinds.Spike last times) ns)
     (by_keys (λ (key : List ℕ) (r : Record). pointwise nat_eq key r.key) (λ (r : Record). r.key) (λ r. key-itself r.key)
-    (length (plain_of (kinds.Spike last times) ms)) (plain_of (kinds.Spike last times) ms) (plain_of (kinds.Spike last times) ns) (omega arith)
+    (length (plain_of (kinds.Spike last times) ms)) (plain_of (kinds.Spike last times) ms)
+    (plain_of (kinds.Spike last times) ns) (omega arith)
     (λ key. at key ms ∙ ap (spikes_in last times key []) (places-any key ms ns same) ∙ sym (at key ns)))
   where
     at : (key : List ℕ) (l : List Keyed)

@@ -75,7 +75,8 @@ tallies-with size done m es tallies = by_late m.1.late refl
     own : List ℕ × ℕ
     own = (m.0, plain_end size m.1.stamp)
 
-    grown : (w : List ℕ × ℕ) (k : ℕ) → into size w.0 w.1 m ≡ k → total (into size w.0 w.1) (done ++ m ∷ []) ≡ total (into size w.0 w.1) done + k
+    grown : (w : List ℕ × ℕ) (k : ℕ) → into size w.0 w.1 m ≡ k
+        → total (into size w.0 w.1) (done ++ m ∷ []) ≡ total (into size w.0 w.1) done + k
     grown w k is = total-push (into size w.0 w.1) done m ∙ ap (λ n. total (into size w.0 w.1) done + n) is
 
     same_find : (w : List ℕ × ℕ) → into size w.0 w.1 m ≡ 0 → lookup (is_at (window_cmp w)) es
@@ -91,7 +92,8 @@ tallies-with size done m es tallies = by_late m.1.late refl
       each = λ w. same_find w (late_none (pointwise nat_eq w.0 m.0) w);
     }
       where
-        late_none : (b : Bool) (w : List ℕ × ℕ) → when (pointwise nat_eq w.0 m.0 && not m.1.late) (when (plain_end size m.1.stamp == w.1) 1) ≡ 0
+        late_none : (b : Bool) (w : List ℕ × ℕ)
+            → when (pointwise nat_eq w.0 m.0 && not m.1.late) (when (plain_end size m.1.stamp == w.1) 1) ≡ 0
         late_none b w = ap (λ l. when (pointwise nat_eq w.0 m.0 && not l) (when (plain_end size m.1.stamp == w.1) 1)) is
             ∙ by_key (pointwise nat_eq w.0 m.0)
           where
@@ -119,7 +121,7 @@ tallies-with size done m es tallies = by_late m.1.late refl
             let here : w ≡ own = same-window w own e in
             let one : into size w.0 w.1 m ≡ 1 = counts w ∙ ap (λ b. when b 1) e in
             let found : tally_at es own ≡ total (into size w.0 w.1) done =
-                ap (tally_at es) (sym here) ∙ ap (λ o. unwrap_or o 0) (tallies.each w) ∙ count-found (total (into size w.0 w.1) done) in
+            ap (tally_at es) (sym here) ∙ ap (λ o. unwrap_or o 0) (tallies.each w) ∙ count-found (total (into size w.0 w.1) done) in
             let more : tally_at es own + 1 ≡ total (into size w.0 w.1) (done ++ m ∷ []) = omega (arith, found, grown w 1 one) in
             let some : (total (into size w.0 w.1) (done ++ m ∷ []) == 0) ≡ false = grind (arith, nat_tests, more) in
             ap Some more ∙ sym (ap (λ b. cond b None (Some (total (into size w.0 w.1) (done ++ m ∷ [])))) some)
@@ -176,7 +178,8 @@ tally-at size ms w =
     ∙ filter-found w (tally_of size ms) _ tallies.sorted (tallies.each w)
     ∙ last (total (into size w.0 w.1) ms == 0)
   where
-    last : (b : Bool) → Rattle.std.specs.Option.option_map_or (λ n. count_at w.0 w.1 n ∷ []) (cond b None (Some (total (into size w.0 w.1) ms))) []
+    last : (b : Bool)
+        → Rattle.std.specs.Option.option_map_or (λ n. count_at w.0 w.1 n ∷ []) (cond b None (Some (total (into size w.0 w.1) ms))) []
         ≡ cond b [] (count_at w.0 w.1 (total (into size w.0 w.1) ms) ∷ [])
     last true = refl
     last false = refl
@@ -190,7 +193,8 @@ tally-plain size ms =
     (λ w. plain-at size w.0 w.1 ms ∙ sym (tally-at size ms w))
 
 -- what is made of such a tally is what a count gives plainly
-pub given-plain : {A E : Type 0} (items : A → List Record) (size : ℕ) (ms : List Keyed) (tally : List ((List ℕ × ℕ) × ℕ)) (result : Result A E)
+pub given-plain : {A E : Type 0} (items : A → List Record) (size : ℕ) (ms : List Keyed) (tally : List ((List ℕ × ℕ) × ℕ))
+    (result : Result A E)
     → tally ≡ tally_of size ms → IfOk result (λ a. items a ≡ map window_given tally)
     → IfOk result (λ a. IsPermutation (plain_of (kinds.Count size) ms) (items a))
 given-plain items size ms tally (Err why) is given = tt

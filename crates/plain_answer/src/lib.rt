@@ -4,9 +4,10 @@
 //! injector's file has, or what its computation makes of all that it reads at once. Stands on
 //! `history_laws`. Public contract: the result text of every legal and finished history of a case
 //! is the plain count of the case, in whatever order its entries came, so that two such histories
-//! of a case have one text. Definitions: `specs/Plain.antt`, which is to be read from the top,
-//! `specs/Ends.antt`, when a run is at its end, and `specs/Rows.antt`, with cases that were worked
-//! by hand; no clause cites the other files of `specs/`.
+//! of a case have one text; `windows_of` computes what a count gives. Definitions:
+//! `specs/Plain.antt`, which is to be read from the top, `specs/Ends.antt`, when a run is at its
+//! end, and `specs/Rows.antt`, with cases that were worked by hand; no public clause cites the
+//! other files of `specs/`.
 #![tactic(auto)]
 
 mod examples;
@@ -17,7 +18,7 @@ pub use examples::{
     a_late_record_counts_as_late, a_window_far_above_is_a_spike, the_greatest_total_stands,
     two_readings_are_two_members, two_windows_are_counted,
 };
-pub use windows::windows_of;
 pub use law::{
     a_case_has_one_plain_text, finished_runs_write_one_text, results_are_the_plain_count,
 };
+pub use windows::windows_of;

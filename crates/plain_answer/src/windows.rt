@@ -1,9 +1,10 @@
 //! What a count gives of all that it reads.
-ghost use Rattle.std.specs.Prelude.{◌≡◌, ◌≤◌, map, IfOk, OnOk, fold};
+ghost use Rattle.std.specs.Prelude.{◌≡◌, ◌≤◌, ◌+◌, ◌++◌, ◌∷◌, [], map, IfOk, OnOk};
+ghost use Rattle.std.specs.BTreeMap.{insert_entry};
 ghost use Rattle.std.specs.List.Sorted.{IsPermutation};
 ghost use Rattle.mw_types.specs.declared.kind.Kind.TheVariants.{Count};
 ghost use Rattle.plain_answer.specs.Plain.{plain_end, plain_of};
-ghost use Rattle.plain_answer.specs.Tallies.{tally_at, tally_of, tally_with, window_given};
+ghost use Rattle.plain_answer.specs.Tallies.{tally_at, tally_of, tally_with, window_cmp, window_given};
 
 use mw_types::{Duplicate, Key, NoMemory, Record};
 use std::alloc::Global;
@@ -13,8 +14,8 @@ use std::collections::BTreeMap;
 type Tally = BTreeMap<(Key, u64), u64>;
 
 /// What a count with windows of this size, in whole microseconds, gives of all the members that it
-/// reads, each with the key of the row that reads it. For an end or a number past the greatest there
-/// is no memory.
+/// reads, each with the key of the row that reads it. For an end or a number past the greatest
+/// there is no memory.
 pub fn windows_of(
     alloc: Global,
     size: u64,
@@ -56,6 +57,14 @@ fn note(
         return Ok(());
     }
     let window = (key.copy(alloc)?, end_of(size, item.stamp)?);
+    count_up(tally, window)
+}
+
+// Counts one record more in a window.
+fn count_up(tally: &mut Tally, window: (Key, u64)) -> Result<(), NoMemory>
+    ensures { OnOk result (tally.new.entries ≡ insert_entry window_cmp tally.old.entries window
+        (tally_at tally.old.entries window + 1)) }
+{
     let Some(count) = count_of(tally, &window).checked_add(1) else {
         return Err(NoMemory);
     };
@@ -90,9 +99,23 @@ fn given(alloc: Global, tally: &Tally) -> Result<Vec<Record>, NoMemory>
 {
     let mut records = Vec::new(alloc);
     for (window, count) in tally {
-        records.push(window_record(alloc, window, *count)?)?;
+        push_window(alloc, &mut records, window, *count)?;
     }
     Ok(records)
+}
+
+// Puts the count of one window behind the records.
+fn push_window(
+    alloc: Global,
+    records: &mut Vec<Record>,
+    window: &(Key, u64),
+    count: u64,
+) -> Result<(), NoMemory>
+    ensures { OnOk result
+        (records.new.items ≡ records.old.items ++ window_given (window.now, count) ∷ []) }
+{
+    records.push(window_record(alloc, window, count)?)?;
+    Ok(())
 }
 
 // The count of one window as a record.

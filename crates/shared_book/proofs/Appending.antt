@@ -14,6 +14,7 @@ use Rattle.mw_types.proofs.CauseLaws.{Rose-before}
 use Rattle.mw_types.specs.declared.entry.Entry.{Entry}
 use Rattle.mw_types.specs.declared.entry.Entry.TheVariants.{Claim, Inject, Handle, Fire, Ack, Purge}
 use Rattle.topology.specs.Shapes.{Shape}
+use Rattle.run_history.specs.Inputs.{IsRunnable}
 use Rattle.run_history.specs.Legal.{IsLegal}
 use Rattle.run_history.specs.Fences.{Begins, IsFenced, sequencer_of}
 use Rattle.run_history.proofs.Beginnings.{Begins-itself, Begins-trans, Begins-length, Begins-at, slice_get-last}
@@ -26,11 +27,15 @@ use Rattle.book.proofs.SeenRows.{told-then}
 use Rattle.shared_book.specs.declared.views.Basis.{Basis}
 use Rattle.shared_book.specs.declared.views.View.{View}
 use Rattle.shared_book.specs.Lists.{IsIn, AreDistinct}
-use Rattle.shared_book.specs.FenceLaw.{Slot, FenceLaw, Fits, AreApart, IsCore, AreClaimed, CarriesBelow, sequencers, no_marks}
+use Rattle.shared_book.specs.MarksLaw.{MarksLaw}
+use Rattle.shared_book.specs.Places.{places_after, settled_by, settled_in}
+use Rattle.shared_book.specs.FenceLaw.{Slot, FenceLaw, Fits, AreApart, IsCore, AreClaimed, CarriesBelow, IsQuiet, sequencers}
 use Rattle.shared_book.specs.Steps.{Appends, GivesBack, Faults, Looks, IsOwnEntry, lease_in, grown, idle, faulted}
 use Rattle.shared_book.proofs.Lists.{in_append, in_left, in_right, ascends_push, distinct_append, drop_front}
 use Rattle.shared_book.proofs.ViewLists.{everywhere_set, pairwise_set, somewhere_set, somewhere_here}
-use Rattle.shared_book.proofs.Histories.{begins_more, claim_kept, claim_within, entry_at_end, all_below, below_push, carried_below, legal_begins}
+use Rattle.shared_book.proofs.Histories.{begins_more, claim_kept, claim_within, entry_at_end, all_below, below_push, carried_below, legal_begins, seq_of_lease}
+use Rattle.shared_book.proofs.LawSteps.{floor-few, loaded-safe, marks_appended, marks_moved, marks_released}
+use Rattle.shared_book.proofs.Quiet.{quiet-grown, quiet-moved, quiet-released, quiet-stays}
 use Rattle.shared_book.proofs.Moves.{off, apart_sym, fits_on, alone}
 
 -- ---- leases and their sequencers
@@ -44,11 +49,6 @@ sequencers_append (x ∷ a) b = ap (λ l. x.seq ∷ l) (sequencers_append a b)
 pub lease_with : (s : ℕ) (ls : List LeaseView) → IsIn s (sequencers ls) → (l : LeaseView) × IsIn l ls × (l.seq ≡ s)
 lease_with s [] p = absurd p
 lease_with s (x ∷ xs) p = ⊎_elim (λ e. (x, inl refl, sym e)) (λ q. let r = lease_with s xs q in (r.0, inr r.1, r.2)) p
-
--- and a lease has a sequencer
-pub seq_of_lease : (l : LeaseView) (ls : List LeaseView) → IsIn l ls → IsIn l.seq (sequencers ls)
-seq_of_lease l [] p = absurd p
-seq_of_lease l (x ∷ xs) p = ⊎_elim (λ e. inl (ap (λ (y : LeaseView). y.seq) e)) (λ q. inr (seq_of_lease l xs q)) p
 
 -- a lease's sequencer is below the length of what was seen
 pub seq_below : (front : List Entry) (ls : List LeaseView) (s : ℕ) → AreClaimed front ls → IsIn s (sequencers ls) → s < length front
@@ -104,6 +104,7 @@ after v e = record v {
   front = v.front ++ e ∷ [];
   own = v.own ++ length v.front ∷ [];
   leases = v.leases ++ news v e;
+  settled = settled_by e (length v.front) v.settled;
 }
 
 -- what the step tells is this view
@@ -112,6 +113,7 @@ grown_after v e = ap (λ (l : List Entry). record v {
   front = v.front ++ e ∷ [];
   own = v.own ++ length v.front ∷ [];
   leases = v.leases ++ lease_in l (length v.front);
+  settled = settled_in l (length v.front) v.settled;
 }) (drop_front v.front (e ∷ []))
 
 -- a number below one more is below, or is the last
@@ -204,6 +206,18 @@ grown_apart basis s f id v e at turn i u o g =
       numbers = a.numbers;
     }
 
+-- the law of marks, once the entry is appended
+law_appended : (basis : Basis) (s : State Slot View) (f : FenceLaw basis s) (id : ℕ) (v w : View) (e : Entry)
+    → get_elem? s.views id ≡ some v → v.front ≡ f.history → IsRunnable basis.case
+    → IfSome basis.told (λ _. IsLegal basis.case (v.front ++ e ∷ []))
+    → w.front ≡ v.front ++ e ∷ [] → w.settled ≡ settled_by e (length f.history) v.settled → w.marks ≡ v.marks → w.floor ≡ v.floor
+    → MarksLaw basis (v.front ++ e ∷ []) f.floor f.marks (slice_set s.views id w)
+law_appended basis s f id v w e at whole runs legal front settled marks floor =
+    subst (λ (h : List Entry). MarksLaw basis (h ++ e ∷ []) f.floor f.marks (slice_set s.views id w)) (sym whole)
+    (marks_appended basis f.history e f.floor f.marks s.views id v w runs
+    (subst (λ (h : List Entry). IfSome basis.told (λ _. IsLegal basis.case (h ++ e ∷ []))) whole legal)
+    (λ i u g. (f.views i u g).begins) at (front ∙ ap (λ (h : List Entry). h ++ e ∷ []) whole) settled marks floor f.law)
+
 -- the law, once the entry is appended
 appended : (basis : Basis) (s : State Slot View) (f : FenceLaw basis s) (id : ℕ) (v : View) (b : CoreView) (e : Entry)
     → get_elem? s.views id ≡ some v → v.turn ≡ true → v.live ≡ true → IsOwnEntry v e
@@ -226,16 +240,21 @@ appended basis s f id v b e at turn live may longer lawful limit told =
     let free = alone basis s f id v at turn in
     let lawful' : IsLawful basis.case b = subst (λ (z : Basis). IsLawful z.case b) base lawful in
     let room : length b.history ≤ b.limit = lawful'.few in
+    let legal : IfSome basis.told (λ _. IsLegal basis.case h') =
+    lawful_legal basis h' b lawful' longer (told ∙ ap (λ (z : Basis). z.told) base) in
     record {
       history = h';
       turn = f.turn;
       count = f.count;
+      floor = f.floor;
+      marks = f.marks;
       words = ap (λ l. slice_set l 0 (length h')) f.words;
+      places = f.places;
       holder = λ z. somewhere_here (λ x. x.turn ≡ true) s.views id v w at turn;
       home = λ z. absurd (omega (arith, mine.3, z));
       out = f.out;
       fenced = subst (IsFenced basis.case.topology) longer lawful'.fenced;
-      legal = lawful_legal basis h' b lawful' longer (told ∙ ap (λ (z : Basis). z.told) base);
+      legal = legal;
       few = omega (arith, room, limit, ap length longer, ap (λ (z : Basis). z.limit) base);
       limit = f.limit;
       started = omega (arith, f.started, more, len);
@@ -258,6 +277,14 @@ appended basis s f id v b e at turn live may longer lawful limit told =
           (λ y. somewhere_here (λ x. IsIn k x.own) s.views id v w at (in_right k v.own (length v.front ∷ []) (inl y)))
           (below_or k (length f.history) (length v.front) (length h') q more len);
       numbered = λ n p. somewhere_set (λ x. IsIn n x.numbers) s.views id v w at (λ y. y) (f.numbered n p);
+      law = law_appended basis s f id v w e at whole lawful'.runnable legal refl
+          (ap (λ (l : List Entry). settled_by e (length l) v.settled) whole) refl refl;
+      quiet = everywhere_set (IsQuiet h') s.views id w
+          (quiet-grown basis.case.topology v.front e v w (subst (IsFenced basis.case.topology) longer lawful'.fenced) fit.claimed refl refl turn
+          (subst (λ (l : List Entry). IsQuiet l v) (sym whole) (f.quiet id v at)))
+          (λ i u o g. quiet-stays v.front e u (free i u o g)
+          (λ q p carries. (f.apart id i v u at g (λ x. o (sym x))).leases q (may q carries) p)
+          (subst (λ (l : List Entry). IsQuiet l u) (sym whole) (f.quiet i u g)));
     }
 
 -- a small number is its own remainder
@@ -309,7 +336,10 @@ gives_turn basis slots id v b turn live core room s f homes at small =
         history = f.history;
         turn = 0;
         count = f.count;
+        floor = f.floor;
+        marks = f.marks;
         words = ap (λ l. slice_set l 1 0) f.words;
+        places = f.places;
         holder = λ z. absurd (omega arith);
         home = λ _. (
           b,
@@ -355,6 +385,13 @@ gives_turn basis slots id v b turn live core room s f homes at small =
             } in (n, apart_sym w u n));
         owned = λ k p q. somewhere_set (λ x. IsIn k x.own) s.views id v w at (λ y. y) (f.owned k p q);
         numbered = λ n p. somewhere_set (λ x. IsIn n x.numbers) s.views id v w at (λ y. y) (f.numbered n p);
+        law = marks_released basis f.history f.floor f.marks s.views id v w
+            (subst (λ (z : Basis). IsRunnable z.case) (fit.same live) core.lawful.runnable) at mine.4 refl
+            (ap (λ (z : Basis). places_after z.case.topology v.front v.marks 0 v.settled) (fit.same live)) refl refl f.law;
+        quiet = everywhere_set (IsQuiet f.history) s.views id w
+            (quiet-released v.basis.case.topology f.history v w v.marks
+            (ap (λ (l : List Entry). places_after v.basis.case.topology l v.marks 0 v.settled) mine.4) refl (f.quiet id v at))
+            (λ i u o e. f.quiet i u e);
       },
       ((refl, refl, refl), refl),
     )
@@ -363,9 +400,9 @@ gives_turn basis slots id v b turn live core room s f homes at small =
 
 -- a word that is set to what it is
 pub same_first : (basis : Basis) (s : State Slot View) (f : FenceLaw basis s)
-    → slice_set s.words 0 (slice_index s.words 0) ≡ length f.history ∷ f.turn ∷ no_marks
+    → slice_set s.words 0 (slice_index s.words 0) ≡ length f.history ∷ f.turn ∷ f.floor ∷ f.marks
 same_first basis s f =
-    subst (λ (l : List ℕ). slice_set s.words 0 (slice_index l 0) ≡ length f.history ∷ f.turn ∷ no_marks) (sym f.words)
+    subst (λ (l : List ℕ). slice_set s.words 0 (slice_index l 0) ≡ length f.history ∷ f.turn ∷ f.floor ∷ f.marks) (sym f.words)
     (ap (λ l. slice_set l 0 (length f.history)) f.words)
 
 -- a seat with the turn may note that the keeper of the book in its place failed
@@ -385,7 +422,10 @@ faults_one basis slots id v b turn more rose s f homes at small =
         history = f.history;
         turn = f.turn;
         count = b.faults;
+        floor = f.floor;
+        marks = f.marks;
         words = same_first basis s f;
+        places = f.places;
         holder = λ z. somewhere_here (λ x. x.turn ≡ true) s.views id v w at turn;
         home = λ z. absurd (omega (arith, mine.3, z));
         out = f.out;
@@ -423,6 +463,9 @@ faults_one basis slots id v b turn more rose s f homes at small =
             (n, apart_sym w u n));
         owned = λ k p q. somewhere_set (λ x. IsIn k x.own) s.views id v w at (λ y. y) (f.owned k p q);
         numbered = λ n p. somewhere_set (λ x. IsIn n x.numbers) s.views id v w at (λ y. y) (f.numbered n p);
+        law = marks_moved basis f.history f.floor f.marks s.views id v w at (Begins-itself v.front) refl refl refl f.law;
+        quiet = everywhere_set (IsQuiet f.history) s.views id w (quiet-moved f.history v w refl refl (λ x. x) (f.quiet id v at))
+            (λ i u o e. f.quiet i u e);
       },
       ((refl, refl, refl), refl),
     )
@@ -464,6 +507,8 @@ looks_on basis slots id v l live s f homes at small =
           limit = omega (arith, f.limit, ap (λ (z : Basis). z.limit) base);
           claimed = fit.claimed;
           ascend = fit.numbers_ascend;
+          floor = let low = (loaded-safe basis f.history f.floor f.marks s.views id v at f.law).1 in
+              let most = floor-few basis.case f.history in omega (arith, low, most, f.few, f.limit);
         },
         fit.met,
         record {
@@ -471,5 +516,13 @@ looks_on basis slots id v l live s f homes at small =
           written = λ q p k x there carries. fit.written q p k x (Begins-at v.front f.history k x fit.begins there) carries;
         },
         fit.met_same live ∙ base,
+        λ idle i. let settled = f.law.settled id v at i in record {
+          within = settled.within;
+          last = settled.last;
+          quiet = λ seq is at' entry there carries. ⊎_elim
+              (λ below. below at' entry (Begins-at v.front f.history at' entry fit.begins there) carries)
+              (λ x. absurd (off (sym idle ∙ x.0)))
+              ((f.quiet id v at i).quiet seq is);
+        },
       ),
     )

@@ -33,7 +33,7 @@ use Rattle.shared_book.specs.Lists.{IsIn}
 use Rattle.shared_book.specs.FenceLaw.{IsCore, AreClaimed, sequencers}
 use Rattle.shared_book.specs.Steps.{SeatView, IsOwnEntry, grown}
 use Rattle.shared_book.specs.Turns.{HasClaimedIn, HasStoredIn, HasWrittenIn, IsGrown, MayWrite, IsRowHeld, IsProposedIn}
-use Rattle.shared_book.proofs.Appending.{seq_of_lease}
+use Rattle.shared_book.proofs.Histories.{seq_of_lease}
 
 -- a claim carries no sequencer
 pub claim_own : (v : View) (worker interval : ℕ) → IsOwnEntry v (Claim worker interval)

@@ -1,5 +1,5 @@
 -- What the calls of a desk leave, by what they did in a turn.
-use Rattle.std.proofs.Common.{inl, inr, ◌≡◌, ◌≢◌, ◌⊎◌, ◌∙◌, ◌≤◌, ◌++◌, ◌∷◌, ℕ, suc, Bool, true, false, List, [], length, drop, refl, sym, ap, subst, ⊎_elim, arith}
+use Rattle.std.proofs.Common.{inl, inr, ◌≡◌, ◌≢◌, ◌⊎◌, ◌∙◌, ◌≤◌, ◌++◌, ◌∷◌, ℕ, suc, Bool, true, false, List, [], length, drop, take, refl, sym, ap, subst, ⊎_elim, arith}
 use Rattle.std.specs.Prelude.{◌↔◌, Err, IfErr, IfOk, IfSome, IsErrOf, None, Ok, OnOk, Option, Result, Some}
 use Rattle.std.proofs.lemmas.List.{append-nil}
 use Rattle.std.proofs.lemmas.List.Elements.{All-nil}
@@ -9,14 +9,14 @@ use Rattle.mw_types.specs.declared.entry.Entry.TheVariants.{Claim}
 use Rattle.mw_types.specs.declared.identity.RowName.{RowName}
 use Rattle.row_keeper.specs.Rows.{Rows}
 use Rattle.row_parts.specs.Contents.{Contents}
-use Rattle.run_history.specs.Cases.{CaseShape}
+use Rattle.run_history.specs.Cases.{CaseShape, intervals_of}
 use Rattle.run_history.specs.Fences.{Begins, CarryNot, sequencer_of}
 use Rattle.run_history.specs.Legal.{floor_of}
 use Rattle.run_history.specs.Runs.{run_of, written_row}
 use Rattle.run_history.proofs.Beginnings.{Begins-itself, Begins-trans}
 use Rattle.history_laws.proofs.FloorLaws.{floor_of-rises}
 use Rattle.watermark.specs.Marks.{mark_of}
-use Rattle.book.specs.Answers.{HasStayed, IsFullWhere, IsSameBook, IsStaleReport, IsStaleWhere, IsWritten}
+use Rattle.book.specs.Answers.{HasStayed, IsFullWhere, IsSameBook, IsStaleWhere, IsWritten}
 use Rattle.book.specs.Books.{BookView, LeaseView}
 use Rattle.book.specs.Claims.{AreRowsOf, IsDamaged, IsDamagedRow}
 use Rattle.book.specs.Conditions.{IsRowOf}
@@ -30,17 +30,17 @@ use Rattle.book.specs.declared.desk_refusal.DeskRefusal.TheVariants as refusals
 use Rattle.book.specs.declared.proposal.Proposal.{Proposal}
 use Rattle.book.specs.declared.refusals.ClaimRefusal.{ClaimRefusal}
 use Rattle.book.specs.declared.refusals.ClaimRefusal.TheVariants as claims
-use Rattle.book.specs.declared.refusals.Stale.{Stale}
 use Rattle.book.specs.declared.refusals.WriteRefusal.{WriteRefusal}
 use Rattle.book.specs.declared.refusals.WriteRefusal.TheVariants as writes
 use Rattle.book.proofs.ClaimLaws.{err-is}
 use Rattle.book.proofs.Numbers.{numbers_from-one, own-stays}
-use Rattle.book.proofs.OwnReasons.{claim-reason, reason, report-reason}
+use Rattle.book.proofs.OwnReasons.{claim-reason, reason}
 use Rattle.shared_book.specs.declared.views.Basis.{Basis}
 use Rattle.shared_book.specs.declared.views.View.{View}
 use Rattle.shared_book.specs.Lists.{IsIn}
-use Rattle.shared_book.specs.SharedDesks.{IsKnown, KnownView, is_held, shared_view}
-use Rattle.shared_book.specs.Steps.{SeatView, faulted, grown, idle, lease_in, missing}
+use Rattle.shared_book.specs.MarkSteps.{released}
+use Rattle.shared_book.specs.SharedDesks.{is_held, shared_view}
+use Rattle.shared_book.specs.Steps.{SeatView, faulted, grown, lease_in, missing}
 use Rattle.shared_book.specs.Turns.{HasClaimedIn, HasFaulted, HasStoredIn, HasTaken, HasWrittenIn}
 use Rattle.shared_book.proofs.Held.{held-in, held-more, in-held}
 use Rattle.shared_book.proofs.Lists.{drop_front, in_right}
@@ -54,8 +54,8 @@ none-carried : (seq : ℕ) → CarryNot seq []
 none-carried seq = All-nil (λ (e : Entry). sequencer_of e ≢ Some seq)
 
 -- a desk that noted what it found has seen no more
-looked-busy : (v : View) (known : KnownView) (found : ℕ) → HasLooked (shared_view v known) (shared_view (missing v found) known)
-looked-busy v known found = record {
+looked-busy : (v : View) (found : ℕ) → HasLooked (shared_view v) (shared_view (missing v found))
+looked-busy v found = record {
   case = refl;
   limit = refl;
   told = refl;
@@ -75,9 +75,9 @@ busy-number : (m n : ℕ) → refusals.Busy m ≡ refusals.Busy n → m ≡ n
 busy-number m n e = cc
 
 -- what was found is what is answered
-reason-busy : (v : View) (known : KnownView) (lease : LeaseView) (found : ℕ)
-    → HasReason (shared_view v known) (shared_view (missing v found) known) lease (refusals.Busy found)
-reason-busy v known lease found = record {
+reason-busy : (v : View) (lease : LeaseView) (found : ℕ)
+    → HasReason (shared_view v) (shared_view (missing v found)) lease (refusals.Busy found)
+reason-busy v lease found = record {
   stale = λ decided. absurd decided;
   full = λ decided. absurd decided;
   counts = record {
@@ -88,9 +88,9 @@ reason-busy v known lease found = record {
 }
 
 -- and so of a claim
-claim-reason-busy : (v : View) (known : KnownView) (found : ℕ)
-    → HasClaimReason (shared_view v known) (shared_view (missing v found) known) (refusals.Busy found)
-claim-reason-busy v known found = record {
+claim-reason-busy : (v : View) (found : ℕ)
+    → HasClaimReason (shared_view v) (shared_view (missing v found)) (refusals.Busy found)
+claim-reason-busy v found = record {
   full = λ decided. absurd decided;
   never_stale = λ newer e. cc;
   counts = record {
@@ -101,24 +101,32 @@ claim-reason-busy v known found = record {
 }
 
 -- the same, of the seat
-module _ (old new : SeatView) (known : KnownView) (found : ℕ) (is : new ≡ (missing old.0 found, old.1)) where
-  pub busy-looked : HasLooked (shared_view old.0 known) (shared_view new.0 known)
-  busy-looked = subst (λ (m : SeatView). HasLooked (shared_view old.0 known) (shared_view m.0 known)) (sym is)
-      (looked-busy old.0 known found)
+module _ (old new : SeatView) (found : ℕ) (is : new ≡ (missing old.0 found, old.1)) where
+  pub busy-looked : HasLooked (shared_view old.0) (shared_view new.0)
+  busy-looked = subst (λ (m : SeatView). HasLooked (shared_view old.0) (shared_view m.0)) (sym is)
+      (looked-busy old.0 found)
 
-  pub busy-reason : (lease : LeaseView) → HasReason (shared_view old.0 known) (shared_view new.0 known) lease (refusals.Busy found)
-  busy-reason lease = subst (λ (m : SeatView). HasReason (shared_view old.0 known) (shared_view m.0 known) lease (refusals.Busy found)) (sym is)
-      (reason-busy old.0 known lease found)
+  pub busy-reason : (lease : LeaseView) → HasReason (shared_view old.0) (shared_view new.0) lease (refusals.Busy found)
+  busy-reason lease = subst (λ (m : SeatView). HasReason (shared_view old.0) (shared_view m.0) lease (refusals.Busy found)) (sym is)
+      (reason-busy old.0 lease found)
 
-  pub busy-claim_reason : HasClaimReason (shared_view old.0 known) (shared_view new.0 known) (refusals.Busy found)
-  busy-claim_reason = subst (λ (m : SeatView). HasClaimReason (shared_view old.0 known) (shared_view m.0 known) (refusals.Busy found)) (sym is)
-      (claim-reason-busy old.0 known found)
+  pub busy-claim_reason : HasClaimReason (shared_view old.0) (shared_view new.0) (refusals.Busy found)
+  busy-claim_reason = subst (λ (m : SeatView). HasClaimReason (shared_view old.0) (shared_view m.0) (refusals.Busy found)) (sym is)
+      (claim-reason-busy old.0 found)
 
 -- ---- no mark falls
 
-pub marks-kept : (v w : View) (old new : KnownView) → ((interval : ℕ) → mark_of old.marks interval ≤ mark_of new.marks interval)
-    → KeepsMarks (shared_view v old) (shared_view w new)
-marks-kept v w old new rise = record { rise = rise; same = λ alone. absurd (off alone) }
+pub marks-same : (v w : View) → w.basis ≡ v.basis → w.marks ≡ v.marks → KeepsMarks (shared_view v) (shared_view w)
+marks-same v w basis marks = record {
+  rise = λ interval.
+      let same = ap (λ (l : List ℕ). mark_of l interval) (λ i. take (length (intervals_of (basis i).case.topology)) (marks i)) in
+      omega (arith, same);
+  same = λ alone. absurd (off alone);
+}
+
+-- another had the turn
+pub marks-busy : (old new : SeatView) (found : ℕ) → new ≡ (missing old.0 found, old.1) → KeepsMarks (shared_view old.0) (shared_view new.0)
+marks-busy old new found is = marks-same old.0 new.0 (ap (λ (m : SeatView). m.0.basis) is) (ap (λ (m : SeatView). m.0.marks) is)
 
 -- ---- what a call in the turn left
 
@@ -128,6 +136,7 @@ pub record IsRefused (t w : View) : Type 0 where
   pub front : w.front ≡ t.front
   pub leases : w.leases ≡ t.leases
   pub own : w.own ≡ t.own
+  pub marks : w.marks ≡ t.marks
   pub faults : t.faults ≤ w.faults
 
 -- nothing was changed
@@ -137,6 +146,7 @@ refused-same t w is = record {
   front = ap (λ (x : View). x.front) is;
   leases = ap (λ (x : View). x.leases) is;
   own = ap (λ (x : View). x.own) is;
+  marks = ap (λ (x : View). x.marks) is;
   faults = let same = ap (λ (x : View). x.faults) is in omega (arith, same);
 }
 
@@ -147,6 +157,7 @@ refused-fault t w fault = record {
   front = ap (λ (x : View). x.front) fault.2;
   leases = ap (λ (x : View). x.leases) fault.2;
   own = ap (λ (x : View). x.own) fault.2;
+  marks = ap (λ (x : View). x.marks) fault.2;
   faults = let one = ap (λ (x : View). x.faults) fault.2 in omega (arith, one);
 }
 
@@ -174,20 +185,6 @@ refused-claim t w claims.NoMemory fault same = refused-same t w (same (λ e. cc)
 pub begins-refused : (t w : View) → IsRefused t w → Begins t.front w.front
 begins-refused t w refused = ([], append-nil t.front ∙ sym refused.front)
 
--- and so after a write, whatever it answered
-pub begins-write : (t w : View) (front : Written → Type 0) (r : Result Written WriteRefusal)
-    → ((written : Written) → front written → Begins t.front w.front) → IfOk r front
-    → (IsErrOf r writes.KeeperFault → HasFaulted t w) → IfErr r (λ why. (why ≢ writes.KeeperFault) → w ≡ t) → Begins t.front w.front
-begins-write t w front (Ok written) by ok fault same = by written ok
-begins-write t w front (Err why) by ok fault same = begins-refused t w (refused-write t w why fault same)
-
--- and after a claim
-pub begins-claim : (t w : View) (worker interval : ℕ) (r : Result Claimed ClaimRefusal) → IfOk r (HasClaimedIn t w worker interval)
-    → (IsErrOf r claims.KeeperFault → HasFaulted t w) → IfErr r (λ why. (why ≢ claims.KeeperFault) → w ≡ t) → Begins t.front w.front
-begins-claim t w worker interval (Ok claimed) ok fault same =
-    (Claim worker interval ∷ [], sym (ap (λ (x : View). x.front) ok.view))
-begins-claim t w worker interval (Err why) ok fault same = begins-refused t w (refused-claim t w why fault same)
-
 -- so much of a view as tells why a call was refused
 abbrev book_of : View → BookView
 book_of u = record {
@@ -203,9 +200,8 @@ book_of u = record {
 
 -- ---- what the whole call left
 
--- a view before the turn, in it and after the call, and what is known of marks and of the floor before and after
-module _ (v t w : View) (old new : KnownView) (taken : HasTaken v t) (basis : w.basis ≡ t.basis)
-    (low : IsKnown v.basis v.front old) (floor : new.floor ≡ floor_of (run_of w.basis.case.topology w.front)) where
+-- a view before the turn, in it and after the call
+module _ (v t w : View) (taken : HasTaken v t) (basis : w.basis ≡ t.basis) where
   -- no constant changed
   whole : w.basis ≡ v.basis
   whole = basis ∙ basis-taken v t taken
@@ -214,7 +210,7 @@ module _ (v t w : View) (old new : KnownView) (taken : HasTaken v t) (basis : w.
   moved : (before : List Entry) → before ≡ t.front → Begins t.front w.front
       → ((lease : LeaseView) → is_held t.leases lease ≡ true → is_held w.leases lease ≡ true) → t.faults ≤ w.faults
       → w.own ≡ t.own ++ numbers_from (length before) (drop (length before) w.front)
-      → HasMoved (shared_view v old) (shared_view w new) before
+      → HasMoved (shared_view v) (shared_view (released w)) before
   moved before is begins leases faults own = record {
     case = ap (λ (b : Basis). b.case) whole;
     limit = ap (λ (b : Basis). b.limit) whole;
@@ -226,19 +222,26 @@ module _ (v t w : View) (old new : KnownView) (taken : HasTaken v t) (basis : w.
     none = λ alone. absurd (off alone);
     own = own ∙ ap (λ (x : View). x.own ++ numbers_from (length before) (drop (length before) w.front)) taken.view;
     leases = λ lease may. leases lease (subst (λ (l : List LeaseView). is_held l lease ≡ true) (sym (leases-taken v t taken)) may);
-    floor = let below = low.floor in
-        let long = Begins-trans v.front t.front w.front (taken.others, taken.goes_on) begins in
-        let rises = floor_of-rises v.basis.case.topology v.front long.0 in
-        let here : floor_of (run_of v.basis.case.topology (v.front ++ long.0)) ≡ floor_of (run_of w.basis.case.topology w.front) =
-        λ i. floor_of (run_of (sym whole i).case.topology (long.1 i)) in omega (arith, below, rises, here, floor);
+    floor = let below = taken.floor in
+        let rises = floor_of-rises v.basis.case.topology t.front begins.0 in
+        let here : floor_of (run_of v.basis.case.topology (t.front ++ begins.0)) ≡ floor_of (run_of w.basis.case.topology w.front) =
+        λ i. floor_of (run_of (sym whole i).case.topology (begins.1 i)) in omega (arith, below, rises, here);
     faults = let same = ap (λ (x : View). x.faults) taken.view in omega (arith, same, faults);
   }
 
   -- a call that was refused appended nothing
-  pub looked-refused : IsRefused t w → HasLooked (shared_view v old) (shared_view w new)
+  pub looked-refused : IsRefused t w → HasLooked (shared_view v) (shared_view (released w))
   looked-refused refused = moved w.front refused.front (begins-refused t w refused)
       (λ lease held. subst (λ (l : List LeaseView). is_held l lease ≡ true) (sym refused.leases) held) refused.faults
       (refused.own ∙ own-stays t.own w.front)
+
+  -- and loaded no mark
+  pub marks-refused : IsRefused t w → KeepsMarks (shared_view v) (shared_view (released w))
+  marks-refused refused = marks-same v (released w) whole (refused.marks ∙ ap (λ (x : View). x.marks) taken.view)
+
+  -- nor did one that was accepted
+  pub marks-grown : w ≡ grown t w.front → KeepsMarks (shared_view v) (shared_view (released w))
+  marks-grown is = marks-same v (released w) whole (ap (λ (x : View). x.marks) is ∙ ap (λ (x : View). x.marks) taken.view)
 
   -- the view after an own entry
   grown-leases : w ≡ grown t w.front → (lease : LeaseView) → is_held t.leases lease ≡ true → is_held w.leases lease ≡ true
@@ -256,7 +259,7 @@ module _ (v t w : View) (old new : KnownView) (taken : HasTaken v t) (basis : w.
   -- an entry was stored
   pub stored : (lease : LeaseView) (name : RowName) (entry : Entry) (row : Contents) (answer : Written)
       → HasStoredIn t w lease name entry row answer
-      → HasStored (shared_view v old) (shared_view w new) lease name entry row (λ commit. written_row commit entry [] row) answer
+      → HasStored (shared_view v) (shared_view (released w)) lease name entry row (λ commit. written_row commit entry [] row) answer
   stored lease name entry row answer is = record {
     before = t.front;
     moved = moved t.front refl (entry ∷ [], sym is.written.appended) (grown-leases is.view) (grown-faults is.view)
@@ -269,7 +272,7 @@ module _ (v t w : View) (old new : KnownView) (taken : HasTaken v t) (basis : w.
   -- a proposal was written
   pub written-by : (lease : LeaseView) (name : RowName) (proposal : Proposal) (row : Contents) (answer : Written)
       → HasWrittenIn t w lease name proposal row answer
-      → HasWritten (shared_view v old) (shared_view w new) lease name proposal row answer
+      → HasWritten (shared_view v) (shared_view (released w)) lease name proposal row answer
   written-by lease name proposal row answer is = record {
     before = t.front;
     moved = moved t.front refl (is.written.entry ∷ [], sym is.written.written.appended) (grown-leases is.view) (grown-faults is.view)
@@ -281,7 +284,7 @@ module _ (v t w : View) (old new : KnownView) (taken : HasTaken v t) (basis : w.
 
   -- an interval was claimed
   pub claimed : (worker interval : ℕ) (answer : Claimed) → HasClaimedIn t w worker interval answer
-      → HasClaimed (shared_view v old) (shared_view w new) worker interval answer
+      → HasClaimed (shared_view v) (shared_view (released w)) worker interval answer
   claimed worker interval answer is = record {
     before = t.front;
     moved = moved t.front refl (Claim worker interval ∷ [], sym appended) (grown-leases here) (grown-faults here)
@@ -332,7 +335,7 @@ module _ (v t w : View) (old new : KnownView) (taken : HasTaken v t) (basis : w.
   pub reason-write : (lease : LeaseView) (why : WriteRefusal) → IsRefused t w
       → (IsErrOf {T = Written} (Err why) writes.KeeperFault → HasFaulted t w)
       → IsStaleWhere {T = Written} t.front lease (Err why) → IsFullWhere {T = Written} t.basis.limit t.front lease (Err why)
-      → HasReason (shared_view v old) (shared_view w new) lease (of_write why)
+      → HasReason (shared_view v) (shared_view (released w)) lease (of_write why)
   reason-write lease why refused fault stale full =
       let cause : HasCause {T = Written} t.faults w.faults (Err why) writes.KeeperFault =
       record { later = refused.faults; rose = λ e. fault-rose t w (fault e) } in
@@ -348,7 +351,7 @@ module _ (v t w : View) (old new : KnownView) (taken : HasTaken v t) (basis : w.
 
   -- a row that is damaged is so for the desk
   damage : (why : ClaimRefusal) → IsRefused t w → IsDamaged t.basis.case t.basis.told (length t.front) why
-      → IsDamageOf (shared_view w new) (of_claim why)
+      → IsDamageOf (shared_view (released w)) (of_claim why)
   damage claims.HistoryFull refused is = tt
   damage claims.KeeperFault refused is = tt
   damage claims.NoMemory refused is = tt
@@ -369,7 +372,7 @@ module _ (v t w : View) (old new : KnownView) (taken : HasTaken v t) (basis : w.
       → (IsErrOf {T = Claimed} (Err why) claims.KeeperFault → HasFaulted t w)
       → IsErrOf {T = Claimed} (Err why) claims.HistoryFull ↔ (length t.front ≡ t.basis.limit)
       → IsDamaged t.basis.case t.basis.told (length t.front) why
-      → HasClaimReason (shared_view v old) (shared_view w new) (of_claim why)
+      → HasClaimReason (shared_view v) (shared_view (released w)) (of_claim why)
   reason-claim why refused fault full damaged =
       let cause : HasCause {T = Claimed} t.faults w.faults (Err why) claims.KeeperFault =
       record { later = refused.faults; rose = λ e. fault-rose t w (fault e) } in
@@ -383,20 +386,6 @@ module _ (v t w : View) (old new : KnownView) (taken : HasTaken v t) (basis : w.
         damaged = damage why refused damaged;
       }
 
-  -- a report
-  pub reason-report : (lease : LeaseView) (why : Stale) → w ≡ t → IsStaleReport t.front lease (Err why)
-      → HasReason (shared_view v old) (shared_view w new) lease (refusals.Stale why.newer)
-  reason-report lease why same stale =
-      let r = report-reason (book_of t) (book_of w) lease why (ap book_of same) stale in record {
-        stale = r.stale;
-        full = r.full;
-        counts = record { keeper = λ e. absurd cc; busy = λ found e. absurd cc };
-        no_row = r.no_row;
-      }
-
-  pub looked-report : w ≡ t → HasLooked (shared_view v old) (shared_view w new)
-  looked-report same = looked-refused (refused-same t w same)
-
 -- the turn was given back
-pub given : {X : Type 0} (P : View → X → Type 0) (w x : SeatView) (y : X) → x ≡ (idle w.0, []) → P (idle w.0) y → P x.0 y
-given P w x y is so = subst (λ (m : SeatView). P m.0 y) (sym is) so
+pub given : (P : View → Type 0) (w x : SeatView) → x ≡ (released w.0, []) → P (released w.0) → P x.0
+given P w x is so = subst (λ (m : SeatView). P m.0) (sym is) so

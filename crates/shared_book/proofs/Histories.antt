@@ -1,5 +1,5 @@
 -- Beginnings of a history, and which of its entries carry a sequencer.
-use Rattle.std.proofs.Common.{inl, inr, ◌≡◌, ◌≢◌, ◌⊎◌, ℕ, zero, suc, ◌<◌, ◌≤◌, List, [], ◌∷◌, ◌++◌, length, take, refl, sym, ap, ◌∙◌, subst, ⊎_elim, arith, append_assoc, length-append}
+use Rattle.std.proofs.Common.{inl, inr, ◌≡◌, ◌≢◌, ◌⊎◌, ℕ, zero, suc, ◌<◌, ◌≤◌, List, [], ◌∷◌, ◌++◌, drop, length, take, refl, sym, ap, ◌∙◌, subst, ⊎_elim, arith, append_assoc, length-append}
 use Rattle.std.specs.Prelude.{Option, Some, None, slice_get}
 use Rattle.std.specs.Option.{option_and_then}
 use Rattle.std.specs.List.{AllByRecursion}
@@ -14,12 +14,14 @@ use Rattle.run_history.specs.Made.{row_written}
 use Rattle.run_history.specs.Cases.{CaseShape}
 use Rattle.run_history.specs.Runs.{Run, empty_run, followed}
 use Rattle.run_history.specs.Legal.{IsLegal, AreLegal}
-use Rattle.run_history.specs.Fences.{Begins, IsClaimed, IsFenced, HasSeenAll, interval_of, last_claim, sequencer_of}
+use Rattle.run_history.specs.Fences.{Begins, IsClaimed, IsFenced, CarryNot, HasSeenAll, interval_of, last_claim, sequencer_of}
 use Rattle.list_lemmas.proofs.Lists.{some_same, none_some}
 use Rattle.run_history.proofs.Claims.{last_claim-within}
 use Rattle.run_history.proofs.Fenced.{IsFenced-at}
 use Rattle.run_history.proofs.Beginnings.{Begins-at, slice_get-more, slice_get-last}
-use Rattle.shared_book.specs.FenceLaw.{CarriesBelow}
+use Rattle.book.specs.Books.{LeaseView}
+use Rattle.shared_book.specs.FenceLaw.{CarriesBelow, sequencers}
+use Rattle.shared_book.specs.Lists.{IsIn}
 
 -- a history is a beginning of itself with one more entry
 pub begins_more : (history : List Entry) (entry : Entry) → Begins history (history ++ entry ∷ [])
@@ -56,7 +58,7 @@ below_push history last seq number below other at entry there carries = ⊎_elim
     (entry_at_end history last entry at there)
 
 -- an entry that carries a sequencer is on a row
-on_row : (entry : Entry) (seq : ℕ) → sequencer_of entry ≡ Some seq → (name : RowName) × (row_written entry ≡ Some name)
+pub on_row : (entry : Entry) (seq : ℕ) → sequencer_of entry ≡ Some seq → (name : RowName) × (row_written entry ≡ Some name)
 on_row (Claim worker interval) seq carries = absurd (none_some seq carries)
 on_row (Inject q part line item) seq carries = (_, refl)
 on_row (Handle q row id effects) seq carries = (_, refl)
@@ -110,3 +112,24 @@ legal_front case run (e ∷ front) rest legal = (legal.0, legal_front case (foll
 pub legal_begins : (case : CaseShape) (front history : List Entry) → Begins front history → IsLegal case history → IsLegal case front
 legal_begins case front history begins legal =
     legal_front case empty_run front begins.0 (subst (IsLegal case) (sym begins.1) legal)
+
+-- a lease has its sequencer among theirs
+pub seq_of_lease : (l : LeaseView) (ls : List LeaseView) → IsIn l ls → IsIn l.seq (sequencers ls)
+seq_of_lease l [] p = absurd p
+seq_of_lease l (x ∷ xs) p = ⊎_elim (λ e. inl (ap (λ (y : LeaseView). y.seq) e)) (λ q. inr (seq_of_lease l xs q)) p
+
+-- where each entry that carries a sequencer is among the first so many, none of the others carries it
+pub carry-not : (history : List Entry) (seq number : ℕ) → CarriesBelow history seq number → CarryNot seq (drop number history)
+carry-not history seq number below = All-from_recursion (λ (e : Entry). sequencer_of e ≢ Some seq) (drop number history)
+    (each history number (λ at entry there carries past. let less = below at entry there carries in omega (arith, less, past)))
+  where
+    each : (h : List Entry) (n : ℕ)
+        → ((at : ℕ) (entry : Entry) → slice_get h at ≡ Some entry → sequencer_of entry ≡ Some seq → n ≤ at → ⊥)
+        → AllByRecursion (λ (e : Entry). sequencer_of e ≢ Some seq) (drop n h)
+    each [] zero none = tt
+    each [] (suc n) none = tt
+    each (e ∷ es) zero none = (
+      (λ carries. none 0 e refl carries (omega arith)),
+      each es zero (λ at entry there carries past. none (suc at) entry there carries (omega arith)),
+    )
+    each (e ∷ es) (suc n) none = each es n (λ at entry there carries past. none (suc at) entry there carries (omega (arith, past)))

@@ -11,7 +11,8 @@ use Rattle.run_history.proofs.Beginnings.{Begins-length}
 use Rattle.shared_book.specs.declared.views.Basis.{Basis}
 use Rattle.shared_book.specs.declared.views.View.{View}
 use Rattle.shared_book.specs.Lists.{IsIn, Ascends, AreDistinct}
-use Rattle.shared_book.specs.FenceLaw.{Slot, FenceLaw, Fits, AreApart, sequencers}
+use Rattle.shared_book.specs.FenceLaw.{Slot, FenceLaw, Fits, AreApart, IsQuiet, sequencers}
+use Rattle.shared_book.specs.Places.{PLACES, greatest, newest}
 use Rattle.shared_book.specs.Joins.{note_of, first_of, others_of, stays, leaves, longer, merged, joined, spent}
 use Rattle.shared_book.proofs.Lists.{in_append, distinct_append, no_members}
 use Rattle.shared_book.proofs.ViewLists.{everywhere_set, pairwise_set, everywhere_snoc, pairwise_snoc, somewhere_split, somewhere_joined, everywhere_joined, pairwise_joined}
@@ -19,7 +20,10 @@ use Rattle.shared_book.proofs.Histories.{claim_kept}
 use Rattle.shared_book.proofs.Moves.{off, apart_sym}
 use Rattle.shared_book.proofs.Appending.{sequencers_append}
 use Rattle.shared_book.proofs.Merging.{in_merged, merged_left, merged_right, merged_ascends}
+use Rattle.shared_book.proofs.Places.{greatest-none, newest-none, place-none}
+use Rattle.shared_book.proofs.Quiet.{quiet-bare, quiet-joined, quiet-moved}
 use Rattle.shared_book.proofs.Fronts.{is_longer}
+use Rattle.shared_book.proofs.LawSteps.{IsBare, bare-empty, bare-new, marks_joined, marks_split}
 
 -- ---- splits
 
@@ -30,12 +34,16 @@ split_law : (basis : Basis) (s : State Slot View) (f : FenceLaw basis s) (id : �
     → ((u : View) → AreApart v u → AreApart left u × AreApart right u)
     → (v.turn ≡ true → left.turn ≡ true) → ((k : ℕ) → IsIn k v.own → IsIn k left.own)
     → ((n : ℕ) → IsIn n v.numbers → IsIn n left.numbers ⊎ IsIn n right.numbers)
+    → left.front ≡ v.front → left.leases ≡ v.leases → left.settled ≡ v.settled → left.marks ≡ v.marks → left.floor ≡ v.floor → IsBare right
     → FenceLaw basis (record { words = s.words; homes = s.homes; views = slice_set s.views id left ++ right ∷ [] })
-split_law basis s f id v left right at fl fr lr others turn own numbers = record {
+split_law basis s f id v left right at fl fr lr others turn own numbers front leases settled loaded low bare = record {
   history = f.history;
   turn = f.turn;
   count = f.count;
+  floor = f.floor;
+  marks = f.marks;
   words = f.words;
+  places = f.places;
   holder = λ z. somewhere_split (λ x. x.turn ≡ true) s.views id v left right at (λ t. inl (turn t)) (f.holder z);
   home = f.home;
   out = f.out;
@@ -54,6 +62,10 @@ split_law basis s f id v left right at fl fr lr others turn own numbers = record
       (λ i u o e. let a = (others u (f.apart id i v u at e (λ x. o (sym x)))).1 in (a, apart_sym right u a)));
   owned = λ k p q. somewhere_split (λ x. IsIn k x.own) s.views id v left right at (λ m. inl (own k m)) (f.owned k p q);
   numbered = λ n p. somewhere_split (λ x. IsIn n x.numbers) s.views id v left right at (numbers n) (f.numbered n p);
+  law = marks_split basis f.history f.floor f.marks s.views id v left right at front settled loaded low bare f.law;
+  quiet = everywhere_snoc (IsQuiet f.history) (slice_set s.views id left) right
+      (everywhere_set (IsQuiet f.history) s.views id left (quiet-moved f.history v left settled leases turn (f.quiet id v at))
+      (λ i u o e. f.quiet i u e)) (quiet-bare f.history right bare.settled);
 }
 
 -- a view without turn, leases and own entries shares nothing but perhaps numbers
@@ -92,7 +104,7 @@ note_splits basis id v s f at =
     })
     (apart_sym (note_of v) v (nothing (note_of v) v refl refl refl (λ n p q. p)))
     (λ u a. (a, nothing (note_of v) u refl refl refl (λ n p q. p)))
-    (λ t. t) (λ k p. p) (λ n p. inl p)
+    (λ t. t) (λ k p. p) (λ n p. inl p) refl refl refl refl refl (bare-empty (note_of v) refl refl refl)
 
 -- a seat with two numbers or more, and no turn, may give the first to a new seat
 pub seat_splits : (basis : Basis) (id n m : ℕ) (ms : List ℕ) (v : View) → v.numbers ≡ n ∷ m ∷ ms → v.turn ≡ false
@@ -157,6 +169,7 @@ seat_splits basis id n m ms v is quiet s f at =
     (λ t. t)
     (λ k p. p)
     (λ k p. ⊎_elim (λ e. inr (subst (IsIn k) (sym one) (inl e))) (λ q. inl (subst (IsIn k) (sym two) q)) (subst (IsIn k) is p))
+    refl refl refl refl refl (bare-new (leaves v) PLACES refl refl refl)
 
 -- ---- joins
 
@@ -257,7 +270,10 @@ seats_join basis id v other w live quiet still joins s f at apart there' =
       history = f.history;
       turn = f.turn;
       count = f.count;
+      floor = f.floor;
+      marks = f.marks;
       words = f.words;
+      places = f.places;
       holder = λ z. somewhere_joined (λ x. x.turn ≡ true) s.views id other v w (joined v w) spent at there apart
           (λ t. t) (λ t. absurd (off (sym still ∙ t))) (f.holder z);
       home = f.home;
@@ -277,6 +293,13 @@ seats_join basis id v other w live quiet still joins s f at apart there' =
           (merged_left k v.own w.own) (merged_right k v.own w.own) (f.owned k p q);
       numbered = λ n p. somewhere_joined (λ x. IsIn n x.numbers) s.views id other v w (joined v w) spent at there apart
           (merged_left n v.numbers w.numbers) (merged_right n v.numbers w.numbers) (f.numbered n p);
+      law = let far = is_longer v.front w.front f.history fv.begins fw.begins in
+          marks_joined basis f.history f.floor f.marks s.views id other v w (joined v w) spent at there far.left far.right refl refl refl
+          (bare-empty spent refl refl refl) f.law;
+      quiet = everywhere_joined (IsQuiet f.history) s.views id other (joined v w) spent
+          (quiet-joined f.history v w (joined v w) refl refl (λ t. off (sym quiet ∙ t)) (λ t. off (sym still ∙ t)) (f.quiet id v at)
+          (f.quiet other w there))
+          (quiet-bare f.history spent (λ i. place-none i)) f.quiet;
     }
 
 -- what the seat had seen begins what it has seen then
@@ -313,3 +336,10 @@ met_faults v w bare = ap (λ (x : View). v.faults + (x.faults - v.faults)) bare 
 -- a note of a note is a note
 pub note_bare : (v w : View) → w ≡ note_of v → w ≡ note_of w
 note_bare v w e = e ∙ sym (ap note_of e)
+
+-- and what it had loaded and settled
+pub met_marks : (v w : View) → w ≡ note_of w → (joined v w).marks ≡ v.marks
+met_marks v w bare = ap (λ (x : View). greatest v.marks x.marks) bare ∙ greatest-none v.marks
+
+pub met_settled : (v w : View) → w ≡ note_of w → (joined v w).settled ≡ v.settled
+met_settled v w bare = ap (λ (x : View). newest v.settled x.settled) bare ∙ newest-none v.settled

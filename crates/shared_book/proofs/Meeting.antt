@@ -6,8 +6,7 @@ use Rattle.shared_book.specs.Joins.{note_of, longer, joined}
 use Rattle.shared_book.specs.Steps.{HasSeenLawful, HasSeenWritten}
 use Rattle.shared_book.specs.Turns.{HasMetForeign}
 use Rattle.shared_book.proofs.Lists.{in_left}
-use Rattle.shared_book.proofs.Histories.{seen_all}
-use Rattle.shared_book.proofs.Appending.{seq_of_lease}
+use Rattle.shared_book.proofs.Histories.{seen_all, seq_of_lease}
 use Rattle.shared_book.proofs.Joining.{met_own}
 
 -- a note that was met had nothing that was written under a lease of the seat behind what the seat had seen

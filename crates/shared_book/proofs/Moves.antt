@@ -1,6 +1,6 @@
 -- Taking the turn, or missing it, keeps the fence law.
 use Rattle.std.proofs.Common.{◌≡◌, ◌≢◌, ℕ, zero, suc, ◌+◌, ◌≤◌, List, [], ◌∷◌, length, Some, true, false, true≢false, refl, sym, ap, ◌∙◌, subst, arith, eqb, ne_eqb}
-use Rattle.std.specs.Prelude.{slice_index, slice_set}
+use Rattle.std.specs.Prelude.{IfSome, slice_index, slice_set}
 use mathlib.Core.Option.{Option, some, none, some-ne-none}
 use prog.Atomic.{either}
 use lib.ListN.{get_elem?}
@@ -8,14 +8,19 @@ use Rattle.atomic_table.specs.Table.{State, Act, keeps, takes, stepped, step, Al
 use Rattle.mw_types.specs.Causes.{Rose}
 use Rattle.mw_types.specs.declared.entry.Entry.{Entry}
 use Rattle.run_history.specs.Fences.{Begins}
+use Rattle.run_history.specs.Legal.{floor_of}
+use Rattle.run_history.specs.Runs.{run_of}
+use Rattle.book.specs.Marks.{AreSafe}
 use Rattle.run_history.proofs.Beginnings.{Begins-itself, Begins-trans, Begins-length}
 use Rattle.shared_book.specs.declared.views.Basis.{Basis}
 use Rattle.shared_book.specs.declared.views.View.{View}
 use Rattle.shared_book.specs.Lists.{IsIn}
-use Rattle.shared_book.specs.FenceLaw.{Slot, FenceLaw, Fits, AreApart, IsCore, AreClaimed, HasSeenOwn, HasWrittenAll, no_marks}
+use Rattle.shared_book.specs.FenceLaw.{Slot, FenceLaw, Fits, AreApart, IsCore, AreClaimed, HasSeenOwn, HasWrittenAll, IsQuiet}
 use Rattle.shared_book.specs.Steps.{IsTry, Takes, holding, missing}
 use Rattle.shared_book.proofs.ViewLists.{everywhere_set, pairwise_set, somewhere_set, somewhere_here}
 use Rattle.shared_book.proofs.Histories.{claim_kept, all_below}
+use Rattle.shared_book.proofs.LawSteps.{loaded-safe, marks_moved}
+use Rattle.shared_book.proofs.Quiet.{quiet-moved}
 
 -- no is not yes
 pub off : false ≡ true → ⊥
@@ -85,8 +90,8 @@ Taken basis slots id number v s n =
     × Takes (step slots 1 0 (number + 1) none) (v, []) n (w, carried_after [] a)
 
 -- a word that is set to what it is
-same_words : (ws : List ℕ) (a t : ℕ) → ws ≡ a ∷ t ∷ no_marks → slice_set ws 1 t ≡ a ∷ t ∷ no_marks
-same_words ws a t e = ap (λ l. slice_set l 1 t) e
+same_words : (ws others : List ℕ) (a t : ℕ) → ws ≡ a ∷ t ∷ others → slice_set ws 1 t ≡ a ∷ t ∷ others
+same_words ws others a t e = ap (λ l. slice_set l 1 t) e
 
 -- the turn is taken where the word is 0
 took : (basis : Basis) (slots id number : ℕ) (ns : List ℕ) (v : View) → v.numbers ≡ number ∷ ns → v.turn ≡ false
@@ -104,6 +109,7 @@ took basis slots id number ns v num quiet live s f at is =
     let longer = Begins-length v.front b.history reach in
     let claimed : AreClaimed b.history v.leases =
     λ l p. claim_kept v.front b.history l.interval l.seq reach (fit.claimed l p) in
+    let low = loaded-safe basis h f.floor f.marks s.views id v at f.law in
     let free : (i : ℕ) (u : View) → get_elem? s.views i ≡ some u → u.turn ≡ true → ⊥ =
     λ i u e r. let k = (f.views i u e).holds r in omega (arith, k.3, is) in (
       w,
@@ -113,7 +119,10 @@ took basis slots id number ns v num quiet live s f at is =
         history = h;
         turn = number + 1;
         count = b.faults;
+        floor = f.floor;
+        marks = f.marks;
         words = ap (λ l. slice_set l 1 (number + 1)) f.words;
+        places = f.places;
         holder = λ z. somewhere_here (λ x. x.turn ≡ true) s.views id v w at refl;
         home = λ z. absurd (omega arith);
         out = λ z. place_set s.homes (some (Some b)) none home.1;
@@ -156,6 +165,8 @@ took basis slots id number ns v num quiet live s f at is =
             } in (n, apart_sym w u n));
         owned = λ k p q. somewhere_set (λ x. IsIn k x.own) s.views id v w at (λ y. y) (f.owned k p q);
         numbered = λ n p. somewhere_set (λ x. IsIn n x.numbers) s.views id v w at (λ y. y) (f.numbered n p);
+        law = marks_moved basis h f.floor f.marks s.views id v w at reach refl refl refl f.law;
+        quiet = everywhere_set (IsQuiet h) s.views id w (quiet-moved h v w refl refl (λ x. refl) (f.quiet id v at)) (λ i u o e. f.quiet i u e);
       },
       (
         tries slots number ns v num,
@@ -168,6 +179,11 @@ took basis slots id number ns v num quiet live s f at is =
             seen_own = subst (λ l. HasSeenOwn l v) (sym core.whole) fit.seen_own;
             core = subst (λ (y : Basis). IsCore y b.history b.faults b) (sym base)
                 (record { whole = refl; enough = omega arith; lawful = core.lawful; limit = core.limit; told = core.told });
+            marks = subst (λ (z : Basis × List Entry). IfSome z.0.told
+                (λ _. AreSafe z.0.case (run_of z.0.case.topology z.1) v.marks))
+                (λ i. (sym base i, sym core.whole i)) low.0;
+            floor = subst (λ (z : Basis × List Entry). v.floor ≤ floor_of (run_of z.0.case.topology z.1))
+                (λ i. (sym base i, sym core.whole i)) low.1;
           },
         ),
       ),
@@ -190,8 +206,11 @@ taken basis slots id number ns v num quiet live s f at (suc m) is =
         history = f.history;
         turn = f.turn;
         count = f.count;
-        words = subst (λ (k : ℕ). slice_set s.words 1 k ≡ length f.history ∷ f.turn ∷ no_marks) is
-            (same_words s.words (length f.history) f.turn f.words);
+        floor = f.floor;
+        marks = f.marks;
+        words = subst (λ (k : ℕ). slice_set s.words 1 k ≡ length f.history ∷ f.turn ∷ f.floor ∷ f.marks) is
+            (same_words s.words (f.floor ∷ f.marks) (length f.history) f.turn f.words);
+        places = f.places;
         holder = λ z. somewhere_set (λ x. x.turn ≡ true) s.views id v w at (λ y. y) (f.holder z);
         home = f.home;
         out = f.out;
@@ -228,6 +247,9 @@ taken basis slots id number ns v num quiet live s f at (suc m) is =
             (n, apart_sym w u n));
         owned = λ k p q. somewhere_set (λ x. IsIn k x.own) s.views id v w at (λ y. y) (f.owned k p q);
         numbered = λ n p. somewhere_set (λ x. IsIn n x.numbers) s.views id v w at (λ y. y) (f.numbered n p);
+        law = marks_moved basis f.history f.floor f.marks s.views id v w at (Begins-itself v.front) refl refl refl f.law;
+        quiet = everywhere_set (IsQuiet f.history) s.views id w (quiet-moved f.history v w refl refl (λ x. x) (f.quiet id v at))
+            (λ i u o e. f.quiet i u e);
       },
       (tries slots number ns v num, refl),
     )

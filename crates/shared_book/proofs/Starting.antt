@@ -13,12 +13,16 @@ use Rattle.shared_book.specs.declared.views.Basis.{Basis}
 use Rattle.shared_book.specs.declared.views.View.{View}
 use Rattle.shared_book.specs.declared.shared.Key.{Key}
 use Rattle.shared_book.specs.Lists.{IsIn, Ascends}
-use Rattle.shared_book.specs.FenceLaw.{Slot, FenceLaw, Fits, no_marks}
+use Rattle.shared_book.specs.FenceLaw.{Slot, FenceLaw, Fits, IsQuiet}
 use Rattle.shared_book.specs.Steps.{SeatView}
 use Rattle.shared_book.specs.Joins.{first_of}
-use Rattle.shared_book.specs.Opening.{blank, span, newborn, IsUnborn, SharedLaw, Fetches, Opens}
+use Rattle.shared_book.specs.Opening.{AreRight, blank, span, newborn, IsUnborn, SharedLaw, Fetches, Opens}
+use Rattle.shared_book.specs.Places.{PLACES}
 use Rattle.shared_book.proofs.Moves.{off}
 use Rattle.shared_book.proofs.Appending.{lawful_legal}
+use Rattle.shared_book.proofs.LawSteps.{bare-new, marks_begin}
+use Rattle.shared_book.proofs.Places.{place-nothing}
+use Rattle.shared_book.proofs.Quiet.{quiet-bare}
 
 -- ---- from the fence law to the rule
 
@@ -68,7 +72,7 @@ no_blank basis s f case seats id t at = some-ne-none 0
     (sym (ap (λ (x : View). get_elem? x.numbers 0) (sym ((f.views id (blank case seats t) at).gone refl))))
 
 -- the rule holds of the empty table
-pub starts : (key : Key) → SharedLaw key (opening (0 ∷ 0 ∷ no_marks) (None ∷ []) (blank key.case.now key.seats false))
+pub starts : (key : Key) → SharedLaw key (opening (0 ∷ 0 ∷ key.floor ∷ key.marks) (None ∷ []) (blank key.case.now key.seats false))
 starts key = inl (record { words = (0, refl); out = false; views = refl; home = λ e. refl })
 
 -- the first seat may take the place
@@ -86,7 +90,7 @@ fetches key slots id s r homes at small = ⊎_elim
       inl (record {
         words = (
           u.words.0,
-          subst (λ (l : List ℕ). slice_set s.words 0 (slice_index l 0) ≡ u.words.0 ∷ 0 ∷ no_marks) (sym u.words.1)
+          subst (λ (l : List ℕ). slice_set s.words 0 (slice_index l 0) ≡ u.words.0 ∷ 0 ∷ key.floor ∷ key.marks) (sym u.words.1)
               (ap (λ l. slice_set l 0 u.words.0) u.words.1),
         );
         out = true;
@@ -131,17 +135,25 @@ span_first from zero more = absurd (omega (arith, more))
 span_first from (suc count) more = refl
 
 -- the fence law holds once the book is in the table
-newborn_law : (v : View) (b : CoreView) (homes : List (mathlib.Core.Option.Option Slot)) → 0 < v.basis.seats → IsLawful v.basis.case b
+newborn_law : (v : View) (b : CoreView) (homes : List (mathlib.Core.Option.Option Slot)) (floor : ℕ) (marks : List ℕ)
+    → 0 < v.basis.seats → IsLawful v.basis.case b → AreRight v.basis.case floor marks b
     → get_elem? homes 0 ≡ some (some (Some b))
-    → FenceLaw ((newborn v b).basis) (record { words = length b.history ∷ 0 ∷ no_marks; homes = homes; views = newborn v b ∷ [] })
-newborn_law v b homes some_seat lawful home =
+    → FenceLaw ((newborn v b).basis) (record {
+      words = length b.history ∷ 0 ∷ floor ∷ marks;
+      homes = homes;
+      views = newborn v b ∷ [];
+    })
+newborn_law v b homes floor marks some_seat lawful right home =
     let n = v.basis.seats in
     let basis = (newborn v b).basis in
     record {
       history = b.history;
       turn = 0;
       count = b.faults;
+      floor = floor;
+      marks = marks;
       words = refl;
+      places = right.places;
       holder = λ z. absurd (omega (arith, z));
       home = λ z. (b, home, record { whole = refl; enough = omega arith; lawful = lawful; limit = refl; told = refl });
       out = λ z. absurd (omega (arith, z));
@@ -173,22 +185,25 @@ newborn_law v b homes some_seat lawful home =
       apart = λ i j u x e f o. absurd (o ((one_view (newborn v b) u i e).0 ∙ sym (one_view (newborn v b) x j f).0));
       owned = λ k p q. absurd (omega (arith, p, q));
       numbered = λ k p. (0, newborn v b, refl, in_span 0 n k (omega arith) (omega (arith, p)));
+      law = marks_begin basis b.history floor marks (newborn v b) right.under_floor right.safe (bare-new (newborn v b) PLACES refl refl refl);
+      quiet = λ i u e. subst (IsQuiet b.history) (one_view (newborn v b) u i e).1
+          (quiet-bare b.history (newborn v b) (place-nothing PLACES));
     }
 
 -- the first seat may give the place back with the book
 pub opens : (key : Key) (slots id : ℕ) (b : CoreView) (m : ℕ) → m ≡ length b.history → 0 < key.seats → 0 < slots
-    → IsLawful key.case.now b
+    → IsLawful key.case.now b → AreRight key.case.now key.floor key.marks b
     → Allows (SharedLaw key) slots id (blank key.case.now key.seats true, (0, Some b) ∷ []) 0 (λ _. m)
     (λ _. Opens (step slots 0 m 0 none) (blank key.case.now key.seats true, (0, Some b) ∷ []) m)
-opens key slots id b m long some_seat room lawful s r homes at small = ⊎_elim
+opens key slots id b m long some_seat room lawful right s r homes at small = ⊎_elim
     (λ u.
     let v = blank key.case.now key.seats true in
     let here = one_view (blank key.case.now key.seats u.out) v id (ap (λ l. get_elem? l id) (sym u.views) ∙ at) in
     let placed = slice_set s.homes 0 (some (Some b)) in
     let P : List ℕ × List View → Type 0 =
     λ z. FenceLaw ((newborn v b).basis) (record { words = z.0; homes = placed; views = z.1 }) in
-    let ws : length b.history ∷ 0 ∷ no_marks ≡ slice_set s.words 0 m =
-    ap (λ k. k ∷ 0 ∷ no_marks) (sym long) ∙ sym (ap (λ l. slice_set l 0 m) u.words.1) in
+    let ws : length b.history ∷ 0 ∷ key.floor ∷ key.marks ≡ slice_set s.words 0 m =
+    ap (λ (k : ℕ). k ∷ 0 ∷ key.floor ∷ key.marks) (sym long) ∙ sym (ap (λ l. slice_set l 0 m) u.words.1) in
     let vs : newborn v b ∷ [] ≡ slice_set s.views id (newborn v b) =
     sym (ap (λ l. slice_set l id (newborn v b)) u.views
     ∙ ap (λ k. slice_set (blank key.case.now key.seats u.out ∷ []) k (newborn v b)) here.0) in (
@@ -198,7 +213,7 @@ opens key slots id b m long some_seat room lawful s r homes at small = ⊎_elim
       inr (
         (newborn v b).basis,
         subst P (λ i. (ws i, vs i))
-            (newborn_law v b placed some_seat lawful (set_here s.homes 0 (some (Some b)) (omega (arith, homes, room)))),
+            (newborn_law v b placed key.floor key.marks some_seat lawful right (set_here s.homes 0 (some (Some b)) (omega (arith, homes, room)))),
       ),
       refl,
     ))
@@ -224,13 +239,15 @@ may_fetch key slots id me case seats p q e =
 pub may_open : (key : Key) (slots id : ℕ) (me at : SeatView) (b : CoreView) (m : ℕ) (case : CaseShape) (seats : ℕ)
     → key.case.now ≡ case → key.seats ≡ seats → at ≡ (blank case seats true, (0, None) ∷ [])
     → me ≡ (at.0, (0, Some b) ∷ rest at.1) → m ≡ length b.history → 0 < seats → 0 < slots → IsLawful case b
+    → AreRight case key.floor key.marks b
     → Allows (SharedLaw key) slots id me 0 (λ _. m) (λ _. Opens (step slots 0 m 0 none) me m)
-may_open key slots id me at b m case seats p q was e long some_seat room lawful =
+may_open key slots id me at b m case seats p q was e long some_seat room lawful right =
     let is : me ≡ (blank key.case.now key.seats true, (0, Some b) ∷ []) =
     e ∙ ap (λ (x : SeatView). (x.0, (0, Some b) ∷ rest x.1)) was
     ∙ ap (λ (v : View). (v, (0, Some b) ∷ [])) (blank_of key case seats true p q) in
     subst (λ (x : SeatView). Allows (SharedLaw key) slots id x 0 (λ _. m) (λ _. Opens (step slots 0 m 0 none) x m)) (sym is)
-    (opens key slots id b m long (omega (arith, q, some_seat)) room (subst (λ (z : CaseShape). IsLawful z b) (sym p) lawful))
+    (opens key slots id b m long (omega (arith, q, some_seat)) room (subst (λ (z : CaseShape). IsLawful z b) (sym p) lawful)
+    (subst (λ (z : CaseShape). AreRight z key.floor key.marks b) (sym p) right))
 
 -- the place was taken
 pub fetched : (me at : SeatView) (case : CaseShape) (seats : ℕ) → at ≡ (record me.0 { turn = true }, (0, None) ∷ [])

@@ -1,11 +1,12 @@
 -- From what a step tells to what the calls say.
 use Rattle.std.proofs.Common.{◌≡◌, ℕ, zero, suc, ◌+◌, ◌%◌, ◌^◌, ◌<◌, ◌≤◌, List, [], ◌∷◌, ◌++◌, length, Some, None, Bool, true, false, refl, sym, ap, ◌∙◌, subst, ⊎_elim, arith, eqb, ne_eqb}
-use Rattle.std.specs.Prelude.{MatchBool}
+use Rattle.std.specs.Prelude.{MatchBool, max}
 use mathlib.Core.Option.{none}
 use prog.Atomic.{either}
 use Rattle.atomic_table.specs.Table.{Allows, step, rest}
 use Rattle.mw_types.specs.Causes.{Rose}
 use Rattle.mw_types.specs.declared.entry.Entry.{Entry}
+use Rattle.run_history.specs.Legal.{floor_of}
 use Rattle.run_history.specs.Runs.{run_of, row_in}
 use Rattle.run_history.specs.Fences.{IsFenced, HasSeenAll, known}
 use Rattle.history_laws.proofs.FenceLaws.{row_in-known}
@@ -17,13 +18,17 @@ use Rattle.shared_book.specs.declared.shared.Key.{Key}
 use Rattle.shared_book.specs.Lists.{IsIn}
 use Rattle.shared_book.specs.FenceLaw.{Slot, IsCore, AreClaimed}
 use Rattle.shared_book.specs.Joins.{first_of, others_of}
+use Rattle.shared_book.specs.MarkSteps.{LoadsFloor, LoadsMark, MayRaise, RaisesFloor, RaisesMark}
 use Rattle.shared_book.specs.Opening.{SharedLaw}
+use Rattle.shared_book.specs.Places.{PLACES, with_floor_loaded}
 use Rattle.shared_book.specs.Steps.{SeatView, HasFound, Takes, Appends, GivesBack, Faults, Looks, IsTold, IsNext, faults_in, grown, history_in, faulted, holding, missing, lease_in}
 use Rattle.shared_book.specs.Turns.{HasTaken, HasTurn, IsGrown}
 use Rattle.shared_book.proofs.Lists.{drop_front, in_append}
-use Rattle.shared_book.proofs.Histories.{begins_more, claim_kept, seen_all}
+use Rattle.shared_book.proofs.Histories.{begins_more, claim_kept, seen_all, seq_of_lease}
+use Rattle.shared_book.proofs.Allowing.{loads_floor, loads_mark, raises_floor, raises_mark}
 use Rattle.shared_book.proofs.Moves.{takes_turn}
-use Rattle.shared_book.proofs.Appending.{appends_one, gives_turn, faults_one, looks_on, news_claimed, seq_of_lease}
+use Rattle.shared_book.proofs.SeatArrays.{HasArrays, arrays-same}
+use Rattle.shared_book.proofs.Appending.{appends_one, gives_turn, faults_one, looks_on, news_claimed}
 use Rattle.shared_book.proofs.Starting.{lift}
 
 -- ---- what a seat may do
@@ -97,6 +102,36 @@ pub may_look : (key : Key) (slots id : ℕ) (me : SeatView) → me.0.live ≡ tr
 may_look key slots id me live =
     lift key slots id me.0 me.1 0 (λ n. n) (Looks (step slots 0 0 0 none) me) live (λ basis. looks_on basis slots id me.0 me.1 live)
 
+-- to load a mark
+pub may_load_mark : (key : Key) (slots id i : ℕ) (me : SeatView) → me.0.live ≡ true
+    → Allows (SharedLaw key) slots id me (i + 3) (λ n. n) (LoadsMark (step slots (i + 3) 0 0 none) me)
+may_load_mark key slots id i me live =
+    lift key slots id me.0 me.1 (i + 3) (λ n. n) (LoadsMark (step slots (i + 3) 0 0 none) me) live
+    (λ basis. loads_mark basis slots id i me.0 me.1 live)
+
+-- to raise one
+pub may_raise_mark : (key : Key) (slots id i x : ℕ) (me : SeatView) (lease : LeaseView) → me.0.live ≡ true
+    → lease.interval ≡ i → i < PLACES → MayRaise me.0 lease x
+    → Allows (SharedLaw key) slots id me (i + 3) (λ n. max n x) (RaisesMark (step slots (i + 3) x 0 none) me)
+may_raise_mark key slots id i x me lease live same there may =
+    lift key slots id me.0 me.1 (i + 3) (λ n. max n x) (RaisesMark (step slots (i + 3) x 0 none) me) live
+    (λ basis. raises_mark basis slots id me.0 me.1 lease i x live same there may)
+
+-- to load the floor
+pub may_load_floor : (key : Key) (slots id : ℕ) (me : SeatView) → me.0.live ≡ true
+    → Allows (SharedLaw key) slots id me 2 (λ n. n) (LoadsFloor (step slots 2 0 0 none) me)
+may_load_floor key slots id me live =
+    lift key slots id me.0 me.1 2 (λ n. n) (LoadsFloor (step slots 2 0 0 none) me) live
+    (λ basis. loads_floor basis slots id me.0 me.1 live)
+
+-- to raise it
+pub may_raise_floor : (key : Key) (slots id x : ℕ) (me : SeatView) → me.0.live ≡ true → me.0.turn ≡ true
+    → x ≡ floor_of (run_of me.0.basis.case.topology me.0.front)
+    → Allows (SharedLaw key) slots id me 2 (λ n. max n x) (RaisesFloor (step slots 2 x 0 none) me)
+may_raise_floor key slots id x me live turn floor =
+    lift key slots id me.0 me.1 2 (λ n. max n x) (RaisesFloor (step slots 2 x 0 none) me) live
+    (λ basis. raises_floor basis slots id me.0 me.1 x live turn floor)
+
 -- ---- what a seat knows of a turn that it took
 
 -- what the seat found, as a call tells it
@@ -112,6 +147,8 @@ taken_of v b found = record {
       ∙ row_in-known v.basis.case.topology l.interval l.seq (all l p).claimed.0 v.front found.begins.0
       (subst (IsFenced v.basis.case.topology) (sym found.begins.1) found.core.lawful.fenced)
       (all l p).claimed.1 (all l p).own name lies;
+  marks = found.marks;
+  floor = found.floor;
 }
   where
     all : (l : LeaseView) → IsIn l v.leases → HasSeenAll l.interval l.seq v.front found.begins.0
@@ -238,3 +275,23 @@ pub turn_left : (old out new : SeatView) (b : CoreView) → out ≡ (old.0, (0, 
     → old.0.turn ≡ true → IsCore old.0.basis old.0.front old.0.count b → AreClaimed old.0.front old.0.leases → HasTurn new
 turn_left old out new b was is t core claimed =
     turn_back old new b (is ∙ ap (λ (m : SeatView). (m.0, (0, Some b) ∷ [])) was) t core claimed
+
+-- the turn goes on where the floor was raised
+pub turn_floor : (old new : SeatView) (floor : ℕ) → new ≡ (with_floor_loaded old.0 floor, old.1) → HasTurn old → HasTurn new
+turn_floor old new floor is t = subst HasTurn (sym is) (record {
+  turn = t.turn;
+  book = t.book;
+  places = t.places;
+  core = t.core;
+  claimed = t.claimed;
+})
+
+-- a try for the turn leaves what the seat's arrays have
+pub told_arrays : (found : ℕ) (v w : SeatView) (marks claims inputs : List ℕ) → v.1 ≡ [] → IsTold v found w
+    → HasArrays v.0 marks claims inputs → HasArrays w.0 marks claims inputs
+told_arrays zero v w marks claims inputs empty told =
+    let e : w.0 ≡ holding v.0 told.0 = ap (λ (m : SeatView). m.0) told.1 in
+    arrays-same v.0 w.0 marks claims inputs (ap (λ (u : View). u.basis) e) (ap (λ (u : View). u.marks) e) (ap (λ (u : View). u.settled) e) (ap (λ (u : View). u.leases) e)
+told_arrays (suc n) v w marks claims inputs empty told =
+    let e : w.0 ≡ missing v.0 (suc n) = ap (λ (m : SeatView). m.0) (missed_turn (suc n) v w told (λ z. omega (arith, z))) in
+    arrays-same v.0 w.0 marks claims inputs (ap (λ (u : View). u.basis) e) (ap (λ (u : View). u.marks) e) (ap (λ (u : View). u.settled) e) (ap (λ (u : View). u.leases) e)

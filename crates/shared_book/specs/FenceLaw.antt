@@ -2,20 +2,23 @@
 -- place in it, and what each seat knows. Akidau et al., VLDB 2013, section 6.2, where a sequencer is
 -- checked at each write, so that a former owner's write is refused. Own: threads that share one history,
 -- the turn, and what each seat has seen of it.
-use Rattle.std.specs.Prelude.{◌≡◌, ℕ, suc, ◌<◌, ◌≤◌, ◌^◌, List, [], ◌∷◌, true, false, Option, Some, IfSome, length, replicate, slice_get}
+use Rattle.std.specs.Prelude.{◌≡◌, ◌⊎◌, ℕ, suc, ◌<◌, ◌≤◌, ◌^◌, List, [], ◌∷◌, true, false, Option, Some, IfSome, length, slice_get}
 use mathlib.Core.Option.{some, none}
 use lib.ListN.{get_elem?}
 use Rattle.atomic_table.specs.Table.{State}
 use Rattle.mw_types.specs.Causes.{Rose}
 use Rattle.mw_types.specs.declared.entry.Entry.{Entry}
 use Rattle.run_history.specs.Legal.{IsLegal}
-use Rattle.run_history.specs.Fences.{Begins, IsClaimed, IsFenced, sequencer_of}
+use Rattle.run_history.specs.Fences.{Begins, IsClaimed, IsCurrent, IsFenced, sequencer_of}
 use Rattle.book.specs.Books.{CoreView, LeaseView}
 use Rattle.book.specs.Lawful.{IsLawful}
 use Rattle.book.specs.OwnDesks.{telling}
 use Rattle.shared_book.specs.declared.views.Basis.{Basis}
+use Rattle.shared_book.specs.declared.views.Settled.{Settled}
 use Rattle.shared_book.specs.declared.views.View.{View}
 use Rattle.shared_book.specs.Joins.{spent}
+use Rattle.shared_book.specs.MarksLaw.{MarksLaw}
+use Rattle.shared_book.specs.Places.{PLACES, place_of}
 use Rattle.shared_book.specs.Lists.{IsIn, Ascends, AreDistinct, Somewhere, Everywhere, Pairwise}
 
 -- ---- the words and the place
@@ -23,10 +26,6 @@ use Rattle.shared_book.specs.Lists.{IsIn, Ascends, AreDistinct, Somewhere, Every
 -- what the table's one place holds: a book but for its case, or nothing
 abbrev pub Slot : Type 0
 Slot = Option CoreView
-
--- the words behind the first two, for the floor and for marks, which stay 0
-abbrev pub no_marks : List ℕ
-no_marks = replicate 62 0
 
 -- a book but for its case is that of a history: it is lawful, its limit and whether it tells are those of
 -- the start, and its keeper has failed at least so often
@@ -66,6 +65,17 @@ HasSeenOwn history v = (seq : ℕ) → IsIn seq (sequencers v.leases) → Carrie
 abbrev pub HasWrittenAll : List Entry → View → Type 0
 HasWrittenAll history v = (seq : ℕ) → IsIn seq (sequencers v.leases) → (at : ℕ) (entry : Entry) →
     slice_get history at ≡ Some entry → sequencer_of entry ≡ Some seq → IsIn at v.own
+
+-- what is settled of an interval is of a lease of the seat, and nothing was written under that since; but for
+-- what the seat with the turn appended, whose lease is then the last of the interval
+pub record IsQuietPlace (history : List Entry) (v : View) (interval : ℕ) (place : Settled) : Type 0 where
+  pub held : (seq : ℕ) → place.claim ≡ suc seq → IsIn (record { interval = interval; seq = seq }) v.leases
+  pub quiet : (seq : ℕ) → place.claim ≡ suc seq →
+      CarriesBelow history seq place.base ⊎ ((v.turn ≡ true) × IsCurrent interval seq history)
+
+-- and so of each interval
+abbrev pub IsQuiet : List Entry → View → Type 0
+IsQuiet history v = (interval : ℕ) → IsQuietPlace history v interval (place_of v.settled interval)
 
 -- the seat that has the turn: the word is 1 more than its least number, it has seen all, and it has the
 -- count
@@ -119,13 +129,16 @@ pub record AreApart (v w : View) : Type 0 where
 
 -- ---- the law
 
--- the fence law, of one history under one turn
+-- the fence law, of one history under one turn, and beside it the law of marks
 pub record FenceLaw (basis : Basis) (s : State Slot View) : Type 0 where
   pub history : List Entry
   pub turn : ℕ
   pub count : ℕ
-  -- word 0 is the history's length, word 1 the turn; the others are not used yet
-  pub words : s.words ≡ length history ∷ turn ∷ no_marks
+  pub floor : ℕ
+  pub marks : List ℕ
+  -- word 0 is the history's length, word 1 the turn, word 2 the floor, and each other a mark
+  pub words : s.words ≡ length history ∷ turn ∷ floor ∷ marks
+  pub places : length marks ≡ PLACES
   -- where word 1 is not 0 a seat has the turn: else nobody could tell that the book is at home
   pub holder : 0 < turn → Somewhere s.views (λ v. v.turn ≡ true)
   -- where word 1 is 0 the book is at home, with this history; else its place is empty
@@ -146,3 +159,7 @@ pub record FenceLaw (basis : Basis) (s : State Slot View) : Type 0 where
   pub owned : (commit : ℕ) → basis.begin ≤ commit → commit < length history →
       Somewhere s.views (λ v. IsIn commit v.own)
   pub numbered : (n : ℕ) → n < basis.seats → Somewhere s.views (λ v. IsIn n v.numbers)
+  -- the floor and the marks, whoever raised them
+  pub law : MarksLaw basis history floor marks s.views
+  -- and what is settled of a lease is still all that was written under it
+  pub quiet : Everywhere s.views (IsQuiet history)

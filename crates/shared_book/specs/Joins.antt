@@ -1,9 +1,11 @@
 -- What a split and a join make of views. Own.
-use Rattle.std.specs.Prelude.{ℕ, ◌+◌, ◌-◌, List, [], ◌∷◌, ◌++◌, false, None, length, drop, nat_le, if◌then◌else◌}
+use Rattle.std.specs.Prelude.{ℕ, ◌+◌, ◌-◌, List, [], ◌∷◌, ◌++◌, false, None, length, drop, max, nat_le, replicate, if◌then◌else◌}
 use Rattle.mw_types.specs.declared.entry.Entry.{Entry}
 use Rattle.run_history.specs.Cases.{CaseShape}
 use Rattle.shared_book.specs.declared.views.Basis.{Basis}
+use Rattle.shared_book.specs.declared.views.Settled.{Settled}
 use Rattle.shared_book.specs.declared.views.View.{View}
+use Rattle.shared_book.specs.Places.{PLACES, greatest, newest, nothing}
 
 -- ---- a note, and a seat of its own
 
@@ -22,6 +24,11 @@ note_of v = record {
   missed = [];
   faults = 0;
   leases = [];
+  settled = [];
+  marks = [];
+  loads = [];
+  floor = 0;
+  floor_loads = 0;
 }
 
 -- the first number, where there is one
@@ -38,9 +45,22 @@ others_of (n ∷ ns) = ns
 abbrev pub stays : View → View
 stays v = record v { numbers = others_of v.numbers }
 
+-- a mark of 0 in each place
+abbrev pub unmarked : List ℕ
+unmarked = replicate PLACES 0
+
+-- nothing in each place
+abbrev pub unsettled : List Settled
+unsettled = replicate PLACES nothing
+
 -- the view of the new seat: the number, and what was seen
 abbrev pub leaves : View → View
-leaves v = record (note_of v) { numbers = first_of v.numbers }
+leaves v = record (note_of v) {
+  numbers = first_of v.numbers;
+  settled = unsettled;
+  marks = unmarked;
+  loads = unmarked;
+}
 
 -- ---- one view of two
 
@@ -59,7 +79,8 @@ abbrev pub longer : List Entry → List Entry → List Entry
 longer one other = one ++ drop (length one) other
 
 -- the view of a seat that took in another: what either has seen, the numbers, own entries and leases of
--- both, what it missed itself, and the greater count of faults
+-- both, what it missed itself, and the greater count of faults; of each interval the newer lease, and of each
+-- word the greater value that was loaded and the greater number of loads
 abbrev pub joined : View → View → View
 joined v w = record v {
   numbers = merged v.numbers w.numbers;
@@ -69,6 +90,11 @@ joined v w = record v {
   own = merged v.own w.own;
   faults = v.faults + (w.faults - v.faults);
   leases = v.leases ++ w.leases;
+  settled = newest v.settled w.settled;
+  marks = greatest v.marks w.marks;
+  loads = greatest v.loads w.loads;
+  floor = max v.floor w.floor;
+  floor_loads = max v.floor_loads w.floor_loads;
 }
 
 -- a case of nothing, in the view of a seat that is spent
@@ -94,4 +120,9 @@ spent = record {
   missed = [];
   faults = 0;
   leases = [];
+  settled = [];
+  marks = [];
+  loads = [];
+  floor = 0;
+  floor_loads = 0;
 }

@@ -19,7 +19,7 @@ use Rattle.run_history.specs.Runs.{Run, empty_run, followed, row_of}
 use Rattle.list_lemmas.proofs.Lists.{some_same}
 use Rattle.book.specs.Books.{LeaseView}
 use Rattle.shared_book.specs.declared.views.Basis.{Basis}
-use Rattle.shared_book.specs.SharedDesks.{IsKeptOfSeat, KnownView}
+use Rattle.shared_book.specs.SharedDesks.{IsKeptOfSeat}
 
 -- ---- values that are equal in one way
 
@@ -82,6 +82,6 @@ AreLegal-prop case run (entry ∷ entries) = ×_prop (MayFollow-prop case run en
 
 -- ---- what a desk keeps
 
-pub IsKeptOfSeat-prop : (basis : Basis) (front : List Entry) (leases : List LeaseView) (known : KnownView)
-    → IsProp (IsKeptOfSeat basis front leases known)
-IsKeptOfSeat-prop basis front leases known = Prim.hlevel (props, AreLegal-prop)
+pub IsKeptOfSeat-prop : (basis : Basis) (front : List Entry) (leases : List LeaseView) (floor : ℕ)
+    → IsProp (IsKeptOfSeat basis front leases floor)
+IsKeptOfSeat-prop basis front leases floor = Prim.hlevel (props, AreLegal-prop)

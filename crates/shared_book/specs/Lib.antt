@@ -1,8 +1,12 @@
 pub mod Lists
+pub mod Places
+pub mod MarksLaw
 pub mod FenceLaw
 pub mod Steps
+pub mod MarkSteps
 pub mod Joins
 pub mod Opening
+pub mod Settling
 pub mod Turns
 pub mod Guards
 pub mod SharedDesks

@@ -7,12 +7,15 @@ use Rattle.mw_types.specs.Causes.{Rose}
 use Rattle.mw_types.specs.declared.entry.Entry.{Entry}
 use Rattle.mw_types.specs.declared.entry.Entry.TheVariants.{Claim}
 use Rattle.mw_types.specs.declared.identity.RowName.{RowName}
-use Rattle.run_history.specs.Cases.{CaseShape}
+use Rattle.run_history.specs.Cases.{CaseShape, intervals_of}
+use Rattle.run_history.specs.Legal.{floor_of}
 use Rattle.run_history.specs.Runs.{run_of, row_in, written_row}
 use Rattle.run_history.specs.Fences.{HasSeenAll, interval_of, known}
 use Rattle.row_parts.specs.Contents.{Contents}
+use Rattle.watermark.specs.Marks.{mark_of}
 use Rattle.book.specs.Books.{CoreView, LeaseView}
 use Rattle.book.specs.Lawful.{IsLawful}
+use Rattle.book.specs.Marks.{AreSafe}
 use Rattle.book.specs.OwnDesks.{telling}
 use Rattle.book.specs.Answers.{IsWritten}
 use Rattle.book.specs.Claims.{AreRowsOf}
@@ -67,6 +70,10 @@ pub record HasTaken (old new : View) : Type 0 where
       interval_of old.basis.case.topology name ≡ Some lease.interval →
       row_in (run_of old.basis.case.topology (known lease.interval lease.seq new.front)) name
       ≡ row_in (run_of old.basis.case.topology (known lease.interval lease.seq old.front)) name
+  -- each mark that the seat had loaded, whenever that was, is safe by the whole history where told: whoever raised
+  -- it, under a lease that was stale then or not. And the floor that it had loaded is at most the history's
+  pub marks : IfSome old.basis.told (λ _. AreSafe old.basis.case (run_of old.basis.case.topology new.front) old.marks)
+  pub floor : old.floor ≤ floor_of (run_of old.basis.case.topology new.front)
 
 -- a note was met: what was seen goes on, and nothing that came to be seen was written under a lease of the
 -- seat
@@ -134,11 +141,20 @@ HasFaulted old new = (count : ℕ) × Rose old.count count × (new ≡ faulted o
 
 -- ---- the close
 
+-- a seat loaded marks, of which none is below what it had loaded, and nothing else changed
+pub record HasReloaded (old new : SeatView) : Type 0 where
+  pub view : new ≡ (record old.0 { marks = new.0.marks; loads = new.0.loads }, old.1)
+  pub rises : (interval : ℕ) → mark_of old.0.marks interval ≤ mark_of new.0.marks interval
+
 -- what a close hands back: the book of all that was seen, of which each entry since the start is the seat's
--- own, in order; the keeper failed more often than at the start where the seat saw it fail
+-- own, in order; the keeper failed more often than at the start where the seat saw it fail; and its marks are those
+-- to which the seats raised them
 pub record IsClosed (v : View) (book : CoreView) : Type 0 where
   pub core : IsCore v.basis v.front v.basis.count book
   pub all_own : (commit : ℕ) → v.basis.begin ≤ commit → commit < length v.front → IsIn commit v.own
   pub own_only : (commit : ℕ) → IsIn commit v.own → (v.basis.begin ≤ commit) × (commit < length v.front)
   pub own_ascend : Ascends v.own
   pub failed : 0 < v.faults → Rose v.basis.count book.faults
+  -- no mark that the seat had loaded is lost
+  pub marks : (interval : ℕ) → interval < length (intervals_of v.basis.case.topology) →
+      mark_of v.marks interval ≤ mark_of book.marks interval

@@ -11,7 +11,6 @@ ghost use Rattle.shared_book.specs.SharedDesks.{HasKept, shared_view};
 ghost use Rattle.shared_book.specs.Turns.{IsHere, IsIdle};
 
 use crate::finishing::finish;
-use crate::known::Known;
 use crate::seats::Seat;
 use crate::shared::Shared;
 use crate::slots::take;
@@ -27,7 +26,6 @@ pub(crate) fn write_once<K: Keeper>(
     alloc: Global,
     shared: &Shared<'_, K>,
     seat: &mut Seat<K>,
-    known: &mut Known,
     lease: &Lease,
     name: &RowName,
     row: &Row,
@@ -35,34 +33,34 @@ pub(crate) fn write_once<K: Keeper>(
 ) -> Result<Written, DeskRefusal>
     requires here { IsHere shared.now.table.shared.table_id shared.now.case.now seat.old.place }
     requires idle { IsIdle seat.old.place.me }
-    requires kept { HasKept seat.old.place.me.0 known.old }
-    requires lease { MayAsk (shared_view seat.old.place.me.0 known.old) lease.now name.now }
-    requires row { IsRowKnown (shared_view seat.old.place.me.0 known.old)
+    requires kept { HasKept seat.old.place.me.0 }
+    requires lease { MayAsk (shared_view seat.old.place.me.0) lease.now name.now }
+    requires row { IsRowKnown (shared_view seat.old.place.me.0)
         lease.now name.now row.now }
     requires proposal { IsProposable shared.now.case.now name.now row.now proposal.now }
-    requires known { IsKnownOf (shared_view seat.old.place.me.0 known.old)
+    requires known { IsKnownOf (shared_view seat.old.place.me.0)
         name.now proposal.now }
 
     ensures here { IsHere shared.now.table.shared.table_id shared.now.case.now seat.new.place }
     ensures idle { IsIdle seat.new.place.me }
-    ensures kept { HasKept seat.new.place.me.0 known.new }
+    ensures kept { HasKept seat.new.place.me.0 }
     ensures numbers { seat.new.place.me.0.numbers ≡ seat.old.place.me.0.numbers }
     ensures basis { seat.new.place.me.0.basis ≡ seat.old.place.me.0.basis }
-    ensures written { IfOk result (HasWritten (shared_view seat.old.place.me.0 known.old)
-        (shared_view seat.new.place.me.0 known.new) lease.now name.now proposal.now row.now) }
-    ensures looked { OnErr result (HasLooked (shared_view seat.old.place.me.0 known.old)
-        (shared_view seat.new.place.me.0 known.new)) }
-    ensures reason { IfErr result (HasReason (shared_view seat.old.place.me.0 known.old)
-        (shared_view seat.new.place.me.0 known.new) lease.now) }
-    ensures marks { KeepsMarks (shared_view seat.old.place.me.0 known.old)
-        (shared_view seat.new.place.me.0 known.new) }
+    ensures written { IfOk result (HasWritten (shared_view seat.old.place.me.0)
+        (shared_view seat.new.place.me.0) lease.now name.now proposal.now row.now) }
+    ensures looked { OnErr result (HasLooked (shared_view seat.old.place.me.0)
+        (shared_view seat.new.place.me.0)) }
+    ensures reason { IfErr result (HasReason (shared_view seat.old.place.me.0)
+        (shared_view seat.new.place.me.0) lease.now) }
+    ensures marks { KeepsMarks (shared_view seat.old.place.me.0)
+        (shared_view seat.new.place.me.0) }
 {
     let found = take(shared, seat);
     if found != 0 {
         return Err(DeskRefusal::Busy { found });
     }
     let result = write_at(alloc, shared, seat, lease, name, row, proposal);
-    finish(shared, seat, known);
+    finish(shared, seat);
     match result {
         Ok(written) => Ok(written),
         Err(why) => Err(DeskRefusal::of_write(why)),
@@ -74,7 +72,6 @@ pub(crate) fn settle_once<K: Keeper>(
     alloc: Global,
     shared: &Shared<'_, K>,
     seat: &mut Seat<K>,
-    known: &mut Known,
     lease: &Lease,
     name: &RowName,
     row: &Row,
@@ -82,34 +79,34 @@ pub(crate) fn settle_once<K: Keeper>(
 ) -> Result<Written, DeskRefusal>
     requires here { IsHere shared.now.table.shared.table_id shared.now.case.now seat.old.place }
     requires idle { IsIdle seat.old.place.me }
-    requires kept { HasKept seat.old.place.me.0 known.old }
-    requires lease { MayAsk (shared_view seat.old.place.me.0 known.old) lease.now name.now }
-    requires row { IsRowKnown (shared_view seat.old.place.me.0 known.old)
+    requires kept { HasKept seat.old.place.me.0 }
+    requires lease { MayAsk (shared_view seat.old.place.me.0) lease.now name.now }
+    requires row { IsRowKnown (shared_view seat.old.place.me.0)
         lease.now name.now row.now }
     requires id { let v = seat.old.place.me.0 in MaySettle v.basis.told v.front row.now id }
 
     ensures here { IsHere shared.now.table.shared.table_id shared.now.case.now seat.new.place }
     ensures idle { IsIdle seat.new.place.me }
-    ensures kept { HasKept seat.new.place.me.0 known.new }
+    ensures kept { HasKept seat.new.place.me.0 }
     ensures numbers { seat.new.place.me.0.numbers ≡ seat.old.place.me.0.numbers }
     ensures basis { seat.new.place.me.0.basis ≡ seat.old.place.me.0.basis }
     ensures written { let entry = Ack lease.now.seq name.now id in
-        IfOk result (HasStored (shared_view seat.old.place.me.0 known.old)
-        (shared_view seat.new.place.me.0 known.new) lease.now name.now entry row.now
+        IfOk result (HasStored (shared_view seat.old.place.me.0)
+        (shared_view seat.new.place.me.0) lease.now name.now entry row.now
         (λ commit. written_row commit entry [] row.now)) }
-    ensures looked { OnErr result (HasLooked (shared_view seat.old.place.me.0 known.old)
-        (shared_view seat.new.place.me.0 known.new)) }
-    ensures reason { IfErr result (HasReason (shared_view seat.old.place.me.0 known.old)
-        (shared_view seat.new.place.me.0 known.new) lease.now) }
-    ensures marks { KeepsMarks (shared_view seat.old.place.me.0 known.old)
-        (shared_view seat.new.place.me.0 known.new) }
+    ensures looked { OnErr result (HasLooked (shared_view seat.old.place.me.0)
+        (shared_view seat.new.place.me.0)) }
+    ensures reason { IfErr result (HasReason (shared_view seat.old.place.me.0)
+        (shared_view seat.new.place.me.0) lease.now) }
+    ensures marks { KeepsMarks (shared_view seat.old.place.me.0)
+        (shared_view seat.new.place.me.0) }
 {
     let found = take(shared, seat);
     if found != 0 {
         return Err(DeskRefusal::Busy { found });
     }
     let result = settle_at(alloc, shared, seat, lease, name, row, id);
-    finish(shared, seat, known);
+    finish(shared, seat);
     match result {
         Ok(written) => Ok(written),
         Err(why) => Err(DeskRefusal::of_write(why)),
@@ -121,7 +118,6 @@ pub(crate) fn purge_once<K: Keeper>(
     alloc: Global,
     shared: &Shared<'_, K>,
     seat: &mut Seat<K>,
-    known: &mut Known,
     lease: &Lease,
     name: &RowName,
     row: &Row,
@@ -129,35 +125,35 @@ pub(crate) fn purge_once<K: Keeper>(
 ) -> Result<Written, DeskRefusal>
     requires here { IsHere shared.now.table.shared.table_id shared.now.case.now seat.old.place }
     requires idle { IsIdle seat.old.place.me }
-    requires kept { HasKept seat.old.place.me.0 known.old }
-    requires lease { MayAsk (shared_view seat.old.place.me.0 known.old) lease.now name.now }
-    requires row { IsRowKnown (shared_view seat.old.place.me.0 known.old)
+    requires kept { HasKept seat.old.place.me.0 }
+    requires lease { MayAsk (shared_view seat.old.place.me.0) lease.now name.now }
+    requires row { IsRowKnown (shared_view seat.old.place.me.0)
         lease.now name.now row.now }
-    requires floor { IsPurgeKnown (shared_view seat.old.place.me.0 known.old)
+    requires floor { IsPurgeKnown (shared_view seat.old.place.me.0)
         name.now row.now floor }
 
     ensures here { IsHere shared.now.table.shared.table_id shared.now.case.now seat.new.place }
     ensures idle { IsIdle seat.new.place.me }
-    ensures kept { HasKept seat.new.place.me.0 known.new }
+    ensures kept { HasKept seat.new.place.me.0 }
     ensures numbers { seat.new.place.me.0.numbers ≡ seat.old.place.me.0.numbers }
     ensures basis { seat.new.place.me.0.basis ≡ seat.old.place.me.0.basis }
     ensures written { let entry = Purge lease.now.seq name.now floor in
-        IfOk result (HasStored (shared_view seat.old.place.me.0 known.old)
-        (shared_view seat.new.place.me.0 known.new) lease.now name.now entry row.now
+        IfOk result (HasStored (shared_view seat.old.place.me.0)
+        (shared_view seat.new.place.me.0) lease.now name.now entry row.now
         (λ commit. written_row commit entry [] row.now)) }
-    ensures looked { OnErr result (HasLooked (shared_view seat.old.place.me.0 known.old)
-        (shared_view seat.new.place.me.0 known.new)) }
-    ensures reason { IfErr result (HasReason (shared_view seat.old.place.me.0 known.old)
-        (shared_view seat.new.place.me.0 known.new) lease.now) }
-    ensures marks { KeepsMarks (shared_view seat.old.place.me.0 known.old)
-        (shared_view seat.new.place.me.0 known.new) }
+    ensures looked { OnErr result (HasLooked (shared_view seat.old.place.me.0)
+        (shared_view seat.new.place.me.0)) }
+    ensures reason { IfErr result (HasReason (shared_view seat.old.place.me.0)
+        (shared_view seat.new.place.me.0) lease.now) }
+    ensures marks { KeepsMarks (shared_view seat.old.place.me.0)
+        (shared_view seat.new.place.me.0) }
 {
     let found = take(shared, seat);
     if found != 0 {
         return Err(DeskRefusal::Busy { found });
     }
     let result = purge_at(alloc, shared, seat, lease, name, row, floor);
-    finish(shared, seat, known);
+    finish(shared, seat);
     match result {
         Ok(written) => Ok(written),
         Err(why) => Err(DeskRefusal::of_write(why)),

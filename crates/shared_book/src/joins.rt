@@ -7,7 +7,9 @@ ghost use Rattle.shared_book.specs.Lists.{IsIn};
 ghost use Rattle.shared_book.specs.Steps.{HasSeenLawful};
 ghost use Rattle.shared_book.specs.Turns.{HasMetForeign, IsClosed, IsHere, IsIdle};
 
+use crate::joined_arrays::{greater_of, newer_of};
 use crate::meets::meet_at;
+use crate::put_back::{put_back, reload};
 use crate::rule::{Joined, Noted};
 use crate::seats::{Note, Seat};
 use crate::shared::Shared;
@@ -66,20 +68,29 @@ impl<'a, K: Keeper> Shared<'a, K> {
         ensures seen { Begins seat.old.place.me.0.front seat.new.place.me.0.front }
         ensures met { Begins other.place.me.0.front seat.new.place.me.0.front }
     {
-        let Seat { place, number } = other;
+        let Seat {
+            place,
+            number,
+            marks,
+            claims,
+            inputs,
+        } = other;
         let mut theirs = place;
         look(self, &mut theirs);
         self.table
             .shared
             .join_seat::<Joined>(&mut seat.place, theirs);
         look(self, &mut seat.place);
+        seat.marks = greater_of(&seat.marks, &marks);
+        seat.inputs = newer_of(&seat.claims, &claims, &seat.inputs, &inputs);
+        seat.claims = newer_of(&seat.claims, &claims, &seat.claims, &claims);
         if number < seat.number {
             seat.number = number;
         }
     }
 
     /// The book comes back from the seat that has all numbers, and no turn: each entry since the
-    /// start is the seat's own.
+    /// start is the seat's own. Its marks are those of the words, which the seat loads first.
     pub fn close(self, seat: Seat<K>) -> Book<'a, K>
         requires here { IsHere self.table.shared.table_id self.case.now seat.place }
         requires idle { IsIdle seat.place.me }
@@ -88,13 +99,19 @@ impl<'a, K: Keeper> Shared<'a, K> {
         ensures case { result.case ≡ self.entry.case.now }
         ensures closed { IsClosed seat.place.me.0 (core_of result) }
     {
-        let Seat { place, number: _ } = seat;
+        let mut seat = seat;
+        reload(&self, &mut seat);
+        let Seat { place, marks, .. } = seat;
         let Shared { case, table } = self;
         let mut closed = table.close_with(place);
         let slot = closed.take(0);
         closed.free();
         match slot {
-            Some(core) => Book::of(case, core),
+            Some(core) => {
+                let mut book = Book::of(case, core);
+                put_back(&mut book, &marks);
+                book
+            }
             None => unreachable!(),
         }
     }

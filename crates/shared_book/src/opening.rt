@@ -1,9 +1,13 @@
 //! How a book comes to be shared, and seats of callers.
-ghost use Rattle.std.specs.Prelude.{◌≡◌, ◌<◌, ◌≤◌, ◌+◌, ◌∷◌, [], IfErr, IfOk, None, Some, false, length, true};
+ghost use Rattle.std.specs.Prelude.{◌≡◌, ◌<◌, ◌≤◌, ◌+◌, ◌∷◌, [], ℕ, IfErr, IfOk, IfSome, None, Some, false, length, true};
+ghost use Rattle.run_history.specs.Legal.{floor_of};
+ghost use Rattle.run_history.specs.Runs.{run_of};
+ghost use Rattle.watermark.specs.Marks.{mark_of};
 ghost use Rattle.book.specs.Books.{core_of};
 ghost use Rattle.book.specs.Lawful.{IsLawful};
+ghost use Rattle.book.specs.Marks.{AreSafe};
 ghost use Rattle.shared_book.specs.Joins.{first_of, leaves, others_of, stays};
-ghost use Rattle.shared_book.specs.Opening.{blank, newborn};
+ghost use Rattle.shared_book.specs.Opening.{AreRight, blank, newborn};
 ghost use Rattle.shared_book.specs.Turns.{IsHere, IsIdle};
 
 use crate::rule::{Dealt, Fetch, Open};
@@ -12,6 +16,7 @@ use crate::shared::{Key, Shared};
 use crate::views::View;
 use atomic_table::{Seat as Place, Table};
 use book::{Book, Core};
+use history_laws::case_is_runnable;
 use row_keeper::Keeper;
 use run_history::Case;
 use std::alloc::Global;
@@ -41,11 +46,19 @@ impl<'a, K: Keeper> Shared<'a, K> {
         ensures view { IfOk result (λ shared. shared.1.place.me.0
             ≡ newborn (blank book.entry.case seats true) (core_of book.entry)) }
         ensures number { IfOk result (λ shared. shared.1.number ≡ 0) }
+
+        // The words begin with the book's floor and marks.
+        ensures floor { IfOk result (λ shared. shared.0.table.shared.key.floor
+            ≡ floor_of (run_of book.entry.case.topology book.entry.history)) }
+        ensures marks { IfOk result (λ shared. (interval : ℕ) →
+            mark_of shared.0.table.shared.key.marks interval ≡ mark_of book.entry.marks interval) }
         ensures book { IfErr result (λ refusal. refusal.book ≡ book.entry) }
     {
         let many = book.history().len() as u64;
+        let floor = book.floor();
+        let marks = first_marks(&book);
         let (case, core) = book.into_core();
-        match opened(alloc, case, core, u64::from(seats), many) {
+        match opened(alloc, case, core, u64::from(seats), many, floor, marks) {
             Ok(shared) => Ok(shared),
             Err(core) => Err(SharedRefusal {
                 book: Book::of(case, core),
@@ -72,7 +85,13 @@ impl<'a, K: Keeper> Shared<'a, K> {
         let number = seat.number;
         let place = self.table.shared.split_seat::<Dealt>(&mut seat.place);
         seat.number = number + 1;
-        Seat { place, number }
+        Seat {
+            place,
+            number,
+            marks: [0; 61],
+            claims: [0; 61],
+            inputs: [0; 61],
+        }
     }
 }
 
@@ -83,10 +102,13 @@ fn opened<'a, K: Keeper>(
     core: Core<K>,
     seats: u64,
     many: u64,
+    floor: u64,
+    marks: [u64; 61],
 ) -> Result<(Shared<'a, K>, Seat<K>), Core<K>>
     requires lawful { IsLawful case.now core }
     requires some { 0 < seats }
     requires many { many ≡ length core.history }
+    requires right { AreRight case.now floor marks core }
 
     ensures case { IfOk result (λ shared. shared.0.case.now ≡ case.now) }
     ensures here { IfOk result (λ shared.
@@ -95,17 +117,63 @@ fn opened<'a, K: Keeper>(
     ensures view { IfOk result (λ shared.
         shared.1.place.me.0 ≡ newborn (blank case.now seats true) core) }
     ensures number { IfOk result (λ shared. shared.1.number ≡ 0) }
+    ensures floor { IfOk result (λ shared. shared.0.table.shared.key.floor ≡ floor) }
+    ensures marks { IfOk result (λ shared. shared.0.table.shared.key.marks ≡ marks) }
     ensures core { IfErr result (λ given. given ≡ core) }
 {
-    let key = Key { case, seats };
-    match Table::vacant(alloc, &[0; 64], 1, &key) {
+    let key = Key {
+        case,
+        seats,
+        floor,
+        marks,
+    };
+    match Table::vacant(alloc, &first_words(floor, &marks), 1, &key) {
         Ok((table, mut place)) => {
             let shared = Shared { case, table };
             fill(&shared, &mut place, core, seats, many);
-            Ok((shared, Seat { place, number: 0 }))
+            let seat = Seat {
+                place,
+                number: 0,
+                marks: [0; 61],
+                claims: [0; 61],
+                inputs: [0; 61],
+            };
+            Ok((shared, seat))
         }
         Err(_) => Err(core),
     }
+}
+
+// The words of a table before the book is in it: the floor behind the first two, and each mark.
+fn first_words(floor: u64, marks: &[u64; 61]) -> [u64; 64]
+    ensures { result ≡ 0 ∷ 0 ∷ floor ∷ marks.now }
+{
+    let mut words = [0; 64];
+    words[2] = floor;
+    words[3..].copy_from_slice(marks);
+    words
+}
+
+// The marks of a book, and 0 behind them.
+fn first_marks<K: Keeper>(book: &Book<'_, K>) -> [u64; 61]
+    ensures long { length result ≡ 61 }
+    ensures marks { (interval : ℕ) → mark_of result interval ≡ mark_of book.now.marks interval }
+    ensures safe { IfSome book.now.rows (λ _. AreSafe book.now.case
+        (run_of book.now.case.topology book.now.history) result) }
+{
+    case_is_runnable(book.case());
+    widened(book.marks())
+}
+
+// Numbers, and 0 behind them.
+fn widened(given: &[u64]) -> [u64; 61]
+    requires { length given.now ≤ 61 }
+    ensures long { length result ≡ 61 }
+    ensures marks { (k : ℕ) → mark_of result k ≡ mark_of given.now k }
+{
+    let mut marks = [0; 61];
+    marks[..given.len()].copy_from_slice(given);
+    marks
 }
 
 // The book is put into the place, in two steps: the first seat takes the place, and gives it back.
@@ -123,6 +191,8 @@ fn fill<K: Keeper>(
     requires some { 0 < seats }
     requires lawful { IsLawful shared.now.case.now core }
     requires many { many ≡ length core.history }
+    requires right { let key = shared.now.table.shared.key in
+        AreRight shared.now.case.now key.floor key.marks core }
     ensures table { place.new.table_id ≡ shared.now.table.shared.table_id }
     ensures view { place.new.me ≡ (newborn (blank shared.now.case.now seats true) core, []) }
 {

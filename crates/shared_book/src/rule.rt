@@ -5,7 +5,7 @@ use atomic_table::{Join, Play, Split, TableRule};
 use book::Core;
 use row_keeper::Keeper;
 
-/// The fence law, from the moment at which the book is in the table.
+/// The fence law and the law of marks, from the moment at which the book is in the table.
 pub struct Law;
 
 impl<'a, K: Keeper> TableRule<Option<Core<K>>, View, Key<'a>> for Law {
@@ -78,6 +78,42 @@ impl<K: Keeper> Play<Option<Core<K>>, View> for Look {
     ghost use Rattle.shared_book.specs.Steps.{Looks};
 
     ghost then = { Looks };
+}
+
+/// A seat loads a mark.
+pub struct LoadMark;
+
+impl<K: Keeper> Play<Option<Core<K>>, View> for LoadMark {
+    ghost use Rattle.shared_book.specs.MarkSteps.{LoadsMark};
+
+    ghost then = { LoadsMark };
+}
+
+/// A seat raises a mark.
+pub struct RaiseMark;
+
+impl<K: Keeper> Play<Option<Core<K>>, View> for RaiseMark {
+    ghost use Rattle.shared_book.specs.MarkSteps.{RaisesMark};
+
+    ghost then = { RaisesMark };
+}
+
+/// A seat loads the floor.
+pub struct LoadFloor;
+
+impl<K: Keeper> Play<Option<Core<K>>, View> for LoadFloor {
+    ghost use Rattle.shared_book.specs.MarkSteps.{LoadsFloor};
+
+    ghost then = { LoadsFloor };
+}
+
+/// The seat with the turn raises the floor.
+pub struct RaiseFloor;
+
+impl<K: Keeper> Play<Option<Core<K>>, View> for RaiseFloor {
+    ghost use Rattle.shared_book.specs.MarkSteps.{RaisesFloor};
+
+    ghost then = { RaisesFloor };
 }
 
 /// A note is split off.

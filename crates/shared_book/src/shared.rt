@@ -16,10 +16,15 @@ pub struct Key<'a> {
     pub case: &'a Case,
     /// How many seats callers may have.
     pub seats: u64,
+    /// The floor of the book's history.
+    pub floor: u64,
+    /// The book's mark of each interval, and 0 behind them.
+    pub marks: [u64; 61],
 }
 
 /// A book that threads share: its case, and a table whose one place holds all else of it. Word 0 is
-/// the length of the history, word 1 the turn, and the others are not used yet.
+/// the length of the history, word 1 the turn, word 2 the floor, and each other the mark of an
+/// interval.
 pub struct Shared<'a, K: Keeper> {
     pub(crate) case: &'a Case,
     pub(crate) table: Table<Option<Core<K>>, View, Key<'a>, Law, Global>,

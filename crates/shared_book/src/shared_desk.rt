@@ -1,15 +1,13 @@
 //! A desk over a seat of a shared book.
-ghost use Rattle.std.specs.Prelude.{◌≡◌, [], false, length, replicate};
-ghost use Rattle.run_history.specs.Cases.{intervals_of};
+ghost use Rattle.std.specs.Prelude.{◌≡◌, [], false};
 ghost use Rattle.shared_book.specs.KeptFacts.{IsKeptOfSeat-prop};
 ghost use Rattle.shared_book.specs.SharedDesks.{HasKept};
 ghost use Rattle.shared_book.specs.Turns.{IsHere, IsIdle};
 
 use crate::beginning::begin;
 use crate::desk_claims::claim_once;
-use crate::desk_reports::report_once;
+use crate::desk_reports::{floor_once, mark_once, report_once};
 use crate::desk_writes::{purge_once, settle_once, write_once};
-use crate::known::Known;
 use crate::meets::meet_once;
 use crate::seats::{Note, Seat};
 use crate::shared::Shared;
@@ -28,24 +26,23 @@ impl<K: Keeper> Seen for Note<K> {
     ghost book = { λ note. table_numbers note.place.table_id };
 }
 
-/// A desk over a seat of a shared book. Each claim, write and report is one try for the turn, the
-/// call and the release; another's turn is answered at once as `Busy`. Of marks and of the floor it
-/// knows what its turns have found.
+/// A desk over a seat of a shared book. Each claim and each write is one try for the turn, the call
+/// and the release; another's turn is answered at once as `Busy`. A report is one raise of the mark's
+/// word, and `mark` and `floor` are one load each, whoever has the turn.
 #[derive(Drop)]
 pub struct SharedDesk<'s, 'a, K: Keeper> {
     pub(crate) shared: &'s Shared<'a, K>,
     pub(crate) seat: &'s mut Seat<K>,
-    pub(crate) known: Known,
     ghost table: { seat.now.place.table_id ≡ shared.now.table.shared.table_id },
     ghost case: { seat.now.place.me.0.basis.case ≡ shared.now.case.now },
     ghost turn: { seat.now.place.me.0.turn ≡ false },
     ghost places: { seat.now.place.me.1 ≡ [] },
-    ghost kept: { HasKept seat.now.place.me.0 known } by { let v = seat.now.place.me.0 in IsKeptOfSeat-prop v.basis v.front v.leases known },
+    ghost kept: { HasKept seat.now.place.me.0 } by { let v = seat.now.place.me.0 in IsKeptOfSeat-prop v.basis v.front v.leases v.floor },
 }
 
 impl<'s, 'a, K: Keeper> SharedDesk<'s, 'a, K> {
-    /// The desk of a seat that holds no turn. It knows no mark and no floor yet: each is 0 until its
-    /// first turn.
+    /// The desk of a seat that holds no turn. It knows the marks and the floor that the seat has
+    /// loaded.
     pub fn on(shared: &'s Shared<'a, K>, seat: &'s mut Seat<K>) -> SharedDesk<'s, 'a, K>
         requires here { IsHere shared.now.table.shared.table_id shared.now.case.now
             seat.old.place }
@@ -54,16 +51,9 @@ impl<'s, 'a, K: Keeper> SharedDesk<'s, 'a, K> {
         ensures shared { result.shared.now ≡ shared.now }
         ensures view { result.seat.now.place.me ≡ seat.entry.now.place.me }
         ensures number { result.seat.now.number ≡ seat.entry.now.number }
-        ensures marks { result.known.marks
-            ≡ replicate (length (intervals_of shared.now.case.now.topology)) 0 }
-        ensures floor { result.known.floor ≡ 0 }
     {
-        let known = begin(shared, seat);
-        SharedDesk {
-            shared,
-            seat,
-            known,
-        }
+        begin(shared, seat);
+        SharedDesk { shared, seat }
     }
 }
 
@@ -72,7 +62,7 @@ impl<'s, 'a, K: Keeper> Desk for SharedDesk<'s, 'a, K> {
 
     type Note = Note<K>;
 
-    ghost view = { λ desk. shared_view desk.seat.now.place.me.0 desk.known };
+    ghost view = { λ desk. shared_view desk.seat.now.place.me.0 };
 
     ghost loan = { λ desk. desk.seat.ghost_name };
 
@@ -84,7 +74,7 @@ impl<'s, 'a, K: Keeper> Desk for SharedDesk<'s, 'a, K> {
 
     fn claim(&mut self, alloc: Global, worker: u32, interval: u32) -> Result<Claimed, DeskRefusal> {
         let shared = self.shared;
-        claim_once(alloc, shared, self.seat, &mut self.known, worker, interval)
+        claim_once(alloc, shared, self.seat, worker, interval)
     }
 
     fn write(
@@ -96,16 +86,7 @@ impl<'s, 'a, K: Keeper> Desk for SharedDesk<'s, 'a, K> {
         proposal: &Proposal,
     ) -> Result<Written, DeskRefusal> {
         let shared = self.shared;
-        write_once(
-            alloc,
-            shared,
-            self.seat,
-            &mut self.known,
-            lease,
-            name,
-            row,
-            proposal,
-        )
+        write_once(alloc, shared, self.seat, lease, name, row, proposal)
     }
 
     fn settle(
@@ -117,16 +98,7 @@ impl<'s, 'a, K: Keeper> Desk for SharedDesk<'s, 'a, K> {
         id: RecordId,
     ) -> Result<Written, DeskRefusal> {
         let shared = self.shared;
-        settle_once(
-            alloc,
-            shared,
-            self.seat,
-            &mut self.known,
-            lease,
-            name,
-            row,
-            id,
-        )
+        settle_once(alloc, shared, self.seat, lease, name, row, id)
     }
 
     fn purge(
@@ -138,29 +110,22 @@ impl<'s, 'a, K: Keeper> Desk for SharedDesk<'s, 'a, K> {
         floor: u64,
     ) -> Result<Written, DeskRefusal> {
         let shared = self.shared;
-        purge_once(
-            alloc,
-            shared,
-            self.seat,
-            &mut self.known,
-            lease,
-            name,
-            row,
-            floor,
-        )
+        purge_once(alloc, shared, self.seat, lease, name, row, floor)
     }
 
     fn report(&mut self, lease: &Lease, own: u64) -> Result<u64, DeskRefusal> {
         let shared = self.shared;
-        report_once(shared, self.seat, &mut self.known, lease, own)
+        Ok(report_once(shared, self.seat, lease, own))
     }
 
     fn mark(&mut self, interval: u32) -> u64 {
-        self.known.mark(interval)
+        let shared = self.shared;
+        mark_once(shared, self.seat, interval)
     }
 
     fn floor(&mut self) -> u64 {
-        self.known.floor()
+        let shared = self.shared;
+        floor_once(shared, self.seat)
     }
 
     fn note(&mut self) -> Note<K> {
@@ -170,6 +135,6 @@ impl<'s, 'a, K: Keeper> Desk for SharedDesk<'s, 'a, K> {
 
     fn meet(&mut self, note: Note<K>) {
         let shared = self.shared;
-        meet_once(shared, self.seat, &self.known, note);
+        meet_once(shared, self.seat, note);
     }
 }

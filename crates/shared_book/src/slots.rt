@@ -1,9 +1,9 @@
 //! The atomic steps of a seat at the table, and the place that holds the book.
-ghost use Rattle.std.specs.Prelude.{◌≡◌, ◌≢◌, ◌∷◌, [], None, Some, true};
+ghost use Rattle.std.specs.Prelude.{◌≡◌, ◌≢◌, ◌∷◌, [], None, Some, false, true};
 ghost use Rattle.mw_types.specs.Causes.{Rose};
 ghost use Rattle.run_history.specs.Fences.{Begins};
 ghost use Rattle.shared_book.specs.FenceLaw.{AreClaimed, IsCore};
-ghost use Rattle.shared_book.specs.Steps.{HasSeenLawful, HasSeenWritten, faulted, grown, idle, missing};
+ghost use Rattle.shared_book.specs.Steps.{HasSeenLawful, HasSeenSettled, HasSeenWritten, faulted, grown, idle, missing};
 ghost use Rattle.shared_book.specs.Turns.{HasTaken, HasTurn, IsGrown, IsHere, IsIdle, IsOut};
 
 use crate::rule::{Append, Fault, Give, Look, Take};
@@ -121,6 +121,7 @@ pub(crate) fn look<K: Keeper>(shared: &Shared<'_, K>, place: &mut Place<Option<C
     ensures met { Begins place.old.me.0.met place.old.me.0.front }
     ensures met_same { place.old.me.0.met_basis ≡ place.old.me.0.basis }
     ensures written { HasSeenWritten place.old.me.0 }
+    ensures settled { place.old.me.0.turn ≡ false → HasSeenSettled place.old.me.0 }
 {
     shared.table.shared.load::<Look>(place, 0);
 }

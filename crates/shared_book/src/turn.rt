@@ -12,7 +12,7 @@ ghost use Rattle.book.specs.Proposals.{IsProposable};
 ghost use Rattle.book.specs.declared.refusals.ClaimRefusal.TheVariants as claims;
 ghost use Rattle.book.specs.declared.refusals.WriteRefusal.TheVariants as refusals;
 ghost use Rattle.shared_book.specs.Guards.{RestsTurn};
-ghost use Rattle.shared_book.specs.Steps.{idle};
+ghost use Rattle.shared_book.specs.MarkSteps.{released};
 ghost use Rattle.shared_book.specs.Turns.{HasClaimedIn, HasFaulted, HasStoredIn, HasTaken, HasTurn, HasWrittenIn, IsHere, IsIdle, IsProposedIn, IsRowHeld, MayWrite};
 
 use crate::seats::Seat;
@@ -247,12 +247,14 @@ impl<'s, 'a, K: Keeper> Turn<'s, 'a, K> {
         unfinished_at(shared, self.seat)
     }
 
-    /// Gives the turn back, and the book with it.
+    /// Gives the turn back, and the book with it. The floor's word is raised to the floor of the
+    /// history, and each lease of the seat that is the last of its interval is settled: its rows are
+    /// known by all that was seen, and what feeds it by the marks as the seat had loaded them.
     pub fn release(self)
         requires here { let shared = self.shared.now in
             IsHere shared.table.shared.table_id shared.case.now self.seat.now.place }
         requires turn { HasTurn self.seat.now.place.me }
-        ensures view { self.exit.1.0.now.place.me ≡ (idle self.entry.seat.now.place.me.0, []) }
+        ensures view { self.exit.1.0.now.place.me ≡ (released self.entry.seat.now.place.me.0, []) }
         ensures table { self.exit.1.0.now.place.table_id ≡ self.entry.seat.now.place.table_id }
     {
         let Turn { shared, seat } = self;

@@ -10,16 +10,19 @@ ghost use Rattle.book.specs.Conditions.{MayForget, MaySettle};
 ghost use Rattle.book.specs.Proposals.{IsProposable};
 ghost use Rattle.book.specs.declared.refusals.ClaimRefusal.TheVariants as claims;
 ghost use Rattle.book.specs.declared.refusals.WriteRefusal.TheVariants as refusals;
-ghost use Rattle.shared_book.specs.Steps.{idle};
+ghost use Rattle.shared_book.specs.MarkSteps.{released};
 ghost use Rattle.shared_book.specs.Turns.{HasClaimedIn, HasFaulted, HasStoredIn, HasTurn, HasWrittenIn, IsHere, IsProposedIn, IsRowHeld, MayWrite};
 
 use crate::claiming::{claim_in, unfinished_in};
 use crate::in_turn::write_in;
+use crate::mark_words::raise_floor;
 use crate::seats::Seat;
+use crate::settling::settled_in;
 use crate::shared::Shared;
 use crate::slots::give;
 use crate::storing::{purge_in, settle_in};
 use book::{ClaimRefusal, Claimed, Lease, Proposal, WriteRefusal, Written};
+use history_laws::case_is_runnable;
 use mw_types::{RecordId, RowName};
 use row_keeper::Keeper;
 use row_parts::Row;
@@ -52,7 +55,15 @@ pub(crate) fn claim_at<K: Keeper>(
     ensures unchanged { IfErr result (λ why. (why ≢ claims.KeeperFault) →
         seat.new.place.me.0 ≡ seat.old.place.me.0) }
 {
-    claim_in(alloc, shared, &mut seat.place, worker, interval)
+    case_is_runnable(shared.case);
+    match claim_in(alloc, shared, &mut seat.place, worker, interval) {
+        Ok(claimed) => {
+            seat.claims[interval as usize] = claimed.lease.seq() + 1;
+            seat.inputs[interval as usize] = 0;
+            Ok(claimed)
+        }
+        Err(why) => Err(why),
+    }
 }
 
 // A write in a turn.
@@ -170,13 +181,24 @@ pub(crate) fn unfinished_at<K: Keeper>(shared: &Shared<'_, K>, seat: &mut Seat<K
     unfinished_in(shared, &mut seat.place)
 }
 
-// The turn is given back.
+// The floor is raised to that of the history, and the turn is given back: each lease that is the last of
+// its interval is settled.
 pub(crate) fn give_at<K: Keeper>(shared: &Shared<'_, K>, seat: &mut Seat<K>)
     requires here { IsHere shared.now.table.shared.table_id shared.now.case.now seat.old.place }
     requires turn { HasTurn seat.old.place.me }
     ensures table { seat.new.place.table_id ≡ seat.old.place.table_id }
     ensures here { IsHere shared.now.table.shared.table_id shared.now.case.now seat.new.place }
-    ensures view { seat.new.place.me ≡ (idle seat.old.place.me.0, []) }
+    ensures view { seat.new.place.me ≡ (released seat.old.place.me.0, []) }
+    ensures number { seat.new.number ≡ seat.old.number }
 {
+    let (floor, inputs) = settled_in(
+        shared,
+        &mut seat.place,
+        &seat.marks,
+        &seat.claims,
+        &seat.inputs,
+    );
+    raise_floor(shared, &mut seat.place, floor);
     give(shared, &mut seat.place);
+    seat.inputs = inputs;
 }

@@ -20,6 +20,17 @@ pub struct Basis {
     pub told: Option<()>,
 }
 
+/// Of an interval, what a seat settled when it last gave the turn back: of the newest lease of it that
+/// the seat has.
+pub struct Settled {
+    /// 1 more than the lease's sequencer; 0 where the seat has no lease of the interval.
+    pub claim: u64,
+    /// How long the history was by which the lease's rows were known.
+    pub base: u64,
+    /// The least mark of what feeds the interval, as the seat had loaded it, in whole microseconds.
+    pub input: u64,
+}
+
 /// What a seat knows.
 pub struct View {
     /// Whether it is a seat of a book: not before the book is in the table, and not once it is
@@ -47,4 +58,14 @@ pub struct View {
     pub faults: u64,
     /// The leases that it may use.
     pub leases: LinkedList<Lease>,
+    /// What is settled, by the intervals' numbers: 61 places, or none in a note.
+    pub settled: LinkedList<Settled>,
+    /// The mark of each interval as it was last loaded, in as many places.
+    pub marks: LinkedList<u64>,
+    /// How often each mark was loaded.
+    pub loads: LinkedList<u64>,
+    /// The floor as it was last loaded.
+    pub floor: u64,
+    /// How often the floor was loaded.
+    pub floor_loads: u64,
 }

@@ -1,3 +1,3 @@
 //! The tests, a module for what each is about.
 mod mailbox_of_one;
-mod plans;
+mod plan_texts;

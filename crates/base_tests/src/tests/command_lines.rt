@@ -94,7 +94,7 @@ fn is_said(alloc: Global, line: &str, wanted: &str) -> Result<bool, Fail> {
 
 #[test]
 fn each_line_is_its_command(rt: HostRuntime) -> Result<(), Fail> {
-    for (line, wanted) in LINES {
+    for (line, wanted) in &LINES {
         assert!(rt; is_said(rt.alloc(), line, wanted)?, "{line}");
     }
     Ok(())

@@ -19,43 +19,52 @@ const ID: RecordId = RecordId {
     index: 2,
 };
 
-// Whether a copy is equal to what was copied.
-fn is_copied<T: Duplicate + PartialEq>(alloc: Global, value: &T) -> Result<bool, NoMemory> {
-    Ok(value.copy(alloc)? == *value)
+// Whether a copy is equal to what was copied. It is handed over, so that it is let go here alone.
+fn is_copied<T: Duplicate + PartialEq>(alloc: Global, value: T) -> Result<bool, NoMemory> {
+    Ok(value.copy(alloc)? == value)
 }
 
-// Of the byte ff.
-fn bytes_are_copied(alloc: Global) -> Result<bool, NoMemory> {
-    let mut bytes = Bytes::new(alloc);
-    bytes.push(255)?;
-    is_copied(alloc, &bytes)
+// The byte ff.
+fn bytes(alloc: Global) -> Result<Bytes, NoMemory> {
+    Ok(Bytes::from_vec(vec![in alloc; 255]?))
 }
 
-// Of a name, which has its text and length too.
-fn name_is_copied(alloc: Global) -> Result<bool, NoMemory> {
-    let name = Name::of(alloc, "t.json")?;
-    Ok(name.text() == "t.json" && name.len() == 6 && is_copied(alloc, &name)?)
+// Whether a name has its text and length.
+fn is_held(name: &Name, text: &str) -> bool {
+    name.text() == text && name.len() == text.len()
 }
 
-// Of a text of so many letters.
-fn letters_are_copied(alloc: Global, count: usize) -> Result<bool, NoMemory> {
+// The same of the name of a text.
+fn text_is_held(alloc: Global, text: &str) -> Result<bool, NoMemory> {
+    Ok(is_held(&Name::of(alloc, text)?, text))
+}
+
+// A text of so many letters.
+fn letters(alloc: Global, count: usize) -> Result<String, NoMemory> {
     let mut text = String::new(alloc);
     for _ in 0..count {
         text.push('k')?;
     }
-    text_is_copied(alloc, text.as_str())
+    Ok(text)
 }
 
-// Of a text.
+// Whether the name of a text is held, and a copy of it is equal.
 fn text_is_copied(alloc: Global, text: &str) -> Result<bool, NoMemory> {
-    let name = Name::of(alloc, text)?;
-    Ok(name.len() == text.len() && is_copied(alloc, &name)?)
+    Ok(text_is_held(alloc, text)? && is_copied(alloc, Name::of(alloc, text)?)?)
+}
+
+// The same of a text of so many letters, and of a name.
+fn letters_are_copied(alloc: Global, count: usize) -> Result<bool, NoMemory> {
+    let text = letters(alloc, count)?;
+    let is_copied = text_is_copied(alloc, text.as_str());
+    drop(text);
+    Ok(is_copied? && text_is_copied(alloc, "t.json")?)
 }
 
 #[test]
 fn short_and_long_texts_are_copied(rt: HostRuntime) -> Result<(), NoMemory> {
-    for count in [0, 1, 29, 30, 31, 256] {
-        assert!(rt; letters_are_copied(rt.alloc(), count)?, "{count}");
+    for count in &[0, 1, 29, 30, 31, 256] {
+        assert!(rt; letters_are_copied(rt.alloc(), *count)?, "{count}");
     }
     Ok(())
 }
@@ -64,10 +73,6 @@ fn short_and_long_texts_are_copied(rt: HostRuntime) -> Result<(), NoMemory> {
 fn row(alloc: Global) -> Result<RowName, NoMemory> {
     let key = key_of(alloc, "a")?;
     Ok(RowName { part: 1, key })
-}
-
-fn row_is_copied(alloc: Global) -> Result<bool, NoMemory> {
-    is_copied(alloc, &row(alloc)?)
 }
 
 // The record of a key.
@@ -80,97 +85,113 @@ fn record(alloc: Global) -> Result<Record, NoMemory> {
     })
 }
 
-fn record_is_copied(alloc: Global) -> Result<bool, NoMemory> {
-    is_copied(alloc, &record(alloc)?)
+// A delivery of it.
+fn delivery(alloc: Global) -> Result<Delivery, NoMemory> {
+    Ok(Delivery {
+        id: ID,
+        to: row(alloc)?,
+        item: record(alloc)?,
+    })
 }
 
-fn delivery_is_copied(alloc: Global) -> Result<bool, NoMemory> {
-    let to = row(alloc)?;
-    let item = record(alloc)?;
-    is_copied(alloc, &Delivery { id: ID, to, item })
+// An emission of it.
+fn emission(alloc: Global) -> Result<Emission, NoMemory> {
+    Ok(Emission {
+        id: ID,
+        part: 1,
+        item: record(alloc)?,
+    })
 }
 
-fn emission_is_copied(alloc: Global) -> Result<bool, NoMemory> {
-    let item = record(alloc)?;
-    is_copied(
-        alloc,
-        &Emission {
-            id: ID,
-            part: 1,
-            item,
-        },
-    )
-}
-
-fn ids_are_copied(alloc: Global) -> Result<bool, NoMemory> {
-    let mut ids = IdList::new(alloc);
-    ids.push(ID)?;
-    is_copied(alloc, &ids)
+// One id.
+fn ids(alloc: Global) -> Result<IdList, NoMemory> {
+    Ok(IdList::from_vec(vec![in alloc; ID]?))
 }
 
 // A count with one window.
 fn count(alloc: Global) -> Result<State, NoMemory> {
-    let mut windows = WindowList::new(alloc);
-    windows.push(Window { end: 60, count: 2 })?;
+    let windows = WindowList::of(alloc, vec![in alloc; Window { end: 60, count: 2 }]?)?;
     Ok(State::Count { late: 1, windows })
 }
 
 // One total that a spike holds.
 fn held(alloc: Global) -> Result<HeldList, NoMemory> {
-    let mut held = HeldList::new(alloc);
-    held.push(HeldTotal {
+    let total = HeldTotal {
         stamp: 60,
         value: -7,
-    })?;
-    Ok(held)
+    };
+    HeldList::of(alloc, vec![in alloc; total]?)
 }
 
 // One total that a spike knows.
 fn known(alloc: Global) -> Result<ValueList, NoMemory> {
-    let mut known = ValueList::new(alloc);
-    known.push(5)?;
-    Ok(known)
+    Ok(ValueList::from_vec(vec![in alloc; 5]?))
 }
 
 // A spike that holds one total and knows another.
 fn spike(alloc: Global) -> Result<State, NoMemory> {
-    let held = held(alloc)?;
-    let known = known(alloc)?;
     Ok(State::Spike {
         late: 1,
-        held,
-        known,
+        held: held(alloc)?,
+        known: known(alloc)?,
     })
 }
 
-fn count_is_copied(alloc: Global) -> Result<bool, NoMemory> {
-    is_copied(alloc, &count(alloc)?)
+// What is copied.
+#[derive(Clone, Copy)]
+enum What {
+    Bytes,
+    Row,
+    Record,
+    Delivery,
+    Emission,
+    Ids,
+    Injector,
+    Count,
+    Spike,
+    Pass,
 }
 
-fn spike_is_copied(alloc: Global) -> Result<bool, NoMemory> {
-    is_copied(alloc, &spike(alloc)?)
+// Whether a copy of one state is equal to it.
+fn state_is_copied(alloc: Global, what: What) -> Result<bool, NoMemory> {
+    match what {
+        What::Injector => is_copied(alloc, State::Injector { cursor: 3 }),
+        What::Count => is_copied(alloc, count(alloc)?),
+        What::Spike => is_copied(alloc, spike(alloc)?),
+        _ => is_copied(alloc, State::Pass { late: 2 }),
+    }
 }
+
+// Whether a copy of one thing is equal to it.
+fn thing_is_copied(alloc: Global, what: What) -> Result<bool, NoMemory> {
+    match what {
+        What::Bytes => is_copied(alloc, bytes(alloc)?),
+        What::Row => is_copied(alloc, row(alloc)?),
+        What::Record => is_copied(alloc, record(alloc)?),
+        What::Delivery => is_copied(alloc, delivery(alloc)?),
+        What::Emission => is_copied(alloc, emission(alloc)?),
+        What::Ids => is_copied(alloc, ids(alloc)?),
+        _ => state_is_copied(alloc, what),
+    }
+}
+
+const THINGS: [(&str, What); 10] = [
+    ("bytes", What::Bytes),
+    ("row", What::Row),
+    ("record", What::Record),
+    ("delivery", What::Delivery),
+    ("emission", What::Emission),
+    ("ids", What::Ids),
+    ("injector", What::Injector),
+    ("count", What::Count),
+    ("spike", What::Spike),
+    ("pass", What::Pass),
+];
 
 #[test]
 fn copies_are_equal(rt: HostRuntime) -> Result<(), NoMemory> {
-    let alloc = rt.alloc();
-    for (name, is_copied) in [
-        ("bytes", bytes_are_copied(alloc)?),
-        ("name", name_is_copied(alloc)?),
-        ("row", row_is_copied(alloc)?),
-        ("record", record_is_copied(alloc)?),
-        ("delivery", delivery_is_copied(alloc)?),
-        ("emission", emission_is_copied(alloc)?),
-        ("ids", ids_are_copied(alloc)?),
-        (
-            "injector",
-            is_copied(alloc, &State::Injector { cursor: 3 })?,
-        ),
-        ("count", count_is_copied(alloc)?),
-        ("spike", spike_is_copied(alloc)?),
-        ("pass", is_copied(alloc, &State::Pass { late: 2 })?),
-    ] {
-        assert!(rt; is_copied, "{name}");
+    for (name, what) in &THINGS {
+        assert!(rt; thing_is_copied(rt.alloc(), *what)?, "{name}");
     }
     Ok(())
 }
@@ -219,16 +240,6 @@ fn effects(alloc: Global) -> Result<Effects, NoMemory> {
     })
 }
 
-// A record was injected.
-fn inject(alloc: Global) -> Result<Entry, NoMemory> {
-    Ok(Entry::Inject {
-        seq: 3,
-        part: 0,
-        line: 4,
-        item: record(alloc)?,
-    })
-}
-
 // A record was handled.
 fn handle(alloc: Global) -> Result<Entry, NoMemory> {
     let row = row(alloc)?;
@@ -254,26 +265,6 @@ fn fire(alloc: Global) -> Result<Entry, NoMemory> {
     })
 }
 
-// A sender learnt that a record was handled.
-fn ack(alloc: Global) -> Result<Entry, NoMemory> {
-    let row = row(alloc)?;
-    Ok(Entry::Ack {
-        seq: 3,
-        row,
-        id: ID,
-    })
-}
-
-// A row forgot ids.
-fn purge(alloc: Global) -> Result<Entry, NoMemory> {
-    let row = row(alloc)?;
-    Ok(Entry::Purge {
-        seq: 3,
-        row,
-        floor: 5,
-    })
-}
-
 // The entry of this place in a list with one of each kind.
 fn entry(alloc: Global, at: u32) -> Result<Entry, NoMemory> {
     match at {
@@ -281,11 +272,24 @@ fn entry(alloc: Global, at: u32) -> Result<Entry, NoMemory> {
             worker: 1,
             interval: 2,
         }),
-        1 => inject(alloc),
+        1 => Ok(Entry::Inject {
+            seq: 3,
+            part: 0,
+            line: 4,
+            item: record(alloc)?,
+        }),
         2 => handle(alloc),
         3 => fire(alloc),
-        4 => ack(alloc),
-        _ => purge(alloc),
+        4 => Ok(Entry::Ack {
+            seq: 3,
+            row: row(alloc)?,
+            id: ID,
+        }),
+        _ => Ok(Entry::Purge {
+            seq: 3,
+            row: row(alloc)?,
+            floor: 5,
+        }),
     }
 }
 
@@ -368,7 +372,10 @@ fn are_entries(entries: &[Entry]) -> bool {
 fn entries_are_copied(alloc: Global) -> Result<bool, NoMemory> {
     let entries = entries(alloc)?;
     let copies = entries.copy(alloc)?;
-    Ok(are_entries(entries.as_slice()) && are_entries(copies.as_slice()))
+    let are = are_entries(entries.as_slice()) && are_entries(copies.as_slice());
+    drop(copies);
+    drop(entries);
+    Ok(are)
 }
 
 #[test]

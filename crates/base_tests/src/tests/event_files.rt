@@ -1,5 +1,5 @@
 //! What event files hold, by example.
-use super::key_of;
+use super::{key_of, refusal_of};
 use injector::{Item, Items, LineWhy, LinesRefusal, read_lines};
 use mw_types::{END, NoMemory};
 use std::alloc::Global;
@@ -52,13 +52,19 @@ fn holds(
     records: &[Told],
     marks: &[u64],
 ) -> Result<bool, LinesRefusal> {
-    Ok(are_told(&read(alloc, text)?, records, marks))
+    let items = read(alloc, text)?;
+    let are = are_told(&items, records, marks);
+    drop(items);
+    Ok(are)
 }
 
 // One file, the records that it has, and the watermarks before each and after the last.
 type File = (&'static str, &'static [u8], &'static [Told], &'static [u64]);
 
-const FILES: [File; 4] = [
+// One record that is spelt in many ways.
+const SPELT: [Told; 1] = [("é/a", 50, 1, false)];
+
+const FILES: [File; 8] = [
     ("an empty file has ended", b"", &[], &[END]),
     (
         "a record at the watermark is in time",
@@ -83,29 +89,36 @@ const FILES: [File; 4] = [
         ],
         &[4611686018427387904, 4611686018427387904, END],
     ),
+    (
+        "a record is spelt in bytes",
+        b"{\"key\":\"\xc3\xa9/a\",\"ts\":50}",
+        &SPELT,
+        &[0, END],
+    ),
+    (
+        "a record is spelt with escapes",
+        b"{\"key\":\"\\u00e9\\/a\",\"ts\":50}",
+        &SPELT,
+        &[0, END],
+    ),
+    (
+        "a record is spelt with blanks and a carriage return",
+        b" { \"ts\" : 50 , \"key\" : \"\xc3\xa9/a\" }\r",
+        &SPELT,
+        &[0, END],
+    ),
+    (
+        "a record is spelt with two keys and another member",
+        b"{\"key\":\"b\",\"key\":\"\xc3\xa9/a\",\"ts\":50,\"more\":[{}]}",
+        &SPELT,
+        &[0, END],
+    ),
 ];
 
 #[test]
 fn files_hold_their_records_and_watermarks(rt: HostRuntime) -> Result<(), LinesRefusal> {
-    for (name, text, records, marks) in FILES {
+    for (name, text, records, marks) in &FILES {
         assert!(rt; holds(rt.alloc(), text, records, marks)?, "{name}");
-    }
-    Ok(())
-}
-
-// Spellings of one record.
-const SPELLINGS: [&[u8]; 4] = [
-    b"{\"key\":\"\xc3\xa9/a\",\"ts\":50}",
-    b"{\"key\":\"\\u00e9\\/a\",\"ts\":50}",
-    b" { \"ts\" : 50 , \"key\" : \"\xc3\xa9/a\" }\r",
-    b"{\"key\":\"b\",\"key\":\"\xc3\xa9/a\",\"ts\":50,\"more\":[{}]}",
-];
-
-#[test]
-fn a_record_may_be_spelt_in_many_ways(rt: HostRuntime) -> Result<(), LinesRefusal> {
-    let told = [("é/a", 50, 1, false)];
-    for (at, text) in SPELLINGS.iter().enumerate() {
-        assert!(rt; holds(rt.alloc(), text, &told, &[0, END])?, "{at}");
     }
     Ok(())
 }
@@ -121,7 +134,9 @@ fn holds_pushed(alloc: Global) -> Result<bool, NoMemory> {
         late: false,
     };
     items.push(item, 0)?;
-    Ok(are_told(&items, &[("a", 5, 1, false)], &[0, END]))
+    let are = are_told(&items, &[("a", 5, 1, false)], &[0, END]);
+    drop(items);
+    Ok(are)
 }
 
 #[test]
@@ -132,73 +147,69 @@ fn lines_that_are_pushed_are_held(rt: HostRuntime) -> Result<(), NoMemory> {
 
 // Whether a text is refused at this line, by this rule.
 fn is_refused(alloc: Global, text: &[u8], line: u32, why: LineWhy) -> bool {
-    match read(alloc, text) {
-        Err(refusal) => refusal == LinesRefusal::Line { line, why },
-        Ok(_) => false,
-    }
+    refusal_of(read(alloc, text)) == Some(LinesRefusal::Line { line, why })
 }
 
-// Lines that each break a rule, and the first rule that each breaks.
-const BROKEN: [(&[u8], LineWhy); 18] = [
-    (b"{\"key\":\"\xff\",\"ts\":1}", LineWhy::NotJson),
-    (b"\r\r\n", LineWhy::NotJson),
-    (b"{\"key\":\"a\",\"ts\":05}", LineWhy::NotJson),
-    (b"{\"key\":\"a\\\",\"ts\":5}", LineWhy::NotJson),
-    (b"[1]", LineWhy::NotObject),
-    (b"{\"ts\":1}", LineWhy::BadKey),
-    (b"{\"key\":7,\"ts\":-1}", LineWhy::BadKey),
-    (b"{\"key\":\"\",\"ts\":1}", LineWhy::BadKey),
-    (b"{\"key\":\"a\",\"value\":null}", LineWhy::BadStamp),
+// Lines of which one breaks a rule, the number of that line, and the first rule that it breaks.
+const BROKEN: [(&[u8], u32, LineWhy); 20] = [
+    (b"{\"key\":\"\xff\",\"ts\":1}", 1, LineWhy::NotJson),
+    (b"\r\r\n", 1, LineWhy::NotJson),
+    (b"{\"key\":\"a\",\"ts\":05}", 1, LineWhy::NotJson),
+    (b"{\"key\":\"a\\\",\"ts\":5}", 1, LineWhy::NotJson),
+    (b"[1]", 1, LineWhy::NotObject),
+    (b"{\"ts\":1}", 1, LineWhy::BadKey),
+    (b"{\"key\":7,\"ts\":-1}", 1, LineWhy::BadKey),
+    (b"{\"key\":\"\",\"ts\":1}", 1, LineWhy::BadKey),
+    (b"{\"key\":\"a\",\"value\":null}", 1, LineWhy::BadStamp),
     (
         b"{\"key\":\"a\",\"ts\":4611686018427387905}",
+        1,
         LineWhy::BadStamp,
     ),
-    (b"{\"key\":\"a\",\"ts\":-0}", LineWhy::BadStamp),
-    (b"{\"watermark\":4611686018427387905}", LineWhy::BadStamp),
-    (b"{\"watermark\":null,\"key\":7}", LineWhy::BadStamp),
+    (b"{\"key\":\"a\",\"ts\":-0}", 1, LineWhy::BadStamp),
+    (b"{\"watermark\":4611686018427387905}", 1, LineWhy::BadStamp),
+    (b"{\"watermark\":null,\"key\":7}", 1, LineWhy::BadStamp),
     (
         b"{\"key\":\"a\",\"ts\":1,\"value\":null}",
+        1,
         LineWhy::BadValue,
     ),
-    (b"{\"key\":\"a\",\"ts\":1,\"value\":1.0}", LineWhy::BadValue),
-    (b"{\"key\":\"a\",\"ts\":1,\"value\":-0}", LineWhy::BadValue),
+    (
+        b"{\"key\":\"a\",\"ts\":1,\"value\":1.0}",
+        1,
+        LineWhy::BadValue,
+    ),
+    (
+        b"{\"key\":\"a\",\"ts\":1,\"value\":-0}",
+        1,
+        LineWhy::BadValue,
+    ),
     (
         b"{\"key\":\"a\",\"ts\":1,\"value\":9223372036854775808}",
+        1,
         LineWhy::BadValue,
     ),
     (
         b"{\"key\":\"a\",\"ts\":1,\"value\":-9223372036854775809}",
+        1,
         LineWhy::BadValue,
     ),
-];
-
-#[test]
-fn the_first_rule_that_a_line_breaks_is_named(rt: HostRuntime) {
-    for (at, (text, why)) in BROKEN.iter().enumerate() {
-        assert!(rt; is_refused(rt.alloc(), text, 1, *why), "{at}");
-    }
-}
-
-// A line that is cut off, and one more than there is room for.
-const LATER: [(&str, u32, &[u8], LineWhy); 2] = [
     (
-        "a cut line",
-        2,
         b"{\"key\":\"a\",\"ts\":1}\n{\"key\":\"a\",\"ts\"",
+        2,
         LineWhy::NotJson,
     ),
     (
-        "the line after the room",
-        4,
         b"{\"key\":\"a\",\"ts\":1}\n{\"key\":\"a\",\"ts\":2}\n{\"watermark\":1}\n{\"key\":\"a\",\"ts\":3}",
+        4,
         LineWhy::TooManyLines,
     ),
 ];
 
 #[test]
-fn a_line_after_good_ones_is_refused_by_its_number(rt: HostRuntime) {
-    for (name, line, text, why) in LATER {
-        assert!(rt; is_refused(rt.alloc(), text, line, why), "{name}");
+fn the_first_rule_that_a_line_breaks_is_named(rt: HostRuntime) {
+    for (at, (text, line, why)) in BROKEN.iter().enumerate() {
+        assert!(rt; is_refused(rt.alloc(), text, *line, *why), "{at}");
     }
 }
 
@@ -215,7 +226,9 @@ fn long_key(alloc: Global, count: u32) -> Result<String, NoMemory> {
 // Why it is refused, if it is.
 fn long_key_refusal(alloc: Global, count: u32) -> Result<Option<LinesRefusal>, NoMemory> {
     let text = long_key(alloc, count)?;
-    Ok(read(alloc, text.as_bytes()).err())
+    let refusal = refusal_of(read(alloc, text.as_bytes()));
+    drop(text);
+    Ok(refusal)
 }
 
 #[test]

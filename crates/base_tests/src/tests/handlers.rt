@@ -78,8 +78,13 @@ fn of_record<C: Computation>(
     ensures within { IfOk result (λ e. IsWithin e.state) }
 {
     let mut context = Context::for_record(alloc, key, state, item)?;
-    work.on_record(alloc, part, &mut context, item)?;
-    Ok(context.into_effects())
+    match work.on_record(alloc, part, &mut context, item) {
+        Ok(()) => Ok(context.into_effects()),
+        Err(want) => {
+            drop(context);
+            Err(want)
+        }
+    }
 }
 
 // What a computation leaves of a timer.
@@ -98,8 +103,13 @@ fn of_timer<C: Computation>(
     ensures within { IfOk result (λ e. IsWithin e.state) }
 {
     let mut context = Context::for_timer(alloc, key, state, timer)?;
-    work.on_timer(alloc, part, &mut context, timer)?;
-    Ok(context.into_effects())
+    match work.on_timer(alloc, part, &mut context, timer) {
+        Ok(()) => Ok(context.into_effects()),
+        Err(want) => {
+            drop(context);
+            Err(want)
+        }
+    }
 }
 
 // What is handed to a part: a record of this timestamp and value, or the timer of this time.
@@ -264,13 +274,17 @@ fn left(alloc: Global) -> Result<Effects, NoMemory> {
 fn leaves_both(alloc: Global) -> Result<bool, NoMemory> {
     let effects = left(alloc)?;
     let is_pass = matches!(&effects.state, State::Pass { late: 2 });
-    Ok(is_pass && effects.timers.len() == 1 && effects.productions.len() == 1)
+    let holds = is_pass && effects.timers.len() == 1 && effects.productions.len() == 1;
+    drop(effects);
+    Ok(holds)
 }
 
 // Whether a context shows this key and state.
 fn shows(alloc: Global, key: &Key, state: &State) -> Result<bool, NoMemory> {
     let context = Context::for_record(alloc, key, state, &record_at_10(alloc))?;
-    Ok(*context.key() == *key && *context.state() == *state)
+    let holds = *context.key() == *key && *context.state() == *state;
+    drop(context);
+    Ok(holds)
 }
 
 // Whether a context shows no key, and the state of a pass.
@@ -278,13 +292,13 @@ fn shows_the_row(alloc: Global) -> Result<bool, NoMemory> {
     shows(alloc, &Key::none(alloc), &State::Pass { late: 2 })
 }
 
+// Whether both hold.
+fn shows_and_leaves(alloc: Global) -> Result<bool, NoMemory> {
+    Ok(shows_the_row(alloc)? && leaves_both(alloc)?)
+}
+
 #[test]
 fn a_context_shows_the_row_and_takes_what_a_handler_does(rt: HostRuntime) -> Result<(), NoMemory> {
-    for (name, holds) in [
-        ("a context shows the row", shows_the_row(rt.alloc())?),
-        ("a handler sets and produces", leaves_both(rt.alloc())?),
-    ] {
-        assert!(rt; holds, "{name}");
-    }
+    assert!(rt; shows_and_leaves(rt.alloc())?);
     Ok(())
 }

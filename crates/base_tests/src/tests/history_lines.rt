@@ -6,10 +6,10 @@ ghost use Rattle.mw_types.specs.declared.record.Production.{Production};
 ghost use Rattle.mw_types.specs.Bounds.{IsWithin};
 ghost use Rattle.run_history.specs.HistoryLines.{HasLine};
 
-use super::key_of;
+use super::{are, key_of};
 use mw_types::{
-    Bytes, Duplicate, Effects, Entry, Key, NoMemory, Production, ProductionList, Record, RecordId,
-    RowName, Seq, State, Timer,
+    Bytes, Effects, Entry, Key, NoMemory, Production, ProductionList, Record, RecordId, RowName,
+    Seq, State, Timer,
 };
 use row_parts::read_state;
 use run_history::{History, entry_line, history_lines};
@@ -87,26 +87,23 @@ fn sets(alloc: Global, bytes: &[u8], time: u32) -> Result<Effects, NoMemory> {
 }
 
 // A handler closed the last window, and produced its count of one.
-fn closes(alloc: Global, row: &RowName, time: u32) -> Result<Effects, NoMemory> {
-    let state = state_spelt(alloc, NONE)?;
-    let productions = one_of(alloc, row, time)?;
+fn closes(alloc: Global, time: u32) -> Result<Effects, NoMemory> {
+    let productions = one_of(alloc, time)?;
     Ok(Effects {
-        state,
+        state: state_spelt(alloc, NONE)?,
         timers: Seq::new(alloc),
         productions,
     })
 }
 
-// The count of one that a row produces.
-fn one_of(alloc: Global, row: &RowName, time: u32) -> Result<ProductionList, NoMemory>
+// The count of one that the row produces.
+fn one_of(alloc: Global, time: u32) -> Result<ProductionList, NoMemory>
     ensures { IfOk result (All (λ (p : Production). p.stamp ≤ MAX_STAMP)) }
 {
     let mut productions = Seq::new(alloc);
-    let key = row.key.copy(alloc)?;
-    let stamp = time as u64;
     productions.push(Production {
-        key,
-        stamp,
+        key: key_of(alloc, "a")?,
+        stamp: time as u64,
         value: 1,
     })?;
     Ok(productions)
@@ -162,11 +159,10 @@ fn acknowledged(alloc: Global, commit: u32) -> Result<Entry, NoMemory>
 fn fired(alloc: Global, time: u32) -> Result<Entry, NoMemory>
     ensures { IfOk result HasLine }
 {
-    let row = count_row(alloc)?;
-    let effects = closes(alloc, &row, time)?;
+    let effects = closes(alloc, time)?;
     Ok(Entry::Fire {
         seq: 1,
-        row,
+        row: count_row(alloc)?,
         timer: timer_at(time),
         mark: u64::from(time),
         effects,
@@ -212,7 +208,9 @@ fn entry(alloc: Global, n: usize) -> Result<Entry, NoMemory>
 // Whether the entry of this commit number is printed so.
 fn is_printed(alloc: Global, n: usize, line: &[u8]) -> Result<bool, NoMemory> {
     let entry = entry(alloc, n)?;
-    Ok(entry_line(alloc, &entry, n as u64)?.as_slice() == line)
+    let printed = entry_line(alloc, &entry, n as u64);
+    drop(entry);
+    Ok(are(printed?, line))
 }
 
 #[test]
@@ -237,7 +235,9 @@ fn example(alloc: Global) -> Result<History, NoMemory>
 // What is printed of it.
 fn example_printed(alloc: Global) -> Result<Bytes, NoMemory> {
     let history = example(alloc)?;
-    history_lines(alloc, &history)
+    let printed = history_lines(alloc, &history);
+    drop(history);
+    printed
 }
 
 // Whether bytes are all lines, one after another.
@@ -254,22 +254,27 @@ fn are_lines(bytes: &[u8]) -> bool {
 
 // Whether the history is printed as its lines.
 fn example_is_printed(alloc: Global) -> Result<bool, NoMemory> {
-    Ok(are_lines(example_printed(alloc)?.as_slice()))
+    let printed = example_printed(alloc)?;
+    let are = are_lines(printed.as_slice());
+    drop(printed);
+    Ok(are)
 }
 
 // Whether of a history of nothing no line is printed.
 fn nothing_is_printed(alloc: Global) -> Result<bool, NoMemory> {
     let history = History::new(alloc);
-    Ok(history_lines(alloc, &history)?.is_empty())
+    let printed = history_lines(alloc, &history);
+    drop(history);
+    Ok(are(printed?, b""))
+}
+
+// Whether both are.
+fn both_are_printed(alloc: Global) -> Result<bool, NoMemory> {
+    Ok(example_is_printed(alloc)? && nothing_is_printed(alloc)?)
 }
 
 #[test]
 fn a_history_is_printed_line_by_line(rt: HostRuntime) -> Result<(), NoMemory> {
-    for (name, is_printed) in [
-        ("the example", example_is_printed(rt.alloc())?),
-        ("nothing", nothing_is_printed(rt.alloc())?),
-    ] {
-        assert!(rt; is_printed, "{name}");
-    }
+    assert!(rt; both_are_printed(rt.alloc())?);
     Ok(())
 }

@@ -55,7 +55,10 @@ fn finds(
     requires { Any (λ (b : Bounds). b.part ≡ part) intervals.now }
 {
     let key = key_of(alloc, text)?;
-    Ok(intervals.find(&RowName { part, key }) == number)
+    let name = RowName { part, key };
+    let found = intervals.find(&name);
+    drop(name);
+    Ok(found == number)
 }
 
 // Keys of the part that is cut, and the interval of each.
@@ -69,11 +72,18 @@ const CUT: [(&str, u32); 7] = [
     ("z", 3),
 ];
 
+// Whether a row of the part that is cut is in this interval.
+fn is_found(alloc: Global, text: &str, number: u32) -> Result<bool, KeyRefusal> {
+    let intervals = three_intervals(alloc)?;
+    let is_found = finds(alloc, &intervals, 1, text, number);
+    drop(intervals);
+    Ok(is_found?)
+}
+
 #[test]
 fn a_cut_begins_an_interval(rt: HostRuntime) -> Result<(), KeyRefusal> {
-    let intervals = three_intervals(rt.alloc())?;
-    for (text, number) in CUT {
-        assert!(rt; finds(rt.alloc(), &intervals, 1, text, number)?, "{text}");
+    for (text, number) in &CUT {
+        assert!(rt; is_found(rt.alloc(), text, *number)?, "{text}");
     }
     Ok(())
 }
@@ -114,17 +124,19 @@ fn is_middle(alloc: Global, bounds: &Bounds) -> Result<bool, NoMemory> {
 // Whether the interval in the middle has these bounds.
 fn has_middle(alloc: Global) -> Result<bool, KeyRefusal> {
     let intervals = three_intervals(alloc)?;
-    Ok(is_middle(alloc, intervals.bounds(2))?)
+    let holds = is_middle(alloc, intervals.bounds(2));
+    drop(intervals);
+    Ok(holds?)
+}
+
+// Whether there are five, and the one in the middle has those bounds.
+fn has_five_and_a_middle(alloc: Global) -> Result<bool, KeyRefusal> {
+    Ok(are_five(alloc)? && has_middle(alloc)?)
 }
 
 #[test]
 fn parts_beside_a_cut_part_have_one_interval(rt: HostRuntime) -> Result<(), KeyRefusal> {
-    for (name, holds) in [
-        ("five intervals", are_five(rt.alloc())?),
-        ("the middle one", has_middle(rt.alloc())?),
-    ] {
-        assert!(rt; holds, "{name}");
-    }
+    assert!(rt; has_five_and_a_middle(rt.alloc())?);
     Ok(())
 }
 
@@ -172,17 +184,25 @@ fn last_is_whole(alloc: Global) -> Result<bool, NoMemory> {
         part: 60,
         key: Key::none(alloc),
     };
-    Ok(intervals.find(&last) == 60 && is_whole(intervals.bounds(60), 60))
+    let holds = intervals.find(&last) == 60 && is_whole(intervals.bounds(60), 60);
+    drop(last);
+    drop(intervals);
+    Ok(holds)
+}
+
+// Whether one of these holds of parts without cuts.
+fn whole_holds(alloc: Global, at: u32) -> Result<bool, NoMemory> {
+    match at {
+        0 => Ok(count_of(alloc, 1)? == 1),
+        1 => Ok(count_of(alloc, 61)? == 61),
+        _ => last_is_whole(alloc),
+    }
 }
 
 #[test]
 fn a_part_without_cuts_has_one_interval(rt: HostRuntime) -> Result<(), NoMemory> {
-    for (name, holds) in [
-        ("of one", count_of(rt.alloc(), 1)? == 1),
-        ("of 61", count_of(rt.alloc(), 61)? == 61),
-        ("the last", last_is_whole(rt.alloc())?),
-    ] {
-        assert!(rt; holds, "{name}");
+    for (at, name) in &[(0, "of one"), (1, "of 61"), (2, "the last")] {
+        assert!(rt; whole_holds(rt.alloc(), *at)?, "{name}");
     }
     Ok(())
 }

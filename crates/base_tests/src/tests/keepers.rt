@@ -1,4 +1,5 @@
 //! Keepers, called as such and through their bound.
+use super::are;
 use key_intervals::Bounds;
 use mw_types::{Bytes, CallList, Key, KeyRefusal, NoMemory, RowName};
 use row_keeper::{BlindKeeper, Keeper, KeeperFault, KeptRow, KeptRowList, MemKeeper};
@@ -15,13 +16,11 @@ fn key(alloc: Global, text: &str) -> Result<Key, NoMemory> {
 
 // A row of one byte.
 fn row(alloc: Global, part: u32, text: &str, byte: u8) -> Result<KeptRow, NoMemory> {
-    let mut bytes = Bytes::new(alloc);
-    bytes.push(byte)?;
-    let name = RowName {
-        part,
-        key: key(alloc, text)?,
-    };
-    Ok(KeptRow { name, bytes })
+    let key = key(alloc, text)?;
+    Ok(KeptRow {
+        name: RowName { part, key },
+        bytes: Bytes::from_vec(vec![in alloc; byte]?),
+    })
 }
 
 // Puts a row of one byte into a keeper.
@@ -33,7 +32,9 @@ fn put<K: Keeper>(
     byte: u8,
 ) -> Result<(), KeeperFault> {
     let row = row(alloc, part, text, byte)?;
-    keeper.put(alloc, &row.name, row.bytes.as_slice())
+    let done = keeper.put(alloc, &row.name, row.bytes.as_slice());
+    drop(row);
+    done
 }
 
 // The part, the key and the byte of seven rows, the last in the place of an earlier one.
@@ -56,14 +57,22 @@ fn fill<K: Keeper>(alloc: Global, keeper: &mut K) -> Result<(), KeeperFault> {
 }
 
 // The bytes of rows, one after another.
-fn bytes_of(alloc: Global, rows: &KeptRowList) -> Result<Bytes, KeeperFault> {
+fn bytes_of(alloc: Global, rows: KeptRowList) -> Result<Bytes, KeeperFault> {
     let mut all = Bytes::new(alloc);
-    for row in rows.as_slice() {
+    let pushed = push_bytes(&mut all, rows.as_slice());
+    drop(rows);
+    pushed?;
+    Ok(all)
+}
+
+// Appends the bytes of rows.
+fn push_bytes(all: &mut Bytes, rows: &[KeptRow]) -> Result<(), NoMemory> {
+    for row in rows {
         for byte in row.bytes.as_slice() {
             all.push(*byte)?;
         }
     }
-    Ok(all)
+    Ok(())
 }
 
 // The keys of part 1 from h to q.
@@ -76,27 +85,30 @@ fn middle(alloc: Global) -> Result<Bounds, NoMemory> {
 // The bytes of the rows of part 1 from h to q.
 fn scan<K: Keeper>(alloc: Global, keeper: &mut K) -> Result<Bytes, KeeperFault> {
     let bounds = middle(alloc)?;
-    let found = keeper.scan(alloc, &bounds)?;
-    bytes_of(alloc, &found)
+    let found = keeper.scan(alloc, &bounds);
+    drop(bounds);
+    bytes_of(alloc, found?)
 }
 
 // Whether these are the bytes of those rows.
 fn scans<K: Keeper>(alloc: Global, keeper: &mut K, bytes: &[u8]) -> Result<bool, KeeperFault> {
-    Ok(scan(alloc, keeper)?.as_slice() == bytes)
+    Ok(are(scan(alloc, keeper)?, bytes))
 }
 
 // The byte of the first row, or 0 where there is none.
 fn first<K: Keeper>(alloc: Global, keeper: &mut K) -> Result<u8, KeeperFault> {
-    match keeper.first(alloc)? {
-        Some(row) => Ok(row.bytes.get(0).copied().unwrap_or(0)),
-        None => Ok(0),
-    }
+    let row = keeper.first(alloc)?;
+    let byte = match &row {
+        Some(row) => row.bytes.get(0).copied().unwrap_or(0),
+        None => 0,
+    };
+    drop(row);
+    Ok(byte)
 }
 
 // Whether these are the bytes of all rows of a keeper in memory.
 fn has_all(alloc: Global, keeper: &MemKeeper, bytes: &[u8]) -> Result<bool, KeeperFault> {
-    let rows = keeper.rows(alloc)?;
-    Ok(bytes_of(alloc, &rows)?.as_slice() == bytes)
+    Ok(are(bytes_of(alloc, keeper.rows(alloc)?)?, bytes))
 }
 
 // Whether an interval has its rows in order once they are put.
@@ -156,16 +168,25 @@ fn takes_its_row(alloc: Global) -> Result<bool, KeeperFault> {
     Ok(put(alloc, &mut keeper, 1, "a", 255) == Ok(()))
 }
 
+// Whether one of these holds.
+fn holds(alloc: Global, at: u32) -> Result<bool, KeeperFault> {
+    match at {
+        0 => is_in_order(alloc),
+        1 => fails_as_named(alloc),
+        2 => is_blind(alloc),
+        _ => takes_its_row(alloc),
+    }
+}
+
 #[test]
 fn keepers_show_their_rows_and_fail_as_told(rt: HostRuntime) -> Result<(), KeeperFault> {
-    let alloc = rt.alloc();
-    for (name, holds) in [
-        ("an interval has its rows in order", is_in_order(alloc)?),
-        ("each named call fails", fails_as_named(alloc)?),
-        ("a blind keeper shows its row", is_blind(alloc)?),
-        ("a blind keeper takes its row", takes_its_row(alloc)?),
+    for (at, name) in &[
+        (0, "an interval has its rows in order"),
+        (1, "each named call fails"),
+        (2, "a blind keeper shows its row"),
+        (3, "a blind keeper takes its row"),
     ] {
-        assert!(rt; holds, "{name}");
+        assert!(rt; holds(rt.alloc(), *at)?, "{name}");
     }
     Ok(())
 }

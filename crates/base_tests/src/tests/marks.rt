@@ -2,6 +2,7 @@
 ghost use Rattle.std.specs.Prelude.{Contains, IfOk, OnOk, length, ◌≡◌};
 ghost use Rattle.topology.specs.Shapes.{injectors_of};
 
+use super::are;
 use injector::{Items, ItemsList};
 use mw_types::{END, NoMemory, NumberList};
 use run_history::Case;
@@ -52,18 +53,28 @@ fn least_after(alloc: Global, stamps: &[u64]) -> Result<u64, NoMemory> {
     for stamp in stamps {
         add_and_remove(&mut oldest, *stamp)?;
     }
-    Ok(oldest.least())
+    let least = oldest.least();
+    drop(oldest);
+    Ok(least)
+}
+
+// Whether one of these holds.
+fn holds(alloc: Global, at: u32) -> Result<bool, NoMemory> {
+    match at {
+        0 => are_removed(alloc, &[3, 3, 5, END]),
+        1 => Ok(least_after(alloc, &[4])? == 3),
+        _ => Ok(least_after(alloc, &[4, 2])? == 3),
+    }
 }
 
 #[test]
 fn the_least_stamp_is_held_as_often_as_it_was_added(rt: HostRuntime) -> Result<(), NoMemory> {
-    let alloc = rt.alloc();
-    for (name, holds) in [
-        ("as often", are_removed(alloc, &[3, 3, 5, END])?),
-        ("after a later one", least_after(alloc, &[4])? == 3),
-        ("after an earlier one", least_after(alloc, &[4, 2])? == 3),
+    for (at, name) in &[
+        (0, "as often"),
+        (1, "after a later one"),
+        (2, "after an earlier one"),
     ] {
-        assert!(rt; holds, "{name}");
+        assert!(rt; holds(rt.alloc(), *at)?, "{name}");
     }
     Ok(())
 }
@@ -126,12 +137,14 @@ fn least_input(case: &Case, interval: u32, marks: &[u64]) -> Option<u64> {
 // Whether these feed an interval of a topology.
 fn is_fed(alloc: Global, text: &str, interval: u32, feeds: &[u32]) -> Result<bool, Fail> {
     let case = case_of(alloc, text)?;
-    Ok(fed(alloc, &case, interval)?.as_slice() == feeds)
+    let fed = fed(alloc, &case, interval);
+    drop(case);
+    Ok(are(fed?, feeds))
 }
 
 #[test]
 fn an_interval_is_fed_by_what_its_part_reads(rt: HostRuntime) -> Result<(), Fail> {
-    for (name, text, interval, feeds) in [
+    for (name, text, interval, feeds) in &[
         ("nothing feeds an injector", CUT, 0, [].as_slice()),
         ("the injector feeds a part", CUT, 1, [0].as_slice()),
         ("the injector feeds the next part", CUT, 2, [0].as_slice()),
@@ -139,46 +152,46 @@ fn an_interval_is_fed_by_what_its_part_reads(rt: HostRuntime) -> Result<(), Fail
         ("the injector feeds the count", CHAIN, 1, [0].as_slice()),
         ("the count feeds the spike", CHAIN, 2, [1].as_slice()),
     ] {
-        assert!(rt; is_fed(rt.alloc(), text, interval, feeds)?, "{name}");
+        assert!(rt; is_fed(rt.alloc(), text, *interval, feeds)?, "{name}");
     }
     Ok(())
 }
 
-// The least mark of a part of the count that is cut.
-fn least_of(alloc: Global, part: u32, marks: &[u64]) -> Result<Option<u64>, Fail> {
+// The least mark of a part of the count that is cut, or of what feeds one of its intervals.
+fn least_of(alloc: Global, of: Of, marks: &[u64]) -> Result<Option<u64>, Fail> {
     let case = case_of(alloc, CUT)?;
-    Ok(least_mark(&case, part, marks))
+    let least = match of {
+        Of::Part(part) => least_mark(&case, part, marks),
+        Of::Feeds(interval) => least_input(&case, interval, marks),
+    };
+    drop(case);
+    Ok(least)
 }
+
+// Of what the least mark is asked.
+#[derive(Clone, Copy)]
+enum Of {
+    // Of a part.
+    Part(u32),
+    // Of what feeds an interval.
+    Feeds(u32),
+}
+
+// The slowest interval holds its part, and the injector each interval of its count.
+const LEAST: [(Of, [u64; 4], u64); 7] = [
+    (Of::Part(0), [9, 4, 7, 6], 9),
+    (Of::Part(1), [9, 4, 7, 6], 4),
+    (Of::Part(1), [0, END, END, END], END),
+    (Of::Feeds(0), [9, 4, 7, 6], END),
+    (Of::Feeds(1), [9, 4, 7, 6], 9),
+    (Of::Feeds(2), [9, 4, 7, 6], 9),
+    (Of::Feeds(3), [9, 4, 7, 6], 9),
+];
 
 #[test]
-fn the_slowest_interval_holds_its_part(rt: HostRuntime) -> Result<(), Fail> {
-    for (part, marks, least) in [
-        (0, [9, 4, 7, 6], 9),
-        (1, [9, 4, 7, 6], 4),
-        (1, [0, END, END, END], END),
-    ] {
-        assert!(rt;
-            least_of(rt.alloc(), part, &marks)? == Some(least),
-            "{part}"
-        );
-    }
-    Ok(())
-}
-
-// The least mark of what feeds an interval of the count that is cut.
-fn least_before(alloc: Global, interval: u32, marks: &[u64]) -> Result<Option<u64>, Fail> {
-    let case = case_of(alloc, CUT)?;
-    Ok(least_input(&case, interval, marks))
-}
-
-#[test]
-fn the_injector_holds_each_interval_of_its_count(rt: HostRuntime) -> Result<(), Fail> {
-    let marks = [9, 4, 7, 6];
-    for (interval, least) in [(0, END), (1, 9), (2, 9), (3, 9)] {
-        assert!(rt;
-            least_before(rt.alloc(), interval, &marks)? == Some(least),
-            "{interval}"
-        );
+fn the_slowest_interval_holds_its_part_and_what_it_feeds(rt: HostRuntime) -> Result<(), Fail> {
+    for (at, (of, marks, least)) in LEAST.iter().enumerate() {
+        assert!(rt; least_of(rt.alloc(), *of, marks)? == Some(*least), "{at}");
     }
     Ok(())
 }

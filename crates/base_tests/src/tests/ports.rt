@@ -1,5 +1,6 @@
 //! Shelves and sinks in memory fail as told; the real ones reach files and standard output; the words of a
 //! call are read.
+use super::{are, refusal_of};
 use mw_ports::{
     FileList, FileShelf, MemShelf, MemSink, NamedFile, OutSink, Shelf, ShelfFault, Sink, SinkFault,
     WordsFault, words_of, write_all,
@@ -12,25 +13,28 @@ use std::test::Fail;
 
 // These bytes.
 fn bytes_of(alloc: Global, content: &str) -> Result<Bytes, NoMemory> {
-    let mut bytes = Bytes::new(alloc);
-    for byte in content.as_bytes() {
-        bytes.push(*byte)?;
-    }
-    Ok(bytes)
+    Ok(Bytes::from_vec(content.as_bytes().to_vec(alloc)?))
 }
 
 // A file of this name and content.
 fn file(alloc: Global, name: &str, content: &str) -> Result<NamedFile, NoMemory> {
-    let bytes = bytes_of(alloc, content)?;
-    let name = Name::of(alloc, name)?;
-    Ok(NamedFile { name, bytes })
+    Ok(NamedFile {
+        name: Name::of(alloc, name)?,
+        bytes: bytes_of(alloc, content)?,
+    })
 }
 
 // The call of this number alone.
 fn call(alloc: Global, number: u64) -> Result<CallList, NoMemory> {
-    let mut calls = CallList::new(alloc);
-    calls.push(number)?;
-    Ok(calls)
+    Ok(CallList::from_vec(vec![in alloc; number]?))
+}
+
+// Whether this was read.
+fn is_content(read: Result<Bytes, ShelfFault>, content: &[u8]) -> bool {
+    match read {
+        Ok(bytes) => are(bytes, content),
+        Err(_) => false,
+    }
 }
 
 // Whether a shelf gives this content, or has this fault, read through its trait.
@@ -41,10 +45,9 @@ fn answers<S: Shelf>(
     limit: u64,
     wanted: Result<&[u8], ShelfFault>,
 ) -> bool {
-    match (shelf.read(alloc, name, limit), wanted) {
-        (Ok(bytes), Ok(content)) => bytes.as_slice() == content,
-        (Err(fault), Err(wanted)) => fault == wanted,
-        _ => false,
+    match wanted {
+        Ok(content) => is_content(shelf.read(alloc, name, limit), content),
+        Err(fault) => refusal_of(shelf.read(alloc, name, limit)) == Some(fault),
     }
 }
 
@@ -109,17 +112,14 @@ fn takes_nothing_once(alloc: Global) -> Result<bool, NoMemory> {
     )
 }
 
+// Whether both do.
+fn fails_or_takes_nothing(alloc: Global) -> Result<bool, NoMemory> {
+    Ok(fails_once(alloc)? && takes_nothing_once(alloc)?)
+}
+
 #[test]
 fn a_sink_of_eight_bytes_fails_at_its_second_call(rt: HostRuntime) -> Result<(), NoMemory> {
-    for (name, fails) in [
-        ("a failure", fails_once(rt.alloc())?),
-        (
-            "a write that takes nothing",
-            takes_nothing_once(rt.alloc())?,
-        ),
-    ] {
-        assert!(rt; fails, "{name}");
-    }
+    assert!(rt; fails_or_takes_nothing(rt.alloc())?);
     Ok(())
 }
 
@@ -217,7 +217,9 @@ fn are_words(words: &Seq<Name>, texts: &[&str]) -> bool {
 // Whether the words that are read are those after the first.
 fn leaves_its_own_name(alloc: Global) -> Result<bool, WordsFault> {
     let words = words_of(alloc, Ok(args(alloc)?.into_iter()))?;
-    Ok(are_words(&words, &["solo", ""]))
+    let are = are_words(&words, &["solo", ""]);
+    drop(words);
+    Ok(are)
 }
 
 // Whether of no words none are read.
@@ -225,28 +227,28 @@ fn leaves_nothing(alloc: Global) -> Result<bool, WordsFault> {
     Ok(words_of(alloc, Ok(Vec::new(alloc).into_iter()))?.is_empty())
 }
 
+// Whether both hold.
+fn leaves_the_words(alloc: Global) -> Result<bool, WordsFault> {
+    Ok(leaves_its_own_name(alloc)? && leaves_nothing(alloc)?)
+}
+
 #[test]
 fn the_words_of_a_call_are_without_its_own_name(rt: HostRuntime) -> Result<(), Fail> {
-    for (name, leaves) in [
-        ("three words", leaves_its_own_name(rt.alloc())?),
-        ("none", leaves_nothing(rt.alloc())?),
-    ] {
-        assert!(rt; leaves, "{name}");
-    }
+    assert!(rt; leaves_the_words(rt.alloc())?);
     Ok(())
 }
 
 // What is answered where the words were not read.
 fn unread(alloc: Global, kind: ErrorKind) -> Option<WordsFault> {
-    words_of(alloc, Err(Error::from(kind))).err()
+    refusal_of(words_of(alloc, Err(Error::from(kind))))
 }
 
 #[test]
 fn words_that_are_not_read_are_no_text_or_no_memory(rt: HostRuntime) {
-    for (kind, fault) in [
+    for (kind, fault) in &[
         (ErrorKind::InvalidData, WordsFault::NoText),
         (ErrorKind::OutOfMemory, WordsFault::NoMemory),
     ] {
-        assert!(rt; unread(rt.alloc(), kind) == Some(fault));
+        assert!(rt; unread(rt.alloc(), *kind) == Some(*fault));
     }
 }

@@ -1,6 +1,8 @@
 //! The bytes of a row, as a keeper has them.
-use mw_types::Bytes;
+use super::{are, refusal_of};
+use mw_types::NoMemory;
 use record_codec::{RowRefusal, decode_row, encode_row};
+use row_parts::Row;
 use std::alloc::Global;
 use std::test::Fail;
 
@@ -14,21 +16,23 @@ const COUNT: [u8; 42] = [
     0, 0, 0, 0, 0, 0, 0, 0, 0, 0, 0,
 ];
 
-// The last entry of the row of these bytes, and its floor.
-fn decoded(alloc: Global, bytes: &[u8]) -> Result<(u64, u64), RowRefusal> {
-    let row = decode_row(alloc, bytes)?;
-    Ok((row.last, row.floor))
-}
-
-// Whether the row of these bytes is encoded as them.
-fn is_encoded(alloc: Global, bytes: &[u8]) -> Result<bool, Fail> {
-    let row = decode_row(alloc, bytes)?;
-    Ok(encode_row(alloc, &row)?.as_slice() == bytes)
+// Whether a row has this last entry and this floor, and is encoded as these bytes.
+fn is_encoded(
+    alloc: Global,
+    row: &Row,
+    bytes: &[u8],
+    last: u64,
+    floor: u64,
+) -> Result<bool, NoMemory> {
+    Ok(row.last == last && row.floor == floor && are(encode_row(alloc, row)?, bytes))
 }
 
 // Whether no row has these bytes.
 fn is_damaged(alloc: Global, bytes: &[u8]) -> bool {
-    matches!(decode_row(alloc, bytes), Err(RowRefusal::Damaged))
+    matches!(
+        refusal_of(decode_row(alloc, bytes)),
+        Some(RowRefusal::Damaged)
+    )
 }
 
 // Whether no row has a beginning of these bytes.
@@ -43,20 +47,19 @@ fn beginnings_are_damaged(alloc: Global, bytes: &[u8]) -> bool {
 
 // Whether bytes are those of a row with this last entry and this floor, and no beginning of them is.
 fn is_row(alloc: Global, bytes: &[u8], last: u64, floor: u64) -> Result<bool, Fail> {
-    Ok(
-        decoded(alloc, bytes)? == (last, floor)
-            && is_encoded(alloc, bytes)?
-            && beginnings_are_damaged(alloc, bytes),
-    )
+    let row = decode_row(alloc, bytes)?;
+    let is_encoded = is_encoded(alloc, &row, bytes, last, floor);
+    drop(row);
+    Ok(is_encoded? && beginnings_are_damaged(alloc, bytes))
 }
 
 #[test]
 fn row_bytes(rt: HostRuntime) -> Result<(), Fail> {
-    for (name, bytes, last, floor) in [
+    for (name, bytes, last, floor) in &[
         ("injector", &INJECTOR[..], 10, 0),
         ("count", &COUNT[..], 13, 13),
     ] {
-        assert!(rt; is_row(rt.alloc(), bytes, last, floor)?, "{name}");
+        assert!(rt; is_row(rt.alloc(), bytes, *last, *floor)?, "{name}");
     }
     Ok(())
 }
@@ -72,7 +75,7 @@ fn other_bytes_are_damaged(rt: HostRuntime) {
     count[33] = 255;
     let mut longer = [0u8; 35];
     longer[0] = 1;
-    for (name, bytes) in [
+    for (name, bytes) in &[
         ("another version", &version[..]),
         ("more ids than bytes", &count[..]),
         ("a byte too many", &longer[..]),

@@ -7,11 +7,6 @@ fn crosses_threads<T: Send + Sync>() -> bool {
     true
 }
 
-#[test]
-fn lists_cross_threads(rt: HostRuntime) {
-    assert!(rt; crosses_threads::<SharedList<u64>>());
-}
-
 // Whether a list has the elements of a slice.
 fn are_alike(list: &SharedList<u64>, xs: &[u64]) -> bool {
     for at in 0..xs.len() {
@@ -62,12 +57,18 @@ fn place(step: u64, len: usize) -> usize {
 
 // Whether a list is equal to one that is made of a vector at once.
 fn is_made_of(alloc: Global, list: &SharedList<u64>, xs: &[u64]) -> Result<bool, NoMemory> {
-    Ok(*list == SharedList::of(alloc, Vec::from_slice(alloc, xs)?)?)
+    let made = SharedList::of(alloc, Vec::from_slice(alloc, xs)?)?;
+    let is_so = *list == made;
+    drop(made);
+    Ok(is_so)
 }
 
 // Whether a list is flat a vector.
 fn is_flat(alloc: Global, list: &SharedList<u64>, xs: &[u64]) -> Result<bool, NoMemory> {
-    Ok(list.flat(alloc)?.as_slice() == xs)
+    let flat = list.flat(alloc)?;
+    let is_so = flat.as_slice() == xs;
+    drop(flat);
+    Ok(is_so)
 }
 
 // Whether both have the same with one number more, and an older copy has what it had.
@@ -80,7 +81,10 @@ fn grows(
     let before = list.copy(alloc)?;
     let old = Vec::from_slice(alloc, xs)?;
     insert(list, xs, place(step, old.len().saturating_add(1)), step)?;
-    Ok(are_alike(list, xs) && are_alike(&before, &old) && *list != before)
+    let holds = are_alike(list, xs) && are_alike(&before, &old) && *list != before;
+    drop(old);
+    drop(before);
+    Ok(holds)
 }
 
 // Whether both have the same with one number changed and one taken out, and an older copy has what it had.
@@ -95,7 +99,10 @@ fn shrinks(
     set(list, xs, place(step, old.len()), 999)?;
     let is_set = are_alike(list, xs);
     remove(list, xs, place(step, old.len()))?;
-    Ok(is_set && are_alike(list, xs) && are_alike(&before, &old))
+    let holds = is_set && are_alike(list, xs) && are_alike(&before, &old);
+    drop(old);
+    drop(before);
+    Ok(holds)
 }
 
 // Whether 300 numbers are put in, each at a place as if by chance, as into a vector.
@@ -125,12 +132,6 @@ fn is_edited(alloc: Global) -> Result<bool, NoMemory> {
     Ok(fills(alloc, &mut list, &mut xs)? && empties(alloc, &mut list, &mut xs)?)
 }
 
-#[test]
-fn edits_at_every_place_keep_the_older_lists(rt: HostRuntime) -> Result<(), NoMemory> {
-    assert!(rt; is_edited(rt.alloc())?);
-    Ok(())
-}
-
 // The list of a hundred numbers.
 fn hundred(alloc: Global) -> Result<SharedList<u64>, NoMemory> {
     let mut list = SharedList::new(alloc);
@@ -155,11 +156,29 @@ fn walked(alloc: Global, list: &SharedList<u64>) -> Result<Vec<u64>, NoMemory> {
 fn walk_meets_each(alloc: Global) -> Result<bool, NoMemory> {
     let list = hundred(alloc)?;
     let met = walked(alloc, &list)?;
-    Ok(are_alike(&list, &met))
+    let holds = are_alike(&list, &met);
+    drop(met);
+    drop(list);
+    Ok(holds)
+}
+
+// Whether one of these holds.
+fn holds(alloc: Global, at: u32) -> Result<bool, NoMemory> {
+    match at {
+        0 => Ok(crosses_threads::<SharedList<u64>>()),
+        1 => is_edited(alloc),
+        _ => walk_meets_each(alloc),
+    }
 }
 
 #[test]
-fn a_walk_by_pieces_meets_each_element(rt: HostRuntime) -> Result<(), NoMemory> {
-    assert!(rt; walk_meets_each(rt.alloc())?);
+fn shared_lists_are_as_vectors(rt: HostRuntime) -> Result<(), NoMemory> {
+    for (at, name) in &[
+        (0, "lists cross threads"),
+        (1, "edits at every place keep the older lists"),
+        (2, "a walk by pieces meets each element"),
+    ] {
+        assert!(rt; holds(rt.alloc(), *at)?, "{name}");
+    }
     Ok(())
 }

@@ -31,6 +31,8 @@ pub(crate) enum Act {
     Fire,
     // Purge a row of the count's interval.
     Purge,
+    // Put all that is pending into its outbox again.
+    Sweep,
 }
 
 // What a worker answers.
@@ -42,6 +44,12 @@ pub(crate) enum Answer {
     Committed(u64),
     // A record was handled, and is still to be written.
     Prepared,
+    // A record was finished already, and is acknowledged again.
+    Duplicate,
+    // A message is for a row that the worker does not have.
+    NotMine,
+    // So many records are to be sent again.
+    Queued(u64),
     // The own work was reported, and this is the interval's mark.
     Marked(u64),
     // The lease was overtaken, by a claim with this commit number.
@@ -57,11 +65,14 @@ pub(crate) enum Answer {
 }
 
 // An answer of a worker in short.
-fn short(answer: Result<Outcome, NodeFault>) -> Answer {
+pub(crate) fn short(answer: Result<Outcome, NodeFault>) -> Answer {
     match answer {
         Ok(Outcome::Claimed { seq }) => Answer::Claimed(seq),
         Ok(Outcome::Committed { commit }) => Answer::Committed(commit),
         Ok(Outcome::Prepared) => Answer::Prepared,
+        Ok(Outcome::Duplicate) => Answer::Duplicate,
+        Ok(Outcome::NotMine) => Answer::NotMine,
+        Ok(Outcome::Queued { count }) => Answer::Queued(count),
         Ok(Outcome::Marked { mark }) => Answer::Marked(mark),
         Ok(Outcome::Stale { newer }) => Answer::Stale(newer),
         Ok(Outcome::Busy { found }) => Answer::Busy(found),
@@ -71,8 +82,8 @@ fn short(answer: Result<Outcome, NodeFault>) -> Answer {
     }
 }
 
-// A worker takes in a message that came from its own desk.
-fn receive<N: Seen, D: Desk<Note = N>>(
+// A worker takes in a message that came from a desk of its book.
+pub(crate) fn receive<N: Seen, D: Desk<Note = N>>(
     alloc: Global,
     given: &Example,
     desk: &mut D,
@@ -116,7 +127,7 @@ fn take<N: Seen, D: Desk<Note = N>>(
 }
 
 // A worker does what it is asked to.
-fn act_on<N: Seen, D: Desk<Note = N>>(
+pub(crate) fn act_on<N: Seen, D: Desk<Note = N>>(
     alloc: Global,
     given: &Example,
     desk: &mut D,
@@ -139,6 +150,7 @@ fn act_on<N: Seen, D: Desk<Note = N>>(
         Act::ReportCount => node.report(alloc, desk, case, 1),
         Act::Fire => node.fire(alloc, desk, case, given.work(), 1),
         Act::Purge => node.purge(alloc, desk, case, 1, 1),
+        Act::Sweep => node.sweep(alloc, &*desk, case),
     }
 }
 

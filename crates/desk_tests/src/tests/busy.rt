@@ -22,11 +22,12 @@ const BEFORE: &[(Act, Answer)] = &[
     (Act::ClaimCount, Answer::Claimed(1)),
 ];
 
-// The word that is found is 1 more than the number of the seat that has the turn, which is 1.
+// The word that is found is 1 more than the number of the seat that has the turn, which is 1. A report
+// asks for no turn: the file states no watermark before its first line.
 const DURING: &[(Act, Answer)] = &[
     (Act::ClaimSource, Answer::Busy(2)),
     (Act::Inject, Answer::Busy(2)),
-    (Act::ReportSource, Answer::Busy(2)),
+    (Act::ReportSource, Answer::Marked(0)),
 ];
 
 // Afterwards the line is injected under the first lease, and its record is at 10.

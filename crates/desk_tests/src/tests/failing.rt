@@ -13,7 +13,7 @@ use std::test::Fail;
 // Call 0 of the keeper is that of the book's start. A claim is one call, which reads the interval's rows, and
 // so is a write, which puts its row; a report and what is refused before the keeper is asked are none. So
 // the first try of each but the acknowledgement fails: that one takes its message with it.
-const FAILING: [u64; 6] = [1, 3, 5, 7, 10, 12];
+const FAILING: [u64; 7] = [1, 3, 5, 7, 10, 12, 14];
 
 // Beside each answer stands the number of the call.
 const TABLE: &[(Act, Answer)] = &[
@@ -28,11 +28,13 @@ const TABLE: &[(Act, Answer)] = &[
     (Act::Write, Answer::Committed(3)), // 8
     (Act::Take, Answer::Committed(4)), // 9
     (Act::ReportSource, Answer::Marked(60)), // none
+    (Act::ClaimSource, Answer::KeeperFault), // 10
+    (Act::ClaimSource, Answer::Claimed(5)), // 11
     (Act::ReportCount, Answer::Marked(60)), // none
-    (Act::Fire, Answer::KeeperFault), // 10
-    (Act::Fire, Answer::Committed(5)), // 11
-    (Act::Purge, Answer::KeeperFault), // 12
-    (Act::Purge, Answer::Committed(6)), // 13
+    (Act::Fire, Answer::KeeperFault), // 12
+    (Act::Fire, Answer::Committed(6)), // 13
+    (Act::Purge, Answer::KeeperFault), // 14
+    (Act::Purge, Answer::Committed(7)), // 15
 ];
 
 // What was refused is no entry.
@@ -42,8 +44,9 @@ const ENTRIES: &[Told] = &[
     Told::Inject(0, 0),
     Told::Handle(1, 2),
     Told::Ack(0, 2),
+    Told::Claim(0, 0),
     Told::Fire(1, 60),
-    Told::Purge(1, 6),
+    Told::Purge(1, 7),
 ];
 
 // A keeper in memory whose calls of these numbers fail.

@@ -4,6 +4,7 @@ ghost use Rattle.std.specs.Prelude.{◌≡◌, ◌∷◌, []};
 ghost use Rattle.desk_tests.specs.DeskTests.{IsAtRest};
 
 use super::acts::{Act, Answer, drive};
+use super::crossing::{Step, cross};
 use super::entries::{Told, has_entries};
 use super::example::{Example, two_lines_example};
 use book::{Book, Desk, Seen};
@@ -26,6 +27,15 @@ struct Row<'a> {
     after: &'a [(Act, Answer)],
     // What was appended.
     entries: &'a [Told],
+}
+
+// What two workers do over the desks of two seats.
+#[derive(Clone, Copy)]
+enum Play<'a> {
+    // The one is overtaken by the other.
+    Overtaking(&'a Row<'a>),
+    // They take in each other's messages.
+    Crossing(&'a [(Step, Answer)]),
 }
 
 // The first worker acts, then the second, and then the first again.
@@ -61,7 +71,7 @@ fn at_seats<K: Keeper>(
     shared: &Shared<'_, K>,
     one: &mut Seat<K>,
     other: &mut Seat<K>,
-    row: &Row<'_>,
+    play: Play<'_>,
 )
     requires case { shared.now.case.now ≡ given.now.case }
     requires one { let table = shared.now.table.shared in
@@ -75,7 +85,10 @@ fn at_seats<K: Keeper>(
 {
     let mut first = SharedDesk::on(&*shared, one);
     let mut second = SharedDesk::on(&*shared, other);
-    overtake(rt, alloc, given, &mut first, &mut second, row);
+    match play {
+        Play::Overtaking(row) => overtake(rt, alloc, given, &mut first, &mut second, row),
+        Play::Crossing(steps) => cross(rt, alloc, given, &mut first, &mut second, steps),
+    }
 }
 
 // The seats are joined, and the book comes back.
@@ -85,7 +98,8 @@ fn two_seats<K: Keeper>(
     given: &Example,
     shared: Shared<'_, K>,
     seat: Seat<K>,
-    row: &Row<'_>,
+    play: Play<'_>,
+    entries: &[Told],
 )
     requires case { shared.case.now ≡ given.now.case }
     requires rest { let table = shared.table.shared in
@@ -94,10 +108,10 @@ fn two_seats<K: Keeper>(
 {
     let mut other = seat;
     let mut one = shared.deal(&mut other);
-    at_seats(rt, alloc, given, &shared, &mut one, &mut other, row);
+    at_seats(rt, alloc, given, &shared, &mut one, &mut other, play);
     shared.join(&mut other, one);
     let book = shared.close(other);
-    has_entries(rt, &book, row.entries);
+    has_entries(rt, &book, entries);
 }
 
 // A book is shared among two seats.
@@ -106,21 +120,22 @@ fn shared<K: Keeper>(
     alloc: Global,
     given: &Example,
     book: Book<'_, K>,
-    row: &Row<'_>,
+    play: Play<'_>,
+    entries: &[Told],
 )
     requires case { book.case ≡ given.now.case }
 {
     match Shared::start(alloc, book, 2) {
-        Ok((shared, seat)) => two_seats(rt, alloc, given, shared, seat, row),
+        Ok((shared, seat)) => two_seats(rt, alloc, given, shared, seat, play, entries),
         Err(_refusal) => assert!(rt; false),
     }
 }
 
 // Two workers over a new book.
-fn plays(rt: &impl Abort, alloc: Global, given: &Example, row: &Row<'_>) {
+fn plays(rt: &impl Abort, alloc: Global, given: &Example, play: Play<'_>, entries: &[Told]) {
     let keeper = MemKeeper::new(alloc, CallList::new(alloc));
     match Book::start(alloc, &given.case, keeper, 16) {
-        Ok(book) => shared(rt, alloc, given, book, row),
+        Ok(book) => shared(rt, alloc, given, book, play, entries),
         Err(_) => assert!(rt; false),
     }
 }
@@ -186,8 +201,8 @@ const SETTLE: Row<'static> = Row {
     ],
 };
 
-// Worker 1 claims the count's interval when worker 0 knows that the timer is due. The claim is entry 5,
-// behind the acknowledgement.
+// Worker 1 claims the count's interval when worker 0 knows that the timer is due. The claim is entry 6,
+// behind worker 0's second one.
 const FIRE: Row<'static> = Row {
     before: &[
         (Act::ClaimSource, Answer::Claimed(0)),
@@ -197,22 +212,24 @@ const FIRE: Row<'static> = Row {
         (Act::Write, Answer::Committed(3)),
         (Act::Take, Answer::Committed(4)),
         (Act::ReportSource, Answer::Marked(60)),
+        (Act::ClaimSource, Answer::Claimed(5)),
         (Act::ReportCount, Answer::Marked(60)),
     ],
-    between: &[(Act::ClaimCount, Answer::Claimed(5))],
-    after: &[(Act::Fire, Answer::Stale(5)), (Act::Fire, Answer::Nothing)],
+    between: &[(Act::ClaimCount, Answer::Claimed(6))],
+    after: &[(Act::Fire, Answer::Stale(6)), (Act::Fire, Answer::Nothing)],
     entries: &[
         Told::Claim(0, 0),
         Told::Claim(0, 1),
         Told::Inject(0, 0),
         Told::Handle(1, 2),
         Told::Ack(0, 2),
+        Told::Claim(0, 0),
         Told::Claim(1, 1),
     ],
 };
 
 // Worker 1 claims the count's interval when worker 0 has fired the timer, and the row of the key a has an id
-// to forget. The claim is entry 6, behind the timer's.
+// to forget. The claim is entry 7, behind the timer's.
 const PURGE: Row<'static> = Row {
     before: &[
         (Act::ClaimSource, Answer::Claimed(0)),
@@ -222,12 +239,13 @@ const PURGE: Row<'static> = Row {
         (Act::Write, Answer::Committed(3)),
         (Act::Take, Answer::Committed(4)),
         (Act::ReportSource, Answer::Marked(60)),
+        (Act::ClaimSource, Answer::Claimed(5)),
         (Act::ReportCount, Answer::Marked(60)),
-        (Act::Fire, Answer::Committed(5)),
+        (Act::Fire, Answer::Committed(6)),
     ],
-    between: &[(Act::ClaimCount, Answer::Claimed(6))],
+    between: &[(Act::ClaimCount, Answer::Claimed(7))],
     after: &[
-        (Act::Purge, Answer::Stale(6)),
+        (Act::Purge, Answer::Stale(7)),
         (Act::Purge, Answer::Nothing),
     ],
     entries: &[
@@ -236,13 +254,16 @@ const PURGE: Row<'static> = Row {
         Told::Inject(0, 0),
         Told::Handle(1, 2),
         Told::Ack(0, 2),
+        Told::Claim(0, 0),
         Told::Fire(1, 60),
         Told::Claim(1, 1),
     ],
 };
 
-// Worker 1 claims the injector's interval before worker 0 reports. The claim is entry 2. The other interval
-// is still worker 0's, whose mark is not above 0 while the injector's is 0.
+// Worker 1 claims the injector's interval before worker 0 reports. The claim is entry 2. A report under a lease
+// that is stale is answered too, and harmless: the mark is that of the injector's file, which states no
+// watermark before its first line. The other interval is still worker 0's, whose mark is not above 0 while
+// the injector's is 0.
 const REPORT: Row<'static> = Row {
     before: &[
         (Act::ClaimSource, Answer::Claimed(0)),
@@ -250,19 +271,104 @@ const REPORT: Row<'static> = Row {
     ],
     between: &[(Act::ClaimSource, Answer::Claimed(2))],
     after: &[
-        (Act::ReportSource, Answer::Stale(2)),
-        (Act::ReportSource, Answer::Nothing),
+        (Act::ReportSource, Answer::Marked(0)),
+        (Act::ReportSource, Answer::Marked(0)),
         (Act::ReportCount, Answer::Marked(0)),
     ],
     entries: &[Told::Claim(0, 0), Told::Claim(0, 1), Told::Claim(1, 0)],
+};
+
+// Worker 1 claims the count's interval when the injector's mark is 60. The claim is entry 5. Worker 0's lease was
+// settled while that mark was 0, and vouches for no more.
+const RAISE: Row<'static> = Row {
+    before: &[
+        (Act::ClaimSource, Answer::Claimed(0)),
+        (Act::ClaimCount, Answer::Claimed(1)),
+        (Act::Inject, Answer::Committed(2)),
+        (Act::Take, Answer::Prepared),
+        (Act::Write, Answer::Committed(3)),
+        (Act::Take, Answer::Committed(4)),
+        (Act::ReportSource, Answer::Marked(60)),
+    ],
+    between: &[(Act::ClaimCount, Answer::Claimed(5))],
+    after: &[(Act::ReportCount, Answer::Marked(0))],
+    entries: &[
+        Told::Claim(0, 0),
+        Told::Claim(0, 1),
+        Told::Inject(0, 0),
+        Told::Handle(1, 2),
+        Told::Ack(0, 2),
+        Told::Claim(1, 1),
+    ],
 };
 
 #[test]
 fn stale_across_seats(rt: HostRuntime) -> Result<(), Fail> {
     let alloc = rt.alloc();
     let given = two_lines_example(alloc)?;
-    for row in [INJECT, HANDLE, SETTLE, FIRE, PURGE, REPORT] {
-        plays(&rt, alloc, &given, &row);
+    for row in [INJECT, HANDLE, SETTLE, FIRE, PURGE, REPORT, RAISE] {
+        plays(&rt, alloc, &given, Play::Overtaking(&row), row.entries);
+    }
+    Ok(())
+}
+
+// Worker 0 claims both intervals and injects the line, whose record it handles and does not yet write. A copy
+// of its message is of no row that worker 1 has, but the note of it tells the three entries. Worker 1 claims
+// the count's interval, which is entry 3, so that the write of worker 0 is stale. The record is still pending
+// at its sender: worker 1 handles it once it is sent again, which is entry 4 under the sequencer 3.
+const CROSSED: [(Step, Answer); 10] = [
+    (Step::One(Act::ClaimSource), Answer::Claimed(0)),
+    (Step::One(Act::ClaimCount), Answer::Claimed(1)),
+    (Step::One(Act::Inject), Answer::Committed(2)),
+    (Step::Copy, Answer::NotMine),
+    (Step::One(Act::Take), Answer::Prepared),
+    (Step::Other(Act::ClaimCount), Answer::Claimed(3)),
+    (Step::One(Act::Write), Answer::Stale(3)),
+    (Step::One(Act::Sweep), Answer::Queued(1)),
+    (Step::Hand, Answer::Prepared),
+    (Step::Other(Act::Write), Answer::Committed(4)),
+];
+
+// What those appended.
+const CROSSED_ENTRIES: [Told; 5] = [
+    Told::Claim(0, 0),
+    Told::Claim(0, 1),
+    Told::Inject(0, 0),
+    Told::Claim(1, 1),
+    Told::Handle(3, 2),
+];
+
+// The record is handled by worker 1, as entry 3 behind the claims and the line, and is delivered again: it
+// is acknowledged again, and there is nothing to write. The sender settles it by the first word of that,
+// which is entry 4; by the second there is nothing left to settle, and nothing is sent again.
+const AGAIN: [(Step, Answer); 10] = [
+    (Step::One(Act::ClaimSource), Answer::Claimed(0)),
+    (Step::Other(Act::ClaimCount), Answer::Claimed(1)),
+    (Step::One(Act::Inject), Answer::Committed(2)),
+    (Step::Copy, Answer::Prepared),
+    (Step::Other(Act::Write), Answer::Committed(3)),
+    (Step::Hand, Answer::Duplicate),
+    (Step::Other(Act::Write), Answer::Nothing),
+    (Step::Back, Answer::Committed(4)),
+    (Step::Back, Answer::Nothing),
+    (Step::One(Act::Sweep), Answer::Queued(0)),
+];
+
+// What those appended.
+const AGAIN_ENTRIES: [Told; 5] = [
+    Told::Claim(0, 0),
+    Told::Claim(1, 1),
+    Told::Inject(0, 0),
+    Told::Handle(1, 2),
+    Told::Ack(0, 2),
+];
+
+#[test]
+fn messages_cross_seats(rt: HostRuntime) -> Result<(), Fail> {
+    let alloc = rt.alloc();
+    let given = two_lines_example(alloc)?;
+    for (steps, entries) in [(&CROSSED, &CROSSED_ENTRIES), (&AGAIN, &AGAIN_ENTRIES)] {
+        plays(&rt, alloc, &given, Play::Crossing(steps), entries);
     }
     Ok(())
 }

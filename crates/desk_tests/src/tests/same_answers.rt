@@ -17,8 +17,9 @@ use std::test::Fail;
 // The worker claims both intervals, which are entries 0 and 1. The first line is entry 2, and its record
 // goes to the row of the key a: handled it is entry 3, and acknowledged it is entry 4. The watermark before
 // the second line is 60, so that the injector's own work is at 60 then; the window's end, at 60 too, is the
-// count's. The timer at 60 is not due before the count's mark is 60, and fires as entry 5. The row has one
-// id to forget, which the purge takes away as entry 6.
+// count's. The injector's interval is claimed anew as entry 5: with that turn the count's lease is settled under
+// the mark that the injector's has then. The timer at 60 is not due before the count's mark is 60, and fires as
+// entry 6. The row has one id to forget, which the purge takes away as entry 7.
 const TABLE: &[(Act, Answer)] = &[
     (Act::ClaimSource, Answer::Claimed(0)),
     (Act::ClaimCount, Answer::Claimed(1)),
@@ -29,23 +30,25 @@ const TABLE: &[(Act, Answer)] = &[
     (Act::Take, Answer::Committed(4)),
     (Act::ReportSource, Answer::Marked(60)),
     (Act::Fire, Answer::Nothing),
+    (Act::ClaimSource, Answer::Claimed(5)),
     (Act::ReportCount, Answer::Marked(60)),
-    (Act::Fire, Answer::Committed(5)),
-    (Act::Purge, Answer::Committed(6)),
+    (Act::Fire, Answer::Committed(6)),
+    (Act::Purge, Answer::Committed(7)),
     (Act::Purge, Answer::Nothing),
 ];
 
 // What those appended. The lease of the injector's interval has the sequencer 0, that of the count's has 1.
 // The record's id has the commit number 2 of the line. The timer fired under the mark 60, and the floor is
-// 6, since all that was made in the entries before it is finished.
+// 7, since all that was made in the entries before it is finished.
 const ENTRIES: &[Told] = &[
     Told::Claim(0, 0),
     Told::Claim(0, 1),
     Told::Inject(0, 0),
     Told::Handle(1, 2),
     Told::Ack(0, 2),
+    Told::Claim(0, 0),
     Told::Fire(1, 60),
-    Told::Purge(1, 6),
+    Told::Purge(1, 7),
 ];
 
 // A worker over a book of its own.

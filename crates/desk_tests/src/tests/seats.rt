@@ -13,7 +13,7 @@ use std::alloc::Global;
 use std::process::Abort;
 
 // A worker at the desk of the one seat.
-fn at_seat<K: Keeper>(
+pub(crate) fn at_seat<K: Keeper>(
     rt: &impl Abort,
     alloc: Global,
     given: &Example,

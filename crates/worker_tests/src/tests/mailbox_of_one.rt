@@ -26,6 +26,7 @@ impl Office for Example {
 }
 
 type Box = Mailbox<NoNote, Example>;
+
 type Pass = MailPass<NoNote, Example>;
 
 // Word that the record of this id was handled, for the injector.

@@ -5,9 +5,9 @@ ghost use Rattle.mw_types.specs.Bounds.{IsWithin};
 ghost use Rattle.computations.specs.Parts.{HasState, kind_at};
 
 use super::{Deed, Produced, fresh, of_record, walked, watched};
-use crate::tests::key_of;
+use crate::tests::{are, key_of};
 use computations::Kinds;
-use mw_types::{Effects, HeldList, Key, NoMemory, Record, Seq, State, ValueList};
+use mw_types::{Effects, HeldList, Key, NoMemory, Record, State, ValueList};
 use std::alloc::Global;
 
 // A row of the spike with no total.
@@ -47,7 +47,7 @@ fn judged(alloc: Global, deeds: &[Deed]) -> Result<(State, Produced), NoMemory> 
 
 // Whether a count produced these, in this order.
 fn counts(alloc: Global, deeds: &[Deed], want: &[(u64, i64)]) -> Result<bool, NoMemory> {
-    Ok(counted(alloc, deeds)?.as_slice() == want)
+    Ok(are(counted(alloc, deeds)?, want))
 }
 
 // Whether a spike holds so many totals after these, and knows these; and it produced these.
@@ -59,7 +59,9 @@ fn judges(
     want: &[(u64, i64)],
 ) -> Result<bool, NoMemory> {
     let (state, produced) = judged(alloc, deeds)?;
-    Ok(holds(&state, many, totals) && produced.as_slice() == want)
+    let holds = holds(&state, many, totals);
+    drop(state);
+    Ok(are(produced, want) && holds)
 }
 
 // Whether a spike holds so many totals, and knows these.
@@ -120,18 +122,33 @@ const ONE_ONE_THREE_JUDGED: [Deed; 6] = [
     Deed::Timer(181),
 ];
 
-// Twenty totals, one in each ten microseconds, and then two more at the eighth, which is judged.
-fn twenty_totals(alloc: Global) -> Result<Seq<Deed>, NoMemory> {
-    let mut deeds = Seq::new(alloc);
-    for at in 0..20u64 {
-        deeds.push(Deed::Record(at.saturating_mul(10), 5))?;
-    }
-    // Of two records at one timestamp the greater value stays.
-    deeds.push(Deed::Record(70, 9))?;
-    deeds.push(Deed::Record(70, 3))?;
-    deeds.push(Deed::Timer(71))?;
-    Ok(deeds)
-}
+// Twenty totals, one in each ten microseconds, and then two more at the eighth, of which the greater stays,
+// and which is judged.
+const TWENTY: [Deed; 23] = [
+    Deed::Record(0, 5),
+    Deed::Record(10, 5),
+    Deed::Record(20, 5),
+    Deed::Record(30, 5),
+    Deed::Record(40, 5),
+    Deed::Record(50, 5),
+    Deed::Record(60, 5),
+    Deed::Record(70, 5),
+    Deed::Record(80, 5),
+    Deed::Record(90, 5),
+    Deed::Record(100, 5),
+    Deed::Record(110, 5),
+    Deed::Record(120, 5),
+    Deed::Record(130, 5),
+    Deed::Record(140, 5),
+    Deed::Record(150, 5),
+    Deed::Record(160, 5),
+    Deed::Record(170, 5),
+    Deed::Record(180, 5),
+    Deed::Record(190, 5),
+    Deed::Record(70, 9),
+    Deed::Record(70, 3),
+    Deed::Timer(71),
+];
 
 // Two totals at the end of time, the later one first.
 const AT_THE_END: [Deed; 4] = [
@@ -141,45 +158,62 @@ const AT_THE_END: [Deed; 4] = [
     Deed::Timer(9223372036854775807),
 ];
 
-// Whether the greatest of many totals at one timestamp is judged.
-fn finds_a_total(alloc: Global) -> Result<bool, NoMemory> {
-    let deeds = twenty_totals(alloc)?;
-    judges(alloc, deeds.as_slice(), 19, &[9], &[])
-}
+// What a count is handed, and what it produces, in this order.
+const COUNTS: [(&str, &[Deed], &[(u64, i64)]); 2] = [
+    (
+        "one, one, seven",
+        &ONE_ONE_SEVEN,
+        &[(60, 1), (120, 1), (180, 7)],
+    ),
+    ("one, one, three", &ONE_ONE_THREE, &[(180, 3)]),
+];
 
 #[test]
 fn a_count_produces_what_its_windows_have(rt: HostRuntime) -> Result<(), NoMemory> {
-    let seven = [(60, 1), (120, 1), (180, 7)];
-    for (name, counts) in [
-        (
-            "one, one, seven",
-            counts(rt.alloc(), &ONE_ONE_SEVEN, &seven)?,
-        ),
-        (
-            "one, one, three",
-            counts(rt.alloc(), &ONE_ONE_THREE, &[(180, 3)])?,
-        ),
-    ] {
-        assert!(rt; counts, "{name}");
+    for (name, deeds, want) in &COUNTS {
+        assert!(rt; counts(rt.alloc(), deeds, want)?, "{name}");
     }
     Ok(())
 }
 
+// What a spike is handed, how many totals it holds then and which it knows, and what it produces.
+type Judged = (
+    &'static str,
+    &'static [Deed],
+    usize,
+    &'static [i64],
+    &'static [(u64, i64)],
+);
+
+const JUDGED: [Judged; 4] = [
+    (
+        "a spike above three times",
+        &ONE_ONE_SEVEN_JUDGED,
+        0,
+        &[1, 7],
+        &[(181, 7)],
+    ),
+    (
+        "no spike at three times",
+        &ONE_ONE_THREE_JUDGED,
+        0,
+        &[1, 3],
+        &[],
+    ),
+    ("a total of a long list is found", &TWENTY, 19, &[9], &[]),
+    (
+        "of two totals due at the end the first goes",
+        &AT_THE_END,
+        0,
+        &[2, 1],
+        &[],
+    ),
+];
+
 #[test]
 fn a_spike_judges_each_total_when_it_is_due(rt: HostRuntime) -> Result<(), NoMemory> {
-    let alloc = rt.alloc();
-    let [seven, three, end] = [
-        judges(alloc, &ONE_ONE_SEVEN_JUDGED, 0, &[1, 7], &[(181, 7)])?,
-        judges(alloc, &ONE_ONE_THREE_JUDGED, 0, &[1, 3], &[])?,
-        judges(alloc, &AT_THE_END, 0, &[2, 1], &[])?,
-    ];
-    for (name, judges) in [
-        ("a spike above three times", seven),
-        ("no spike at three times", three),
-        ("a total of a long list is found", finds_a_total(alloc)?),
-        ("of two totals due at the end the first goes", end),
-    ] {
-        assert!(rt; judges, "{name}");
+    for (name, deeds, many, totals, want) in &JUDGED {
+        assert!(rt; judges(rt.alloc(), deeds, *many, totals, want)?, "{name}");
     }
     Ok(())
 }
@@ -218,16 +252,18 @@ fn left_of_item(alloc: Global, late: bool) -> Result<Effects, NoMemory> {
 // Whether it is passed on, and the row has so many late ones after it.
 fn passes(alloc: Global, late: bool, after: u64) -> Result<bool, NoMemory> {
     let effects = left_of_item(alloc, late)?;
-    match &effects.state {
-        State::Pass { late } => Ok(*late == after && is_passed(&effects)),
-        _ => Ok(false),
-    }
+    let holds = match &effects.state {
+        State::Pass { late } => *late == after && is_passed(&effects),
+        _ => false,
+    };
+    drop(effects);
+    Ok(holds)
 }
 
 #[test]
 fn a_pass_repeats_each_record(rt: HostRuntime) -> Result<(), NoMemory> {
-    for (late, after) in [(false, 0), (true, 1)] {
-        assert!(rt; passes(rt.alloc(), late, after)?, "late: {late}");
+    for (late, after) in &[(false, 0), (true, 1)] {
+        assert!(rt; passes(rt.alloc(), *late, *after)?, "late: {late}");
     }
     Ok(())
 }

@@ -1,4 +1,5 @@
 //! A file with a computation of each kind, and what reading it gives with one place changed.
+use crate::tests::refusal_of;
 use mw_types::NoMemory;
 use std::alloc::Global;
 use std::process::Abort;
@@ -20,22 +21,26 @@ pub(crate) fn sides(line: &str) -> (&str, &str) {
 fn changed(alloc: Global, old: &str, new: &str) -> Result<String, NoMemory> {
     let mut text = String::new(alloc);
     if let Some((head, tail)) = FILE.split_once(old) {
-        text.push_str(head)?;
-        text.push_str(new)?;
-        text.push_str(tail)?;
+        for part in [head, new, tail] {
+            text.push_str(part)?;
+        }
     }
     Ok(text)
 }
 
 /// Why these bytes are refused, if they are.
 pub(crate) fn refusal(alloc: Global, bytes: &[u8]) -> Option<TopologyRefusal> {
-    read(alloc, bytes).err()
+    refusal_of(read(alloc, bytes))
 }
 
 /// Why the file with this change is refused, if it is, where there was memory for it.
 pub(crate) fn refused(alloc: Global, old: &str, new: &str) -> Option<TopologyRefusal> {
     match changed(alloc, old, new) {
-        Ok(text) => refusal(alloc, text.as_bytes()),
+        Ok(text) => {
+            let refusal = refusal(alloc, text.as_bytes());
+            drop(text);
+            refusal
+        }
         Err(_) => Some(TopologyRefusal::NoMemory),
     }
 }

@@ -86,7 +86,10 @@ fn is_of_each_kind(alloc: Global, topology: &Topology) -> Result<bool, TopologyR
 
 // Whether the file is read as it is.
 fn is_read(alloc: Global) -> Result<bool, TopologyRefusal> {
-    is_of_each_kind(alloc, &read(alloc, FILE.as_bytes())?)
+    let topology = read(alloc, FILE.as_bytes())?;
+    let holds = is_of_each_kind(alloc, &topology);
+    drop(topology);
+    holds
 }
 
 #[test]

@@ -7,7 +7,7 @@ use topology::TopologyRefusal;
 #[test]
 fn bytes_that_are_no_json_are_refused(rt: HostRuntime) {
     let alloc = rt.alloc();
-    for bytes in [
+    for bytes in &[
         b"".as_slice(),
         b"{\"injectors\":[{\"name\":\"clicks\",\"str".as_slice(),
         b"{\"injectors\":[\"\xff\"],\"computations\":[]}".as_slice(),
@@ -43,13 +43,6 @@ fn nested_refusal(alloc: Global, depth: u32) -> Option<TopologyRefusal> {
     }
 }
 
-#[test]
-fn at_most_127_levels_are_read(rt: HostRuntime) {
-    let alloc = rt.alloc();
-    assert!(rt; nested_refusal(alloc, 127) == Some(TopologyRefusal::BadShape));
-    assert!(rt; nested_refusal(alloc, 128) == Some(TopologyRefusal::NotJson));
-}
-
 // Changes after which the file has another shape.
 const OTHER_SHAPES: &str = r#"{"injectors"=>{"more":1,"injectors"
 [{"name":"clicks","stream":"raw"}]=>[]
@@ -81,19 +74,6 @@ const UNKNOWN_STREAMS: &str = r#""windows","by"=>"others","by"
 "windows","by"=>"alerts","by"
 "raw","by"=>"alerts","by""#;
 
-#[test]
-fn shapes_names_and_streams_have_rules(rt: HostRuntime) {
-    let alloc = rt.alloc();
-    let [shape, name] = [TopologyRefusal::BadShape, TopologyRefusal::BadName];
-    let [names, streams] = [TopologyRefusal::DoubleName, TopologyRefusal::DoubleStream];
-    changes_give(&rt, alloc, OTHER_SHAPES, Some(shape));
-    changes_give(&rt, alloc, BAD_NAMES, Some(name));
-    changes_give(&rt, alloc, DOUBLE_NAMES, Some(names));
-    changes_give(&rt, alloc, DOUBLE_STREAMS, Some(streams));
-    let unknown = TopologyRefusal::UnknownStream;
-    changes_give(&rt, alloc, UNKNOWN_STREAMS, Some(unknown));
-}
-
 // Changes to numbers at the ends of their ranges, to cuts that ascend, and to two members of one name, of
 // which the last counts.
 const GOOD: &str = r#"60=>1
@@ -123,14 +103,6 @@ const BAD_CUTS: &str = r#"["h","q"]=>["q","h"]
 ["h","q"]=>["h","h"]
 ["h","q"]=>["","h"]"#;
 
-#[test]
-fn numbers_and_cuts_have_ranges(rt: HostRuntime) {
-    let alloc = rt.alloc();
-    changes_give(&rt, alloc, GOOD, None);
-    changes_give(&rt, alloc, BAD_NUMBERS, Some(TopologyRefusal::BadNumber));
-    changes_give(&rt, alloc, BAD_CUTS, Some(TopologyRefusal::BadCuts));
-}
-
 // The end of a reading, and so many readings more.
 fn more_readings(alloc: Global, count: u32) -> Result<String, NoMemory> {
     let mut text = String::from_str(alloc, "\"tail\"}")?;
@@ -147,10 +119,16 @@ fn readings_refusal(alloc: Global, count: u32) -> Option<TopologyRefusal> {
 }
 
 #[test]
-fn at_most_64_readings_are_read(rt: HostRuntime) {
-    let alloc = rt.alloc();
-    assert!(rt; readings_refusal(alloc, 60).is_none());
-    assert!(rt; readings_refusal(alloc, 61) == Some(TopologyRefusal::TooMany));
+fn at_most_127_levels_and_64_readings_are_read(rt: HostRuntime) {
+    for (depth, why) in &[
+        (127, TopologyRefusal::BadShape),
+        (128, TopologyRefusal::NotJson),
+    ] {
+        assert!(rt; nested_refusal(rt.alloc(), *depth) == Some(*why), "{depth}");
+    }
+    for (more, why) in &[(60, None), (61, Some(TopologyRefusal::TooMany))] {
+        assert!(rt; readings_refusal(rt.alloc(), *more) == *why, "{more}");
+    }
 }
 
 // No JSON text, and a stream that is no text.
@@ -159,9 +137,23 @@ const FIRST_IS_NO_JSON: &str = r#"clicks","stream":"raw"=>clicks","stream":7,""#
 // An unknown stream, and a number out of its range.
 const FIRST_IS_READING: &str = r#"60,"reads":[{"stream":"raw"=>0,"reads":[{"stream":"none""#;
 
+// Changes of the file, and why it is refused after each, if it is.
+const CHANGES: [(&str, Option<TopologyRefusal>); 10] = [
+    (OTHER_SHAPES, Some(TopologyRefusal::BadShape)),
+    (BAD_NAMES, Some(TopologyRefusal::BadName)),
+    (DOUBLE_NAMES, Some(TopologyRefusal::DoubleName)),
+    (DOUBLE_STREAMS, Some(TopologyRefusal::DoubleStream)),
+    (UNKNOWN_STREAMS, Some(TopologyRefusal::UnknownStream)),
+    (GOOD, None),
+    (BAD_NUMBERS, Some(TopologyRefusal::BadNumber)),
+    (BAD_CUTS, Some(TopologyRefusal::BadCuts)),
+    (FIRST_IS_NO_JSON, Some(TopologyRefusal::NotJson)),
+    (FIRST_IS_READING, Some(TopologyRefusal::UnknownStream)),
+];
+
 #[test]
 fn the_first_broken_rule_is_named(rt: HostRuntime) {
-    let [json, reading] = [TopologyRefusal::NotJson, TopologyRefusal::UnknownStream];
-    changes_give(&rt, rt.alloc(), FIRST_IS_NO_JSON, Some(json));
-    changes_give(&rt, rt.alloc(), FIRST_IS_READING, Some(reading));
+    for (table, why) in &CHANGES {
+        changes_give(&rt, rt.alloc(), table, *why);
+    }
 }

@@ -1,88 +1,82 @@
-use Rattle.std.proofs.Common.{◌∙◌, ap, subst, sym}
-use Rattle.run_history.proofs.Beginnings.{Begins-trans}
-use Rattle.book.specs.DeskReasons.{HasReason}
-use Rattle.book.specs.Desks.{HasLooked}
-use Rattle.book.specs.declared.desk_refusal.DeskRefusal.TheVariants as refusals
+use Rattle.std.proofs.Common.{ap, arith, length, subst, sym, ◌∙◌}
+use Rattle.run_history.specs.Inputs.{IsRunnable}
+use Rattle.book.specs.Desks.{HasLooked, KeepsMarks}
+use Rattle.shared_book.specs.Joins.{first_of}
+use Rattle.shared_book.proofs.SeatCalls.{arrays-is}
 use Rattle.shared_book.specs.declared.views.View.{View}
 use Rattle.shared_book.specs.Lists.{IsIn}
-use Rattle.shared_book.specs.SharedDesks.{shared_view}
-use Rattle.shared_book.proofs.DeskFacts.{known-turn}
-use Rattle.shared_book.proofs.DeskSteps.{begins-refused, busy-looked, given, looked-report, reason-report, refused-same}
+use Rattle.shared_book.specs.MarkSteps.{IsOwnSettled}
+use Rattle.shared_book.specs.Places.{with_mark_loaded}
+use Rattle.shared_book.specs.SharedDesks.{HasKept, shared_view}
+use Rattle.shared_book.specs.Steps.{SeatView}
+use Rattle.watermark.specs.Marks.{mark_of}
+use Rattle.shared_book.proofs.DeskFacts.{looked-loaded, mark-loaded, marks-loaded, own-settled}
 use Rattle.shared_book.proofs.Held.{held-in}
-use Rattle.shared_book.proofs.Taking.{basis-taken, core-taken, leases-taken, own-taken}
 use Rattle.shared_book.proofs.desk_reports.report_once.Goals as goal
 
-pub report_at-result-requires-clause-lease : goal.report_at-result-requires-clause-lease
-report_at-result-requires-clause-lease g c =
-    let v = c.args.seat.now.place.me.0 in
-    subst (IsIn c.args.lease.now)
-    (sym (leases-taken v c.take-found.new.seat.place.me.0 (c.take-found.ensures.taken c.if-found-ne0.false)))
-    (held-in v.leases c.args.lease.now c.requires.lease)
+pub raise-requires-clause-lease : goal.raise-requires-clause-lease
+raise-requires-clause-lease g c =
+    subst (λ (m : SeatView). IsIn c.args.lease.now m.0.leases) (sym c.look.ensures.same)
+    (held-in c.args.seat.now.place.me.0.leases c.args.lease.now c.requires.lease)
 
-pub report_at-result-requires-clause-own : goal.report_at-result-requires-clause-own
-report_at-result-requires-clause-own g c =
+pub raise-requires-clause-own : goal.raise-requires-clause-own
+raise-requires-clause-own g c =
     let v = c.args.seat.now.place.me.0 in
-    let t = c.take-found.new.seat.place.me.0 in
-    let taken = c.take-found.ensures.taken c.if-found-ne0.false in
-    let turn = c.take-found.ensures.turn c.if-found-ne0.false in
-    let core = core-taken v t taken t.count turn.book turn.core in
-    own-taken v t taken turn.book c.args.lease.now c.args.own core.whole core.lawful
-    (held-in v.leases c.args.lease.now c.requires.lease) c.requires.own
+    subst (λ (m : SeatView). IsOwnSettled m.0 c.args.lease.now c.args.own) (sym c.look.ensures.same)
+    (own-settled v c.args.lease.now c.args.own (subst IsRunnable (sym c.requires.here.case) c.case_is_runnable.ensures.runnable)
+    c.look.ensures.seen (c.look.ensures.settled c.requires.idle.turn) c.requires.own)
 
-pub finish-requires-clause-known : goal.finish-requires-clause-known
-finish-requires-clause-known g c =
+pub returns-clause-kept : goal.returns-clause-kept
+returns-clause-kept g c =
+    let e = ap (λ (m : SeatView). m.0) c.raise.ensures.view
+    ∙ ap (λ (m : SeatView). with_mark_loaded m.0 c.args.lease.now.interval c.raise.result) c.look.ensures.same in
+    subst HasKept (sym e) c.requires.kept
+
+pub returns-clause-answer : goal.returns-clause-answer
+returns-clause-answer g c =
+    let p = c.args.seat.now in
+    let v = p.place.me.0 in
+    let i = c.args.lease.now.interval in
+    let e = ap (λ (m : SeatView). m.0) c.raise.ensures.view
+    ∙ ap (λ (m : SeatView). with_mark_loaded m.0 c.args.lease.now.interval c.raise.result) c.look.ensures.same in
+    let there = p.there c.args.lease.now (held-in v.leases c.args.lease.now c.requires.lease) in
+    let below = there.0 in
+    let long = p.long.marks in
+    mark-loaded v i c.raise.result (omega (arith, below, long)) there.1 ∙ sym (ap (λ (u : View). mark_of (shared_view u).marks i) e)
+
+pub returns-clause-looked : goal.returns-clause-looked
+returns-clause-looked g c =
     let v = c.args.seat.now.place.me.0 in
-    let t = c.take-found.new.seat.place.me.0 in
-    let r = c.report_at-result in
-    let w = r.new.seat.place.me in
-    let taken = c.take-found.ensures.taken c.if-found-ne0.false in
-    known-turn v w c.args.known.now r.ensures.turn (ap (λ (x : View). x.basis) r.ensures.view ∙ basis-taken v t taken)
-    (Begins-trans v.front t.front w.0.front (taken.others, taken.goes_on) (begins-refused t w.0 (refused-same t w.0 r.ensures.view)))
-    c.requires.kept.right
+    let e = ap (λ (m : SeatView). m.0) c.raise.ensures.view
+    ∙ ap (λ (m : SeatView). with_mark_loaded m.0 c.args.lease.now.interval c.raise.result) c.look.ensures.same in
+    let w = with_mark_loaded v c.args.lease.now.interval c.raise.result in
+    subst (λ (u : View). HasLooked (shared_view v) (shared_view u)) (sym e)
+    (looked-loaded v w.marks w.loads v.floor v.floor_loads (omega arith))
 
-pub returns-in-Ok-clause-looked : goal.returns-in-Ok-clause-looked
-returns-in-Ok-clause-looked g c =
+pub returns-clause-marks : goal.returns-clause-marks
+returns-clause-marks g c =
     let v = c.args.seat.now.place.me.0 in
-    let t = c.take-found.new.seat.place.me.0 in
-    let r = c.report_at-result in
-    let w = r.new.seat.place.me in
-    let f = c.finish in
-    let k = c.args.known.now in
-    let taken = c.take-found.ensures.taken c.if-found-ne0.false in
-    let basis = ap (λ (x : View). x.basis) r.ensures.view in
-    given (λ u m. HasLooked (shared_view v k) (shared_view u m)) w f.new.seat.place.me f.new.known f.ensures.view
-    (looked-report v t w.0 k f.new.known taken basis c.requires.kept.right f.ensures.floor r.ensures.view)
+    let i = c.args.lease.now.interval in
+    let e = ap (λ (m : SeatView). m.0) c.raise.ensures.view
+    ∙ ap (λ (m : SeatView). with_mark_loaded m.0 i c.raise.result) c.look.ensures.same in
+    let same = ap (λ (m : SeatView). mark_of m.0.marks i) c.look.ensures.same in
+    let rises = c.raise.ensures.rises in
+    subst (λ (u : View). KeepsMarks (shared_view v) (shared_view u)) (sym e)
+    (marks-loaded v i c.raise.result (omega (arith, same, rises)))
 
-pub returns-in-Err-clause-looked : goal.returns-in-Err-clause-looked
-returns-in-Err-clause-looked g c =
-    let v = c.args.seat.now.place.me.0 in
-    let t = c.take-found.new.seat.place.me.0 in
-    let r = c.report_at-result in
-    let w = r.new.seat.place.me in
-    let f = c.finish in
-    let k = c.args.known.now in
-    let taken = c.take-found.ensures.taken c.if-found-ne0.false in
-    let basis = ap (λ (x : View). x.basis) r.ensures.view in
-    given (λ u m. HasLooked (shared_view v k) (shared_view u m)) w f.new.seat.place.me f.new.known f.ensures.view
-    (looked-report v t w.0 k f.new.known taken basis c.requires.kept.right f.ensures.floor r.ensures.view)
-
-pub returns-in-Err-clause-reason : goal.returns-in-Err-clause-reason
-returns-in-Err-clause-reason g c =
-    let v = c.args.seat.now.place.me.0 in
-    let t = c.take-found.new.seat.place.me.0 in
-    let r = c.report_at-result in
-    let w = r.new.seat.place.me in
-    let f = c.finish in
-    let k = c.args.known.now in
-    let taken = c.take-found.ensures.taken c.if-found-ne0.false in
-    let basis = ap (λ (x : View). x.basis) r.ensures.view in
-    given (λ u m. HasReason (shared_view v k) (shared_view u m) c.args.lease.now (refusals.Stale c.in-Err.why.newer))
-    w f.new.seat.place.me f.new.known f.ensures.view
-    (reason-report v t w.0 k f.new.known taken basis c.requires.kept.right f.ensures.floor c.args.lease.now c.in-Err.why r.ensures.view
-    c.in-Err.ensures.stale)
-
--- another had the turn, and no more was seen
-pub returns-then-found-ne0-clause-looked : goal.returns-then-found-ne0-clause-looked
-returns-then-found-ne0-clause-looked g c =
-    busy-looked c.args.seat.now.place.me c.take-found.new.seat.place.me c.args.known.now c.take-found.result
-    (c.take-found.ensures.busy c.if-found-ne0.true)
+pub invariant_of-seat : goal.invariant_of-seat
+invariant_of-seat g c =
+    let p = c.args.seat.now in
+    let e = ap (λ (m : SeatView). m.0) c.look.ensures.same in
+    let has = arrays-is p.place.me.0 c.look.new.place.me.0 p.marks p.claims p.inputs e
+    (record { loaded = p.loaded; claimed = p.claimed; fed = p.fed; long = p.long; there = p.there }) in
+    record {
+      numbered = ap (λ (v : View). first_of v.numbers) e ∙ p.numbered;
+      small = p.small;
+      live = ap (λ (v : View). v.live) e ∙ p.live;
+      loaded = has.loaded;
+      claimed = has.claimed;
+      fed = has.fed;
+      long = has.long;
+      there = has.there;
+    }

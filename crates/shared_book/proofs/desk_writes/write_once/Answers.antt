@@ -1,27 +1,27 @@
-use Rattle.std.proofs.Common.{◌∙◌, ◌∷◌, [], subst, sym}
+use Rattle.std.proofs.Common.{[], ap, length, subst, sym, ◌∙◌, ◌∷◌}
 use Rattle.mw_types.specs.declared.entry.Entry.TheVariants.{Ack, Purge}
 use Rattle.run_history.specs.Runs.{written_row}
-use Rattle.run_history.proofs.Beginnings.{Begins-trans}
 use Rattle.book.specs.Desking.{HasStored, HasWritten}
 use Rattle.book.specs.DeskReasons.{HasReason, of_write}
-use Rattle.book.specs.Desks.{HasLooked}
+use Rattle.book.specs.Desks.{HasLooked, KeepsMarks}
+use Rattle.shared_book.specs.declared.views.View.{View}
+use Rattle.shared_book.specs.Steps.{grown}
 use Rattle.shared_book.specs.SharedDesks.{shared_view}
 use Rattle.shared_book.specs.Turns.{HasStoredIn, HasWrittenIn}
-use Rattle.shared_book.proofs.DeskFacts.{known-turn}
-use Rattle.shared_book.proofs.DeskSteps.{begins-write, busy-looked, given, looked-refused, reason-write, refused-write, stored, written-by}
+use Rattle.shared_book.proofs.DeskSteps.{marks-busy, marks-grown, marks-refused, busy-looked, given, looked-refused, reason-write, refused-write, stored, written-by}
 use Rattle.shared_book.proofs.Taking.{basis-taken, core-taken, proposed-taken, row-taken, write-taken}
 use Rattle.shared_book.proofs.desk_writes.write_once.Goals as goal
 
 pub write_at-result-requires-clause-lease : goal.write_at-result-requires-clause-lease
 write_at-result-requires-clause-lease g c =
     let v = c.args.seat.now.place.me.0 in
-    write-taken v c.take-found.new.seat.place.me.0 (c.take-found.ensures.taken c.if-found-ne0.false) c.args.known.now c.args.lease.now
+    write-taken v c.take-found.new.seat.place.me.0 (c.take-found.ensures.taken c.if-found-ne0.false) c.args.lease.now
     c.args.name.now c.requires.lease
 
 pub write_at-result-requires-clause-row : goal.write_at-result-requires-clause-row
 write_at-result-requires-clause-row g c =
     let v = c.args.seat.now.place.me.0 in
-    row-taken v c.take-found.new.seat.place.me.0 (c.take-found.ensures.taken c.if-found-ne0.false) c.args.known.now c.args.lease.now
+    row-taken v c.take-found.new.seat.place.me.0 (c.take-found.ensures.taken c.if-found-ne0.false) c.args.lease.now
     c.args.name.now c.args.row.now c.requires.lease c.requires.row
 
 pub write_at-result-requires-clause-seen : goal.write_at-result-requires-clause-seen
@@ -31,21 +31,8 @@ write_at-result-requires-clause-seen g c =
     let taken = c.take-found.ensures.taken c.if-found-ne0.false in
     let turn = c.take-found.ensures.turn c.if-found-ne0.false in
     let core = core-taken v t taken t.count turn.book turn.core in
-    proposed-taken v t taken turn.book c.args.known.now c.args.lease.now c.args.name.now c.args.row.now c.args.proposal.now
-    core.whole core.told core.lawful c.requires.kept.right c.requires.row c.requires.known
-
-pub finish-requires-clause-known : goal.finish-requires-clause-known
-finish-requires-clause-known g c =
-    let v = c.args.seat.now.place.me.0 in
-    let t = c.take-found.new.seat.place.me.0 in
-    let r = c.write_at-result in
-    let w = r.new.seat.place.me in
-    let taken = c.take-found.ensures.taken c.if-found-ne0.false in
-    known-turn v w c.args.known.now r.ensures.turn (r.ensures.basis ∙ basis-taken v t taken)
-    (Begins-trans v.front t.front w.0.front (taken.others, taken.goes_on)
-    (begins-write t w.0 (HasWrittenIn t w.0 c.args.lease.now c.args.name.now c.args.proposal.now c.args.row.now) r.result
-    (λ answer is. (is.written.entry ∷ [], sym is.written.written.appended)) r.ensures.written r.ensures.fault r.ensures.unchanged))
-    c.requires.kept.right
+    proposed-taken v t taken turn.book c.args.lease.now c.args.name.now c.args.row.now c.args.proposal.now
+    core.whole core.told core.lawful c.args.seat.now.long.marks c.requires.row c.requires.known
 
 pub returns-in-Ok-clause-written : goal.returns-in-Ok-clause-written
 returns-in-Ok-clause-written g c =
@@ -54,11 +41,10 @@ returns-in-Ok-clause-written g c =
     let r = c.write_at-result in
     let w = r.new.seat.place.me in
     let f = c.finish in
-    let k = c.args.known.now in
-    given (λ u m. HasWritten (shared_view v k) (shared_view u m) c.args.lease.now c.args.name.now c.args.proposal.now c.args.row.now c.in-Ok.written)
-    w f.new.seat.place.me f.new.known f.ensures.view
-    (written-by v t w.0 k f.new.known (c.take-found.ensures.taken c.if-found-ne0.false) r.ensures.basis
-    c.requires.kept.right f.ensures.floor c.args.lease.now c.args.name.now c.args.proposal.now c.args.row.now c.in-Ok.written c.in-Ok.ensures.written)
+    given (λ u. HasWritten (shared_view v) (shared_view u) c.args.lease.now c.args.name.now c.args.proposal.now c.args.row.now c.in-Ok.written)
+    w f.new.seat.place.me f.ensures.view
+    (written-by v t w.0 (c.take-found.ensures.taken c.if-found-ne0.false) r.ensures.basis
+    c.args.lease.now c.args.name.now c.args.proposal.now c.args.row.now c.in-Ok.written c.in-Ok.ensures.written)
 
 pub returns-in-Err-clause-looked : goal.returns-in-Err-clause-looked
 returns-in-Err-clause-looked g c =
@@ -67,10 +53,9 @@ returns-in-Err-clause-looked g c =
     let r = c.write_at-result in
     let w = r.new.seat.place.me in
     let f = c.finish in
-    let k = c.args.known.now in
-    given (λ u m. HasLooked (shared_view v k) (shared_view u m)) w f.new.seat.place.me f.new.known f.ensures.view
-    (looked-refused v t w.0 k f.new.known (c.take-found.ensures.taken c.if-found-ne0.false) r.ensures.basis
-    c.requires.kept.right f.ensures.floor (refused-write t w.0 c.in-Err.why c.in-Err.ensures.fault c.in-Err.ensures.unchanged))
+    given (λ u. HasLooked (shared_view v) (shared_view u)) w f.new.seat.place.me f.ensures.view
+    (looked-refused v t w.0 (c.take-found.ensures.taken c.if-found-ne0.false) r.ensures.basis
+    (refused-write t w.0 c.in-Err.why c.in-Err.ensures.fault c.in-Err.ensures.unchanged))
 
 pub returns-in-Err-clause-reason : goal.returns-in-Err-clause-reason
 returns-in-Err-clause-reason g c =
@@ -79,17 +64,41 @@ returns-in-Err-clause-reason g c =
     let r = c.write_at-result in
     let w = r.new.seat.place.me in
     let f = c.finish in
-    let k = c.args.known.now in
     let why = c.in-Err.why in
     let refused = refused-write t w.0 why c.in-Err.ensures.fault c.in-Err.ensures.unchanged in
-    subst (HasReason (shared_view v k) (shared_view f.new.seat.place.me.0 f.new.known) c.args.lease.now) (sym c.of_write.ensures)
-    (given (λ u m. HasReason (shared_view v k) (shared_view u m) c.args.lease.now (of_write why))
-    w f.new.seat.place.me f.new.known f.ensures.view
-    (reason-write v t w.0 k f.new.known (c.take-found.ensures.taken c.if-found-ne0.false) r.ensures.basis
-    c.requires.kept.right f.ensures.floor c.args.lease.now why refused c.in-Err.ensures.fault c.in-Err.ensures.stale c.in-Err.ensures.full))
+    subst (HasReason (shared_view v) (shared_view f.new.seat.place.me.0) c.args.lease.now) (sym c.of_write.ensures)
+    (given (λ u. HasReason (shared_view v) (shared_view u) c.args.lease.now (of_write why))
+    w f.new.seat.place.me f.ensures.view
+    (reason-write v t w.0 (c.take-found.ensures.taken c.if-found-ne0.false) r.ensures.basis
+    c.args.lease.now why refused c.in-Err.ensures.fault c.in-Err.ensures.stale c.in-Err.ensures.full))
 
 -- another had the turn, and no more was seen
 pub returns-then-found-ne0-clause-looked : goal.returns-then-found-ne0-clause-looked
 returns-then-found-ne0-clause-looked g c =
-    busy-looked c.args.seat.now.place.me c.take-found.new.seat.place.me c.args.known.now c.take-found.result
+    busy-looked c.args.seat.now.place.me c.take-found.new.seat.place.me c.take-found.result
     (c.take-found.ensures.busy c.if-found-ne0.true)
+
+-- no mark falls
+pub returns-in-Ok-clause-marks : goal.returns-in-Ok-clause-marks
+returns-in-Ok-clause-marks g c =
+    let v = c.args.seat.now.place.me.0 in
+    let t = c.take-found.new.seat.place.me.0 in
+    let r = c.write_at-result in
+    let w = r.new.seat.place.me in
+    let f = c.finish in
+    given (λ u. KeepsMarks (shared_view v) (shared_view u)) w f.new.seat.place.me f.ensures.view
+    (marks-grown v t w.0 (c.take-found.ensures.taken c.if-found-ne0.false) r.ensures.basis c.in-Ok.ensures.written.view)
+
+pub returns-in-Err-clause-marks : goal.returns-in-Err-clause-marks
+returns-in-Err-clause-marks g c =
+    let v = c.args.seat.now.place.me.0 in
+    let t = c.take-found.new.seat.place.me.0 in
+    let r = c.write_at-result in
+    let w = r.new.seat.place.me in
+    let f = c.finish in
+    given (λ u. KeepsMarks (shared_view v) (shared_view u)) w f.new.seat.place.me f.ensures.view
+    (marks-refused v t w.0 (c.take-found.ensures.taken c.if-found-ne0.false) r.ensures.basis (refused-write t w.0 c.in-Err.why c.in-Err.ensures.fault c.in-Err.ensures.unchanged))
+
+pub returns-then-found-ne0-clause-marks : goal.returns-then-found-ne0-clause-marks
+returns-then-found-ne0-clause-marks g c =
+    marks-busy c.args.seat.now.place.me c.take-found.new.seat.place.me c.take-found.result (c.take-found.ensures.busy c.if-found-ne0.true)

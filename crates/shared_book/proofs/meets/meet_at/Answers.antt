@@ -1,9 +1,10 @@
 use Rattle.std.proofs.Common.{arith, ap, sym, subst, ◌∙◌}
 use Rattle.shared_book.specs.declared.views.View.{View}
-use Rattle.shared_book.specs.Joins.{joined, spent}
+use Rattle.shared_book.specs.Joins.{first_of, joined, spent}
 use Rattle.shared_book.specs.Steps.{HasSeenWritten, SeatView}
 use Rattle.shared_book.proofs.Starting.{lift_join}
 use Rattle.shared_book.proofs.Joining.{seats_join, met_numbers, met_own, met_leases, met_faults}
+use Rattle.shared_book.proofs.JoinedArrays.{arrays-met}
 use Rattle.shared_book.proofs.Meeting.{met_foreign}
 use Rattle.shared_book.proofs.meets.meet_at.Goals as goal
 
@@ -65,3 +66,22 @@ returns-clause-basis g c =
     let joined_is = ap (λ (m : SeatView). m.0) c.join_seat.ensures.2 in
     sym (ap (λ (v : View). v.met_basis) joined_is) ∙ c.look-2.ensures.met_same
     ∙ ap (λ (v : View). v.basis) joined_is ∙ ap (λ (m : SeatView). m.0.basis) c.look.ensures.same
+
+pub invariant_of-seat : goal.invariant_of-seat
+invariant_of-seat g c =
+    let s = c.args.seat.now in
+    let v = s.place.me.0 in
+    let w = c.args.note.place.me.0 in
+    let is = ap (λ (m : SeatView). m.0) (c.look-2.ensures.same ∙ c.join_seat.ensures.2) ∙ ap (λ (m : SeatView). joined m.0 w) c.look.ensures.same in
+    let has = arrays-met v w c.look-2.new.place.me.0 s.marks s.claims s.inputs c.args.note.bare is
+    (record { loaded = s.loaded; claimed = s.claimed; fed = s.fed; long = s.long; there = s.there }) in
+    record {
+      numbered = ap (λ (u : View). first_of u.numbers) is ∙ ap first_of (met_numbers v w c.args.note.bare) ∙ s.numbered;
+      small = s.small;
+      live = ap (λ (u : View). u.live) is ∙ s.live;
+      loaded = has.loaded;
+      claimed = has.claimed;
+      fed = has.fed;
+      long = has.long;
+      there = has.there;
+    }

@@ -25,5 +25,5 @@ store-requires g c =
       may_open t.key t.table_id.slots c.exchange-was.new.seat.id c.exchange-was.new.seat.me c.load.new.seat.me c.args.core c.args.many
           c.args.shared.now.case.now c.args.seats c.requires.case c.requires.seats
           (fetched p.me c.load.new.seat.me c.args.shared.now.case.now c.args.seats l.2 c.requires.blank) e.3 c.requires.many
-          c.requires.some (omega (arith, ids.1)) c.requires.lawful,
+          c.requires.some (omega (arith, ids.1)) c.requires.lawful c.requires.right,
     )

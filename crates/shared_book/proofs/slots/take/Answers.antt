@@ -1,5 +1,7 @@
-use Rattle.std.proofs.Common.{arith}
+use Rattle.std.proofs.Common.{◌∙◌, ap, arith}
+use Rattle.shared_book.specs.Joins.{first_of}
 use Rattle.shared_book.proofs.Told.{may_take, took_turn}
+use Rattle.shared_book.proofs.Told.{told_arrays, told_same}
 use Rattle.shared_book.proofs.slots.take.Goals as goal
 
 pub compare_exchange-requires : goal.compare_exchange-requires
@@ -22,3 +24,21 @@ pub returns-clause-taken : goal.returns-clause-taken
 returns-clause-taken g c = λ e.
     let step = c.compare_exchange in
     (took_turn step.result c.args.seat.now.place.me step.new.seat.me c.requires.idle.places step.ensures.2.1 e).1
+
+pub invariant_of-seat : goal.invariant_of-seat
+invariant_of-seat g c =
+    let p = c.args.seat.now in
+    let step = c.compare_exchange in
+    let kept = told_same step.result p.place.me step.new.seat.me c.requires.idle.places step.ensures.2.1 in
+    let has = told_arrays step.result p.place.me step.new.seat.me p.marks p.claims p.inputs c.requires.idle.places step.ensures.2.1
+    (record { loaded = p.loaded; claimed = p.claimed; fed = p.fed; long = p.long; there = p.there }) in
+    record {
+      numbered = ap first_of kept.2 ∙ p.numbered;
+      small = p.small;
+      live = kept.1 ∙ p.live;
+      loaded = has.loaded;
+      claimed = has.claimed;
+      fed = has.fed;
+      long = has.long;
+      there = has.there;
+    }

@@ -1,5 +1,8 @@
-use Rattle.std.proofs.Common.{arith, ◌+◌}
-use Rattle.shared_book.specs.Joins.{stays, leaves}
+use Rattle.std.proofs.Common.{arith, ap, ◌+◌, ◌∙◌}
+use Rattle.shared_book.specs.declared.views.View.{View}
+use Rattle.shared_book.specs.Steps.{SeatView}
+use Rattle.shared_book.proofs.SeatArrays.{arrays-same}
+use Rattle.shared_book.specs.Joins.{first_of, leaves, stays}
 use Rattle.shared_book.proofs.Starting.{lift_split}
 use Rattle.shared_book.proofs.Joining.{seat_splits}
 use Rattle.shared_book.proofs.Told.{two_numbers}
@@ -17,3 +20,22 @@ split_seat-place-requires g c =
       lift_split c.args.self.now.table.shared.key p.id v (stays v) (leaves v) s.live
           (λ basis. seat_splits basis p.id s.number (s.number + 1) n.0 v n.1 c.requires.idle.turn),
     )
+
+pub invariant_of-seat : goal.invariant_of-seat
+invariant_of-seat g c =
+    let p = c.args.seat.now in
+    let e = ap (λ (m : SeatView). m.0) c.split_seat-place.ensures.2 in
+    let few = c.requires.few in
+    let has = arrays-same p.place.me.0 c.split_seat-place.new.seat.me.0 p.marks p.claims p.inputs (ap (λ (v : View). v.basis) e)
+    (ap (λ (v : View). v.marks) e) (ap (λ (v : View). v.settled) e) (ap (λ (v : View). v.leases) e)
+    (record { loaded = p.loaded; claimed = p.claimed; fed = p.fed; long = p.long; there = p.there }) in
+    record {
+      numbered = ap (λ (v : View). first_of v.numbers) e ∙ c.requires.more;
+      small = omega (arith, few);
+      live = ap (λ (v : View). v.live) e ∙ p.live;
+      loaded = has.loaded;
+      claimed = has.claimed;
+      fed = has.fed;
+      long = has.long;
+      there = has.there;
+    }

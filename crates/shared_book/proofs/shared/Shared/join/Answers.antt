@@ -5,6 +5,8 @@ use Rattle.shared_book.specs.Steps.{SeatView}
 use Rattle.shared_book.specs.Joins.{joined, spent, first_of}
 use Rattle.shared_book.proofs.Merging.{joined_high, joined_even}
 use Rattle.shared_book.proofs.Starting.{lift_join}
+use Rattle.shared_book.proofs.JoinedArrays.{arrays-joined}
+use Rattle.shared_book.proofs.SeatArrays.{HasArrays}
 use Rattle.shared_book.proofs.Joining.{joined-met, joined-seen, seats_join}
 use Rattle.shared_book.proofs.shared.Shared.join.Goals as goal
 
@@ -33,12 +35,24 @@ invariant_of-seat g c =
     let same = c.look.ensures.same in
     let w = c.look.new.place.me.0 in
     let e = ap (λ (m : SeatView). m.0) (c.look-2.ensures.same ∙ c.join_seat.ensures.2) in
+    let has = arrays-joined s.place.me.0 w c.look-2.new.place.me.0 s.marks s.claims s.inputs o.marks o.claims o.inputs
+    c.greater_of-seat.result c.newer_of-seat-2.result c.newer_of-seat.result e
+    (ap (λ (m : SeatView). m.0.basis.case) same ∙ c.requires.other.case ∙ sym c.requires.here.case)
+    (record { loaded = s.loaded; claimed = s.claimed; fed = s.fed; long = s.long; there = s.there })
+    (subst (λ (m : SeatView). HasArrays m.0 o.marks o.claims o.inputs) (sym same)
+    (record { loaded = o.loaded; claimed = o.claimed; fed = o.fed; long = o.long; there = o.there }))
+    c.greater_of-seat.ensures c.newer_of-seat-2.ensures c.newer_of-seat.ensures in
     record {
       numbered = ap (λ (v : View). first_of v.numbers) e ∙ joined_high s.number o.number s.place.me.0.numbers w.numbers s.numbered
           (ap (λ (m : SeatView). first_of m.0.numbers) same ∙ o.numbered) (omega (arith, c.if-number-seat.true))
           (subst (λ (m : SeatView). Ascends m.0.numbers) (sym same) c.look.ensures.seen.ascend);
       small = o.small;
       live = ap (λ (v : View). v.live) e ∙ s.live;
+      loaded = has.loaded;
+      claimed = has.claimed;
+      fed = has.fed;
+      long = has.long;
+      there = has.there;
     }
 
 pub invariant_of-seat-else-number-seat : goal.invariant_of-seat-else-number-seat
@@ -48,12 +62,24 @@ invariant_of-seat-else-number-seat g c =
     let same = c.look.ensures.same in
     let w = c.look.new.place.me.0 in
     let e = ap (λ (m : SeatView). m.0) (c.look-2.ensures.same ∙ c.join_seat.ensures.2) in
+    let has = arrays-joined s.place.me.0 w c.look-2.new.place.me.0 s.marks s.claims s.inputs o.marks o.claims o.inputs
+    c.greater_of-seat.result c.newer_of-seat-2.result c.newer_of-seat.result e
+    (ap (λ (m : SeatView). m.0.basis.case) same ∙ c.requires.other.case ∙ sym c.requires.here.case)
+    (record { loaded = s.loaded; claimed = s.claimed; fed = s.fed; long = s.long; there = s.there })
+    (subst (λ (m : SeatView). HasArrays m.0 o.marks o.claims o.inputs) (sym same)
+    (record { loaded = o.loaded; claimed = o.claimed; fed = o.fed; long = o.long; there = o.there }))
+    c.greater_of-seat.ensures c.newer_of-seat-2.ensures c.newer_of-seat.ensures in
     record {
       numbered = ap (λ (v : View). first_of v.numbers) e ∙ joined_even s.number o.number s.place.me.0.numbers w.numbers s.numbered
           (ap (λ (m : SeatView). first_of m.0.numbers) same ∙ o.numbered) (omega (arith, c.if-number-seat.false))
           (subst (λ (m : SeatView). Ascends m.0.numbers) (sym same) c.look.ensures.seen.ascend);
       small = s.small;
       live = ap (λ (v : View). v.live) e ∙ s.live;
+      loaded = has.loaded;
+      claimed = has.claimed;
+      fed = has.fed;
+      long = has.long;
+      there = has.there;
     }
 
 -- what either had seen begins the longer of both, where the number of the other is the first

@@ -1,6 +1,8 @@
 use Rattle.std.proofs.Common.{arith, ap, ◌∙◌}
-use Rattle.shared_book.specs.Joins.{note_of}
+use Rattle.shared_book.specs.declared.views.View.{View}
+use Rattle.shared_book.specs.Joins.{first_of, note_of}
 use Rattle.shared_book.specs.Steps.{SeatView}
+use Rattle.shared_book.proofs.SeatCalls.{arrays-is}
 use Rattle.shared_book.proofs.Starting.{lift_split}
 use Rattle.shared_book.proofs.Joining.{note_splits, note_bare}
 use Rattle.shared_book.proofs.shared.Shared.note.Goals as goal
@@ -23,4 +25,21 @@ invariant_of-result g c =
       bare = note_bare s.place.me.0 c.split_seat.result.me.0 (ap (λ (m : SeatView). m.0) e);
       empty = ap (λ (m : SeatView). m.1) e;
       live = ap (λ (m : SeatView). m.0.live) e ∙ s.live;
+    }
+
+pub invariant_of-seat : goal.invariant_of-seat
+invariant_of-seat g c =
+    let p = c.args.seat.now in
+    let e = ap (λ (m : SeatView). m.0) c.split_seat.ensures.2 in
+    let has = arrays-is p.place.me.0 c.split_seat.new.seat.me.0 p.marks p.claims p.inputs e
+    (record { loaded = p.loaded; claimed = p.claimed; fed = p.fed; long = p.long; there = p.there }) in
+    record {
+      numbered = ap (λ (v : View). first_of v.numbers) e ∙ p.numbered;
+      small = p.small;
+      live = ap (λ (v : View). v.live) e ∙ p.live;
+      loaded = has.loaded;
+      claimed = has.claimed;
+      fed = has.fed;
+      long = has.long;
+      there = has.there;
     }

@@ -1,4 +1,4 @@
-use Rattle.std.proofs.Common.{sym, subst}
+use Rattle.std.proofs.Common.{ap, length, sym, subst}
 use Rattle.run_history.specs.Inputs.{IsRunnable}
 use Rattle.shared_book.proofs.DeskFacts.{sound}
 use Rattle.shared_book.proofs.shared_desk.SharedDeskDesk.sound.Goals as goal
@@ -7,5 +7,5 @@ use Rattle.shared_book.proofs.shared_desk.SharedDeskDesk.sound.Goals as goal
 pub returns : goal.returns
 returns g c =
     let desk = c.args.self.now in record {
-      sound = sound desk.seat.now.place.me.0 desk.known (subst IsRunnable (sym desk.case) c.case_is_runnable.ensures.runnable) desk.kept;
+      sound = sound desk.seat.now.place.me.0 desk.seat.now.long.marks (subst IsRunnable (sym desk.case) c.case_is_runnable.ensures.runnable) desk.kept;
     }

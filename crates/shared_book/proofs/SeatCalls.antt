@@ -1,0 +1,122 @@
+-- A seat's arrays are those of its view after each call of a turn.
+use Rattle.std.proofs.Common.{◌≡◌, ◌≢◌, ◌∙◌, ℕ, suc, ◌<◌, ◌++◌, ◌∷◌, List, [], length, drop, refl, sym, ap, subst}
+use Rattle.std.specs.Prelude.{Err, IfErr, IfOk, IsErrOf, Ok, Result, Some, slice_set}
+use Rattle.std.proofs.lemmas.List.{append-nil}
+use Rattle.mw_types.specs.declared.entry.Entry.{Entry}
+use Rattle.mw_types.specs.declared.entry.Entry.TheVariants.{Claim, Inject, Handle, Fire, Ack, Purge}
+use Rattle.mw_types.specs.declared.identity.RowName.{RowName}
+use Rattle.row_parts.specs.Contents.{Contents}
+use Rattle.run_history.specs.Cases.{intervals_of}
+use Rattle.run_history.specs.Fences.{sequencer_of}
+use Rattle.list_lemmas.proofs.Lists.{none_some}
+use Rattle.book.specs.Books.{LeaseView}
+use Rattle.book.specs.declared.answers.Claimed.{Claimed}
+use Rattle.book.specs.declared.answers.Written.{Written}
+use Rattle.book.specs.declared.proposal.Proposal.{Proposal}
+use Rattle.book.specs.declared.refusals.ClaimRefusal.{ClaimRefusal}
+use Rattle.book.specs.declared.refusals.ClaimRefusal.TheVariants as claims
+use Rattle.book.specs.declared.refusals.WriteRefusal.{WriteRefusal}
+use Rattle.book.specs.declared.refusals.WriteRefusal.TheVariants as writes
+use Rattle.shared_book.specs.declared.views.Settled.{Settled}
+use Rattle.shared_book.specs.declared.views.View.{View}
+use Rattle.shared_book.specs.Places.{PLACES, claimed_now, settled_by, settled_in}
+use Rattle.shared_book.specs.Steps.{SeatView, grown, lease_in}
+use Rattle.shared_book.specs.Turns.{HasClaimedIn, HasFaulted, HasStoredIn, HasWrittenIn}
+use Rattle.shared_book.proofs.Calls.{entry_carries}
+use Rattle.shared_book.proofs.Lists.{drop_front}
+use Rattle.shared_book.proofs.SeatArrays.{HasArrays, arrays-claimed, arrays-same}
+
+-- an entry that carries a sequencer is no claim, and settles nothing
+settles-none : (e : Entry) (seq commit : ℕ) (places : List Settled) → sequencer_of e ≡ Some seq → settled_by e commit places ≡ places
+settles-none (Claim worker interval) seq commit places carries = absurd (none_some seq carries)
+settles-none (Inject q part line item) seq commit places carries = refl
+settles-none (Handle q row id effects) seq commit places carries = refl
+settles-none (Fire q row timer mark effects) seq commit places carries = refl
+settles-none (Ack q row id) seq commit places carries = refl
+settles-none (Purge q row floor) seq commit places carries = refl
+
+-- and gives no lease
+gives-none : (e : Entry) (seq commit : ℕ) → sequencer_of e ≡ Some seq → lease_in (e ∷ []) commit ≡ []
+gives-none (Claim worker interval) seq commit carries = absurd (none_some seq carries)
+gives-none (Inject q part line item) seq commit carries = refl
+gives-none (Handle q row id effects) seq commit carries = refl
+gives-none (Fire q row timer mark effects) seq commit carries = refl
+gives-none (Ack q row id) seq commit carries = refl
+gives-none (Purge q row floor) seq commit carries = refl
+
+-- an entry of the seat was appended that is no claim
+arrays-grown : (v w : View) (e : Entry) (seq : ℕ) (marks claims inputs : List ℕ) → w ≡ grown v w.front → w.front ≡ v.front ++ e ∷ []
+    → sequencer_of e ≡ Some seq → HasArrays v marks claims inputs → HasArrays w marks claims inputs
+arrays-grown v w e seq marks claims inputs is front carries = arrays-same v w marks claims inputs
+    (ap (λ (u : View). u.basis) is) (ap (λ (u : View). u.marks) is)
+    (ap (λ (u : View). u.settled) is ∙ ap (λ l. settled_in l (length v.front) v.settled) left
+    ∙ settles-none e seq (length v.front) v.settled carries)
+    (ap (λ (u : View). u.leases) is ∙ ap (λ l. v.leases ++ lease_in l (length v.front)) left
+    ∙ ap (λ l. v.leases ++ l) (gives-none e seq (length v.front) carries) ∙ append-nil v.leases)
+  where
+    left : drop (length v.front) w.front ≡ e ∷ []
+    left = ap (drop (length v.front)) front ∙ drop_front v.front (e ∷ [])
+
+-- nothing was changed
+pub arrays-is : (v w : View) (marks claims inputs : List ℕ) → w ≡ v → HasArrays v marks claims inputs → HasArrays w marks claims inputs
+arrays-is v w marks claims inputs is = subst (λ (u : View). HasArrays u marks claims inputs) (sym is)
+
+-- a fault was noted
+arrays-fault : (v w : View) (marks claims inputs : List ℕ) → HasFaulted v w → HasArrays v marks claims inputs → HasArrays w marks claims inputs
+arrays-fault v w marks claims inputs fault = arrays-same v w marks claims inputs (ap (λ (u : View). u.basis) fault.2) (ap (λ (u : View). u.marks) fault.2)
+    (ap (λ (u : View). u.settled) fault.2) (ap (λ (u : View). u.leases) fault.2)
+
+-- a write was refused
+arrays-refused : (v w : View) (marks claims inputs : List ℕ) (why : WriteRefusal)
+    → (IsErrOf {T = Written} (Err why) writes.KeeperFault → HasFaulted v w) → ((why ≢ writes.KeeperFault) → w ≡ v)
+    → HasArrays v marks claims inputs → HasArrays w marks claims inputs
+arrays-refused v w marks claims inputs writes.KeeperFault fault same = arrays-fault v w marks claims inputs (fault refl)
+arrays-refused v w marks claims inputs (writes.Stale newer) fault same = arrays-is v w marks claims inputs (same (λ e. cc))
+arrays-refused v w marks claims inputs writes.HistoryFull fault same = arrays-is v w marks claims inputs (same (λ e. cc))
+arrays-refused v w marks claims inputs writes.NoMemory fault same = arrays-is v w marks claims inputs (same (λ e. cc))
+
+-- a write came to its end
+pub arrays-write : (v w : View) (marks claims inputs : List ℕ) (lease : LeaseView) (name : RowName) (proposal : Proposal) (row : Contents)
+    (r : Result Written WriteRefusal) → IfOk r (HasWrittenIn v w lease name proposal row)
+    → (IsErrOf r writes.KeeperFault → HasFaulted v w) → IfErr r (λ why. (why ≢ writes.KeeperFault) → w ≡ v)
+    → HasArrays v marks claims inputs → HasArrays w marks claims inputs
+arrays-write v w marks claims inputs lease name proposal row (Ok written) ok fault same =
+    arrays-grown v w ok.written.entry lease.seq marks claims inputs ok.view ok.written.written.appended
+    (entry_carries v.basis.case lease.seq name proposal ok.written.entry ok.written.of_proposal)
+arrays-write v w marks claims inputs lease name proposal row (Err why) ok fault same =
+    arrays-refused v w marks claims inputs why fault same
+
+-- and so one that stores
+pub arrays-store : (v w : View) (marks claims inputs : List ℕ) (lease : LeaseView) (name : RowName) (entry : Entry) (row : Contents)
+    (r : Result Written WriteRefusal) → sequencer_of entry ≡ Some lease.seq → IfOk r (HasStoredIn v w lease name entry row)
+    → (IsErrOf r writes.KeeperFault → HasFaulted v w) → IfErr r (λ why. (why ≢ writes.KeeperFault) → w ≡ v)
+    → HasArrays v marks claims inputs → HasArrays w marks claims inputs
+arrays-store v w marks claims inputs lease name entry row (Ok written) carries ok fault same =
+    arrays-grown v w entry lease.seq marks claims inputs ok.view ok.written.appended carries
+arrays-store v w marks claims inputs lease name entry row (Err why) carries ok fault same =
+    arrays-refused v w marks claims inputs why fault same
+
+-- a claim was refused
+pub arrays-unclaimed : (v w : View) (marks owned inputs : List ℕ) (why : ClaimRefusal)
+    → (IsErrOf {T = Claimed} (Err why) claims.KeeperFault → HasFaulted v w) → ((why ≢ claims.KeeperFault) → w ≡ v)
+    → HasArrays v marks owned inputs → HasArrays w marks owned inputs
+arrays-unclaimed v w marks owned inputs claims.KeeperFault fault same = arrays-fault v w marks owned inputs (fault refl)
+arrays-unclaimed v w marks owned inputs (claims.RowDamaged name bytes) fault same = arrays-is v w marks owned inputs (same (λ e. cc))
+arrays-unclaimed v w marks owned inputs claims.HistoryFull fault same = arrays-is v w marks owned inputs (same (λ e. cc))
+arrays-unclaimed v w marks owned inputs claims.NoMemory fault same = arrays-is v w marks owned inputs (same (λ e. cc))
+
+-- and accepted
+pub arrays-claim : (v w : View) (marks claims inputs : List ℕ) (worker interval : ℕ) (answer : Claimed)
+    → HasClaimedIn v w worker interval answer → interval < PLACES → interval < length (intervals_of v.basis.case.topology) → (claim : ℕ) → claim ≡ suc answer.lease.seq
+    → HasArrays v marks claims inputs
+    → HasArrays w marks (slice_set claims interval claim) (slice_set inputs interval 0)
+arrays-claim v w marks claims inputs worker interval answer is within here claim next has =
+    subst (λ (n : ℕ). HasArrays w marks (slice_set claims interval n) (slice_set inputs interval 0))
+    (sym (next ∙ ap (λ (l : LeaseView). suc l.seq) is.lease))
+    (arrays-claimed v w marks claims inputs interval (length v.front) (ap (λ (u : View). u.basis) is.view) (ap (λ (u : View). u.marks) is.view)
+    (ap (λ (u : View). u.settled) is.view ∙ ap (λ l. settled_in l (length v.front) v.settled) left)
+    (ap (λ (u : View). u.leases) is.view ∙ ap (λ l. v.leases ++ lease_in l (length v.front)) left)
+    within here has)
+  where
+    left : drop (length v.front) (v.front ++ Claim worker interval ∷ []) ≡ Claim worker interval ∷ []
+    left = drop_front v.front (Claim worker interval ∷ [])

@@ -1,0 +1,9 @@
+use Rattle.std.proofs.Common.{◌≡◌, ◌∙◌, ap, sym}
+use Rattle.shared_book.proofs.Filling.{last-some}
+use Rattle.shared_book.proofs.settling.settled_input.Goals as goal
+
+-- an interval that was claimed is there
+pub least_input-requires : goal.least_input-requires
+least_input-requires g c =
+    let last = last-some c.last_claim.result c.args.claim (sym c.is_last.ensures ∙ c.if-is_last.true) in
+    record { there = c.sound.ensures.lawful.claims c.args.interval last.0 (sym c.last_claim.ensures.last ∙ last.1) }

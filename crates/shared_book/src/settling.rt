@@ -1,0 +1,110 @@
+//! What a release settles of a seat's leases.
+ghost use Rattle.std.specs.Prelude.{◌≡◌, ◌==◌, ◌<◌, ℕ, false, length, suc};
+ghost use Rattle.std.specs.Option.{option_map_or};
+ghost use Rattle.run_history.specs.Cases.{intervals_of};
+ghost use Rattle.run_history.specs.Fences.{last_claim};
+ghost use Rattle.run_history.specs.Legal.{floor_of};
+ghost use Rattle.run_history.specs.Runs.{run_of};
+ghost use Rattle.run_history.specs.Watermarks.{least};
+ghost use Rattle.watermark.specs.Marks.{feeding_marks};
+ghost use Rattle.shared_book.specs.Places.{claims_of, inputs_of};
+ghost use Rattle.shared_book.specs.Settling.{AreSettledTo, input_after};
+ghost use Rattle.shared_book.specs.Steps.{idle};
+ghost use Rattle.shared_book.specs.Turns.{HasTurn, IsHere};
+
+use crate::shared::Shared;
+use crate::slots::{home, out};
+use crate::views::View;
+use atomic_table::Seat as Place;
+use book::{Book, Core};
+use history_laws::case_is_runnable;
+use row_keeper::Keeper;
+use watermark::inputs;
+
+// The floor of the history, and the input marks that a release of the turn settles.
+pub(crate) fn settled_in<K: Keeper>(
+    shared: &Shared<'_, K>,
+    place: &mut Place<Option<Core<K>>, View>,
+    marks: &[u64; 61],
+    claims: &[u64; 61],
+    inputs: &[u64; 61],
+) -> (u64, [u64; 61])
+    requires here { IsHere shared.now.table.shared.table_id shared.now.case.now place.old }
+    requires turn { HasTurn place.old.me }
+    requires loaded { marks.now ≡ place.old.me.0.marks }
+    requires claimed { claims.now ≡ claims_of place.old.me.0 }
+    requires fed { inputs.now ≡ inputs_of place.old.me.0 }
+    ensures here { IsHere shared.now.table.shared.table_id shared.now.case.now place.new }
+    ensures turn { HasTurn place.new.me }
+    ensures view { place.new.me.0 ≡ place.old.me.0 }
+    ensures floor { let v = place.old.me.0 in
+        result.0 ≡ floor_of (run_of v.basis.case.topology v.front) }
+    ensures inputs { result.1 ≡ inputs_of (idle place.old.me.0) }
+{
+    let core = out(shared, place);
+    let book = Book::of(shared.case, core);
+    let floor = book.floor();
+    let settled = settle(&book, marks, claims, inputs);
+    let (_case, core) = book.into_core();
+    home(shared, place, core);
+    (floor, settled)
+}
+
+// Of each interval whose last claim is the seat's, the input mark is the least of the marks that feed
+// it.
+fn settle<K: Keeper>(
+    book: &Book<'_, K>,
+    marks: &[u64; 61],
+    claims: &[u64; 61],
+    inputs: &[u64; 61],
+) -> [u64; 61]
+    ensures settled { AreSettledTo book.now.case.topology book.now.history marks.now claims.now
+        inputs.now 61 result }
+{
+    let mut settled = *inputs;
+    for interval in 0..61 {
+        let at = interval as usize;
+        settled[at] = settled_input(book, marks, interval, claims[at], inputs[at]);
+    }
+    settled
+}
+
+// The input mark of one interval.
+fn settled_input<K: Keeper>(
+    book: &Book<'_, K>,
+    marks: &[u64; 61],
+    interval: u32,
+    claim: u64,
+    input: u64,
+) -> u64
+    ensures { result ≡ input_after book.now.case.topology book.now.history marks.now interval claim
+        input }
+{
+    if is_last(book.last_claim(interval), claim) {
+        book.sound();
+        least_input(book, interval, marks)
+    } else {
+        input
+    }
+}
+
+// The least of the marks that feed an interval.
+fn least_input<K: Keeper>(book: &Book<'_, K>, interval: u32, marks: &[u64; 61]) -> u64
+    requires there { interval < length (intervals_of book.now.case.topology) }
+    ensures { result ≡ least (feeding_marks book.now.case.topology interval marks.now) }
+{
+    let case = book.case();
+    case_is_runnable(case);
+    let count = case.intervals().count() as usize;
+    inputs(case, interval, &marks[..count])
+}
+
+// Whether the last claim is 1 less than this.
+fn is_last(last: Option<u64>, claim: u64) -> bool
+    ensures { result ≡ option_map_or (λ (seq : ℕ). suc seq == claim) last false }
+{
+    match last {
+        Some(seq) => claim != 0 && claim - 1 == seq,
+        None => false,
+    }
+}

@@ -1,0 +1,176 @@
+//! The steps of a turn of work that no message asks for.
+ghost use Rattle.std.specs.Prelude.{◌≡◌, ◌<◌, IfErr};
+ghost use Rattle.node.specs.Fits.{Fits};
+ghost use Rattle.node.specs.Messages.{IsComputation};
+ghost use Rattle.node.specs.Works.{IsWorkOf};
+ghost use Rattle.workers.specs.Serving.{HasServed};
+ghost use Rattle.workers.specs.Slices.{IsSliceFault};
+
+use crate::counts::{injectors_in, intervals_in, parts_in};
+use crate::tries::{fire, inject, purge, report};
+use book::{Desk, Seen};
+use computations::Computation;
+use node::{Node, NodeFault, Outcome};
+use run_history::Case;
+use std::alloc::Global;
+use std::sync::Wait;
+
+// Whether there was nothing to do.
+fn is_nothing(outcome: &Outcome) -> bool {
+    match outcome {
+        Outcome::Nothing => true,
+        _ => false,
+    }
+}
+
+// Up to 16 timers of a part fire.
+fn fire_part<R: Wait, N: Seen, D: Desk<Note = N>, C: Computation>(
+    rt: &R,
+    alloc: Global,
+    node: &mut Node<N>,
+    desk: &mut D,
+    case: &Case,
+    work: &C,
+    part: u32,
+) -> Result<(), NodeFault>
+    requires fits { Fits case.now (D.view desk.old) node.old }
+    requires work { IsWorkOf case.now.topology (C.has work.now)
+        (C.gives_record work.now) (C.gives_timer work.now) }
+    requires part { IsComputation case.now.topology part }
+
+    ensures served { HasServed case.now 16 (D.view desk.old) (D.view desk.new)
+        node.old node.new }
+    ensures fault { IfErr result (IsSliceFault (D.view desk.old) (D.view desk.new)) }
+    ensures loan { D.loan desk.new ≡ D.loan desk.old }
+    ensures home { D.home desk.new ≡ D.home desk.old }
+{
+    for done in 0..16u32 {
+        let outcome = fire(rt, alloc, node, desk, case, work, part)?;
+        if is_nothing(&outcome) {
+            return Ok(());
+        }
+    }
+    Ok(())
+}
+
+// Up to 16 timers of each computation fire.
+pub(crate) fn fire_all<R: Wait, N: Seen, D: Desk<Note = N>, C: Computation>(
+    rt: &R,
+    alloc: Global,
+    node: &mut Node<N>,
+    desk: &mut D,
+    case: &Case,
+    work: &C,
+) -> Result<(), NodeFault>
+    requires fits { Fits case.now (D.view desk.old) node.old }
+    requires work { IsWorkOf case.now.topology (C.has work.now)
+        (C.gives_record work.now) (C.gives_timer work.now) }
+
+    ensures served { HasServed case.now 976 (D.view desk.old) (D.view desk.new)
+        node.old node.new }
+    ensures fault { IfErr result (IsSliceFault (D.view desk.old) (D.view desk.new)) }
+    ensures loan { D.loan desk.new ≡ D.loan desk.old }
+    ensures home { D.home desk.new ≡ D.home desk.old }
+{
+    let parts = parts_in(case);
+    let injectors = injectors_in(case);
+    for part in injectors..parts {
+        fire_part(rt, alloc, node, desk, case, work, part)?;
+    }
+    Ok(())
+}
+
+// Up to 16 lines of an injector are injected.
+fn inject_part<R: Wait, N: Seen, D: Desk<Note = N>>(
+    rt: &R,
+    alloc: Global,
+    node: &mut Node<N>,
+    desk: &mut D,
+    case: &Case,
+    part: u32,
+) -> Result<(), NodeFault>
+    requires fits { Fits case.now (D.view desk.old) node.old }
+
+    ensures served { HasServed case.now 16 (D.view desk.old) (D.view desk.new)
+        node.old node.new }
+    ensures fault { IfErr result (IsSliceFault (D.view desk.old) (D.view desk.new)) }
+    ensures loan { D.loan desk.new ≡ D.loan desk.old }
+    ensures home { D.home desk.new ≡ D.home desk.old }
+{
+    for done in 0..16u32 {
+        let outcome = inject(rt, alloc, node, desk, case, part)?;
+        if is_nothing(&outcome) {
+            return Ok(());
+        }
+    }
+    Ok(())
+}
+
+// Up to 16 lines of each injector are injected.
+pub(crate) fn inject_all<R: Wait, N: Seen, D: Desk<Note = N>>(
+    rt: &R,
+    alloc: Global,
+    node: &mut Node<N>,
+    desk: &mut D,
+    case: &Case,
+) -> Result<(), NodeFault>
+    requires fits { Fits case.now (D.view desk.old) node.old }
+
+    ensures served { HasServed case.now 256 (D.view desk.old) (D.view desk.new)
+        node.old node.new }
+    ensures fault { IfErr result (IsSliceFault (D.view desk.old) (D.view desk.new)) }
+    ensures loan { D.loan desk.new ≡ D.loan desk.old }
+    ensures home { D.home desk.new ≡ D.home desk.old }
+{
+    let injectors = injectors_in(case);
+    for part in 0..injectors {
+        inject_part(rt, alloc, node, desk, case, part)?;
+    }
+    Ok(())
+}
+
+// A row of each interval forgets ids, where it has 64.
+pub(crate) fn purge_all<R: Wait, N: Seen, D: Desk<Note = N>>(
+    rt: &R,
+    alloc: Global,
+    node: &mut Node<N>,
+    desk: &mut D,
+    case: &Case,
+) -> Result<(), NodeFault>
+    requires fits { Fits case.now (D.view desk.old) node.old }
+
+    ensures served { HasServed case.now 61 (D.view desk.old) (D.view desk.new)
+        node.old node.new }
+    ensures fault { IfErr result (IsSliceFault (D.view desk.old) (D.view desk.new)) }
+    ensures loan { D.loan desk.new ≡ D.loan desk.old }
+    ensures home { D.home desk.new ≡ D.home desk.old }
+{
+    let intervals = intervals_in(case);
+    for interval in 0..intervals {
+        purge(rt, alloc, node, desk, case, interval)?;
+    }
+    Ok(())
+}
+
+// The own work of each interval is reported.
+pub(crate) fn report_all<R: Wait, N: Seen, D: Desk<Note = N>>(
+    rt: &R,
+    alloc: Global,
+    node: &mut Node<N>,
+    desk: &mut D,
+    case: &Case,
+) -> Result<(), NodeFault>
+    requires fits { Fits case.now (D.view desk.old) node.old }
+
+    ensures served { HasServed case.now 61 (D.view desk.old) (D.view desk.new)
+        node.old node.new }
+    ensures fault { IfErr result (IsSliceFault (D.view desk.old) (D.view desk.new)) }
+    ensures loan { D.loan desk.new ≡ D.loan desk.old }
+    ensures home { D.home desk.new ≡ D.home desk.old }
+{
+    let intervals = intervals_in(case);
+    for interval in 0..intervals {
+        report(rt, alloc, node, desk, case, interval)?;
+    }
+    Ok(())
+}
