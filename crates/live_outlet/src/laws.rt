@@ -1,0 +1,12 @@
+//! Which lines are read as live lines.
+ghost use Rattle.std.specs.Prelude.{◌≡◌, ℕ, List, Some};
+ghost use Rattle.mw_types.specs.declared.identity.RecordId.{RecordId as Id};
+ghost use Rattle.live_outlet.specs.LiveLines.{LiveLine as Line, live_text, IsLive};
+ghost use Rattle.live_outlet.specs.Collecting.{told_id};
+
+/// Each live line is read as one, under its id, and what is read as one is one.
+pub fn exactly_live_lines_are_told()
+    ensures each { (line : Line) → IsLive line → told_id (live_text line) ≡ Some line.id }
+    ensures only { (text : List ℕ) (id : Id) → told_id text ≡ Some id →
+        (line : Line) × IsLive line × (line.id ≡ id) × (live_text line ≡ text) }
+{}
