@@ -4,3 +4,4 @@ pub mod Reading
 pub mod Spelling
 pub mod Taking
 pub mod Finding
+pub mod Pumping
