@@ -1,5 +1,5 @@
 -- What was found of some live lines, and one more line.
-use Rattle.std.proofs.Common.{◌≡◌, ◌≢◌, ℕ, ◌+◌, List, [], ◌∷◌, ◌++◌, map, length, Bool, true, false, cond, Option, Some, None, nat_eq, refl, sym, ap, ◌∙◌, subst, append_assoc, append-nil, arith, add_assoc, zero-add}
+use Rattle.std.proofs.Common.{◌≡◌, List, [], ◌∷◌, ◌++◌, Bool, true, false, cond, Option, Some, None, refl, sym, ap, ◌∙◌}
 use Rattle.std.specs.Option.{option_map}
 use Rattle.std.specs.List.{AllByRecursion}
 use Rattle.std.specs.Map.{lookup}
@@ -7,21 +7,16 @@ use Rattle.std.specs.BTreeMap.{is_at, insert_entry}
 use Rattle.std.specs.declared.cmp.Ordering.{Ordering}
 use Rattle.std.specs.declared.cmp.Ordering.TheVariants.{Less, Equal, Greater}
 use Rattle.std.specs.Ordering.{is_eq, ordering_then}
-use Rattle.std.specs.Cmp.{tied_itself, nat_cmp_is}
-use Rattle.std.specs.Cmp.Lexicographic.{pointwise, bytes_decides}
+use Rattle.std.specs.Cmp.{tied_itself}
 use Rattle.mw_types.specs.declared.identity.RecordId.{RecordId}
 use Rattle.mw_types.specs.Orders.{id_cmp}
 use Rattle.std.proofs.lemmas.Map.Lookups.{exact_unsigned}
 use Rattle.mw_types.proofs.OrderLaws.{id_cmp-total}
-use Rattle.list_lemmas.proofs.Lists.{some_same, none_some, each-append, each-weaker}
+use Rattle.list_lemmas.proofs.Lists.{none_some, each-append, each-weaker}
 use Rattle.list_lemmas.proofs.Tests.{equal_from_test}
 use Rattle.run_history.proofs.Lookups.{lookup-insert_entry}
 use Rattle.live_outlet.specs.declared.held.Held.{Held}
-use Rattle.live_outlet.specs.declared.refusal.CollectRefusal.{CollectRefusal}
-use Rattle.live_outlet.specs.declared.refusal.CollectRefusal.TheVariants.{Differs, NoMemory}
-use Rattle.live_outlet.specs.LiveLines.{LiveLine, live_text}
-use Rattle.live_outlet.specs.Collecting.{Telling, told_id, is_other, told_before, tellings_from, first_with, Agrees, IsFirstToDiffer}
-use Rattle.live_outlet.specs.Progress.{Found, and_then, kept_beside, taken_as, line_taken, lines_taken}
+use Rattle.live_outlet.specs.Collecting.{Telling, first_with, Agrees}
 
 -- ---- ids
 

@@ -1,11 +1,10 @@
 -- Each live line is guessed as what it tells.
-use Rattle.std.proofs.Common.{◌≡◌, ℕ, ℤ, pos, negsuc, suc, ◌+◌, ◌<◌, ◌≤◌, ◌^◌, ◌&&◌, nat_lt, nat_le, List, [], ◌∷◌, length, get_or, map, Bool, true, false, cond, Option, Some, None, option_map, option_and_then, codes, unwrap_or, IsUtf8, SFits, w64, inl, inr, refl, sym, ap, ◌∙◌, subst, arith, length-append}
+use Rattle.std.proofs.Common.{◌≡◌, ℕ, ℤ, pos, negsuc, ◌+◌, ◌<◌, ◌≤◌, ◌^◌, ◌&&◌, nat_lt, nat_le, List, [], ◌∷◌, length, map, Bool, true, false, cond, Option, Some, None, option_map, option_and_then, codes, IsUtf8, SFits, w64, inl, refl, sym, ap, ◌∙◌, subst, arith, length-append}
 use Rattle.std.proofs.lemmas.List.{length-map}
 use Rattle.std.specs.Prelude.{IsTrue}
 use Rattle.std.specs.List.{list_all}
 use Rattle.std.specs.Int.{to_be_bytes, w128}
 use Rattle.std.specs.Char.{is_ascii_lowercase}
-use Rattle.std.specs.Str.{is_utf8}
 use Rattle.std.proofs.lemmas.Bool.{and_parts, lt-ltb}
 use Rattle.std.proofs.lemmas.Bool.Decides.{nat_tests}
 use Rattle.std.proofs.lemmas.Grind.{common_steps}
@@ -13,14 +12,13 @@ use Rattle.std.proofs.lemmas.Option.{unwrap_or-slice_get}
 use Rattle.std.proofs.lemmas.Str.{is_utf8-from_IsUtf8, IsUtf8-from_ascii}
 use Rattle.std.proofs.lemmas.List.Sums.{AllPass-from_list_all}
 use Rattle.json.proofs.Printed.Utf8.{IsUtf8-are_ascii, are_ascii}
-use Rattle.uuid.specs.Text.{lower, hyphenated_text}
+use Rattle.uuid.specs.Text.{lower}
 use Rattle.uuid.proofs.TextLemmas.{hyphenated_ascii}
 use Rattle.mw_types.specs.PrintedIds.{id_number, printed_id}
 use Rattle.mw_types.specs.declared.identity.RecordId.{RecordId}
 use Rattle.topology.specs.Shapes.{Shape, InjectorShape, ComputationShape, parts_of, streams_of, stream_of}
 use Rattle.topology.specs.Rules.{is_name_byte, is_name}
-use Rattle.row_parts.specs.Contents.{IsId, IsKey}
-use Rattle.serde_json.specs.Data.{Data, depth}
+use Rattle.serde_json.specs.Data.{depth}
 use Rattle.serde_json.specs.Find.{as_i64, of_integer}
 use Rattle.serde_json.specs.Read.{read, max_depth}
 use Rattle.read_back.specs.Writable.{IsWhole, IsWritable}
@@ -28,7 +26,7 @@ use Rattle.read_back.proofs.Utf8.{compact_text-utf8}
 use Rattle.read_back.proofs.Reading.{read-compact_text}
 use Rattle.json_reading.specs.Texts.{json_of}
 use Rattle.live_outlet.specs.LiveLines.{LiveLine, live_data, live_text, IsLive}
-use Rattle.live_outlet.specs.Guesses.{id_in, key_of, name_of, line_in, line_guessed}
+use Rattle.live_outlet.specs.Guesses.{key_of, name_of, line_in, line_guessed}
 use Rattle.live_outlet.proofs.IdLaws.{print-own}
 
 -- ---- names

@@ -1,13 +1,10 @@
 -- Which lines are live lines, by what is read of them.
-use Rattle.std.proofs.Common.{◌≡◌, ℕ, ℤ, pos, negsuc, ◌<◌, ◌≤◌, ◌^◌, ◌&&◌, nat_lt, nat_le, nat_eq, List, length, Bool, true, false, cond, Option, Some, None, option_and_then, IsUtf8, SFits, w64, refl, sym, ap, ◌∙◌, arith}
-use Rattle.std.specs.Prelude.{IsTrue}
-use Rattle.std.specs.Str.{is_utf8}
+use Rattle.std.proofs.Common.{◌≡◌, ℕ, ℤ, pos, negsuc, ◌<◌, ◌≤◌, ◌^◌, ◌&&◌, nat_lt, nat_le, nat_eq, List, length, Bool, true, false, cond, Option, Some, None, option_and_then, SFits, w64, refl, sym, ap, ◌∙◌, arith}
 use Rattle.std.specs.Cmp.Lexicographic.{pointwise, bytes_decides}
-use Rattle.std.proofs.lemmas.Bool.{and_parts, lt-ltb, not-true, false_from_ne_true}
+use Rattle.std.proofs.lemmas.Bool.{and_parts, lt-ltb, false_from_ne_true}
 use Rattle.std.proofs.lemmas.Bool.Decides.{nat_tests}
 use Rattle.std.proofs.lemmas.Str.{is_utf8-from_IsUtf8, IsUtf8-from_is_utf8}
 use Rattle.mw_types.specs.declared.identity.RecordId.{RecordId}
-use Rattle.topology.specs.Rules.{is_name}
 use Rattle.list_lemmas.proofs.Lists.{some_same, none_some}
 use Rattle.live_outlet.specs.LiveLines.{LiveLine, live_text, IsLive}
 use Rattle.live_outlet.specs.Guesses.{line_guessed}

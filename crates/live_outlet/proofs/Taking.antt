@@ -1,22 +1,19 @@
 -- What is found of lines that are taken one after another.
-use Rattle.std.proofs.Common.{◌≡◌, ◌≢◌, ℕ, ◌+◌, List, [], ◌∷◌, ◌++◌, map, length, Bool, true, false, cond, Option, Some, None, nat_eq, refl, sym, ap, ◌∙◌, subst, append_assoc, append-nil, arith, add_assoc, zero-add, add-zero}
-use Rattle.std.specs.Prelude.{Result, Ok, Err, count_by, codes, is_none, if◌then◌else◌}
+use Rattle.std.proofs.Common.{◌≡◌, ℕ, ◌+◌, List, [], ◌∷◌, ◌++◌, map, length, Bool, true, false, cond, Option, Some, None, nat_eq, refl, sym, ap, ◌∙◌, subst, append_assoc, append-nil, add_assoc, zero-add, add-zero}
+use Rattle.std.specs.Prelude.{Result, Ok, Err, count_by, is_none, if◌then◌else◌}
 use Rattle.std.specs.Option.{option_map_or}
-use Rattle.std.specs.List.{AllByRecursion}
 use Rattle.std.specs.List.Sorted.{IsStrictlySortedBy}
 use Rattle.std.proofs.lemmas.List.Sums.{sum_by-cons}
-use Rattle.std.specs.Map.{lookup}
 use Rattle.text_lines.specs.Lines.{lines_of}
 use Rattle.std.specs.BTreeMap.{insert_entry}
 use Rattle.std.specs.Cmp.Lexicographic.{pointwise, bytes_decides}
 use Rattle.mw_types.specs.declared.identity.RecordId.{RecordId}
 use Rattle.mw_types.specs.Orders.{id_cmp}
-use Rattle.list_lemmas.proofs.Lists.{some_same, none_some}
 use Rattle.live_outlet.specs.declared.held.Held.{Held}
 use Rattle.live_outlet.specs.declared.refusal.CollectRefusal.{CollectRefusal}
 use Rattle.live_outlet.specs.declared.refusal.CollectRefusal.TheVariants.{Differs, NoMemory}
-use Rattle.live_outlet.specs.LiveLines.{LiveLine, live_text, IsLive}
-use Rattle.live_outlet.specs.Collecting.{IsCollected, WhyNot, tellings, Telling, told_id, is_other, told_before, tellings_from, first_with, Agrees, IsFirstToDiffer}
+use Rattle.live_outlet.specs.LiveLines.{live_text}
+use Rattle.live_outlet.specs.Collecting.{IsCollected, WhyNot, tellings, Telling, told_id, is_other, tellings_from, first_with, IsFirstToDiffer}
 use Rattle.live_outlet.specs.Progress.{IsRefusalOf, Found, and_then, kept_beside, taken_as, line_taken, lines_taken}
 use Rattle.live_outlet.proofs.Spelling.{told_id-is}
 use Rattle.live_outlet.proofs.Finding.{IsFound, found-new, found-same}

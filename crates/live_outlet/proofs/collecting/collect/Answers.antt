@@ -1,4 +1,4 @@
-use Rattle.std.proofs.Common.{◌+◌, ◌≤◌, rules, ◌∙◌, arith}
+use Rattle.std.proofs.Common.{◌+◌, rules, ◌∙◌, arith}
 use Rattle.text_lines.specs.Lines.{lines_of}
 use Rattle.live_outlet.specs.Progress.{Found}
 use Rattle.live_outlet.proofs.Taking.{lines_taken-step, text-refused, text-collected}

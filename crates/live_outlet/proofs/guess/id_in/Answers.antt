@@ -1,4 +1,4 @@
-use Rattle.std.proofs.Common.{◌≡◌, ℕ, List, Option, Some, None, option_and_then, refl, sym, ap}
+use Rattle.std.proofs.Common.{◌≡◌, Option, Some, None, option_and_then, refl, ap}
 use Rattle.uuid.specs.Text.{parsed}
 use Rattle.live_outlet.specs.Guesses.{id_of}
 use Rattle.live_outlet.proofs.guess.id_in.Goals as goal

@@ -1,4 +1,3 @@
-use Rattle.std.proofs.Common.{rules}
 use Rattle.live_outlet.proofs.Pumping.{on_err-anyway, puts-none}
 use Rattle.live_outlet.proofs.outlet.Outlet.put.Goals as goal
 
