@@ -1,0 +1,5 @@
+use Rattle.live_outlet.proofs.Pumping.{pumped-none}
+use Rattle.live_outlet.proofs.outlet.Outlet.back.Goals as goal
+
+pub returns-clause-extends : goal.returns-clause-extends
+returns-clause-extends c = λ shape history. pumped-none shape history _ _ _ (c.new.ensures.none shape)
