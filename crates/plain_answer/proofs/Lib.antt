@@ -33,3 +33,4 @@ pub mod Headline
 pub mod OneText
 pub mod Same
 pub mod Tallying
+pub mod Noting

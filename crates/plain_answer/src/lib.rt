@@ -12,6 +12,7 @@
 
 mod examples;
 mod law;
+mod spikes;
 mod windows;
 
 pub use examples::{

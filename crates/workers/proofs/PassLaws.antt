@@ -18,7 +18,8 @@ use Rattle.node.specs.Fits.{Fits}
 use Rattle.node.specs.Workers.{NodeView, leases_of}
 use Rattle.workers.specs.Passing.{ArePasses}
 use Rattle.workers.specs.Serving.{HasServed}
-use Rattle.workers.proofs.Serving.{served-looked}
+use Rattle.workers.proofs.Serving.{leases-same, served-looked}
+use Rattle.workers.proofs.Working.{worked-not}
 
 -- the interval of a row is one of the intervals
 pub interval-below : (shape : Shape) (i : ℕ) (name : RowName) → interval_of shape name ≡ Some i → i < length (intervals_of shape)
@@ -57,3 +58,13 @@ pub served-sent : (case : CaseShape) (old new : DeskView) (was node : NodeView) 
 served-sent case old new was node same fits rest looked = served-looked case old new was node
     (subst (λ (k : CaseShape). Fits k new node) same fits) (ap (λ (n : NodeView). n.number) rest) looked
     (ap (λ (n : NodeView). leases_of n.held) rest)
+
+-- only what is to be sent changed
+pub served-rest : (case : CaseShape) (desk : DeskView) (was node : NodeView) → Fits case desk node
+    → node ≡ record was { outbox = node.outbox } → HasServed case 0 desk desk was node
+served-rest case desk was node fits rest = record {
+  fits = fits;
+  number = ap (λ (n : NodeView). n.number) rest;
+  worked = worked-not desk;
+  kept = leases-same desk.seen was node (ap (λ (n : NodeView). leases_of n.held) rest);
+}

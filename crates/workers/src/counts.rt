@@ -1,5 +1,6 @@
 //! How many parts and intervals a case has.
-ghost use Rattle.std.specs.Prelude.{◌≡◌, ◌≤◌};
+ghost use Rattle.std.specs.Prelude.{◌≡◌, ◌≤◌, length};
+ghost use Rattle.run_history.specs.Cases.{intervals_of};
 ghost use Rattle.topology.specs.Rules.{interval_count};
 ghost use Rattle.topology.specs.Shapes.{injectors_of, parts_of};
 
@@ -8,6 +9,7 @@ use run_history::Case;
 // How many intervals there are.
 pub(crate) fn intervals_in(case: &Case) -> u32
     ensures count { result ≡ interval_count case.now.topology }
+    ensures all { result ≡ length (intervals_of case.now.topology) }
     ensures few { result ≤ 61 }
 {
     let _parts = case.topology.parts();

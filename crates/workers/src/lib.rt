@@ -14,5 +14,6 @@ mod posting;
 mod steps;
 mod taking;
 mod tries;
+mod turns;
 
 pub use orders::Orders;

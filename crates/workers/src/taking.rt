@@ -1,15 +1,20 @@
 //! Messages that a worker takes from its mailboxes.
-ghost use Rattle.std.specs.Prelude.{◌≡◌, false, IfErr, IsFalse, IsTrue};
+ghost use Rattle.std.specs.Prelude.{◌≡◌, ◌<◌, false, length, IfErr, IsFalse, IsTrue};
+ghost use Rattle.run_history.specs.Cases.{intervals_of};
+ghost use Rattle.crossbeam_queue.specs.Passes.{IsPassOf};
 ghost use Rattle.node.specs.Fits.{Fits};
 ghost use Rattle.node.specs.Messages.{IsAddressed};
 ghost use Rattle.node.specs.Received.{IsAck, IsDeliver, note_of, outgoing_of};
 ghost use Rattle.node.specs.Works.{IsWorkOf};
+ghost use Rattle.workers.specs.Passing.{ArePasses};
 ghost use Rattle.workers.specs.Serving.{HasServed};
 ghost use Rattle.workers.specs.Slices.{IsSliceFault};
 
+use crate::counts::intervals_in;
 use crate::tries::commit;
 use book::{Desk, Seen};
 use computations::Computation;
+use mailboxes::{MailPass, Mailbox, Office};
 use mw_ports::{Gate, Point};
 use node::{Message, Node, NodeFault, Outcome};
 use run_history::Case;
@@ -35,7 +40,15 @@ fn is_record<N: Seen>(message: &Message<N>) -> bool
     }
 }
 
-// Writes what is prepared, between two points of the gate.
+// Whether an entry was appended.
+fn is_committed(outcome: &Outcome) -> bool {
+    match outcome {
+        Outcome::Committed { commit: _ } => true,
+        _ => false,
+    }
+}
+
+// Writes what is prepared, between two points of the gate: the second is passed only where it was written.
 fn write_through<R: Wait, N: Seen, D: Desk<Note = N>, G: Gate>(
     rt: &R,
     alloc: Global,
@@ -53,8 +66,10 @@ fn write_through<R: Wait, N: Seen, D: Desk<Note = N>, G: Gate>(
     ensures home { D.home desk.new ≡ D.home desk.old }
 {
     gate.at(node.worker(), Point::BeforeCommit);
-    commit(rt, alloc, node, desk, case)?;
-    gate.at(node.worker(), Point::AfterCommit);
+    let outcome = commit(rt, alloc, node, desk, case)?;
+    if is_committed(&outcome) {
+        gate.at(node.worker(), Point::AfterCommit);
+    }
     Ok(())
 }
 
@@ -174,4 +189,123 @@ pub(crate) fn take_one<R: Wait, N: Seen, D: Desk<Note = N>, C: Computation, G: G
     } else {
         take_word(alloc, node, desk, case, message)
     }
+}
+
+// Takes up to 64 messages of a mailbox. True where the worker stalls.
+fn take_from<R: Wait, N: Seen, D: Desk<Note = N>, C: Computation, G: Gate, J: Office>(
+    rt: &R,
+    alloc: Global,
+    node: &mut Node<N>,
+    desk: &mut D,
+    case: &Case,
+    work: &C,
+    mailbox: &Mailbox<N, J>,
+    pass: &mut MailPass<N, J>,
+    stall: bool,
+    gate: &G,
+) -> Result<bool, NodeFault>
+    requires fits { Fits case.now (D.view desk.old) node.old }
+    requires work { IsWorkOf case.now.topology (C.has work.now)
+        (C.gives_record work.now) (C.gives_timer work.now) }
+    requires alone { (D.view desk.old).alone ≡ false }
+    requires shape { case.now.topology ≡ J.shape }
+    requires book { (D.home desk.old).book ≡ J.book }
+    requires pass { IsPassOf mailbox.now.line pass.old.pass }
+
+    ensures served { HasServed case.now 64 (D.view desk.old) (D.view desk.new)
+        node.old node.new }
+    ensures fault { IfErr result (IsSliceFault (D.view desk.old) (D.view desk.new)) }
+    ensures pass { IsPassOf mailbox.now.line pass.new.pass }
+    ensures loan { D.loan desk.new ≡ D.loan desk.old }
+    ensures home { D.home desk.new ≡ D.home desk.old }
+{
+    for done in 0..64u32 {
+        let Some(message) = mailbox.pop(rt, pass) else {
+            return Ok(false);
+        };
+        if take_one(rt, alloc, node, desk, case, work, message, stall, gate)? {
+            return Ok(true);
+        }
+    }
+    Ok(false)
+}
+
+// Takes what lies in the mailbox of an interval, where it has that. True where the worker stalls.
+fn take_at<R: Wait, N: Seen, D: Desk<Note = N>, C: Computation, G: Gate, J: Office>(
+    rt: &R,
+    alloc: Global,
+    node: &mut Node<N>,
+    desk: &mut D,
+    case: &Case,
+    work: &C,
+    boxes: &[Mailbox<N, J>],
+    passes: &mut [MailPass<N, J>],
+    interval: u32,
+    stall: bool,
+    gate: &G,
+) -> Result<bool, NodeFault>
+    requires fits { Fits case.now (D.view desk.old) node.old }
+    requires work { IsWorkOf case.now.topology (C.has work.now)
+        (C.gives_record work.now) (C.gives_timer work.now) }
+    requires alone { (D.view desk.old).alone ≡ false }
+    requires shape { case.now.topology ≡ J.shape }
+    requires book { (D.home desk.old).book ≡ J.book }
+    requires passes { ArePasses (length (intervals_of case.now.topology)) boxes.now passes.old }
+    requires interval { interval < length (intervals_of case.now.topology) }
+
+    ensures served { HasServed case.now 64 (D.view desk.old) (D.view desk.new)
+        node.old node.new }
+    ensures fault { IfErr result (IsSliceFault (D.view desk.old) (D.view desk.new)) }
+    ensures passes { ArePasses (length (intervals_of case.now.topology)) boxes.now passes.new }
+    ensures loan { D.loan desk.new ≡ D.loan desk.old }
+    ensures home { D.home desk.new ≡ D.home desk.old }
+{
+    if !node.holds(interval) {
+        return Ok(false);
+    }
+    let at = interval as usize;
+    let mailbox = &boxes[at];
+    let pass = &mut passes[at];
+    take_from(
+        rt, alloc, node, desk, case, work, mailbox, pass, stall, gate,
+    )
+}
+
+// Takes what lies in the mailboxes of the intervals that it has. True where the worker stalls.
+pub(crate) fn take_all<R: Wait, N: Seen, D: Desk<Note = N>, C: Computation, G: Gate, J: Office>(
+    rt: &R,
+    alloc: Global,
+    node: &mut Node<N>,
+    desk: &mut D,
+    case: &Case,
+    work: &C,
+    boxes: &[Mailbox<N, J>],
+    passes: &mut [MailPass<N, J>],
+    stall: bool,
+    gate: &G,
+) -> Result<bool, NodeFault>
+    requires fits { Fits case.now (D.view desk.old) node.old }
+    requires work { IsWorkOf case.now.topology (C.has work.now)
+        (C.gives_record work.now) (C.gives_timer work.now) }
+    requires alone { (D.view desk.old).alone ≡ false }
+    requires shape { case.now.topology ≡ J.shape }
+    requires book { (D.home desk.old).book ≡ J.book }
+    requires passes { ArePasses (length (intervals_of case.now.topology)) boxes.now passes.old }
+
+    ensures served { HasServed case.now 3904 (D.view desk.old) (D.view desk.new)
+        node.old node.new }
+    ensures fault { IfErr result (IsSliceFault (D.view desk.old) (D.view desk.new)) }
+    ensures passes { ArePasses (length (intervals_of case.now.topology)) boxes.now passes.new }
+    ensures loan { D.loan desk.new ≡ D.loan desk.old }
+    ensures home { D.home desk.new ≡ D.home desk.old }
+{
+    let intervals = intervals_in(case);
+    for interval in 0..intervals {
+        if take_at(
+            rt, alloc, node, desk, case, work, boxes, passes, interval, stall, gate,
+        )? {
+            return Ok(true);
+        }
+    }
+    Ok(false)
 }

@@ -39,15 +39,15 @@ fn hand<K: Keeper>(
     requires book { (shared_home from.old.seat.now.place).book
         ≡ (shared_home to.old.seat.now.place).book }
     requires sender { Fits given.now.case
-        (shared_view from.old.seat.now.place.me.0 from.old.known) sender.old }
+        (shared_view from.old.seat.now.place.me.0) sender.old }
     requires receiver { Fits given.now.case
-        (shared_view to.old.seat.now.place.me.0 to.old.known) receiver.old }
+        (shared_view to.old.seat.now.place.me.0) receiver.old }
     ensures sender { Fits given.now.case
-        (shared_view from.new.seat.now.place.me.0 from.new.known) sender.new }
+        (shared_view from.new.seat.now.place.me.0) sender.new }
     ensures loan { from.new.seat.ghost_name ≡ from.old.seat.ghost_name }
     ensures home { shared_home from.new.seat.now.place ≡ shared_home from.old.seat.now.place }
     ensures receiver { Fits given.now.case
-        (shared_view to.new.seat.now.place.me.0 to.new.known) receiver.new }
+        (shared_view to.new.seat.now.place.me.0) receiver.new }
     ensures other_loan { to.new.seat.ghost_name ≡ to.old.seat.ghost_name }
     ensures other_home { shared_home to.new.seat.now.place ≡ shared_home to.old.seat.now.place }
 {
@@ -69,15 +69,15 @@ fn hand_copy<K: Keeper>(
     requires book { (shared_home from.old.seat.now.place).book
         ≡ (shared_home to.old.seat.now.place).book }
     requires sender { Fits given.now.case
-        (shared_view from.old.seat.now.place.me.0 from.old.known) sender.now }
+        (shared_view from.old.seat.now.place.me.0) sender.now }
     requires receiver { Fits given.now.case
-        (shared_view to.old.seat.now.place.me.0 to.old.known) receiver.old }
+        (shared_view to.old.seat.now.place.me.0) receiver.old }
     ensures sender { Fits given.now.case
-        (shared_view from.new.seat.now.place.me.0 from.new.known) sender.now }
+        (shared_view from.new.seat.now.place.me.0) sender.now }
     ensures loan { from.new.seat.ghost_name ≡ from.old.seat.ghost_name }
     ensures home { shared_home from.new.seat.now.place ≡ shared_home from.old.seat.now.place }
     ensures receiver { Fits given.now.case
-        (shared_view to.new.seat.now.place.me.0 to.new.known) receiver.new }
+        (shared_view to.new.seat.now.place.me.0) receiver.new }
     ensures other_loan { to.new.seat.ghost_name ≡ to.old.seat.ghost_name }
     ensures other_home { shared_home to.new.seat.now.place ≡ shared_home to.old.seat.now.place }
 {
@@ -100,15 +100,15 @@ fn stepped<K: Keeper>(
     requires book { (shared_home one.old.seat.now.place).book
         ≡ (shared_home other.old.seat.now.place).book }
     requires first { Fits given.now.case
-        (shared_view one.old.seat.now.place.me.0 one.old.known) first.old }
+        (shared_view one.old.seat.now.place.me.0) first.old }
     requires second { Fits given.now.case
-        (shared_view other.old.seat.now.place.me.0 other.old.known) second.old }
+        (shared_view other.old.seat.now.place.me.0) second.old }
     ensures first { Fits given.now.case
-        (shared_view one.new.seat.now.place.me.0 one.new.known) first.new }
+        (shared_view one.new.seat.now.place.me.0) first.new }
     ensures loan { one.new.seat.ghost_name ≡ one.old.seat.ghost_name }
     ensures home { shared_home one.new.seat.now.place ≡ shared_home one.old.seat.now.place }
     ensures second { Fits given.now.case
-        (shared_view other.new.seat.now.place.me.0 other.new.known) second.new }
+        (shared_view other.new.seat.now.place.me.0) second.new }
     ensures other_loan { other.new.seat.ghost_name ≡ other.old.seat.ghost_name }
     ensures other_home { shared_home other.new.seat.now.place
         ≡ shared_home other.old.seat.now.place }
