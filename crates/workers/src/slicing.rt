@@ -43,7 +43,7 @@ pub fn slice<'s, 'a, R: Wait, K: Keeper, C: Computation, G: Gate, J: Office>(
     gate: &G,
 ) -> Result<(), NodeFault>
     requires fits { Fits case.now
-        (shared_view desk.old.seat.now.place.me.0 desk.old.known) node.old }
+        (shared_view desk.old.seat.now.place.me.0) node.old }
     requires work { IsWorkOf case.now.topology (C.has work.now)
         (C.gives_record work.now) (C.gives_timer work.now) }
     requires shape { case.now.topology ≡ J.shape }
@@ -52,15 +52,15 @@ pub fn slice<'s, 'a, R: Wait, K: Keeper, C: Computation, G: Gate, J: Office>(
 
     // It fits its desk still, and is the same worker.
     ensures fits { Fits case.now
-        (shared_view desk.new.seat.now.place.me.0 desk.new.known) node.new }
+        (shared_view desk.new.seat.now.place.me.0) node.new }
     ensures number { node.new.number ≡ node.old.number }
 
     // It appended so many entries at most, none of them a claim, and kept its leases.
-    ensures worked { HasWorked 6000 (shared_view desk.old.seat.now.place.me.0 desk.old.known)
-        (shared_view desk.new.seat.now.place.me.0 desk.new.known) }
+    ensures worked { HasWorked 6000 (shared_view desk.old.seat.now.place.me.0)
+        (shared_view desk.new.seat.now.place.me.0) }
     ensures fault { IfErr result (IsSliceFault
-        (shared_view desk.old.seat.now.place.me.0 desk.old.known)
-        (shared_view desk.new.seat.now.place.me.0 desk.new.known)) }
+        (shared_view desk.old.seat.now.place.me.0)
+        (shared_view desk.new.seat.now.place.me.0)) }
 
     // Its passes are of the same mailboxes, and its desk stands at the same place of the same book.
     ensures passes { ArePasses (length (intervals_of case.now.topology)) boxes.now passes.new }
