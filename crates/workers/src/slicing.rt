@@ -1,0 +1,76 @@
+//! One turn of work of one worker.
+ghost use Rattle.std.specs.Prelude.{◌≡◌, length, IfErr};
+ghost use Rattle.run_history.specs.Cases.{intervals_of};
+ghost use Rattle.node.specs.Fits.{Fits};
+ghost use Rattle.node.specs.Works.{IsWorkOf};
+ghost use Rattle.shared_book.specs.SharedDesks.{shared_home, shared_view};
+ghost use Rattle.workers.specs.Passing.{ArePasses};
+ghost use Rattle.workers.specs.Slices.{HasWorked, IsSliceFault};
+
+use crate::orders::Orders;
+use crate::turns::within;
+use computations::Computation;
+use mailboxes::{MailPass, Mailbox, Office};
+use mw_ports::{Gate, Point};
+use node::{Node, NodeFault};
+use row_keeper::Keeper;
+use run_history::Case;
+use shared_book::{Note, SharedDesk};
+use std::alloc::Global;
+use std::sync::Wait;
+
+/// One turn of work of one worker, at the desk of a book that it shares with others.
+///
+/// It goes by steps: what it has prepared is written, and what it held is sent; of the mailbox of each interval that it has it takes up to 64
+/// messages; up to 16 timers of each computation fire; up to 16 lines of each injector are injected; in each fourth round, what is
+/// pending is to be sent again, and rows forget ids; what it has to send is put into mailboxes, where a message is dropped that finds no
+/// room; its own work is reported. Where another has the turn to append it tries again. A worker that stalls ends with the first record
+/// that it has handled, unwritten.
+///
+/// It takes no interval, and appends at most 6,000 entries. It fails only where memory runs out, the keeper fails or the history is full; what it did
+/// before stands. The mailboxes are those of the case's intervals, in their order, with a pass of each. No clause says how
+/// much it does, nor which messages it sends.
+pub fn slice<'s, 'a, R: Wait, K: Keeper, C: Computation, G: Gate, J: Office>(
+    rt: &R,
+    alloc: Global,
+    node: &mut Node<Note<K>>,
+    desk: &mut SharedDesk<'s, 'a, K>,
+    case: &Case,
+    work: &C,
+    boxes: &[Mailbox<Note<K>, J>],
+    passes: &mut [MailPass<Note<K>, J>],
+    orders: &Orders,
+    gate: &G,
+) -> Result<(), NodeFault>
+    requires fits { Fits case.now
+        (shared_view desk.old.seat.now.place.me.0) node.old }
+    requires work { IsWorkOf case.now.topology (C.has work.now)
+        (C.gives_record work.now) (C.gives_timer work.now) }
+    requires shape { case.now.topology ≡ J.shape }
+    requires book { (shared_home desk.old.seat.now.place).book ≡ J.book }
+    requires passes { ArePasses (length (intervals_of case.now.topology)) boxes.now passes.old }
+
+    // It fits its desk still, and is the same worker.
+    ensures fits { Fits case.now
+        (shared_view desk.new.seat.now.place.me.0) node.new }
+    ensures number { node.new.number ≡ node.old.number }
+
+    // It appended so many entries at most, none of them a claim, and kept its leases.
+    ensures worked { HasWorked 6000 (shared_view desk.old.seat.now.place.me.0)
+        (shared_view desk.new.seat.now.place.me.0) }
+    ensures fault { IfErr result (IsSliceFault
+        (shared_view desk.old.seat.now.place.me.0)
+        (shared_view desk.new.seat.now.place.me.0)) }
+
+    // Its passes are of the same mailboxes, and its desk stands at the same place of the same book.
+    ensures passes { ArePasses (length (intervals_of case.now.topology)) boxes.now passes.new }
+    ensures loan { desk.new.seat.ghost_name ≡ desk.old.seat.ghost_name }
+    ensures home { shared_home desk.new.seat.now.place ≡ shared_home desk.old.seat.now.place }
+{
+    gate.at(node.worker(), Point::Begin);
+    let done = within(
+        rt, alloc, node, desk, case, work, boxes, passes, orders, gate,
+    );
+    gate.at(node.worker(), Point::End);
+    done
+}
