@@ -6,3 +6,4 @@ pub mod Deeds
 pub mod Grades
 pub mod Places
 pub mod Tallies
+pub mod Sends

@@ -12,6 +12,7 @@
 
 mod examples;
 mod law;
+mod sends;
 mod windows;
 
 pub use examples::{
