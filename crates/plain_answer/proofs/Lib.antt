@@ -33,3 +33,5 @@ pub mod Headline
 pub mod OneText
 pub mod Same
 pub mod Tallying
+pub mod Sending
+pub mod Making

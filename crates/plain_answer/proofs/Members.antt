@@ -30,7 +30,7 @@ out_at-total g part members = total-map g (λ (o : Member). o.1) (filter (λ (o 
     ∙ total-filter (λ (o : Member). g o.1) (λ (o : Member). o.0 == part) members
 
 -- an image of two lists
-map-append : {X Y : Type 0} (f : X → Y) (xs ys : List X) → map f (xs ++ ys) ≡ map f xs ++ map f ys
+pub map-append : {X Y : Type 0} (f : X → Y) (xs ys : List X) → map f (xs ++ ys) ≡ map f xs ++ map f ys
 map-append f [] ys = refl
 map-append f (x ∷ xs) ys = ap (λ l. f x ∷ l) (map-append f xs ys)
 

@@ -12,7 +12,9 @@
 
 mod examples;
 mod law;
+mod line;
 mod sends;
+mod streams;
 mod windows;
 
 pub use examples::{
