@@ -35,3 +35,4 @@ pub mod Same
 pub mod Tallying
 pub mod Sending
 pub mod Making
+pub mod Noting

@@ -1,6 +1,6 @@
 -- The streams that are worked out part by part are the plain ones, each in some order.
 use Rattle.std.proofs.Common.{◌≡◌, ℕ, zero, suc, ◌+◌, ◌-◌, ◌<◌, ◌≤◌, ◌==◌, List, [], ◌∷◌, ◌++◌, length, map, drop, take, refl, sym, ◌∙◌, ap, subst, arith, length-append, get_or, sum_by, Some}
-use Rattle.std.specs.Prelude.{slice_get, nat_lt, Option, None, false, cond}
+use Rattle.std.specs.Prelude.{slice_get, unwrap_or, nat_lt, Option, None, false, cond}
 use Rattle.std.specs.Option.{option_map}
 use Rattle.std.proofs.lemmas.Bool.Decides.{nat_tests}
 use Rattle.std.specs.List.{range_with_len}
@@ -185,3 +185,16 @@ injected-more (l ∷ ls) zero item e = ap (λ x. x ∷ []) (some_same e)
 injected-more (l ∷ ls) (suc n) item e =
     let same : suc (n + 1) ≡ suc n + 1 = omega arith in
     ap (λ x. record_of l.item ∷ x) (injected-more ls n item e) ∙ ap (λ k. injected_of (take k (l ∷ ls))) same
+
+-- a source at a place
+pub source-there : (sources : List Source) (n : ℕ) (x : Source) → n < length sources → x ≡ get_or sources n x
+    → unwrap_or (slice_get sources n) [] ≡ x
+source-there [] n x less is = absurd (omega (arith, less))
+source-there (y ∷ ys) zero x less is = sym is
+source-there (y ∷ ys) (suc n) x less is = source-there ys n x (omega (arith, less)) is
+
+-- an element that is there does not depend on what stands for none
+pub at-any : {X : Type 0} (xs : List X) (n : ℕ) (d e : X) → n < length xs → get_or xs n d ≡ get_or xs n e
+at-any [] n d e less = absurd (omega (arith, less))
+at-any (y ∷ ys) zero d e less = refl
+at-any (y ∷ ys) (suc n) d e less = at-any ys n d e (omega (arith, less))

@@ -32,7 +32,7 @@ pub window_cmp-total : IsTotalOrder window_cmp
 window_cmp-total = then_total (on_total (λ (w : List ℕ × ℕ). w.0) nat_list_cmp_total) (on_total (λ (w : List ℕ × ℕ). w.1) nat_cmp_total)
 
 -- windows that tie are one
-same-window : (a b : List ℕ × ℕ) → is_at (window_cmp a) b ≡ true → a ≡ b
+pub same-window : (a b : List ℕ × ℕ) → is_at (window_cmp a) b ≡ true → a ≡ b
 same-window a b e = exact_pairs key_cmp nat_cmp exact_bytes exact_unsigned a b (equal_from_test (window_cmp a b) e)
 
 window-itself : (a : List ℕ × ℕ) → is_at (window_cmp a) a ≡ true

@@ -7,3 +7,4 @@ pub mod Grades
 pub mod Places
 pub mod Tallies
 pub mod Sends
+pub mod Spiked

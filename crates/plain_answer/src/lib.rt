@@ -14,6 +14,7 @@ mod examples;
 mod law;
 mod line;
 mod sends;
+mod spikes;
 mod streams;
 mod windows;
 

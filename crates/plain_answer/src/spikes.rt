@@ -1,0 +1,216 @@
+//! What a spike gives of all that it reads.
+ghost use Rattle.std.specs.Prelude.{ℕ, ◌≡◌, ◌≤◌, ◌≤ℤ◌, ◌+ℤ◌, ◌*ℤ◌, ◌^◌, ◌++◌, ◌∷◌, [], pos, neg_ℤ, int_lt, fold, length, IfOk, OnOk};
+ghost use Rattle.std.specs.BTreeMap.{insert_entry};
+ghost use Rattle.std.specs.List.Sorted.{IsPermutation};
+ghost use Rattle.mw_types.specs.declared.kind.Kind.TheVariants.{Spike};
+ghost use Rattle.computations.specs.Handlers.{is_spike, known_with};
+ghost use Rattle.plain_answer.specs.Plain.{fires_of, plain_of};
+ghost use Rattle.plain_answer.specs.Spiked.{greater_at, known_of, noted_of, noted_with, spike_given, spike_of, spikes_along};
+ghost use Rattle.plain_answer.specs.Tallies.{window_cmp};
+
+use mw_types::{Duplicate, Key, NoMemory, Record};
+use std::alloc::Global;
+use std::collections::BTreeMap;
+
+// The greatest value at each place, by key and then by timestamp.
+type Places = BTreeMap<(Key, u64), i64>;
+
+// What a spike that compares so many values by this factor gives of all the members that it reads,
+// each with the key of the row that reads it. For a time past the greatest there is no memory.
+pub(crate) fn spikes_of(
+    alloc: Global,
+    last: u32,
+    times: u32,
+    members: &[(Key, Record)],
+) -> Result<Vec<Record>, NoMemory>
+    requires last { last ≤ 64 }
+    requires times { times ≤ 1000 }
+    ensures spikes { IfOk result (λ records.
+        IsPermutation (plain_of (Spike last times) members.now) records.items) }
+{
+    let places = places(alloc, members)?;
+    given(alloc, last, times, &places)
+}
+
+// How often a spike fires, whatever it compares: once a place.
+pub(crate) fn fires_of(alloc: Global, members: &[(Key, Record)]) -> Result<usize, NoMemory>
+    ensures fires { (last times : ℕ) →
+        IfOk result (λ fires. fires ≡ fires_of (Spike last times) members.now) }
+{
+    let places = places(alloc, members)?;
+    Ok(places.len())
+}
+
+// The places of the members in time.
+fn places(alloc: Global, members: &[(Key, Record)]) -> Result<Places, NoMemory>
+    ensures { IfOk result (λ places. places.entries ≡ noted_of members.now) }
+{
+    let mut places = BTreeMap::new(alloc);
+    for member in members {
+        note(alloc, &mut places, &member.0, &member.1)?;
+    }
+    Ok(places)
+}
+
+// Notes a record at its place, where it is in time.
+fn note(alloc: Global, places: &mut Places, key: &Key, item: &Record) -> Result<(), NoMemory>
+    ensures { OnOk result (places.new.entries ≡ noted_with places.old.entries (key.now, item.now)) }
+{
+    if item.late {
+        return Ok(());
+    }
+    enter(places, (key.copy(alloc)?, item.stamp), item.value)
+}
+
+// Enters a value at a place, where of two the greater stays.
+fn enter(places: &mut Places, place: (Key, u64), value: i64) -> Result<(), NoMemory>
+    ensures { OnOk result (places.new.entries ≡ insert_entry window_cmp places.old.entries place
+        (greater_at places.old.entries place value)) }
+{
+    let value = greater(places, &place, value);
+    places.insert(place, value)?;
+    Ok(())
+}
+
+// The greater of a value and the one at its place, if one is.
+fn greater(places: &Places, place: &(Key, u64), value: i64) -> i64
+    ensures { result ≡ greater_at places.now.entries place.now value }
+{
+    match places.get(place) {
+        Some(old) => (*old).max(value),
+        None => value,
+    }
+}
+
+// The spikes along the places.
+fn given(alloc: Global, last: u32, times: u32, places: &Places) -> Result<Vec<Record>, NoMemory>
+    requires last { last ≤ 64 }
+    requires times { times ≤ 1000 }
+    ensures { IfOk result (λ records.
+        records.items ≡ spikes_along last times [] [] places.now.entries) }
+{
+    let mut records = Vec::new(alloc);
+    let mut row = Key::none(alloc);
+    let mut known = Vec::new(alloc);
+    for (place, value) in places {
+        turn(alloc, &mut row, &mut known, &place.0)?;
+        push_spike(alloc, last, times, &known, &mut records, place, value)?;
+        learn(&mut known, last, value)?;
+    }
+    Ok(records)
+}
+
+// Goes over to the row of this key, of which no value is known, unless it is at hand.
+fn turn(alloc: Global, row: &mut Key, known: &mut Vec<i64>, key: &Key) -> Result<(), NoMemory>
+    ensures row { OnOk result (row.new ≡ key.now) }
+    ensures known { OnOk result (known.new.items ≡ known_of row.old known.old.items key.now) }
+{
+    if *row != *key {
+        *row = key.copy(alloc)?;
+        known.clear();
+    }
+    Ok(())
+}
+
+// Puts the spike at a place behind the records, if it is one.
+fn push_spike(
+    alloc: Global,
+    last: u32,
+    times: u32,
+    known: &[i64],
+    records: &mut Vec<Record>,
+    place: &(Key, u64),
+    value: &i64,
+) -> Result<(), NoMemory>
+    requires last { last ≤ 64 }
+    requires times { times ≤ 1000 }
+    ensures { OnOk result (records.new.items
+        ≡ records.old.items ++ spike_of last times known.now (place.now, value.now)) }
+{
+    if is_spike(last, times, known, *value) {
+        records.push(spike_record(alloc, place, *value)?)?;
+    }
+    Ok(())
+}
+
+// The spike at a place as a record.
+fn spike_record(alloc: Global, place: &(Key, u64), value: i64) -> Result<Record, NoMemory>
+    ensures { IfOk result (λ r. r ≡ spike_given (place.now, value)) }
+{
+    let Some(stamp) = place.1.checked_add(1) else {
+        return Err(NoMemory);
+    };
+    Ok(Record {
+        key: place.0.copy(alloc)?,
+        stamp,
+        value,
+        late: false,
+    })
+}
+
+// Whether a value is above so many times the mean of the last ones, of which there are enough.
+fn is_spike(last: u32, times: u32, known: &[i64], value: i64) -> bool
+    requires last { last ≤ 64 }
+    requires times { times ≤ 1000 }
+    ensures { result ≡ is_spike last times known.now value }
+{
+    if known.len() != last as usize {
+        return false;
+    }
+    is_above(last, times, sum_of(known), value)
+}
+
+// Whether a value is above so many times the mean of so many values with this sum.
+fn is_above(last: u32, times: u32, sum: i128, value: i64) -> bool
+    requires last { last ≤ 64 }
+    requires times { times ≤ 1000 }
+    requires above { neg_ℤ (pos (2 ^ 69)) ≤ℤ sum }
+    requires below { sum ≤ℤ pos (2 ^ 69) }
+    ensures { result ≡ int_lt (pos times *ℤ sum) (value *ℤ pos last) }
+{
+    scaled(sum, times) < scaled(value as i128, last)
+}
+
+// A number so many times.
+fn scaled(number: i128, by: u32) -> i128
+    requires by { by ≤ 1000 }
+    requires above { neg_ℤ (pos (2 ^ 69)) ≤ℤ number }
+    requires below { number ≤ℤ pos (2 ^ 69) }
+    ensures { result ≡ number *ℤ pos by }
+{
+    number * (by as i128)
+}
+
+// The sum of the last values.
+fn sum_of(known: &[i64]) -> i128
+    requires few { length known.now ≤ 64 }
+    ensures sum { result ≡ fold (λ sum x. sum +ℤ x) (pos 0) known.now }
+    ensures above { neg_ℤ (pos (2 ^ 69)) ≤ℤ result }
+    ensures below { result ≤ℤ pos (2 ^ 69) }
+{
+    let mut sum: i128 = 0;
+    for value in known {
+        sum = with_value(sum, *value);
+    }
+    sum
+}
+
+// A sum with one value more.
+fn with_value(sum: i128, value: i64) -> i128
+    requires above { neg_ℤ (pos (2 ^ 69)) ≤ℤ sum }
+    requires below { sum ≤ℤ pos (2 ^ 69) }
+    ensures { result ≡ sum +ℤ value }
+{
+    sum + (value as i128)
+}
+
+// Appends a value to the last ones, of which so many stay.
+fn learn(known: &mut Vec<i64>, last: u32, value: &i64) -> Result<(), NoMemory>
+    ensures { OnOk result (known.new.items ≡ known_with last known.old.items value.now) }
+{
+    known.push(*value)?;
+    for _ in 0..known.len().saturating_sub(last as usize) {
+        known.remove(0);
+    }
+    Ok(())
+}
