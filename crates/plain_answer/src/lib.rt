@@ -12,7 +12,10 @@
 
 mod examples;
 mod law;
+mod line;
+mod sends;
 mod spikes;
+mod streams;
 mod windows;
 
 pub use examples::{
