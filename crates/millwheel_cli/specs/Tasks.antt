@@ -1,6 +1,6 @@
 -- What a command is to do, once its files are read: the case of a run, the steps that come before its drain,
 -- and what is to be written of it. Own.
-use Rattle.std.specs.Prelude.{◌≡◌, ◌≤◌, ◌==◌, ℕ, ◌+◌, ◌-◌, Bool, List, [], ◌∷◌, length, if◌then◌else◌, Option, Some, None, IfSome, Result, Ok, Err}
+use Rattle.std.specs.Prelude.{◌≡◌, ℕ, Bool, List, [], ◌∷◌, length, if◌then◌else◌, Option, Some, None, Result, Ok, Err}
 use Rattle.mw_types.specs.declared.refusal.PlanRefusal.{PlanRefusal}
 use Rattle.mw_types.specs.declared.refusal.PlanRefusal.TheVariants as plans
 use Rattle.command_line.specs.declared.command.Inputs.{Inputs}

@@ -4,7 +4,7 @@ use Rattle.millwheel_cli.specs.Reasons.{ShelfSeen, HasReason}
 use Rattle.millwheel_cli.specs.Answers.{Left, IsUnbegun, HasLeft}
 use Rattle.millwheel_cli.proofs.Reasons.{call_reason}
 use Rattle.millwheel_cli.proofs.Statuses.{refusal_keeper, refusal_sink}
-use Rattle.millwheel_cli.proofs.Leaving.{left_of_refusal, left_of_call, call_ends, end_reason, words_reason, left_of_words}
+use Rattle.millwheel_cli.proofs.Leaving.{left_of_refusal, left_of_call, call_ends, end_reason}
 use Rattle.millwheel_cli.proofs.Telling.{told_answer, told_plain, same_call}
 use Rattle.millwheel_cli.proofs.alone.millwheel_alone.Goals as goal
 
@@ -15,7 +15,13 @@ returns-in-Ok-read_task-clause-reason g c =
       faults = (g.S.Shelf.faults c.args.shelf.now, g.S.Shelf.faults c.read_task.new.shelf);
       lacks = (g.S.Shelf.lacks c.args.shelf.now, g.S.Shelf.lacks c.read_task.new.shelf);
     } in
-    end_reason seen c.args.words.now _ (call_ends c.in-Ok.command.call c.in-Ok-read_task.task _ _ c.work.ensures.left)
+    let left : Left = record {
+      rows = (g.K.Keeper.rows c.args.keeper, g.K.Keeper.rows c.work.result.keeper);
+      text = (g.O.Sink.text c.args.out.now, g.O.Sink.text c.work.new.out);
+      history = c.work.result.history;
+    } in
+    end_reason seen c.args.words.now c.work.result.status
+    (call_ends c.in-Ok.command.call c.in-Ok-read_task.task left c.work.result.status c.work.ensures.left)
 
 pub returns-in-Ok-read_task-clause-left : goal.returns-in-Ok-read_task-clause-left
 returns-in-Ok-read_task-clause-left g c =
@@ -40,7 +46,8 @@ returns-in-Ok-read_task-clause-answer g c held rows told seen_rows well kept wri
       history = c.work.result.history;
     } in
     told_answer seen c.args.words.now left _ _ _ _ held rows c.work.result.status
-    (end_reason seen c.args.words.now _ (call_ends c.in-Ok.command.call c.in-Ok-read_task.task left _ c.work.ensures.left))
+    (end_reason seen c.args.words.now c.work.result.status
+    (call_ends c.in-Ok.command.call c.in-Ok-read_task.task left c.work.result.status c.work.ensures.left))
     (left_of_call seen.files c.args.words.now c.in-Ok.command c.in-Ok-read_task.task left _ c.in-Ok.ensures.command
     c.in-Ok-read_task.ensures.asked c.work.ensures.left)
     c.work.ensures.keeper_fault c.work.ensures.sink_fault c.work.ensures.tells told seen_rows well kept written
@@ -85,7 +92,8 @@ returns-in-Ok-read_task-clause-plain_answer g c held inputs told asks well writt
       history = c.work.result.history;
     } in
     told_plain seen c.args.words.now left _ _ held inputs c.work.result.status
-    (end_reason seen c.args.words.now _ (call_ends c.in-Ok.command.call c.in-Ok-read_task.task left _ c.work.ensures.left))
+    (end_reason seen c.args.words.now c.work.result.status
+    (call_ends c.in-Ok.command.call c.in-Ok-read_task.task left c.work.result.status c.work.ensures.left))
     (left_of_call seen.files c.args.words.now c.in-Ok.command c.in-Ok-read_task.task left _ c.in-Ok.ensures.command
     c.in-Ok-read_task.ensures.asked c.work.ensures.left)
     c.work.ensures.sink_fault told asks well written

@@ -1,4 +1,4 @@
-use Rattle.std.proofs.Common.{◌≡◌, ◌∙◌, Err, List, All, IfSome, refl, sym, ap, subst, arith}
+use Rattle.std.proofs.Common.{◌∙◌, Err, List, All, IfSome, refl, sym, ap, subst, arith}
 use Rattle.mw_types.specs.declared.entry.Entry.{Entry}
 use Rattle.book.specs.Books.{BookView, core_of}
 use Rattle.book.specs.Lawful.{IsLawful}
