@@ -47,6 +47,7 @@ use Rattle.plain_answer.proofs.Stories.{deeds-push, out-push, legal-push, along_
 pub same-key : (a b : List ℕ) → pointwise nat_eq a b ≡ true → a ≡ b
 same-key a b e = (slice_eq-Decides Decides-eqb a b (pointwise nat_eq a b) refl).0 e
 
+-- a key passes as itself
 pub key-itself : (a : List ℕ) → pointwise nat_eq a a ≡ true
 key-itself a = (slice_eq-Decides Decides-eqb a a (pointwise nat_eq a a) refl).1 refl
 
@@ -66,6 +67,7 @@ counted_at key end count = cond (count == 0) [] (count_at key end count ∷ [])
 abbrev pub closed_at : List ℕ → ℕ → ℕ → ℕ → List Record
 closed_at key end fires takes = cond (fires == 0) [] (counted_at key end takes)
 
+-- by what a row took and fired
 abbrev pub closed : ℕ → List ℕ → ℕ → List Deed → List Record
 closed size key end deeds = closed_at key end (fired_at end deeds) (taken_into size end deeds)
 
@@ -74,13 +76,13 @@ closed-took : (size : ℕ) (key : List ℕ) (end : ℕ) (deeds : List Deed) (sta
     → closed size key end (deeds ++ took stamp late ∷ []) ≡ closed size key end deeds
 closed-took size key end deeds stamp true timely =
     let t : taken_into size end (deeds ++ took stamp true ∷ []) ≡ taken_into size end deeds =
-        sum_by_push (takes_into size end) deeds (took stamp true) ∙ omega arith in
+    sum_by_push (takes_into size end) deeds (took stamp true) ∙ omega arith in
     let f : fired_at end (deeds ++ took stamp true ∷ []) ≡ fired_at end deeds =
-        sum_by_push (fires_at end) deeds (took stamp true) ∙ omega arith in
+    sum_by_push (fires_at end) deeds (took stamp true) ∙ omega arith in
     λ i. closed_at key end (f i) (t i)
 closed-took size key end deeds stamp false timely =
     let f : fired_at end (deeds ++ took stamp false ∷ []) ≡ fired_at end deeds =
-        sum_by_push (fires_at end) deeds (took stamp false) ∙ omega arith in
+    sum_by_push (fires_at end) deeds (took stamp false) ∙ omega arith in
     elim (window_end size stamp == end) as
     (λ b. (window_end size stamp == end) ≡ b → closed size key end (deeds ++ took stamp false ∷ []) ≡ closed size key end deeds) [
       | true ↦ λ e.
@@ -90,20 +92,23 @@ closed-took size key end deeds stamp false timely =
           ∙ sym (ap (λ n. closed_at key end n (taken_into size end deeds)) none)
       | false ↦ λ e.
           let t : taken_into size end (deeds ++ took stamp false ∷ []) ≡ taken_into size end deeds =
-              sum_by_push (takes_into size end) deeds (took stamp false)
-              ∙ ap (λ b. taken_into size end deeds + cond b 1 0) e ∙ omega arith in
+          sum_by_push (takes_into size end) deeds (took stamp false)
+          ∙ ap (λ b. taken_into size end deeds + cond b 1 0) e ∙ omega arith in
           λ i. closed_at key end (f i) (t i)
     ] refl
 
 -- what a window that closes puts into the stream
 closing-at : (key : List ℕ) (end time fires takes : ℕ)
-    → filter (at_place (key, end)) (map (produced false) (closing key (cond (fires == 0) (cond (takes == 0) None (Some (record { end = time; count = takes }))) None)))
+    → filter (at_place (key, end)) (map (produced false) (closing key
+    (cond (fires == 0) (cond (takes == 0) None (Some (record { end = time; count = takes }))) None)))
     ≡ cond (time == end) (cond (fires == 0) (counted_at key time takes) []) []
 closing-at key end time fires takes = elim (fires == 0) as
-    (λ b. filter (at_place (key, end)) (map (produced false) (closing key (cond b (cond (takes == 0) None (Some (record { end = time; count = takes }))) None)))
+    (λ b. filter (at_place (key, end)) (map (produced false) (closing key
+    (cond b (cond (takes == 0) None (Some (record { end = time; count = takes }))) None)))
     ≡ cond (time == end) (cond b (counted_at key time takes) []) []) [
       | true ↦ elim (takes == 0) as
-          (λ c. filter (at_place (key, end)) (map (produced false) (closing key (cond c None (Some (record { end = time; count = takes })))))
+          (λ c. filter (at_place (key, end)) (map (produced false)
+          (closing key (cond c None (Some (record { end = time; count = takes })))))
           ≡ cond (time == end) (cond c [] (count_at key time takes ∷ [])) []) [
             | true ↦ nothing (time == end)
             | false ↦ ap (λ b. cond (b && (time == end)) (count_at key time takes ∷ []) []) (key-itself key)
@@ -130,20 +135,23 @@ closed-fired size key end time deeds =
 
     -- behind the window that fires now
     both : (fires takes : ℕ) → closed_at key end fires takes ++ cond (fires == 0) (counted_at key end takes) [] ≡ counted_at key end takes
-    both fires takes = elim (fires == 0) as (λ b. cond b [] (counted_at key end takes) ++ cond b (counted_at key end takes) [] ≡ counted_at key end takes) [
-      | true ↦ refl
-      | false ↦ append-nil (counted_at key end takes)
-    ]
+    both fires takes = elim (fires == 0) as (λ b. cond b [] (counted_at key end takes) ++ cond b (counted_at key end takes) []
+        ≡ counted_at key end takes) [
+          | true ↦ refl
+          | false ↦ append-nil (counted_at key end takes)
+        ]
 
-    by_time : closed size key end deeds ++ cond (time == end) (cond (fired_at time deeds == 0) (counted_at key time (taken_into size time deeds)) []) []
+    by_time : closed size key end deeds ++ cond (time == end)
+        (cond (fired_at time deeds == 0) (counted_at key time (taken_into size time deeds)) []) []
         ≡ closed size key end (deeds ++ fired time ∷ [])
     by_time = elim (time == end) as
-        (λ b. (time == end) ≡ b → closed size key end deeds ++ cond b (cond (fired_at time deeds == 0) (counted_at key time (taken_into size time deeds)) []) []
+        (λ b. (time == end) ≡ b → closed size key end deeds ++ cond b
+        (cond (fired_at time deeds == 0) (counted_at key time (taken_into size time deeds)) []) []
         ≡ closed size key end (deeds ++ fired time ∷ [])) [
           | true ↦ λ e.
               let same : time ≡ end = grind (arith, nat_tests) in
               let g : fired_at end (deeds ++ fired time ∷ []) ≡ fired_at end deeds + 1 =
-                  f ∙ ap (λ b. fired_at end deeds + cond b 1 0) e in
+              f ∙ ap (λ b. fired_at end deeds + cond b 1 0) e in
               let some : (fired_at end (deeds ++ fired time ∷ []) == 0) ≡ false = grind (arith, nat_tests, g) in
               ap (λ n. closed size key end deeds ++ cond (fired_at n deeds == 0) (counted_at key n (taken_into size n deeds)) []) same
               ∙ both (fired_at end deeds) (taken_into size end deeds)
@@ -151,7 +159,7 @@ closed-fired size key end time deeds =
               ∙ ap (counted_at key end) t)
           | false ↦ λ e.
               let g : fired_at end (deeds ++ fired time ∷ []) ≡ fired_at end deeds =
-                  f ∙ ap (λ b. fired_at end deeds + cond b 1 0) e ∙ omega arith in
+              f ∙ ap (λ b. fired_at end deeds + cond b 1 0) e ∙ omega arith in
               append-nil (closed size key end deeds) ∙ sym (λ i. closed_at key end (g i) (t i))
         ] refl
 
@@ -162,7 +170,8 @@ pub record-nothing : (size : ℕ) (key : List ℕ) (state : State) (item : Recor
     → (effects_of_record (kinds.Count size) key state item).productions ≡ []
 record-nothing size key (states.Count late windows) item =
     elim item.late as (λ b. (cond b (unchanged (states.Count (one_more late) windows))
-    (outcome_with_timer (states.Count late (counted windows (window_end size item.stamp))) (window_end size item.stamp) item)).productions ≡ []) [
+    (outcome_with_timer (states.Count late (counted windows (window_end size item.stamp)))
+    (window_end size item.stamp) item)).productions ≡ []) [
       | true ↦ refl
       | false ↦ refl
     ]
@@ -196,9 +205,11 @@ module _ (case : CaseShape) (name : RowName) (size end : ℕ) (runs : IsRunnable
   abbrev shape : Shape
   shape = case.topology
 
+  -- the stream's members at this place
   abbrev here : List Record → List Record
   here = filter (at_place (name.key, end))
 
+  -- what is in the stream at this place is of what the row took and fired
   abbrev IsClosed : List Entry → Type 0
   IsClosed h = length h < MAX_STAMP → here (out_at name.part (out_of shape h)) ≡ closed size name.key end (deeds_of shape name h)
 
@@ -243,6 +254,7 @@ module _ (case : CaseShape) (name : RowName) (size end : ℕ) (runs : IsRunnable
   nil-no_fire : (time : ℕ) → ◌≡◌ {A = List Deed} [] (fired time ∷ []) → ⊥
   nil-no_fire time e = cc
 
+  -- and no record that is taken is one
   taken-no_fire : (o : Option Delivery) (b : Bool) (time : ℕ) → cond b (taken o) [] ≡ fired time ∷ [] → ⊥
   taken-no_fire o false time e = nil-no_fire time e
   taken-no_fire None true time e = nil-no_fire time e
@@ -258,21 +270,23 @@ module _ (case : CaseShape) (name : RowName) (size end : ℕ) (runs : IsRunnable
       let run : Run = run_of shape h in
       let entry : Entry = Fire seq name timer mark effects in
       let deeds : List Deed = deeds_of shape name h in
-      let set = each-at (IsSet (windows_after size deeds)) (row_of shape run name).timers 0 timer (legal-set case name size kind h legal) may.least_timer in
+      let set = each-at (IsSet (windows_after size deeds)) (row_of shape run name).timers 0 timer
+      (legal-set case name size kind h legal) may.least_timer in
       let same : (name.part == name.part) ≡ true = eq-eqb name.part name.part refl in
       let produces = fire-produces case name size runs kind h [] seq timer mark effects
-          (legal-push case h entry empty_run legal may) short set.0 in
+      (legal-push case h entry empty_run legal may) short set.0 in
       let adds : out_at name.part (added_by run entry) ≡ map (produced false) (closing name.key (open_window size timer.time deeds)) =
-          added-here name.part run entry name refl same ∙ (λ i. map (produced (set.1 i)) (produces i)) in
+      added-here name.part run entry name refl same ∙ (λ i. map (produced (set.1 i)) (produces i)) in
       let does : deeds_in name run entry ≡ fired timer.time ∷ [] =
-          ap (λ b. cond b (cond (timer.tag == 0) (fired timer.time ∷ []) []) []) (tie name)
-          ∙ ap (λ n. cond (n == 0) (fired timer.time ∷ []) []) set.0 in
+      ap (λ b. cond b (cond (timer.tag == 0) (fired timer.time ∷ []) []) []) (tie name)
+      ∙ ap (λ n. cond (n == 0) (fired timer.time ∷ []) []) set.0 in
       ap (λ l. closed size name.key end deeds ++ here l) adds
       ∙ closed-fired size name.key end timer.time deeds
       ∙ ap (λ l. closed size name.key end (deeds ++ l)) (sym does)
 
   -- a row of another key of the part
-  key-differs : (row : RowName) → (row.part == name.part) ≡ true → is_at (row_cmp name) row ≡ false → pointwise nat_eq name.key row.key ≡ false
+  key-differs : (row : RowName) → (row.part == name.part) ≡ true → is_at (row_cmp name) row ≡ false
+      → pointwise nat_eq name.key row.key ≡ false
   key-differs row part apart = elim (pointwise nat_eq name.key row.key) as (λ b. pointwise nat_eq name.key row.key ≡ b → b ≡ false) [
     | true ↦ λ e.
         let parts : row.part ≡ name.part = grind (arith, nat_tests) in
@@ -281,7 +295,9 @@ module _ (case : CaseShape) (name : RowName) (size end : ℕ) (runs : IsRunnable
     | false ↦ λ e. refl
   ] refl
 
-  adds-here : (h : List Entry) (entry : Entry) → IsLegal case h → MayFollow case (run_of shape h) entry → length (h ++ entry ∷ []) < MAX_STAMP
+  -- what an entry adds at this place, by its kind
+  adds-here : (h : List Entry) (entry : Entry) → IsLegal case h → MayFollow case (run_of shape h) entry
+      → length (h ++ entry ∷ []) < MAX_STAMP
       → closed size name.key end (deeds_of shape name h) ++ here (out_at name.part (added_by (run_of shape h) entry))
       ≡ closed size name.key end (deeds_of shape name h ++ deeds_in name (run_of shape h) entry)
   adds-here h (Claim worker interval) legal may short = quiet h (Claim worker interval) legal may refl nil-no_fire
@@ -300,7 +316,7 @@ module _ (case : CaseShape) (name : RowName) (size end : ℕ) (runs : IsRunnable
           (λ b. (row.part == name.part) ≡ b → here (out_at name.part (added_by (run_of shape h) (Handle seq row id effects))) ≡ []) [
             | true ↦ λ e.
                 let left = record-left case (run_of shape h) row id effects (kinds.Count size) may
-                    (kind-at shape name.part row.part (kinds.Count size) kind e) in
+                (kind-at shape name.part row.part (kinds.Count size) kind e) in
                 ap here (added-here name.part (run_of shape h) (Handle seq row id effects) row refl e
                 ∙ ap (map (produced (late_cause (run_of shape h).made (Handle seq row id effects))))
                 (sym (ap (λ (o : EffectsView). o.productions) left)
@@ -310,23 +326,27 @@ module _ (case : CaseShape) (name : RowName) (size end : ℕ) (runs : IsRunnable
   adds-here h (Fire seq row timer mark effects) legal may short =
       elim (is_at (row_cmp name) row) as
       (λ b. is_at (row_cmp name) row ≡ b
-      → closed size name.key end (deeds_of shape name h) ++ here (out_at name.part (added_by (run_of shape h) (Fire seq row timer mark effects)))
+      → closed size name.key end (deeds_of shape name h) ++ here
+      (out_at name.part (added_by (run_of shape h) (Fire seq row timer mark effects)))
       ≡ closed size name.key end (deeds_of shape name h ++ deeds_in name (run_of shape h) (Fire seq row timer mark effects))) [
         | true ↦ λ e.
-            subst (λ (r : RowName). MayFire case (run_of shape h) r timer mark effects → length (h ++ Fire seq r timer mark effects ∷ []) < MAX_STAMP
-            → closed size name.key end (deeds_of shape name h) ++ here (out_at name.part (added_by (run_of shape h) (Fire seq r timer mark effects)))
+            subst (λ (r : RowName). MayFire case (run_of shape h) r timer mark effects
+            → length (h ++ Fire seq r timer mark effects ∷ []) < MAX_STAMP
+            → closed size name.key end (deeds_of shape name h) ++ here
+            (out_at name.part (added_by (run_of shape h) (Fire seq r timer mark effects)))
             ≡ closed size name.key end (deeds_of shape name h ++ deeds_in name (run_of shape h) (Fire seq r timer mark effects)))
             (same_row name row e) (λ m s. fires-here h seq timer mark effects legal m s) may short
         | false ↦ λ e. quiet h (Fire seq row timer mark effects) legal may (nothing e)
             (λ time is. nil-no_fire time (sym (ap (λ b. cond b (cond (timer.tag == 0) (fired timer.time ∷ []) []) []) e) ∙ is))
       ] refl
     where
-      nothing : is_at (row_cmp name) row ≡ false → here (out_at name.part (added_by (run_of shape h) (Fire seq row timer mark effects))) ≡ []
+      nothing : is_at (row_cmp name) row ≡ false → here (out_at name.part
+          (added_by (run_of shape h) (Fire seq row timer mark effects))) ≡ []
       nothing apart = elim (row.part == name.part) as
           (λ b. (row.part == name.part) ≡ b → here (out_at name.part (added_by (run_of shape h) (Fire seq row timer mark effects))) ≡ []) [
             | true ↦ λ e.
                 let left = timer-left case (run_of shape h) row timer mark effects (kinds.Count size) may
-                    (kind-at shape name.part row.part (kinds.Count size) kind e) in
+                (kind-at shape name.part row.part (kinds.Count size) kind e) in
                 ap here (added-here name.part (run_of shape h) (Fire seq row timer mark effects) row refl e)
                 ∙ other-key (name.key, end) row.key timer.late effects.productions (key-differs row e apart)
                 (subst (λ (o : EffectsView). AllByRecursion (λ (p : Production). p.key ≡ row.key) o.productions) left

@@ -56,7 +56,7 @@ module _ (case : CaseShape) (part size : ℕ) (runs : IsRunnable case) (kind : k
       → open_window size end (deeds_of shape name h) ≡ None
   none-open name of end =
       let timers : (row_of shape (run_of shape h) name).timers ≡ [] =
-          row_of-each shape (run_of shape h) name (λ (c : Contents). c.timers ≡ []) done.fired refl in
+      row_of-each shape (run_of shape h) name (λ (c : Contents). c.timers ≡ []) done.fired refl in
       sym (window-open case name size runs of h legal short end)
       ∙ ap (find (λ (w : Window). w.end == end)) (no-window case name size of h legal timers)
 
@@ -71,7 +71,8 @@ module _ (case : CaseShape) (part size : ℕ) (runs : IsRunnable case) (kind : k
       own : (r : Record) → at_place (r.key, r.stamp) r ≡ true
       own r = (λ i. key-itself r.key i && (r.stamp == r.stamp)) ∙ eq-eqb r.stamp r.stamp refl
 
-      same : (place : List ℕ × ℕ) → filter (at_place place) (out_at part (out_of shape h)) ≡ filter (at_place place) (plain_of (kinds.Count size) ms)
+      same : (place : List ℕ × ℕ) → filter (at_place place) (out_at part (out_of shape h))
+          ≡ filter (at_place place) (plain_of (kinds.Count size) ms)
       same (key, end) =
           let name : RowName = record { part = part; key = key } in
           legal-closed case name size end runs kind h legal short

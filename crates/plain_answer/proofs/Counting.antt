@@ -45,7 +45,8 @@ record-state size late ws item =
     ]
 
 -- where no window ends at a time, none is taken away
-filter-none : (time : ℕ) (ws : List Window) → find (λ (w : Window). w.end == time) ws ≡ None → filter (λ (w : Window). not (w.end == time)) ws ≡ ws
+filter-none : (time : ℕ) (ws : List Window) → find (λ (w : Window). w.end == time) ws ≡ None
+    → filter (λ (w : Window). not (w.end == time)) ws ≡ ws
 filter-none time [] none = refl
 filter-none time (w ∷ ws) none =
     elim (w.end == time) as
@@ -70,7 +71,8 @@ timer-state size key late ws timer =
     elim (timer.tag == 0) as
     (λ b. (count_timer key late ws (cond b (find (λ (w : Window). w.end == timer.time) ws) None)).state
     ≡ states.Count late (fold (after_deed size) ws (cond b (fired timer.time ∷ []) []))) [
-      | true ↦ closed-state key late timer.time ws (find (λ (w : Window). w.end == timer.time) ws) refl (find-passes (λ (w : Window). w.end) timer.time ws)
+      | true ↦ closed-state key late timer.time ws (find (λ (w : Window). w.end == timer.time) ws) refl
+          (find-passes (λ (w : Window). w.end) timer.time ws)
       | false ↦ refl
     ]
 
@@ -130,14 +132,15 @@ module _ (case : CaseShape) (name : RowName) (size : ℕ) (kind : kind_of case.t
       let ws : List Window = windows_after size s.deeds in
       let item : Record = may.delivery.item in
       let does : effects_of_record (kinds.Count size) name.key (row_of shape s.run name).state item ≡ effects =
-          some_same _ effects (sym (ap (option_map (λ k. effects_of_record k name.key (row_of shape s.run name).state item)) kind) ∙ may.does) in
+      some_same _ effects (sym (ap (option_map (λ k. effects_of_record k name.key (row_of shape s.run name).state item)) kind)
+      ∙ may.does) in
       let left : count_record size has.late ws item ≡ effects =
-          sym (ap (λ st. effects_of_record (kinds.Count size) name.key st item) has.is) ∙ does in
+      sym (ap (λ st. effects_of_record (kinds.Count size) name.key st item) has.is) ∙ does in
       let state = record-state size has.late ws item in
       let here : (row_of shape (followed shape s.run entry) name).state ≡ effects.state =
-          ap (λ c. c.state) (row_of-here shape s.run entry name refl) in
+      ap (λ c. c.state) (row_of-here shape s.run entry name refl) in
       let takes : deeds_in name s.run entry ≡ took item.stamp item.late ∷ [] =
-          ap (λ b. cond b (taken (found_delivery id s.run.unhandled)) []) (tie name) ∙ ap taken may.waits in
+      ap (λ b. cond b (taken (found_delivery id s.run.unhandled)) []) (tie name) ∙ ap taken may.waits in
       more s entry state.0 (took item.stamp item.late ∷ []) takes (here ∙ ap (λ (o : EffectsView). o.state) (sym left) ∙ state.1)
 
   -- a timer fires
@@ -147,17 +150,19 @@ module _ (case : CaseShape) (name : RowName) (size : ℕ) (kind : kind_of case.t
       let entry : Entry = Fire seq name timer mark effects in
       let ws : List Window = windows_after size s.deeds in
       let does : effects_of_timer (kinds.Count size) name.key (row_of shape s.run name).state timer ≡ effects =
-          some_same _ effects (sym (ap (option_map (λ k. effects_of_timer k name.key (row_of shape s.run name).state timer)) kind) ∙ may.does) in
+      some_same _ effects (sym (ap (option_map (λ k. effects_of_timer k name.key (row_of shape s.run name).state timer)) kind)
+      ∙ may.does) in
       let left : count_timer name.key has.late ws (window_due ws timer) ≡ effects =
-          sym (ap (λ st. effects_of_timer (kinds.Count size) name.key st timer) has.is) ∙ does in
+      sym (ap (λ st. effects_of_timer (kinds.Count size) name.key st timer) has.is) ∙ does in
       let here : (row_of shape (followed shape s.run entry) name).state ≡ effects.state =
-          ap (λ c. c.state) (row_of-here shape s.run entry name refl) in
+      ap (λ c. c.state) (row_of-here shape s.run entry name refl) in
       let ds : List Deed = cond (timer.tag == 0) (fired timer.time ∷ []) [] in
       let does_fire : deeds_in name s.run entry ≡ ds = ap (λ b. cond b ds []) (tie name) in
       more s entry has.late ds does_fire (here ∙ ap (λ (o : EffectsView). o.state) (sym left) ∙ timer-state size name.key has.late ws timer)
 
   -- an entry on the row
-  on_row : (s : Told) (entry : Entry) → IsCounted s → MayFollow case s.run entry → row_written entry ≡ Some name → IsCounted (told shape name s entry)
+  on_row : (s : Told) (entry : Entry) → IsCounted s → MayFollow case s.run entry → row_written entry ≡ Some name
+      → IsCounted (told shape name s entry)
   on_row s (Claim worker interval) has may here = absurd (none_some name here)
   on_row s (Inject seq part line item) has may here =
       let same : part ≡ name.part = ap (λ (r : RowName). r.part) (some_same _ name here) in
@@ -179,7 +184,8 @@ module _ (case : CaseShape) (name : RowName) (size : ℕ) (kind : kind_of case.t
   pub step : (s : Told) (entry : Entry) → IsCounted s → MayFollow case s.run entry → IsCounted (told shape name s entry)
   step s entry has may = elim (on_row_or_not entry name) [
     | inl here ↦ on_row s entry has may here
-    | inr apart ↦ same-state s entry has (deeds-apart name s.run entry apart) (ap (λ c. c.state) (row_of-elsewhere shape s.run entry name apart))
+    | inr apart ↦ same-state s entry has (deeds-apart name s.run entry apart)
+        (ap (λ c. c.state) (row_of-elsewhere shape s.run entry name apart))
   ]
 
   -- before any entry
@@ -191,19 +197,22 @@ module _ (case : CaseShape) (name : RowName) (size : ℕ) (kind : kind_of case.t
     same : run ≡ (told_of shape name done).run
     counted : IsCounted (told_of shape name done)
 
+  -- both with one more entry
   next-holds : (done : List Entry) (run : Run) (entry : Entry) → Holds done run → MayFollow case run entry
       → Holds (done ++ entry ∷ []) (followed shape run entry)
   next-holds done run entry holds may =
       let next : told_of shape name (done ++ entry ∷ []) ≡ told shape name (told_of shape name done) entry =
-          fold-append (told shape name) (record { run = empty_run; deeds = [] }) done (entry ∷ []) in
+      fold-append (told shape name) (record { run = empty_run; deeds = [] }) done (entry ∷ []) in
       let follows : MayFollow case (told_of shape name done).run entry = subst (λ (r : Run). MayFollow case r entry) holds.same may in
       record {
         same = ap (λ (r : Run). followed shape r entry) holds.same ∙ ap (λ (s : Told). s.run) (sym next);
         counted = subst IsCounted (sym next) (step (told_of shape name done) entry holds.counted follows);
       }
 
+  -- after each legal history
   pub count-windows : (history : List Entry) → IsLegal case history
-      → (late : ℕ) × ((row_of shape (run_of shape history) name).state ≡ states.Count late (windows_after size (deeds_of shape name history)))
+      → (late : ℕ) × ((row_of shape (run_of shape history) name).state
+      ≡ states.Count late (windows_after size (deeds_of shape name history)))
   count-windows history legal =
       let all = along_history case Holds next-holds (record { same = refl; counted = fresh-counted }) history legal in
       (all.counted.late, ap (λ (r : Run). (row_of shape r name).state) all.same ∙ all.counted.is)

@@ -1,7 +1,6 @@
 -- A permutation, key by key. A key is anything that a test tells: `at k x` says whether the key of x is k.
-use Rattle.std.proofs.Common.{◌≡◌, ℕ, zero, suc, ◌≤◌, ◌==◌, Bool, true, false, cond, not, List, [], ◌∷◌, ◌++◌, length, filter, refl, sym, ap, ◌∙◌, subst, arith}
+use Rattle.std.proofs.Common.{◌≡◌, ℕ, zero, suc, ◌≤◌, Bool, true, false, cond, not, List, [], ◌∷◌, ◌++◌, length, filter, refl, sym, ap, ◌∙◌, subst, arith}
 use Rattle.std.specs.List.Sorted.{IsPermutation}
-use Rattle.std.proofs.lemmas.Bool.Decides.{nat_tests}
 use Rattle.std.proofs.lemmas.List.Sorted.{IsPermutation-refl, IsPermutation-sym, IsPermutation-trans, IsPermutation-append, IsPermutation-filter_both}
 
 -- filters go in any order
@@ -45,6 +44,7 @@ module _ {X K : Type 0} (at : K → X → Bool) (key : X → K) (own : (x : X) �
       nil≢cons : {y : X} {ys : List X} → ◌≡◌ {A = List X} [] (y ∷ ys) → ⊥
       nil≢cons e = cc
 
+  -- lists with the same elements of each key, of at most so many elements, are permutations
   pub by_keys : (n : ℕ) (xs ys : List X) → length xs ≤ n → AreSame xs ys → IsPermutation xs ys
   by_keys n [] ys few same = subst (λ l. IsPermutation [] l) (none_left ys same) (IsPermutation-refl [])
   by_keys zero (x ∷ xs) ys few same = absurd (omega (arith, few))
@@ -55,17 +55,10 @@ module _ {X K : Type 0} (at : K → X → Bool) (key : X → K) (own : (x : X) �
       let dropped : filter q all ≡ filter q xs = ap (λ b. cond (not b) (x ∷ filter q xs) (filter q xs)) (own x) in
       let fewer : length (filter q all) ≤ n = omega (arith, few, filter-le q xs, ap length dropped) in
       let rest = by_keys n (filter q all) (filter q ys) fewer
-          (λ k. filter-comm (at k) q all ∙ ap (filter q) (same k) ∙ filter-comm q (at k) ys) in
+      (λ k. filter-comm (at k) q all ∙ ap (filter q) (same k) ∙ filter-comm q (at k) ys) in
       let both = IsPermutation-append (filter p all) (filter p ys) (filter q all) (filter q ys)
-          (subst (λ l. IsPermutation (filter p all) l) (same (key x)) (IsPermutation-refl (filter p all))) rest in
+      (subst (λ l. IsPermutation (filter p all) l) (same (key x)) (IsPermutation-refl (filter p all))) rest in
       IsPermutation-trans all (filter p all ++ filter q all) ys
       (IsPermutation-filter_both p q (λ y. refl) all)
       (IsPermutation-trans (filter p all ++ filter q all) (filter p ys ++ filter q ys) ys both
       (IsPermutation-sym ys (filter p ys ++ filter q ys) (IsPermutation-filter_both p q (λ y. refl) ys)))
-
-pub by_number : (X : Type 0) (key : X → ℕ) (xs ys : List X) → ((k : ℕ) → filter (λ x. key x == k) xs ≡ filter (λ x. key x == k) ys) → IsPermutation xs ys
-by_number X key xs ys same =
-    by_keys (λ k x. key x == k) key (λ x. itself (key x)) (length xs) xs ys (omega arith) same
-  where
-    itself : (n : ℕ) → (n == n) ≡ true
-    itself n = grind (arith, nat_tests)

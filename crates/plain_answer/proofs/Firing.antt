@@ -43,7 +43,7 @@ module _ (case : CaseShape) (part size : ℕ) (kind : kind_of case.topology part
       (λ b. (row.part == part) ≡ b → ◌≡◌ {A = ℕ} 0 (length (out_at part (added_by (run_of shape h) (Handle seq row id effects))))) [
         | true ↦ λ e.
             let left = record-left case (run_of shape h) row id effects (kinds.Count size) may
-                (kind-at shape part row.part (kinds.Count size) kind e) in
+            (kind-at shape part row.part (kinds.Count size) kind e) in
             sym (ap length (added-here part (run_of shape h) (Handle seq row id effects) row refl e
             ∙ ap (map (produced (late_cause (run_of shape h).made (Handle seq row id effects))))
             (sym (ap (λ (o : EffectsView). o.productions) left)
@@ -52,7 +52,8 @@ module _ (case : CaseShape) (part size : ℕ) (kind : kind_of case.topology part
       ] refl
   one h (Fire seq row timer mark effects) legal may =
       elim (row.part == part) as
-      (λ b. (row.part == part) ≡ b → ◌≡◌ {A = ℕ} (cond b 1 0) (length (out_at part (added_by (run_of shape h) (Fire seq row timer mark effects))))) [
+      (λ b. (row.part == part) ≡ b → ◌≡◌ {A = ℕ} (cond b 1 0)
+      (length (out_at part (added_by (run_of shape h) (Fire seq row timer mark effects))))) [
         | true ↦ λ e.
             let run : Run = run_of shape h in
             let of = kind-at shape part row.part (kinds.Count size) kind e in
@@ -60,11 +61,11 @@ module _ (case : CaseShape) (part size : ℕ) (kind : kind_of case.topology part
             let set = each-at (IsSet ws) (row_of shape run row).timers 0 timer (legal-set case row size of h legal) may.least_timer in
             let counts = count-windows case row size of h legal in
             let left : count_timer row.key counts.0 ws (window_due ws timer) ≡ effects =
-                sym (ap (λ st. effects_of_timer (kinds.Count size) row.key st timer) counts.1)
-                ∙ timer-left case run row timer mark effects (kinds.Count size) may of in
+            sym (ap (λ st. effects_of_timer (kinds.Count size) row.key st timer) counts.1)
+            ∙ timer-left case run row timer mark effects (kinds.Count size) may of in
             let found = found-window timer.time ws set.2 in
             let due : window_due ws timer ≡ Some found.0 =
-                ap (λ n. cond (n == 0) (find (λ (w : Window). w.end == timer.time) ws) None) set.0 ∙ found.1 in
+            ap (λ n. cond (n == 0) (find (λ (w : Window). w.end == timer.time) ws) None) set.0 ∙ found.1 in
             sym (ap length (added-here part run (Fire seq row timer mark effects) row refl e)
             ∙ ap (λ (o : EffectsView). length (map (produced timer.late) o.productions)) (sym left)
             ∙ closing-one row.key counts.0 ws timer.late (window_due ws timer) found.0 due)
@@ -80,7 +81,14 @@ module _ (case : CaseShape) (part size : ℕ) (kind : kind_of case.topology part
   pub count-fires : (h : List Entry) → IsLegal case h → total (fires_on part) h ≡ length (out_at part (out_of shape h))
   count-fires = along_legal case (λ h. total (fires_on part) h ≡ length (out_at part (out_of shape h)))
       (λ h entry legal may was.
-      let grown = ap length (ap (out_at part) (out-push shape h entry) ∙ out_at-append part (out_of shape h) (added_by (run_of shape h) entry)) in
-      omega (arith, was, one h entry legal may, total-push (fires_on part) h entry, grown,
-      length-append (out_at part (out_of shape h)) (out_at part (added_by (run_of shape h) entry))))
+      let grown = ap length (ap (out_at part) (out-push shape h entry)
+      ∙ out_at-append part (out_of shape h) (added_by (run_of shape h) entry)) in
+      omega (
+        arith,
+        was,
+        one h entry legal may,
+        total-push (fires_on part) h entry,
+        grown,
+        length-append (out_at part (out_of shape h)) (out_at part (added_by (run_of shape h) entry)),
+      ))
       refl

@@ -49,7 +49,9 @@ record IsNear (stamp : ℕ) (o : EffectsView) : Type 0 where
   timers : AllByRecursion (λ (t : Timer). t.time ≤ stamp + 2 ^ 40) o.timers
   productions : AllByRecursion (λ (p : Production). p.stamp ≤ stamp + 2 ^ 40) o.productions
 
-record-near : (kind : Kind) (key : List ℕ) (state : State) (item : Record) → IsKind kind → IsNear item.stamp (effects_of_record kind key state item)
+-- of a record
+record-near : (kind : Kind) (key : List ℕ) (state : State) (item : Record) → IsKind kind
+    → IsNear item.stamp (effects_of_record kind key state item)
 record-near (kinds.Count size) key (states.Count late windows) item ranged =
     let end : ℕ = window_end size item.stamp in
     let near : end ≤ item.stamp + 2 ^ 40 = omega (arith, ranged.1) in
@@ -81,34 +83,44 @@ record-near kinds.Pass key (states.Spike late held known) item ranged = record {
 abbrev AreBy : ℕ → EffectsView → Type 0
 AreBy time o = AllByRecursion (λ (p : Production). p.stamp ≤ time) o.productions
 
-count-by : (key : List ℕ) (late time : ℕ) (windows : List Window) (due : Option Window) → IfSome due (λ w. w.end ≡ time) → AreBy time (count_timer key late windows due)
+-- of a count
+count-by : (key : List ℕ) (late time : ℕ) (windows : List Window) (due : Option Window) → IfSome due (λ w. w.end ≡ time)
+    → AreBy time (count_timer key late windows due)
 count-by key late time windows None ends = tt
 count-by key late time windows (Some due) ends = (omega (arith, ends), tt)
 
+-- of a spike
 spike-by : (last times : ℕ) (key : List ℕ) (late time : ℕ) (held : List HeldTotal) (known : List ℤ) (due : Option HeldTotal)
     → IfSome due (λ h. due_time h.stamp ≡ time) → AreBy time (spike_timer last times key late held known due)
 spike-by last times key late time held known None ends = tt
 spike-by last times key late time held known (Some due) ends =
     let state : State = states.Spike late (filter (λ (h : HeldTotal). not (h.stamp == due.stamp)) held) (known_with last known due.value) in
-    elim (is_spike last times known due.value) as (λ b. AreBy time (cond b (outcome_with_record state key (due_time due.stamp) due.value) (unchanged state))) [
+    elim (is_spike last times known due.value) as (λ b. AreBy time
+    (cond b (outcome_with_record state key (due_time due.stamp) due.value) (unchanged state))) [
       | true ↦ (omega (arith, ends), tt)
       | false ↦ tt
     ]
 
+-- a window that is due ends at the time of its timer
 window-ends : (windows : List Window) (timer : Timer) → IfSome (window_due windows timer) (λ w. w.end ≡ timer.time)
-window-ends windows timer = elim (timer.tag == 0) as (λ b. IfSome (cond b (find (λ (w : Window). w.end == timer.time) windows) None) (λ w. w.end ≡ timer.time)) [
-  | true ↦ find-passes (λ (w : Window). w.end) timer.time windows
-  | false ↦ tt
-]
+window-ends windows timer = elim (timer.tag == 0) as (λ b. IfSome (cond b (find (λ (w : Window). w.end == timer.time) windows) None)
+    (λ w. w.end ≡ timer.time)) [
+      | true ↦ find-passes (λ (w : Window). w.end) timer.time windows
+      | false ↦ tt
+    ]
 
+-- a total that is due is due at the time of its timer
 total-ends : (held : List HeldTotal) (timer : Timer) → IfSome (total_due held timer) (λ h. due_time h.stamp ≡ timer.time)
-total-ends held timer = elim (timer.tag == 0) as (λ b. IfSome (cond b (find (λ (h : HeldTotal). due_time h.stamp == timer.time) held) None) (λ h. due_time h.stamp ≡ timer.time)) [
-  | true ↦ find-passes (λ (h : HeldTotal). due_time h.stamp) timer.time held
-  | false ↦ tt
-]
+total-ends held timer = elim (timer.tag == 0) as (λ b. IfSome
+    (cond b (find (λ (h : HeldTotal). due_time h.stamp == timer.time) held) None) (λ h. due_time h.stamp ≡ timer.time)) [
+      | true ↦ find-passes (λ (h : HeldTotal). due_time h.stamp) timer.time held
+      | false ↦ tt
+    ]
 
+-- of a timer, whatever the kind
 timer-by : (kind : Kind) (key : List ℕ) (state : State) (timer : Timer) → AreBy timer.time (effects_of_timer kind key state timer)
-timer-by (kinds.Count size) key (states.Count late windows) timer = count-by key late timer.time windows (window_due windows timer) (window-ends windows timer)
+timer-by (kinds.Count size) key (states.Count late windows) timer = count-by key late timer.time windows (window_due windows timer)
+    (window-ends windows timer)
 timer-by (kinds.Count size) key (states.Injector cursor) timer = tt
 timer-by (kinds.Count size) key (states.Spike late held known) timer = tt
 timer-by (kinds.Count size) key (states.Pass late) timer = tt
@@ -121,9 +133,11 @@ timer-by kinds.Pass key state timer = tt
 
 -- ---- along a history
 
+-- a delivery is within its part's grade
 abbrev pub IsGraded : Delivery → Type 0
 IsGraded d = d.item.stamp ≤ grade d.to.part
 
+-- a timer of a part is due within a step of the part's grade
 abbrev pub IsDueBy : ℕ → Timer → Type 0
 IsDueBy part t = t.time ≤ grade part + 2 ^ 40
 
@@ -134,11 +148,13 @@ pub record AreGraded (shape : Shape) (run : Run) : Type 0 where
   pub timers : (name : RowName) → AllByRecursion (IsDueBy name.part) (row_of shape run name).timers
 
 -- what a part produces within a step is within the grades of its consumers
-sent-graded : (shape : Shape) (part : ℕ) (productions : List Production) (late : Bool) (commit : ℕ) → IsTopology shape → part < parts_of shape
+sent-graded : (shape : Shape) (part : ℕ) (productions : List Production) (late : Bool) (commit : ℕ) → IsTopology shape
+    → part < parts_of shape
     → AllByRecursion (λ (p : Production). p.stamp ≤ grade part + 2 ^ 40) productions
     → AllByRecursion IsGraded (deliveries_made shape part productions late commit)
 sent-graded shape part productions late commit rules there near =
-    deliveries_made-each shape part productions late commit (λ (s : Subscription). part < s.to) (λ (p : Production). p.stamp ≤ grade part + 2 ^ 40)
+    deliveries_made-each shape part productions late commit (λ (s : Subscription). part < s.to)
+    (λ (p : Production). p.stamp ≤ grade part + 2 ^ 40)
     (λ to item. item.stamp ≤ grade to.part) (λ s p above low. omega (arith, above, low))
     (each-weaker (λ (s : Subscription). Contains (feeds_of shape s.to) part) (λ (s : Subscription). part < s.to)
     (λ (s : Subscription) has. All-contains (λ f. f < s.to) (feeds_of shape s.to) part
@@ -159,17 +175,23 @@ module _ (case : CaseShape) (runs : IsRunnable case) where
       sent-graded shape part (record { key = item.key; stamp = item.stamp; value = item.value } ∷ []) item.late run.next runs.topology
       (omega (arith, within)) (omega (arith, input), tt)
   entry-near run (Handle seq row id effects) graded may =
-      let kind = was_some (λ (kind : Kind). effects_of_record kind row.key (row_of shape run row).state may.delivery.item) (kind_of shape row.part) effects may.does in
-      let stamp : may.delivery.item.stamp ≤ grade may.delivery.to.part = find-each IsGraded (λ (d : Delivery). same_id d.id id) run.unhandled may.delivery graded.waiting may.waits in
-      let here : may.delivery.item.stamp ≤ grade row.part = subst (λ (r : RowName). may.delivery.item.stamp ≤ grade r.part) may.to_row stamp in
+      let kind = was_some (λ (kind : Kind). effects_of_record kind row.key (row_of shape run row).state may.delivery.item)
+      (kind_of shape row.part) effects may.does in
+      let stamp : may.delivery.item.stamp ≤ grade may.delivery.to.part = find-each IsGraded
+      (λ (d : Delivery). same_id d.id id) run.unhandled may.delivery graded.waiting may.waits in
+      let here : may.delivery.item.stamp ≤ grade row.part = subst
+      (λ (r : RowName). may.delivery.item.stamp ≤ grade r.part) may.to_row stamp in
       let near : IsNear may.delivery.item.stamp effects = subst (IsNear may.delivery.item.stamp) kind.2
-          (record-near kind.0 row.key (row_of shape run row).state may.delivery.item (kind-ranged shape row.part kind.0 runs.topology kind.1)) in
+      (record-near kind.0 row.key (row_of shape run row).state may.delivery.item
+      (kind-ranged shape row.part kind.0 runs.topology kind.1)) in
       sent-graded shape row.part effects.productions _ run.next runs.topology (kind-there shape row.part kind.0 kind.1)
       (each-weaker (λ (p : Production). p.stamp ≤ may.delivery.item.stamp + 2 ^ 40) (λ (p : Production). p.stamp ≤ grade row.part + 2 ^ 40)
       (λ p low. omega (arith, low, here)) effects.productions near.productions)
   entry-near run (Fire seq row timer mark effects) graded may =
-      let kind = was_some (λ (kind : Kind). effects_of_timer kind row.key (row_of shape run row).state timer) (kind_of shape row.part) effects may.does in
-      let due : timer.time ≤ grade row.part + 2 ^ 40 = each-at (IsDueBy row.part) (row_of shape run row).timers 0 timer (graded.timers row) may.least_timer in
+      let kind = was_some (λ (kind : Kind). effects_of_timer kind row.key (row_of shape run row).state timer)
+      (kind_of shape row.part) effects may.does in
+      let due : timer.time ≤ grade row.part + 2 ^ 40 = each-at (IsDueBy row.part) (row_of shape run row).timers 0 timer
+      (graded.timers row) may.least_timer in
       let by : AreBy timer.time effects = subst (AreBy timer.time) kind.2 (timer-by kind.0 row.key (row_of shape run row).state timer) in
       sent-graded shape row.part effects.productions _ run.next runs.topology (kind-there shape row.part kind.0 kind.1)
       (each-weaker (λ (p : Production). p.stamp ≤ timer.time) (λ (p : Production). p.stamp ≤ grade row.part + 2 ^ 40)
@@ -185,34 +207,45 @@ module _ (case : CaseShape) (runs : IsRunnable case) where
   timers-near run (Inject seq part line item) sent name graded may here = graded.timers name
   timers-near run (Handle seq row id effects) sent name graded may here =
       let same : row ≡ name = some_same row name here in
-      let kind = was_some (λ (kind : Kind). effects_of_record kind row.key (row_of shape run row).state may.delivery.item) (kind_of shape row.part) effects may.does in
-      let stamp : may.delivery.item.stamp ≤ grade may.delivery.to.part = find-each IsGraded (λ (d : Delivery). same_id d.id id) run.unhandled may.delivery graded.waiting may.waits in
+      let kind = was_some (λ (kind : Kind). effects_of_record kind row.key (row_of shape run row).state may.delivery.item)
+      (kind_of shape row.part) effects may.does in
+      let stamp : may.delivery.item.stamp ≤ grade may.delivery.to.part = find-each IsGraded
+      (λ (d : Delivery). same_id d.id id) run.unhandled may.delivery graded.waiting may.waits in
       let there : may.delivery.item.stamp ≤ grade name.part =
-          subst (λ (r : RowName). may.delivery.item.stamp ≤ grade r.part) same (subst (λ (r : RowName). may.delivery.item.stamp ≤ grade r.part) may.to_row stamp) in
+      subst (λ (r : RowName). may.delivery.item.stamp ≤ grade r.part) same
+      (subst (λ (r : RowName). may.delivery.item.stamp ≤ grade r.part) may.to_row stamp) in
       let near : IsNear may.delivery.item.stamp effects = subst (IsNear may.delivery.item.stamp) kind.2
-          (record-near kind.0 row.key (row_of shape run row).state may.delivery.item (kind-ranged shape row.part kind.0 runs.topology kind.1)) in
+      (record-near kind.0 row.key (row_of shape run row).state may.delivery.item
+      (kind-ranged shape row.part kind.0 runs.topology kind.1)) in
       with_timers-each (IsDueBy name.part) (λ t u tied p q. q) effects.timers (row_of shape run name).timers
-      (each-weaker (λ (t : Timer). t.time ≤ may.delivery.item.stamp + 2 ^ 40) (IsDueBy name.part) (λ t low. omega (arith, low, there)) effects.timers near.timers)
+      (each-weaker (λ (t : Timer). t.time ≤ may.delivery.item.stamp + 2 ^ 40) (IsDueBy name.part)
+      (λ t low. omega (arith, low, there)) effects.timers near.timers)
       (graded.timers name)
   timers-near run (Fire seq row timer mark effects) sent name graded may here =
       each-filter (IsDueBy name.part) (λ t. not (is_timer timer.tag timer.time t)) (row_of shape run name).timers (graded.timers name)
   timers-near run (Ack seq row id) sent name graded may here = graded.timers name
   timers-near run (Purge seq row floor) sent name graded may here = graded.timers name
 
-  pub next-graded : (done : List Entry) (run : Run) (entry : Entry) → AreGraded shape run → MayFollow case run entry → AreGraded shape (followed shape run entry)
+  -- one more entry keeps it so
+  pub next-graded : (done : List Entry) (run : Run) (entry : Entry) → AreGraded shape run → MayFollow case run entry
+      → AreGraded shape (followed shape run entry)
   next-graded done run entry graded may =
       let sent = entry-near run entry graded may in record {
         made = each-append IsGraded run.made _ graded.made sent;
         waiting = each-append IsGraded (still_unhandled entry run.unhandled) _
             (subst (AllByRecursion IsGraded) (sym (still_unhandled-filter entry run.unhandled))
             (each-filter IsGraded (λ (d : Delivery). not (handles d.id entry)) run.unhandled graded.waiting)) sent;
-        timers = λ name. row_of-step shape run entry name (λ (c : Contents). AllByRecursion (IsDueBy name.part) c.timers) (graded.timers name)
+        timers = λ name. row_of-step shape run entry name (λ (c : Contents). AllByRecursion (IsDueBy name.part) c.timers)
+            (graded.timers name)
             (λ written. timers-near run entry (deliveries_of shape run.made run.next entry) name graded may written);
       }
 
+  -- after each legal history
   pub graded-all : (history : List Entry) → IsLegal case history → AreGraded shape (run_of shape history)
   graded-all history legal = along_history case (λ done run. AreGraded shape run) next-graded
       (record { made = tt; waiting = tt; timers = λ name. tt }) history legal
 
-pub legal-graded : (case : CaseShape) (history : List Entry) → IsRunnable case → IsLegal case history → AreGraded case.topology (run_of case.topology history)
+-- the same, for a caller with a case
+pub legal-graded : (case : CaseShape) (history : List Entry) → IsRunnable case → IsLegal case history
+    → AreGraded case.topology (run_of case.topology history)
 legal-graded case history runs legal = graded-all case runs history legal

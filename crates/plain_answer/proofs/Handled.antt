@@ -32,8 +32,8 @@ taken-out id f (x ∷ xs) d sorted found =
       | true ↦ λ e g.
           let same : x ≡ d = some_same x d g in
           let rest : without_delivery id xs ≡ xs = filter-all (λ (y : Delivery). not (same_id y.id id)) xs
-              (each-weaker (λ (y : Delivery). delivery_cmp x y ≡ Less) (λ (y : Delivery). not (same_id y.id id) ≡ true)
-              (λ y less. ap not (passes_once id x y less e)) xs sorted.0) in
+          (each-weaker (λ (y : Delivery). delivery_cmp x y ≡ Less) (λ (y : Delivery). not (same_id y.id id) ≡ true)
+          (λ y less. ap not (passes_once id x y less e)) xs sorted.0) in
           omega (arith, ap f same, ap (total f) rest)
       | false ↦ λ e g. omega (arith, taken-out id f xs d sorted.1 g)
     ] refl found
@@ -44,7 +44,7 @@ waits-apart : (case : CaseShape) (run : Run) (entry : Entry) (f : Delivery → �
     → total f run.unhandled ≡ total f (handled_by run entry) + total f (still_unhandled entry run.unhandled)
 waits-apart case run (Handle seq row id effects) f sorted may =
     let here : total f (handled_by run (Handle seq row id effects)) ≡ f may.delivery + 0 =
-        ap (λ o. total f (option_to_list o)) may.waits in
+    ap (λ o. total f (option_to_list o)) may.waits in
     omega (arith, here, taken-out id f run.unhandled may.delivery sorted may.waits)
 waits-apart case run (Claim worker interval) f sorted may = omega arith
 waits-apart case run (Inject seq part line item) f sorted may = omega arith
@@ -62,11 +62,17 @@ handled-total case f = along_legal case
     let sent : List Delivery = deliveries_of case.topology run.made run.next entry in
     let ids = legal-ids case h legal in
     let sorted : IsStrictlySortedBy delivery_cmp run.unhandled = subst (IsStrictlySortedBy delivery_cmp) (sym ids.waiting)
-        (IsStrictlySortedBy-filter delivery_cmp (is_left h) run.made ids.made.ascending) in
+    (IsStrictlySortedBy-filter delivery_cmp (is_left h) run.made ids.made.ascending) in
     let core : total f (run.made ++ sent) ≡ total f (done_of case.topology h ++ handled_by run entry)
-        + total f (still_unhandled entry run.unhandled ++ sent) =
-        omega (arith, was, waits-apart case run entry f sorted may, total-append f run.made sent,
-        total-append f (done_of case.topology h) (handled_by run entry), total-append f (still_unhandled entry run.unhandled) sent) in
+    + total f (still_unhandled entry run.unhandled ++ sent) =
+    omega (
+      arith,
+      was,
+      waits-apart case run entry f sorted may,
+      total-append f run.made sent,
+      total-append f (done_of case.topology h) (handled_by run entry),
+      total-append f (still_unhandled entry run.unhandled) sent,
+    ) in
     ap (λ (r : Run). total f r.made) (run-push case.topology h entry) ∙ core
     ∙ sym (λ i. total f (done-push case.topology h entry i) + total f (run-push case.topology h entry i).unhandled))
     refl

@@ -32,6 +32,7 @@ module _ (case : CaseShape) (part : ℕ) (is : is_injector case.topology part �
   abbrev shape : Shape
   shape = case.topology
 
+  -- the row of the injector
   abbrev name : RowName
   name = record { part = part; key = [] }
 
@@ -68,7 +69,8 @@ module _ (case : CaseShape) (part : ℕ) (is : is_injector case.topology part �
       differ same = grind (arith, nat_tests)
 
   -- the next line
-  line-more : (n : ℕ) (l : SourceLine) → slice_get (source_of case part) n ≡ Some l → first_records n ++ record_of l.item ∷ [] ≡ first_records (n + 1)
+  line-more : (n : ℕ) (l : SourceLine) → slice_get (source_of case part) n ≡ Some l → first_records n ++ record_of l.item ∷ []
+      ≡ first_records (n + 1)
   line-more n l at =
       let within = slice_get_within (source_of case part) n l at in
       let here : get_or (source_of case part) n l ≡ l = get_or_from_slice_get (source_of case part) n l l at in
@@ -76,10 +78,12 @@ module _ (case : CaseShape) (part : ℕ) (is : is_injector case.topology part �
       (take_more (source_of case part) n l within ∙ ap (λ k. take n (source_of case part) ++ k ∷ []) here)
       ∙ push (take n (source_of case part)))
     where
-      push : (ls : List SourceLine) → map (λ (l : SourceLine). record_of l.item) (ls ++ l ∷ []) ≡ map (λ (l : SourceLine). record_of l.item) ls ++ record_of l.item ∷ []
+      push : (ls : List SourceLine) → map (λ (l : SourceLine). record_of l.item) (ls ++ l ∷ [])
+          ≡ map (λ (l : SourceLine). record_of l.item) ls ++ record_of l.item ∷ []
       push [] = refl
       push (k ∷ ks) = ap (λ r. record_of k.item ∷ r) (push ks)
 
+  -- an entry that injects the next line
   injects : (h : List Entry) (seq line : ℕ) (item : Record) → Injected h → MayInject case (run_of shape h) part line item
       → Injected (h ++ Inject seq part line item ∷ [])
   injects h seq line item was may =
@@ -97,10 +101,12 @@ module _ (case : CaseShape) (part : ℕ) (is : is_injector case.topology part �
             ∙ line-more was.cursor l.0 here;
       }
 
+  -- one more entry, by its kind
   step : (h : List Entry) (entry : Entry) → IsLegal case h → MayFollow case (run_of shape h) entry → Injected h → Injected (h ++ entry ∷ [])
   step h (Claim worker interval) legal may was =
       stays h (Claim worker interval) was refl
-      (λ n state. ap (λ (c : Contents). c.state) (row_of-elsewhere shape (run_of shape h) (Claim worker interval) name (none_some name)) ∙ state)
+      (λ n state. ap (λ (c : Contents). c.state) (row_of-elsewhere shape (run_of shape h) (Claim worker interval) name
+      (none_some name)) ∙ state)
   step h (Inject seq other line item) legal may was =
       elim (other == part) as (λ b. (other == part) ≡ b → Injected (h ++ Inject seq other line item ∷ [])) [
         | true ↦ λ e. let same : part ≡ other = grind (arith, nat_tests) in
@@ -110,11 +116,11 @@ module _ (case : CaseShape) (part : ℕ) (is : is_injector case.topology part �
       ] refl
   step h (Handle seq row id effects) legal may was =
       let kind = was_some (λ (kind : Kind). effects_of_record kind row.key (row_of shape (run_of shape h) row).state may.delivery.item)
-          (kind_of shape row.part) effects may.does in
+      (kind_of shape row.part) effects may.does in
       elsewhere h (Handle seq row id effects) row was refl (injector-apart shape part row.part kind.0 is kind.1)
   step h (Fire seq row timer mark effects) legal may was =
       let kind = was_some (λ (kind : Kind). effects_of_timer kind row.key (row_of shape (run_of shape h) row).state timer)
-          (kind_of shape row.part) effects may.does in
+      (kind_of shape row.part) effects may.does in
       elsewhere h (Fire seq row timer mark effects) row was refl (injector-apart shape part row.part kind.0 is kind.1)
   step h (Ack seq row id) legal may was =
       stays h (Ack seq row id) was (added-nothing (Ack seq row id) refl)
@@ -126,8 +132,10 @@ module _ (case : CaseShape) (part : ℕ) (is : is_injector case.topology part �
       stays h (Purge seq row floor) was refl
       (λ n state. row_of-step shape (run_of shape h) (Purge seq row floor) name (λ c. c.state ≡ states.Injector n) state (λ written. state))
 
+  -- an injector is of no kind
   no_kind : kind_of shape part ≡ None
-  no_kind = ap (λ b. option_map (λ (c : ComputationShape). c.kind) (cond b None (slice_get shape.computations (part - injectors_of shape)))) is
+  no_kind = ap (λ b. option_map (λ (c : ComputationShape). c.kind)
+      (cond b None (slice_get shape.computations (part - injectors_of shape)))) is
 
   -- after each legal history an injector's stream has its lines up to its cursor
   pub legal-injected : (h : List Entry) → IsLegal case h → Injected h

@@ -25,5 +25,11 @@ pub mod Numbers
 pub mod Results
 pub mod Places
 pub mod Orders
+pub mod SpikeSteps
 pub mod Spiking
+pub mod Greatest
 pub mod SpikePlain
+pub mod Headline
+pub mod OneText
+pub mod Same
+pub mod Tallying

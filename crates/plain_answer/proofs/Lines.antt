@@ -56,17 +56,18 @@ module _ {X : Type 0} (same : X → X → Bool) (tells : (x y : X) → same x y 
 
 -- ---- lines
 
-line_cmp-total : IsTotalOrder line_cmp
+-- lines are in a total order
+pub line_cmp-total : IsTotalOrder line_cmp
 line_cmp-total = then_total (on_total (λ (l : ResultLine). l.stream) nat_list_cmp_total)
     (then_total (on_total (λ (l : ResultLine). l.stamp) nat_cmp_total)
     (then_total (on_total (λ (l : ResultLine). l.key) nat_list_cmp_total) (on_total (λ (l : ResultLine). l.value) int_cmp_total)))
 
 -- lines that tie are one
-same-line : (a b : ResultLine) → is_eq (line_cmp a b) ≡ true → a ≡ b
+pub same-line : (a b : ResultLine) → is_eq (line_cmp a b) ≡ true → a ≡ b
 same-line a b e =
     let one = both_Equal (key_cmp a.stream b.stream)
-        (ordering_then (nat_cmp a.stamp b.stamp) (ordering_then (key_cmp a.key b.key) (int_cmp a.value b.value)))
-        (equal_from_test (line_cmp a b) e) in
+    (ordering_then (nat_cmp a.stamp b.stamp) (ordering_then (key_cmp a.key b.key) (int_cmp a.value b.value)))
+    (equal_from_test (line_cmp a b) e) in
     let two = both_Equal (nat_cmp a.stamp b.stamp) (ordering_then (key_cmp a.key b.key) (int_cmp a.value b.value)) one.1 in
     let three = both_Equal (key_cmp a.key b.key) (int_cmp a.value b.value) two.1 in
     λ i. record {
@@ -82,17 +83,24 @@ unread-total : (ss : List Subscription) (g : ResultLine → ℕ) (stream : List 
 unread-total [] g stream items = total-map g (plain_line stream) items
 unread-total (s ∷ ss) g stream items = sym (total-zero items)
 
+-- and of all streams
 streams-lines : (shape : Shape) (g : ResultLine → ℕ) (n : ℕ) (streams : List (List Record))
-    → total g (flat_map (λ (s : ℕ × List Record). lines_unread (consumers_of shape s.0) (stream_of shape s.0) s.1) (enumerate_from n streams))
+    → total g (flat_map (λ (s : ℕ × List Record). lines_unread (consumers_of shape s.0) (stream_of shape s.0) s.1)
+    (enumerate_from n streams))
     ≡ stream_total (λ o. when (is_unread shape o.0) (g (plain_line (stream_of shape o.0) o.1))) n streams
 streams-lines shape g n [] = refl
 streams-lines shape g n (x ∷ xs) =
-    omega (arith, total-append g (lines_unread (consumers_of shape n) (stream_of shape n) x)
-    (flat_map (λ (s : ℕ × List Record). lines_unread (consumers_of shape s.0) (stream_of shape s.0) s.1) (enumerate_from (n + 1) xs)),
-    unread-total (consumers_of shape n) g (stream_of shape n) x, streams-lines shape g (n + 1) xs)
+    omega (
+      arith,
+      total-append g (lines_unread (consumers_of shape n) (stream_of shape n) x)
+          (flat_map (λ (s : ℕ × List Record). lines_unread (consumers_of shape s.0) (stream_of shape s.0) s.1) (enumerate_from (n + 1) xs)),
+      unread-total (consumers_of shape n) g (stream_of shape n) x,
+      streams-lines shape g (n + 1) xs,
+    )
 
 -- at the end the lines of what was emitted are the plain lines
-pub lines-plain : (case : CaseShape) (h : List Entry) → IsRunnable case → IsLegal case h → IsDone case (run_of case.topology h) → IsPlain case h
+pub lines-plain : (case : CaseShape) (h : List Entry) → IsRunnable case → IsLegal case h → IsDone case (run_of case.topology h)
+    → IsPlain case h
     → IsPermutation (map (line_of case.topology) (run_of case.topology h).emissions) (plain_lines case)
 lines-plain case h runs legal done plain =
     totals-permutation (λ a b. is_eq (line_cmp a b)) same-line (λ a. ap is_eq (tied_itself line_cmp-total a))

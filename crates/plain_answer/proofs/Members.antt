@@ -24,14 +24,17 @@ part_total g part members = total (λ (o : Member). when (o.0 == part) (g o.1)) 
 abbrev pub out_at : ℕ → List Member → List Record
 out_at part members = map (λ (o : Member). o.1) (filter (λ (o : Member). o.0 == part) members)
 
+-- a sum over the members of a part's stream
 pub out_at-total : (g : Record → ℕ) (part : ℕ) (members : List Member) → total g (out_at part members) ≡ part_total g part members
 out_at-total g part members = total-map g (λ (o : Member). o.1) (filter (λ (o : Member). o.0 == part) members)
     ∙ total-filter (λ (o : Member). g o.1) (λ (o : Member). o.0 == part) members
 
+-- an image of two lists
 map-append : {X Y : Type 0} (f : X → Y) (xs ys : List X) → map f (xs ++ ys) ≡ map f xs ++ map f ys
 map-append f [] ys = refl
 map-append f (x ∷ xs) ys = ap (λ l. f x ∷ l) (map-append f xs ys)
 
+-- what is in the stream of a part of two lists
 pub out_at-append : (part : ℕ) (one other : List Member) → out_at part (one ++ other) ≡ out_at part one ++ out_at part other
 out_at-append part one other = ap (map (λ (o : Member). o.1)) (filter-append (λ (o : Member). o.0 == part) one other)
     ∙ map-append (λ (o : Member). o.1) (filter (λ (o : Member). o.0 == part) one) (filter (λ (o : Member). o.0 == part) other)
@@ -57,14 +60,16 @@ out_at-other part own late (p ∷ ps) other =
 pub added-here : (part : ℕ) (run : Run) (entry : Entry) (row : RowName) → row_written entry ≡ Some row → (row.part == part) ≡ true
     → out_at part (added_by run entry) ≡ map (produced (late_cause run.made entry)) (productions_of entry)
 added-here part run entry row written same =
-    ap (λ o. out_at part (option_map_or (λ (row : RowName). map (member_of row.part (late_cause run.made entry)) (productions_of entry)) o [])) written
+    ap (λ o. out_at part (option_map_or (λ (row : RowName). map (member_of row.part (late_cause run.made entry))
+    (productions_of entry)) o [])) written
     ∙ out_at-here part row.part (late_cause run.made entry) (productions_of entry) same
 
 -- and of another
 pub added-other : (part : ℕ) (run : Run) (entry : Entry) (row : RowName) → row_written entry ≡ Some row → (row.part == part) ≡ false
     → out_at part (added_by run entry) ≡ []
 added-other part run entry row written other =
-    ap (λ o. out_at part (option_map_or (λ (row : RowName). map (member_of row.part (late_cause run.made entry)) (productions_of entry)) o [])) written
+    ap (λ o. out_at part (option_map_or (λ (row : RowName). map (member_of row.part (late_cause run.made entry))
+    (productions_of entry)) o [])) written
     ∙ out_at-other part row.part (late_cause run.made entry) (productions_of entry) other
 
 -- an injector is no computation

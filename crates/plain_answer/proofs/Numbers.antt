@@ -33,7 +33,8 @@ use Rattle.plain_answer.proofs.Totals.{total, when, total-sum_by, total-append, 
 -- ---- one of some computations
 
 -- a part that is before all of them is none of them
-none-placed : (p n : ℕ) (cs : List ComputationShape) → p < n → total (λ (c : ℕ × ComputationShape). when (p == c.0) 1) (enumerate_from n cs) ≡ 0
+none-placed : (p n : ℕ) (cs : List ComputationShape) → p < n
+    → total (λ (c : ℕ × ComputationShape). when (p == c.0) 1) (enumerate_from n cs) ≡ 0
 none-placed p n [] less = refl
 none-placed p n (c ∷ cs) less =
     let other : (p == n) ≡ false = grind (arith, nat_tests) in
@@ -72,7 +73,8 @@ each-placed : (shape : Shape) (P : ℕ × ComputationShape → Type 0)
     → AllByRecursion P (enumerate_from (injectors_of shape + length front) cs)
 each-placed shape P holds front [] all = tt
 each-placed shape P holds front (c ∷ cs) all =
-    let longer : injectors_of shape + length (front ++ c ∷ []) ≡ injectors_of shape + length front + 1 = omega (arith, length-append front (c ∷ [])) in (
+    let longer : injectors_of shape + length (front ++ c ∷ [])
+    ≡ injectors_of shape + length front + 1 = omega (arith, length-append front (c ∷ [])) in (
       holds (injectors_of shape + length front) c (kind_of-place shape front c cs all),
       subst (λ n. AllByRecursion P (enumerate_from n cs)) longer
           (each-placed shape P holds (front ++ c ∷ []) cs (all ∙ sym (append_assoc front (c ∷ []) cs))),
@@ -80,11 +82,19 @@ each-placed shape P holds front (c ∷ cs) all =
 
 -- ---- records that are handled
 
-handles-length : (case : CaseShape) (h : List Entry) → IsLegal case h → total (λ e. when (is_handle e) 1) h ≡ length (done_of case.topology h)
+-- as many entries handle as records were handled
+handles-length : (case : CaseShape) (h : List Entry) → IsLegal case h → total (λ e. when (is_handle e) 1) h
+    ≡ length (done_of case.topology h)
 handles-length case = along_legal case (λ h. total (λ e. when (is_handle e) 1) h ≡ length (done_of case.topology h))
     (λ h entry legal may was.
-    omega (arith, was, total-push (λ e. when (is_handle e) 1) h entry, one (run_of case.topology h) entry may,
-    ap length (done-push case.topology h entry), length-append (done_of case.topology h) (handled_by (run_of case.topology h) entry)))
+    omega (
+      arith,
+      was,
+      total-push (λ e. when (is_handle e) 1) h entry,
+      one (run_of case.topology h) entry may,
+      ap length (done-push case.topology h entry),
+      length-append (done_of case.topology h) (handled_by (run_of case.topology h) entry),
+    ))
     refl
   where
     one : (run : Run) (entry : Entry) → MayFollow case run entry → when (is_handle entry) 1 ≡ length (handled_by run entry)
@@ -97,19 +107,22 @@ handles-length case = along_legal case (λ h. total (λ e. when (is_handle e) 1)
 
 -- what is handled goes to one computation
 abbrev IsPlaced : Shape → Delivery → Type 0
-IsPlaced shape d = total (λ (c : ℕ × ComputationShape). when (d.to.part == c.0) 1) (enumerate_from (injectors_of shape) shape.computations) ≡ 1
+IsPlaced shape d = total (λ (c : ℕ × ComputationShape). when (d.to.part == c.0) 1)
+    (enumerate_from (injectors_of shape) shape.computations) ≡ 1
 
+-- each that was handled
 done-placed : (case : CaseShape) (h : List Entry) → IsLegal case h → AllByRecursion (IsPlaced case.topology) (done_of case.topology h)
 done-placed case = along_legal case (λ h. AllByRecursion (IsPlaced case.topology) (done_of case.topology h))
     (λ h entry legal may was.
     subst (AllByRecursion (IsPlaced case.topology)) (sym (done-push case.topology h entry))
-    (each-append (IsPlaced case.topology) (done_of case.topology h) (handled_by (run_of case.topology h) entry) was (new (run_of case.topology h) entry may)))
+    (each-append (IsPlaced case.topology) (done_of case.topology h) (handled_by (run_of case.topology h) entry) was
+    (new (run_of case.topology h) entry may)))
     tt
   where
     new : (run : Run) (entry : Entry) → MayFollow case run entry → AllByRecursion (IsPlaced case.topology) (handled_by run entry)
     new run (Handle seq row id effects) may =
         let kind = was_some (λ (kind : Kind). effects_of_record kind row.key (row_of case.topology run row).state may.delivery.item)
-            (kind_of case.topology row.part) effects may.does in
+        (kind_of case.topology row.part) effects may.does in
         subst (λ o. AllByRecursion (IsPlaced case.topology) (option_to_list o)) (sym may.waits)
         (kind-placed case.topology may.delivery.to.part kind.0 (ap (λ (r : RowName). kind_of case.topology r.part) may.to_row ∙ kind.1), tt)
     new run (Claim worker interval) may = tt
@@ -125,16 +138,24 @@ abbrev pub FiresPlainly : CaseShape → List Entry → Type 0
 FiresPlainly case h = (part : ℕ) (kind : Kind) → kind_of case.topology part ≡ Some kind → (ms : List Keyed)
     → HaveSameTotals (reads_done part (done_of case.topology h)) ms → total (fires_on part) h ≡ fires_of kind ms
 
+-- each fire is on one computation
 fires-placed : (case : CaseShape) (h : List Entry) → IsLegal case h
     → total (λ e. when (is_fire e) 1) h
-    ≡ total (λ e. total (λ (c : ℕ × ComputationShape). fires_on c.0 e) (enumerate_from (injectors_of case.topology) case.topology.computations)) h
+    ≡ total (λ e. total (λ (c : ℕ × ComputationShape). fires_on c.0 e)
+    (enumerate_from (injectors_of case.topology) case.topology.computations)) h
 fires-placed case = along_legal case
     (λ h. total (λ e. when (is_fire e) 1) h
-    ≡ total (λ e. total (λ (c : ℕ × ComputationShape). fires_on c.0 e) (enumerate_from (injectors_of case.topology) case.topology.computations)) h)
+    ≡ total (λ e. total (λ (c : ℕ × ComputationShape). fires_on c.0 e)
+    (enumerate_from (injectors_of case.topology) case.topology.computations)) h)
     (λ h entry legal may was.
-    omega (arith, was, total-push (λ e. when (is_fire e) 1) h entry,
-    total-push (λ e. total (λ (c : ℕ × ComputationShape). fires_on c.0 e) (enumerate_from (injectors_of case.topology) case.topology.computations)) h entry,
-    one (run_of case.topology h) entry may))
+    omega (
+      arith,
+      was,
+      total-push (λ e. when (is_fire e) 1) h entry,
+      total-push (λ e. total (λ (c : ℕ × ComputationShape). fires_on c.0 e)
+          (enumerate_from (injectors_of case.topology) case.topology.computations)) h entry,
+      one (run_of case.topology h) entry may,
+    ))
     refl
   where
     none : (cs : List (ℕ × ComputationShape)) → ◌≡◌ {A = ℕ} 0 (total (λ (c : ℕ × ComputationShape). 0) cs)
@@ -142,10 +163,11 @@ fires-placed case = along_legal case
     none (c ∷ cs) = omega (arith, none cs)
 
     one : (run : Run) (entry : Entry) → MayFollow case run entry
-        → when (is_fire entry) 1 ≡ total (λ (c : ℕ × ComputationShape). fires_on c.0 entry) (enumerate_from (injectors_of case.topology) case.topology.computations)
+        → when (is_fire entry) 1 ≡ total (λ (c : ℕ × ComputationShape). fires_on c.0 entry)
+        (enumerate_from (injectors_of case.topology) case.topology.computations)
     one run (Fire seq row timer mark effects) may =
         let kind = was_some (λ (kind : Kind). effects_of_timer kind row.key (row_of case.topology run row).state timer)
-            (kind_of case.topology row.part) effects may.does in
+        (kind_of case.topology row.part) effects may.does in
         sym (kind-placed case.topology row.part kind.0 kind.1)
     one run (Claim worker interval) may = none (enumerate_from (injectors_of case.topology) case.topology.computations)
     one run (Inject seq part line item) may = none (enumerate_from (injectors_of case.topology) case.topology.computations)
@@ -160,14 +182,21 @@ abbrev of_injected : (Record → ℕ) → Entry → ℕ
 of_injected f (Inject seq part line item) = f item
 of_injected f _ = 0
 
+-- what entries inject is what is in the streams of injectors
 injected-total : (case : CaseShape) (f : Record → ℕ) (h : List Entry) → IsLegal case h
     → total (of_injected f) h ≡ total (λ (o : Member). when (nat_lt o.0 (injectors_of case.topology)) (f o.1)) (out_of case.topology h)
 injected-total case f = along_legal case
     (λ h. total (of_injected f) h ≡ total (λ (o : Member). when (nat_lt o.0 (injectors_of case.topology)) (f o.1)) (out_of case.topology h))
     (λ h entry legal may was.
     let of : Member → ℕ = λ o. when (nat_lt o.0 (injectors_of case.topology)) (f o.1) in
-    omega (arith, was, total-push (of_injected f) h entry, one (run_of case.topology h) entry may,
-    ap (total of) (out-push case.topology h entry), total-append of (out_of case.topology h) (added_by (run_of case.topology h) entry)))
+    omega (
+      arith,
+      was,
+      total-push (of_injected f) h entry,
+      one (run_of case.topology h) entry may,
+      ap (total of) (out-push case.topology h entry),
+      total-append of (out_of case.topology h) (added_by (run_of case.topology h) entry),
+    ))
     refl
   where
     -- a computation's productions are not injected
@@ -178,10 +207,11 @@ injected-total case f = along_legal case
         omega (arith, ap (λ b. when b (f (produced late p))) behind, produces part late ps behind)
 
     no-injector : (part : ℕ) (kind : Kind) → kind_of case.topology part ≡ Some kind → nat_lt part (injectors_of case.topology) ≡ false
-    no-injector part kind of = elim (nat_lt part (injectors_of case.topology)) as (λ b. nat_lt part (injectors_of case.topology) ≡ b → b ≡ false) [
-      | true ↦ λ e. absurd (injector-no_kind case.topology part kind e of)
-      | false ↦ λ e. refl
-    ] refl
+    no-injector part kind of = elim (nat_lt part (injectors_of case.topology)) as
+        (λ b. nat_lt part (injectors_of case.topology) ≡ b → b ≡ false) [
+          | true ↦ λ e. absurd (injector-no_kind case.topology part kind e of)
+          | false ↦ λ e. refl
+        ] refl
 
     one : (run : Run) (entry : Entry) → MayFollow case run entry
         → of_injected f entry ≡ total (λ (o : Member). when (nat_lt o.0 (injectors_of case.topology)) (f o.1)) (added_by run entry)
@@ -191,16 +221,17 @@ injected-total case f = along_legal case
         none ∙ sym (ap (λ b. when b (f item) + 0) is)
     one run (Handle seq row id effects) may =
         let kind = was_some (λ (kind : Kind). effects_of_record kind row.key (row_of case.topology run row).state may.delivery.item)
-            (kind_of case.topology row.part) effects may.does in
+        (kind_of case.topology row.part) effects may.does in
         produces row.part (late_cause run.made (Handle seq row id effects)) effects.productions (no-injector row.part kind.0 kind.1)
     one run (Fire seq row timer mark effects) may =
         let kind = was_some (λ (kind : Kind). effects_of_timer kind row.key (row_of case.topology run row).state timer)
-            (kind_of case.topology row.part) effects may.does in
+        (kind_of case.topology row.part) effects may.does in
         produces row.part timer.late effects.productions (no-injector row.part kind.0 kind.1)
     one run (Claim worker interval) may = refl
     one run (Ack seq row id) may = refl
     one run (Purge seq row floor) may = refl
 
+-- a sum over the records of sources
 sources-total : (f : Record → ℕ) (n : ℕ) (sources : List Source)
     → stream_total (λ (o : Member). f o.1) n (map injected_of sources) ≡ total (λ source. total f (injected_of source)) sources
 sources-total f n [] = refl
@@ -213,13 +244,16 @@ module _ (case : CaseShape) (h : List Entry) (runs : IsRunnable case) (legal : I
   abbrev shape : Shape
   shape = case.topology
 
+  -- the computations by their numbers
   abbrev placed : List (ℕ × ComputationShape)
   placed = enumerate_from (injectors_of shape) shape.computations
 
+  -- how many records were handled
   pub handled-plain : count_by is_handle h ≡ handled_of case
   handled-plain =
       sym (total-count_by is_handle h) ∙ handles-length case h legal ∙ sym (total-length (done_of shape h))
-      ∙ sym (total-each (λ (d : Delivery). total (λ (c : ℕ × ComputationShape). when (d.to.part == c.0) 1) placed) (λ d. 1) (done_of shape h)
+      ∙ sym (total-each (λ (d : Delivery). total (λ (c : ℕ × ComputationShape). when (d.to.part == c.0) 1) placed) (λ d. 1)
+      (done_of shape h)
       (done-placed case h legal))
       ∙ total-swap (λ (d : Delivery) (c : ℕ × ComputationShape). when (d.to.part == c.0) 1) (done_of shape h) placed
       ∙ total-same (λ (c : ℕ × ComputationShape). total (λ (d : Delivery). when (d.to.part == c.0) 1) (done_of shape h))
@@ -230,15 +264,18 @@ module _ (case : CaseShape) (h : List Entry) (runs : IsRunnable case) (legal : I
       (λ (c : ℕ × ComputationShape). (c.1.kind, members_read shape (plain_streams case) c.0)) placed)
       ∙ total-sum_by (λ (c : Kind × List Keyed). length c.1) (plain_members case)
 
+  -- how many timers fired
   pub fired-plain : FiresPlainly case h → count_by is_fire h ≡ fired_of case
   fired-plain fires =
       sym (total-count_by is_fire h) ∙ fires-placed case h legal
       ∙ total-swap (λ e (c : ℕ × ComputationShape). fires_on c.0 e) h placed
       ∙ total-each (λ (c : ℕ × ComputationShape). total (fires_on c.0) h)
       (λ (c : ℕ × ComputationShape). fires_of c.1.kind (members_read shape (plain_streams case) c.0)) placed
-      (subst (λ n. AllByRecursion (λ (c : ℕ × ComputationShape). total (fires_on c.0) h ≡ fires_of c.1.kind (members_read shape (plain_streams case) c.0))
+      (subst (λ n. AllByRecursion (λ (c : ℕ × ComputationShape). total (fires_on c.0) h
+      ≡ fires_of c.1.kind (members_read shape (plain_streams case) c.0))
       (enumerate_from n shape.computations)) none_before
-      (each-placed shape (λ (c : ℕ × ComputationShape). total (fires_on c.0) h ≡ fires_of c.1.kind (members_read shape (plain_streams case) c.0))
+      (each-placed shape (λ (c : ℕ × ComputationShape). total (fires_on c.0) h
+      ≡ fires_of c.1.kind (members_read shape (plain_streams case) c.0))
       (λ n c of. fires n c.kind of (members_read shape (plain_streams case) n) (reads-plain case h runs legal done plain n))
       [] shape.computations refl))
       ∙ sym (total-map (λ (c : Kind × List Keyed). fires_of c.0 c.1)
@@ -248,6 +285,7 @@ module _ (case : CaseShape) (h : List Entry) (runs : IsRunnable case) (legal : I
       none_before : injectors_of shape + 0 ≡ injectors_of shape
       none_before = omega arith
 
+  -- how many records were injected
   pub injected-plain : count_by is_inject h ≡ injected_count case
   injected-plain =
       sym (total-count_by is_inject h)
@@ -267,6 +305,7 @@ module _ (case : CaseShape) (h : List Entry) (runs : IsRunnable case) (legal : I
       one (Ack seq row id) = refl
       one (Purge seq row floor) = refl
 
+  -- how many of them were late
   pub late-plain : count_by is_late h ≡ late_count case
   late-plain =
       sym (total-count_by is_late h)

@@ -6,14 +6,18 @@ use Rattle.std.proofs.lemmas.List.Elements.{filter-append}
 use Rattle.plain_answer.specs.Plain.{once_each}
 use Rattle.plain_answer.proofs.Filters.{filter-comm}
 
-pub filter-flat_map : {X Y : Type 0} (p : Y → Bool) (f : X → List Y) (xs : List X) → filter p (flat_map f xs) ≡ flat_map (λ x. filter p (f x)) xs
+-- a filter of joined lists
+pub filter-flat_map : {X Y : Type 0} (p : Y → Bool) (f : X → List Y) (xs : List X) → filter p (flat_map f xs)
+    ≡ flat_map (λ x. filter p (f x)) xs
 filter-flat_map p f [] = refl
 filter-flat_map p f (x ∷ xs) = filter-append p (f x) (flat_map f xs) ∙ ap (λ l. filter p (f x) ++ l) (filter-flat_map p f xs)
 
+-- a filter of images
 pub filter-map : {X Y : Type 0} (p : Y → Bool) (f : X → Y) (xs : List X) → filter p (map f xs) ≡ map f (filter (λ x. p (f x)) xs)
 filter-map p f [] = refl
 filter-map p f (x ∷ xs) = elim (p (f x)) as
-    (λ b. cond b (f x ∷ filter p (map f xs)) (filter p (map f xs)) ≡ map f (cond b (x ∷ filter (λ x. p (f x)) xs) (filter (λ x. p (f x)) xs))) [
+    (λ b. cond b (f x ∷ filter p (map f xs)) (filter p (map f xs))
+    ≡ map f (cond b (x ∷ filter (λ x. p (f x)) xs) (filter (λ x. p (f x)) xs))) [
       | true ↦ ap (λ l. f x ∷ l) (filter-map p f xs)
       | false ↦ filter-map p f xs
     ]
@@ -42,7 +46,8 @@ module _ {X : Type 0} (same : X → X → Bool) (tells : (x y : X) → same x y 
   no-key k (x ∷ xs) = elim (same k x) as
       (λ b. same k x ≡ b → filter (same k) (cond (not b) (x ∷ filter (λ y. not (same k y)) xs) (filter (λ y. not (same k y)) xs)) ≡ []) [
         | true ↦ λ e. no-key k xs
-        | false ↦ λ e. ap (λ b. cond b (x ∷ filter (same k) (filter (λ y. not (same k y)) xs)) (filter (same k) (filter (λ y. not (same k y)) xs))) e
+        | false ↦ λ e. ap (λ b. cond b (x ∷ filter (same k) (filter (λ y. not (same k y)) xs))
+            (filter (same k) (filter (λ y. not (same k y)) xs))) e
             ∙ no-key k xs
       ] refl
 
@@ -51,7 +56,8 @@ module _ {X : Type 0} (same : X → X → Bool) (tells : (x y : X) → same x y 
   filter-once k [] = refl
   filter-once k (x ∷ xs) = elim (same k x) as
       (λ b. same k x ≡ b
-      → cond b (x ∷ filter (same k) (filter (λ y. not (same x y)) (once_each same xs))) (filter (same k) (filter (λ y. not (same x y)) (once_each same xs)))
+      → cond b (x ∷ filter (same k) (filter (λ y. not (same x y)) (once_each same xs)))
+      (filter (same k) (filter (λ y. not (same x y)) (once_each same xs)))
       ≡ cond (b || list_any (same k) xs) (k ∷ []) []) [
         | true ↦ λ e.
             subst (λ z. z ∷ filter (same k) (filter (λ y. not (same z y)) (once_each same xs)) ≡ k ∷ []) (tells k x e)

@@ -41,16 +41,20 @@ use Rattle.plain_answer.proofs.WindowLaws.{HasWindows, HasWindows-next}
 abbrev pub Does : ℕ → List Deed → List Deed → Type 0
 Does size done ds = (ds ≡ []) ⊎ ((d : Deed) × (ds ≡ d ∷ []) × IsTimely size done d)
 
-module _ (case : CaseShape) (name : RowName) (size : ℕ) (runs : IsRunnable case) (kind : kind_of case.topology name.part ≡ Some (kinds.Count size)) where
+module _ (case : CaseShape) (name : RowName) (size : ℕ) (runs : IsRunnable case)
+    (kind : kind_of case.topology name.part ≡ Some (kinds.Count size)) where
   abbrev shape : Shape
   shape = case.topology
 
+  -- the part is there
   there : name.part < parts_of shape
   there = kind-there shape name.part (kinds.Count size) kind
 
+  -- there are at most 48 parts
   few_parts : parts_of shape ≤ 48
   few_parts = omega (arith, runs.topology.few_injectors, runs.topology.few_computations)
 
+  -- windows last something
   some_size : 1 ≤ size
   some_size = (kind-ranged shape name.part (kinds.Count size) runs.topology kind).0
 
@@ -61,16 +65,20 @@ module _ (case : CaseShape) (name : RowName) (size : ℕ) (runs : IsRunnable cas
   -- a record in time goes into no window that fired
   timely : (deeds : List Deed) (run : Run) (id : RecordId) (d : Delivery) → ArePassed deeds run
       → AreGraded shape run
-      → found_delivery id run.unhandled ≡ Some d → d.to ≡ name → (late : Bool) → d.item.late ≡ late → IsTimely size deeds (took d.item.stamp late)
+      → found_delivery id run.unhandled ≡ Some d → d.to ≡ name → (late : Bool) → d.item.late ≡ late
+      → IsTimely size deeds (took d.item.stamp late)
   timely deeds run id d passed below waits to_row true is_late = tt
   timely deeds run id d passed below waits to_row false in_time =
       let end : ℕ = window_end size d.item.stamp in
       elim (cases_lt 0 (fired_at end deeds)) [
         | inl some ↦
             let work : IsWorkFrom shape run end name.part = passed end some zero in
-            let from : WaitsFrom end name.part d = find-each (WaitsFrom end name.part) (λ (e : Delivery). same_id e.id id) run.unhandled d work.waiting waits in
-            let not_before : end ≤ d.item.stamp = from (and_from _ _ (eq-eqb d.to.part name.part (ap (λ (r : RowName). r.part) to_row)) (ap not in_time)) in
-            let graded : d.item.stamp ≤ grade d.to.part = find-each IsGraded (λ (e : Delivery). same_id e.id id) run.unhandled d below.waiting waits in
+            let from : WaitsFrom end name.part d = find-each (WaitsFrom end name.part)
+            (λ (e : Delivery). same_id e.id id) run.unhandled d work.waiting waits in
+            let not_before : end ≤ d.item.stamp = from (and_from _ _
+            (eq-eqb d.to.part name.part (ap (λ (r : RowName). r.part) to_row)) (ap not in_time)) in
+            let graded : d.item.stamp ≤ grade d.to.part = find-each IsGraded
+            (λ (e : Delivery). same_id e.id id) run.unhandled d below.waiting waits in
             let here : d.item.stamp ≤ grade name.part = subst (λ (r : RowName). d.item.stamp ≤ grade r.part) to_row graded in
             let small : d.item.stamp < MAX_STAMP = omega (arith, here, there, few_parts) in
             let after : d.item.stamp < end = omega (arith, small, some_size) in
@@ -87,19 +95,19 @@ module _ (case : CaseShape) (name : RowName) (size : ℕ) (runs : IsRunnable cas
       elim (is_at (row_cmp name) row) as
       (λ b. is_at (row_cmp name) row ≡ b → Does size deeds (cond b (taken (found_delivery id run.unhandled)) [])) [
         | true ↦ λ e. inr (
-            took may.delivery.item.stamp may.delivery.item.late,
-            ap taken may.waits,
-            timely deeds run id may.delivery passed below may.waits (may.to_row ∙ sym (same_row name row e)) may.delivery.item.late refl,
-          )
+          took may.delivery.item.stamp may.delivery.item.late,
+          ap taken may.waits,
+          timely deeds run id may.delivery passed below may.waits (may.to_row ∙ sym (same_row name row e)) may.delivery.item.late refl,
+        )
         | false ↦ λ e. inl refl
       ] refl
   does deeds run (Fire seq row timer mark effects) passed below may =
       elim (is_at (row_cmp name) row) as
       (λ b. Does size deeds (cond b (cond (timer.tag == 0) (fired timer.time ∷ []) []) [])) [
         | true ↦ elim (timer.tag == 0) as (λ b. Does size deeds (cond b (fired timer.time ∷ []) [])) [
-            | true ↦ inr (fired timer.time, refl, tt)
-            | false ↦ inl refl
-          ]
+          | true ↦ inr (fired timer.time, refl, tt)
+          | false ↦ inl refl
+        ]
         | false ↦ inl refl
       ]
   does deeds run (Ack seq row id) passed below may = inl refl
@@ -122,10 +130,12 @@ module _ (case : CaseShape) (name : RowName) (size : ℕ) (runs : IsRunnable cas
       taken-none (Some d) s = omega (arith, s)
   fires-low run (Fire seq row timer mark effects) may time some =
       elim (is_at (row_cmp name) row) as
-      (λ b. is_at (row_cmp name) row ≡ b → 0 < fired_at time (cond b (cond (timer.tag == 0) (fired timer.time ∷ []) []) []) → time ≤ low_watermark case run name.part) [
+      (λ b. is_at (row_cmp name) row ≡ b → 0 < fired_at time (cond b (cond (timer.tag == 0) (fired timer.time ∷ []) []) [])
+      → time ≤ low_watermark case run name.part) [
         | true ↦ λ e s.
             let part : row.part ≡ name.part = ap (λ (r : RowName). r.part) (sym (same_row name row e)) in
-            let mark_low : mark ≤ low_watermark case run name.part = subst (λ p. mark ≤ low_watermark case run p) part may.under_watermark in
+            let mark_low : mark ≤ low_watermark case run name.part = subst
+            (λ p. mark ≤ low_watermark case run p) part may.under_watermark in
             let is : time ≡ timer.time = by_tag (timer.tag == 0) s in
             omega (arith, may.due, mark_low, is)
         | false ↦ λ e s. absurd (omega (arith, s))
@@ -142,7 +152,8 @@ module _ (case : CaseShape) (name : RowName) (size : ℕ) (runs : IsRunnable cas
   fires-low run (Purge seq row floor) may time some = absurd (omega (arith, some))
 
   -- times that were passed still are, and so is what the entry fires
-  passed-next : (done : List Entry) (run : Run) (entry : Entry) (deeds : List Deed) → AreIds done run → AreInTime run → MayFollow case run entry
+  passed-next : (done : List Entry) (run : Run) (entry : Entry) (deeds : List Deed) → AreIds done run → AreInTime run
+      → MayFollow case run entry
       → ArePassed deeds run → ArePassed (deeds ++ deeds_in name run entry) (followed shape run entry)
   passed-next done run entry deeds ids in_time may passed time some depth =
       LowFrom-followed case done run entry time runs ids in_time may depth name.part before
@@ -169,6 +180,7 @@ module _ (case : CaseShape) (name : RowName) (size : ℕ) (runs : IsRunnable cas
             (HasWindows-next size deeds (windows_after size deeds) one.0 few one.2 has)
       ])
 
+  -- an entry does one thing at most
   few-next : (deeds ds : List Deed) → Does size deeds ds → length (deeds ++ ds) ≤ length deeds + 1
   few-next deeds ds what = elim what [
     | inl none ↦ subst (λ l. length (deeds ++ l) ≤ length deeds + 1) (sym none) (omega (arith, length-append deeds []))
@@ -186,6 +198,7 @@ module _ (case : CaseShape) (name : RowName) (size : ℕ) (runs : IsRunnable cas
     pub few : length (deeds_of shape name done) ≤ length done
     pub windows : length done < MAX_STAMP → HasWindows size (deeds_of shape name done) (windows_after size (deeds_of shape name done))
 
+  -- all of it with one more entry
   next-holds : (done : List Entry) (run : Run) (entry : Entry) → Holds done run → MayFollow case run entry
       → Holds (done ++ entry ∷ []) (followed shape run entry)
   next-holds done run entry holds may = record {
@@ -215,6 +228,7 @@ module _ (case : CaseShape) (name : RowName) (size : ℕ) (runs : IsRunnable cas
       what : Does size (deeds_of shape name done) (deeds_in name run entry)
       what = does (deeds_of shape name done) run entry holds.passed holds.graded may
 
+  -- before any entry
   first-holds : Holds [] empty_run
   first-holds = record {
     same = refl;
@@ -227,10 +241,13 @@ module _ (case : CaseShape) (name : RowName) (size : ℕ) (runs : IsRunnable cas
     windows = λ short. record { ascending = tt; each = λ end. refl };
   }
 
+  -- after each legal history
   pub holds-all : (history : List Entry) → IsLegal case history → Holds history (run_of shape history)
   holds-all history legal = along_history case Holds next-holds first-holds history legal
 
+  -- the window that ends at a time is open where something was taken into it and it has not fired
   pub window-open : (history : List Entry) → IsLegal case history → length history < MAX_STAMP → (end : ℕ)
-      → find (λ (w : Window). w.end == end) (windows_after size (deeds_of shape name history)) ≡ open_window size end (deeds_of shape name history)
+      → find (λ (w : Window). w.end == end) (windows_after size (deeds_of shape name history))
+      ≡ open_window size end (deeds_of shape name history)
   window-open history legal short end =
       ((holds-all history legal).windows short).each end

@@ -9,7 +9,7 @@ use Rattle.std.proofs.lemmas.Bool.Decides.{nat_tests}
 use Rattle.std.proofs.lemmas.Int.{clamps, ints}
 use Rattle.std.proofs.lemmas.Map.Lookups.{exact_unsigned, exact_signed, exact_pairs}
 use Rattle.list_lemmas.proofs.Tests.{equal_from_test}
-use Rattle.plain_answer.specs.Plain.{with_place}
+use Rattle.plain_answer.specs.Places.{with_place}
 use Rattle.plain_answer.proofs.Totals.{total, when, total-append, HaveSameTotals}
 
 -- ---- any fold
@@ -22,6 +22,7 @@ module _ {X B : Type 0} (same : X → X → Bool) (tells : (x y : X) → same x 
     back : List X
     is : ys ≡ front ++ x ∷ back
 
+  -- what is counted in a list is one of its elements
   within : (x : X) (ys : List X) → 0 < total (λ y. when (same x y) 1) ys → IsWithin x ys
   within x [] some = absurd (omega (arith, some))
   within x (y ∷ ys) some = elim (same x y) as
@@ -51,9 +52,11 @@ module _ {X B : Type 0} (same : X → X → Bool) (tells : (x y : X) → same x 
 
 -- ---- places
 
+-- the greater of two, either way
 max-swap : (x y : ℤ) → int_max x y ≡ int_max y x
 max-swap x y = omega (arith, ints, clamps)
 
+-- the greatest of three, either way
 max-swaps : (m a b : ℤ) → int_max (int_max m a) b ≡ int_max (int_max m b) a
 max-swaps m a b = omega (arith, ints, clamps)
 
@@ -109,9 +112,11 @@ places-swap (p ∷ ps) a b = by (places-swap ps a b) (nat_cmp a.0 p.0) refl (nat
         → with_place ((p.0, int_max p.1 x.1) ∷ ps) y ≡ with_place (p ∷ with_place ps y) x
     equal_greater x y e f = ap (λ o. put o (p.0, int_max p.1 x.1) ps y) f ∙ sym (ap (λ o. put o p (with_place ps y) x) e)
 
-    by : with_place (with_place ps a) b ≡ with_place (with_place ps b) a → (oa : Ordering) → nat_cmp a.0 p.0 ≡ oa → (ob : Ordering) → nat_cmp b.0 p.0 ≡ ob
+    by : with_place (with_place ps a) b ≡ with_place (with_place ps b) a → (oa : Ordering) → nat_cmp a.0 p.0 ≡ oa → (ob : Ordering)
+        → nat_cmp b.0 p.0 ≡ ob
         → with_place (put oa p ps a) b ≡ with_place (put ob p ps b) a
-    by rest Less e Less f = two-swap a b (p ∷ ps) (with_place (p ∷ ps) a) (with_place (p ∷ ps) b) (ap (λ o. put o p ps b) f) (ap (λ o. put o p ps a) e)
+    by rest Less e Less f = two-swap a b (p ∷ ps) (with_place (p ∷ ps) a) (with_place (p ∷ ps) b) (ap (λ o. put o p ps b) f)
+        (ap (λ o. put o p ps a) e)
     by rest Less e Equal f = less_equal a b e f
     by rest Less e Greater f = less_greater a b e f
     by rest Equal e Less f = sym (less_equal b a f e)
@@ -127,6 +132,7 @@ places-swap (p ∷ ps) a b = by (places-swap ps a b) (nat_cmp a.0 p.0) refl (nat
 abbrev pair_cmp : ℕ × ℤ → ℕ × ℤ → Ordering
 pair_cmp p q = ordering_then (nat_cmp p.0 q.0) (int_cmp p.1 q.1)
 
+-- pairs are in a total order
 pair_cmp-total : IsTotalOrder pair_cmp
 pair_cmp-total = then_total (on_total (λ (p : ℕ × ℤ). p.0) nat_cmp_total) (on_total (λ (p : ℕ × ℤ). p.1) int_cmp_total)
 

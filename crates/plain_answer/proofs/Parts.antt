@@ -44,6 +44,7 @@ abbrev pub stream_total : (Member → ℕ) → ℕ → List (List Record) → �
 stream_total g n [] = 0
 stream_total g n (x ∷ xs) = total (λ r. g (n, r)) x + stream_total g (n + 1) xs
 
+-- with one more stream
 stream_total-push : (g : Member → ℕ) (n : ℕ) (xs : List (List Record)) (x : List Record)
     → stream_total g n (xs ++ x ∷ []) ≡ stream_total g n xs + total (λ r. g (n + length xs, r)) x
 stream_total-push g n [] x =
@@ -61,37 +62,47 @@ to_part part g s = when (s.0.part == part) (g (s.0.key, s.1))
 abbrev of_member : Shape → ℕ → (Keyed → ℕ) → Member → ℕ
 of_member shape part g o = total (to_part part g) (sends shape o)
 
+-- a sum over all that streams send
 streams-sent : (shape : Shape) (g : RowName × Record → ℕ) (n : ℕ) (streams : List (List Record))
     → total g (flat_map (λ (s : ℕ × List Record). flat_map (sends_of (consumers_of shape s.0)) s.1) (enumerate_from n streams))
     ≡ stream_total (λ o. total g (sends shape o)) n streams
 streams-sent shape g n [] = refl
 streams-sent shape g n (x ∷ xs) =
-    omega (arith, total-append g (flat_map (sends_of (consumers_of shape n)) x)
-    (flat_map (λ (s : ℕ × List Record). flat_map (sends_of (consumers_of shape s.0)) s.1) (enumerate_from (n + 1) xs)),
-    total-flat_map g (sends_of (consumers_of shape n)) x, streams-sent shape g (n + 1) xs)
+    omega (
+      arith,
+      total-append g (flat_map (sends_of (consumers_of shape n)) x)
+          (flat_map (λ (s : ℕ × List Record). flat_map (sends_of (consumers_of shape s.0)) s.1) (enumerate_from (n + 1) xs)),
+      total-flat_map g (sends_of (consumers_of shape n)) x,
+      streams-sent shape g (n + 1) xs,
+    )
 
+-- a sum over what a part reads of streams
 pub members-total : (shape : Shape) (g : Keyed → ℕ) (streams : List (List Record)) (part : ℕ)
     → total g (members_read shape streams part) ≡ stream_total (of_member shape part g) 0 streams
 members-total shape g streams part =
     let all : List (RowName × Record) =
-        flat_map (λ (s : ℕ × List Record). flat_map (sends_of (consumers_of shape s.0)) s.1) (enumerate_from 0 streams) in
+    flat_map (λ (s : ℕ × List Record). flat_map (sends_of (consumers_of shape s.0)) s.1) (enumerate_from 0 streams) in
     total-map g (λ (r : RowName × Record). (r.0.key, r.1)) (filter (λ (r : RowName × Record). r.0.part == part) all)
     ∙ total-filter (λ (r : RowName × Record). g (r.0.key, r.1)) (λ (r : RowName × Record). r.0.part == part) all
     ∙ streams-sent shape (to_part part g) 0 streams
 
 -- ---- parts that are there
 
+-- a member is of a part that is there
 abbrev pub IsThere : Shape → Member → Type 0
 IsThere shape o = o.0 < parts_of shape
 
+-- what a row of a part that is there adds
 added-there : (shape : Shape) (run : Run) (entry : Entry) (row : RowName) → row_written entry ≡ Some row → row.part < parts_of shape
     → AllByRecursion (IsThere shape) (added_by run entry)
 added-there shape run entry row written there =
-    subst (λ o. AllByRecursion (IsThere shape) (option_map_or (λ (row : RowName). map (member_of row.part (late_cause run.made entry)) (productions_of entry)) o []))
+    subst (λ o. AllByRecursion (IsThere shape) (option_map_or
+    (λ (row : RowName). map (member_of row.part (late_cause run.made entry)) (productions_of entry)) o []))
     (sym written)
     (each-map (IsThere shape) (member_of row.part (late_cause run.made entry)) (productions_of entry)
     (each-all (λ (p : Production). row.part < parts_of shape) (λ p. there) (productions_of entry)))
 
+-- what an entry adds
 entry-there : (case : CaseShape) (run : Run) (entry : Entry) → MayFollow case run entry
     → AllByRecursion (IsThere case.topology) (added_by run entry)
 entry-there case run (Claim worker interval) may = tt
@@ -99,15 +110,16 @@ entry-there case run (Inject seq part line item) may =
     let less = ltb-true part (injectors_of case.topology) may.injector in (omega (arith, less), tt)
 entry-there case run (Handle seq row id effects) may =
     let kind = was_some (λ (kind : Kind). effects_of_record kind row.key (row_of case.topology run row).state may.delivery.item)
-        (kind_of case.topology row.part) effects may.does in
+    (kind_of case.topology row.part) effects may.does in
     added-there case.topology run (Handle seq row id effects) row refl (kind-there case.topology row.part kind.0 kind.1)
 entry-there case run (Fire seq row timer mark effects) may =
     let kind = was_some (λ (kind : Kind). effects_of_timer kind row.key (row_of case.topology run row).state timer)
-        (kind_of case.topology row.part) effects may.does in
+    (kind_of case.topology row.part) effects may.does in
     added-there case.topology run (Fire seq row timer mark effects) row refl (kind-there case.topology row.part kind.0 kind.1)
 entry-there case run (Ack seq row id) may = tt
 entry-there case run (Purge seq row floor) may = tt
 
+-- what is in the streams after each legal history
 pub out-there : (case : CaseShape) (h : List Entry) → IsLegal case h → AllByRecursion (IsThere case.topology) (out_of case.topology h)
 out-there case = along_legal case (λ h. AllByRecursion (IsThere case.topology) (out_of case.topology h))
     (λ h entry legal may was.
@@ -118,6 +130,7 @@ out-there case = along_legal case (λ h. AllByRecursion (IsThere case.topology) 
 
 -- ---- a part reads what is before it
 
+-- where no subscription is of a part, nothing is sent to it
 none-read : (shape : Shape) (part : ℕ) (g : Keyed → ℕ) (item : Record) (ss : List Subscription)
     → AllByRecursion (λ (s : Subscription). (s.to == part) ≡ false) ss → total (to_part part g) (sends_of ss item) ≡ 0
 none-read shape part g item [] each = refl
@@ -125,6 +138,7 @@ none-read shape part g item (s ∷ ss) each =
     let here : when (s.to == part) (g ((row_to item s).key, item)) ≡ 0 = ap (λ b. when b (g ((row_to item s).key, item))) each.0 in
     omega (arith, here, none-read shape part g item ss each.1)
 
+-- a part reads nothing of a part behind it
 later-unread : (case : CaseShape) (part : ℕ) (g : Keyed → ℕ) (o : Member) → IsRunnable case → IsThere case.topology o → part ≤ o.0
     → of_member case.topology part g o ≡ 0
 later-unread case part g o runs there behind =
@@ -132,7 +146,7 @@ later-unread case part g o runs there behind =
     (each-weaker (λ (s : Subscription). Contains (feeds_of case.topology s.to) o.0) (λ (s : Subscription). (s.to == part) ≡ false)
     (λ (s : Subscription) has.
     let above : o.0 < s.to = All-contains (λ f. f < s.to) (feeds_of case.topology s.to) o.0
-        (All-from_recursion (λ f. f < s.to) (feeds_of case.topology s.to) (feeds-before case.topology s.to runs.topology)) has in
+    (All-from_recursion (λ f. f < s.to) (feeds_of case.topology s.to) (feeds-before case.topology s.to runs.topology)) has in
     let far : part < s.to = omega (arith, behind, above) in
     apart s.to part far)
     (consumers_of case.topology o.0) (consumers-fed case.topology o.0 there))
@@ -142,14 +156,17 @@ later-unread case part g o runs there behind =
 
 -- ---- kinds by their places
 
+-- the first element behind some others
 slice_get-middle : {X : Type 0} (front : List X) (x : X) (rest : List X) → slice_get (front ++ x ∷ rest) (length front) ≡ Some x
 slice_get-middle [] x rest = refl
 slice_get-middle (y ∷ ys) x rest = slice_get-middle ys x rest
 
+-- the kind of the computation at a place
 pub kind_of-place : (shape : Shape) (front : List ComputationShape) (c : ComputationShape) (rest : List ComputationShape)
     → shape.computations ≡ front ++ c ∷ rest → kind_of shape (injectors_of shape + length front) ≡ Some c.kind
 kind_of-place shape front c rest all =
-    ap (λ b. option_map (λ (c : ComputationShape). c.kind) (cond b None (slice_get shape.computations (injectors_of shape + length front - injectors_of shape))))
+    ap (λ b. option_map (λ (c : ComputationShape). c.kind) (cond b None
+    (slice_get shape.computations (injectors_of shape + length front - injectors_of shape))))
     (behind (injectors_of shape) (length front))
     ∙ (λ i. option_map (λ (c : ComputationShape). c.kind) (slice_get (all i) (back i)))
     ∙ ap (option_map (λ (c : ComputationShape). c.kind)) (slice_get-middle front c rest)
@@ -173,6 +190,7 @@ module _ (case : CaseShape) (h : List Entry) (runs : IsRunnable case) (legal : I
   abbrev shape : Shape
   shape = case.topology
 
+  -- what the history put into the streams
   abbrev out : List Member
   out = out_of shape h
 
@@ -196,7 +214,8 @@ module _ (case : CaseShape) (h : List Entry) (runs : IsRunnable case) (legal : I
     long = omega (arith, length-append streams (x ∷ []), knows.long);
     totals = λ g.
         let long : 0 + length streams ≡ n = omega (arith, knows.long) in
-        total-same (λ (o : Member). when (nat_lt o.0 (n + 1)) (g o)) (λ o. when (nat_lt o.0 n) (g o) + when (o.0 == n) (g (n, o.1))) out (one g)
+        total-same (λ (o : Member). when (nat_lt o.0 (n + 1)) (g o))
+        (λ o. when (nat_lt o.0 n) (g o) + when (o.0 == n) (g (n, o.1))) out (one g)
         ∙ total-both (λ (o : Member). when (nat_lt o.0 n) (g o)) (λ o. when (o.0 == n) (g (n, o.1))) out
         ∙ (λ i. knows.totals g i + (sym (out_at-total (λ r. g (n, r)) n out) ∙ same (λ r. g (n, r))
         ∙ ap (λ k. total (λ r. g (k, r)) x) (sym long)) i)
@@ -225,6 +244,7 @@ module _ (case : CaseShape) (h : List Entry) (runs : IsRunnable case) (legal : I
       was.members ∙ ap (first_records case part is) all
       ∙ ap (map (λ (l : SourceLine). record_of l.item)) (take_all (length (source_of case part)) (source_of case part) (omega arith))
 
+  -- the streams of injectors, one after another
   knows-injectors : (k a : ℕ) (streams : List (List Record)) → a + k ≤ injectors_of shape → Knows streams a
       → Knows (streams ++ map injected_of (map (source_of case) (range_with_len a k))) (a + k)
   knows-injectors zero a streams within knows =
@@ -249,6 +269,7 @@ module _ (case : CaseShape) (h : List Entry) (runs : IsRunnable case) (legal : I
           let here : nat_lt o.0 0 ≡ false = grind (arith, nat_tests) in
           omega (arith, ap (λ b. when b (g o)) here, none g os)
 
+  -- a sum over them
   pub injectors-known : (g : Member → ℕ)
       → total (λ (o : Member). when (nat_lt o.0 (injectors_of shape)) (g o)) out ≡ stream_total g 0 (map injected_of (sources_of case))
   injectors-known g =
@@ -256,11 +277,13 @@ module _ (case : CaseShape) (h : List Entry) (runs : IsRunnable case) (legal : I
       ap (λ n. total (λ (o : Member). when (nat_lt o.0 n) (g o)) out) same ∙ all-injectors.totals g
 
   -- what a part reads of the streams before it
-  reads-known : (streams : List (List Record)) (n : ℕ) → Knows streams n → HaveSameTotals (reads_done n (done_of shape h)) (members_read shape streams n)
+  reads-known : (streams : List (List Record)) (n : ℕ) → Knows streams n
+      → HaveSameTotals (reads_done n (done_of shape h)) (members_read shape streams n)
   reads-known streams n knows g =
       reads-out n g
       ∙ total-each (of_member shape n g) (λ (o : Member). when (nat_lt o.0 n) (of_member shape n g o)) out
-      (each-weaker (IsThere shape) (λ o. of_member shape n g o ≡ when (nat_lt o.0 n) (of_member shape n g o)) one out (out-there case h legal))
+      (each-weaker (IsThere shape) (λ o. of_member shape n g o ≡ when (nat_lt o.0 n) (of_member shape n g o)) one out
+      (out-there case h legal))
       ∙ knows.totals (of_member shape n g) ∙ sym (members-total shape g streams n)
     where
       one : (o : Member) → IsThere shape o → of_member shape n g o ≡ when (nat_lt o.0 n) (of_member shape n g o)
@@ -269,8 +292,10 @@ module _ (case : CaseShape) (h : List Entry) (runs : IsRunnable case) (legal : I
         | false ↦ λ e. later-unread case n g o runs there (ltb-false o.0 n e)
       ] refl
 
+  -- and those of computations, one after another
   knows-computations : (front cs : List ComputationShape) (streams : List (List Record)) → shape.computations ≡ front ++ cs
-      → Knows streams (injectors_of shape + length front) → Knows (streams_with shape streams cs) (injectors_of shape + length front + length cs)
+      → Knows streams (injectors_of shape + length front)
+      → Knows (streams_with shape streams cs) (injectors_of shape + length front + length cs)
   knows-computations front [] streams all knows =
       let same : injectors_of shape + length front ≡ injectors_of shape + length front + 0 = omega arith in
       subst (Knows streams) same knows
@@ -279,16 +304,17 @@ module _ (case : CaseShape) (h : List Entry) (runs : IsRunnable case) (legal : I
       let x : List Record = plain_of c.kind (members_read shape streams n) in
       let at : n ≡ length streams = sym knows.long in
       let next = knows-push streams n x knows
-          (plain n c.kind (kind_of-place shape front c cs all) (members_read shape streams n) (reads-known streams n knows)) in
+      (plain n c.kind (kind_of-place shape front c cs all) (members_read shape streams n) (reads-known streams n knows)) in
       let longer : n + 1 ≡ injectors_of shape + length (front ++ c ∷ []) = omega (arith, length-append front (c ∷ [])) in
       let same : injectors_of shape + length (front ++ c ∷ []) + length cs ≡ injectors_of shape + length front + length (c ∷ cs) =
-          omega (arith, length-append front (c ∷ [])) in
+      omega (arith, length-append front (c ∷ [])) in
       subst (Knows (streams_with shape streams (c ∷ cs))) same
       (subst (λ k. Knows (streams_with shape (streams ++ plain_of c.kind (members_read shape streams k) ∷ []) cs)
       (injectors_of shape + length (front ++ c ∷ []) + length cs)) at
       (knows-computations (front ++ c ∷ []) cs (streams ++ x ∷ [])
       (all ∙ sym (append_assoc front (c ∷ []) cs)) (subst (Knows (streams ++ x ∷ [])) longer next)))
 
+  -- and so those of all parts
   all-known : Knows (plain_streams case) (parts_of shape)
   all-known =
       let same : 0 + injectors_of shape ≡ injectors_of shape + 0 = omega arith in

@@ -37,15 +37,18 @@ use Rattle.plain_answer.proofs.Members.{out_at, out_at-append, added-here, added
 abbrev pub done_at : ℕ → List Delivery → List Delivery
 done_at part ds = filter (λ (d : Delivery). d.to.part == part) ds
 
+-- the records of deliveries
 abbrev pub items : List Delivery → List Record
 items ds = map (λ (d : Delivery). d.item) ds
 
+-- the records of two lists
 items-append : (one other : List Delivery) → items (one ++ other) ≡ items one ++ items other
 items-append [] other = refl
 items-append (d ∷ ds) other = ap (λ l. d.item ∷ l) (items-append ds other)
 
 -- a kind of a part, by the number of the part
-pub kind-at : (shape : Shape) (part own : ℕ) (kind : Kind) → kind_of shape part ≡ Some kind → (own == part) ≡ true → kind_of shape own ≡ Some kind
+pub kind-at : (shape : Shape) (part own : ℕ) (kind : Kind) → kind_of shape part ≡ Some kind → (own == part) ≡ true
+    → kind_of shape own ≡ Some kind
 kind-at shape part own kind of e = let same : own ≡ part = grind (arith, nat_tests) in ap (kind_of shape) same ∙ of
 
 -- what a handler of this kind left of a record
@@ -62,6 +65,7 @@ pub timer-left : (case : CaseShape) (run : Run) (row : RowName) (timer : Timer) 
 timer-left case run row timer mark effects kind may of = some_same _ effects
     (sym (ap (option_map (λ k. effects_of_timer k row.key (row_of case.topology run row).state timer)) of) ∙ may.does)
 
+-- a pass produces the record again
 pass-productions : (key : List ℕ) (state : State) (item : Record) → has_kind kinds.Pass state ≡ true
     → (effects_of_record kinds.Pass key state item).productions ≡ record { key = item.key; stamp = item.stamp; value = item.value } ∷ []
 pass-productions key (states.Pass late) item is = refl
@@ -69,6 +73,7 @@ pass-productions key (states.Injector cursor) item is = absurd cc
 pass-productions key (states.Count late windows) item is = absurd cc
 pass-productions key (states.Spike late held known) item is = absurd cc
 
+-- a pass sets no timer
 pass-timers : (key : List ℕ) (state : State) (item : Record) → (effects_of_record kinds.Pass key state item).timers ≡ []
 pass-timers key (states.Pass late) item = refl
 pass-timers key (states.Injector cursor) item = refl
@@ -79,6 +84,7 @@ module _ (case : CaseShape) (part : ℕ) (kind : kind_of case.topology part ≡ 
   abbrev shape : Shape
   shape = case.topology
 
+  -- the stream has what the rows handled
   abbrev IsPassed : List Entry → Type 0
   IsPassed h = out_at part (out_of shape h) ≡ items (done_at part (done_of shape h))
 
@@ -140,6 +146,7 @@ module _ (case : CaseShape) (part : ℕ) (kind : kind_of case.topology part ≡ 
 
   -- ---- no row of a pass has a timer
 
+  -- no row of a pass has a timer
   no-timers : (name : RowName) → (name.part == part) ≡ true → (h : List Entry) → IsLegal case h
       → (row_of shape (run_of shape h) name).timers ≡ []
   no-timers name here = along_legal case (λ h. (row_of shape (run_of shape h) name).timers ≡ [])
@@ -156,7 +163,8 @@ module _ (case : CaseShape) (part : ℕ) (kind : kind_of case.topology part ≡ 
           let of = kind-at shape part row.part kinds.Pass kind (ap (λ (r : RowName). r.part == part) same ∙ here) in
           let left = record-left case (run_of shape h) row id effects kinds.Pass may of in
           (λ i. Rattle.run_history.specs.Runs.with_timers
-          ((sym (ap (λ (o : EffectsView). o.timers) left) ∙ pass-timers row.key (row_of shape (run_of shape h) row).state may.delivery.item) i) (was i))
+          ((sym (ap (λ (o : EffectsView). o.timers) left)
+          ∙ pass-timers row.key (row_of shape (run_of shape h) row).state may.delivery.item) i) (was i))
       after h (Fire seq row timer mark effects) may was written sent =
           ap (Rattle.row_parts.specs.Contents.without_timer timer.tag timer.time) was
       after h (Claim worker interval) may was written sent = was
@@ -171,10 +179,11 @@ module _ (case : CaseShape) (part : ℕ) (kind : kind_of case.topology part ≡ 
       refl
     where
       one : (h : List Entry) (entry : Entry) → IsLegal case h → MayFollow case (run_of shape h) entry → fires_on part entry ≡ 0
-      one h (Fire seq row timer mark effects) legal may = elim (row.part == part) as (λ b. (row.part == part) ≡ b → ◌≡◌ {A = ℕ} (cond b 1 0) 0) [
-        | true ↦ λ e. absurd (none_some timer (sym (ap (λ ts. slice_get ts 0) (no-timers row e h legal)) ∙ may.least_timer))
-        | false ↦ λ e. refl
-      ] refl
+      one h (Fire seq row timer mark effects) legal may = elim (row.part == part) as
+          (λ b. (row.part == part) ≡ b → ◌≡◌ {A = ℕ} (cond b 1 0) 0) [
+            | true ↦ λ e. absurd (none_some timer (sym (ap (λ ts. slice_get ts 0) (no-timers row e h legal)) ∙ may.least_timer))
+            | false ↦ λ e. refl
+          ] refl
       one h (Claim worker interval) legal may = refl
       one h (Inject seq other line item) legal may = refl
       one h (Handle seq row id effects) legal may = refl

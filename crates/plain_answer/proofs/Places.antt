@@ -15,7 +15,8 @@ use Rattle.mw_types.specs.declared.timer.Timer.{Timer}
 use Rattle.row_parts.specs.Contents.{with_timer, without_timer, is_timer, set_again}
 use Rattle.computations.specs.Handlers.{due_time, held_with, is_spike, known_with}
 use Rattle.computations.specs.Entering.{entered-recursion}
-use Rattle.plain_answer.specs.Plain.{with_place, sum_of_last, spike_at, spikes_in}
+use Rattle.plain_answer.specs.Plain.{sum_of_last, spike_at, spikes_in}
+use Rattle.plain_answer.specs.Places.{with_place}
 
 -- ---- as the state holds them
 
@@ -49,7 +50,8 @@ place-behind [] back place below = refl
 place-behind (p ∷ ps) back place below =
     let less : p.0 < place.0 = below.0 in
     let above : nat_cmp place.0 p.0 ≡ Greater = grind (arith, nat_tests) in
-    ap (λ o. match_ordering o (place ∷ p ∷ (ps ++ back)) ((p.0, int_max p.1 place.1) ∷ (ps ++ back)) (p ∷ with_place (ps ++ back) place)) above
+    ap (λ o. match_ordering o (place ∷ p ∷ (ps ++ back)) ((p.0, int_max p.1 place.1) ∷ (ps ++ back))
+    (p ∷ with_place (ps ++ back) place)) above
     ∙ ap (λ l. p ∷ l) (place-behind ps back place below.1)
 
 -- held totals ascend, and are below the greatest timestamp
@@ -57,14 +59,17 @@ abbrev pub Climb : List HeldTotal → Type 0
 Climb [] = Unit {0}
 Climb (h ∷ hs) = AllByRecursion (λ (g : HeldTotal). h.stamp < g.stamp) hs × Climb hs
 
+-- and are below the greatest timestamp
 abbrev pub AreLow : List HeldTotal → Type 0
 AreLow held = AllByRecursion (λ (h : HeldTotal). h.stamp < MAX_STAMP) held
 
+-- what is before the first total is before the others
 below_others : (n : ℕ) (h : HeldTotal) (hs : List HeldTotal) → n < h.stamp → AllByRecursion (λ (g : HeldTotal). h.stamp < g.stamp) hs
     → AllByRecursion (λ (g : HeldTotal). n < g.stamp) hs
 below_others n h [] lt rest = tt
 below_others n h (g ∷ gs) lt rest = (omega (arith, lt, rest.0), below_others n h gs lt rest.1)
 
+-- they still ascend with one more
 pub Climb-held : (held : List HeldTotal) (stamp : ℕ) (value : ℤ) → Climb held → Climb (held_with held stamp value)
 Climb-held [] stamp value up = (tt, tt)
 Climb-held (h ∷ hs) stamp value up =
@@ -75,15 +80,18 @@ Climb-held (h ∷ hs) stamp value up =
       | Equal ↦ λ e. up
       | Greater ↦ λ e. let lt : h.stamp < stamp = grind (arith, nat_tests) in (
         entered-recursion (λ (g : HeldTotal). g.stamp) (record { stamp = stamp; value = value })
-            (λ (g : HeldTotal). record { stamp = g.stamp; value = int_max g.value value }) (λ (g : HeldTotal). h.stamp < g.stamp) lt (λ g p. p) hs up.0,
+            (λ (g : HeldTotal). record { stamp = g.stamp; value = int_max g.value value }) (λ (g : HeldTotal). h.stamp < g.stamp) lt
+            (λ g p. p) hs up.0,
         Climb-held hs stamp value up.1,
       )
     ] refl
 
+-- and are still below the greatest timestamp
 pub AreLow-held : (held : List HeldTotal) (stamp : ℕ) (value : ℤ) → stamp < MAX_STAMP → AreLow held → AreLow (held_with held stamp value)
 AreLow-held held stamp value low lows =
     entered-recursion (λ (g : HeldTotal). g.stamp) (record { stamp = stamp; value = value })
-    (λ (g : HeldTotal). record { stamp = g.stamp; value = int_max g.value value }) (λ (g : HeldTotal). g.stamp < MAX_STAMP) low (λ g p. p) held lows
+    (λ (g : HeldTotal). record { stamp = g.stamp; value = int_max g.value value }) (λ (g : HeldTotal). g.stamp < MAX_STAMP) low
+    (λ g p. p) held lows
 
 -- below the greatest timestamp totals are due in the order of their timestamps
 due-order : (a b : ℕ) → a < MAX_STAMP → b < MAX_STAMP → ordering_then (nat_cmp (due_time a) (due_time b)) (nat_cmp 0 0) ≡ nat_cmp a b
@@ -106,7 +114,8 @@ due-order a b low other =
 
 -- the timers of totals, with one more
 pub timers-held : (held : List HeldTotal) (stamp : ℕ) (value : ℤ) → stamp < MAX_STAMP → AreLow held
-    → with_timer (record { tag = 0; time = due_time stamp; late = false }) (map held_timer held) ≡ map held_timer (held_with held stamp value)
+    → with_timer (record { tag = 0; time = due_time stamp; late = false }) (map held_timer held)
+    ≡ map held_timer (held_with held stamp value)
 timers-held [] stamp value low lows = refl
 timers-held (h ∷ hs) stamp value low lows =
     let t : Timer = record { tag = 0; time = due_time stamp; late = false } in
@@ -127,8 +136,10 @@ timers-held (h ∷ hs) stamp value low lows =
 pub first-timer : (h : HeldTotal) (hs : List HeldTotal) → Climb (h ∷ hs) → AreLow (h ∷ hs)
     → without_timer 0 (due_time h.stamp) (map held_timer (h ∷ hs)) ≡ map held_timer hs
 first-timer h hs up lows =
-    let own : is_timer 0 (due_time h.stamp) (held_timer h) ≡ true = ap (λ b. true && b) (eq-eqb (due_time h.stamp) (due_time h.stamp) refl) in
-    ap (λ b. cond (not b) (held_timer h ∷ without_timer 0 (due_time h.stamp) (map held_timer hs)) (without_timer 0 (due_time h.stamp) (map held_timer hs))) own
+    let own : is_timer 0 (due_time h.stamp) (held_timer h)
+    ≡ true = ap (λ b. true && b) (eq-eqb (due_time h.stamp) (due_time h.stamp) refl) in
+    ap (λ b. cond (not b) (held_timer h ∷ without_timer 0 (due_time h.stamp) (map held_timer hs))
+    (without_timer 0 (due_time h.stamp) (map held_timer hs))) own
     ∙ others hs up.0 lows.1
   where
     others : (gs : List HeldTotal) → AllByRecursion (λ (g : HeldTotal). h.stamp < g.stamp) gs → AreLow gs
@@ -151,7 +162,8 @@ first-timer h hs up lows =
 pub first-total : (h : HeldTotal) (hs : List HeldTotal) → Climb (h ∷ hs)
     → filter (λ (g : HeldTotal). not (g.stamp == h.stamp)) (h ∷ hs) ≡ hs
 first-total h hs up =
-    ap (λ b. cond (not b) (h ∷ filter (λ (g : HeldTotal). not (g.stamp == h.stamp)) hs) (filter (λ (g : HeldTotal). not (g.stamp == h.stamp)) hs))
+    ap (λ b. cond (not b) (h ∷ filter (λ (g : HeldTotal). not (g.stamp == h.stamp)) hs)
+    (filter (λ (g : HeldTotal). not (g.stamp == h.stamp)) hs))
     (eq-eqb h.stamp h.stamp refl)
     ∙ others hs up.0
   where
@@ -162,7 +174,8 @@ first-total h hs up =
         → filter (λ (g : HeldTotal). not (g.stamp == h.stamp)) gs ≡ gs
     others [] above = refl
     others (g ∷ gs) above =
-        ap (λ b. cond (not b) (g ∷ filter (λ (g : HeldTotal). not (g.stamp == h.stamp)) gs) (filter (λ (g : HeldTotal). not (g.stamp == h.stamp)) gs))
+        ap (λ b. cond (not b) (g ∷ filter (λ (g : HeldTotal). not (g.stamp == h.stamp)) gs)
+        (filter (λ (g : HeldTotal). not (g.stamp == h.stamp)) gs))
         (apart g.stamp h.stamp above.0)
         ∙ ap (λ l. g ∷ l) (others gs above.1)
 
@@ -172,11 +185,13 @@ first-total h hs up =
 abbrev pub lastly : ℕ → List ℤ → List ℤ
 lastly last values = drop (length values - last) values
 
+-- to drop no more than a list has
 drop-less : {X : Type 0} (k : ℕ) (xs ys : List X) → k ≤ length xs → drop k (xs ++ ys) ≡ drop k xs ++ ys
 drop-less zero xs ys less = refl
 drop-less (suc k) [] ys less = absurd (omega (arith, less))
 drop-less (suc k) (x ∷ xs) ys less = drop-less k xs ys (omega (arith, less))
 
+-- to drop one more
 drop-one : {X : Type 0} (k : ℕ) (xs : List X) → drop 1 (drop k xs) ≡ drop (suc k) xs
 drop-one zero xs = refl
 drop-one (suc k) [] = refl
@@ -196,8 +211,9 @@ lastly-push last values value = by_size (nat_le (length values) last) refl
         let k : ℕ = length values - last in
         let within : length values - last ≤ length values = omega arith in
         let left : length (lastly last values ++ value ∷ []) - last ≡ 1 =
-            omega (arith, length-append (lastly last values) (value ∷ []), length-drop (length values - last) values, many) in
-        let more : suc (length values - last) ≡ length (values ++ value ∷ []) - last = omega (arith, length-append values (value ∷ []), many) in
+        omega (arith, length-append (lastly last values) (value ∷ []), length-drop (length values - last) values, many) in
+        let more : suc (length values - last) ≡ length (values ++ value ∷ []) - last = omega
+        (arith, length-append values (value ∷ []), many) in
         ap (λ n. drop n (lastly last values ++ value ∷ [])) left
         ∙ ap (drop 1) (sym (drop-less (length values - last) values (value ∷ []) within))
         ∙ drop-one (length values - last) (values ++ value ∷ [])

@@ -22,7 +22,9 @@ into size key end m = when (pointwise nat_eq key m.0 && not m.1.late) (when (pla
 abbrev in_window : ℕ → ℕ → List Record → ℕ
 in_window size end items = count_by (λ (r : Record). plain_end size r.stamp == end) items
 
-counted-into : (size : ℕ) (key : List ℕ) (end : ℕ) (ms : List Keyed) → in_window size end (row_members key ms) ≡ total (into size key end) ms
+-- the count of a window is a sum over what the part reads
+counted-into : (size : ℕ) (key : List ℕ) (end : ℕ) (ms : List Keyed) → in_window size end (row_members key ms)
+    ≡ total (into size key end) ms
 counted-into size key end ms =
     sym (total-count_by (λ (r : Record). plain_end size r.stamp == end) (row_members key ms))
     ∙ total-map (λ (r : Record). when (plain_end size r.stamp == end) 1) (λ (m : Keyed). m.1)
@@ -35,7 +37,8 @@ same-number a b e = grind (arith, nat_tests)
 
 -- a window ends there exactly where something is in it
 some-in : (size end : ℕ) (items : List Record)
-    → list_any (nat_eq end) (map (λ (r : Record). plain_end size r.stamp) items) ≡ not (total (λ (r : Record). when (plain_end size r.stamp == end) 1) items == 0)
+    → list_any (nat_eq end) (map (λ (r : Record). plain_end size r.stamp) items)
+    ≡ not (total (λ (r : Record). when (plain_end size r.stamp == end) 1) items == 0)
 some-in size end [] = refl
 some-in size end (r ∷ rs) =
     elim (nat_eq end (plain_end size r.stamp)) as
@@ -49,7 +52,7 @@ some-in size end (r ∷ rs) =
       | false ↦ λ e.
           let other : (plain_end size r.stamp == end) ≡ false = turned end (plain_end size r.stamp) false e in
           let none : 0 + total (λ (r : Record). when (plain_end size r.stamp == end) 1) rs
-              ≡ total (λ (r : Record). when (plain_end size r.stamp == end) 1) rs = omega arith in
+          ≡ total (λ (r : Record). when (plain_end size r.stamp == end) 1) rs = omega arith in
           some-in size end rs
           ∙ sym (ap (λ b. not (when b 1 + total (λ (r : Record). when (plain_end size r.stamp == end) 1) rs == 0)) other
           ∙ ap (λ n. not (n == 0)) none)
@@ -69,7 +72,8 @@ own-windows size key end items =
     filter-map (at_place (key, end)) window (once_each nat_eq ends)
     ∙ ap (map window) (filter_agree (λ n. at_place (key, end) (window n)) (nat_eq end) agrees (once_each nat_eq ends)
     ∙ filter-once nat_eq same-number (λ n. eq-eqb n n refl) end ends
-    ∙ ap (λ b. cond b (end ∷ []) []) (some-in size end items ∙ ap (λ n. not (n == 0)) (total-count_by (λ (r : Record). plain_end size r.stamp == end) items)))
+    ∙ ap (λ b. cond b (end ∷ []) []) (some-in size end items
+    ∙ ap (λ n. not (n == 0)) (total-count_by (λ (r : Record). plain_end size r.stamp == end) items)))
     ∙ by_count (in_window size end items == 0)
   where
     ends : List ℕ
@@ -98,12 +102,14 @@ none-into : (size : ℕ) (key : List ℕ) (end : ℕ) (ms : List Keyed)
 none-into size key end [] none = refl
 none-into size key end (m ∷ ms) none =
     elim m.1.late as
-    (λ b. list_any (pointwise nat_eq key) (map (λ (m : Keyed). m.0) (cond (not b) (m ∷ filter (λ (m : Keyed). not m.1.late) ms) (filter (λ (m : Keyed). not m.1.late) ms))) ≡ false
+    (λ b. list_any (pointwise nat_eq key) (map (λ (m : Keyed). m.0)
+    (cond (not b) (m ∷ filter (λ (m : Keyed). not m.1.late) ms) (filter (λ (m : Keyed). not m.1.late) ms))) ≡ false
     → when (pointwise nat_eq key m.0 && not b) (when (plain_end size m.1.stamp == end) 1) + total (into size key end) ms ≡ 0) [
-      | true ↦ λ n. elim (pointwise nat_eq key m.0) as (λ c. when (c && false) (when (plain_end size m.1.stamp == end) 1) + total (into size key end) ms ≡ 0) [
-          | true ↦ omega (arith, none-into size key end ms n)
-          | false ↦ omega (arith, none-into size key end ms n)
-        ]
+      | true ↦ λ n. elim (pointwise nat_eq key m.0) as (λ c. when (c && false) (when (plain_end size m.1.stamp == end) 1) + total
+          (into size key end) ms ≡ 0) [
+            | true ↦ omega (arith, none-into size key end ms n)
+            | false ↦ omega (arith, none-into size key end ms n)
+          ]
       | false ↦ λ n. elim (pointwise nat_eq key m.0) as
           (λ c. (c || list_any (pointwise nat_eq key) (map (λ (m : Keyed). m.0) (filter (λ (m : Keyed). not m.1.late) ms))) ≡ false
           → when (c && true) (when (plain_end size m.1.stamp == end) 1) + total (into size key end) ms ≡ 0) [
@@ -132,9 +138,11 @@ plain-at size key end ms =
 
     others : (k : List ℕ) → pointwise nat_eq key k ≡ false → at_key k ≡ []
     others k apart =
-        filter-map (at_place (key, end)) (λ n. count_at k n (in_window size n (row_members k ms))) (once_each nat_eq (map (λ (r : Record). plain_end size r.stamp) (row_members k ms)))
+        filter-map (at_place (key, end)) (λ n. count_at k n (in_window size n (row_members k ms)))
+        (once_each nat_eq (map (λ (r : Record). plain_end size r.stamp) (row_members k ms)))
         ∙ ap (map (λ n. count_at k n (in_window size n (row_members k ms))))
-        (filter-nothing (λ n. at_place (key, end) (count_at k n (in_window size n (row_members k ms)))) _ (λ n. ap (λ b. b && (n == end)) apart))
+        (filter-nothing (λ n. at_place (key, end) (count_at k n (in_window size n (row_members k ms)))) _
+        (λ n. ap (λ b. b && (n == end)) apart))
 
     here : at_key key ≡ counted_at key end (total (into size key end) ms)
     here = own-windows size key end (row_members key ms) ∙ ap (counted_at key end) (counted-into size key end ms)

@@ -22,14 +22,17 @@ use Rattle.plain_answer.proofs.Counting.{count-windows}
 use Rattle.plain_answer.proofs.Opening.{window-open}
 
 -- a window that is due is produced
-productions-closing : (key : List ℕ) (late : ℕ) (ws : List Window) (due : Option Window) → (count_timer key late ws due).productions ≡ closing key due
+productions-closing : (key : List ℕ) (late : ℕ) (ws : List Window) (due : Option Window) → (count_timer key late ws due).productions
+    ≡ closing key due
 productions-closing key late ws None = refl
 productions-closing key late ws (Some due) = refl
 
-module _ (case : CaseShape) (name : RowName) (size : ℕ) (runs : IsRunnable case) (kind : kind_of case.topology name.part ≡ Some (kinds.Count size)) where
+module _ (case : CaseShape) (name : RowName) (size : ℕ) (runs : IsRunnable case)
+    (kind : kind_of case.topology name.part ≡ Some (kinds.Count size)) where
   abbrev shape : Shape
   shape = case.topology
 
+  -- where the row fires it produces the window that is open there
   pub fire-produces : (before after : List Entry) (seq : ℕ) (timer : Timer) (mark : ℕ) (effects : EffectsView)
       → IsLegal case (before ++ Fire seq name timer mark effects ∷ after)
       → length (before ++ Fire seq name timer mark effects ∷ after) < MAX_STAMP → timer.tag ≡ 0
@@ -43,11 +46,12 @@ module _ (case : CaseShape) (name : RowName) (size : ℕ) (runs : IsRunnable cas
       let long = length-append before (entry ∷ after) in
       let opened = window-open case name size runs kind before apart.0 (omega (arith, few, long)) timer.time in
       let does : effects_of_timer (kinds.Count size) name.key (row_of shape (run_of shape before) name).state timer ≡ effects =
-          some_same _ effects (sym (ap (option_map (λ k. effects_of_timer k name.key (row_of shape (run_of shape before) name).state timer)) kind) ∙ may.does) in
+      some_same _ effects (sym (ap (option_map (λ k. effects_of_timer k name.key
+      (row_of shape (run_of shape before) name).state timer)) kind) ∙ may.does) in
       let left : count_timer name.key counted.0 ws (window_due ws timer) ≡ effects =
-          sym (ap (λ st. effects_of_timer (kinds.Count size) name.key st timer) counted.1) ∙ does in
+      sym (ap (λ st. effects_of_timer (kinds.Count size) name.key st timer) counted.1) ∙ does in
       let due : window_due ws timer ≡ open_window size timer.time (deeds_of shape name before) =
-          ap (λ n. cond (n == 0) (find (λ (w : Window). w.end == timer.time) ws) None) tag ∙ opened in
+      ap (λ n. cond (n == 0) (find (λ (w : Window). w.end == timer.time) ws) None) tag ∙ opened in
       ap (λ (o : EffectsView). o.productions) (sym left)
       ∙ productions-closing name.key counted.0 ws (window_due ws timer)
       ∙ ap (closing name.key) due

@@ -48,6 +48,7 @@ module _ (case : CaseShape) (h : List Entry) (runs : IsRunnable case) (legal : I
       ∙ reads (λ m. g m.1)
       ∙ sym (total-map g (λ (m : Keyed). m.1) ms)
 
+  -- so each part gives what it gives plainly
   all-plain : IsPlain case h
   all-plain part (kinds.Count size) kind ms reads = count-plain case part size runs kind h legal done short ms reads
   all-plain part (kinds.Spike last times) kind ms reads = spikes.streams part last times kind ms reads
@@ -62,11 +63,13 @@ module _ (case : CaseShape) (h : List Entry) (runs : IsRunnable case) (legal : I
       ∙ total-length (plain_of (kinds.Count size) ms)
       ∙ length-flat_map (λ key. windows_in size key (row_members key ms)) (row_keys ms)
 
+  -- and fires as often as it does plainly
   all-fire : FiresPlainly case h
   all-fire part (kinds.Count size) kind ms reads = windows-fire part size kind ms reads
   all-fire part (kinds.Spike last times) kind ms reads = spikes.fires part last times kind ms reads
   all-fire part kinds.Pass kind ms reads = pass-fires case part kind h legal
 
+  -- the numbers of the summary
   summary-plain : summary_data h ≡ plain_summary case
   summary-plain = λ i. object
       (member (codes "fired") (number (unsigned (fired-plain case h runs legal done all-plain all-fire i)))

@@ -32,6 +32,7 @@ forget : (g : RowName × Record → ℕ) (n commit : ℕ) (ss : List (RowName ×
 forget g n commit [] = refl
 forget g n commit (s ∷ ss) = ap (λ m. g s + m) (forget g (n + 1) commit ss)
 
+-- what productions of a part become
 deliveries-total : (shape : Shape) (g : RowName × Record → ℕ) (part commit : ℕ) (late : Bool) (ps : List Production)
     → total (λ (d : Delivery). g (send_of d)) (deliveries_made shape part ps late commit)
     ≡ total (λ o. total g (sends shape o)) (map (member_of part late) ps)
@@ -41,6 +42,7 @@ deliveries-total shape g part commit late ps =
     ∙ total-map (λ r. total g (sends_of (consumers_of shape part) r)) (produced late) ps
     ∙ sym (total-map (λ o. total g (sends shape o)) (member_of part late) ps)
 
+-- what an entry makes
 entry-sent : (shape : Shape) (g : RowName × Record → ℕ) (run : Run) (entry : Entry)
     → total (λ (d : Delivery). g (send_of d)) (deliveries_of shape run.made run.next entry)
     ≡ total (λ o. total g (sends shape o)) (added_by run entry)
@@ -65,9 +67,14 @@ sent-total case g = along_legal case
     let run : Run = run_of case.topology h in
     let sent : List Delivery = deliveries_of case.topology run.made run.next entry in
     let core : total (λ (d : Delivery). g (send_of d)) (run.made ++ sent)
-        ≡ total (λ o. total g (sends case.topology o)) (out_of case.topology h ++ added_by run entry) =
-        omega (arith, was, entry-sent case.topology g run entry, total-append (λ (d : Delivery). g (send_of d)) run.made sent,
-        total-append (λ o. total g (sends case.topology o)) (out_of case.topology h) (added_by run entry)) in
+    ≡ total (λ o. total g (sends case.topology o)) (out_of case.topology h ++ added_by run entry) =
+    omega (
+      arith,
+      was,
+      entry-sent case.topology g run entry,
+      total-append (λ (d : Delivery). g (send_of d)) run.made sent,
+      total-append (λ o. total g (sends case.topology o)) (out_of case.topology h) (added_by run entry),
+    ) in
     ap (λ (r : Run). total (λ (d : Delivery). g (send_of d)) r.made) (run-push case.topology h entry) ∙ core
     ∙ ap (total (λ o. total g (sends case.topology o))) (sym (out-push case.topology h entry)))
     refl
@@ -87,16 +94,19 @@ is_unread shape part = none_reads (consumers_of shape part)
 abbrev pub emitted : Emission → Member
 emitted e = (e.part, e.item)
 
+-- records with an entry's ids
 emit : (g : Member → ℕ) (part n commit : ℕ) (rs : List Record)
     → total (λ (e : Emission). g (emitted e)) (map (emission_at part commit) (enumerate_from n rs)) ≡ total (λ r. g (part, r)) rs
 emit g part n commit [] = refl
 emit g part n commit (r ∷ rs) = ap (λ m. g (part, r) + m) (emit g part (n + 1) commit rs)
 
+-- what records of a part become where nothing reads
 emissions-total : (ss : List Subscription) (g : Member → ℕ) (part commit : ℕ) (rs : List Record)
     → total (λ (e : Emission). g (emitted e)) (emissions_to ss part commit rs) ≡ total (λ r. when (none_reads ss) (g (part, r))) rs
 emissions-total [] g part commit rs = emit g part 0 commit rs
 emissions-total (s ∷ ss) g part commit rs = sym (total-zero rs)
 
+-- what an entry emits
 entry-emitted : (shape : Shape) (g : Member → ℕ) (run : Run) (entry : Entry)
     → total (λ (e : Emission). g (emitted e)) (emissions_of shape run.made run.next entry)
     ≡ total (λ (o : Member). when (is_unread shape o.0) (g o)) (added_by run entry)
@@ -109,9 +119,11 @@ entry-emitted shape g run entry = by_row (row_written entry)
         (option_map_or (λ (row : RowName). map (member_of row.part (late_cause run.made entry)) (productions_of entry)) o [])
     by_row None = refl
     by_row (Some row) =
-        emissions-total (consumers_of shape row.part) g row.part run.next (map (produced (late_cause run.made entry)) (productions_of entry))
+        emissions-total (consumers_of shape row.part) g row.part run.next
+        (map (produced (late_cause run.made entry)) (productions_of entry))
         ∙ total-map (λ r. when (is_unread shape row.part) (g (row.part, r))) (produced (late_cause run.made entry)) (productions_of entry)
-        ∙ sym (total-map (λ (o : Member). when (is_unread shape o.0) (g o)) (member_of row.part (late_cause run.made entry)) (productions_of entry))
+        ∙ sym (total-map (λ (o : Member). when (is_unread shape o.0) (g o)) (member_of row.part (late_cause run.made entry))
+        (productions_of entry))
 
 -- what was emitted is what is in the streams that nothing reads
 pub emitted-total : (case : CaseShape) (g : Member → ℕ) (h : List Entry) → IsLegal case h
@@ -125,8 +137,13 @@ emitted-total case g = along_legal case
     let new : List Emission = emissions_of case.topology run.made run.next entry in
     let read : Member → ℕ = λ o. when (is_unread case.topology o.0) (g o) in
     let core : total (λ (e : Emission). g (emitted e)) (run.emissions ++ new) ≡ total read (out_of case.topology h ++ added_by run entry) =
-        omega (arith, was, entry-emitted case.topology g run entry, total-append (λ (e : Emission). g (emitted e)) run.emissions new,
-        total-append read (out_of case.topology h) (added_by run entry)) in
+    omega (
+      arith,
+      was,
+      entry-emitted case.topology g run entry,
+      total-append (λ (e : Emission). g (emitted e)) run.emissions new,
+      total-append read (out_of case.topology h) (added_by run entry),
+    ) in
     ap (λ (r : Run). total (λ (e : Emission). g (emitted e)) r.emissions) (run-push case.topology h entry) ∙ core
     ∙ ap (total read) (sym (out-push case.topology h entry)))
     refl

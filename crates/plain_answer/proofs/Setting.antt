@@ -47,9 +47,9 @@ has-counted end own (w ∷ ws) has =
       | Less ↦ or-either (own == end) (has_window end (w ∷ ws)) has
       | Equal ↦ has
       | Greater ↦ elim (w.end == end) as (λ b. (b || has_window end ws) ≡ true → (b || has_window end (counted ws own)) ≡ true) [
-          | true ↦ λ h. refl
-          | false ↦ λ h. has-counted end own ws h
-        ] has
+        | true ↦ λ h. refl
+        | false ↦ λ h. has-counted end own ws h
+      ] has
     ]
 
 -- and the window in which it is counted is open
@@ -97,6 +97,7 @@ found-window end (w ∷ ws) has =
 abbrev pub IsSet : List Window → Timer → Type 0
 IsSet ws t = (t.tag ≡ 0) × (t.late ≡ false) × (has_window t.time ws ≡ true)
 
+-- a timer that is set again
 set_again-set : (ws : List Window) (t u : Timer) → t.time ≡ u.time → IsSet ws t → IsSet ws u → IsSet ws (set_again t u)
 set_again-set ws t u same one other = (other.0, ap (λ b. b && u.late) one.1, other.2)
 
@@ -136,6 +137,7 @@ module _ (case : CaseShape) (name : RowName) (size : ℕ) (kind : kind_of case.t
   abbrev shape : Shape
   shape = case.topology
 
+  -- each timer of the row is set for an open window
   abbrev AreSet : List Entry → Type 0
   AreSet h = AllByRecursion (IsSet (windows_after size (deeds_of shape name h))) (row_of shape (run_of shape h) name).timers
 
@@ -151,6 +153,7 @@ module _ (case : CaseShape) (name : RowName) (size : ℕ) (kind : kind_of case.t
       (subst (AllByRecursion (IsSet (fold (after_deed size) (windows_after size (deeds_of shape name h)) ds)))
       (sym (ap (λ (r : Run). (row_of shape r name).timers) (run-push shape h entry) ∙ timers)) set))
 
+  -- a record is handled
   handles : (h : List Entry) (seq : ℕ) (id : RecordId) (effects : EffectsView) → IsLegal case h
       → MayHandle case (run_of shape h) name id effects → AreSet h → AreSet (h ++ Handle seq name id effects ∷ [])
   handles h seq id effects legal may was =
@@ -161,14 +164,15 @@ module _ (case : CaseShape) (name : RowName) (size : ℕ) (kind : kind_of case.t
       let item : Record = may.delivery.item in
       let counts = count-windows case name size kind h legal in
       let left : count_record size counts.0 ws item ≡ effects =
-          sym (ap (λ st. effects_of_record (kinds.Count size) name.key st item) counts.1)
-          ∙ record-left case run name id effects (kinds.Count size) may kind in
+      sym (ap (λ st. effects_of_record (kinds.Count size) name.key st item) counts.1)
+      ∙ record-left case run name id effects (kinds.Count size) may kind in
       let takes : deeds_in name run entry ≡ took item.stamp item.late ∷ [] =
-          ap (λ b. cond b (taken (found_delivery id run.unhandled)) []) (tie name) ∙ ap taken may.waits in
+      ap (λ b. cond b (taken (found_delivery id run.unhandled)) []) (tie name) ∙ ap taken may.waits in
       more h entry (took item.stamp item.late ∷ []) (with_timers (count_record size counts.0 ws item).timers ts) takes
       (ap (λ c. c.timers) (row_of-here shape run entry name refl) ∙ ap (λ (o : EffectsView). with_timers o.timers ts) (sym left))
       (record-set size counts.0 ws ts item was)
 
+  -- a timer fires
   fires : (h : List Entry) (seq : ℕ) (timer : Timer) (mark : ℕ) (effects : EffectsView)
       → MayFire case (run_of shape h) name timer mark effects → AreSet h → AreSet (h ++ Fire seq name timer mark effects ∷ [])
   fires h seq timer mark effects may was =
@@ -178,17 +182,21 @@ module _ (case : CaseShape) (name : RowName) (size : ℕ) (kind : kind_of case.t
       let ts : List Timer = (row_of shape run name).timers in
       let tag : timer.tag ≡ 0 = (each-at (IsSet ws) ts 0 timer was may.least_timer).0 in
       let does : deeds_in name run entry ≡ fired timer.time ∷ [] =
-          ap (λ b. cond b (cond (timer.tag == 0) (fired timer.time ∷ []) []) []) (tie name)
-          ∙ ap (λ n. cond (n == 0) (fired timer.time ∷ []) []) tag in
+      ap (λ b. cond b (cond (timer.tag == 0) (fired timer.time ∷ []) []) []) (tie name)
+      ∙ ap (λ n. cond (n == 0) (fired timer.time ∷ []) []) tag in
       more h entry (fired timer.time ∷ []) (without_timer 0 timer.time ts) does
       (ap (λ c. c.timers) (row_of-here shape run entry name refl) ∙ ap (λ n. without_timer n timer.time ts) tag)
       (others-set timer.time ws ts was)
 
+  -- an entry that leaves the row
   same-row : (h : List Entry) (entry : Entry) → AreSet h → deeds_in name (run_of shape h) entry ≡ []
-      → (row_of shape (followed shape (run_of shape h) entry) name).timers ≡ (row_of shape (run_of shape h) name).timers → AreSet (h ++ entry ∷ [])
+      → (row_of shape (followed shape (run_of shape h) entry) name).timers ≡ (row_of shape (run_of shape h) name).timers
+      → AreSet (h ++ entry ∷ [])
   same-row h entry was does timers = more h entry [] (row_of shape (run_of shape h) name).timers does timers was
 
-  on_row : (h : List Entry) (entry : Entry) → IsLegal case h → MayFollow case (run_of shape h) entry → AreSet h → row_written entry ≡ Some name
+  -- an entry on the row
+  on_row : (h : List Entry) (entry : Entry) → IsLegal case h → MayFollow case (run_of shape h) entry → AreSet h → row_written entry
+      ≡ Some name
       → AreSet (h ++ entry ∷ [])
   on_row h (Claim worker interval) legal may was here = absurd (none_some name here)
   on_row h (Inject seq part line item) legal may was here =

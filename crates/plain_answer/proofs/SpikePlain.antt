@@ -20,16 +20,19 @@ use Rattle.run_history.specs.Runs.{run_of}
 use Rattle.run_history.specs.Legal.{IsLegal, IsDone}
 use Rattle.history_laws.proofs.RowSteps.{row_of-each}
 use Rattle.list_lemmas.proofs.Lists.{each-append, each-map, each-all}
-use Rattle.plain_answer.specs.Plain.{Keyed, row_members, row_keys, place_of, places_in, sum_of_last, spike_at, spikes_in, plain_of, fires_of}
+use Rattle.plain_answer.specs.Plain.{Keyed, row_members, row_keys, places_in, sum_of_last, spike_at, spikes_in, plain_of, fires_of}
+use Rattle.plain_answer.specs.Places.{place_of}
 use Rattle.plain_answer.specs.Stories.{done_of, out_of, fires_on, fired_keys_by, fired_keys}
 use Rattle.plain_answer.proofs.Closing.{same-key, key-itself}
 use Rattle.plain_answer.proofs.Filters.{by_keys}
+use Rattle.plain_answer.proofs.Greatest.{places-fold}
 use Rattle.plain_answer.proofs.Members.{out_at}
 use Rattle.plain_answer.proofs.Once.{filter-flat_map, flat_map-filter, filter-once}
 use Rattle.plain_answer.proofs.Orders.{places-same}
 use Rattle.plain_answer.proofs.Places.{held_place, held_timer}
 use Rattle.plain_answer.proofs.Results.{AreSpikesPlain}
-use Rattle.plain_answer.proofs.Spiking.{is_mine, pair_of, pairs_of, legal-spiked}
+use Rattle.plain_answer.proofs.SpikeSteps.{is_mine, pair_of, pairs_of}
+use Rattle.plain_answer.proofs.Spiking.{legal-spiked}
 use Rattle.plain_answer.proofs.Taking.{member_read, reads_done, reads_done-total, is_at-both}
 use Rattle.plain_answer.proofs.Totals.{total, when, total-map, total-filter, total-same, total-sum_by, total-length, HaveSameTotals, totals-permuted}
 
@@ -44,8 +47,10 @@ no-members : (key : List ℕ) (ms : List Keyed) → list_any (pointwise nat_eq k
 no-members key [] none = refl
 no-members key (m ∷ ms) none =
     elim m.1.late as
-    (λ b. list_any (pointwise nat_eq key) (map (λ (m : Keyed). m.0) (cond (not b) (m ∷ filter (λ (m : Keyed). not m.1.late) ms) (filter (λ (m : Keyed). not m.1.late) ms))) ≡ false
-    → map (λ (m : Keyed). m.1) (cond (pointwise nat_eq key m.0 && not b) (m ∷ filter (λ (m : Keyed). pointwise nat_eq key m.0 && not m.1.late) ms)
+    (λ b. list_any (pointwise nat_eq key) (map (λ (m : Keyed). m.0)
+    (cond (not b) (m ∷ filter (λ (m : Keyed). not m.1.late) ms) (filter (λ (m : Keyed). not m.1.late) ms))) ≡ false
+    → map (λ (m : Keyed). m.1) (cond (pointwise nat_eq key m.0 && not b)
+    (m ∷ filter (λ (m : Keyed). pointwise nat_eq key m.0 && not m.1.late) ms)
     (filter (λ (m : Keyed). pointwise nat_eq key m.0 && not m.1.late) ms)) ≡ []) [
       | true ↦ λ n. elim (pointwise nat_eq key m.0) as
           (λ c. map (λ (m : Keyed). m.1) (cond (c && false) (m ∷ filter (λ (m : Keyed). pointwise nat_eq key m.0 && not m.1.late) ms)
@@ -98,7 +103,7 @@ module _ {Y : Type 0} (of : Y → List ℕ) where
       by_any false e = sym (none key (no-members key ms e))
 
 -- each spike of a row has the row's key
-spikes-key : (last times : ℕ) (key : List ℕ) (before : List ℤ) (places : List (ℕ × ℤ))
+pub spikes-key : (last times : ℕ) (key : List ℕ) (before : List ℤ) (places : List (ℕ × ℤ))
     → AllByRecursion (λ (r : Record). r.key ≡ key) (spikes_in last times key before places)
 spikes-key last times key before [] = tt
 spikes-key last times key before (p ∷ ps) =
@@ -106,7 +111,8 @@ spikes-key last times key before (p ∷ ps) =
     (one (nat_le last (length before) && int_lt (pos times *ℤ sum_of_last last before) (p.1 *ℤ pos last)))
     (spikes-key last times key (before ++ p.1 ∷ []) ps)
   where
-    one : (b : Bool) → AllByRecursion (λ (r : Record). r.key ≡ key) (cond b (record { key = key; stamp = p.0 + 1; value = p.1; late = false } ∷ []) [])
+    one : (b : Bool) → AllByRecursion (λ (r : Record). r.key ≡ key)
+        (cond b (record { key = key; stamp = p.0 + 1; value = p.1; late = false } ∷ []) [])
     one true = (refl, tt)
     one false = tt
 
@@ -127,12 +133,14 @@ fires-keys part (e ∷ es) =
     one (Ack seq row id) = refl
     one (Purge seq row floor) = refl
 
-module _ (case : CaseShape) (part last times : ℕ) (runs : IsRunnable case) (kind : kind_of case.topology part ≡ Some (kinds.Spike last times))
+module _ (case : CaseShape) (part last times : ℕ) (runs : IsRunnable case)
+    (kind : kind_of case.topology part ≡ Some (kinds.Spike last times))
     (h : List Entry) (legal : IsLegal case h) (done : IsDone case (run_of case.topology h))
     (ms : List Keyed) (reads : HaveSameTotals (reads_done part (done_of case.topology h)) ms) where
   abbrev shape : Shape
   shape = case.topology
 
+  -- the row of a key
   abbrev name : List ℕ → RowName
   name key = record { part = part; key = key }
 
@@ -141,12 +149,14 @@ module _ (case : CaseShape) (part last times : ℕ) (runs : IsRunnable case) (ki
   row-reads key g =
       total-map g pair_of (filter (is_mine (name key)) (done_of shape h))
       ∙ total-filter (λ (d : Delivery). g (pair_of d)) (is_mine (name key)) (done_of shape h)
-      ∙ total-same (λ (d : Delivery). when (is_mine (name key) d) (g (pair_of d))) (λ (d : Delivery). when (d.to.part == part) (of_member (member_read d)))
+      ∙ total-same (λ (d : Delivery). when (is_mine (name key) d) (g (pair_of d)))
+      (λ (d : Delivery). when (d.to.part == part) (of_member (member_read d)))
       (done_of shape h) one
       ∙ sym (reads_done-total of_member part (done_of shape h))
       ∙ reads of_member
       ∙ sym (total-filter (λ (m : Keyed). g (place_of m.1)) (λ (m : Keyed). pointwise nat_eq key m.0 && not m.1.late) ms)
-      ∙ sym (total-map (λ (r : Record). g (place_of r)) (λ (m : Keyed). m.1) (filter (λ (m : Keyed). pointwise nat_eq key m.0 && not m.1.late) ms))
+      ∙ sym (total-map (λ (r : Record). g (place_of r)) (λ (m : Keyed). m.1)
+      (filter (λ (m : Keyed). pointwise nat_eq key m.0 && not m.1.late) ms))
       ∙ sym (total-map g place_of (row_members key ms))
     where
       of_member : Keyed → ℕ
@@ -161,13 +171,14 @@ module _ (case : CaseShape) (part last times : ℕ) (runs : IsRunnable case) (ki
           ∙ both (d.to.part == part) (pointwise nat_eq key d.to.key) (not d.item.late) (g (pair_of d))
 
   -- at the end each place of a row fired
-  all-rang : (key : List ℕ) → (legal-spiked case (name key) last times runs kind h legal).rang ≡ places_in (row_members key ms)
-  all-rang key =
+  all-over : (key : List ℕ) → (legal-spiked case (name key) last times runs kind h legal).over ≡ places_in (row_members key ms)
+  all-over key =
       let was = legal-spiked case (name key) last times runs kind h legal in
       let none : map held_timer was.held ≡ [] =
-          sym was.timers ∙ row_of-each shape (run_of shape h) (name key) (λ (c : Contents). c.timers ≡ []) done.fired refl in
-      sym (append-nil was.rang) ∙ ap (λ l. was.rang ++ map held_place l) (sym (no-held was.held none))
+      sym was.timers ∙ row_of-each shape (run_of shape h) (name key) (λ (c : Contents). c.timers ≡ []) done.fired refl in
+      sym (append-nil was.over) ∙ ap (λ l. was.over ++ map held_place l) (sym (no-held was.held none))
       ∙ was.places ∙ places-same (pairs_of (name key) (done_of shape h)) (map place_of (row_members key ms)) (row-reads key)
+      ∙ sym (places-fold (row_members key ms))
     where
       no-held : (held : List HeldTotal) → map held_timer held ≡ [] → held ≡ []
       no-held [] none = refl
@@ -181,7 +192,7 @@ module _ (case : CaseShape) (part last times : ℕ) (runs : IsRunnable case) (ki
       (length (out_at part (out_of shape h))) (out_at part (out_of shape h)) (plain_of (kinds.Spike last times) ms) (omega arith)
       (λ key.
       (legal-spiked case (name key) last times runs kind h legal).stream
-      ∙ ap (spikes_in last times key []) (all-rang key)
+      ∙ ap (spikes_in last times key []) (all-over key)
       ∙ sym (row-at (λ (r : Record). r.key) (λ k. spikes_in last times k [] (places_in (row_members k ms))) ms
       (λ k. spikes-key last times k [] (places_in (row_members k ms)))
       (λ k none. ap (λ l. spikes_in last times k [] (places_in l)) none) key)))
@@ -195,9 +206,10 @@ module _ (case : CaseShape) (part last times : ℕ) (runs : IsRunnable case) (ki
       (length (fired_keys part h)) (fired_keys part h) (flat_map fired (row_keys ms)) (omega arith)
       (λ key.
       (legal-spiked case (name key) last times runs kind h legal).fires
-      ∙ ap (map (λ (p : ℕ × ℤ). key)) (all-rang key)
+      ∙ ap (map (λ (p : ℕ × ℤ). key)) (all-over key)
       ∙ sym (row-at (λ (k : List ℕ). k) fired ms
-      (λ k. each-map (λ y. y ≡ k) (λ (p : ℕ × ℤ). k) (places_in (row_members k ms)) (each-all (λ p. k ≡ k) (λ p. refl) (places_in (row_members k ms))))
+      (λ k. each-map (λ y. y ≡ k) (λ (p : ℕ × ℤ). k) (places_in (row_members k ms))
+      (each-all (λ p. k ≡ k) (λ p. refl) (places_in (row_members k ms))))
       (λ k none. ap (λ l. map (λ (p : ℕ × ℤ). k) (places_in l)) none) key))) (λ k. 1)
       ∙ total-length (flat_map fired (row_keys ms))
       ∙ length-flat_map fired (row_keys ms)
@@ -210,7 +222,8 @@ module _ (case : CaseShape) (part last times : ℕ) (runs : IsRunnable case) (ki
       fired k = map (λ (p : ℕ × ℤ). k) (places_in (row_members k ms))
 
 -- the spikes of a finished history are plain
-pub spikes-plain : (case : CaseShape) → IsRunnable case → (h : List Entry) → IsLegal case h → IsDone case (run_of case.topology h) → AreSpikesPlain case h
+pub spikes-plain : (case : CaseShape) → IsRunnable case → (h : List Entry) → IsLegal case h → IsDone case (run_of case.topology h)
+    → AreSpikesPlain case h
 spikes-plain case runs h legal done = record {
   streams = λ part last times kind ms reads. spike-plain case part last times runs kind h legal done ms reads;
   fires = λ part last times kind ms reads. spike-fires case part last times runs kind h legal done ms reads;

@@ -1,5 +1,5 @@
 -- What a row of a spike holds, knows and has put into its stream, by the records that it handled.
-use Rattle.std.proofs.Common.{◌≡◌, ℕ, zero, suc, ◌+◌, ◌-◌, drop, ◌<◌, ◌≤◌, ◌==◌, ◌&&◌, not, Bool, true, false, cond, List, [], ◌∷◌, ◌++◌, length, map, filter, find, fold, ℤ, Option, Some, None, inl, inr, refl, sym, ◌∙◌, ap, subst, arith, append_assoc}
+use Rattle.std.proofs.Common.{◌≡◌, ℕ, zero, suc, ◌+◌, ◌-◌, drop, ◌<◌, ◌≤◌, ◌==◌, ◌&&◌, not, Bool, true, false, cond, List, [], ◌∷◌, ◌++◌, length, map, filter, fold, ℤ, Some, inl, inr, refl, sym, ◌∙◌, ap, subst, arith, append_assoc}
 use Rattle.std.specs.Prelude.{nat_eq, nat_le, pos, int_lt, ◌*ℤ◌, slice_get, option_to_list}
 use Rattle.std.specs.Option.{option_map_or}
 use Rattle.std.specs.Cmp.Lexicographic.{pointwise}
@@ -10,12 +10,10 @@ use Rattle.std.proofs.lemmas.Bool.Decides.{nat_tests}
 use Rattle.std.proofs.lemmas.List.{append-nil}
 use Rattle.std.proofs.lemmas.List.Concat.{flat_map-append}
 use Rattle.std.proofs.lemmas.List.Elements.{filter-append}
-use Rattle.std.proofs.lemmas.List.Sums.{fold-append}
 use Rattle.mw_types.specs.declared.TheConstants.{MAX_STAMP}
 use Rattle.mw_types.specs.declared.identity.RecordId.{RecordId}
 use Rattle.mw_types.specs.declared.identity.RowName.{RowName}
 use Rattle.mw_types.specs.declared.kind.Kind.TheVariants as kinds
-use Rattle.mw_types.specs.declared.state.State.{State}
 use Rattle.mw_types.specs.declared.state.State.TheVariants as states
 use Rattle.mw_types.specs.declared.state.HeldTotal.{HeldTotal}
 use Rattle.mw_types.specs.declared.record.Record.{Record}
@@ -28,7 +26,7 @@ use Rattle.mw_types.specs.Orders.{row_cmp}
 use Rattle.mw_types.specs.Outcomes.{EffectsView}
 use Rattle.topology.specs.Shapes.{Shape, kind_of, parts_of}
 use Rattle.row_parts.specs.Contents.{Contents, same_id, without_timer}
-use Rattle.computations.specs.Handlers.{fresh_state, one_more, due_time, held_with, spike_record, spike_timer, total_due, is_spike, known_with, unchanged, outcome_with_timer, outcome_with_record, effects_of_record, effects_of_timer}
+use Rattle.computations.specs.Handlers.{fresh_state, one_more, due_time, held_with, spike_record, effects_of_record, effects_of_timer}
 use Rattle.run_history.specs.Cases.{CaseShape}
 use Rattle.run_history.specs.Inputs.{IsRunnable}
 use Rattle.run_history.specs.Made.{row_written, produced, late_cause}
@@ -44,150 +42,28 @@ use Rattle.history_laws.proofs.StampLaws.{legal-in_time}
 use Rattle.history_laws.proofs.WorkLaws.{WaitsFrom, IsWorkFrom}
 use Rattle.list_lemmas.proofs.Lists.{none_some, some_same, each-append, each-weaker, find-each}
 use Rattle.plain_answer.specs.Grades.{grade}
-use Rattle.plain_answer.specs.Plain.{with_place, sum_of_last, spike_at, spikes_in}
+use Rattle.plain_answer.specs.Plain.{sum_of_last, spike_at, spikes_in}
+use Rattle.plain_answer.specs.Places.{with_place}
 use Rattle.plain_answer.specs.Stories.{handled_by, added_by, done_of, out_of, fired_keys_by, fired_keys}
 use Rattle.plain_answer.proofs.Closing.{same-key, key-itself}
 use Rattle.plain_answer.proofs.Counting.{tie, apart-false}
 use Rattle.plain_answer.proofs.Grading.{IsGraded, legal-graded}
 use Rattle.plain_answer.proofs.Members.{out_at, out_at-append, added-here, added-other, computation-apart}
 use Rattle.plain_answer.proofs.Passing.{kind-at, record-left, timer-left}
-use Rattle.plain_answer.proofs.Places.{held_place, held_timer, places-held, place-behind, Climb, AreLow, Climb-held, AreLow-held, timers-held, first-timer, first-total, lastly, lastly-push, enough-known, spikes-push}
+use Rattle.plain_answer.proofs.Places.{held_place, held_timer, places-held, place-behind, Climb, AreLow, Climb-held, AreLow-held, timers-held, first-timer, lastly, spikes-push}
+use Rattle.plain_answer.proofs.SpikeSteps.{spike_record_at, spike-nothing, spike-key, fires-first, HoldsMore, holds-more, holds-late, pair_of, pairs_of, placed, placed-push}
 use Rattle.plain_answer.proofs.Stories.{run-push, done-push, out-push, along_legal}
-
--- ---- handlers
-
--- a spike produces nothing of a record
-spike-nothing : (last times : ℕ) (key : List ℕ) (state : State) (item : Record)
-    → (effects_of_record (kinds.Spike last times) key state item).productions ≡ []
-spike-nothing last times key (states.Spike late held known) item =
-    elim item.late as (λ b. (cond b (unchanged (states.Spike (one_more late) held known))
-    (outcome_with_timer (states.Spike late (held_with held item.stamp item.value) known) (due_time item.stamp) item)).productions ≡ []) [
-      | true ↦ refl
-      | false ↦ refl
-    ]
-spike-nothing last times key (states.Injector cursor) item = refl
-spike-nothing last times key (states.Count late windows) item = refl
-spike-nothing last times key (states.Pass late) item = refl
-
--- and of a timer only under its row's key
-spike-key : (last times : ℕ) (key : List ℕ) (state : State) (timer : Timer)
-    → AllByRecursion (λ (p : Production). p.key ≡ key) (effects_of_timer (kinds.Spike last times) key state timer).productions
-spike-key last times key (states.Spike late held known) timer = by_due (total_due held timer)
-  where
-    by_due : (due : Option HeldTotal) → AllByRecursion (λ (p : Production). p.key ≡ key) (spike_timer last times key late held known due).productions
-    by_due None = tt
-    by_due (Some due) =
-        elim (is_spike last times known due.value) as (λ b. AllByRecursion (λ (p : Production). p.key ≡ key)
-        (cond b (outcome_with_record (states.Spike late (filter (λ (h : HeldTotal). not (h.stamp == due.stamp)) held) (known_with last known due.value)) key (due_time due.stamp) due.value)
-        (unchanged (states.Spike late (filter (λ (h : HeldTotal). not (h.stamp == due.stamp)) held) (known_with last known due.value)))).productions) [
-          | true ↦ (refl, tt)
-          | false ↦ tt
-        ]
-spike-key last times key (states.Injector cursor) timer = tt
-spike-key last times key (states.Count late windows) timer = tt
-spike-key last times key (states.Pass late) timer = tt
-
--- the first total is the one that is due at its time
-due-first : (h : HeldTotal) (hs : List HeldTotal) → total_due (h ∷ hs) (held_timer h) ≡ Some h
-due-first h hs = ap (λ b. cond b (Some h) (find (λ (g : HeldTotal). due_time g.stamp == due_time h.stamp) hs)) (eq-eqb (due_time h.stamp) (due_time h.stamp) refl)
-
--- one spike, and one timer
-abbrev spike_record_at : List ℕ → ℕ → ℤ → List Record
-spike_record_at key stamp value = record { key = key; stamp = stamp; value = value; late = false } ∷ []
-
-abbrev timer_at : ℕ → Bool → List Timer
-timer_at time late = record { tag = 0; time = time; late = late } ∷ []
-
--- what the timer of the first total leaves
-record FiresFirst (last times : ℕ) (key : List ℕ) (late : ℕ) (hs : List HeldTotal) (values : List ℤ) (h : HeldTotal) (o : EffectsView) : Type 0 where
-  state : o.state ≡ states.Spike late hs (lastly last (values ++ h.value ∷ []))
-  productions : map (produced false) o.productions ≡ spike_at last times key values h.stamp h.value
-
-fires-first : (last times : ℕ) (key : List ℕ) (late : ℕ) (h : HeldTotal) (hs : List HeldTotal) (values : List ℤ) → Climb (h ∷ hs) → AreLow (h ∷ hs)
-    → FiresFirst last times key late hs values h (effects_of_timer (kinds.Spike last times) key (states.Spike late (h ∷ hs) (lastly last values)) (held_timer h))
-fires-first last times key late h hs values up lows =
-    subst (λ o. FiresFirst last times key late hs values h (spike_timer last times key late (h ∷ hs) (lastly last values) o)) (sym (due-first h hs))
-    (by_test (is_spike last times (lastly last values) h.value) (enough-known last times values h.value))
-  where
-    rest : State
-    rest = states.Spike late (filter (λ (g : HeldTotal). not (g.stamp == h.stamp)) (h ∷ hs)) (known_with last (lastly last values) h.value)
-
-    is_rest : rest ≡ states.Spike late hs (lastly last (values ++ h.value ∷ []))
-    is_rest = λ i. states.Spike late (first-total h hs up i) (lastly-push last values h.value i)
-
-    due : due_time h.stamp ≡ h.stamp + 1
-    due = let low : h.stamp < MAX_STAMP = lows.0 in omega (arith, low)
-
-    by_test : (b : Bool) → b ≡ (nat_le last (length values) && int_lt (pos times *ℤ Rattle.plain_answer.specs.Plain.sum_of_last last values) (h.value *ℤ pos last))
-        → FiresFirst last times key late hs values h (cond b (outcome_with_record rest key (due_time h.stamp) h.value) (unchanged rest))
-    by_test true e = record {
-      state = is_rest;
-      productions = ap (λ (n : ℕ). spike_record_at key n h.value) due
-          ∙ ap (λ b. cond b (spike_record_at key (h.stamp + 1) h.value) []) e;
-    }
-    by_test false e = record {
-      state = is_rest;
-      productions = ap (λ b. cond b (spike_record_at key (h.stamp + 1) h.value) []) e;
-    }
-
--- what a record in time leaves
-record HoldsMore (late : ℕ) (held : List HeldTotal) (known : List ℤ) (item : Record) (o : EffectsView) : Type 0 where
-  state : o.state ≡ states.Spike late (held_with held item.stamp item.value) known
-  timers : o.timers ≡ record { tag = 0; time = due_time item.stamp; late = false } ∷ []
-
-holds-more : (late : ℕ) (held : List HeldTotal) (known : List ℤ) (item : Record) → item.late ≡ false
-    → HoldsMore late held known item (spike_record late held known item)
-holds-more late held known item in_time =
-    subst (λ b. HoldsMore late held known item (cond b (unchanged (states.Spike (one_more late) held known))
-    (outcome_with_timer (states.Spike late (held_with held item.stamp item.value) known) (due_time item.stamp) item))) (sym in_time)
-    (record { state = refl; timers = ap (λ (b : Bool). timer_at (due_time item.stamp) b) in_time })
-
--- what a late record leaves
-holds-late : (late : ℕ) (held : List HeldTotal) (known : List ℤ) (item : Record) → item.late ≡ true
-    → spike_record late held known item ≡ unchanged (states.Spike (one_more late) held known)
-holds-late late held known item is_late =
-    ap (λ b. cond b (unchanged (states.Spike (one_more late) held known))
-    (outcome_with_timer (states.Spike late (held_with held item.stamp item.value) known) (due_time item.stamp) item)) is_late
-
--- ---- the records of a row
-
--- whether a row handles a delivery in time
-abbrev pub is_mine : RowName → Delivery → Bool
-is_mine name d = is_at (row_cmp name) d.to && not d.item.late
-
--- the place of a delivery
-abbrev pub pair_of : Delivery → ℕ × ℤ
-pair_of d = (d.item.stamp, d.item.value)
-
--- the places that it brings
-abbrev pub pairs_of : RowName → List Delivery → List (ℕ × ℤ)
-pairs_of name ds = map pair_of (filter (is_mine name) ds)
-
-pairs-append : (name : RowName) (one other : List Delivery) → pairs_of name (one ++ other) ≡ pairs_of name one ++ pairs_of name other
-pairs-append name [] other = refl
-pairs-append name (d ∷ ds) other = elim (is_mine name d) as
-    (λ b. map pair_of (cond b (d ∷ filter (is_mine name) (ds ++ other)) (filter (is_mine name) (ds ++ other)))
-    ≡ map pair_of (cond b (d ∷ filter (is_mine name) ds) (filter (is_mine name) ds)) ++ pairs_of name other) [
-      | true ↦ ap (λ l. (d.item.stamp, d.item.value) ∷ l) (pairs-append name ds other)
-      | false ↦ pairs-append name ds other
-    ]
-
--- the places of a row so far
-abbrev pub placed : RowName → List Delivery → List (ℕ × ℤ)
-placed name ds = fold with_place [] (pairs_of name ds)
-
--- with what an entry handles
-placed-push : (name : RowName) (ds new : List Delivery) → placed name (ds ++ new) ≡ fold with_place (placed name ds) (pairs_of name new)
-placed-push name ds new = ap (fold with_place []) (pairs-append name ds new) ∙ fold-append with_place [] (pairs_of name ds) (pairs_of name new)
 
 module _ (case : CaseShape) (name : RowName) (last times : ℕ) (runs : IsRunnable case)
     (kind : kind_of case.topology name.part ≡ Some (kinds.Spike last times)) where
   abbrev shape : Shape
   shape = case.topology
 
+  -- the part is there
   there : name.part < parts_of shape
   there = kind-there shape name.part (kinds.Spike last times) kind
 
+  -- there are at most 48 parts
   few_parts : parts_of shape ≤ 48
   few_parts = omega (arith, runs.topology.few_injectors, runs.topology.few_computations)
 
@@ -195,6 +71,7 @@ module _ (case : CaseShape) (name : RowName) (last times : ℕ) (runs : IsRunnab
   abbrev own : List Record → List Record
   own = filter (λ (r : Record). pointwise nat_eq name.key r.key)
 
+  -- the values of places
   abbrev values : List (ℕ × ℤ) → List ℤ
   values ps = map (λ (p : ℕ × ℤ). p.1) ps
 
@@ -205,16 +82,16 @@ module _ (case : CaseShape) (name : RowName) (last times : ℕ) (runs : IsRunnab
   -- the places that fired, and the totals that are held: together they are the places so far
   pub record IsSpiked (h : List Entry) : Type 0 where
     pub late : ℕ
-    pub rang : List (ℕ × ℤ)
+    pub over : List (ℕ × ℤ)
     pub held : List HeldTotal
-    pub state : (row_of shape (run_of shape h) name).state ≡ states.Spike late held (lastly last (values rang))
+    pub state : (row_of shape (run_of shape h) name).state ≡ states.Spike late held (lastly last (values over))
     pub timers : (row_of shape (run_of shape h) name).timers ≡ map held_timer held
-    pub places : rang ++ map held_place held ≡ placed name (done_of shape h)
+    pub places : over ++ map held_place held ≡ placed name (done_of shape h)
     pub climb : Climb held
     pub low : AreLow held
-    pub passed : AllByRecursion (IsPassed (run_of shape h)) rang
-    pub stream : own (out_at name.part (out_of shape h)) ≡ spikes_in last times name.key [] rang
-    pub fires : filter (pointwise nat_eq name.key) (fired_keys name.part h) ≡ map (λ (p : ℕ × ℤ). name.key) rang
+    pub passed : AllByRecursion (IsPassed (run_of shape h)) over
+    pub stream : own (out_at name.part (out_of shape h)) ≡ spikes_in last times name.key [] over
+    pub fires : filter (pointwise nat_eq name.key) (fired_keys name.part h) ≡ map (λ (p : ℕ × ℤ). name.key) over
 
   -- times that are passed still are
   passed-next : (h : List Entry) (entry : Entry) (ps : List (ℕ × ℤ)) → IsLegal case h → MayFollow case (run_of shape h) entry
@@ -231,11 +108,13 @@ module _ (case : CaseShape) (name : RowName) (last times : ℕ) (runs : IsRunnab
   stream-next h entry new adds =
       ap (λ l. own (out_at name.part l)) (out-push shape h entry)
       ∙ ap own (out_at-append name.part (out_of shape h) (added_by (run_of shape h) entry))
-      ∙ filter-append (λ (r : Record). pointwise nat_eq name.key r.key) (out_at name.part (out_of shape h)) (out_at name.part (added_by (run_of shape h) entry))
+      ∙ filter-append (λ (r : Record). pointwise nat_eq name.key r.key) (out_at name.part (out_of shape h))
+      (out_at name.part (added_by (run_of shape h) entry))
       ∙ ap (λ l. own (out_at name.part (out_of shape h)) ++ l) adds
 
   -- what fired with one more entry
-  fires-next : (h : List Entry) (entry : Entry) (new : List (List ℕ)) → filter (pointwise nat_eq name.key) (fired_keys_by name.part entry) ≡ new
+  fires-next : (h : List Entry) (entry : Entry) (new : List (List ℕ))
+      → filter (pointwise nat_eq name.key) (fired_keys_by name.part entry) ≡ new
       → filter (pointwise nat_eq name.key) (fired_keys name.part (h ++ entry ∷ []))
       ≡ filter (pointwise nat_eq name.key) (fired_keys name.part h) ++ new
   fires-next h entry new adds =
@@ -246,7 +125,7 @@ module _ (case : CaseShape) (name : RowName) (last times : ℕ) (runs : IsRunnab
 
   -- an entry that does nothing on the row but for its late records
   quiet : (h : List Entry) (entry : Entry) (late : ℕ) (was : IsSpiked h) → IsLegal case h → MayFollow case (run_of shape h) entry
-      → (row_of shape (followed shape (run_of shape h) entry) name).state ≡ states.Spike late was.held (lastly last (values was.rang))
+      → (row_of shape (followed shape (run_of shape h) entry) name).state ≡ states.Spike late was.held (lastly last (values was.over))
       → (row_of shape (followed shape (run_of shape h) entry) name).timers ≡ (row_of shape (run_of shape h) name).timers
       → pairs_of name (handled_by (run_of shape h) entry) ≡ []
       → own (out_at name.part (added_by (run_of shape h) entry)) ≡ []
@@ -254,7 +133,7 @@ module _ (case : CaseShape) (name : RowName) (last times : ℕ) (runs : IsRunnab
       → IsSpiked (h ++ entry ∷ [])
   quiet h entry late was legal may state timers pairs adds fires = record {
     late = late;
-    rang = was.rang;
+    over = was.over;
     held = was.held;
     state = ap (λ (r : Run). (row_of shape r name).state) (run-push shape h entry) ∙ state;
     timers = ap (λ (r : Run). (row_of shape r name).timers) (run-push shape h entry) ∙ timers ∙ was.timers;
@@ -263,30 +142,34 @@ module _ (case : CaseShape) (name : RowName) (last times : ℕ) (runs : IsRunnab
         ∙ ap (fold with_place (placed name (done_of shape h))) pairs);
     climb = was.climb;
     low = was.low;
-    passed = passed-next h entry was.rang legal may was.passed;
+    passed = passed-next h entry was.over legal may was.passed;
     stream = stream-next h entry [] adds ∙ append-nil (own (out_at name.part (out_of shape h))) ∙ was.stream;
     fires = fires-next h entry [] fires ∙ append-nil (filter (pointwise nat_eq name.key) (fired_keys name.part h)) ∙ was.fires;
   }
 
   -- a place that fired is below a record in time
-  below-now : (h : List Entry) (id : RecordId) (d : Delivery) (p : ℕ × ℤ) → IsPassed (run_of shape h) p → Rattle.run_history.specs.Made.found_delivery id (run_of shape h).unhandled ≡ Some d
+  below-now : (h : List Entry) (id : RecordId) (d : Delivery) (p : ℕ × ℤ) → IsPassed (run_of shape h) p
+      → Rattle.run_history.specs.Made.found_delivery id (run_of shape h).unhandled ≡ Some d
       → d.to ≡ name → d.item.late ≡ false → d.item.stamp < MAX_STAMP → p.0 < d.item.stamp
   below-now h id d p passed waits to_row in_time small =
       let work : IsWorkFrom shape (run_of shape h) (due_time p.0) name.part = passed zero in
       let from : WaitsFrom (due_time p.0) name.part d =
-          find-each (WaitsFrom (due_time p.0) name.part) (λ (e : Delivery). same_id e.id id) (run_of shape h).unhandled d work.waiting waits in
-      let due : due_time p.0 ≤ d.item.stamp = from (and_from _ _ (eq-eqb d.to.part name.part (ap (λ (r : RowName). r.part) to_row)) (ap not in_time)) in
+      find-each (WaitsFrom (due_time p.0) name.part) (λ (e : Delivery). same_id e.id id) (run_of shape h).unhandled d work.waiting waits in
+      let due : due_time p.0 ≤ d.item.stamp = from (and_from _ _ (eq-eqb d.to.part name.part (ap (λ (r : RowName). r.part) to_row))
+      (ap not in_time)) in
       omega (arith, due, small)
 
   -- what waits for the row is below the greatest timestamp
-  small : (h : List Entry) (id : RecordId) (d : Delivery) → IsLegal case h → Rattle.run_history.specs.Made.found_delivery id (run_of shape h).unhandled ≡ Some d → d.to ≡ name
+  small : (h : List Entry) (id : RecordId) (d : Delivery) → IsLegal case h
+      → Rattle.run_history.specs.Made.found_delivery id (run_of shape h).unhandled ≡ Some d → d.to ≡ name
       → d.item.stamp < MAX_STAMP
   small h id d legal waits to_row =
       let graded : d.item.stamp ≤ grade d.to.part = find-each IsGraded (λ (e : Delivery). same_id e.id id) (run_of shape h).unhandled d
-          (legal-graded case h runs legal).waiting waits in
+      (legal-graded case h runs legal).waiting waits in
       let here : d.item.stamp ≤ grade name.part = subst (λ (r : RowName). d.item.stamp ≤ grade r.part) to_row graded in
       omega (arith, here, there, few_parts)
 
+  -- the part is itself
   self : (name.part == name.part) ≡ true
   self = eq-eqb name.part name.part refl
 
@@ -304,7 +187,7 @@ module _ (case : CaseShape) (name : RowName) (last times : ℕ) (runs : IsRunnab
       d : Delivery
       d = may.delivery
 
-      left : spike_record was.late was.held (lastly last (values was.rang)) d.item ≡ effects
+      left : spike_record was.late was.held (lastly last (values was.over)) d.item ≡ effects
       left = sym (ap (λ st. effects_of_record (kinds.Spike last times) name.key st d.item) was.state)
           ∙ record-left case run name id effects (kinds.Spike last times) may kind
 
@@ -331,18 +214,18 @@ module _ (case : CaseShape) (name : RowName) (last times : ℕ) (runs : IsRunnab
 
       by_late : (b : Bool) → d.item.late ≡ b → IsSpiked (h ++ Handle seq name id effects ∷ [])
       by_late true is =
-          let kept = sym left ∙ holds-late was.late was.held (lastly last (values was.rang)) d.item is in
+          let kept = sym left ∙ holds-late was.late was.held (lastly last (values was.over)) d.item is in
           quiet h entry (one_more was.late) was legal may
           (ap (λ (c : Contents). c.state) here ∙ ap (λ (o : EffectsView). o.state) kept)
           (ap (λ (c : Contents). c.timers) here ∙ ap (λ (o : EffectsView). with_timers o.timers (row_of shape run name).timers) kept)
           (pair true is) nothing refl
       by_late false is =
-          let more = subst (HoldsMore was.late was.held (lastly last (values was.rang)) d.item) left
-              (holds-more was.late was.held (lastly last (values was.rang)) d.item is) in
+          let more = subst (HoldsMore was.late was.held (lastly last (values was.over)) d.item) left
+          (holds-more was.late was.held (lastly last (values was.over)) d.item is) in
           let low : d.item.stamp < MAX_STAMP = small h id d legal may.waits may.to_row in
           let place : ℕ × ℤ = (d.item.stamp, d.item.value) in record {
             late = was.late;
-            rang = was.rang;
+            over = was.over;
             held = held_with was.held d.item.stamp d.item.value;
             state = ap (λ (r : Run). (row_of shape r name).state) (run-push shape h entry)
                 ∙ ap (λ (c : Contents). c.state) here ∙ more.state;
@@ -350,17 +233,17 @@ module _ (case : CaseShape) (name : RowName) (last times : ℕ) (runs : IsRunnab
                 ∙ ap (λ (c : Contents). c.timers) here
                 ∙ (λ i. with_timers (more.timers i) (was.timers i))
                 ∙ timers-held was.held d.item.stamp d.item.value low was.low;
-            places = ap (λ l. was.rang ++ l) (places-held was.held d.item.stamp d.item.value)
-                ∙ sym (place-behind was.rang (map held_place was.held) place
+            places = ap (λ l. was.over ++ l) (places-held was.held d.item.stamp d.item.value)
+                ∙ sym (place-behind was.over (map held_place was.held) place
                 (each-weaker (IsPassed run) (λ (p : ℕ × ℤ). p.0 < d.item.stamp)
-                (λ p passed. below-now h id d p passed may.waits may.to_row is low) was.rang was.passed))
+                (λ p passed. below-now h id d p passed may.waits may.to_row is low) was.over was.passed))
                 ∙ ap (λ l. with_place l place) was.places
                 ∙ sym (ap (placed name) (done-push shape h entry)
                 ∙ placed-push name (done_of shape h) (handled_by run entry)
                 ∙ ap (fold with_place (placed name (done_of shape h))) (pair false is));
             climb = Climb-held was.held d.item.stamp d.item.value was.climb;
             low = AreLow-held was.held d.item.stamp d.item.value low was.low;
-            passed = passed-next h entry was.rang legal may was.passed;
+            passed = passed-next h entry was.over legal may was.passed;
             stream = stream-next h entry [] nothing ∙ append-nil (own (out_at name.part (out_of shape h))) ∙ was.stream;
             fires = fires-next h entry [] refl ∙ append-nil (filter (pointwise nat_eq name.key) (fired_keys name.part h)) ∙ was.fires;
           }
@@ -390,59 +273,63 @@ module _ (case : CaseShape) (name : RowName) (last times : ℕ) (runs : IsRunnab
           LowFrom-any_depth case run (due_time stamp) runs.topology (parts_of shape) name.part at_most
           (low-from case run (due_time stamp) (parts_of shape) name.part low) depth
 
-      by_held : (held : List HeldTotal) → (row_of shape run name).state ≡ states.Spike was.late held (lastly last (values was.rang))
-          → (row_of shape run name).timers ≡ map held_timer held → was.rang ++ map held_place held ≡ placed name (done_of shape h)
+      by_held : (held : List HeldTotal) → (row_of shape run name).state ≡ states.Spike was.late held (lastly last (values was.over))
+          → (row_of shape run name).timers ≡ map held_timer held → was.over ++ map held_place held ≡ placed name (done_of shape h)
           → Climb held → AreLow held → IsSpiked (h ++ Fire seq name timer mark effects ∷ [])
       by_held [] state timers places climb low = absurd (none_first (row_of shape run name).timers timers may.least_timer)
       by_held (t ∷ hs) state timers places climb low =
           let is : held_timer t ≡ timer = some_same (held_timer t) timer (sym (ap (λ l. slice_get l 0) timers) ∙ may.least_timer) in
-          let of = fires-first last times name.key was.late t hs (values was.rang) climb low in
-          let left : effects_of_timer (kinds.Spike last times) name.key (states.Spike was.late (t ∷ hs) (lastly last (values was.rang))) (held_timer t) ≡ effects =
-              ap (effects_of_timer (kinds.Spike last times) name.key (states.Spike was.late (t ∷ hs) (lastly last (values was.rang)))) is
-              ∙ sym (ap (λ st. effects_of_timer (kinds.Spike last times) name.key st timer) state)
-              ∙ timer-left case run name timer mark effects (kinds.Spike last times) may kind in
-          let left_state : effects.state ≡ states.Spike was.late hs (lastly last (values was.rang ++ t.value ∷ [])) =
-              sym (ap (λ (o : EffectsView). o.state) left) ∙ of.state in
-          let produces : map (produced timer.late) effects.productions ≡ spike_at last times name.key (values was.rang) t.stamp t.value =
-              sym (λ i. map (produced (is i).late) (left i).productions) ∙ of.productions in
-          let adds : out_at name.part (added_by run entry) ≡ spike_at last times name.key (values was.rang) t.stamp t.value =
-              added-here name.part run entry name refl self ∙ produces in record {
-                late = was.late;
-                rang = was.rang ++ held_place t ∷ [];
-                held = hs;
-                state = ap (λ (r : Run). (row_of shape r name).state) (run-push shape h entry)
-                    ∙ ap (λ (c : Contents). c.state) here ∙ left_state
-                    ∙ ap (λ l. states.Spike was.late hs (lastly last l)) (sym (values-push was.rang (held_place t)));
-                timers = ap (λ (r : Run). (row_of shape r name).timers) (run-push shape h entry)
-                    ∙ ap (λ (c : Contents). c.timers) here
-                    ∙ (λ i. without_timer (sym is i).tag (sym is i).time (timers i))
-                    ∙ first-timer t hs climb low;
-                places = append_assoc was.rang (held_place t ∷ []) (map held_place hs) ∙ places
-                    ∙ sym (ap (placed name) (done-push shape h entry) ∙ placed-push name (done_of shape h) []);
-                climb = climb.1;
-                low = low.1;
-                passed = passed-next h entry (was.rang ++ held_place t ∷ []) legal may
-                    (each-append (IsPassed run) was.rang (held_place t ∷ []) was.passed
-                    (passed-now t.stamp t.value (ap (λ (t : Timer). t.time) (sym is)), tt));
-                stream = stream-next h entry (spike_at last times name.key (values was.rang) t.stamp t.value)
-                    (ap own adds ∙ own-spike (nat_le last (length (values was.rang)) && int_lt (pos times *ℤ sum_of_last last (values was.rang)) (t.value *ℤ pos last)) t)
-                    ∙ ap (λ l. l ++ spike_at last times name.key (values was.rang) t.stamp t.value) was.stream
-                    ∙ sym (spikes-push last times name.key [] was.rang t.stamp t.value);
-                fires = fires-next h entry (name.key ∷ [])
-                    (ap (λ b. filter (pointwise nat_eq name.key) (cond b (name.key ∷ []) [])) self
-                    ∙ ap (λ b. cond b (name.key ∷ []) []) (key-itself name.key))
-                    ∙ ap (λ l. l ++ name.key ∷ []) was.fires ∙ sym (keys-push was.rang (held_place t));
-              }
+          let of = fires-first last times name.key was.late t hs (values was.over) climb low in
+          let left : effects_of_timer (kinds.Spike last times) name.key
+          (states.Spike was.late (t ∷ hs) (lastly last (values was.over))) (held_timer t) ≡ effects =
+          ap (effects_of_timer (kinds.Spike last times) name.key (states.Spike was.late (t ∷ hs) (lastly last (values was.over)))) is
+          ∙ sym (ap (λ st. effects_of_timer (kinds.Spike last times) name.key st timer) state)
+          ∙ timer-left case run name timer mark effects (kinds.Spike last times) may kind in
+          let left_state : effects.state ≡ states.Spike was.late hs (lastly last (values was.over ++ t.value ∷ [])) =
+          sym (ap (λ (o : EffectsView). o.state) left) ∙ of.state in
+          let produces : map (produced timer.late) effects.productions ≡ spike_at last times name.key (values was.over) t.stamp t.value =
+          sym (λ i. map (produced (is i).late) (left i).productions) ∙ of.productions in
+          let adds : out_at name.part (added_by run entry) ≡ spike_at last times name.key (values was.over) t.stamp t.value =
+          added-here name.part run entry name refl self ∙ produces in record {
+            late = was.late;
+            over = was.over ++ held_place t ∷ [];
+            held = hs;
+            state = ap (λ (r : Run). (row_of shape r name).state) (run-push shape h entry)
+                ∙ ap (λ (c : Contents). c.state) here ∙ left_state
+                ∙ ap (λ l. states.Spike was.late hs (lastly last l)) (sym (values-push was.over (held_place t)));
+            timers = ap (λ (r : Run). (row_of shape r name).timers) (run-push shape h entry)
+                ∙ ap (λ (c : Contents). c.timers) here
+                ∙ (λ i. without_timer (sym is i).tag (sym is i).time (timers i))
+                ∙ first-timer t hs climb low;
+            places = append_assoc was.over (held_place t ∷ []) (map held_place hs) ∙ places
+                ∙ sym (ap (placed name) (done-push shape h entry) ∙ placed-push name (done_of shape h) []);
+            climb = climb.1;
+            low = low.1;
+            passed = passed-next h entry (was.over ++ held_place t ∷ []) legal may
+                (each-append (IsPassed run) was.over (held_place t ∷ []) was.passed
+                (passed-now t.stamp t.value (ap (λ (t : Timer). t.time) (sym is)), tt));
+            stream = stream-next h entry (spike_at last times name.key (values was.over) t.stamp t.value)
+                (ap own adds ∙ own-spike (nat_le last (length (values was.over)) && int_lt
+                (pos times *ℤ sum_of_last last (values was.over)) (t.value *ℤ pos last)) t)
+                ∙ ap (λ l. l ++ spike_at last times name.key (values was.over) t.stamp t.value) was.stream
+                ∙ sym (spikes-push last times name.key [] was.over t.stamp t.value);
+            fires = fires-next h entry (name.key ∷ [])
+                (ap (λ b. filter (pointwise nat_eq name.key) (cond b (name.key ∷ []) [])) self
+                ∙ ap (λ b. cond b (name.key ∷ []) []) (key-itself name.key))
+                ∙ ap (λ l. l ++ name.key ∷ []) was.fires ∙ sym (keys-push was.over (held_place t));
+          }
         where
           values-push : (ps : List (ℕ × ℤ)) (p : ℕ × ℤ) → values (ps ++ p ∷ []) ≡ values ps ++ p.1 ∷ []
           values-push [] p = refl
           values-push (q ∷ qs) p = ap (λ l. q.1 ∷ l) (values-push qs p)
 
-          keys-push : (ps : List (ℕ × ℤ)) (p : ℕ × ℤ) → map (λ (p : ℕ × ℤ). name.key) (ps ++ p ∷ []) ≡ map (λ (p : ℕ × ℤ). name.key) ps ++ name.key ∷ []
+          keys-push : (ps : List (ℕ × ℤ)) (p : ℕ × ℤ) → map (λ (p : ℕ × ℤ). name.key) (ps ++ p ∷ [])
+              ≡ map (λ (p : ℕ × ℤ). name.key) ps ++ name.key ∷ []
           keys-push [] p = refl
           keys-push (q ∷ qs) p = ap (λ l. name.key ∷ l) (keys-push qs p)
 
-          own-spike : (b : Bool) (t : HeldTotal) → own (cond b (record { key = name.key; stamp = t.stamp + 1; value = t.value; late = false } ∷ []) [])
+          own-spike : (b : Bool) (t : HeldTotal) → own (cond b
+              (record { key = name.key; stamp = t.stamp + 1; value = t.value; late = false } ∷ []) [])
               ≡ cond b (record { key = name.key; stamp = t.stamp + 1; value = t.value; late = false } ∷ []) []
           own-spike true t = ap (λ b. cond b (spike_record_at name.key (t.stamp + 1) t.value) []) (key-itself name.key)
           own-spike false t = refl
@@ -467,6 +354,7 @@ module _ (case : CaseShape) (name : RowName) (last times : ℕ) (runs : IsRunnab
       (ap (λ (c : Contents). c.state) (row_of-elsewhere shape (run_of shape h) entry name apart) ∙ was.state)
       (ap (λ (c : Contents). c.timers) (row_of-elsewhere shape (run_of shape h) entry name apart)) pairs adds fires
 
+  -- an entry on another row, or on none
   off_row : (h : List Entry) (entry : Entry) → IsLegal case h → MayFollow case (run_of shape h) entry → IsSpiked h
       → (row_written entry ≡ Some name → ⊥) → IsSpiked (h ++ entry ∷ [])
   off_row h (Claim worker interval) legal may was apart = elsewhere h (Claim worker interval) legal may was apart refl refl refl
@@ -502,7 +390,7 @@ module _ (case : CaseShape) (name : RowName) (last times : ℕ) (runs : IsRunnab
           (λ b. (row.part == name.part) ≡ b → own (out_at name.part (added_by (run_of shape h) (Fire seq row timer mark effects))) ≡ []) [
             | true ↦ λ e.
                 let left = timer-left case (run_of shape h) row timer mark effects (kinds.Spike last times) may
-                    (kind-at shape name.part row.part (kinds.Spike last times) kind e) in
+                (kind-at shape name.part row.part (kinds.Spike last times) kind e) in
                 ap own (added-here name.part (run_of shape h) (Fire seq row timer mark effects) row refl e)
                 ∙ other-row row.key timer.late effects.productions (differs e)
                 (subst (λ (o : EffectsView). AllByRecursion (λ (p : Production). p.key ≡ row.key) o.productions) left
@@ -566,7 +454,7 @@ module _ (case : CaseShape) (name : RowName) (last times : ℕ) (runs : IsRunnab
   first-spiked : IsSpiked []
   first-spiked = record {
     late = 0;
-    rang = [];
+    over = [];
     held = [];
     state = ap (λ k. option_map_or fresh_state k (states.Injector 0)) kind ∙ ap (states.Spike 0 []) (sym (drop-nil (0 - last)));
     timers = refl;

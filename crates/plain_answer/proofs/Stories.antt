@@ -24,6 +24,7 @@ story-run : (shape : Shape) (h : List Entry) (s : Story) → (fold (story_with s
 story-run shape [] s = refl
 story-run shape (e ∷ es) s = story-run shape es (story_with shape s e)
 
+-- a story with one more entry
 story-push : (shape : Shape) (h : List Entry) (entry : Entry) → story_of shape (h ++ entry ∷ []) ≡ story_with shape (story_of shape h) entry
 story-push shape h entry = fold-append (story_with shape) first_story h (entry ∷ [])
 
@@ -41,6 +42,7 @@ out-push shape h entry = ap (λ (s : Story). s.out) (story-push shape h entry)
 
 -- ---- the deeds of a row
 
+-- the run is the history's
 told-run : (shape : Shape) (name : RowName) (h : List Entry) (s : Told) → (fold (told shape name) s h).run ≡ fold (followed shape) s.run h
 told-run shape name [] s = refl
 told-run shape name (e ∷ es) s = told-run shape name es (told shape name s e)
@@ -69,6 +71,7 @@ module _ (case : CaseShape) (P : List Entry → Type 0) where
   abbrev Step : Type 0
   Step = (h : List Entry) (entry : Entry) → IsLegal case h → MayFollow case (run_of case.topology h) entry → P h → P (h ++ entry ∷ [])
 
+  -- all of it with one more entry
   next : Step → (h : List Entry) (run : Run) (entry : Entry) → Holds h run → MayFollow case run entry
       → Holds (h ++ entry ∷ []) (followed case.topology run entry)
   next step h run entry holds may =

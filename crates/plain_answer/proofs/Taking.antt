@@ -46,7 +46,8 @@ is_at-both name row = elim (is_at (row_cmp name) row) as
       | false ↦ λ e. apart e (row.part == name.part) refl (pointwise nat_eq name.key row.key) refl
     ] refl
   where
-    apart : is_at (row_cmp name) row ≡ false → (a : Bool) → (row.part == name.part) ≡ a → (b : Bool) → pointwise nat_eq name.key row.key ≡ b → false ≡ (a && b)
+    apart : is_at (row_cmp name) row ≡ false → (a : Bool) → (row.part == name.part) ≡ a → (b : Bool)
+        → pointwise nat_eq name.key row.key ≡ b → false ≡ (a && b)
     apart e false one b other = refl
     apart e true one false other = refl
     apart e true one true other =
@@ -64,7 +65,8 @@ one : (case : CaseShape) (name : RowName) (size end : ℕ) (run : Run) (entry : 
 one case name size end run (Handle seq row id effects) may =
     ap (λ o. sum_by (takes_into size end) (cond (is_at (row_cmp name) row) (taken o) [])) may.waits
     ∙ by_row (is_at (row_cmp name) row)
-    ∙ ap (λ (r : RowName). when (is_at (row_cmp name) r) (takes_into size end (took may.delivery.item.stamp may.delivery.item.late)) + 0) (sym may.to_row)
+    ∙ ap (λ (r : RowName). when (is_at (row_cmp name) r) (takes_into size end
+    (took may.delivery.item.stamp may.delivery.item.late)) + 0) (sym may.to_row)
     ∙ sym (ap (λ o. total (brings name size end) (option_to_list o)) may.waits)
   where
     by_row : (b : Bool) → sum_by (takes_into size end) (cond b (taken (Some may.delivery)) [])
@@ -91,15 +93,21 @@ taken-done case name size end = along_legal case
     let deeds : List Deed = deeds_of case.topology name h in
     let new : List Deed = deeds_in name (run_of case.topology h) entry in
     let core : taken_into size end (deeds ++ new)
-        ≡ total (brings name size end) (done_of case.topology h ++ handled_by (run_of case.topology h) entry) =
-        omega (arith, was, one case name size end (run_of case.topology h) entry may, sum_by-append (takes_into size end) deeds new,
-        total-append (brings name size end) (done_of case.topology h) (handled_by (run_of case.topology h) entry)) in
+    ≡ total (brings name size end) (done_of case.topology h ++ handled_by (run_of case.topology h) entry) =
+    omega (
+      arith,
+      was,
+      one case name size end (run_of case.topology h) entry may,
+      sum_by-append (takes_into size end) deeds new,
+      total-append (brings name size end) (done_of case.topology h) (handled_by (run_of case.topology h) entry),
+    ) in
     ap (taken_into size end) (deeds-push case.topology name h entry) ∙ core
     ∙ ap (total (brings name size end)) (sym (done-push case.topology h entry)))
     refl
 
 -- what was handled is within its part's grade
-pub done-graded : (case : CaseShape) → IsRunnable case → (h : List Entry) → IsLegal case h → AllByRecursion IsGraded (done_of case.topology h)
+pub done-graded : (case : CaseShape) → IsRunnable case → (h : List Entry) → IsLegal case h
+    → AllByRecursion IsGraded (done_of case.topology h)
 done-graded case runs = along_legal case (λ h. AllByRecursion IsGraded (done_of case.topology h))
     (λ h entry legal may was.
     subst (AllByRecursion IsGraded) (sym (done-push case.topology h entry))
@@ -109,9 +117,11 @@ done-graded case runs = along_legal case (λ h. AllByRecursion IsGraded (done_of
     new : (h : List Entry) (entry : Entry) → IsLegal case h → MayFollow case (run_of case.topology h) entry
         → AllByRecursion IsGraded (handled_by (run_of case.topology h) entry)
     new h (Handle seq row id effects) legal may =
-        subst (λ o. AllByRecursion IsGraded (option_to_list o)) (sym may.waits)
-        (find-each IsGraded (λ (d : Delivery). same_id d.id id) (run_of case.topology h).unhandled may.delivery
-        (legal-graded case h runs legal).waiting may.waits, tt)
+        subst (λ o. AllByRecursion IsGraded (option_to_list o)) (sym may.waits) (
+          find-each IsGraded (λ (d : Delivery). same_id d.id id) (run_of case.topology h).unhandled may.delivery
+              (legal-graded case h runs legal).waiting may.waits,
+          tt,
+        )
     new h (Claim worker interval) legal may = tt
     new h (Inject seq part line item) legal may = tt
     new h (Fire seq row timer mark effects) legal may = tt
@@ -128,13 +138,15 @@ member_read d = (d.to.key, d.item)
 abbrev pub reads_done : ℕ → List Delivery → List Keyed
 reads_done part ds = map member_read (done_at part ds)
 
+-- a sum over what rows of a part handled
 pub reads_done-total : (g : Keyed → ℕ) (part : ℕ) (ds : List Delivery)
     → total g (reads_done part ds) ≡ total (λ (d : Delivery). when (d.to.part == part) (g (member_read d))) ds
 reads_done-total g part ds = total-map g member_read (done_at part ds)
     ∙ total-filter (λ (d : Delivery). g (member_read d)) (λ (d : Delivery). d.to.part == part) ds
 
 -- within the grade of its part a window ends plainly
-pub end-plain : (shape : Shape) (case : CaseShape) (part size stamp : ℕ) → IsRunnable case → kind_of case.topology part ≡ Some (kinds.Count size)
+pub end-plain : (shape : Shape) (case : CaseShape) (part size stamp : ℕ) → IsRunnable case → kind_of case.topology part
+    ≡ Some (kinds.Count size)
     → stamp ≤ grade part → window_end size stamp ≡ plain_end size stamp
 end-plain shape case part size stamp runs kind low =
     let there : part < parts_of case.topology = kind-there case.topology part (kinds.Count size) kind in
@@ -149,7 +161,8 @@ pub taken-reads : (case : CaseShape) (part size : ℕ) (key : List ℕ) (end : �
     ≡ total (into size key end) (reads_done part (done_of case.topology h))
 taken-reads case part size key end runs kind h legal =
     taken-done case name size end h legal
-    ∙ total-each (brings name size end) (λ (d : Delivery). when (d.to.part == part) (into size key end (member_read d))) (done_of case.topology h)
+    ∙ total-each (brings name size end) (λ (d : Delivery). when (d.to.part == part) (into size key end (member_read d)))
+    (done_of case.topology h)
     (each-weaker IsGraded (λ d. brings name size end d ≡ when (d.to.part == part) (into size key end (member_read d))) same
     (done_of case.topology h) (done-graded case runs h legal))
     ∙ sym (reads_done-total (into size key end) part (done_of case.topology h))
@@ -163,7 +176,8 @@ taken-reads case part size key end runs kind h legal =
     by_late d false ends = ap (λ n. cond (n == end) 1 0) ends
 
     by_key : (d : Delivery) (b : Bool) → window_end size d.item.stamp ≡ plain_end size d.item.stamp
-        → when b (takes_into size end (took d.item.stamp d.item.late)) ≡ when (b && not d.item.late) (when (plain_end size d.item.stamp == end) 1)
+        → when b (takes_into size end (took d.item.stamp d.item.late))
+        ≡ when (b && not d.item.late) (when (plain_end size d.item.stamp == end) 1)
     by_key d true ends = by_late d d.item.late ends
     by_key d false ends = refl
 

@@ -49,9 +49,9 @@ has-mono time t (u ∷ us) has =
       | Less ↦ or-either (is_timer 0 time t) (has_timer time (u ∷ us)) has
       | Equal ↦ has
       | Greater ↦ elim (is_timer 0 time u) as (λ b. (b || has_timer time us) ≡ true → (b || has_timer time (with_timer t us)) ≡ true) [
-          | true ↦ λ h. refl
-          | false ↦ λ h. has-mono time t us h
-        ] has
+        | true ↦ λ h. refl
+        | false ↦ λ h. has-mono time t us h
+      ] has
     ]
 
 -- timers that tie have one time and one tag
@@ -62,6 +62,7 @@ tie_same a b e =
     let tag : nat_cmp a.tag b.tag ≡ Equal = both.1 in
     (grind (arith, nat_tests), grind (arith, nat_tests))
 
+-- a timer with the tag 0 is one of its time
 own-timer : (t : Timer) → t.tag ≡ 0 → is_timer 0 t.time t ≡ true
 own-timer t zero_tag = grind (arith, nat_tests)
 
@@ -69,7 +70,8 @@ own-timer t zero_tag = grind (arith, nat_tests)
 has-own : (t : Timer) (ts : List Timer) → t.tag ≡ 0 → has_timer t.time (with_timer t ts) ≡ true
 has-own t [] zero_tag = ap (λ b. b || false) (own-timer t zero_tag)
 has-own t (u ∷ us) zero_tag =
-    elim (timer_cmp t u) as (λ o. timer_cmp t u ≡ o → has_timer t.time (match_ordering o (t ∷ u ∷ us) (set_again t u ∷ us) (u ∷ with_timer t us)) ≡ true) [
+    elim (timer_cmp t u) as (λ o. timer_cmp t u ≡ o
+    → has_timer t.time (match_ordering o (t ∷ u ∷ us) (set_again t u ∷ us) (u ∷ with_timer t us)) ≡ true) [
       | Less ↦ λ e. ap (λ b. b || has_timer t.time (u ∷ us)) (own-timer t zero_tag)
       | Equal ↦ λ e.
           let same = tie_same t u e in
@@ -81,7 +83,8 @@ has-own t (u ∷ us) zero_tag =
     ] refl
 
 -- a timer of another time, or where another tag is taken, stays
-has-without : (time tag at : ℕ) (ts : List Timer) → ((tag == 0) && (time == at)) ≡ false → has_timer time ts ≡ true → has_timer time (without_timer tag at ts) ≡ true
+has-without : (time tag at : ℕ) (ts : List Timer) → ((tag == 0) && (time == at)) ≡ false → has_timer time ts ≡ true
+    → has_timer time (without_timer tag at ts) ≡ true
 has-without time tag at [] other has = has
 has-without time tag at (u ∷ us) other has =
     elim (is_timer tag at u) as
@@ -89,10 +92,11 @@ has-without time tag at (u ∷ us) other has =
       | true ↦ λ e.
           let not_here : is_timer 0 time u ≡ false = grind (arith, nat_tests) in
           has-without time tag at us other (sym (ap (λ b. b || has_timer time us) not_here) ∙ has)
-      | false ↦ λ e. elim (is_timer 0 time u) as (λ b. (b || has_timer time us) ≡ true → (b || has_timer time (without_timer tag at us)) ≡ true) [
-          | true ↦ λ h. refl
-          | false ↦ λ h. has-without time tag at us other h
-        ] has
+      | false ↦ λ e. elim (is_timer 0 time u) as (λ b. (b || has_timer time us) ≡ true
+          → (b || has_timer time (without_timer tag at us)) ≡ true) [
+            | true ↦ λ h. refl
+            | false ↦ λ h. has-without time tag at us other h
+          ] has
     ] refl
 
 -- each window has a timer
@@ -110,7 +114,8 @@ record-timed size late ws ts item timed =
       | false ↦
           let end : ℕ = window_end size item.stamp in
           let t : Timer = record { tag = 0; time = end; late = item.late } in
-          entered-recursion (λ (w : Window). w.end) (record { end = end; count = 1 }) (λ (w : Window). record w { count = one_more w.count })
+          entered-recursion (λ (w : Window). w.end) (record { end = end; count = 1 })
+          (λ (w : Window). record w { count = one_more w.count })
           (λ (w : Window). has_timer w.end (with_timer t ts) ≡ true) (has-own t ts refl) (λ w p. p) ws
           (each-weaker (λ (w : Window). has_timer w.end ts ≡ true) (λ (w : Window). has_timer w.end (with_timer t ts) ≡ true)
           (λ w p. has-mono w.end t ts p) ws timed)
@@ -122,7 +127,8 @@ closed-timed : (at : ℕ) (ws : List Window) (ts : List Timer) → AreTimed ws t
 closed-timed at [] ts timed = tt
 closed-timed at (w ∷ ws) ts timed =
     elim (w.end == at) as
-    (λ b. (w.end == at) ≡ b → AreTimed (cond (not b) (w ∷ filter (λ (w : Window). not (w.end == at)) ws) (filter (λ (w : Window). not (w.end == at)) ws)) (without_timer 0 at ts)) [
+    (λ b. (w.end == at) ≡ b → AreTimed (cond (not b) (w ∷ filter (λ (w : Window). not (w.end == at)) ws)
+    (filter (λ (w : Window). not (w.end == at)) ws)) (without_timer 0 at ts)) [
       | true ↦ λ e. closed-timed at ws ts timed.1
       | false ↦ λ e. (has-without w.end 0 at ts e timed.0, closed-timed at ws ts timed.1)
     ] refl
@@ -132,12 +138,14 @@ timer-timed : (size : ℕ) (ws : List Window) (ts : List Timer) (timer : Timer) 
     → AreTimed (fold (after_deed size) ws (cond (timer.tag == 0) (fired timer.time ∷ []) [])) (without_timer timer.tag timer.time ts)
 timer-timed size ws ts timer timed =
     elim (timer.tag == 0) as
-    (λ b. (timer.tag == 0) ≡ b → AreTimed (fold (after_deed size) ws (cond b (fired timer.time ∷ []) [])) (without_timer timer.tag timer.time ts)) [
+    (λ b. (timer.tag == 0) ≡ b → AreTimed (fold (after_deed size) ws (cond b (fired timer.time ∷ []) []))
+    (without_timer timer.tag timer.time ts)) [
       | true ↦ λ e.
           let zero_tag : 0 ≡ timer.tag = grind (arith, nat_tests) in
           subst (λ n. AreTimed (filter (λ (w : Window). not (w.end == timer.time)) ws) (without_timer n timer.time ts)) zero_tag
           (closed-timed timer.time ws ts timed)
-      | false ↦ λ e. each-weaker (λ (w : Window). has_timer w.end ts ≡ true) (λ (w : Window). has_timer w.end (without_timer timer.tag timer.time ts) ≡ true)
+      | false ↦ λ e. each-weaker (λ (w : Window). has_timer w.end ts ≡ true)
+          (λ (w : Window). has_timer w.end (without_timer timer.tag timer.time ts) ≡ true)
           (λ w p. has-without w.end timer.tag timer.time ts (ap (λ b. b && (w.end == timer.time)) e) p) ws timed
     ] refl
 
@@ -151,17 +159,20 @@ module _ (case : CaseShape) (name : RowName) (size : ℕ) (kind : kind_of case.t
     timed : AreTimed (windows_after size s.deeds) (row_of shape s.run name).timers
 
   -- with some more deeds
-  more : (s : Told) (entry : Entry) (ds : List Deed) (ts : List Timer) → IsTimed s → MayFollow case s.run entry → deeds_in name s.run entry ≡ ds
+  more : (s : Told) (entry : Entry) (ds : List Deed) (ts : List Timer) → IsTimed s → MayFollow case s.run entry
+      → deeds_in name s.run entry ≡ ds
       → (row_of shape (followed shape s.run entry) name).timers ≡ ts → AreTimed (fold (after_deed size) (windows_after size s.deeds) ds) ts
       → IsTimed (told shape name s entry)
   more s entry ds ts has may does timers timed = record {
     counted = step case name size kind s entry has.counted may;
     timed = subst (λ l. AreTimed l (row_of shape (followed shape s.run entry) name).timers)
         (sym (fold-append (after_deed size) [] s.deeds (deeds_in name s.run entry)))
-        (subst (λ l. AreTimed (fold (after_deed size) (windows_after size s.deeds) l) (row_of shape (followed shape s.run entry) name).timers) (sym does)
+        (subst (λ l. AreTimed (fold (after_deed size) (windows_after size s.deeds) l)
+        (row_of shape (followed shape s.run entry) name).timers) (sym does)
         (subst (λ l. AreTimed (fold (after_deed size) (windows_after size s.deeds) ds) l) (sym timers) timed));
   }
 
+  -- a record is handled
   handles : (s : Told) (seq : ℕ) (id : RecordId) (effects : EffectsView) → IsTimed s → (may : MayHandle case s.run name id effects)
       → IsTimed (told shape name s (Handle seq name id effects))
   handles s seq id effects has may =
@@ -171,32 +182,37 @@ module _ (case : CaseShape) (name : RowName) (size : ℕ) (kind : kind_of case.t
       let item : Record = may.delivery.item in
       let late : ℕ = has.counted.late in
       let does : effects_of_record (kinds.Count size) name.key (row_of shape s.run name).state item ≡ effects =
-          some_same _ effects (sym (ap (option_map (λ k. effects_of_record k name.key (row_of shape s.run name).state item)) kind) ∙ may.does) in
+      some_same _ effects (sym (ap (option_map (λ k. effects_of_record k name.key (row_of shape s.run name).state item)) kind)
+      ∙ may.does) in
       let left : count_record size late ws item ≡ effects =
-          sym (ap (λ st. effects_of_record (kinds.Count size) name.key st item) has.counted.is) ∙ does in
+      sym (ap (λ st. effects_of_record (kinds.Count size) name.key st item) has.counted.is) ∙ does in
       let here : (row_of shape (followed shape s.run entry) name).timers ≡ with_timers effects.timers ts =
-          ap (λ c. c.timers) (row_of-here shape s.run entry name refl) in
+      ap (λ c. c.timers) (row_of-here shape s.run entry name refl) in
       let takes : deeds_in name s.run entry ≡ took item.stamp item.late ∷ [] =
-          ap (λ b. cond b (taken (found_delivery id s.run.unhandled)) []) (tie name) ∙ ap taken may.waits in
+      ap (λ b. cond b (taken (found_delivery id s.run.unhandled)) []) (tie name) ∙ ap taken may.waits in
       more s entry (took item.stamp item.late ∷ []) (with_timers (count_record size late ws item).timers ts) has may takes
       (here ∙ ap (λ (o : EffectsView). with_timers o.timers ts) (sym left)) (record-timed size late ws ts item has.timed)
 
+  -- a timer fires
   fires : (s : Told) (seq : ℕ) (timer : Timer) (mark : ℕ) (effects : EffectsView) → IsTimed s → MayFire case s.run name timer mark effects
       → IsTimed (told shape name s (Fire seq name timer mark effects))
   fires s seq timer mark effects has may =
       let entry : Entry = Fire seq name timer mark effects in
       let ts : List Timer = (row_of shape s.run name).timers in
       let here : (row_of shape (followed shape s.run entry) name).timers ≡ without_timer timer.tag timer.time ts =
-          ap (λ c. c.timers) (row_of-here shape s.run entry name refl) in
+      ap (λ c. c.timers) (row_of-here shape s.run entry name refl) in
       let ds : List Deed = cond (timer.tag == 0) (fired timer.time ∷ []) [] in
       more s entry ds (without_timer timer.tag timer.time ts) has may (ap (λ b. cond b ds []) (tie name)) here
       (timer-timed size (windows_after size s.deeds) ts timer has.timed)
 
+  -- an entry that leaves the row
   same-row : (s : Told) (entry : Entry) → IsTimed s → MayFollow case s.run entry → deeds_in name s.run entry ≡ []
       → (row_of shape (followed shape s.run entry) name).timers ≡ (row_of shape s.run name).timers → IsTimed (told shape name s entry)
   same-row s entry has may does timers = more s entry [] (row_of shape s.run name).timers has may does timers has.timed
 
-  on_row : (s : Told) (entry : Entry) → IsTimed s → MayFollow case s.run entry → row_written entry ≡ Some name → IsTimed (told shape name s entry)
+  -- an entry on the row
+  on_row : (s : Told) (entry : Entry) → IsTimed s → MayFollow case s.run entry → row_written entry ≡ Some name
+      → IsTimed (told shape name s entry)
   on_row s (Claim worker interval) has may here = absurd (none_some name here)
   on_row s (Inject seq part line item) has may here =
       let same : part ≡ name.part = ap (λ (r : RowName). r.part) (some_same _ name here) in
@@ -214,27 +230,32 @@ module _ (case : CaseShape) (name : RowName) (size : ℕ) (kind : kind_of case.t
   on_row s (Purge seq row floor) has may here =
       same-row s (Purge seq row floor) has may refl (ap (λ c. c.timers) (row_of-here shape s.run (Purge seq row floor) name here))
 
+  -- any entry
   timed-step : (s : Told) (entry : Entry) → IsTimed s → MayFollow case s.run entry → IsTimed (told shape name s entry)
   timed-step s entry has may = elim (on_row_or_not entry name) [
     | inl here ↦ on_row s entry has may here
-    | inr apart ↦ same-row s entry has may (deeds-apart name s.run entry apart) (ap (λ c. c.timers) (row_of-elsewhere shape s.run entry name apart))
+    | inr apart ↦ same-row s entry has may (deeds-apart name s.run entry apart)
+        (ap (λ c. c.timers) (row_of-elsewhere shape s.run entry name apart))
   ]
 
+  -- the run is the history's, and each window has a timer
   record Holds (done : List Entry) (run : Run) : Type 0 where
     same : run ≡ (told_of shape name done).run
     is_timed : IsTimed (told_of shape name done)
 
+  -- both with one more entry
   next-holds : (done : List Entry) (run : Run) (entry : Entry) → Holds done run → MayFollow case run entry
       → Holds (done ++ entry ∷ []) (followed shape run entry)
   next-holds done run entry holds may =
       let next : told_of shape name (done ++ entry ∷ []) ≡ told shape name (told_of shape name done) entry =
-          fold-append (told shape name) (record { run = empty_run; deeds = [] }) done (entry ∷ []) in
+      fold-append (told shape name) (record { run = empty_run; deeds = [] }) done (entry ∷ []) in
       let follows : MayFollow case (told_of shape name done).run entry = subst (λ (r : Run). MayFollow case r entry) holds.same may in
       record {
         same = ap (λ (r : Run). followed shape r entry) holds.same ∙ ap (λ (s : Told). s.run) (sym next);
         is_timed = subst IsTimed (sym next) (timed-step (told_of shape name done) entry holds.is_timed follows);
       }
 
+  -- without timers there is no window
   none-timed : (ws : List Window) → AreTimed ws [] → ws ≡ []
   none-timed [] timed = refl
   none-timed (w ∷ ws) timed = absurd (no_false timed.0)
@@ -242,12 +263,13 @@ module _ (case : CaseShape) (name : RowName) (size : ℕ) (kind : kind_of case.t
       no_false : false ≡ true → ⊥
       no_false e = cc
 
+  -- where the row has no timers no window is open
   pub no-window : (history : List Entry) → IsLegal case history → (row_of shape (run_of shape history) name).timers ≡ []
       → windows_after size (deeds_of shape name history) ≡ []
   no-window history legal none =
       let all = along_history case Holds next-holds
-          (record { same = refl; is_timed = record { counted = fresh-counted case name size kind; timed = tt } }) history legal in
+      (record { same = refl; is_timed = record { counted = fresh-counted case name size kind; timed = tt } }) history legal in
       let timers : (row_of shape (told_of shape name history).run name).timers ≡ [] =
-          ap (λ (r : Run). (row_of shape r name).timers) (sym all.same) ∙ none in
+      ap (λ (r : Run). (row_of shape r name).timers) (sym all.same) ∙ none in
       none-timed (windows_after size (deeds_of shape name history))
       (subst (λ ts. AreTimed (windows_after size (deeds_of shape name history)) ts) timers all.is_timed.timed)

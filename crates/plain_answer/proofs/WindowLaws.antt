@@ -3,9 +3,7 @@ use Rattle.std.proofs.Common.{◌≡◌, ℕ, ◌+◌, ◌<◌, ◌≤◌, Bool,
 use Rattle.std.specs.List.{AllByRecursion}
 use Rattle.std.specs.Ordering.{nat_cmp, match_ordering}
 use Rattle.std.specs.declared.cmp.Ordering.TheVariants.{Less, Equal, Greater}
-use Rattle.std.specs.List.Sorted.{IsPermutation}
 use Rattle.std.proofs.lemmas.List.Sums.{sum_by-append}
-use Rattle.std.proofs.lemmas.List.Sorted.{sum_by-IsPermutation}
 use Rattle.std.proofs.lemmas.Bool.{ne_eqb}
 use Rattle.std.proofs.lemmas.Bool.Decides.{nat_tests}
 use Rattle.mw_types.specs.declared.TheConstants.{MAX_STAMP}
@@ -26,6 +24,7 @@ absent end (w ∷ ws) below =
     let other : (w.end == end) ≡ false = grind (arith, nat_tests) in
     ap (λ b. cond b (Some w) (find (λ w. w.end == end) ws)) other ∙ absent end ws below.1
 
+-- what is before the first window is before the others
 below_others : (n : ℕ) (w : Window) (ws : List Window) → n < w.end → AllByRecursion (λ (z : Window). w.end < z.end) ws
     → AllByRecursion (λ (z : Window). n < z.end) ws
 below_others n w [] lt rest = tt
@@ -88,7 +87,8 @@ find-closed : (time end : ℕ) (ws : List Window)
 find-closed time end [] = elim (time == end) as (λ b. ◌≡◌ {A = Option Window} None (cond b None None)) [ true ↦ refl | false ↦ refl ]
 find-closed time end (w ∷ ws) =
     elim (w.end == time) as
-    (λ b. (w.end == time) ≡ b → find (λ w. w.end == end) (cond (not b) (w ∷ filter (λ w. not (w.end == time)) ws) (filter (λ w. not (w.end == time)) ws))
+    (λ b. (w.end == time) ≡ b → find (λ w. w.end == end) (cond (not b) (w ∷ filter (λ w. not (w.end == time)) ws)
+    (filter (λ w. not (w.end == time)) ws))
     ≡ cond (time == end) None (cond (w.end == end) (Some w) (find (λ w. w.end == end) ws))) [
       | true ↦ λ e.
           let same : (w.end == end) ≡ (time == end) = ap (λ n. n == end) (let is : w.end ≡ time = grind (arith, nat_tests) in is) in
@@ -104,7 +104,8 @@ find-closed time end (w ∷ ws) =
           ] refl
     ] refl
   where
-    dropped : (gone here : Bool) (w : Window) (rest : Option Window) → here ≡ gone → cond gone None rest ≡ cond gone None (cond here (Some w) rest)
+    dropped : (gone here : Bool) (w : Window) (rest : Option Window) → here ≡ gone → cond gone None rest
+        ≡ cond gone None (cond here (Some w) rest)
     dropped true here w rest same = refl
     dropped false here w rest same = sym (ap (λ b. cond b (Some w) rest) same)
 
@@ -119,22 +120,27 @@ Ascends-counted end (w ∷ ws) up =
       | Greater ↦ λ e. let lt : w.end < end = grind (arith, nat_tests) in (above w.end end ws lt up.0, Ascends-counted end ws up.1)
     ] refl
   where
-    above : (n end : ℕ) (ws : List Window) → n < end → AllByRecursion (λ (z : Window). n < z.end) ws → AllByRecursion (λ (z : Window). n < z.end) (counted ws end)
+    above : (n end : ℕ) (ws : List Window) → n < end → AllByRecursion (λ (z : Window). n < z.end) ws
+        → AllByRecursion (λ (z : Window). n < z.end) (counted ws end)
     above n end [] lt each = (lt, tt)
     above n end (w ∷ ws) lt each =
         elim (nat_cmp end w.end) as
-        (λ o. AllByRecursion (λ (z : Window). n < z.end) (match_ordering o (with_one end None ∷ w ∷ ws) (more w ∷ ws) (w ∷ counted ws end))) [
+        (λ o. AllByRecursion (λ (z : Window). n < z.end) (match_ordering o (with_one end None ∷ w ∷ ws) (more w ∷ ws)
+        (w ∷ counted ws end))) [
           | Less ↦ (lt, each)
           | Equal ↦ each
           | Greater ↦ (each.0, above n end ws lt each.1)
         ]
 
-each-filter : (n : ℕ) (p : Window → Bool) (ws : List Window) → AllByRecursion (λ (z : Window). n < z.end) ws → AllByRecursion (λ (z : Window). n < z.end) (filter p ws)
+-- what is above a number is above it where some are left out
+each-filter : (n : ℕ) (p : Window → Bool) (ws : List Window) → AllByRecursion (λ (z : Window). n < z.end) ws
+    → AllByRecursion (λ (z : Window). n < z.end) (filter p ws)
 each-filter n p [] each = tt
 each-filter n p (w ∷ ws) each =
     elim (p w) as (λ b. AllByRecursion (λ (z : Window). n < z.end) (cond b (w ∷ filter p ws) (filter p ws)))
     [ true ↦ (each.0, each-filter n p ws each.1) | false ↦ each-filter n p ws each.1 ]
 
+-- windows ascend where some are left out
 Ascends-filter : (p : Window → Bool) (ws : List Window) → Ascends ws → Ascends (filter p ws)
 Ascends-filter p [] up = tt
 Ascends-filter p (w ∷ ws) up =
@@ -185,6 +191,7 @@ with_one-opened end takes few =
           ap (open_at end) room ∙ sym (ap (λ b. cond b None (open_at end (takes + 1))) some)
     ] refl
 
+-- with one more deed
 pub HasWindows-next : (size : ℕ) (done : List Deed) (ws : List Window) (d : Deed) → length done < MAX_STAMP → IsTimely size done d
     → HasWindows size done ws → HasWindows size (done ++ d ∷ []) (after_deed size ws d)
 HasWindows-next size done ws (took stamp true) few timely has = record {
@@ -194,8 +201,10 @@ HasWindows-next size done ws (took stamp true) few timely has = record {
   where
     rest : (end : ℕ) → open_window size end (done ++ took stamp true ∷ []) ≡ open_window size end done
     rest end =
-        let t : taken_into size end (done ++ took stamp true ∷ []) ≡ taken_into size end done = sum-snoc (takes_into size end) done (took stamp true) ∙ omega arith in
-        let f : fired_at end (done ++ took stamp true ∷ []) ≡ fired_at end done = sum-snoc (fires_at end) done (took stamp true) ∙ omega arith in
+        let t : taken_into size end (done ++ took stamp true ∷ [])
+        ≡ taken_into size end done = sum-snoc (takes_into size end) done (took stamp true) ∙ omega arith in
+        let f : fired_at end (done ++ took stamp true ∷ []) ≡ fired_at end done = sum-snoc (fires_at end) done (took stamp true)
+        ∙ omega arith in
         ap (λ n. opened end n (taken_into size end (done ++ took stamp true ∷ []))) f ∙ ap (opened end (fired_at end done)) t
 HasWindows-next size done ws (took stamp false) few timely has = record {
   ascending = Ascends-counted end ws has.ascending;
@@ -217,7 +226,7 @@ HasWindows-next size done ws (took stamp false) few timely has = record {
               subst (λ o. find (λ w. w.end == o) (counted ws end) ≡ open_window size o (done ++ d ∷ [])) same here
           | false ↦ λ e.
               let t : taken_into size other (done ++ d ∷ []) ≡ taken_into size other done =
-                  sum-snoc (takes_into size other) done d ∙ ap (λ b. taken_into size other done + cond b 1 0) e ∙ omega arith in
+              sum-snoc (takes_into size other) done d ∙ ap (λ b. taken_into size other done + cond b 1 0) e ∙ omega arith in
               let f : fired_at other (done ++ d ∷ []) ≡ fired_at other done = sum-snoc (fires_at other) done d ∙ omega arith in
               find-counted-other end other ws e ∙ has.each other
               ∙ sym (ap (λ n. opened other n (taken_into size other (done ++ d ∷ []))) f ∙ ap (opened other (fired_at other done)) t)
@@ -227,7 +236,7 @@ HasWindows-next size done ws (took stamp false) few timely has = record {
         here =
             let same : (end == end) ≡ true = grind (arith, nat_tests) in
             let t : taken_into size end (done ++ d ∷ []) ≡ taken_into size end done + 1 =
-                sum-snoc (takes_into size end) done d ∙ ap (λ b. taken_into size end done + cond b 1 0) same in
+            sum-snoc (takes_into size end) done d ∙ ap (λ b. taken_into size end done + cond b 1 0) same in
             let f : fired_at end (done ++ d ∷ []) ≡ 0 = sum-snoc (fires_at end) done d ∙ omega (arith, timely) in
             let few_taken : taken_into size end done < MAX_STAMP = omega (arith, few, sum-few size end done) in
             find-counted end ws has.ascending
@@ -241,8 +250,10 @@ HasWindows-next size done ws (fired time) few timely has = record {
   where
     closed : (end : ℕ) → cond (time == end) None (find (λ w. w.end == end) ws) ≡ open_window size end (done ++ fired time ∷ [])
     closed end =
-        let t : taken_into size end (done ++ fired time ∷ []) ≡ taken_into size end done = sum-snoc (takes_into size end) done (fired time) ∙ omega arith in
-        let f : fired_at end (done ++ fired time ∷ []) ≡ fired_at end done + cond (time == end) 1 0 = sum-snoc (fires_at end) done (fired time) in
+        let t : taken_into size end (done ++ fired time ∷ [])
+        ≡ taken_into size end done = sum-snoc (takes_into size end) done (fired time) ∙ omega arith in
+        let f : fired_at end (done ++ fired time ∷ [])
+        ≡ fired_at end done + cond (time == end) 1 0 = sum-snoc (fires_at end) done (fired time) in
         elim (time == end) as
         (λ b. fired_at end (done ++ fired time ∷ []) ≡ fired_at end done + cond b 1 0
         → cond b None (find (λ w. w.end == end) ws) ≡ open_window size end (done ++ fired time ∷ [])) [
@@ -252,12 +263,6 @@ HasWindows-next size done ws (fired time) few timely has = record {
               (Some (record { end = end; count = taken_into size end (done ++ fired time ∷ []) }))) None) some)
           | false ↦ λ g.
               let h : fired_at end (done ++ fired time ∷ []) ≡ fired_at end done = g ∙ omega arith in
-              has.each end ∙ sym (ap (λ n. opened end n (taken_into size end (done ++ fired time ∷ []))) h ∙ ap (opened end (fired_at end done)) t)
+              has.each end ∙ sym (ap (λ n. opened end n (taken_into size end (done ++ fired time ∷ []))) h
+              ∙ ap (opened end (fired_at end done)) t)
         ] f
-
-pub open-any_order : (size : ℕ) (one other : List Deed) → IsPermutation one other → (end : ℕ)
-    → open_window size end one ≡ open_window size end other
-open-any_order size one other moved end =
-    let f = sum_by-IsPermutation (fires_at end) one other moved in
-    let t = sum_by-IsPermutation (takes_into size end) one other moved in
-    sym (ap (λ n. opened end n (taken_into size end other)) f ∙ ap (opened end (fired_at end one)) t)

@@ -1,4 +1,5 @@
--- What a row takes and fires in a history, and the windows that this makes of no window. Own.
+-- What a row takes and fires in a history, and the windows that this makes of no window.
+-- No clause of another crate cites this module. Own.
 use Rattle.std.specs.Prelude.{◌≡◌, ℕ, pos, Bool, true, false, not, ◌==◌, if◌then◌else◌, List, [], ◌∷◌, ◌++◌, filter, fold, sum_by, Option, None, Some}
 use Rattle.std.specs.BTreeMap.{is_at}
 use Rattle.mw_types.specs.declared.state.Window.{Window}
@@ -50,7 +51,8 @@ fired_at end deeds = sum_by (fires_at end) deeds
 -- the window that is open there after these deeds, in whatever order they came
 abbrev pub open_window : ℕ → ℕ → List Deed → Option Window
 open_window size end deeds = if fired_at end deeds == 0
-    then (if taken_into size end deeds == 0 then None else Some (record { end = end; count = taken_into size end deeds }))
+    then (if taken_into size end deeds == 0 then None
+    else Some (record { end = end; count = taken_into size end deeds }))
     else None
 
 -- nothing in time is taken into a window that fired: what comes after these deeds keeps that
@@ -66,7 +68,8 @@ taken (Some d) = took d.item.stamp d.item.late ∷ []
 
 -- what an entry does on a row, by what waits before it
 abbrev pub deeds_in : RowName → Run → Entry → List Deed
-deeds_in name run (Handle seq row id effects) = if is_at (row_cmp name) row then taken (found_delivery id run.unhandled) else []
+deeds_in name run (Handle seq row id effects) =
+    if is_at (row_cmp name) row then taken (found_delivery id run.unhandled) else []
 deeds_in name run (Fire seq row timer mark effects) =
     if is_at (row_cmp name) row then (if timer.tag == 0 then fired timer.time ∷ [] else []) else []
 deeds_in name run _ = []
@@ -78,7 +81,8 @@ pub record Told : Type 0 where
 
 -- with one more entry
 abbrev pub told : Shape → RowName → Told → Entry → Told
-told shape name s entry = record { run = followed shape s.run entry; deeds = s.deeds ++ deeds_in name s.run entry }
+told shape name s entry =
+    record { run = followed shape s.run entry; deeds = s.deeds ++ deeds_in name s.run entry }
 
 -- of a whole history
 abbrev pub told_of : Shape → RowName → List Entry → Told

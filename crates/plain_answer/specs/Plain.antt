@@ -1,6 +1,7 @@
--- The plain count of a case: what each stream has, worked out from the records of the files alone, with no history, timers or
--- watermarks, and the text that this makes. It cites no word of what handlers do. Own.
--- Streams stand in the order of their parts, injectors first. A member that is late is in no window and at no place.
+-- The plain count of a case: what each stream has, worked out from the records of the files alone, with no
+-- history, timers or watermarks, and the text that this makes. It cites no word of what handlers do. Own.
+-- Streams stand in the order of their parts, injectors first. A member that is late is in no window and at
+-- no place.
 use Rattle.std.specs.Prelude.{◌≡◌, ℕ, ◌+◌, ◌-◌, ◌%◌, ◌==◌, ◌&&◌, not, nat_le, nat_eq, Bool, if◌then◌else◌, false, List, [], ◌∷◌, ◌++◌, length, map, filter, fold, drop, count_by, sum_by, codes}
 use Rattle.std.specs.Prelude.{ℤ, pos, ◌+ℤ◌, ◌*ℤ◌, int_lt}
 use Rattle.std.specs.Int.{int_max}
@@ -25,15 +26,18 @@ use Rattle.serde_json.specs.Data.{Data, object, member, no_members, number, unsi
 abbrev pub Keyed : Type 0
 Keyed = List ℕ × Record
 
--- the members that are sent on to a part by the streams so far: each member once for each subscription to its stream
+-- the members that are sent on to a part by the streams so far: each member once for each subscription to
+-- its stream
 abbrev pub members_read : Shape → List (List Record) → ℕ → List Keyed
 members_read shape streams part = map (λ (r : RowName × Record). (r.0.key, r.1))
     (filter (λ (r : RowName × Record). r.0.part == part)
-    (flat_map (λ (s : ℕ × List Record). flat_map (sends_of (consumers_of shape s.0)) s.1) (enumerate_from 0 streams)))
+    (flat_map (λ (s : ℕ × List Record). flat_map (sends_of (consumers_of shape s.0)) s.1)
+    (enumerate_from 0 streams)))
 
 -- what a row of this key reads that is in time
 abbrev pub row_members : List ℕ → List Keyed → List Record
-row_members key reads = map (λ (r : Keyed). r.1) (filter (λ (r : Keyed). pointwise nat_eq key r.0 && not r.1.late) reads)
+row_members key reads = map (λ (r : Keyed). r.1)
+    (filter (λ (r : Keyed). pointwise nat_eq key r.0 && not r.1.late) reads)
 
 -- what a test tells apart, once each
 abbrev pub once_each : {X : Type 0} → (X → X → Bool) → List X → List X
@@ -52,31 +56,37 @@ plain_end size stamp = stamp - stamp % size + size
 -- the windows of a row: each end of a record's window, with how many records' windows end there
 abbrev pub windows_in : ℕ → List ℕ → List Record → List Record
 windows_in size key items = map (λ end. record {
-      key = key;
-      stamp = end;
-      value = pos (count_by (λ (r : Record). plain_end size r.stamp == end) items);
-      late = false;
-    })
+  key = key;
+  stamp = end;
+  value = pos (count_by (λ (r : Record). plain_end size r.stamp == end) items);
+  late = false;
+})
     (once_each nat_eq (map (λ (r : Record). plain_end size r.stamp) items))
 
--- places with one more: a timestamp that is there stays once, with the greater of the values
-abbrev pub with_place : List (ℕ × ℤ) → ℕ × ℤ → List (ℕ × ℤ)
-with_place places place =
-    put_in (λ (new old : ℕ × ℤ). nat_cmp new.0 old.0) (λ (new old : ℕ × ℤ). (old.0, int_max old.1 new.1)) place places
+-- numbers, once each, ascending
+abbrev pub ascending : List ℕ → List ℕ
+ascending numbers = fold (λ found n. put_in nat_cmp (λ new old. old) n found) [] numbers
 
--- the place of a record: its timestamp, with its value
-abbrev pub place_of : Record → ℕ × ℤ
-place_of r = (r.stamp, r.value)
+-- the greatest of the values, and of this one
+abbrev pub greatest_of : ℤ → List Record → ℤ
+greatest_of value items = fold (λ most (r : Record). int_max most r.value) value items
+
+-- the greatest value among some records
+abbrev pub greatest : List Record → ℤ
+greatest [] = pos 0
+greatest (r ∷ rs) = greatest_of r.value rs
 
 -- the places of a row: each timestamp of a record, ascending, with the greatest value at it
 abbrev pub places_in : List Record → List (ℕ × ℤ)
-places_in items = fold with_place [] (map place_of items)
+places_in items = map (λ stamp. (stamp, greatest (filter (λ (r : Record). r.stamp == stamp) items)))
+    (ascending (map (λ (r : Record). r.stamp) items))
 
 -- the sum of the last so many values
 abbrev pub sum_of_last : ℕ → List ℤ → ℤ
 sum_of_last last values = fold (λ sum x. sum +ℤ x) (pos 0) (drop (length values - last) values)
 
--- a value is a spike where so many values stand before it, and the factor times their sum is below the value times their number
+-- a value is a spike where so many values stand before it, and the factor times the sum of the last so many
+-- is below the value times their number
 abbrev pub spike_at : ℕ → ℕ → List ℕ → List ℤ → ℕ → ℤ → List Record
 spike_at last times key before stamp value =
     if nat_le last (length before) && int_lt (pos times *ℤ sum_of_last last before) (value *ℤ pos last)
@@ -91,14 +101,18 @@ spikes_in last times key before ((stamp, value) ∷ places) =
 
 -- what a part of a kind gives of what it reads: a pass gives each member again
 abbrev pub plain_of : Kind → List Keyed → List Record
-plain_of (Count size) reads = flat_map (λ key. windows_in size key (row_members key reads)) (row_keys reads)
-plain_of (Spike last times) reads = flat_map (λ key. spikes_in last times key [] (places_in (row_members key reads))) (row_keys reads)
+plain_of (Count size) reads =
+    flat_map (λ key. windows_in size key (row_members key reads)) (row_keys reads)
+plain_of (Spike last times) reads =
+    flat_map (λ key. spikes_in last times key [] (places_in (row_members key reads))) (row_keys reads)
 plain_of Pass reads = map (λ (r : Keyed). r.1) reads
 
 -- how often a part of a kind fires a timer: once a window, once a place
 abbrev pub fires_of : Kind → List Keyed → ℕ
-fires_of (Count size) reads = sum_by (λ key. length (windows_in size key (row_members key reads))) (row_keys reads)
-fires_of (Spike last times) reads = sum_by (λ key. length (places_in (row_members key reads))) (row_keys reads)
+fires_of (Count size) reads =
+    sum_by (λ key. length (windows_in size key (row_members key reads))) (row_keys reads)
+fires_of (Spike last times) reads =
+    sum_by (λ key. length (places_in (row_members key reads))) (row_keys reads)
 fires_of Pass reads = 0
 
 -- the sources of the injectors, in their order
@@ -121,7 +135,8 @@ plain_streams case = streams_with case.topology (map injected_of (sources_of cas
 
 -- what the computations read, each with its kind
 abbrev pub plain_members : CaseShape → List (Kind × List Keyed)
-plain_members case = map (λ (c : ℕ × ComputationShape). (c.1.kind, members_read case.topology (plain_streams case) c.0))
+plain_members case = map
+    (λ (c : ℕ × ComputationShape). (c.1.kind, members_read case.topology (plain_streams case) c.0))
     (enumerate_from (injectors_of case.topology) case.topology.computations)
 
 -- how many timers fire, and how many records are handled
@@ -136,7 +151,8 @@ abbrev pub injected_count : CaseShape → ℕ
 injected_count case = sum_by (λ (source : Source). length source) (sources_of case)
 
 abbrev pub late_count : CaseShape → ℕ
-late_count case = sum_by (λ (source : Source). count_by (λ (l : SourceLine). l.item.late) source) (sources_of case)
+late_count case =
+    sum_by (λ (source : Source). count_by (λ (l : SourceLine). l.item.late) source) (sources_of case)
 
 -- ---- the text
 
@@ -163,7 +179,8 @@ plain_summary case = object
     (member (codes "injected") (number (unsigned (injected_count case)))
     (member (codes "late") (number (unsigned (late_count case))) no_members))))
 
--- the text is the plain count of the case: the lines of the streams that nothing reads, sorted, and the summary line
+-- the text is the plain count of the case: the lines of the streams that nothing reads, sorted, and the
+-- summary line
 pub record IsPlainText (case : CaseShape) (text : List ℕ) : Type 0 where
   pub lines : List ResultLine
   pub each_once : IsPermutation (plain_lines case) lines

@@ -2,13 +2,23 @@
 //!
 //! The definition cites no history, no handler, no timer and no watermark: a stream has what its
 //! injector's file has, or what its computation makes of all that it reads at once. Stands on
-//! `history_laws`. Public contract: the result text of every legal and finished history of a case is
-//! the plain count of the case, in whatever order its entries came. Definition: `specs/Plain.antt`,
-//! which is to be read from the top; no clause of another crate cites the other files of `specs/`.
+//! `history_laws`. Public contract: the result text of every legal and finished history of a case
+//! is the plain count of the case, in whatever order its entries came, so that two such histories
+//! of a case have one text; `windows_of` computes what a count gives. Definitions:
+//! `specs/Plain.antt`, which is to be read from the top, `specs/Ends.antt`, when a run is at its
+//! end, and `specs/Rows.antt`, with cases that were worked by hand; no public clause cites the
+//! other files of `specs/`.
 #![tactic(auto)]
 
 mod examples;
 mod law;
+mod windows;
 
-pub use examples::{one_count_counts_plainly, totals_are_spikes_by_those_before};
-pub use law::results_are_the_plain_count;
+pub use examples::{
+    a_late_record_counts_as_late, a_window_far_above_is_a_spike, the_greatest_total_stands,
+    two_readings_are_two_members, two_windows_are_counted,
+};
+pub use law::{
+    a_case_has_one_plain_text, finished_runs_write_one_text, results_are_the_plain_count,
+};
+pub use windows::windows_of;
