@@ -12,6 +12,7 @@
 
 mod examples;
 mod law;
+mod text;
 mod windows;
 
 pub use examples::{
@@ -21,4 +22,5 @@ pub use examples::{
 pub use law::{
     a_case_has_one_plain_text, finished_runs_write_one_text, results_are_the_plain_count,
 };
+pub use text::plain_text;
 pub use windows::windows_of;
