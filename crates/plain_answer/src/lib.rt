@@ -16,6 +16,8 @@ mod line;
 mod sends;
 mod spikes;
 mod streams;
+mod summary;
+mod text;
 mod windows;
 
 pub use examples::{
@@ -25,4 +27,5 @@ pub use examples::{
 pub use law::{
     a_case_has_one_plain_text, finished_runs_write_one_text, results_are_the_plain_count,
 };
+pub use text::plain_text;
 pub use windows::windows_of;
