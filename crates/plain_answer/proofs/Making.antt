@@ -1,6 +1,6 @@
 -- The streams that are worked out part by part are the plain ones, each in some order.
 use Rattle.std.proofs.Common.{◌≡◌, ℕ, zero, suc, ◌+◌, ◌-◌, ◌<◌, ◌≤◌, ◌==◌, List, [], ◌∷◌, ◌++◌, length, map, drop, take, refl, sym, ◌∙◌, ap, subst, arith, length-append, get_or, sum_by, Some}
-use Rattle.std.specs.Prelude.{slice_get, unwrap_or, nat_lt, Option, None, false, cond}
+use Rattle.std.specs.Prelude.{slice_get, unwrap_or, nat_lt, None, false, cond}
 use Rattle.std.specs.Option.{option_map}
 use Rattle.std.proofs.lemmas.Bool.Decides.{nat_tests}
 use Rattle.std.specs.List.{range_with_len}

@@ -1,5 +1,5 @@
 //! The numbers of the plain text's last line.
-ghost use Rattle.std.specs.Prelude.{◌≡◌, ◌+◌, ◌<◌, ◌≤◌, [], length, count_by, take, false, string_bytes, IfOk, OnOk};
+ghost use Rattle.std.specs.Prelude.{◌≡◌, ◌+◌, ◌<◌, [], length, count_by, take, false, string_bytes, IfOk, OnOk};
 ghost use Rattle.injector.specs.Sources.{SourceLine};
 ghost use Rattle.mw_types.specs.Kinds.{IsKind};
 ghost use Rattle.run_history.specs.Texts.{as_line};

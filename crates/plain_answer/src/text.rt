@@ -5,10 +5,8 @@ ghost use Rattle.std.specs.List.Sorted.{IsPermutation, IsSorted};
 ghost use Rattle.topology.specs.declared.subscription.Subscription.{Subscription};
 ghost use Rattle.topology.specs.Shapes.{consumers_of, parts_of, stream_of};
 ghost use Rattle.run_history.specs.Texts.{line_cmp, line_data, as_line};
-ghost use Rattle.serde_json.specs.Written.{has_float};
-ghost use Rattle.serde_json.specs.View.{view};
-ghost use Rattle.plain_answer.specs.Plain.{lines_unread, plain_line, plain_lines, plain_summary, IsPlainText};
-ghost use Rattle.plain_answer.specs.Sends.{lines_in, ArePlain, AreRead};
+ghost use Rattle.plain_answer.specs.Plain.{lines_unread, plain_line, plain_lines, IsPlainText};
+ghost use Rattle.plain_answer.specs.Sends.{lines_in, ArePlain};
 
 use crate::line::ResultLine;
 use crate::streams::all_streams;

@@ -1,10 +1,8 @@
-use Rattle.std.proofs.Common.{rules, ◌≡◌, ◌+◌, ◌<◌, ◌∙◌, ap, sym, length, arith}
-use Rattle.topology.specs.Shapes.{injectors_of, kind_of, parts_of}
+use Rattle.std.proofs.Common.{◌≡◌, ◌+◌, ◌<◌, ◌∙◌, ap, length, arith}
+use Rattle.topology.specs.Shapes.{injectors_of, parts_of}
 use Rattle.run_history.specs.Cases.{CaseShape}
-use Rattle.plain_answer.specs.Plain.{fires_of}
 use Rattle.plain_answer.proofs.Making.{at-any}
-use Rattle.plain_answer.proofs.Moved.{fires_of-same}
-use Rattle.plain_answer.proofs.Working.{members_long, work_left, work-all, work-next, long-next}
+use Rattle.plain_answer.proofs.Working.{members_long, work_left, work-all, long-next}
 use Rattle.plain_answer.proofs.summary.handled.Goals as goal
 
 -- all parts are left

@@ -1,6 +1,6 @@
-use Rattle.std.proofs.Common.{rules, ◌∙◌, ap, arith, length, count_by, sum_by}
+use Rattle.std.proofs.Common.{◌∙◌, ap, arith, length, sum_by}
 use Rattle.std.proofs.lemmas.List.{take_all}
-use Rattle.injector.specs.Sources.{Source, SourceLine}
+use Rattle.injector.specs.Sources.{Source}
 use Rattle.plain_answer.proofs.Working.{sources-here}
 use Rattle.plain_answer.proofs.summary.injected_number.Goals as goal
 

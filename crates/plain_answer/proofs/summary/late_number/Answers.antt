@@ -1,4 +1,4 @@
-use Rattle.std.proofs.Common.{rules, ◌∙◌, ap, arith, length, count_by, sum_by}
+use Rattle.std.proofs.Common.{◌∙◌, ap, arith, count_by, sum_by}
 use Rattle.std.proofs.lemmas.List.{take_all}
 use Rattle.injector.specs.Sources.{Source, SourceLine}
 use Rattle.plain_answer.proofs.Working.{sources-here}
