@@ -1,5 +1,5 @@
 -- Which command the words of a command line are. Own.
-use Rattle.std.specs.Prelude.{ℕ, ◌^◌, ◌-◌, ◌+◌, ◌||◌, Bool, if◌then◌else◌, List, [], ◌∷◌, codes, Option, Some, None, is_some}
+use Rattle.std.specs.Prelude.{ℕ, ◌^◌, ◌-◌, ◌+◌, ◌||◌, Bool, false, if◌then◌else◌, List, [], ◌∷◌, codes, Option, Some, None, is_some}
 use Rattle.std.specs.Option.{option_map, option_and_then}
 use Rattle.text_lines.specs.Words.{both, is_word}
 use Rattle.text_lines.specs.Numbers.{between}
@@ -7,7 +7,7 @@ use Rattle.text_lines.specs.declared.TheConstants.{LINES_MAX}
 use Rattle.command_line.specs.Words.{line_of}
 use Rattle.command_line.specs.declared.command.Inputs.{Inputs}
 use Rattle.command_line.specs.declared.command.Call.{Call}
-use Rattle.command_line.specs.declared.command.Call.TheVariants.{Solo, Replay, Load}
+use Rattle.command_line.specs.declared.command.Call.TheVariants.{Solo, Replay, Plain, Load}
 use Rattle.command_line.specs.declared.command.Command.{Command}
 use Rattle.command_line.specs.declared.line.Line.{Line}
 
@@ -42,6 +42,10 @@ replay_of args line = if has_rounds line then None else both Replay line.plan (i
 abbrev pub has_options : Line → Bool
 has_options line = has_rounds line || (is_some line.plan || (is_some line.keep || line.history))
 
+-- `plain TOPOLOGY EVENTS..`, which takes no option and no flag
+abbrev pub plain_of : List (List ℕ) → Line → Option Call
+plain_of args line = if has_options line then None else option_map Plain (inputs_of args false)
+
 -- `load SEED LINES`, which takes no option and no flag
 abbrev pub load_of : List (List ℕ) → Line → Option Call
 load_of (seed ∷ (lines ∷ [])) line = if has_options line then None
@@ -52,6 +56,7 @@ load_of _ line = None
 abbrev pub call_with : List ℕ → List (List ℕ) → Line → Option Call
 call_with mode args line = if is_word mode (codes "solo") then solo_of args line
     else if is_word mode (codes "replay") then replay_of args line
+    else if is_word mode (codes "plain") then plain_of args line
     else if is_word mode (codes "load") then load_of args line
     else None
 

@@ -28,6 +28,11 @@ pub enum Call {
         /// What it reads.
         inputs: Inputs,
     },
+    /// The files are counted at once, without a run.
+    Plain {
+        /// What it reads. It has no history, so none of its lines are wanted.
+        inputs: Inputs,
+    },
     /// An input of this size is made from a seed and worked off.
     Load {
         /// The seed.

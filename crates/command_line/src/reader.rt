@@ -1,6 +1,6 @@
 //! The command that the words are.
 ghost use Rattle.std.specs.Prelude.{◌≡◌, ◌∷◌, [], Err, IfOk, MatchOption, None, Some};
-ghost use Rattle.command_line.specs.Grammar.{call_of, call_with, command_from, command_of, has_options, has_rounds, inputs_of, load_of, replay_of, solo_of};
+ghost use Rattle.command_line.specs.Grammar.{call_of, call_with, command_from, command_of, has_options, has_rounds, inputs_of, load_of, plain_of, replay_of, solo_of};
 
 use crate::command::{Call, Command, Inputs};
 use crate::line::{Line, line_of};
@@ -79,6 +79,16 @@ impl Line {
         Some(Call::Replay { plan, inputs })
     }
 
+    // The call of mode plain.
+    fn plain(&self, args: Seq<Name>) -> Option<Call>
+        ensures call { result ≡ plain_of args self.now }
+    {
+        match inputs_of(args, false) {
+            Some(inputs) if !self.has_options() => Some(Call::Plain { inputs }),
+            _ => None,
+        }
+    }
+
     // The call of mode load.
     fn load(&self, args: &[Name]) -> Option<Call>
         ensures call { result ≡ load_of args.now self.now }
@@ -103,6 +113,8 @@ impl Line {
             self.solo(args)
         } else if mode == "replay" {
             self.replay(args)
+        } else if mode == "plain" {
+            self.plain(args)
         } else if mode == "load" {
             self.load(args.as_slice())
         } else {

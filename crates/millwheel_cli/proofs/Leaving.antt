@@ -1,12 +1,22 @@
 -- What a run leaves, or where none was begun, is what the status leaves.
-use Rattle.std.proofs.Common.{◌≡◌, ℕ, List, length, Option, Some, None, IfSome, refl, inl, inr, sym, subst, arith}
+use Rattle.std.specs.Prelude.{⊤}
+use Rattle.std.proofs.Common.{◌≡◌, ◌≤◌, ◌^◌, ℕ, List, length, Option, Some, None, IfSome, refl, inl, inr, sym, subst, arith}
 use Rattle.mw_types.specs.declared.identity.RowName.{RowName}
 use Rattle.mw_types.specs.declared.entry.Entry.{Entry}
+use Rattle.command_line.specs.declared.command.Call.{Call}
+use Rattle.command_line.specs.declared.command.Call.TheVariants.{Solo, Replay, Plain, Load}
 use Rattle.command_line.specs.declared.command.Command.{Command}
 use Rattle.command_line.specs.declared.refusal.WordsRefusal.{WordsRefusal}
 use Rattle.command_line.specs.declared.refusal.WordsRefusal.TheVariants as refusals
 use Rattle.mw_ports.specs.Shelves.{Files}
 use Rattle.row_keeper.specs.Rows.{Rows}
+use Rattle.run_history.specs.Cases.{CaseShape}
+use Rattle.run_history.specs.Runs.{run_of}
+use Rattle.run_history.specs.Finished.{IsFinished}
+use Rattle.run_history.specs.Inputs.{IsRunnable}
+use Rattle.run_history.specs.Texts.{IsResultText}
+use Rattle.plain_answer.specs.Plain.{IsPlainText}
+use Rattle.plain_answer.specs.Ends.{IsFinishedRun}
 use Rattle.book.specs.Answers.{IsNotEmpty}
 use Rattle.world.specs.Replays.{IsWholeReplay}
 use Rattle.book.specs.Claims.{IsDamagedRow}
@@ -17,14 +27,16 @@ use Rattle.node.specs.declared.outcome.NodeFault.TheVariants as faults
 use Rattle.millwheel_cli.specs.declared.status.Status.{Status}
 use Rattle.millwheel_cli.specs.declared.status.Status.TheVariants as status
 use Rattle.millwheel_cli.specs.declared.task.Task.{Task}
+use Rattle.millwheel_cli.specs.declared.task.Wanted.{Wanted}
+use Rattle.millwheel_cli.specs.declared.task.Wanted.TheVariants.{ResultAlone, HistoryFirst, SummaryAlone}
 use Rattle.millwheel_cli.specs.declared.refusal.Refusal.{Refusal}
 use Rattle.millwheel_cli.specs.declared.refusal.Refusal.TheVariants.{NoFile, TopologyRefused, EventsRefused, PlanRefused, NoMemory, ReadFault, TooLong, FileCount}
 use Rattle.millwheel_cli.specs.Limits.{history_limit}
 use Rattle.command_line.specs.Grammar.{command_of}
 use Rattle.millwheel_cli.specs.Tasks.{IsTask}
 use Rattle.millwheel_cli.specs.Reasons.{ShelfSeen, HasReason}
-use Rattle.millwheel_cli.specs.Answers.{Left, IsUnbegun, IsRun, IsShortOf, IsWholeRun, RunLeaves, HasRun, HasLeft}
-use Rattle.millwheel_cli.specs.Inside.{HasText, status_of, of_words, of_start, of_drain}
+use Rattle.millwheel_cli.specs.Answers.{Left, IsUnbegun, IsUnrun, IsRun, IsKeptRun, IsShortOf, IsWholeRun, IsWholeText, IsPlainWhole, RunLeaves, CountLeaves, CallLeaves, HasRun, HasLeft}
+use Rattle.millwheel_cli.specs.Inside.{HasText, HasPlain, status_of, of_words, of_start, of_drain}
 
 -- where no run was begun, nothing is left with a refusal of the files
 pub left_of_refusal : (files : Option Files) (words : List (List ℕ)) (left : Left) (refusal : Refusal) → IsUnbegun left
@@ -38,61 +50,153 @@ left_of_refusal files words left (ReadFault name) is = is
 left_of_refusal files words left (TooLong name) is = is
 left_of_refusal files words left (FileCount n m) is = is
 
--- what the run of a task leaves is what the status leaves
-ran : (files : Option Files) (words : List (List ℕ)) (command : Command) (task : Task) (left : Left) (s : Status)
-    → command_of words ≡ Some command → IsTask files command.call task → RunLeaves task left s → HasRun files words left s
-ran files words command task left s named asked leaves = record { command = command; named = named; task = task; asked = asked; leaves = leaves }
+-- a status that may come once the files are read
+abbrev pub MayEnd : Status → Type 0
+MayEnd status.Ok = ⊤
+MayEnd status.KeeperFault = ⊤
+MayEnd status.SinkFault = ⊤
+MayEnd status.NoMemory = ⊤
+MayEnd (status.NotEmpty name bytes) = ⊤
+MayEnd status.HistoryFull = ⊤
+MayEnd (status.RowDamaged name bytes) = ⊤
+MayEnd _ = ⊥
 
--- so it is with each status that may come then
-pub left_of_run : (files : Option Files) (words : List (List ℕ)) (command : Command) (task : Task) (left : Left) (s : Status)
-    → command_of words ≡ Some command → IsTask files command.call task → RunLeaves task left s → HasLeft files words left s
-left_of_run files words command task left status.Ok named asked leaves = ran files words command task left _ named asked leaves
-left_of_run files words command task left status.Usage named asked leaves = absurd leaves
-left_of_run files words command task left (status.NoFile n) named asked leaves = absurd leaves
-left_of_run files words command task left (status.TopologyRefused why) named asked leaves = absurd leaves
-left_of_run files words command task left (status.EventsRefused file line why) named asked leaves = absurd leaves
-left_of_run files words command task left (status.PlanRefused line) named asked leaves = absurd leaves
-left_of_run files words command task left status.KeeperFault named asked leaves = ran files words command task left _ named asked leaves
-left_of_run files words command task left status.SinkFault named asked leaves = ran files words command task left _ named asked leaves
-left_of_run files words command task left status.NoMemory named asked leaves = inl (ran files words command task left _ named asked leaves)
-left_of_run files words command task left (status.NotEmpty name bytes) named asked leaves = ran files words command task left _ named asked leaves
-left_of_run files words command task left status.HistoryFull named asked leaves = ran files words command task left _ named asked leaves
-left_of_run files words command task left (status.RowDamaged name bytes) named asked leaves = ran files words command task left _ named asked leaves
-left_of_run files words command task left (status.ReadFault n) named asked leaves = absurd leaves
-left_of_run files words command task left (status.TooLong n) named asked leaves = absurd leaves
-left_of_run files words command task left (status.FileCount n m) named asked leaves = absurd leaves
+-- each status of a run is one
+run_ends : (task : Task) (left : Left) (s : Status) → RunLeaves task left s → MayEnd s
+run_ends task left status.Ok leaves = tt
+run_ends task left status.Usage leaves = absurd leaves
+run_ends task left (status.NoFile n) leaves = absurd leaves
+run_ends task left (status.TopologyRefused why) leaves = absurd leaves
+run_ends task left (status.EventsRefused file line why) leaves = absurd leaves
+run_ends task left (status.PlanRefused line) leaves = absurd leaves
+run_ends task left status.KeeperFault leaves = tt
+run_ends task left status.SinkFault leaves = tt
+run_ends task left status.NoMemory leaves = tt
+run_ends task left (status.NotEmpty name bytes) leaves = tt
+run_ends task left status.HistoryFull leaves = tt
+run_ends task left (status.RowDamaged name bytes) leaves = tt
+run_ends task left (status.ReadFault n) leaves = absurd leaves
+run_ends task left (status.TooLong n) leaves = absurd leaves
+run_ends task left (status.FileCount n m) leaves = absurd leaves
+
+-- so is each of the plain count
+count_ends : (case : CaseShape) (left : Left) (s : Status) → CountLeaves case left s → MayEnd s
+count_ends case left status.Ok leaves = tt
+count_ends case left status.Usage leaves = absurd leaves
+count_ends case left (status.NoFile n) leaves = absurd leaves
+count_ends case left (status.TopologyRefused why) leaves = absurd leaves
+count_ends case left (status.EventsRefused file line why) leaves = absurd leaves
+count_ends case left (status.PlanRefused line) leaves = absurd leaves
+count_ends case left status.KeeperFault leaves = absurd leaves
+count_ends case left status.SinkFault leaves = tt
+count_ends case left status.NoMemory leaves = tt
+count_ends case left (status.NotEmpty name bytes) leaves = absurd leaves
+count_ends case left status.HistoryFull leaves = absurd leaves
+count_ends case left (status.RowDamaged name bytes) leaves = absurd leaves
+count_ends case left (status.ReadFault n) leaves = absurd leaves
+count_ends case left (status.TooLong n) leaves = absurd leaves
+count_ends case left (status.FileCount n m) leaves = absurd leaves
+
+-- so is each of a call
+pub call_ends : (call : Call) (task : Task) (left : Left) (s : Status) → CallLeaves call task left s → MayEnd s
+call_ends (Solo inputs) task left s leaves = run_ends task left s leaves
+call_ends (Replay plan inputs) task left s leaves = run_ends task left s leaves
+call_ends (Plain inputs) task left s leaves = count_ends task.case left s leaves
+call_ends (Load seed lines) task left s leaves = run_ends task left s leaves
+
+-- what the words' task leaves is what a status leaves that may come then
+left_of_run : (files : Option Files) (words : List (List ℕ)) (left : Left) (s : Status) → HasRun files words left s → MayEnd s
+    → HasLeft files words left s
+left_of_run files words left status.Ok run ends = run
+left_of_run files words left status.Usage run ends = absurd ends
+left_of_run files words left (status.NoFile n) run ends = absurd ends
+left_of_run files words left (status.TopologyRefused why) run ends = absurd ends
+left_of_run files words left (status.EventsRefused file line why) run ends = absurd ends
+left_of_run files words left (status.PlanRefused line) run ends = absurd ends
+left_of_run files words left status.KeeperFault run ends = run
+left_of_run files words left status.SinkFault run ends = run
+left_of_run files words left status.NoMemory run ends = inl run
+left_of_run files words left (status.NotEmpty name bytes) run ends = run
+left_of_run files words left status.HistoryFull run ends = run
+left_of_run files words left (status.RowDamaged name bytes) run ends = run
+left_of_run files words left (status.ReadFault n) run ends = absurd ends
+left_of_run files words left (status.TooLong n) run ends = absurd ends
+left_of_run files words left (status.FileCount n m) run ends = absurd ends
+
+-- so it is of what a call's task leaves
+pub left_of_call : (files : Option Files) (words : List (List ℕ)) (command : Command) (task : Task) (left : Left) (s : Status)
+    → command_of words ≡ Some command → IsTask files command.call task → CallLeaves command.call task left s
+    → HasLeft files words left s
+left_of_call files words command task left s named asked leaves = left_of_run files words left s
+    (record { command = command; named = named; task = task; asked = asked; leaves = leaves })
+    (call_ends command.call task left s leaves)
 
 -- with Ok that is the whole
 pub ok_of_left : (files : Option Files) (words : List (List ℕ)) (left : Left) (s : Status) → HasLeft files words left s → s ≡ status.Ok
     → HasRun files words left status.Ok
 ok_of_left files words left s is ok = subst (λ t. HasLeft files words left t) ok is
 
+-- each whole text of a run is told plainly, where a contract can see the rows
+abbrev pub IsPlainlyTold : Task → Left → Type 0
+IsPlainlyTold task left = (text : List ℕ) → IsWholeText task.wanted task.case.topology left.history text
+    → IfSome left.rows.1 (λ _. IsPlainWhole task.wanted task.case left.history text)
+
+-- a law of results is one of whole texts
+plain_whole : (wanted : Wanted) (case : CaseShape) (history : List Entry)
+    → ((result : List ℕ) → IsResultText case.topology history result → IsPlainText case result)
+    → (text : List ℕ) → IsWholeText wanted case.topology history text → IsPlainWhole wanted case history text
+plain_whole ResultAlone case history law text whole = law text whole
+plain_whole HistoryFirst case history law text whole =
+    record { result = whole.result; plain = law whole.result whole.of_history; spelled = whole.spelled }
+plain_whole SummaryAlone case history law text whole = tt
+
+-- the text of a run that came to its end is told plainly
+pub told_plainly : (task : Task) (left : Left) → IsWholeRun task left → IsRunnable task.case → length left.history ≤ 2 ^ 32
+    → ((c : CaseShape) (h : List Entry) (text : List ℕ) → IsRunnable c → IsFinishedRun c h → IsResultText c.topology h text
+    → IsPlainText c text)
+    → IsPlainlyTold task left
+told_plainly task left run runnable few law = λ text whole. by_rows text whole left.rows.1 run.run.kept run.finished
+  where
+    by_rows : (text : List ℕ) → IsWholeText task.wanted task.case.topology left.history text → (rows : Option Rows)
+        → IfSome rows (IsKeptRun task left.history) → IfSome rows (λ _. IsFinished task.case (run_of task.case.topology left.history))
+        → IfSome rows (λ _. IsPlainWhole task.wanted task.case left.history text)
+    by_rows text whole None kept ended = tt
+    by_rows text whole (Some rows) kept ended = plain_whole task.wanted task.case left.history
+        (λ result is. law task.case left.history result runnable (record { legal = kept.legal; finished = ended; few = few }) is) text whole
+
 -- what is written of a run that came to its end is what its status leaves
-pub wrote : (task : Task) (left : Left) (s : Status) → IsWholeRun task left
+pub wrote : (task : Task) (left : Left) (s : Status) → IsWholeRun task left → IsPlainlyTold task left
     → HasText task.wanted task.case.topology left.history left.text.0 left.text.1 s → RunLeaves task left s
-wrote task left status.Ok run is = record { run = run; text = is.text; whole = is.whole; written = is.written }
-wrote task left status.Usage run is = absurd is
-wrote task left (status.NoFile n) run is = absurd is
-wrote task left (status.TopologyRefused why) run is = absurd is
-wrote task left (status.EventsRefused file line why) run is = absurd is
-wrote task left (status.PlanRefused line) run is = absurd is
-wrote task left status.KeeperFault run is = absurd is
-wrote task left status.SinkFault run is = record { run = run; text = is.text; whole = is.whole; part = is.part }
-wrote task left status.NoMemory run is = elim is [
+wrote task left status.Ok run plain is = record {
+  run = run;
+  text = is.text;
+  whole = is.whole;
+  written = is.written;
+  plain = plain is.text is.whole;
+}
+wrote task left status.Usage run plain is = absurd is
+wrote task left (status.NoFile n) run plain is = absurd is
+wrote task left (status.TopologyRefused why) run plain is = absurd is
+wrote task left (status.EventsRefused file line why) run plain is = absurd is
+wrote task left (status.PlanRefused line) run plain is = absurd is
+wrote task left status.KeeperFault run plain is = absurd is
+wrote task left status.SinkFault run plain is = record { run = run; text = is.text; whole = is.whole; part = is.part }
+wrote task left status.NoMemory run plain is = elim is [
   | inl part ↦ inl (record { run = run; text = part.text; whole = part.whole; part = part.part })
   | inr same ↦ inr (inl (record { run = run.run; unwritten = same }))
 ]
-wrote task left (status.NotEmpty name bytes) run is = absurd is
-wrote task left status.HistoryFull run is = absurd is
-wrote task left (status.RowDamaged name bytes) run is = absurd is
-wrote task left (status.ReadFault n) run is = absurd is
-wrote task left (status.TooLong n) run is = absurd is
-wrote task left (status.FileCount n m) run is = absurd is
+wrote task left (status.NotEmpty name bytes) run plain is = absurd is
+wrote task left status.HistoryFull run plain is = absurd is
+wrote task left (status.RowDamaged name bytes) run plain is = absurd is
+wrote task left (status.ReadFault n) run plain is = absurd is
+wrote task left (status.TooLong n) run plain is = absurd is
+wrote task left (status.FileCount n m) run plain is = absurd is
 
 -- so it is where the history is said in other words
 pub wrote_as : (task : Task) (left : Left) (history : List Entry) (s : Status) → history ≡ left.history → IsWholeRun task left
+    → IsPlainlyTold task left
     → HasText task.wanted task.case.topology history left.text.0 left.text.1 s → RunLeaves task left s
-wrote_as task left history s told run is = wrote task left s run
+wrote_as task left history s told run plain is = wrote task left s run plain
     (subst (λ (h : List Entry). HasText task.wanted task.case.topology h left.text.0 left.text.1 s) told is)
 
 -- what a drain that stopped leaves is what its status leaves
@@ -118,25 +222,23 @@ unstarted task left (starts.NotEmpty name bytes) is first = record { unbegun = i
 unstarted task left starts.KeeperFault is first = inr is
 unstarted task left starts.NoMemory is first = inr (inr is)
 
--- a status of a run has its reason elsewhere
-pub run_reason : (seen : ShelfSeen) (words : List (List ℕ)) (task : Task) (left : Left) (s : Status)
-    → RunLeaves task left s
-    → HasReason seen words s
-run_reason seen words task left status.Ok leaves = tt
-run_reason seen words task left status.Usage leaves = absurd leaves
-run_reason seen words task left (status.NoFile n) leaves = absurd leaves
-run_reason seen words task left (status.TopologyRefused why) leaves = absurd leaves
-run_reason seen words task left (status.EventsRefused file line why) leaves = absurd leaves
-run_reason seen words task left (status.PlanRefused line) leaves = absurd leaves
-run_reason seen words task left status.KeeperFault leaves = tt
-run_reason seen words task left status.SinkFault leaves = tt
-run_reason seen words task left status.NoMemory leaves = tt
-run_reason seen words task left (status.NotEmpty name bytes) leaves = tt
-run_reason seen words task left status.HistoryFull leaves = tt
-run_reason seen words task left (status.RowDamaged name bytes) leaves = tt
-run_reason seen words task left (status.ReadFault n) leaves = absurd leaves
-run_reason seen words task left (status.TooLong n) leaves = absurd leaves
-run_reason seen words task left (status.FileCount n m) leaves = absurd leaves
+-- a status that may come once the files are read has its reason elsewhere
+pub end_reason : (seen : ShelfSeen) (words : List (List ℕ)) (s : Status) → MayEnd s → HasReason seen words s
+end_reason seen words status.Ok ends = tt
+end_reason seen words status.Usage ends = absurd ends
+end_reason seen words (status.NoFile n) ends = absurd ends
+end_reason seen words (status.TopologyRefused why) ends = absurd ends
+end_reason seen words (status.EventsRefused file line why) ends = absurd ends
+end_reason seen words (status.PlanRefused line) ends = absurd ends
+end_reason seen words status.KeeperFault ends = tt
+end_reason seen words status.SinkFault ends = tt
+end_reason seen words status.NoMemory ends = tt
+end_reason seen words (status.NotEmpty name bytes) ends = tt
+end_reason seen words status.HistoryFull ends = tt
+end_reason seen words (status.RowDamaged name bytes) ends = tt
+end_reason seen words (status.ReadFault n) ends = absurd ends
+end_reason seen words (status.TooLong n) ends = absurd ends
+end_reason seen words (status.FileCount n m) ends = absurd ends
 
 -- no run ends with Usage
 pub run_usage : (task : Task) (left : Left) (s : Status) → RunLeaves task left s → s ≡ status.Usage → ⊥
@@ -179,3 +281,29 @@ pub words_reason : (seen : ShelfSeen) (words : List (List ℕ)) (refusal : Words
     → (refusal ≡ refusals.Usage → command_of words ≡ None) → HasReason seen words (of_words refusal)
 words_reason seen words refusals.Usage none = none refl
 words_reason seen words refusals.NoMemory none = tt
+
+-- what is written of a plain count is what its status leaves, where no run was begun
+pub counted : (case : CaseShape) (left : Left) (s : Status) → IsUnrun left → HasPlain case left.text.0 left.text.1 s
+    → CountLeaves case left s
+counted case left status.Ok unrun is = record { unrun = unrun; text = is.text; plain = is.plain; written = is.written }
+counted case left status.Usage unrun is = absurd is
+counted case left (status.NoFile n) unrun is = absurd is
+counted case left (status.TopologyRefused why) unrun is = absurd is
+counted case left (status.EventsRefused file line why) unrun is = absurd is
+counted case left (status.PlanRefused line) unrun is = absurd is
+counted case left status.KeeperFault unrun is = absurd is
+counted case left status.SinkFault unrun is = record { unrun = unrun; text = is.text; plain = is.plain; part = is.part }
+counted case left status.NoMemory unrun is = elim is [
+  | inl part ↦ inl (record { unrun = unrun; text = part.text; plain = part.plain; part = part.part })
+  | inr same ↦ inr (record { empty = unrun.empty; same_rows = unrun.same_rows; unwritten = same })
+]
+counted case left (status.NotEmpty name bytes) unrun is = absurd is
+counted case left status.HistoryFull unrun is = absurd is
+counted case left (status.RowDamaged name bytes) unrun is = absurd is
+counted case left (status.ReadFault n) unrun is = absurd is
+counted case left (status.TooLong n) unrun is = absurd is
+counted case left (status.FileCount n m) unrun is = absurd is
+
+-- no plain count fails by the keeper
+pub plain_keeper : (case : CaseShape) (old new : Option (List ℕ)) (s : Status) → HasPlain case old new s → s ≡ status.KeeperFault → ⊥
+plain_keeper case old new s is same = subst (λ t. HasPlain case old new t) same is

@@ -6,7 +6,7 @@ use Rattle.mw_types.specs.Causes.{Rose}
 use Rattle.mw_types.specs.declared.identity.RowName.{RowName}
 use Rattle.command_line.specs.declared.command.Inputs.{Inputs}
 use Rattle.command_line.specs.declared.command.Call.{Call}
-use Rattle.command_line.specs.declared.command.Call.TheVariants.{Solo, Replay, Load}
+use Rattle.command_line.specs.declared.command.Call.TheVariants.{Solo, Replay, Plain, Load}
 use Rattle.command_line.specs.declared.command.Command.{Command}
 use Rattle.mw_ports.specs.Shelves.{Files}
 use Rattle.row_keeper.specs.Rows.{Rows}
@@ -23,8 +23,8 @@ use Rattle.command_line.specs.Grammar.{command_of}
 use Rattle.millwheel_cli.specs.Files.{HoldsAs, HoldsSources, topology_taken, source_taken}
 use Rattle.millwheel_cli.specs.Loads.{load_text}
 use Rattle.millwheel_cli.specs.Tasks.{plan_taken, HoldsPlan, IsInputsTask, IsLoadTask, IsTask}
-use Rattle.millwheel_cli.specs.Reasons.{ShelfSeen, IsUnread, IsFileRefused, IsPlanRefused, IsSourceRefused, IsRefused, IsCallRefused, IsCommandRefused, HasReason, file_within, file_as, source_before, sources_taken, steps_taken, inputs_taken, load_taken, ended, ran_over, answer_for, answer_of, IsAnswer}
-use Rattle.millwheel_cli.specs.Answers.{Left, HasRun, HasLeft}
+use Rattle.millwheel_cli.specs.Reasons.{ShelfSeen, IsUnread, IsFileRefused, IsPlanRefused, IsSourceRefused, IsRefused, IsCallRefused, IsCommandRefused, HasReason, file_within, file_as, source_before, sources_taken, steps_taken, inputs_taken, load_taken, ended, ran_over, answer_for, answer_of, plain_for, IsAnswer, AsksPlain, IsPlainAnswer}
+use Rattle.millwheel_cli.specs.Answers.{Left, IsFull, IsDamagedAt, RunLeaves, CountLeaves, CallLeaves, HasRun, HasLeft}
 
 -- what is said of something where it is told is said of it
 told_of : {T : Type 0} (found : Option T) (held : T) (P : T → Type 0) → found ≡ Some held → IfSome found P → P held
@@ -196,6 +196,8 @@ call_refused seen held rows (Solo inputs) s told well is =
     ap (λ (found : Result (List Source) Status). ended found (ran_over rows)) (inputs_refused seen held None inputs s told well is)
 call_refused seen held rows (Replay plan inputs) s told well is =
     ap (λ (found : Result (List Source) Status). ended found (ran_over rows)) (inputs_refused seen held (Some plan) inputs s told well is)
+call_refused seen held rows (Plain inputs) s told well is =
+    ap (λ (found : Result (List Source) Status). ended found status.Ok) (inputs_refused seen held None inputs s told well is)
 call_refused seen held rows (Load seed lines) s told well is =
     ap (λ (found : Result Source Status). ended found (ran_over rows)) is
 
@@ -204,23 +206,6 @@ answer_refused : (seen : ShelfSeen) (words : List (List ℕ)) (held : Files) (ro
     → seen.files ≡ Some held → (Rose seen.faults.0 seen.faults.1 → ⊥) → IsCommandRefused seen words s → s ≡ answer_of held rows words
 answer_refused seen words held rows s told well is =
     sym (answer_of-named held rows words is.command is.named ∙ call_refused seen held rows is.command.call s told well is.why)
-
--- where all is read the keeper's rows decide the answer
-call_read : (files : Option Files) (held : Files) (rows : Rows) (call : Call) (task : Task)
-    → files ≡ Some held → IsTask files call task → answer_for held rows call ≡ ran_over rows
-call_read files held rows (Solo inputs) task told is =
-    ap (λ (found : Result (List Source) Status). ended found (ran_over rows)) (inputs_read files held None inputs task told is)
-call_read files held rows (Replay plan inputs) task told is =
-    ap (λ (found : Result (List Source) Status). ended found (ran_over rows)) (inputs_read files held (Some plan) inputs task told is)
-call_read files held rows (Load seed lines) task told is =
-    ap (λ (found : Result Source Status). ended found (ran_over rows)) (load_read seed lines task is)
-
--- so it is of the words
-answer_read : (files : Option Files) (words : List (List ℕ)) (held : Files) (rows : Rows) (command : Command) (task : Task)
-    → files ≡ Some held → command_of words ≡ Some command → IsTask files command.call task
-    → answer_of held rows words ≡ ran_over rows
-answer_read files words held rows command task told named is =
-    answer_of-named held rows words command named ∙ call_read files held rows command.call task told is
 
 -- a run comes to its end over a keeper without rows
 ran_over-empty : (found : Option Rows) (rows : Rows) → found ≡ Some rows → IfSome found (λ rs. rs ≡ []) → ran_over rows ≡ status.Ok
@@ -232,6 +217,65 @@ ran_over-first : (rows : Rows) (name : RowName) (bytes : List ℕ) → slice_get
 ran_over-first [] name bytes first = grind (arith, first)
 ran_over-first (row ∷ rows) name bytes first =
     ap (λ (r : RowName × List ℕ). NotEmpty r.0 r.1) (same_Some row (name, bytes) first)
+
+-- what is read is not refused: the call ends as its run does
+ended_read : {T : Type 0} (found : Result T Status) (x : T) (run : Status) → found ≡ Ok x → ended found run ≡ run
+ended_read found x run is = ap (λ (r : Result _ Status). ended r run) is
+
+-- where all is read the keeper's rows decide how a run ends, and nothing how a plain count does
+call_read : (files : Option Files) (held : Files) (rows : Rows) (call : Call) (task : Task) (left : Left) (s : Status)
+    → files ≡ Some held → IsTask files call task → (RunLeaves task left s → ran_over rows ≡ s) → (CountLeaves task.case left s → status.Ok ≡ s)
+    → CallLeaves call task left s → answer_for held rows call ≡ s
+call_read files held rows (Solo inputs) task left s told is ran counted leaves =
+    ended_read _ _ (ran_over rows) (inputs_read files held None inputs task told is) ∙ ran leaves
+call_read files held rows (Replay plan inputs) task left s told is ran counted leaves =
+    ended_read _ _ (ran_over rows) (inputs_read files held (Some plan) inputs task told is) ∙ ran leaves
+call_read files held rows (Plain inputs) task left s told is ran counted leaves =
+    ended_read _ _ status.Ok (inputs_read files held None inputs task told is) ∙ counted leaves
+call_read files held rows (Load seed lines) task left s told is ran counted leaves =
+    ended_read _ _ (ran_over rows) (load_read seed lines task is) ∙ ran leaves
+
+-- so it is of the words
+answer_read : (files : Option Files) (words : List (List ℕ)) (held : Files) (rows : Rows) (left : Left) (s : Status)
+    → files ≡ Some held → (is : HasRun files words left s) → (RunLeaves is.task left s → ran_over rows ≡ s)
+    → (CountLeaves is.task.case left s → status.Ok ≡ s) → answer_of held rows words ≡ s
+answer_read files words held rows left s told is ran counted =
+    answer_of-named held rows words is.command is.named
+    ∙ call_read files held rows is.command.call is.task left s told is.asked ran counted is.leaves
+
+-- what only a run leaves is left by one, and the history is as full as one may be
+full_left : (call : Call) (task : Task) (left : Left) → CallLeaves call task left HistoryFull → IsFull task left
+full_left (Solo inputs) task left leaves = leaves
+full_left (Replay plan inputs) task left leaves = leaves
+full_left (Plain inputs) task left leaves = absurd leaves
+full_left (Load seed lines) task left leaves = leaves
+
+-- so it is of a damaged row
+damaged_left : (call : Call) (task : Task) (left : Left) (name : RowName) (bytes : List ℕ)
+    → CallLeaves call task left (RowDamaged name bytes) → IsDamagedAt task left name bytes
+damaged_left (Solo inputs) task left name bytes leaves = leaves
+damaged_left (Replay plan inputs) task left name bytes leaves = leaves
+damaged_left (Plain inputs) task left name bytes leaves = absurd leaves
+damaged_left (Load seed lines) task left name bytes leaves = leaves
+
+-- a full history is one of files that were read, over a keeper without rows
+full_answer : (files : Option Files) (words : List (List ℕ)) (held : Files) (rows : Rows) (left : Left) → files ≡ Some held
+    → left.rows.0 ≡ Some rows → HasRun files words left HistoryFull → answer_of held rows words ≡ status.Ok
+full_answer files words held rows left told seen_rows is =
+    answer_of-named held rows words is.command is.named
+    ∙ by_call is.command.call is.asked is.leaves
+  where
+    empty : IsFull is.task left → ran_over rows ≡ status.Ok
+    empty leaves = ran_over-empty left.rows.0 rows seen_rows leaves.stopped.run.began_empty
+
+    by_call : (call : Call) → IsTask files call is.task → CallLeaves call is.task left HistoryFull → answer_for held rows call ≡ status.Ok
+    by_call (Solo inputs) asked leaves =
+        ended_read _ _ (ran_over rows) (inputs_read files held None inputs is.task told asked) ∙ empty leaves
+    by_call (Replay plan inputs) asked leaves =
+        ended_read _ _ (ran_over rows) (inputs_read files held (Some plan) inputs is.task told asked) ∙ empty leaves
+    by_call (Plain inputs) asked leaves = absurd leaves
+    by_call (Load seed lines) asked leaves =
+        ended_read _ _ (ran_over rows) (load_read seed lines is.task asked) ∙ empty leaves
 
 -- where the keeper's rows were seen before they are seen after
 still_told : (old new : Option Rows) (rows : Rows) → old ≡ Some rows → is_some new ≡ is_some old → IfSome new (λ _. ⊥) → ⊥
@@ -248,8 +292,8 @@ pub told_answer : (seen : ShelfSeen) (words : List (List ℕ)) (left : Left) (k0
     → is_some left.rows.1 ≡ is_some left.rows.0 → seen.files ≡ Some held → left.rows.0 ≡ Some rows
     → (Rose seen.faults.0 seen.faults.1 → ⊥) → (Rose k0 k1 → ⊥) → (Rose f0 f1 → ⊥) → IsAnswer held rows words left.history s
 told_answer seen words left k0 k1 f0 f1 held rows status.Ok why is keeper sink tells told seen_rows well kept written =
-    sym (answer_read seen.files words held rows is.command is.task told is.named is.asked
-    ∙ ran_over-empty left.rows.0 rows seen_rows is.leaves.run.run.began_empty)
+    sym (answer_read seen.files words held rows left _ told is
+    (λ leaves. ran_over-empty left.rows.0 rows seen_rows leaves.run.run.began_empty) (λ leaves. refl))
 told_answer seen words left k0 k1 f0 f1 held rows Usage why is keeper sink tells told seen_rows well kept written = answer_usage
     words held rows why
 told_answer seen words left k0 k1 f0 f1 held rows (NoFile name) why is keeper sink tells told seen_rows well kept written =
@@ -266,18 +310,84 @@ told_answer seen words left k0 k1 f0 f1 held rows SinkFault why is keeper sink t
     (written (sink refl))
 told_answer seen words left k0 k1 f0 f1 held rows NoMemory why is keeper sink tells told seen_rows well kept written = tt
 told_answer seen words left k0 k1 f0 f1 held rows (NotEmpty name bytes) why is keeper sink tells told seen_rows well kept written =
-    let first = told_of left.rows.0 rows (λ rs. slice_get rs 0 ≡ Some (name, bytes)) seen_rows is.leaves.first in
-    sym (answer_read seen.files words held rows is.command is.task told is.named is.asked ∙ ran_over-first rows name bytes first)
+    sym (answer_read seen.files words held rows left _ told is
+    (λ leaves. ran_over-first rows name bytes (told_of left.rows.0 rows (λ rs. slice_get rs 0 ≡ Some (name, bytes)) seen_rows leaves.first))
+    (λ leaves. absurd leaves))
 told_answer seen words left k0 k1 f0 f1 held rows HistoryFull why is keeper sink tells told seen_rows well kept written = (
-  answer_read seen.files words held rows is.command is.task told is.named is.asked
-      ∙ ran_over-empty left.rows.0 rows seen_rows is.leaves.stopped.run.began_empty,
-  is.leaves.full,
+  full_answer seen.files words held rows left told seen_rows is,
+  (full_left is.command.call is.task left is.leaves).full,
 )
 told_answer seen words left k0 k1 f0 f1 held rows (RowDamaged name bytes) why is keeper sink tells told seen_rows well kept written =
-    absurd (still_told left.rows.0 left.rows.1 rows seen_rows tells is.leaves.damaged.untold)
+    absurd (still_told left.rows.0 left.rows.1 rows seen_rows tells
+    (damaged_left is.command.call is.task left name bytes is.leaves).damaged.untold)
 told_answer seen words left k0 k1 f0 f1 held rows (ReadFault name) why is keeper sink tells told seen_rows well kept written =
     answer_refused seen words held rows _ told well why
 told_answer seen words left k0 k1 f0 f1 held rows (TooLong name) why is keeper sink tells told seen_rows well kept written =
     answer_refused seen words held rows _ told well why
 told_answer seen words left k0 k1 f0 f1 held rows (FileCount files injectors) why is keeper sink tells told seen_rows well kept written =
     answer_refused seen words held rows _ told well why
+
+-- a call of the words is the one that they ask for
+pub same_call : (words : List (List ℕ)) (inputs : Inputs) (command : Command) → AsksPlain words inputs → command_of words ≡ Some command
+    → command.call ≡ Plain inputs
+same_call words inputs command asks named =
+    ap (λ (c : Command). c.call) (same_Some command (record { call = Plain inputs; keep = None }) (sym named ∙ asks))
+
+-- what is left of a run is left of no plain count
+no_count : (files : Option Files) (words : List (List ℕ)) (left : Left) (inputs : Inputs) (s : Status) → AsksPlain words inputs
+    → (is : HasRun files words left s) → (CountLeaves is.task.case left s → ⊥) → ⊥
+no_count files words left inputs s asks is none =
+    none (subst (λ (call : Call). CallLeaves call is.task left s) (same_call words inputs is.command asks is.named) is.leaves)
+
+-- the answer to words that ask for the plain count is that of the files, whatever rows there may be
+plain_named : (held : Files) (words : List (List ℕ)) (inputs : Inputs) → AsksPlain words inputs
+    → answer_of held [] words ≡ plain_for held inputs
+plain_named held words inputs asks = answer_of-named held [] words (record { call = Plain inputs; keep = None }) asks
+
+-- a refusal of the files is that answer
+plain_refused : (seen : ShelfSeen) (words : List (List ℕ)) (held : Files) (inputs : Inputs) (s : Status)
+    → seen.files ≡ Some held → (Rose seen.faults.0 seen.faults.1 → ⊥) → AsksPlain words inputs → IsCommandRefused seen words s
+    → s ≡ plain_for held inputs
+plain_refused seen words held inputs s told well asks why =
+    answer_refused seen words held [] s told well why ∙ plain_named held words inputs asks
+
+-- a plain count that was written whole is that answer
+plain_read : (files : Option Files) (words : List (List ℕ)) (held : Files) (left : Left) (inputs : Inputs)
+    → files ≡ Some held → AsksPlain words inputs → HasRun files words left status.Ok → status.Ok ≡ plain_for held inputs
+plain_read files words held left inputs told asks is =
+    let asked = subst (λ (call : Call). IsTask files call is.task) (same_call words inputs is.command asks is.named) is.asked in
+    sym (ended_read _ _ status.Ok (inputs_read files held None inputs is.task told asked))
+
+-- over files that a contract can see, where nothing failed, the answer of the plain count is theirs, or memory ran out
+pub told_plain : (seen : ShelfSeen) (words : List (List ℕ)) (left : Left) (f0 f1 : ℕ) (held : Files) (inputs : Inputs) (s : Status)
+    → HasReason seen words s → HasLeft seen.files words left s → (s ≡ SinkFault → Rose f0 f1)
+    → seen.files ≡ Some held → AsksPlain words inputs
+    → (Rose seen.faults.0 seen.faults.1 → ⊥) → (Rose f0 f1 → ⊥) → IsPlainAnswer held inputs s
+told_plain seen words left f0 f1 held inputs status.Ok why is sink told asks well written =
+    plain_read seen.files words held left inputs told asks is
+told_plain seen words left f0 f1 held inputs Usage why is sink told asks well written =
+    answer_usage words held [] why ∙ plain_named held words inputs asks
+told_plain seen words left f0 f1 held inputs (NoFile name) why is sink told asks well written =
+    plain_refused seen words held inputs _ told well asks why
+told_plain seen words left f0 f1 held inputs (TopologyRefused r) why is sink told asks well written =
+    plain_refused seen words held inputs _ told well asks why
+told_plain seen words left f0 f1 held inputs (EventsRefused file line r) why is sink told asks well written =
+    plain_refused seen words held inputs _ told well asks why
+told_plain seen words left f0 f1 held inputs (PlanRefused line) why is sink told asks well written =
+    plain_refused seen words held inputs _ told well asks why
+told_plain seen words left f0 f1 held inputs KeeperFault why is sink told asks well written =
+    absurd (no_count seen.files words left inputs KeeperFault asks is (λ none. none))
+told_plain seen words left f0 f1 held inputs SinkFault why is sink told asks well written = absurd (written (sink refl))
+told_plain seen words left f0 f1 held inputs NoMemory why is sink told asks well written = tt
+told_plain seen words left f0 f1 held inputs (NotEmpty name bytes) why is sink told asks well written =
+    absurd (no_count seen.files words left inputs (NotEmpty name bytes) asks is (λ none. none))
+told_plain seen words left f0 f1 held inputs HistoryFull why is sink told asks well written =
+    absurd (no_count seen.files words left inputs HistoryFull asks is (λ none. none))
+told_plain seen words left f0 f1 held inputs (RowDamaged name bytes) why is sink told asks well written =
+    absurd (no_count seen.files words left inputs (RowDamaged name bytes) asks is (λ none. none))
+told_plain seen words left f0 f1 held inputs (ReadFault name) why is sink told asks well written =
+    plain_refused seen words held inputs _ told well asks why
+told_plain seen words left f0 f1 held inputs (TooLong name) why is sink told asks well written =
+    plain_refused seen words held inputs _ told well asks why
+told_plain seen words left f0 f1 held inputs (FileCount files injectors) why is sink told asks well written =
+    plain_refused seen words held inputs _ told well asks why

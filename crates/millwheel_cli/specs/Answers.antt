@@ -1,14 +1,17 @@
 -- What each status leaves of the history, of the keeper's rows and of the text. Own.
-use Rattle.std.specs.Prelude.{◌≡◌, ◌<◌, ◌⊎◌, ◌++◌, ℕ, List, [], length, Option, Some, IfSome, slice_get}
+use Rattle.std.specs.Prelude.{◌≡◌, ◌<◌, ◌⊎◌, ◌++◌, ℕ, ⊤, List, [], length, Option, Some, IfSome, slice_get}
 use Rattle.std.specs.Io.KnownBytes.{append_known}
 use Rattle.mw_types.specs.declared.identity.RowName.{RowName}
 use Rattle.mw_types.specs.declared.entry.Entry.{Entry}
+use Rattle.command_line.specs.declared.command.Call.{Call}
+use Rattle.command_line.specs.declared.command.Call.TheVariants.{Solo, Replay, Plain, Load}
 use Rattle.command_line.specs.declared.command.Command.{Command}
 use Rattle.command_line.specs.Grammar.{command_of}
 use Rattle.mw_ports.specs.Shelves.{Files}
 use Rattle.mw_ports.specs.Sinks.{AppendsPrefix}
 use Rattle.topology.specs.Shapes.{Shape}
 use Rattle.row_keeper.specs.Rows.{Rows}
+use Rattle.run_history.specs.Cases.{CaseShape}
 use Rattle.run_history.specs.Runs.{run_of}
 use Rattle.run_history.specs.Legal.{IsLegal}
 use Rattle.run_history.specs.Fences.{IsFenced}
@@ -17,6 +20,7 @@ use Rattle.run_history.specs.Stored.{stored_rows}
 use Rattle.run_history.specs.HistoryLines.{lines_of_history}
 use Rattle.run_history.specs.Texts.{IsResultText, as_line, summary_data}
 use Rattle.history_laws.specs.Writes.{IsLegalAndFenced}
+use Rattle.plain_answer.specs.Plain.{IsPlainText}
 use Rattle.book.specs.Claims.{IsDamagedRow}
 use Rattle.world.specs.Replays.{IsReplayed, IsWholeReplay}
 use Rattle.millwheel_cli.specs.declared.status.Status.{Status}
@@ -78,6 +82,19 @@ IsWholeText ResultAlone shape history text = IsResultText shape history text
 IsWholeText HistoryFirst shape history text = IsLongText shape history text
 IsWholeText SummaryAlone shape history text = text ≡ as_line (summary_data history)
 
+-- the text of a history's lines, and then the plain text of the case
+pub record IsLongPlain (case : CaseShape) (history : List Entry) (text : List ℕ) : Type 0 where
+  pub result : List ℕ
+  pub plain : IsPlainText case result
+  pub spelled : text ≡ lines_of_history history ++ result
+
+-- the whole text that is wanted of a history is the plain text of its case, or its lines before that; of the
+-- summary line alone this says nothing
+abbrev pub IsPlainWhole : Wanted → CaseShape → List Entry → List ℕ → Type 0
+IsPlainWhole ResultAlone case history text = IsPlainText case text
+IsPlainWhole HistoryFirst case history text = IsLongPlain case history text
+IsPlainWhole SummaryAlone case history text = ⊤
+
 -- ---- what each status leaves
 
 -- the run came to its end, and its whole text was written
@@ -86,6 +103,8 @@ pub record IsWhole (task : Task) (left : Left) : Type 0 where
   pub text : List ℕ
   pub whole : IsWholeText task.wanted task.case.topology left.history text
   pub written : left.text.1 ≡ append_known left.text.0 text
+  -- nothing of the history but its lines is in it: its result is the plain count
+  pub plain : IfSome left.rows.1 (λ _. IsPlainWhole task.wanted task.case left.history text)
 
 -- the run came to its end, and a beginning of its text was written
 pub record IsPart (task : Task) (left : Left) : Type 0 where
@@ -135,6 +154,43 @@ RunLeaves task left (RowDamaged name bytes) = IsDamagedAt task left name bytes
 RunLeaves task left (NotEmpty name bytes) = IsHeldBefore left name bytes
 RunLeaves task left _ = ⊥
 
+-- ---- what each status leaves of the plain count
+
+-- no run is begun: there is no history, and the keeper's rows are those handed in
+pub record IsUnrun (left : Left) : Type 0 where
+  pub empty : left.history ≡ []
+  pub same_rows : left.rows.1 ≡ left.rows.0
+
+-- the whole plain text of the case was written
+pub record IsCounted (case : CaseShape) (left : Left) : Type 0 where
+  pub unrun : IsUnrun left
+  pub text : List ℕ
+  pub plain : IsPlainText case text
+  pub written : left.text.1 ≡ append_known left.text.0 text
+
+-- a beginning of the plain text of the case was written
+pub record IsCountedInPart (case : CaseShape) (left : Left) : Type 0 where
+  pub unrun : IsUnrun left
+  pub text : List ℕ
+  pub plain : IsPlainText case text
+  pub part : AppendsPrefix text left.text.0 left.text.1
+
+-- what each status leaves of the plain count once the files are read; the others come before that, or never
+abbrev pub CountLeaves : CaseShape → Left → Status → Type 0
+CountLeaves case left status.Ok = IsCounted case left
+CountLeaves case left SinkFault = IsCountedInPart case left
+CountLeaves case left NoMemory = IsCountedInPart case left ⊎ IsUnbegun left
+CountLeaves case left _ = ⊥
+
+-- ---- what each status leaves of a call
+
+-- what each status leaves of a call's task, which is run, or counted in the mode plain
+abbrev pub CallLeaves : Call → Task → Left → Status → Type 0
+CallLeaves (Solo inputs) task left status = RunLeaves task left status
+CallLeaves (Replay plan inputs) task left status = RunLeaves task left status
+CallLeaves (Plain inputs) task left status = CountLeaves task.case left status
+CallLeaves (Load seed lines) task left status = RunLeaves task left status
+
 -- the words are a command that asks for a task, and of that the status leaves this
 pub record HasRun (files : Option Files) (words : List (List ℕ)) (left : Left)
     (status : Status) : Type 0 where
@@ -142,7 +198,7 @@ pub record HasRun (files : Option Files) (words : List (List ℕ)) (left : Left)
   pub named : command_of words ≡ Some command
   pub task : Task
   pub asked : IsTask files command.call task
-  pub leaves : RunLeaves task left status
+  pub leaves : CallLeaves command.call task left status
 
 -- what each status leaves
 abbrev pub HasLeft : Option Files → List (List ℕ) → Left → Status → Type 0

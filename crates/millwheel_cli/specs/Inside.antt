@@ -17,6 +17,8 @@ use Rattle.topology.specs.declared.refusal.TopologyRefusal.TheVariants as topolo
 use Rattle.injector.specs.declared.refusal.LinesRefusal.{LinesRefusal}
 use Rattle.injector.specs.declared.refusal.LinesRefusal.TheVariants.{Line}
 use Rattle.injector.specs.declared.refusal.LinesRefusal.TheVariants as lines
+use Rattle.run_history.specs.Cases.{CaseShape}
+use Rattle.plain_answer.specs.Plain.{IsPlainText}
 use Rattle.book.specs.declared.refusals.StartWhy.{StartWhy}
 use Rattle.book.specs.declared.refusals.StartWhy.TheVariants as starts
 use Rattle.node.specs.declared.outcome.NodeFault.{NodeFault}
@@ -109,3 +111,22 @@ HasText wanted shape history old new status.Ok = WritesWhole wanted shape histor
 HasText wanted shape history old new status.SinkFault = WritesPart wanted shape history old new
 HasText wanted shape history old new status.NoMemory = WritesPart wanted shape history old new ⊎ (new ≡ old)
 HasText wanted shape history old new _ = ⊥
+
+-- the whole plain text of a case was written
+pub record WritesPlain (case : CaseShape) (old new : Option (List ℕ)) : Type 0 where
+  pub text : List ℕ
+  pub plain : IsPlainText case text
+  pub written : new ≡ append_known old text
+
+-- a beginning of the plain text of a case was written
+pub record WritesPlainPart (case : CaseShape) (old new : Option (List ℕ)) : Type 0 where
+  pub text : List ℕ
+  pub plain : IsPlainText case text
+  pub part : AppendsPrefix text old new
+
+-- what is written of a plain count: its whole text, or a beginning, or nothing where memory ran out
+abbrev pub HasPlain : CaseShape → Option (List ℕ) → Option (List ℕ) → Status → Type 0
+HasPlain case old new status.Ok = WritesPlain case old new
+HasPlain case old new status.SinkFault = WritesPlainPart case old new
+HasPlain case old new status.NoMemory = WritesPlainPart case old new ⊎ (new ≡ old)
+HasPlain case old new _ = ⊥

@@ -6,7 +6,7 @@ use Rattle.mw_types.specs.Causes.{Rose}
 use Rattle.mw_types.specs.declared.entry.Entry.{Entry}
 use Rattle.command_line.specs.declared.command.Inputs.{Inputs}
 use Rattle.command_line.specs.declared.command.Call.{Call}
-use Rattle.command_line.specs.declared.command.Call.TheVariants.{Solo, Replay, Load}
+use Rattle.command_line.specs.declared.command.Call.TheVariants.{Solo, Replay, Plain, Load}
 use Rattle.command_line.specs.declared.command.Command.{Command}
 use Rattle.command_line.specs.Grammar.{command_of}
 use Rattle.mw_ports.specs.Shelves.{Files}
@@ -99,6 +99,7 @@ load_taken seed lines =
 abbrev pub IsCallRefused : ShelfSeen → Call → Status → Type 0
 IsCallRefused seen (Solo inputs) status = IsRefused seen None inputs status
 IsCallRefused seen (Replay plan inputs) status = IsRefused seen (Some plan) inputs status
+IsCallRefused seen (Plain inputs) status = IsRefused seen None inputs status
 IsCallRefused seen (Load seed lines) status = load_taken seed lines ≡ Err status
 
 -- the words are a command whose call is refused with the status
@@ -167,10 +168,15 @@ inputs_taken held plan inputs =
     and_then (file_as held inputs.topology topology_limit (topology_taken (length inputs.events))) (λ shape.
     and_then (steps_taken held plan shape) (λ steps. sources_taken held 0 lines_limit inputs.events))
 
+-- how the plain count ends, by files of a shelf: no keeper has a part in it
+abbrev pub plain_for : Files → Inputs → Status
+plain_for held inputs = ended (inputs_taken held None inputs) status.Ok
+
 -- how a call ends, by files of a shelf and, last, by the rows of a keeper
 abbrev pub answer_for : Files → Rows → Call → Status
 answer_for held rows (Solo inputs) = ended (inputs_taken held None inputs) (ran_over rows)
 answer_for held rows (Replay plan inputs) = ended (inputs_taken held (Some plan) inputs) (ran_over rows)
+answer_for held rows (Plain inputs) = plain_for held inputs
 answer_for held rows (Load seed lines) = ended (load_taken seed lines) (ran_over rows)
 
 -- the answer to these words over a shelf that holds these files and a keeper that holds these rows, where
@@ -185,3 +191,12 @@ IsAnswer held rows words history NoMemory = ⊤
 IsAnswer held rows words history HistoryFull =
     (answer_of held rows words ≡ status.Ok) × (length history ≡ history_limit)
 IsAnswer held rows words history status = status ≡ answer_of held rows words
+
+-- the words ask for the plain count of these files
+abbrev pub AsksPlain : List (List ℕ) → Inputs → Type 0
+AsksPlain words inputs = command_of words ≡ Some (record { call = Plain inputs; keep = None })
+
+-- the status is the answer of the plain count; only memory may run out in its place
+abbrev pub IsPlainAnswer : Files → Inputs → Status → Type 0
+IsPlainAnswer held inputs NoMemory = ⊤
+IsPlainAnswer held inputs status = status ≡ plain_for held inputs

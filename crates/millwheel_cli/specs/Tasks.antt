@@ -1,11 +1,11 @@
 -- What a command is to do, once its files are read: the case of a run, the steps that come before its drain,
 -- and what is to be written of it. Own.
-use Rattle.std.specs.Prelude.{◌≡◌, ◌≤◌, ◌==◌, ℕ, ◌+◌, ◌-◌, Bool, List, [], ◌∷◌, length, if◌then◌else◌, Option, Some, None, IfSome, Result, Ok, Err}
+use Rattle.std.specs.Prelude.{◌≡◌, ℕ, Bool, List, [], ◌∷◌, length, if◌then◌else◌, Option, Some, None, Result, Ok, Err}
 use Rattle.mw_types.specs.declared.refusal.PlanRefusal.{PlanRefusal}
 use Rattle.mw_types.specs.declared.refusal.PlanRefusal.TheVariants as plans
 use Rattle.command_line.specs.declared.command.Inputs.{Inputs}
 use Rattle.command_line.specs.declared.command.Call.{Call}
-use Rattle.command_line.specs.declared.command.Call.TheVariants.{Solo, Replay, Load}
+use Rattle.command_line.specs.declared.command.Call.TheVariants.{Solo, Replay, Plain, Load}
 use Rattle.mw_ports.specs.Shelves.{Files}
 use Rattle.topology.specs.Shapes.{Shape}
 use Rattle.injector.specs.Sources.{Source}
@@ -71,4 +71,5 @@ pub record IsLoadTask (seed lines : ℕ) (task : Task) : Type 0 where
 abbrev pub IsTask : Option Files → Call → Task → Type 0
 IsTask files (Solo inputs) task = IsInputsTask files None inputs task
 IsTask files (Replay plan inputs) task = IsInputsTask files (Some plan) inputs task
+IsTask files (Plain inputs) task = IsInputsTask files None inputs task
 IsTask files (Load seed lines) task = IsLoadTask seed lines task

@@ -5,13 +5,14 @@ ghost use Rattle.mw_types.specs.Causes.{Rose};
 ghost use Rattle.mw_ports.specs.Shelves.{Files};
 ghost use Rattle.row_keeper.specs.Rows.{Rows};
 ghost use Rattle.command_line.specs.Grammar.{command_of};
-ghost use Rattle.millwheel_cli.specs.Reasons.{ShelfSeen, HasReason, IsAnswer};
+ghost use Rattle.command_line.specs.declared.command.Inputs.{Inputs};
+ghost use Rattle.millwheel_cli.specs.Reasons.{ShelfSeen, HasReason, IsAnswer, AsksPlain, IsPlainAnswer};
 ghost use Rattle.millwheel_cli.specs.Answers.{Left, IsUnbegun, HasRun, HasLeft};
 
 use crate::call::read_task;
 use crate::refusal::{status_of, status_of_words};
-use crate::run::run;
 use crate::status::Status;
+use crate::work::work;
 use command_line::read_words;
 use mw_ports::{Shelf, Sink};
 use mw_types::Name;
@@ -34,8 +35,9 @@ pub struct Done<K> {
 ///
 /// The topology, then the plan, where there is one, and then the event files, one an injector, are
 /// read and tried one after the other. Then the steps of the plan are done over the keeper, which must
-/// have no rows, all that is left is worked off, and then the text is written. A refusal comes at the
-/// first step that fails.
+/// have no rows, all that is left is worked off, and then the text is written. In the mode plain the
+/// files are counted at once, and the keeper is handed back as it was. A refusal comes at the first step
+/// that fails.
 pub fn millwheel_alone<S: Shelf, K: Keeper, O: Sink>(
     alloc: Global,
     words: &[Name],
@@ -73,6 +75,15 @@ pub fn millwheel_alone<S: Shelf, K: Keeper, O: Sink>(
         → (Rose (O.faults out.old) (O.faults out.new) → ⊥)
         → IsAnswer held rows words.now result.history result.status }
 
+    // The plain count needs no keeper: the files alone decide its status, and the keeper is not called.
+    ensures plain_answer { (held : Files) (inputs : Inputs) → S.files shelf.old ≡ Some held
+        → AsksPlain words.now inputs
+        → (Rose (S.faults shelf.old) (S.faults shelf.new) → ⊥)
+        → (Rose (O.faults out.old) (O.faults out.new) → ⊥)
+        → IsPlainAnswer held inputs result.status }
+    ensures uncalled { (inputs : Inputs) → AsksPlain words.now inputs →
+        (result.keeper ≡ keeper) × (result.history ≡ []) }
+
     // Each status leaves what is said of it, which for HistoryFull, RowDamaged and NotEmpty is also
     // why.
     ensures left { let left : Left = record {
@@ -92,7 +103,7 @@ pub fn millwheel_alone<S: Shelf, K: Keeper, O: Sink>(
 {
     match read_words(alloc, words) {
         Ok(command) => match read_task(alloc, shelf, &command.call) {
-            Ok(task) => run(alloc, &task, keeper, out),
+            Ok(task) => work(alloc, &command.call, &task, keeper, out),
             Err(refusal) => unbegun(alloc, status_of(refusal), keeper),
         },
         Err(refusal) => unbegun(alloc, status_of_words(refusal), keeper),

@@ -33,6 +33,7 @@ pub fn read_task<S: Shelf>(alloc: Global, shelf: &mut S, call: &Call) -> Result<
     match call {
         Call::Solo { inputs } => read_solo(alloc, shelf, inputs),
         Call::Replay { plan, inputs } => read_replay(alloc, shelf, plan, inputs),
+        Call::Plain { inputs } => read_solo(alloc, shelf, inputs),
         Call::Load { seed, lines } => load_task(alloc, *seed, *lines),
     }
 }

@@ -2,11 +2,13 @@
 //!
 //! `solo T E..` reads a topology and event files, one an injector, works them off on one thread over a keeper
 //! of rows, and writes the result, and with `--history` the history before it. `replay --plan P T E..` does
-//! the steps of a plan first. `load SEED LINES` is `solo` with a topology of its own and with lines that the
+//! the steps of a plan first. `plain T E..` counts the files at once, without a run, and writes what a run of
+//! them writes. `load SEED LINES` is `solo` with a topology of its own and with lines that the
 //! seed decides, and writes the summary line alone. Stands on `command_line` and `world`, and reaches files
 //! and output by `mw_ports`. Public contract: with Ok the history of `millwheel_alone` is fenced, and exactly
 //! its text was written; where a contract can see the keeper's rows it is what the plan's steps write, and then
-//! the whole drain, legal and finished, and the rows are its rows. Every other status has its reason, and
+//! the whole drain, legal and finished, and the rows are its rows, and the text behind the lines of the history
+//! is the plain count of the files. Every other status has its reason, and
 //! leaves what the clauses say. Definitions, in the order of reading: `specs/Asked.antt`, where rows are kept;
 //! `specs/Files.antt`, what was read; `specs/Loads.antt`, what load makes; `specs/Tasks.antt`, what is to be
 //! done; `specs/Reasons.antt`, why each status comes; `specs/Answers.antt`, what it leaves; `specs/Closing.antt`,
@@ -20,6 +22,7 @@ mod closing;
 mod form;
 mod laws;
 mod load;
+mod plain;
 mod reading;
 mod refusal;
 mod run;
@@ -27,6 +30,7 @@ mod saying;
 mod status;
 mod task;
 mod text;
+mod work;
 
 pub use alone::{Done, millwheel_alone};
 pub use asked::keep_name;

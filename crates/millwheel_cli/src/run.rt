@@ -27,6 +27,7 @@ use drains::{drains_begin_the_drained_history, drains_leave_no_work};
 use mw_ports::Sink;
 use mw_types::NoMemory;
 use node::NodeFault;
+use plain_answer::results_are_the_plain_count;
 use row_keeper::Keeper;
 use std::alloc::Global;
 use world::{Step, World, WorldRefusal, run_script};
@@ -221,6 +222,7 @@ fn finish<'a, K: Keeper, C: Computation + Drop, O: Sink>(
     let history = world.book().history();
     drains_leave_no_work();
     drains_begin_the_drained_history();
+    results_are_the_plain_count();
     match replayed {
         Ok(()) => write(alloc, task, history, out),
         Err(fault) => status_of_drain(fault),

@@ -65,8 +65,8 @@ fn joined(text: Bytes, more: &[u8]) -> Result<Bytes, NoMemory>
     Ok(Bytes::from_vec(all))
 }
 
-// The status of a sink's fault.
-fn status_of_sink(fault: SinkFault) -> Status
+/// The status of a sink's fault.
+pub fn status_of_sink(fault: SinkFault) -> Status
     ensures { result ≡ of_sink fault }
 {
     match fault {

@@ -6,6 +6,7 @@ mod histories;
 mod loads;
 mod looks;
 mod many_lines;
+mod plain_counts;
 mod refusals;
 mod replays;
 mod several_files;

@@ -33,4 +33,6 @@ pub mod Headline
 pub mod OneText
 pub mod Same
 pub mod Tallying
+pub mod Sending
+pub mod Making
 pub mod Noting

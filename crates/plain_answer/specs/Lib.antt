@@ -6,4 +6,5 @@ pub mod Deeds
 pub mod Grades
 pub mod Places
 pub mod Tallies
+pub mod Sends
 pub mod Spiked

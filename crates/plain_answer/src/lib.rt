@@ -12,7 +12,11 @@
 
 mod examples;
 mod law;
+mod line;
+mod sends;
 mod spikes;
+mod streams;
+mod text;
 mod windows;
 
 pub use examples::{
@@ -22,4 +26,5 @@ pub use examples::{
 pub use law::{
     a_case_has_one_plain_text, finished_runs_write_one_text, results_are_the_plain_count,
 };
+pub use text::plain_text;
 pub use windows::windows_of;

@@ -56,6 +56,10 @@ fn say_call(alloc: Global, said: &mut String, call: &Call) -> Result<(), Fail> {
             say_name(said, plan)?;
             Ok(say_inputs(said, inputs)?)
         }
+        Call::Plain { inputs } => {
+            said.push_str("plain")?;
+            Ok(say_inputs(said, inputs)?)
+        }
         Call::Load { seed, lines } => say_load(alloc, said, *seed, *lines),
     }
 }

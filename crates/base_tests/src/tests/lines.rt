@@ -2,7 +2,7 @@
 
 /// A line's words stand with one blank between them, and `""` is the empty word. The command has each name
 /// in brackets.
-pub(super) const LINES: [(&str, &str); 77] = [
+pub(super) const LINES: [(&str, &str); 86] = [
     ("", "usage"),
     ("solo t e", "solo [t] [e]"),
     ("solo t e f g", "solo [t] [e] [f] [g]"),
@@ -69,6 +69,15 @@ pub(super) const LINES: [(&str, &str); 77] = [
     ("replay --plan p --plan p t e", "usage"),
     ("replay --plan -- t e", "usage"),
     ("replay --plan p t e --rounds 1", "usage"),
+    ("plain t e", "plain [t] [e]"),
+    ("plain t e f", "plain [t] [e] [f]"),
+    ("plain -- t -e", "plain [t] [-e]"),
+    ("plain t", "usage"),
+    ("plain", "usage"),
+    ("plain t e --history", "usage"),
+    ("plain t e --keep k", "usage"),
+    ("plain --plan p t e", "usage"),
+    ("plain t e --workers 2", "usage"),
     ("load 7 3", "load 7 3"),
     ("load 0 1", "load 0 1"),
     ("load 4294967295 262144", "load 4294967295 262144"),

@@ -119,8 +119,8 @@ fn put(alloc: Global, keeper: &mut impl Keeper, key: &str) -> Result<(), NoMemor
     }
 }
 
-// A keeper that has a row.
-fn with_a_row(alloc: Global) -> Result<MemKeeper, NoMemory> {
+/// A keeper that has a row.
+pub(super) fn with_a_row(alloc: Global) -> Result<MemKeeper, NoMemory> {
     let mut held = keeper(alloc);
     put(alloc, &mut held, "h0")?;
     Ok(held)

@@ -1,6 +1,7 @@
-use Rattle.std.proofs.Common.{◌≡◌, ◌∙◌, Err, List, All, IfSome, refl, sym, ap, subst}
+use Rattle.std.proofs.Common.{◌∙◌, Err, List, All, IfSome, refl, sym, ap, subst, arith}
 use Rattle.mw_types.specs.declared.entry.Entry.{Entry}
-use Rattle.book.specs.Books.{BookView}
+use Rattle.book.specs.Books.{BookView, core_of}
+use Rattle.book.specs.Lawful.{IsLawful}
 use Rattle.run_history.specs.Cases.{CaseShape}
 use Rattle.run_history.specs.Printing.{IsPrintable}
 use Rattle.run_history.specs.HistoryLines.{HasLine}
@@ -11,7 +12,7 @@ use Rattle.world.specs.Replays.{IsReplayed, IsWholeReplay}
 use Rattle.millwheel_cli.specs.Answers.{RunLeaves}
 use Rattle.millwheel_cli.proofs.Running.{run_of_book, run_short, whole_run, same_where_empty, damaged_of, more_seen}
 use Rattle.millwheel_cli.proofs.Statuses.{drain_fault, drain_sink, text_keeper}
-use Rattle.millwheel_cli.proofs.Leaving.{wrote_as, stopped}
+use Rattle.millwheel_cli.proofs.Leaving.{wrote_as, told_plainly, stopped}
 use Rattle.millwheel_cli.proofs.run.finish.Goals as goal
 
 pub returns-in-Ok-clause-left : goal.returns-in-Ok-clause-left
@@ -31,7 +32,10 @@ returns-in-Ok-clause-left g c =
     let whole = whole_run task old.rows _ run (subst IsRunnable c.requires.case c.look.ensures.lawful.runnable)
     c.drains_leave_no_work.ensures.finished after.tells all in
     let told = c.history-history.ensures.history ∙ ap (λ (b : BookView). b.history) c.book.ensures.book in
-    wrote_as task _ _ _ told whole c.write.ensures.written
+    let lawful : IsLawful new.case (core_of new) = c.look-2.ensures.lawful in
+    let plain = told_plainly task _ whole (subst IsRunnable c.requires.case c.look.ensures.lawful.runnable)
+    (omega (arith, lawful.few, lawful.limit)) c.results_are_the_plain_count.ensures.plain in
+    wrote_as task _ _ _ told whole plain c.write.ensures.written
 
 pub returns-in-Err-clause-left : goal.returns-in-Err-clause-left
 returns-in-Err-clause-left g c =
