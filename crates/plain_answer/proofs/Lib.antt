@@ -36,3 +36,5 @@ pub mod Tallying
 pub mod Sending
 pub mod Making
 pub mod Noting
+pub mod Moved
+pub mod Working

@@ -84,7 +84,7 @@ unread-total [] g stream items = total-map g (plain_line stream) items
 unread-total (s ∷ ss) g stream items = sym (total-zero items)
 
 -- and of all streams
-streams-lines : (shape : Shape) (g : ResultLine → ℕ) (n : ℕ) (streams : List (List Record))
+pub streams-lines : (shape : Shape) (g : ResultLine → ℕ) (n : ℕ) (streams : List (List Record))
     → total g (flat_map (λ (s : ℕ × List Record). lines_unread (consumers_of shape s.0) (stream_of shape s.0) s.1)
     (enumerate_from n streams))
     ≡ stream_total (λ o. when (is_unread shape o.0) (g (plain_line (stream_of shape o.0) o.1))) n streams

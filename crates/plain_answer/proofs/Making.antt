@@ -1,6 +1,6 @@
 -- The streams that are worked out part by part are the plain ones, each in some order.
 use Rattle.std.proofs.Common.{◌≡◌, ℕ, zero, suc, ◌+◌, ◌-◌, ◌<◌, ◌≤◌, ◌==◌, List, [], ◌∷◌, ◌++◌, length, map, drop, take, refl, sym, ◌∙◌, ap, subst, arith, length-append, get_or, sum_by, Some}
-use Rattle.std.specs.Prelude.{slice_get, unwrap_or, nat_lt, Option, None, false, cond}
+use Rattle.std.specs.Prelude.{slice_get, unwrap_or, nat_lt, None, false, cond}
 use Rattle.std.specs.Option.{option_map}
 use Rattle.std.proofs.lemmas.Bool.Decides.{nat_tests}
 use Rattle.std.specs.List.{range_with_len}
@@ -67,6 +67,17 @@ pub record AreMadeTo (case : CaseShape) (part : ℕ) (streams : List (List Recor
   pub moved : EachMoved found streams
   pub left : streams_with case.topology found (drop (part - injectors_of case.topology) case.topology.computations) ≡ plain_streams case
 
+-- the one that is there, and those that are left behind it
+pub dropped : (cs : List ComputationShape) (i : ℕ) (c : ComputationShape) → slice_get cs i ≡ Some c → drop i cs ≡ c ∷ drop (i + 1) cs
+dropped [] i c e = absurd cc
+dropped (y ∷ ys) zero c e = ap (λ z. z ∷ ys) (some_same e)
+  where
+    some_same : Some y ≡ Some c → y ≡ c
+    some_same e = cc
+dropped (y ∷ ys) (suc i) c e =
+    let same : suc (i + 1) ≡ suc i + 1 = omega arith in
+    dropped ys i c e ∙ ap (λ n. c ∷ drop n (y ∷ ys)) same
+
 -- one more part
 pub made-push : (case : CaseShape) (part : ℕ) (kind : Kind) (c : ComputationShape) (streams : List (List Record)) (x : List Record)
     → injectors_of case.topology ≤ part
@@ -93,16 +104,6 @@ made-push case part kind c streams x from at of made moved =
           ∙ ap (λ l. streams_with shape made.found l) (sym (dropped shape.computations (part - injectors_of shape) c at))
           ∙ made.left;
     }
-  where
-    dropped : (cs : List ComputationShape) (i : ℕ) (c : ComputationShape) → slice_get cs i ≡ Some c → drop i cs ≡ c ∷ drop (i + 1) cs
-    dropped [] i c e = absurd cc
-    dropped (y ∷ ys) zero c e = ap (λ z. z ∷ ys) (some_same e)
-      where
-        some_same : Some y ≡ Some c → y ≡ c
-        some_same e = cc
-    dropped (y ∷ ys) (suc i) c e =
-        let same : suc (i + 1) ≡ suc i + 1 = omega arith in
-        dropped ys i c e ∙ ap (λ n. c ∷ drop n (y ∷ ys)) same
 
 -- after the last part they are the plain ones
 pub made-all : (case : CaseShape) (part : ℕ) (streams : List (List Record)) → parts_of case.topology ≤ part
@@ -153,6 +154,18 @@ injected-push case a (suc n) =
 pub made-long : (case : CaseShape) (part : ℕ) (streams : List (List Record)) → AreMadeTo case part streams → length streams ≡ part
 made-long case part streams made = sym (moved-length made.found streams made.moved) ∙ made.long
 
+-- a number is not below one that it reaches
+behind : (n k : ℕ) → k ≤ n → nat_lt n k ≡ false
+behind n k le = grind (arith, nat_tests)
+
+-- a computation of this kind is there
+pub kind_there : (shape : Shape) (part : ℕ) (kind : Kind) → injectors_of shape ≤ part → kind_of shape part ≡ Some kind
+    → (c : ComputationShape) × (slice_get shape.computations (part - injectors_of shape) ≡ Some c) × (c.kind ≡ kind)
+kind_there shape part kind from of =
+    was_some (λ (c : ComputationShape). c.kind) (slice_get shape.computations (part - injectors_of shape)) kind
+    (sym (ap (λ b. option_map (λ (c : ComputationShape). c.kind) (cond b None (slice_get shape.computations (part - injectors_of shape))))
+    (behind part (injectors_of shape) from)) ∙ of)
+
 -- one more part, of the members that are at hand
 pub made-next : (case : CaseShape) (part : ℕ) (kind : Kind) (streams more : List (List Record)) (reads : List (List Keyed)) (x : List Record)
     → injectors_of case.topology ≤ part → part < parts_of case.topology → kind_of case.topology part ≡ Some kind
@@ -163,16 +176,6 @@ made-next case part kind streams more reads x from within of made read moved is 
     subst (AreMadeTo case (part + 1)) (sym is)
     (made-push case part kind there.0 streams x from there.1 there.2 made
     (subst (λ l. IsPermutation (plain_of kind l) x) (read.each part within) moved))
-  where
-    behind : (n k : ℕ) → k ≤ n → nat_lt n k ≡ false
-    behind n k le = grind (arith, nat_tests)
-
-    kind_there : (shape : Shape) (part : ℕ) (kind : Kind) → injectors_of shape ≤ part → kind_of shape part ≡ Some kind
-        → (c : ComputationShape) × (slice_get shape.computations (part - injectors_of shape) ≡ Some c) × (c.kind ≡ kind)
-    kind_there shape part kind from of =
-        was_some (λ (c : ComputationShape). c.kind) (slice_get shape.computations (part - injectors_of shape)) kind
-        (sym (ap (λ b. option_map (λ (c : ComputationShape). c.kind) (cond b None (slice_get shape.computations (part - injectors_of shape))))
-        (behind part (injectors_of shape) from)) ∙ of)
 
 -- the records of one more line
 pub injected-more : (source : Source) (n : ℕ) (item : Record) → option_map record_of (item_at source n) ≡ Some item

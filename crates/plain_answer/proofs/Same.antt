@@ -17,7 +17,7 @@ use Rattle.plain_answer.proofs.SpikePlain.{row-at, spikes-key}
 use Rattle.plain_answer.proofs.Totals.{total, when, total-map, total-filter, HaveSameTotals, totals-permuted}
 
 -- the places of a row
-places-any : (key : List ℕ) (ms ns : List Keyed) → HaveSameTotals ms ns
+pub places-any : (key : List ℕ) (ms ns : List Keyed) → HaveSameTotals ms ns
     → places_in (row_members key ms) ≡ places_in (row_members key ns)
 places-any key ms ns same =
     places-fold (row_members key ms)

@@ -4,10 +4,10 @@
 //! injector's file has, or what its computation makes of all that it reads at once. Stands on
 //! `history_laws`. Public contract: the result text of every legal and finished history of a case
 //! is the plain count of the case, in whatever order its entries came, so that two such histories
-//! of a case have one text; `windows_of` computes what a count gives. Definitions:
-//! `specs/Plain.antt`, which is to be read from the top, `specs/Ends.antt`, when a run is at its
-//! end, and `specs/Rows.antt`, with cases that were worked by hand; no public clause cites the
-//! other files of `specs/`.
+//! of a case have one text; `plain_text` writes that text from the files alone; `windows_of`
+//! computes what a count gives. Definitions: `specs/Plain.antt`, which is to be read from the top,
+//! `specs/Ends.antt`, when a run is at its end, and `specs/Rows.antt`, with cases that were worked
+//! by hand; no public clause cites the other files of `specs/`.
 #![tactic(auto)]
 
 mod examples;
@@ -16,6 +16,7 @@ mod line;
 mod sends;
 mod spikes;
 mod streams;
+mod summary;
 mod text;
 mod windows;
 

@@ -1,4 +1,4 @@
-use Rattle.std.proofs.Common.{rules, ◌≡◌, ◌∙◌, subst, ap, sym, arith}
+use Rattle.std.proofs.Common.{◌≡◌, ◌∙◌, subst, ap, sym, arith}
 use Rattle.std.specs.List.Sorted.{IsPermutation}
 use Rattle.plain_answer.specs.Plain.{plain_of}
 use Rattle.topology.specs.Shapes.{consumers_of, injectors_of, kind_of, parts_of}

@@ -1,6 +1,6 @@
-use Rattle.std.proofs.Common.{◌≡◌, ◌++◌, ◌∷◌, [], ◌∙◌, ap, length, map, sym, arith, ℕ, ◌+◌}
+use Rattle.std.proofs.Common.{◌≡◌, ◌++◌, ◌∷◌, [], ◌∙◌, ap, length, map, sym, arith, ◌+◌}
 use Rattle.std.specs.List.{range_with_len}
-use Rattle.topology.specs.Shapes.{injectors_of, consumers_of}
+use Rattle.topology.specs.Shapes.{consumers_of}
 use Rattle.run_history.specs.Cases.{CaseShape, source_of}
 use Rattle.plain_answer.specs.Plain.{injected_of}
 use Rattle.plain_answer.specs.Sends.{sent_along}

@@ -1,4 +1,4 @@
-use Rattle.std.proofs.Common.{rules, ◌≡◌, ◌++◌, ◌∷◌, ◌≤◌, ◌<◌, [], ◌∙◌, ap, sym, length, get_or, arith}
+use Rattle.std.proofs.Common.{◌≡◌, ◌++◌, ◌∷◌, ◌≤◌, [], ◌∙◌, ap, sym, length, get_or, arith}
 use Rattle.topology.specs.Shapes.{injectors_of}
 use Rattle.std.proofs.lemmas.List.{take_all}
 use Rattle.run_history.specs.Cases.{CaseShape, source_of}
