@@ -29,7 +29,8 @@ fn claim_through<D: Desk>(desk: &mut D, alloc: Global, worker: u32, interval: u3
     }
 }
 
-// One claim through the desk of a seat, whose floor is then 1 where the claim is the first entry.
+// One claim through the desk of a seat: the claims of the intervals before it are there, and the floor's word
+// is above them, whichever seat raised it.
 fn desk_claim<K: Keeper>(
     rt: &impl Abort,
     alloc: Global,
@@ -44,7 +45,7 @@ fn desk_claim<K: Keeper>(
         IsAtRest table.table_id shared.now.case.now v.basis.seats v.numbers seat.new.place }
 {
     let mut desk = SharedDesk::on(&*shared, seat);
-    assert_eq!(rt; desk.floor(), 0);
+    assert_eq!(rt; desk.floor(), u64::from(interval));
     let tried = claim_through(&mut desk, alloc, 0, interval);
     match tried {
         Tried::Claimed { seq } => assert_eq!(rt; desk.floor(), seq.wrapping_add(1)),
