@@ -3,8 +3,8 @@
 
     ./gate-cost.py [rt ci's words]
 
-looks once a second at the processes that `rt ci` started, and prints a table for docs/ when it has ended. What an
-earlier run on this machine kept costs nothing again, so `./gate-cost.py --anew` measures from nothing.
+looks once a second at the processes that `rt ci` started, and prints a table for docs/ when it has ended. A kit whose
+`rt ci` keeps what an earlier run proved measures from nothing by `./gate-cost.py --anew`.
 """
 import collections
 import os
