@@ -10,9 +10,10 @@ use Rattle.mw_types.specs.declared.kind.Kind.TheVariants.{Count, Spike, Pass}
 use Rattle.mw_types.specs.declared.state.State.TheVariants.{Injector}
 use Rattle.topology.specs.Shapes.{kind_of, injectors_of}
 use Rattle.computations.specs.Handlers.{fresh_state}
+use Rattle.row_parts.specs.Contents.{cursor_in}
 use Rattle.run_history.specs.Cases.{CaseShape, source_of}
 use Rattle.run_history.specs.Runs.{empty_run}
-use Rattle.run_history.specs.Watermarks.{cursor_in, cursor_of}
+use Rattle.run_history.specs.Watermarks.{cursor_of}
 use Rattle.run_history.specs.Finished.{has_line, unfinished}
 
 -- nothing is injected before any entry

@@ -5,9 +5,8 @@ use Rattle.std.proofs.lemmas.List.Elements.{All-append, All-from_recursion, recu
 use Rattle.mw_types.specs.declared.identity.RecordId.{RecordId}
 use Rattle.mw_types.specs.declared.delivery.Delivery.{Delivery}
 use Rattle.mw_types.specs.declared.entry.Entry.{Entry}
-use Rattle.row_parts.specs.Contents.{IsId, IsDelivery, same_id}
+use Rattle.row_parts.specs.Contents.{IsId, IsDelivery, same_id, found_delivery}
 use Rattle.run_history.specs.HistoryLines.{HasLine}
-use Rattle.run_history.specs.Made.{found_delivery}
 use Rattle.list_lemmas.proofs.Lists.{find-passes, find-each}
 use Rattle.history_laws.proofs.IdLaws.{same_id-true}
 

@@ -22,13 +22,12 @@ use Rattle.mw_types.specs.declared.entry.Entry.TheVariants as entries
 use Rattle.mw_types.specs.Outcomes.{EffectsView}
 use Rattle.topology.specs.Shapes.{Shape, kind_of}
 use Rattle.computations.specs.Handlers.{effects_of_record, effects_of_timer, unchanged, outcome_with_timer, outcome_with_record, count_timer, window_due, spike_timer, total_due, is_spike, known_with, due_time, one_more, window_end, counted, held_with, has_kind}
-use Rattle.row_parts.specs.Contents.{Contents, is_finished}
+use Rattle.row_parts.specs.Contents.{Contents, is_finished, cursor_in, found_delivery}
 use Rattle.injector.specs.Sources.{item_at}
 use Rattle.run_history.specs.Cases.{CaseShape, is_injector, source_of, record_of}
-use Rattle.run_history.specs.Made.{deliveries_made, found_delivery, productions_of}
+use Rattle.run_history.specs.Made.{deliveries_made, productions_of}
 use Rattle.run_history.specs.Runs.{run_of, row_of, advanced, written_row}
 use Rattle.run_history.specs.Legal.{IsLegal}
-use Rattle.run_history.specs.Watermarks.{cursor_in}
 use Rattle.run_history.specs.Fences.{IsFenced, last_claim, known}
 use Rattle.history_laws.proofs.FeedLaws.{injector-no_kind}
 use Rattle.history_laws.proofs.PendingLaws.{was_some}

@@ -11,9 +11,9 @@ use Rattle.mw_types.specs.declared.kind.Kind.{Kind}
 use Rattle.mw_types.specs.declared.entry.Entry.{Entry}
 use Rattle.mw_types.specs.declared.entry.Entry.TheVariants.{Ack, Claim, Purge}
 use Rattle.topology.specs.Shapes.{Shape, injectors_of, parts_of, kind_of}
-use Rattle.row_parts.specs.Contents.{Contents, IsId, same_id}
+use Rattle.row_parts.specs.Contents.{Contents, IsId, same_id, found_delivery}
 use Rattle.run_history.specs.Cases.{CaseShape, is_injector, source_of}
-use Rattle.run_history.specs.Made.{row_written, productions_of, deliveries_of, found_delivery}
+use Rattle.run_history.specs.Made.{row_written, productions_of, deliveries_of}
 use Rattle.run_history.specs.Runs.{Run, run_of, row_of, row_in, written_row}
 use Rattle.run_history.specs.Legal.{MayFollow, IsLegal, floor_of}
 use Rattle.run_history.proofs.RunLaws.{run_of-push}

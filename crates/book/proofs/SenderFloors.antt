@@ -15,9 +15,8 @@ use Rattle.mw_types.specs.declared.entry.Entry.{Entry}
 use Rattle.mw_types.specs.Orders.{id_cmp, row_cmp}
 use Rattle.mw_types.proofs.OrderLaws.{id_cmp-total, row_cmp-total}
 use Rattle.topology.specs.Shapes.{Shape}
-use Rattle.row_parts.specs.Contents.{Contents, fresh}
+use Rattle.row_parts.specs.Contents.{Contents, fresh, found_delivery}
 use Rattle.run_history.specs.Cases.{fresh_of}
-use Rattle.run_history.specs.Made.{found_delivery}
 use Rattle.run_history.specs.Runs.{Run, run_of, row_of, row_in}
 use Rattle.run_history.specs.Legal.{floor_of}
 use Rattle.run_history.proofs.Lookups.{each_found}

@@ -11,9 +11,9 @@ use Rattle.mw_types.specs.declared.identity.RowName.{RowName}
 use Rattle.mw_types.specs.declared.entry.Entry.{Entry}
 use Rattle.mw_types.specs.Orders.{row_cmp}
 use Rattle.topology.specs.Shapes.{Shape, parts_of}
-use Rattle.row_parts.specs.Contents.{Contents, fresh}
+use Rattle.row_parts.specs.Contents.{Contents, fresh, found_delivery}
 use Rattle.run_history.specs.Cases.{fresh_of}
-use Rattle.run_history.specs.Made.{found_delivery, row_written}
+use Rattle.run_history.specs.Made.{row_written}
 use Rattle.run_history.specs.Printing.{IsOnPart}
 use Rattle.run_history.specs.Runs.{Run, empty_run, followed, row_in, run_of}
 use Rattle.history_laws.proofs.RowSteps.{made_row, same_row}

@@ -17,8 +17,8 @@ use Rattle.mw_types.specs.declared.entry.Entry.{Entry}
 use Rattle.mw_types.specs.declared.entry.Entry.TheVariants.{Claim, Inject, Handle, Fire, Ack, Purge}
 use Rattle.mw_types.proofs.OrderLaws.{row_cmp-total}
 use Rattle.topology.specs.Shapes.{Shape}
-use Rattle.row_parts.specs.Contents.{Contents, same_id, without_delivery}
-use Rattle.run_history.specs.Made.{found_delivery, row_written, deliveries_of, deliveries_made, delivery_at, productions_of, late_cause}
+use Rattle.row_parts.specs.Contents.{Contents, same_id, without_delivery, found_delivery}
+use Rattle.run_history.specs.Made.{row_written, deliveries_of, deliveries_made, delivery_at, productions_of, late_cause}
 use Rattle.run_history.specs.Runs.{Run, run_of, row_of, followed, changed}
 use Rattle.run_history.proofs.RunLaws.{run_of-push}
 use Rattle.list_lemmas.proofs.Lists.{none_some, some_same, each-weaker}

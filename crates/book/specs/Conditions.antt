@@ -8,9 +8,8 @@ use Rattle.mw_types.specs.declared.identity.RowName.{RowName}
 use Rattle.mw_types.specs.declared.entry.Entry.{Entry}
 use Rattle.key_intervals.specs.declared.bounds.Bounds.{Bounds}
 use Rattle.topology.specs.Shapes.{Shape}
-use Rattle.row_parts.specs.Contents.{Contents}
+use Rattle.row_parts.specs.Contents.{Contents, found_delivery}
 use Rattle.run_history.specs.Cases.{CaseShape, intervals_of}
-use Rattle.run_history.specs.Made.{found_delivery}
 use Rattle.run_history.specs.Runs.{run_of, row_in, row_of}
 use Rattle.run_history.specs.Legal.{floor_of}
 use Rattle.run_history.specs.Fences.{HasSeenAll, interval_of, known}

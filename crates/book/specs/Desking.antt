@@ -5,8 +5,7 @@ use Rattle.std.specs.Prelude.{◌≡◌, ◌<◌, ◌≤◌, ◌++◌, ◌∷◌
 use Rattle.mw_types.specs.declared.identity.RowName.{RowName}
 use Rattle.mw_types.specs.declared.entry.Entry.{Entry}
 use Rattle.mw_types.specs.declared.entry.Entry.TheVariants.{Claim}
-use Rattle.row_parts.specs.Contents.{Contents}
-use Rattle.run_history.specs.Made.{found_delivery}
+use Rattle.row_parts.specs.Contents.{Contents, found_delivery}
 use Rattle.run_history.specs.Runs.{run_of, row_in}
 use Rattle.run_history.specs.Watermarks.{least}
 use Rattle.run_history.specs.Fences.{IsCurrent, interval_of}

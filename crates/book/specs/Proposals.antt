@@ -12,12 +12,12 @@ use Rattle.mw_types.specs.declared.entry.Entry.TheVariants as entries
 use Rattle.mw_types.specs.Outcomes.{EffectsView}
 use Rattle.injector.specs.Sources.{item_at}
 use Rattle.topology.specs.Shapes.{Shape}
-use Rattle.row_parts.specs.Contents.{Contents, IsId, is_finished}
+use Rattle.row_parts.specs.Contents.{Contents, IsId, is_finished, cursor_in, found_delivery}
 use Rattle.run_history.specs.Cases.{CaseShape, is_injector, source_of, record_of}
-use Rattle.run_history.specs.Made.{found_delivery, productions_of, late_cause, deliveries_made}
+use Rattle.run_history.specs.Made.{productions_of, late_cause, deliveries_made}
 use Rattle.run_history.specs.Runs.{Run, written_row}
 use Rattle.run_history.specs.Legal.{record_outcome, timer_outcome}
-use Rattle.run_history.specs.Watermarks.{cursor_in, low_watermark}
+use Rattle.run_history.specs.Watermarks.{low_watermark}
 use Rattle.book.specs.Books.{LeaseView}
 use Rattle.book.specs.Answers.{IsWritten}
 use Rattle.book.specs.declared.answers.Written.{Written}

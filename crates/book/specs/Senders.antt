@@ -9,7 +9,7 @@ use Rattle.mw_types.specs.Orders.{id_cmp}
 use Rattle.mw_types.specs.declared.identity.RecordId.{RecordId}
 use Rattle.mw_types.specs.declared.identity.RowName.{RowName}
 use Rattle.topology.specs.Shapes.{Shape}
-use Rattle.run_history.specs.Made.{found_delivery}
+use Rattle.row_parts.specs.Contents.{found_delivery}
 use Rattle.run_history.specs.Runs.{Run, row_of}
 
 -- which row sent an id, by what is known of the senders

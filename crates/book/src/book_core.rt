@@ -94,7 +94,8 @@ impl<K: Keeper> Core<K> {
         ensures stored { OnOk result
             (self.new.rows ≡ option_map (with_row name.now (spelling_of row.now)) self.old.rows) }
         ensures own { OnOk result (IsSpelledRow row.now) }
-        ensures left { OnOk result (self.new.work ≡ (self.old.work + work_in case.now name.now row.now)
+        ensures left { OnOk result (self.new.work
+            ≡ (self.old.work + work_in case.now name.now row.now)
             - work_in case.now name.now before.now) }
         ensures senders { OnOk result (IsAfterEntry (length self.old.history) entry name.now sent
             self.old.unacknowledged self.new.unacknowledged) }
@@ -232,10 +233,12 @@ fn store<K: Keeper>(
     row: &Row,
 ) -> Result<(), KeeperFault>
     ensures stored { OnOk result
-        (K.rows keeper.new ≡ option_map (with_row name.now (spelling_of row.now)) (K.rows keeper.old)) }
+        (K.rows keeper.new
+        ≡ option_map (with_row name.now (spelling_of row.now)) (K.rows keeper.old)) }
     ensures own { OnOk result (IsSpelledRow row.now) }
     ensures unchanged { OnErr result (K.rows keeper.new ≡ K.rows keeper.old) }
-    ensures failed { HasCause (K.faults keeper.old) (K.faults keeper.new) result KeeperFault.Failed }
+    ensures failed { HasCause (K.faults keeper.old) (K.faults keeper.new)
+        result KeeperFault.Failed }
     ensures left { OnOk result (work.new ≡ (work.old + work_in case.now name.now row.now)
         - work_in case.now name.now before.now) }
     ensures same_left { OnErr result (work.new ≡ work.old) }

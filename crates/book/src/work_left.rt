@@ -1,10 +1,9 @@
 //! How much work a row leaves.
 ghost use Rattle.std.specs.Prelude.{◌≡◌, ◌+◌, ◌-◌, IfOk};
-ghost use Rattle.run_history.specs.Watermarks.{cursor_in};
 ghost use Rattle.run_history.specs.Finished.{row_has_line, work_in};
 
 use crate::fitting::lines;
-use mw_types::{NoMemory, RowName, State};
+use mw_types::{NoMemory, RowName};
 use row_parts::Row;
 use run_history::Case;
 
@@ -39,17 +38,7 @@ fn row_has_line(case: &Case, name: &RowName, row: &Row) -> bool
 {
     name.part < case.topology.injectors()
         && name.key.text().is_empty()
-        && cursor_in(&row.state) < lines(case, name.part)
-}
-
-// How many lines a state says were injected.
-fn cursor_in(state: &State) -> u32
-    ensures { result ≡ cursor_in state.now }
-{
-    match state {
-        State::Injector { cursor } => *cursor,
-        _ => 0,
-    }
+        && row.cursor() < lines(case, name.part)
 }
 
 // The sum of two counts, where it can be counted.

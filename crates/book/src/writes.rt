@@ -80,7 +80,8 @@ impl<'a, K: Keeper> Book<'a, K> {
         ensures written { let entry = Ack lease.now.seq name.now id in
             let left = written_row (length self.old.history) entry [] row.now in
             let old = self.old in IfOk result
-            (IsWritten old.case old.rows old.history self.new.history lease.now name.now entry left) }
+            (IsWritten old.case old.rows old.history self.new.history
+            lease.now name.now entry left) }
         ensures found { let old = self.old in
             OnOk result (IsRowOf old.case old.rows old.history name.now row.now) }
         ensures stale { IsStaleWhere self.old.history lease.now result }
@@ -118,7 +119,8 @@ impl<'a, K: Keeper> Book<'a, K> {
         ensures written { let entry = Purge lease.now.seq name.now floor in
             let left = written_row (length self.old.history) entry [] row.now in
             let old = self.old in IfOk result
-            (IsWritten old.case old.rows old.history self.new.history lease.now name.now entry left) }
+            (IsWritten old.case old.rows old.history self.new.history
+            lease.now name.now entry left) }
         ensures found { let old = self.old in
             OnOk result (IsRowOf old.case old.rows old.history name.now row.now) }
         ensures stale { IsStaleWhere self.old.history lease.now result }

@@ -9,11 +9,10 @@ use Rattle.mw_types.specs.declared.entry.Entry.TheVariants as entries
 use Rattle.mw_types.specs.declared.identity.RecordId.{RecordId}
 use Rattle.mw_types.specs.declared.identity.RowName.{RowName}
 use Rattle.topology.specs.Shapes.{Shape, parts_of}
-use Rattle.row_parts.specs.Contents.{IsDelivery, is_finished, same_id}
+use Rattle.row_parts.specs.Contents.{IsDelivery, is_finished, same_id, found_delivery}
 use Rattle.run_history.specs.Cases.{CaseShape}
 use Rattle.run_history.specs.Fences.{is_claim}
 use Rattle.run_history.specs.Legal.{floor_of}
-use Rattle.run_history.specs.Made.{found_delivery}
 use Rattle.run_history.specs.Runs.{run_of}
 use Rattle.run_history.specs.Watermarks.{least}
 use Rattle.list_lemmas.proofs.Lists.{none_some, some_same}

@@ -6,7 +6,7 @@ use Rattle.std.specs.Ordering.{is_gt, nat_cmp, ordering_then}
 use Rattle.mw_types.specs.declared.timer.Timer.{Timer}
 use Rattle.mw_types.specs.declared.entry.Entry.{Entry}
 use Rattle.mw_types.specs.declared.entry.Entry.TheVariants.{Claim, Inject, Handle, Fire, Ack, Purge}
-use Rattle.run_history.specs.Made.{found_delivery}
+use Rattle.row_parts.specs.Contents.{found_delivery}
 use Rattle.run_history.specs.Runs.{Run, run_of, row_of}
 use Rattle.run_history.specs.Watermarks.{cursor_of, low_watermark}
 use Rattle.run_history.specs.Finished.{all_pending, is_handled, injectors_left}

@@ -13,9 +13,8 @@ use Rattle.mw_types.specs.declared.delivery.Delivery.{Delivery}
 use Rattle.mw_types.specs.declared.entry.Entry.{Entry}
 use Rattle.injector.specs.Sources.{SourceLine}
 use Rattle.topology.specs.Shapes.{Shape, parts_of, injectors_of, feeds_of}
-use Rattle.row_parts.specs.Contents.{Contents}
+use Rattle.row_parts.specs.Contents.{Contents, found_delivery}
 use Rattle.run_history.specs.Cases.{CaseShape, is_injector, source_of}
-use Rattle.run_history.specs.Made.{found_delivery}
 use Rattle.run_history.specs.Runs.{Run, run_of, row_of}
 use Rattle.run_history.specs.Watermarks.{cursor_of, source_mark, low_watermark}
 use Rattle.run_history.specs.Legal.{IsLegal}

@@ -12,11 +12,11 @@ use Rattle.mw_types.specs.declared.entry.Entry.TheVariants as entries
 use Rattle.injector.specs.Sources.{SourceLine, item_at}
 use Rattle.injector.specs.declared.item.Item.{Item}
 use Rattle.topology.specs.Shapes.{injectors_of}
-use Rattle.row_parts.specs.Contents.{Contents}
+use Rattle.row_parts.specs.Contents.{Contents, cursor_in}
 use Rattle.run_history.specs.Cases.{CaseShape, record_of, source_of}
 use Rattle.run_history.specs.Finished.{has_line, injectors_left}
 use Rattle.run_history.specs.Runs.{Run, run_of}
-use Rattle.run_history.specs.Watermarks.{cursor_in, cursor_of}
+use Rattle.run_history.specs.Watermarks.{cursor_of}
 use Rattle.list_lemmas.proofs.Lists.{each-filter, each-weaker, filter-passes, none_some, some_same}
 use Rattle.book.specs.Books.{BookView}
 use Rattle.holdings.specs.Holding.{HeldView, held_on, row_held}

@@ -11,12 +11,11 @@ use Rattle.mw_types.specs.declared.entry.Entry.TheVariants as entries
 use Rattle.mw_types.specs.declared.identity.RecordId.{RecordId}
 use Rattle.mw_types.specs.declared.identity.RowName.{RowName}
 use Rattle.topology.specs.Shapes.{Shape, injectors_of, parts_of}
-use Rattle.row_parts.specs.Contents.{Contents, is_finished, same_id}
+use Rattle.row_parts.specs.Contents.{Contents, is_finished, same_id, found_delivery}
 use Rattle.run_history.specs.Cases.{CaseShape}
 use Rattle.run_history.specs.Finished.{is_handled}
 use Rattle.run_history.specs.Fits.{is_sent_before, suits_part}
 use Rattle.run_history.specs.Legal.{IsLegal, floor_of}
-use Rattle.run_history.specs.Made.{found_delivery}
 use Rattle.run_history.specs.Runs.{Run, row_of, run_of}
 use Rattle.list_lemmas.proofs.Lists.{find-each, find-passes, none_some}
 use Rattle.history_laws.proofs.FinishedLaws.{finished-handled}

@@ -21,9 +21,8 @@ use Rattle.mw_types.specs.declared.entry.Entry.TheVariants.{Claim, Inject, Handl
 use Rattle.mw_types.specs.Outcomes.{EffectsView}
 use Rattle.topology.specs.Rules.{interval_count}
 use Rattle.row_parts.specs.Orders.{timer_cmp-total}
-use Rattle.row_parts.specs.Contents.{Contents, same_id}
+use Rattle.row_parts.specs.Contents.{Contents, same_id, found_delivery}
 use Rattle.run_history.specs.Cases.{CaseShape}
-use Rattle.run_history.specs.Made.{found_delivery}
 use Rattle.run_history.specs.Runs.{Run, run_of, row_of}
 use Rattle.run_history.specs.Watermarks.{cursor_of, low_watermark}
 use Rattle.run_history.specs.Legal.{floor_of}

@@ -12,8 +12,9 @@ use Rattle.mw_types.specs.declared.entry.Entry.{Entry}
 use Rattle.mw_types.specs.declared.entry.Entry.TheVariants.{Claim, Inject, Handle, Fire, Ack, Purge}
 use Rattle.mw_types.specs.Outcomes.{EffectsView}
 use Rattle.injector.specs.Sources.{item_at}
+use Rattle.row_parts.specs.Contents.{found_delivery}
 use Rattle.run_history.specs.Cases.{CaseShape, source_of, record_of}
-use Rattle.run_history.specs.Made.{found_delivery, row_written}
+use Rattle.run_history.specs.Made.{row_written}
 use Rattle.run_history.specs.Runs.{Run, run_of, row_of, empty_run}
 use Rattle.run_history.specs.Watermarks.{cursor_of, low_watermark}
 use Rattle.run_history.specs.Legal.{MayFollow, MayInject, MayHandle, MayFire, IsLegal, record_outcome, timer_outcome}

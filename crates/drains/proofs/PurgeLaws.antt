@@ -24,12 +24,11 @@ use Rattle.key_intervals.proofs.Beginnings.{after_part, begin_in_two, begins_by,
 use Rattle.key_intervals.proofs.Lookup.{begins_by_row, goes_past, of_part}
 use Rattle.topology.specs.Rules.{IsTopology, interval_count}
 use Rattle.topology.specs.Shapes.{Shape}
-use Rattle.row_parts.specs.Contents.{AreSeen, AreTimers, Contents, same_id}
+use Rattle.row_parts.specs.Contents.{AreSeen, AreTimers, Contents, same_id, found_delivery}
 use Rattle.run_history.specs.Cases.{CaseShape, intervals_of}
 use Rattle.run_history.specs.Fences.{interval_of}
 use Rattle.run_history.specs.Finished.{all_pending, is_handled}
 use Rattle.run_history.specs.Legal.{IsLegal, floor_of}
-use Rattle.run_history.specs.Made.{found_delivery}
 use Rattle.run_history.specs.Runs.{Run, row_of, run_of}
 use Rattle.run_history.proofs.IntervalLaws.{are-intervals, interval_of-has}
 use Rattle.list_lemmas.proofs.Lists.{each-weaker, find-each, find-passes, some_same}

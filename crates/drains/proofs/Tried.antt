@@ -16,9 +16,8 @@ use Rattle.mw_types.specs.declared.identity.RowName.{RowName}
 use Rattle.mw_types.specs.declared.delivery.Delivery.{Delivery}
 use Rattle.mw_types.specs.declared.timer.Timer.{Timer}
 use Rattle.topology.specs.Shapes.{Shape}
-use Rattle.row_parts.specs.Contents.{Contents, fresh, same_id}
+use Rattle.row_parts.specs.Contents.{Contents, fresh, same_id, found_delivery}
 use Rattle.run_history.specs.Cases.{CaseShape, fresh_of}
-use Rattle.run_history.specs.Made.{found_delivery}
 use Rattle.run_history.specs.Runs.{Run, row_of}
 use Rattle.run_history.specs.Watermarks.{low_watermark}
 use Rattle.history_laws.proofs.IdLaws.{same_id-true}

@@ -13,10 +13,9 @@ use Rattle.mw_types.specs.declared.identity.RecordId.{RecordId}
 use Rattle.key_intervals.specs.declared.bounds.Bounds.{Bounds}
 use Rattle.topology.specs.Rules.{interval_count}
 use Rattle.topology.specs.Shapes.{Shape, injectors_of, parts_of}
-use Rattle.row_parts.specs.Contents.{IsId, is_finished}
+use Rattle.row_parts.specs.Contents.{IsId, is_finished, cursor_in, found_delivery}
 use Rattle.run_history.specs.Cases.{CaseShape, intervals_of, source_of}
-use Rattle.run_history.specs.Made.{found_delivery}
-use Rattle.run_history.specs.Watermarks.{cursor_in, least, low_watermark}
+use Rattle.run_history.specs.Watermarks.{least, low_watermark}
 use Rattle.run_history.specs.Runs.{Run, row_of, run_of}
 use Rattle.run_history.specs.Finished.{all_pending, injectors_left, is_handled}
 use Rattle.run_history.specs.Fences.{Begins, IsCurrent, interval_of}

@@ -2,13 +2,12 @@
 ghost use Rattle.std.specs.Prelude.{◌≡◌, ◌<◌, ℕ, IfErr, IfOk, OnOk, None, Some, length, true, false};
 ghost use Rattle.topology.specs.Shapes.{injectors_of};
 ghost use Rattle.run_history.specs.Cases.{source_of};
-ghost use Rattle.run_history.specs.Watermarks.{cursor_in};
 ghost use Rattle.node.specs.Asking.{line_asked};
 ghost use Rattle.drains.specs.Turns.{HasAsked, HasFailed, HasTurned, IsAtWork, IsFullUnended, IsInjected, IsNextInjector, IsQuiet, IsSettled, WhereTold, cursor_at, lesser_line, line_at};
 
 use crate::least_work::is_committed;
 use book::{Book, NoNote, OwnDesk};
-use mw_types::{Key, RowName, State};
+use mw_types::{Key, RowName};
 use node::{Node, NodeFault};
 use row_keeper::Keeper;
 use run_history::Case;
@@ -107,17 +106,7 @@ fn cursor(alloc: Global, case: &Case, node: &Node<NoNote>, part: u32) -> u32
         key: Key::none(alloc),
     };
     match node.row(case, &name) {
-        Some(row) => cursor_in(&row.state),
+        Some(row) => row.cursor(),
         None => 0,
-    }
-}
-
-// How many lines a state says were injected.
-fn cursor_in(state: &State) -> u32
-    ensures { result ≡ cursor_in state.now }
-{
-    match state {
-        State::Injector { cursor } => *cursor,
-        _ => 0,
     }
 }

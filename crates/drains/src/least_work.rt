@@ -2,7 +2,6 @@
 ghost use Rattle.std.specs.Prelude.{◌≡◌, ◌<◌, ◌≤◌, ℕ, IfErr, IfOk, IfSome, OnOk, Some, IsSome, IsTrue, true, false, option_copied};
 ghost use Rattle.mw_types.specs.declared.TheConstants.{MAX_STAMP};
 ghost use Rattle.topology.specs.Shapes.{parts_of};
-ghost use Rattle.run_history.specs.Made.{found_delivery};
 ghost use Rattle.run_history.specs.Runs.{run_of};
 ghost use Rattle.book.specs.Senders.{IsLeastSent};
 ghost use Rattle.holdings.specs.Holding.{held_on, row_held};
@@ -11,7 +10,7 @@ ghost use Rattle.node.specs.Messages.{IsDeliverable, IsSentFrom};
 ghost use Rattle.book.specs.OwnDesks.{own_view};
 ghost use Rattle.run_history.specs.Legal.{floor_of};
 ghost use Rattle.run_history.specs.Finished.{handles, is_handled};
-ghost use Rattle.row_parts.specs.Contents.{same_id};
+ghost use Rattle.row_parts.specs.Contents.{same_id, found_delivery};
 ghost use Rattle.node.specs.Asking.{MayAskForget, settle_asked};
 ghost use Rattle.drains.specs.Drains.{is_full};
 ghost use Rattle.drains.specs.Turns.{CanBeKept, HasAsked, HasAskedOne, HasFailed, HasHandled, HasTurned, IsAtWork, WhereTold, is_committed, is_finished_at, is_full_at, sent_at};

@@ -14,10 +14,10 @@ use Rattle.std.specs.BTreeMap.{is_at}
 use Rattle.std.specs.Map.{lookup}
 use Rattle.mw_types.specs.Orders.{row_cmp}
 use Rattle.mw_types.proofs.OrderLaws.{row_cmp-total}
-use Rattle.row_parts.specs.Contents.{Contents, fresh, same_id}
+use Rattle.row_parts.specs.Contents.{Contents, fresh, same_id, found_delivery}
 use Rattle.run_history.proofs.Lookups.{each_found}
 use Rattle.run_history.specs.Cases.{CaseShape, fresh_of}
-use Rattle.run_history.specs.Made.{found_delivery, row_written, deliveries_of}
+use Rattle.run_history.specs.Made.{row_written, deliveries_of}
 use Rattle.run_history.specs.Runs.{Run, run_of, row_of, followed, changed, empty_run}
 use Rattle.run_history.specs.Legal.{MayFollow, IsLegal, floor_of}
 use Rattle.run_history.specs.Finished.{acknowledges, is_acknowledged, all_pending}

@@ -11,9 +11,9 @@ use Rattle.mw_types.specs.declared.delivery.Delivery.{Delivery}
 use Rattle.mw_types.specs.declared.entry.Entry.{Entry}
 use Rattle.mw_types.specs.declared.entry.Entry.TheVariants.{Claim, Inject, Handle, Fire, Ack, Purge}
 use Rattle.topology.specs.Shapes.{Shape}
-use Rattle.row_parts.specs.Contents.{Contents, same_id, delivery_cmp}
+use Rattle.row_parts.specs.Contents.{Contents, same_id, delivery_cmp, found_delivery}
 use Rattle.run_history.specs.Cases.{CaseShape}
-use Rattle.run_history.specs.Made.{found_delivery, row_written, deliveries_of}
+use Rattle.run_history.specs.Made.{row_written, deliveries_of}
 use Rattle.run_history.specs.Runs.{Run, run_of, row_of, followed}
 use Rattle.run_history.specs.Legal.{MayFollow, IsLegal}
 use Rattle.run_history.specs.Finished.{acknowledges, is_acknowledged, all_pending}

@@ -20,12 +20,11 @@ use Rattle.mw_types.specs.Outcomes.{EffectsView}
 use Rattle.topology.specs.declared.subscription.Subscription.{Subscription}
 use Rattle.topology.specs.Shapes.{Shape, injectors_of, parts_of, kind_of}
 use Rattle.computations.specs.Handlers.{has_kind, fresh_state, unchanged, outcome_with_timer, outcome_with_record, one_more, window_end, counted, window_due, count_timer, due_time, held_with, total_due, is_spike, known_with, spike_timer, effects_of_record, effects_of_timer}
-use Rattle.row_parts.specs.Contents.{Contents, same_id}
+use Rattle.row_parts.specs.Contents.{Contents, same_id, cursor_in}
 use Rattle.run_history.specs.Cases.{CaseShape, is_injector, source_of, fresh_of}
 use Rattle.run_history.specs.Made.{row_written, late_cause, productions_of, deliveries_of, deliveries_made}
 use Rattle.run_history.specs.Runs.{Run, run_of, row_of, followed, changed, advanced, empty_run}
 use Rattle.run_history.specs.Legal.{MayFollow, IsLegal}
-use Rattle.run_history.specs.Watermarks.{cursor_in}
 use Rattle.run_history.specs.Fits.{is_cursor_within, is_sent_before, suits_part, fits}
 use Rattle.run_history.proofs.Fitting.{kind-none, kind-some, passes-each, fresh_state-kind}
 use Rattle.list_lemmas.proofs.Lists.{some_same, each-append, each-all, each-weaker, each-filter, each-both}

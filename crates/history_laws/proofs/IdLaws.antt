@@ -20,9 +20,9 @@ use Rattle.mw_types.specs.declared.entry.Entry.TheVariants.{Claim, Inject, Handl
 use Rattle.mw_types.specs.Orders.{id_cmp}
 use Rattle.mw_types.proofs.OrderLaws.{id_cmp-total}
 use Rattle.topology.specs.Shapes.{Shape}
-use Rattle.row_parts.specs.Contents.{same_id, delivery_cmp}
+use Rattle.row_parts.specs.Contents.{same_id, delivery_cmp, found_delivery}
 use Rattle.run_history.specs.Cases.{CaseShape}
-use Rattle.run_history.specs.Made.{found_delivery, deliveries_of, deliveries_made, delivery_at, row_written, productions_of, late_cause}
+use Rattle.run_history.specs.Made.{deliveries_of, deliveries_made, delivery_at, row_written, productions_of, late_cause}
 use Rattle.run_history.specs.Runs.{Run, run_of, followed, empty_run, still_unhandled}
 use Rattle.run_history.specs.Legal.{MayFollow, IsLegal}
 use Rattle.run_history.specs.Finished.{handles, is_handled}

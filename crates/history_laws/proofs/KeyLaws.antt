@@ -29,11 +29,11 @@ use Rattle.topology.specs.declared.subscription.By.{By}
 use Rattle.topology.specs.declared.subscription.By.TheVariants.{Key, Head, Tail}
 use Rattle.topology.specs.Shapes.{Shape, consumers_of, extracted, kind_of, or_whole}
 use Rattle.computations.specs.Handlers.{count_timer, effects_of_record, effects_of_timer, is_spike, spike_timer, total_due, window_due}
-use Rattle.row_parts.specs.Contents.{Contents, IsKey, fresh, same_id}
+use Rattle.row_parts.specs.Contents.{Contents, IsKey, fresh, same_id, found_delivery}
 use Rattle.run_history.specs.Cases.{CaseShape, fresh_of, record_of, source_of}
 use Rattle.run_history.specs.Finished.{handles}
 use Rattle.run_history.specs.Legal.{IsLegal, MayFollow}
-use Rattle.run_history.specs.Made.{deliveries_made, deliveries_of, found_delivery, row_written}
+use Rattle.run_history.specs.Made.{deliveries_made, deliveries_of, row_written}
 use Rattle.run_history.specs.Runs.{Run, followed, row_in, row_of, run_of, still_unhandled}
 use Rattle.list_lemmas.proofs.Lists.{each-all, each-append, each-filter, each-weaker, find-each, none_some, some_same}
 use Rattle.history_laws.specs.Keys.{AreKeyed, HasKeys}

@@ -12,12 +12,12 @@ use Rattle.key_intervals.specs.Intervals.{bounds_from, bounds_of, covers, rows_c
 use Rattle.topology.specs.Shapes.{ComputationShape, Shape, cuts_of, injectors_of}
 use Rattle.topology.specs.Rules.{IsTopology}
 use Rattle.injector.specs.Sources.{stated_at}
-use Rattle.row_parts.specs.Contents.{Contents, fresh}
+use Rattle.row_parts.specs.Contents.{Contents, fresh, cursor_in}
 use Rattle.run_history.specs.Cases.{CaseShape, fresh_of, intervals_of, is_injector, source_of}
 use Rattle.run_history.specs.Fences.{CarryNot, IsFenced, known}
 use Rattle.run_history.specs.Marks.{own_work, row_marks, stated_marks}
 use Rattle.run_history.specs.Runs.{Run, row_of, run_of}
-use Rattle.run_history.specs.Watermarks.{cursor_in, least, source_mark}
+use Rattle.run_history.specs.Watermarks.{least, source_mark}
 use Rattle.run_history.proofs.IntervalLaws.{are-intervals, has-interval_of}
 use Rattle.list_lemmas.proofs.Lists.{each-append}
 use Rattle.list_lemmas.proofs.Places.{each-at}

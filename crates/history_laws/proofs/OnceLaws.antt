@@ -10,9 +10,8 @@ use Rattle.mw_types.specs.declared.delivery.Delivery.{Delivery}
 use Rattle.mw_types.specs.declared.entry.Entry.{Entry}
 use Rattle.mw_types.specs.declared.entry.Entry.TheVariants.{Claim, Inject, Handle, Fire, Ack, Purge}
 use Rattle.mw_types.specs.Outcomes.{EffectsView}
-use Rattle.row_parts.specs.Contents.{Contents, same_id}
+use Rattle.row_parts.specs.Contents.{Contents, same_id, found_delivery}
 use Rattle.run_history.specs.Cases.{CaseShape}
-use Rattle.run_history.specs.Made.{found_delivery}
 use Rattle.run_history.specs.Runs.{Run, run_of, row_of, empty_run}
 use Rattle.run_history.specs.Legal.{IsLegal}
 use Rattle.run_history.specs.Finished.{handles, is_handled, acknowledges, is_acknowledged, all_pending, IsFinished}

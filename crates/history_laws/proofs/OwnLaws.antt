@@ -13,9 +13,9 @@ use Rattle.mw_types.specs.declared.entry.Entry.{Entry}
 use Rattle.mw_types.specs.declared.entry.Entry.TheVariants.{Claim, Inject, Handle, Fire, Ack, Purge}
 use Rattle.mw_types.specs.Outcomes.{EffectsView}
 use Rattle.topology.specs.Shapes.{Shape, consumers_of, feeds_of}
-use Rattle.row_parts.specs.Contents.{Contents, is_timer, same_id}
+use Rattle.row_parts.specs.Contents.{Contents, is_timer, same_id, found_delivery}
 use Rattle.run_history.specs.Cases.{CaseShape, is_injector}
-use Rattle.run_history.specs.Made.{found_delivery, row_written, late_cause, deliveries_of, deliveries_made}
+use Rattle.run_history.specs.Made.{row_written, late_cause, deliveries_of, deliveries_made}
 use Rattle.run_history.specs.Runs.{Run, row_of, followed, changed}
 use Rattle.run_history.specs.Watermarks.{source_mark}
 use Rattle.run_history.specs.Legal.{MayFollow}

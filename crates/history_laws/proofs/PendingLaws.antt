@@ -13,9 +13,9 @@ use Rattle.mw_types.specs.declared.entry.Entry.{Entry}
 use Rattle.mw_types.specs.declared.entry.Entry.TheVariants.{Inject, Handle, Fire, Ack}
 use Rattle.topology.specs.declared.subscription.Subscription.{Subscription}
 use Rattle.topology.specs.Shapes.{Shape, ComputationShape, parts_of, injectors_of, feeds_of, kind_of}
-use Rattle.row_parts.specs.Contents.{Contents, same_id}
+use Rattle.row_parts.specs.Contents.{Contents, same_id, found_delivery}
 use Rattle.run_history.specs.Cases.{CaseShape}
-use Rattle.run_history.specs.Made.{found_delivery, row_written, productions_of, late_cause, deliveries_of, deliveries_made}
+use Rattle.run_history.specs.Made.{row_written, productions_of, late_cause, deliveries_of, deliveries_made}
 use Rattle.run_history.specs.Runs.{Run, run_of, row_of, followed, changed, still_unhandled}
 use Rattle.run_history.specs.Legal.{MayFollow, IsLegal, floor_of}
 use Rattle.run_history.specs.Finished.{handles}

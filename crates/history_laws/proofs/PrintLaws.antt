@@ -18,9 +18,9 @@ use Rattle.mw_types.specs.declared.entry.Entry.TheVariants.{Claim, Inject, Handl
 use Rattle.mw_types.specs.Outcomes.{EffectsView}
 use Rattle.topology.specs.Shapes.{parts_of, injectors_of, kind_of}
 use Rattle.computations.specs.Handlers.{unchanged, outcome_with_timer, outcome_with_record, one_more, window_end, counted, window_due, count_timer, due_time, held_with, total_due, is_spike, known_with, spike_timer, effects_of_record, effects_of_timer}
-use Rattle.row_parts.specs.Contents.{Contents, fresh}
+use Rattle.row_parts.specs.Contents.{Contents, fresh, found_delivery}
 use Rattle.run_history.specs.Cases.{CaseShape, fresh_of}
-use Rattle.run_history.specs.Made.{found_delivery, productions_of}
+use Rattle.run_history.specs.Made.{productions_of}
 use Rattle.run_history.specs.Runs.{Run, run_of, row_in, row_of, followed}
 use Rattle.run_history.specs.Legal.{MayFollow, IsLegal}
 use Rattle.run_history.specs.Printing.{IsOnPart, IsPrintable}

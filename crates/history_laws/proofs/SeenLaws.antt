@@ -15,11 +15,10 @@ use Rattle.mw_types.specs.declared.entry.Entry.{Entry}
 use Rattle.mw_types.specs.declared.entry.Entry.TheVariants.{Claim, Inject, Handle, Fire, Ack, Purge}
 use Rattle.topology.specs.Shapes.{Shape, kind_of}
 use Rattle.computations.specs.Handlers.{effects_of_record, effects_of_timer}
-use Rattle.row_parts.specs.Contents.{Contents, same_id}
+use Rattle.row_parts.specs.Contents.{Contents, same_id, cursor_in, found_delivery}
 use Rattle.run_history.specs.Cases.{CaseShape}
-use Rattle.run_history.specs.Made.{found_delivery, row_written, deliveries_of}
+use Rattle.run_history.specs.Made.{row_written, deliveries_of}
 use Rattle.run_history.specs.Runs.{Run, run_of, row_of, followed}
-use Rattle.run_history.specs.Watermarks.{cursor_in}
 use Rattle.run_history.specs.Legal.{MayFollow, MayClaim, IsLegal}
 use Rattle.run_history.proofs.RunLaws.{IsLegal-push}
 use Rattle.run_history.specs.Fences.{interval_of, sequencer_of, last_claim, IsFenced, HasSeen, HasSeenAll, IsWriteUnder}

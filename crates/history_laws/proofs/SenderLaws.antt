@@ -8,8 +8,8 @@ use Rattle.mw_types.specs.declared.delivery.Delivery.{Delivery}
 use Rattle.mw_types.specs.declared.entry.Entry.{Entry}
 use Rattle.mw_types.specs.declared.entry.Entry.TheVariants.{Inject, Handle, Fire, Ack}
 use Rattle.topology.specs.Shapes.{Shape}
-use Rattle.row_parts.specs.Contents.{Contents, same_id}
-use Rattle.run_history.specs.Made.{found_delivery, row_written, deliveries_of}
+use Rattle.row_parts.specs.Contents.{Contents, same_id, found_delivery}
+use Rattle.run_history.specs.Made.{row_written, deliveries_of}
 use Rattle.run_history.specs.Runs.{Run, run_of, row_of, followed, changed, empty_run}
 use Rattle.list_lemmas.proofs.Lists.{some_same, each-append, each-weaker, each-filter, find-each, find-passes}
 use Rattle.run_history.proofs.Beginnings.{slice_get-more, slice_get-last}

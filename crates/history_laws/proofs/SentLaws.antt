@@ -8,9 +8,9 @@ use Rattle.mw_types.specs.declared.delivery.Delivery.{Delivery}
 use Rattle.mw_types.specs.declared.entry.Entry.{Entry}
 use Rattle.mw_types.specs.declared.entry.Entry.TheVariants.{Inject, Handle, Fire, Ack}
 use Rattle.topology.specs.Shapes.{Shape}
-use Rattle.row_parts.specs.Contents.{Contents, same_id}
+use Rattle.row_parts.specs.Contents.{Contents, same_id, found_delivery}
 use Rattle.run_history.specs.Cases.{CaseShape}
-use Rattle.run_history.specs.Made.{found_delivery, deliveries_of}
+use Rattle.run_history.specs.Made.{deliveries_of}
 use Rattle.run_history.specs.Runs.{Run, run_of, row_of, followed, changed, empty_run}
 use Rattle.run_history.specs.Legal.{IsLegal}
 use Rattle.run_history.specs.Finished.{is_handled}

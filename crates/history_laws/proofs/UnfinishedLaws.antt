@@ -16,11 +16,11 @@ use Rattle.mw_types.specs.declared.entry.Entry.{Entry}
 use Rattle.mw_types.specs.declared.entry.Entry.TheVariants.{Inject, Handle, Fire}
 use Rattle.topology.specs.Shapes.{kind_of, injectors_of}
 use Rattle.computations.specs.Handlers.{effects_of_record, effects_of_timer}
-use Rattle.row_parts.specs.Contents.{Contents}
+use Rattle.row_parts.specs.Contents.{Contents, cursor_in, found_delivery}
 use Rattle.run_history.specs.Cases.{CaseShape, is_injector, source_of}
-use Rattle.run_history.specs.Made.{found_delivery, row_written, deliveries_of}
+use Rattle.run_history.specs.Made.{row_written, deliveries_of}
 use Rattle.run_history.specs.Runs.{Run, run_of, row_of, followed, changed, advanced, empty_run}
-use Rattle.run_history.specs.Watermarks.{cursor_in, cursor_of}
+use Rattle.run_history.specs.Watermarks.{cursor_of}
 use Rattle.run_history.specs.Legal.{MayFollow, IsLegal, IsDone}
 use Rattle.run_history.specs.Finished.{all_pending, all_timers, has_line, injectors_left, unfinished, IsFinished, row_has_line, work_in}
 use Rattle.history_laws.specs.Ids.{IsSentBy}

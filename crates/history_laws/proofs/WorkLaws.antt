@@ -24,11 +24,11 @@ use Rattle.injector.specs.Sources.{Source, SourceLine, IsSource, stated_at}
 use Rattle.topology.specs.declared.subscription.Subscription.{Subscription}
 use Rattle.topology.specs.Shapes.{Shape, parts_of, injectors_of, feeds_of, kind_of}
 use Rattle.computations.specs.Handlers.{effects_of_record, effects_of_timer}
-use Rattle.row_parts.specs.Contents.{Contents, set_again, is_timer, same_id}
+use Rattle.row_parts.specs.Contents.{Contents, set_again, is_timer, same_id, cursor_in}
 use Rattle.run_history.specs.Cases.{CaseShape, is_injector, source_of}
 use Rattle.run_history.specs.Made.{row_written, late_cause, deliveries_of, deliveries_made}
 use Rattle.run_history.specs.Runs.{Run, row_of, followed, changed, advanced, still_unhandled}
-use Rattle.run_history.specs.Watermarks.{cursor_in, cursor_of, source_mark}
+use Rattle.run_history.specs.Watermarks.{cursor_of, source_mark}
 use Rattle.run_history.specs.Legal.{MayFollow}
 use Rattle.run_history.specs.Finished.{handles}
 use Rattle.run_history.specs.Inputs.{IsRunnable}

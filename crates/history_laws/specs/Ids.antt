@@ -5,7 +5,8 @@ use Rattle.mw_types.specs.declared.identity.RowName.{RowName}
 use Rattle.mw_types.specs.declared.delivery.Delivery.{Delivery}
 use Rattle.mw_types.specs.declared.entry.Entry.{Entry}
 use Rattle.topology.specs.Shapes.{Shape, feeds_of}
-use Rattle.run_history.specs.Made.{found_delivery, row_written}
+use Rattle.row_parts.specs.Contents.{found_delivery}
+use Rattle.run_history.specs.Made.{row_written}
 use Rattle.run_history.specs.Runs.{Run, row_of}
 use Rattle.run_history.specs.Finished.{is_handled, is_acknowledged}
 

@@ -16,11 +16,11 @@ use Rattle.mw_types.proofs.OrderLaws.{row_cmp-total}
 use Rattle.key_intervals.specs.declared.bounds.Bounds.{Bounds}
 use Rattle.key_intervals.specs.Intervals.{covers, rows_covered}
 use Rattle.injector.specs.Sources.{stated_at}
-use Rattle.row_parts.specs.Contents.{Contents}
+use Rattle.row_parts.specs.Contents.{Contents, cursor_in}
 use Rattle.run_history.specs.Cases.{CaseShape, is_injector, source_of}
 use Rattle.run_history.specs.Marks.{own_work}
 use Rattle.run_history.specs.Runs.{Run, cached, row_in, row_of}
-use Rattle.run_history.specs.Watermarks.{cursor_in, least}
+use Rattle.run_history.specs.Watermarks.{least}
 use Rattle.list_lemmas.proofs.Lists.{each-weaker, filter-all}
 use Rattle.run_history.proofs.Lookups.{each_found}
 use Rattle.history_laws.proofs.LowLaws.{AreRowsInOrder, least-end}

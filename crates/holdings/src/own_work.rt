@@ -14,7 +14,6 @@ ghost use Rattle.holdings.specs.Steps.{IsOldest};
 
 use crate::held::Held;
 use crate::holdings::Holdings;
-use crate::row_work::cursor_in;
 use book::Desk;
 use mw_types::{END, Key, NoMemory, RowName};
 use run_history::Case;
@@ -30,7 +29,7 @@ impl Held {
             key: Key::none(alloc),
         };
         let cursor = match self.row(&name) {
-            Some(row) => cursor_in(&row.state),
+            Some(row) => row.cursor(),
             None => 0,
         };
         match case.items.get(part as usize) {

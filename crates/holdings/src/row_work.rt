@@ -3,9 +3,9 @@ ghost use Rattle.std.specs.Prelude.{◌≡◌, cond, filter, map, min, not};
 ghost use Rattle.mw_types.specs.declared.timer.Timer.{Timer};
 ghost use Rattle.mw_types.specs.declared.delivery.Delivery.{Delivery};
 ghost use Rattle.run_history.specs.Marks.{row_marks};
-ghost use Rattle.run_history.specs.Watermarks.{cursor_in, least};
+ghost use Rattle.run_history.specs.Watermarks.{least};
 
-use mw_types::{Delivery, END, State, Timer};
+use mw_types::{Delivery, END, Timer};
 use row_parts::Row;
 
 // The oldest work of a row that is not late, or the end where there is none.
@@ -44,14 +44,4 @@ fn lesser(late: bool, time: u64, mark: u64) -> u64
     ensures { result ≡ cond late mark (min mark time) }
 {
     if late { mark } else { mark.min(time) }
-}
-
-// How many lines a state says were injected.
-pub(crate) fn cursor_in(state: &State) -> u32
-    ensures { result ≡ cursor_in state.now }
-{
-    match state {
-        State::Injector { cursor } => *cursor,
-        _ => 0,
-    }
 }

@@ -16,11 +16,11 @@ use Rattle.mw_types.specs.declared.entry.Entry.TheVariants as entries
 use Rattle.mw_types.specs.declared.identity.RecordId.{RecordId}
 use Rattle.mw_types.specs.declared.identity.RowName.{RowName}
 use Rattle.topology.specs.Shapes.{Shape}
-use Rattle.row_parts.specs.Contents.{Contents}
+use Rattle.row_parts.specs.Contents.{Contents, found_delivery}
 use Rattle.run_history.specs.Cases.{CaseShape}
 use Rattle.run_history.specs.Fences.{IsCurrent, interval_of}
 use Rattle.run_history.specs.Finished.{handles, is_handled}
-use Rattle.run_history.specs.Made.{deliveries_made, found_delivery, late_cause, row_written}
+use Rattle.run_history.specs.Made.{deliveries_made, late_cause, row_written}
 use Rattle.run_history.specs.Runs.{run_of}
 use Rattle.history_laws.proofs.IdLaws.{same_id-itself}
 use Rattle.history_laws.proofs.SeenLaws.{found-more}

@@ -7,12 +7,12 @@ use Rattle.mw_types.specs.declared.delivery.Delivery.{Delivery}
 use Rattle.mw_types.specs.declared.entry.Entry.{Entry}
 use Rattle.mw_types.specs.declared.identity.RowName.{RowName}
 use Rattle.topology.specs.Shapes.{Shape}
-use Rattle.row_parts.specs.Contents.{is_finished, same_id}
+use Rattle.row_parts.specs.Contents.{is_finished, same_id, found_delivery}
 use Rattle.run_history.specs.Cases.{CaseShape}
 use Rattle.run_history.specs.Fences.{Begins, interval_of, known}
 use Rattle.run_history.specs.Finished.{is_handled}
 use Rattle.run_history.specs.Legal.{IsLegal}
-use Rattle.run_history.specs.Made.{deliveries_of, found_delivery}
+use Rattle.run_history.specs.Made.{deliveries_of}
 use Rattle.run_history.specs.Runs.{Run, empty_run, followed, row_of, run_of}
 use Rattle.run_history.proofs.Known.{known-begins}
 use Rattle.list_lemmas.proofs.Lists.{each-append, each-weaker, find-behind, find-each}

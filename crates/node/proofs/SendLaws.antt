@@ -15,10 +15,10 @@ use Rattle.mw_types.specs.declared.record.Production.{Production}
 use Rattle.mw_types.specs.declared.record.Record.{Record}
 use Rattle.topology.specs.Rules.{IsTopology}
 use Rattle.topology.specs.Shapes.{Shape, consumers_of, injectors_of, parts_of, stream_of}
-use Rattle.row_parts.specs.Contents.{IsId}
+use Rattle.row_parts.specs.Contents.{IsId, found_delivery}
 use Rattle.run_history.specs.Cases.{CaseShape}
 use Rattle.run_history.specs.Fits.{is_sent_before}
-use Rattle.run_history.specs.Made.{deliveries_made, deliveries_of, delivery_at, found_delivery, late_cause, produced, productions_of, row_written, sends_of}
+use Rattle.run_history.specs.Made.{deliveries_made, deliveries_of, delivery_at, late_cause, produced, productions_of, row_written, sends_of}
 use Rattle.run_history.specs.Runs.{Run, run_of}
 use Rattle.run_history.proofs.Beginnings.{slice_get-last}
 use Rattle.run_history.proofs.Making.{consumers_few}

@@ -22,11 +22,11 @@ use Rattle.mw_types.specs.declared.identity.RecordId.{RecordId}
 use Rattle.mw_types.specs.declared.identity.RowName.{RowName}
 use Rattle.mw_types.proofs.OrderLaws.{id_cmp-total, row_cmp-total}
 use Rattle.topology.specs.Shapes.{Shape, parts_of}
-use Rattle.row_parts.specs.Contents.{ArePending, Contents, IsDelivery, delivery_cmp, fresh}
+use Rattle.row_parts.specs.Contents.{ArePending, Contents, IsDelivery, delivery_cmp, fresh, found_delivery}
 use Rattle.run_history.specs.Cases.{CaseShape, fresh_of, intervals_of}
 use Rattle.run_history.specs.Fences.{interval_of, known}
 use Rattle.run_history.specs.Fits.{is_sent_before, suits_part}
-use Rattle.run_history.specs.Made.{found_delivery, row_written}
+use Rattle.run_history.specs.Made.{row_written}
 use Rattle.run_history.specs.Runs.{cached, row_in, row_of, run_of}
 use Rattle.run_history.proofs.IntervalLaws.{interval_of-has}
 use Rattle.run_history.proofs.Known.{known-begins}

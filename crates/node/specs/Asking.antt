@@ -15,11 +15,10 @@ use Rattle.mw_types.specs.declared.identity.RowName.{RowName}
 use Rattle.mw_types.specs.declared.timer.Timer.{Timer}
 use Rattle.injector.specs.Sources.{item_at}
 use Rattle.topology.specs.Shapes.{Shape}
+use Rattle.row_parts.specs.Contents.{cursor_in, found_delivery}
 use Rattle.run_history.specs.Cases.{CaseShape, record_of, source_of}
 use Rattle.run_history.specs.Fences.{interval_of}
 use Rattle.run_history.specs.Legal.{timer_outcome}
-use Rattle.run_history.specs.Made.{found_delivery}
-use Rattle.run_history.specs.Watermarks.{cursor_in}
 use Rattle.book.specs.Books.{LeaseView}
 use Rattle.book.specs.declared.proposal.Proposal.{Proposal}
 use Rattle.book.specs.declared.proposal.Proposal.TheVariants as proposals

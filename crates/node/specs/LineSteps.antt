@@ -5,10 +5,9 @@ use Rattle.mw_types.specs.declared.identity.RowName.{RowName}
 use Rattle.mw_types.specs.declared.record.Production.{Production}
 use Rattle.mw_types.specs.declared.record.Record.{Record}
 use Rattle.topology.specs.Shapes.{Shape, injectors_of}
-use Rattle.row_parts.specs.Contents.{Contents}
+use Rattle.row_parts.specs.Contents.{Contents, cursor_in}
 use Rattle.run_history.specs.Cases.{CaseShape, source_of}
 use Rattle.run_history.specs.Made.{deliveries_made}
-use Rattle.run_history.specs.Watermarks.{cursor_in}
 use Rattle.book.specs.Books.{LeaseView}
 use Rattle.book.specs.Desking.{HasWritten}
 use Rattle.book.specs.Desks.{DeskView}

@@ -9,10 +9,9 @@ use Rattle.mw_types.specs.declared.identity.RowName.{RowName}
 use Rattle.mw_types.specs.declared.delivery.Delivery.{Delivery}
 use Rattle.mw_types.specs.declared.entry.Entry.{Entry}
 use Rattle.topology.specs.Shapes.{Shape, injectors_of, parts_of}
-use Rattle.row_parts.specs.Contents.{IsId}
+use Rattle.row_parts.specs.Contents.{IsId, found_delivery}
 use Rattle.run_history.specs.Cases.{CaseShape}
 use Rattle.run_history.specs.Finished.{is_handled}
-use Rattle.run_history.specs.Made.{found_delivery}
 use Rattle.run_history.specs.Runs.{run_of}
 use Rattle.history_laws.specs.Ids.{IsMadeOn}
 use Rattle.book.specs.Desks.{DeskView, Sight}

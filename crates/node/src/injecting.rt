@@ -2,9 +2,9 @@
 ghost use Rattle.std.specs.Prelude.{◌≡◌, ◌<◌, ◌≤◌, ◌^◌, ◌++◌, ℕ, All, IfErr, IfOk, IfSome, IsSome, OnErr, OnOk, Some, length, map};
 ghost use Rattle.mw_types.specs.declared.TheConstants.{MAX_STAMP};
 ghost use Rattle.topology.specs.Shapes.{Shape, injectors_of, parts_of};
+ghost use Rattle.row_parts.specs.Contents.{cursor_in};
 ghost use Rattle.run_history.specs.Cases.{source_of};
 ghost use Rattle.run_history.specs.Fences.{interval_of};
-ghost use Rattle.run_history.specs.Watermarks.{cursor_in};
 ghost use Rattle.book.specs.Desks.{HasLooked, KeepsMarks};
 ghost use Rattle.book.specs.Proposals.{IsNextLine};
 ghost use Rattle.holdings.specs.Holding.{AreAllHeld, IsRefusedOf, KeepsHeld, held_at, row_held};

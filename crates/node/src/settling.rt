@@ -1,8 +1,8 @@
 //! Acknowledgements that come to a worker.
 ghost use Rattle.std.specs.Prelude.{◌≡◌, ◌<◌, IfErr, IfOk, IfSome, OnErr, true};
 ghost use Rattle.std.specs.Option.{is_some};
+ghost use Rattle.row_parts.specs.Contents.{found_delivery};
 ghost use Rattle.run_history.specs.Finished.{is_handled};
-ghost use Rattle.run_history.specs.Made.{found_delivery};
 ghost use Rattle.topology.specs.Shapes.{Shape, parts_of};
 ghost use Rattle.book.specs.Desks.{HasLooked, KeepsMarks};
 ghost use Rattle.holdings.specs.Holding.{held_on, row_held};

@@ -26,9 +26,10 @@ use Rattle.mw_types.specs.Orders.{row_cmp}
 use Rattle.mw_types.specs.Outcomes.{EffectsView}
 use Rattle.topology.specs.Shapes.{Shape, kind_of}
 use Rattle.computations.specs.Handlers.{window_end, window_due, count_timer, unchanged, outcome_with_timer, counted, one_more, effects_of_record, effects_of_timer}
+use Rattle.row_parts.specs.Contents.{found_delivery}
 use Rattle.run_history.specs.Cases.{CaseShape}
 use Rattle.run_history.specs.Inputs.{IsRunnable}
-use Rattle.run_history.specs.Made.{produced, late_cause, found_delivery}
+use Rattle.run_history.specs.Made.{produced, late_cause}
 use Rattle.run_history.specs.Runs.{Run, run_of, row_of, empty_run}
 use Rattle.history_laws.proofs.RowSteps.{same_row}
 use Rattle.run_history.specs.Legal.{MayFire, MayFollow, IsLegal}

@@ -20,8 +20,9 @@ use Rattle.mw_types.proofs.OrderLaws.{row_cmp-total}
 use Rattle.topology.specs.Shapes.{Shape, kind_of}
 use Rattle.computations.specs.Handlers.{fresh_state, one_more, unchanged, outcome_with_timer, counted, count_record, count_timer, window_due, window_end, effects_of_record, effects_of_timer}
 use Rattle.computations.specs.HandlerLaws.{find-passes}
+use Rattle.row_parts.specs.Contents.{found_delivery}
 use Rattle.run_history.specs.Cases.{CaseShape}
-use Rattle.run_history.specs.Made.{row_written, found_delivery}
+use Rattle.run_history.specs.Made.{row_written}
 use Rattle.run_history.specs.Runs.{Run, run_of, row_of, followed, empty_run}
 use Rattle.run_history.specs.Legal.{MayHandle, MayFire, MayFollow, IsLegal}
 use Rattle.list_lemmas.proofs.Lists.{none_some, some_same}

@@ -8,9 +8,9 @@ use Rattle.mw_types.specs.declared.identity.RecordId.{RecordId}
 use Rattle.mw_types.specs.declared.delivery.Delivery.{Delivery}
 use Rattle.mw_types.specs.declared.entry.Entry.{Entry}
 use Rattle.mw_types.specs.declared.entry.Entry.TheVariants.{Claim, Inject, Handle, Fire, Ack, Purge}
-use Rattle.row_parts.specs.Contents.{same_id, without_delivery, delivery_cmp}
+use Rattle.row_parts.specs.Contents.{same_id, without_delivery, delivery_cmp, found_delivery}
 use Rattle.run_history.specs.Cases.{CaseShape}
-use Rattle.run_history.specs.Made.{found_delivery, deliveries_of}
+use Rattle.run_history.specs.Made.{deliveries_of}
 use Rattle.run_history.specs.Runs.{Run, run_of, still_unhandled}
 use Rattle.run_history.specs.Legal.{MayFollow, IsLegal}
 use Rattle.history_laws.specs.Ids.{is_left}

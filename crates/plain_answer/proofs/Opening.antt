@@ -15,10 +15,9 @@ use Rattle.mw_types.specs.declared.entry.Entry.{Entry}
 use Rattle.mw_types.specs.declared.entry.Entry.TheVariants.{Claim, Inject, Handle, Fire, Ack, Purge}
 use Rattle.mw_types.specs.Orders.{row_cmp}
 use Rattle.topology.specs.Shapes.{Shape, kind_of, parts_of}
-use Rattle.row_parts.specs.Contents.{same_id}
+use Rattle.row_parts.specs.Contents.{same_id, found_delivery}
 use Rattle.computations.specs.Handlers.{window_end}
 use Rattle.run_history.specs.Cases.{CaseShape}
-use Rattle.run_history.specs.Made.{found_delivery}
 use Rattle.run_history.specs.Runs.{Run, run_of, followed, empty_run}
 use Rattle.run_history.specs.Watermarks.{low_watermark}
 use Rattle.run_history.specs.Legal.{MayFollow, IsLegal}

@@ -18,11 +18,11 @@ use Rattle.topology.specs.declared.subscription.Subscription.{Subscription}
 use Rattle.topology.specs.Shapes.{Shape, ComputationShape, injectors_of, parts_of, consumers_of, feeds_of, kind_of}
 use Rattle.injector.specs.Sources.{SourceLine}
 use Rattle.computations.specs.Handlers.{effects_of_record, effects_of_timer}
+use Rattle.row_parts.specs.Contents.{cursor_in}
 use Rattle.run_history.specs.Cases.{CaseShape, is_injector, source_of, record_of}
 use Rattle.run_history.specs.Inputs.{IsRunnable}
 use Rattle.run_history.specs.Made.{row_written, productions_of, late_cause, sends_of, row_to}
 use Rattle.run_history.specs.Runs.{Run, run_of, row_of}
-use Rattle.run_history.specs.Watermarks.{cursor_in}
 use Rattle.run_history.specs.Legal.{MayFollow, IsLegal, IsDone}
 use Rattle.history_laws.proofs.FeedLaws.{consumers-fed, feeds-before}
 use Rattle.history_laws.proofs.PendingLaws.{kind-there, was_some}

@@ -16,10 +16,10 @@ use Rattle.mw_types.specs.declared.entry.Entry.{Entry}
 use Rattle.mw_types.specs.declared.entry.Entry.TheVariants.{Claim, Inject, Handle, Fire, Ack, Purge}
 use Rattle.mw_types.specs.Outcomes.{EffectsView}
 use Rattle.topology.specs.Shapes.{Shape, kind_of}
-use Rattle.row_parts.specs.Contents.{is_timer, without_timer, set_again}
+use Rattle.row_parts.specs.Contents.{is_timer, without_timer, set_again, found_delivery}
 use Rattle.computations.specs.Handlers.{one_more, unchanged, outcome_with_timer, counted, count_record, window_end, effects_of_record}
 use Rattle.run_history.specs.Cases.{CaseShape}
-use Rattle.run_history.specs.Made.{row_written, found_delivery}
+use Rattle.run_history.specs.Made.{row_written}
 use Rattle.run_history.specs.Runs.{Run, run_of, row_of, followed, with_timers}
 use Rattle.run_history.specs.Legal.{MayHandle, MayFire, MayFollow, IsLegal}
 use Rattle.history_laws.proofs.FeedLaws.{injector-no_kind}

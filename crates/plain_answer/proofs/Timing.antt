@@ -18,11 +18,11 @@ use Rattle.mw_types.specs.declared.entry.Entry.TheVariants.{Claim, Inject, Handl
 use Rattle.mw_types.specs.Orders.{timer_cmp}
 use Rattle.mw_types.specs.Outcomes.{EffectsView}
 use Rattle.topology.specs.Shapes.{Shape, kind_of}
-use Rattle.row_parts.specs.Contents.{with_timer, without_timer, is_timer, set_again}
+use Rattle.row_parts.specs.Contents.{with_timer, without_timer, is_timer, set_again, found_delivery}
 use Rattle.computations.specs.Entering.{entered-recursion}
 use Rattle.computations.specs.Handlers.{one_more, unchanged, outcome_with_timer, counted, count_record, window_end, effects_of_record}
 use Rattle.run_history.specs.Cases.{CaseShape}
-use Rattle.run_history.specs.Made.{row_written, found_delivery}
+use Rattle.run_history.specs.Made.{row_written}
 use Rattle.run_history.specs.Runs.{Run, run_of, row_of, followed, empty_run, with_timers}
 use Rattle.run_history.specs.Legal.{MayHandle, MayFire, MayFollow, IsLegal}
 use Rattle.list_lemmas.proofs.Lists.{none_some, some_same, each-weaker}

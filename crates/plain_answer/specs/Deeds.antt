@@ -11,7 +11,7 @@ use Rattle.mw_types.specs.declared.entry.Entry.TheVariants.{Handle, Fire}
 use Rattle.mw_types.specs.Orders.{row_cmp}
 use Rattle.topology.specs.Shapes.{Shape}
 use Rattle.computations.specs.Handlers.{counted, window_end}
-use Rattle.run_history.specs.Made.{found_delivery}
+use Rattle.row_parts.specs.Contents.{found_delivery}
 use Rattle.run_history.specs.Runs.{Run, followed, empty_run}
 
 -- a row takes a record, by its timestamp and whether it is late, or fires the timer of a time

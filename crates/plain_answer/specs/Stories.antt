@@ -10,7 +10,8 @@ use Rattle.mw_types.specs.declared.delivery.Delivery.{Delivery}
 use Rattle.mw_types.specs.declared.entry.Entry.{Entry}
 use Rattle.mw_types.specs.declared.entry.Entry.TheVariants.{Handle, Fire}
 use Rattle.topology.specs.Shapes.{Shape}
-use Rattle.run_history.specs.Made.{found_delivery, row_written, productions_of, late_cause, produced}
+use Rattle.row_parts.specs.Contents.{found_delivery}
+use Rattle.run_history.specs.Made.{row_written, productions_of, late_cause, produced}
 use Rattle.run_history.specs.Runs.{Run, followed, empty_run}
 
 -- what an entry handles, by what waits before it

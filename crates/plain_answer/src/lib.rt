@@ -12,7 +12,6 @@
 
 mod examples;
 mod law;
-mod line;
 mod sends;
 mod spikes;
 mod streams;

@@ -8,7 +8,6 @@ ghost use Rattle.run_history.specs.Texts.{line_cmp, line_data, as_line};
 ghost use Rattle.plain_answer.specs.Plain.{lines_unread, plain_line, plain_lines, IsPlainText};
 ghost use Rattle.plain_answer.specs.Sends.{lines_in, ArePlain};
 
-use crate::line::ResultLine;
 use crate::streams::all_streams;
 use crate::summary::summary_line;
 use mw_types::{Bytes, Duplicate, Name, NoMemory, Record, Seq};

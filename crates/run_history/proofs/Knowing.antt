@@ -15,10 +15,10 @@ use Rattle.mw_types.specs.declared.record.Record.{Record}
 use Rattle.mw_types.specs.declared.record.Production.{Production}
 use Rattle.mw_types.specs.declared.delivery.Delivery.{Delivery}
 use Rattle.mw_types.specs.declared.entry.Entry.{Entry}
-use Rattle.row_parts.specs.Contents.{same_id}
+use Rattle.row_parts.specs.Contents.{same_id, found_delivery}
 use Rattle.topology.specs.declared.subscription.Subscription.{Subscription}
 use Rattle.topology.specs.Shapes.{Shape, consumers_of}
-use Rattle.run_history.specs.Made.{produced, sends_of, delivery_at, deliveries_made, deliveries_of, found_delivery, late_cause, productions_of, row_written}
+use Rattle.run_history.specs.Made.{produced, sends_of, delivery_at, deliveries_made, deliveries_of, late_cause, productions_of, row_written}
 use Rattle.run_history.specs.Printing.{KnowsLate, sends_made}
 use Rattle.list_lemmas.proofs.Lists.{each-all, each-append, each-map}
 

@@ -10,10 +10,10 @@ use Rattle.mw_types.specs.declared.delivery.Delivery.{Delivery}
 use Rattle.mw_types.specs.declared.entry.Entry.{Entry}
 use Rattle.mw_types.specs.declared.entry.Entry.TheVariants.{Handle, Ack}
 use Rattle.topology.specs.Shapes.{injectors_of}
-use Rattle.row_parts.specs.Contents.{Contents, same_id}
+use Rattle.row_parts.specs.Contents.{Contents, same_id, cursor_in}
 use Rattle.run_history.specs.Cases.{CaseShape, is_injector, source_of}
 use Rattle.run_history.specs.Runs.{Run}
-use Rattle.run_history.specs.Watermarks.{cursor_in, cursor_of}
+use Rattle.run_history.specs.Watermarks.{cursor_of}
 
 -- whether an entry handles the record of this id
 abbrev pub handles : RecordId → Entry → Bool

@@ -16,9 +16,8 @@ use Rattle.injector.specs.Sources.{item_at}
 use Rattle.topology.specs.Rules.{interval_count}
 use Rattle.topology.specs.Shapes.{injectors_of, kind_of}
 use Rattle.computations.specs.Handlers.{effects_of_record, effects_of_timer}
-use Rattle.row_parts.specs.Contents.{Contents}
+use Rattle.row_parts.specs.Contents.{Contents, found_delivery}
 use Rattle.run_history.specs.Cases.{CaseShape, is_injector, source_of, record_of}
-use Rattle.run_history.specs.Made.{found_delivery}
 use Rattle.run_history.specs.Runs.{Run, row_in, row_of, followed, empty_run}
 use Rattle.run_history.specs.Watermarks.{cursor_of, low_watermark}
 

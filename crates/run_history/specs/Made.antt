@@ -1,7 +1,7 @@
 -- What an entry makes: a delivery of each of its productions to each consumer, or emissions where nothing
 -- reads.
 -- Akidau et al., VLDB 2013, section 6.1: a record gets its id when it is produced. Own: how ids are counted.
-use Rattle.std.specs.Prelude.{ℕ, Bool, false, List, [], ◌∷◌, map, find, Option, Some, None}
+use Rattle.std.specs.Prelude.{ℕ, Bool, false, List, [], ◌∷◌, map, Option, Some, None}
 use Rattle.std.specs.Option.{option_map_or}
 use Rattle.std.specs.List.{flat_map, enumerate_from}
 use Rattle.mw_types.specs.declared.identity.RecordId.{RecordId}
@@ -14,7 +14,7 @@ use Rattle.mw_types.specs.declared.entry.Entry.{Entry}
 use Rattle.mw_types.specs.declared.entry.Entry.TheVariants.{Claim, Inject, Handle, Fire, Ack, Purge}
 use Rattle.topology.specs.declared.subscription.Subscription.{Subscription}
 use Rattle.topology.specs.Shapes.{Shape, consumers_of, extracted}
-use Rattle.row_parts.specs.Contents.{same_id}
+use Rattle.row_parts.specs.Contents.{found_delivery}
 
 -- a production as a record, which is late where its cause is
 abbrev pub produced : Bool → Production → Record
@@ -57,10 +57,6 @@ deliveries_made shape part productions late commit =
 abbrev pub emissions_made : Shape → ℕ → List Production → Bool → ℕ → List Emission
 emissions_made shape part productions late commit =
     emissions_to (consumers_of shape part) part commit (map (produced late) productions)
-
--- the delivery of this id
-abbrev pub found_delivery : RecordId → List Delivery → Option Delivery
-found_delivery id = find (λ (d : Delivery). same_id d.id id)
 
 -- the row that an entry is on; a claim is on none
 abbrev pub row_written : Entry → Option RowName

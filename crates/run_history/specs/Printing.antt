@@ -8,7 +8,8 @@ use Rattle.mw_types.specs.declared.delivery.Delivery.{Delivery}
 use Rattle.mw_types.specs.declared.delivery.Emission.{Emission}
 use Rattle.mw_types.specs.declared.entry.Entry.{Entry}
 use Rattle.topology.specs.Shapes.{Shape, parts_of, consumers_of}
-use Rattle.run_history.specs.Made.{found_delivery, row_written, productions_of, emissions_made}
+use Rattle.row_parts.specs.Contents.{found_delivery}
+use Rattle.run_history.specs.Made.{row_written, productions_of, emissions_made}
 use Rattle.run_history.specs.Runs.{run_of}
 use Rattle.run_history.specs.Texts.{ResultLine}
 use Rattle.json.specs.Token.{Token, key, number, string}

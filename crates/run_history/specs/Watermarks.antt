@@ -6,8 +6,6 @@ use Rattle.std.specs.Prelude.{ℕ, zero, suc, min, ◌==◌, ◌&&◌, not, if�
 use Rattle.std.specs.List.{flat_map}
 use Rattle.mw_types.specs.declared.TheConstants.{END}
 use Rattle.mw_types.specs.declared.identity.RowName.{RowName}
-use Rattle.mw_types.specs.declared.state.State.{State}
-use Rattle.mw_types.specs.declared.state.State.TheVariants as states
 use Rattle.mw_types.specs.declared.timer.Timer.{Timer}
 use Rattle.mw_types.specs.declared.delivery.Delivery.{Delivery}
 use Rattle.injector.specs.Sources.{stated_at}
@@ -38,11 +36,6 @@ timer_times run part =
 -- the oldest work of a part that is not late
 abbrev pub oldest_work : Run → ℕ → ℕ
 oldest_work run part = least (waiting_stamps run part ++ timer_times run part)
-
--- how many lines a state says were injected
-abbrev pub cursor_in : State → ℕ
-cursor_in (states.Injector cursor) = cursor
-cursor_in _ = 0
 
 -- how many lines of an injector were injected
 abbrev pub cursor_of : CaseShape → Run → ℕ → ℕ

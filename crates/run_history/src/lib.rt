@@ -26,6 +26,7 @@ pub use emitter::Emitter;
 pub use entry_lines::{entry_line, history_lines};
 pub use first::first_row;
 pub use history::History;
+pub use line::ResultLine;
 pub use made::{Made, make, production};
 pub use summary::summary_line;
 pub use text::result_text;

@@ -13,7 +13,7 @@ use std::marker::Model;
 pub struct ResultLine {
     /// The stream that nothing reads.
     pub stream: Name,
-    /// The record's timestamp.
+    /// The record's timestamp, in whole microseconds.
     pub stamp: u64,
     /// Its key.
     pub key: Key,
@@ -32,8 +32,8 @@ impl Model for ResultLine {
 }
 
 impl ResultLine {
-    // The line's text, with its LF, in a buffer that holds nothing.
-    pub(crate) fn text(&self, buffer: Vec<u8>) -> Result<Vec<u8>, NoMemory>
+    /// The line's text, with its LF, in a buffer that holds nothing.
+    pub fn text(&self, buffer: Vec<u8>) -> Result<Vec<u8>, NoMemory>
         requires { buffer.items ≡ [] }
         ensures { IfOk result (λ text. text.items ≡ as_line (line_data self.now)) }
     {

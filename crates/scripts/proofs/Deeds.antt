@@ -10,13 +10,12 @@ use Rattle.mw_types.specs.declared.timer.Timer.{Timer}
 use Rattle.key_intervals.specs.declared.bounds.Bounds.{Bounds}
 use Rattle.injector.specs.Sources.{item_at}
 use Rattle.topology.specs.Shapes.{Shape}
-use Rattle.row_parts.specs.Contents.{is_finished}
+use Rattle.row_parts.specs.Contents.{is_finished, cursor_in, found_delivery}
 use Rattle.run_history.specs.Cases.{CaseShape, intervals_of, record_of, source_of}
 use Rattle.run_history.specs.Legal.{floor_of, record_outcome, timer_outcome}
-use Rattle.run_history.specs.Made.{found_delivery}
 use Rattle.run_history.specs.Marks.{own_work}
 use Rattle.run_history.specs.Runs.{run_of}
-use Rattle.run_history.specs.Watermarks.{cursor_in, least}
+use Rattle.run_history.specs.Watermarks.{least}
 use Rattle.watermark.specs.Marks.{marks_of}
 use Rattle.list_lemmas.proofs.Lists.{none_some}
 use Rattle.book.specs.Books.{LeaseView}

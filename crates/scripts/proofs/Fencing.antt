@@ -13,13 +13,13 @@ use Rattle.key_intervals.specs.declared.bounds.Bounds.{Bounds}
 use Rattle.injector.specs.Sources.{item_at}
 use Rattle.topology.specs.Rules.{IsTopology}
 use Rattle.topology.specs.Shapes.{Shape}
-use Rattle.row_parts.specs.Contents.{Contents, is_finished}
+use Rattle.row_parts.specs.Contents.{Contents, is_finished, cursor_in, found_delivery}
 use Rattle.run_history.specs.Cases.{CaseShape, intervals_of, record_of, source_of}
 use Rattle.run_history.specs.Fences.{IsCurrent, IsFenced, interval_of, sequencer_of}
 use Rattle.run_history.specs.Legal.{floor_of, record_outcome, timer_outcome}
-use Rattle.run_history.specs.Made.{found_delivery, row_written}
+use Rattle.run_history.specs.Made.{row_written}
 use Rattle.run_history.specs.Runs.{run_of}
-use Rattle.run_history.specs.Watermarks.{cursor_in, least}
+use Rattle.run_history.specs.Watermarks.{least}
 use Rattle.run_history.proofs.Claims.{last_claim-latest}
 use Rattle.run_history.proofs.Fenced.{IsFenced-push, entry-under}
 use Rattle.run_history.proofs.IntervalLaws.{are-intervals, has-interval_of}

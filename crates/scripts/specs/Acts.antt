@@ -16,13 +16,13 @@ use Rattle.key_intervals.specs.declared.bounds.Bounds.{Bounds}
 use Rattle.injector.specs.Sources.{item_at}
 use Rattle.injector.specs.declared.item.Item.{Item}
 use Rattle.topology.specs.Shapes.{Shape}
-use Rattle.row_parts.specs.Contents.{Contents, is_finished}
+use Rattle.row_parts.specs.Contents.{Contents, is_finished, cursor_in, found_delivery}
 use Rattle.run_history.specs.Cases.{CaseShape, intervals_of, record_of, source_of}
 use Rattle.run_history.specs.Legal.{floor_of, record_outcome, timer_outcome}
-use Rattle.run_history.specs.Made.{found_delivery, row_written}
+use Rattle.run_history.specs.Made.{row_written}
 use Rattle.run_history.specs.Marks.{own_work}
 use Rattle.run_history.specs.Runs.{run_of}
-use Rattle.run_history.specs.Watermarks.{cursor_in, least}
+use Rattle.run_history.specs.Watermarks.{least}
 use Rattle.watermark.specs.Marks.{marks_of}
 use Rattle.book.specs.Books.{LeaseView}
 use Rattle.book.specs.Marks.{reported, with_mark}

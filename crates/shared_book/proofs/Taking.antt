@@ -7,7 +7,7 @@ use Rattle.mw_types.specs.declared.entry.Entry.{Entry}
 use Rattle.mw_types.specs.declared.identity.RecordId.{RecordId}
 use Rattle.mw_types.specs.declared.identity.RowName.{RowName}
 use Rattle.key_intervals.specs.declared.bounds.Bounds.{Bounds}
-use Rattle.row_parts.specs.Contents.{Contents, fresh}
+use Rattle.row_parts.specs.Contents.{Contents, fresh, found_delivery}
 use Rattle.row_keeper.specs.Rows.{Rows}
 use Rattle.run_history.specs.Cases.{CaseShape, fresh_of, intervals_of}
 use Rattle.topology.specs.Shapes.{Shape}
@@ -15,7 +15,6 @@ use Rattle.run_history.specs.Fences.{Begins, HasSeenAll, IsFenced, interval_of, 
 use Rattle.run_history.specs.Finished.{is_handled}
 use Rattle.run_history.specs.Inputs.{IsRunnable}
 use Rattle.run_history.specs.Legal.{IsLegal, floor_of}
-use Rattle.run_history.specs.Made.{found_delivery}
 use Rattle.run_history.specs.Marks.{own_work}
 use Rattle.run_history.specs.Runs.{row_in, row_of, run_of}
 use Rattle.topology.specs.Rules.{interval_count}

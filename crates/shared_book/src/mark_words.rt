@@ -23,7 +23,8 @@ pub(crate) fn load_mark<K: Keeper>(
     requires live { place.old.me.0.live ≡ true }
     requires there { interval < 61 }
     ensures table { place.new.table_id ≡ place.old.table_id }
-    ensures view { place.new.me ≡ (with_mark_loaded place.old.me.0 interval result, place.old.me.1) }
+    ensures view { let me = place.old.me in
+        place.new.me ≡ (with_mark_loaded me.0 interval result, me.1) }
     ensures rises { mark_of place.old.me.0.marks interval ≤ result }
 {
     shared

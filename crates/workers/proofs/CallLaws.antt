@@ -13,11 +13,9 @@ use Rattle.mw_types.specs.declared.record.Record.{Record}
 use Rattle.injector.specs.Sources.{item_at}
 use Rattle.injector.specs.declared.item.Item.{Item}
 use Rattle.topology.specs.Shapes.{Shape}
-use Rattle.row_parts.specs.Contents.{is_finished}
+use Rattle.row_parts.specs.Contents.{is_finished, cursor_in, found_delivery}
 use Rattle.run_history.specs.Cases.{CaseShape, record_of, source_of}
 use Rattle.run_history.specs.Fences.{sequencer_of}
-use Rattle.run_history.specs.Made.{found_delivery}
-use Rattle.run_history.specs.Watermarks.{cursor_in}
 use Rattle.book.specs.Books.{LeaseView}
 use Rattle.book.specs.Desks.{DeskView, HasLooked}
 use Rattle.book.specs.declared.proposal.Proposal.{Proposal}

@@ -75,7 +75,8 @@ pub(crate) fn receive<'a, K: Keeper, C: Computation>(
     requires work { IsWorkOf book.old.case.topology (C.has work.now)
         (C.gives_record work.now) (C.gives_timer work.now) }
     requires sent { IsOutgoing book.old.case (own_view book.old) (outgoing_of message) }
-    requires takes { answered_in_place book.old.case.topology (worker_at node.old) (outgoing_of message)
+    requires takes { answered_in_place book.old.case.topology
+        (worker_at node.old) (outgoing_of message)
         ≡ None }
     ensures called { HasCalled book.old book.new node.old node.new }
     ensures acted { IfOk result (λ outcome. (number : ℕ) → TakesOn number (outgoing_of message)

@@ -6,9 +6,8 @@ use Rattle.mw_types.specs.declared.entry.Entry.TheVariants as entries
 use Rattle.mw_types.specs.declared.identity.RowName.{RowName}
 use Rattle.injector.specs.Sources.{item_at}
 use Rattle.injector.specs.declared.item.Item.{Item}
-use Rattle.row_parts.specs.Contents.{Contents}
+use Rattle.row_parts.specs.Contents.{Contents, cursor_in}
 use Rattle.run_history.specs.Cases.{CaseShape, record_of, source_of}
-use Rattle.run_history.specs.Watermarks.{cursor_in}
 use Rattle.book.specs.Books.{BookView}
 use Rattle.book.specs.OwnDesks.{own_view}
 use Rattle.holdings.specs.Holding.{HeldView, held_on, row_held}

@@ -10,10 +10,10 @@ use Rattle.mw_types.specs.declared.entry.Entry.{Entry}
 use Rattle.mw_types.specs.declared.identity.RowName.{RowName}
 use Rattle.mw_types.proofs.OrderLaws.{id_cmp-total}
 use Rattle.topology.specs.Shapes.{Shape}
-use Rattle.row_parts.specs.Contents.{Contents, fresh, same_id}
+use Rattle.row_parts.specs.Contents.{Contents, fresh, same_id, found_delivery}
 use Rattle.run_history.specs.Cases.{CaseShape, fresh_of}
 use Rattle.run_history.specs.Fences.{interval_of, known}
-use Rattle.run_history.specs.Made.{found_delivery, row_written}
+use Rattle.run_history.specs.Made.{row_written}
 use Rattle.run_history.specs.Runs.{cached, row_in, row_of, run_of}
 use Rattle.run_history.proofs.Known.{known-begins}
 use Rattle.list_lemmas.proofs.Lists.{none_some, some_same}

@@ -1,6 +1,6 @@
+use Rattle.row_parts.specs.Contents.{found_delivery}
 use Rattle.std.proofs.Common.{◌≡◌, sym, subst}
 use Rattle.std.specs.Prelude.{Some}
-use Rattle.run_history.specs.Made.{found_delivery}
 use Rattle.drains.specs.Turns.{CanBeKept}
 use Rattle.drains.proofs.CallLaws.{kept-found}
 use Rattle.drains.proofs.least_work.sent.Goals as goal

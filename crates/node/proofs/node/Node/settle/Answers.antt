@@ -1,7 +1,7 @@
+use Rattle.row_parts.specs.Contents.{found_delivery}
 use Rattle.std.proofs.Common.{rules, ◌≡◌, ◌∙◌, true, ap, subst, sym, refl}
 use Rattle.std.specs.Prelude.{IfErr, IfOk, OnErr, Some, Result}
 use Rattle.std.specs.Option.{is_some}
-use Rattle.run_history.specs.Made.{found_delivery}
 use Rattle.list_lemmas.proofs.Lists.{some_same}
 use Rattle.holdings.specs.Holding.{HeldView, IsRefusedOf, held_at, held_on, row_held}
 use Rattle.node.specs.declared.outcome.NodeFault.{NodeFault}
