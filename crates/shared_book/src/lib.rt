@@ -13,6 +13,7 @@
 #![tactic(auto)]
 
 mod beginning;
+mod catching_up;
 mod claiming;
 mod desk_claims;
 mod desk_reports;

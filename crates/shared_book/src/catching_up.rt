@@ -1,0 +1,53 @@
+//! A desk comes to see all that was appended.
+ghost use Rattle.std.specs.Prelude.{◌≡◌};
+ghost use Rattle.book.specs.Desks.{HasLooked, KeepsMarks};
+ghost use Rattle.shared_book.specs.SharedDesks.{HasKept, shared_home, shared_view};
+ghost use Rattle.shared_book.specs.Turns.{IsHere, IsIdle};
+
+use crate::finishing::finish;
+use crate::seats::Seat;
+use crate::shared::Shared;
+use crate::shared_desk::SharedDesk;
+use crate::slots::take;
+use row_keeper::Keeper;
+
+impl<'s, 'a, K: Keeper> SharedDesk<'s, 'a, K> {
+    /// One try for the turn, which is given back at once: where nobody else has it, the seat comes to
+    /// see all that was appended, and each of its leases that is the last of its interval allows a mark
+    /// as high as the seat has loaded the marks that feed the interval.
+    pub fn catch_up(&mut self)
+        ensures looked { HasLooked (shared_view self.old.seat.now.place.me.0)
+            (shared_view self.new.seat.now.place.me.0) }
+        ensures marks { KeepsMarks (shared_view self.old.seat.now.place.me.0)
+            (shared_view self.new.seat.now.place.me.0) }
+        ensures shared { self.new.shared.now ≡ self.old.shared.now }
+        ensures loan { self.new.seat.ghost_name ≡ self.old.seat.ghost_name }
+        ensures home { shared_home self.new.seat.now.place ≡ shared_home self.old.seat.now.place }
+    {
+        let shared = self.shared;
+        turn_once(shared, self.seat);
+    }
+}
+
+// One try for the turn, and the release.
+fn turn_once<K: Keeper>(shared: &Shared<'_, K>, seat: &mut Seat<K>)
+    requires here { IsHere shared.now.table.shared.table_id shared.now.case.now seat.old.place }
+    requires idle { IsIdle seat.old.place.me }
+    requires kept { HasKept seat.old.place.me.0 }
+
+    ensures here { IsHere shared.now.table.shared.table_id shared.now.case.now seat.new.place }
+    ensures idle { IsIdle seat.new.place.me }
+    ensures kept { HasKept seat.new.place.me.0 }
+    ensures numbers { seat.new.place.me.0.numbers ≡ seat.old.place.me.0.numbers }
+    ensures basis { seat.new.place.me.0.basis ≡ seat.old.place.me.0.basis }
+    ensures looked { HasLooked (shared_view seat.old.place.me.0)
+        (shared_view seat.new.place.me.0) }
+    ensures marks { KeepsMarks (shared_view seat.old.place.me.0)
+        (shared_view seat.new.place.me.0) }
+{
+    let found = take(shared, seat);
+    if found != 0 {
+        return;
+    }
+    finish(shared, seat);
+}
