@@ -38,3 +38,7 @@ pub mod Making
 pub mod Noting
 pub mod Moved
 pub mod Working
+pub mod Shards
+pub mod KindShards
+pub mod TextShards
+pub mod Cuts

@@ -55,11 +55,11 @@ stream_total-push g n (y ∷ ys) x =
     omega (arith, stream_total-push g (n + 1) ys x, ap (λ k. total (λ r. g (k, r)) x) same)
 
 -- what is sent to a part, as what its rows read
-abbrev to_part : ℕ → (Keyed → ℕ) → RowName × Record → ℕ
+abbrev pub to_part : ℕ → (Keyed → ℕ) → RowName × Record → ℕ
 to_part part g s = when (s.0.part == part) (g (s.0.key, s.1))
 
 -- a sum over what a part reads of streams
-abbrev of_member : Shape → ℕ → (Keyed → ℕ) → Member → ℕ
+abbrev pub of_member : Shape → ℕ → (Keyed → ℕ) → Member → ℕ
 of_member shape part g o = total (to_part part g) (sends shape o)
 
 -- a sum over all that streams send
