@@ -28,7 +28,8 @@ before-twice : (bs : List ℕ) → before_first slash (before_first slash bs) �
 before-twice [] = refl
 before-twice (b ∷ bs) =
     ap (before_first slash) (before-step b bs)
-    ∙ elim (slash b) as (λ c. slash b ≡ c → before_first slash (cond c [] (b ∷ before_first slash bs)) ≡ cond c [] (b ∷ before_first slash bs)) [
+    ∙ elim (slash b) as
+    (λ c. slash b ≡ c → before_first slash (cond c [] (b ∷ before_first slash bs)) ≡ cond c [] (b ∷ before_first slash bs)) [
       | true ↦ λ e. refl
       | false ↦ λ e.
           before-step b (before_first slash bs) ∙ ap (λ c. cond c [] (b ∷ before_first slash (before_first slash bs))) e

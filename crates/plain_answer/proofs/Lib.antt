@@ -37,6 +37,7 @@ pub mod Sending
 pub mod Making
 pub mod Noting
 pub mod Moved
+pub mod Later
 pub mod Working
 pub mod Shards
 pub mod KindShards

@@ -11,6 +11,7 @@
 #![tactic(auto)]
 
 mod examples;
+mod given;
 mod law;
 mod sends;
 mod spikes;
