@@ -5,7 +5,7 @@
 cd "$(dirname "$0")/.." || exit 1
 program="$PWD/target/unproved/millwheel_in_memory"
 if [ ! -x "$program" ] || [ -n "$(find crates.txt crates/*/src -newer "$program" -print -quit)" ]; then
-    echo "building without a proof, which takes one and a half minutes of a processor; later runs begin at once ..." >&2
+    echo "building without a proof, which takes two minutes of a processor; later runs begin at once ..." >&2
     mkdir -p "$(dirname "$program")"
     tools/build-unproved.py millwheel_in_memory "$program" > /dev/null 2> "$program.log" || { cat "$program.log" >&2; exit 1; }
 fi
