@@ -1,0 +1,13 @@
+//! What the lines of a printed history say: which entries they may be of, and what of each was chosen.
+//!
+//! Stands on `run_history`, `history_laws` and `read_back`. Definitions, in the order of reading:
+//! `specs/Lines.antt`, which lines a text has; `specs/Entries.antt`, which lines are lines of an entry;
+//! `specs/Readings.antt`, which history a text is of; `specs/Refusals.antt`, which line is the first
+//! that is wrong; `specs/Choices.antt`, what a line tells of the choice of its entry.
+#![tactic(auto)]
+
+mod choice;
+mod refusal;
+
+pub use choice::Choice;
+pub use refusal::{AuditRefusal, AuditWhy};
