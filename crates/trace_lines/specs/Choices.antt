@@ -43,24 +43,32 @@ abbrev pub claim_in : Data → Option Choice
 claim_in d = option_and_then (λ worker. option_map (choices.Claim worker) (short_at (codes "interval") d))
     (short_at (codes "worker") d)
 
+-- the choice of an injected line
+abbrev pub inject_in : Data → Option Choice
+inject_in d = option_map choices.Inject (short_at (codes "part") d)
+
+-- the choice of a handled record
+abbrev pub handle_in : Data → Option Choice
+handle_in d = option_map choices.Handle (id_at (codes "id") d)
+
 -- the choice of a fired timer
 abbrev pub fire_in : Data → Option Choice
-fire_in d = option_and_then (λ row. option_map (choices.Fire row) (stamp_at (codes "mark") d)) (row_in d)
+fire_in d = option_and_then (λ mark. option_map (λ row. choices.Fire row mark) (row_in d)) (stamp_at (codes "mark") d)
 
 -- the choice of an acknowledgement
 abbrev pub ack_in : Data → Option Choice
-ack_in d = option_and_then (λ row. option_map (choices.Ack row) (id_at (codes "id") d)) (row_in d)
+ack_in d = option_and_then (λ id. option_map (λ row. choices.Ack row id) (row_in d)) (id_at (codes "id") d)
 
 -- the choice of a purge
 abbrev pub purge_in : Data → Option Choice
-purge_in d = option_and_then (λ row. option_map (choices.Purge row) (stamp_at (codes "floor") d)) (row_in d)
+purge_in d = option_and_then (λ floor. option_map (λ row. choices.Purge row floor) (row_in d)) (stamp_at (codes "floor") d)
 
 -- the choice of an entry of the kind that a value names
 abbrev pub choice_named : List ℕ → Data → Option Choice
 choice_named kind d =
     if pointwise nat_eq kind (codes "claim") then claim_in d
-    else if pointwise nat_eq kind (codes "inject") then option_map choices.Inject (short_at (codes "part") d)
-    else if pointwise nat_eq kind (codes "handle") then option_map choices.Handle (id_at (codes "id") d)
+    else if pointwise nat_eq kind (codes "inject") then inject_in d
+    else if pointwise nat_eq kind (codes "handle") then handle_in d
     else if pointwise nat_eq kind (codes "fire") then fire_in d
     else if pointwise nat_eq kind (codes "ack") then ack_in d
     else if pointwise nat_eq kind (codes "purge") then purge_in d

@@ -1,6 +1,6 @@
 -- Which lines a printed history has. Own.
 -- A line ends at a line feed, which the last one may lack; no carriage return is dropped.
-use Rattle.std.specs.Prelude.{ℕ, ◌==◌, nat_eq, Bool, List, codes}
+use Rattle.std.specs.Prelude.{◌≡◌, ◌⊎◌, ℕ, ◌==◌, nat_eq, Bool, List, [], ◌∷◌, ◌++◌, codes}
 use Rattle.std.specs.List.{slice_split, starts_with, take_while}
 use Rattle.mw_types.specs.declared.entry.Entry.{Entry}
 use Rattle.text_lines.specs.Lines.{without_empty_end}
@@ -10,6 +10,10 @@ use Rattle.run_history.specs.HistoryLines.{entry_data}
 -- the lines of a text: what stands before each line feed, and what follows the last one where it is not empty
 abbrev pub lines_in : List ℕ → List (List ℕ)
 lines_in bytes = without_empty_end (slice_split (λ b. b == 10) bytes)
+
+-- a text is this line, its line feed and the rest, or this line alone, which lacks its line feed
+abbrev pub IsCut : List ℕ → List ℕ → List ℕ → Type 0
+IsCut text line rest = (text ≡ line ++ 10 ∷ rest) ⊎ ((text ≡ line) × (rest ≡ []))
 
 -- how the line of an entry begins
 abbrev pub entry_begin : List ℕ

@@ -7,7 +7,11 @@
 #![tactic(auto)]
 
 mod choice;
+mod lines;
+mod reading;
 mod refusal;
 
 pub use choice::Choice;
+pub use lines::{begins_entry, next_line};
+pub use reading::choice_at;
 pub use refusal::{AuditRefusal, AuditWhy};
