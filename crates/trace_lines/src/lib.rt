@@ -7,11 +7,13 @@
 #![tactic(auto)]
 
 mod choice;
+mod laws;
 mod lines;
 mod reading;
 mod refusal;
 
 pub use choice::Choice;
+pub use laws::lines_tell_choices;
 pub use lines::{begins_entry, next_line};
 pub use reading::choice_at;
 pub use refusal::{AuditRefusal, AuditWhy};
