@@ -10,7 +10,7 @@ use Rattle.text_lines.specs.Lines.{last_line, without_empty_end}
 use Rattle.trace_lines.specs.Lines.{lines_in}
 
 -- a part before others stays
-without_empty_end-cons : (part : List ℕ) (parts : List (List ℕ)) → 0 < length parts
+pub without_empty_end-cons : (part : List ℕ) (parts : List (List ℕ)) → 0 < length parts
     → without_empty_end (part ∷ parts) ≡ part ∷ without_empty_end parts
 without_empty_end-cons part [] some = absurd (omega (arith, some))
 without_empty_end-cons part (next ∷ parts) some = refl

@@ -1,3 +1,4 @@
 pub mod Cutting
 pub mod Writing
 pub mod Choosing
+pub mod Parting

@@ -7,13 +7,15 @@
 #![tactic(auto)]
 
 mod choice;
+mod keyed;
 mod laws;
 mod lines;
 mod reading;
 mod refusal;
 
 pub use choice::Choice;
-pub use laws::lines_tell_choices;
+pub use keyed::case_is_keyed;
+pub use laws::{lines_tell_choices, printed_histories_are_parted};
 pub use lines::{begins_entry, next_line};
 pub use reading::choice_at;
 pub use refusal::{AuditRefusal, AuditWhy};
