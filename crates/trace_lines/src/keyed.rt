@@ -35,4 +35,5 @@ fn item_is_keyed(item: &Item)
     ensures value { FitsSigned w64 item.now.value }
 {
     let _text = item.record_key.text();
+    let _value = item.value;
 }
