@@ -2,3 +2,4 @@ pub mod Cutting
 pub mod Writing
 pub mod Choosing
 pub mod Parting
+pub mod ValueLaws
