@@ -3,3 +3,4 @@ pub mod Writing
 pub mod Choosing
 pub mod Parting
 pub mod ValueLaws
+pub mod IdBounds
