@@ -4,3 +4,4 @@ pub mod Choosing
 pub mod Parting
 pub mod ValueLaws
 pub mod IdBounds
+pub mod EntryLaws
