@@ -58,7 +58,10 @@ use Rattle.history_laws.proofs.RowSteps.{made_row, row_of-here}
 use Rattle.history_laws.proofs.StampLaws.{fire-after, fire-in_time, handle-after, injected-in_time, legal-in_time, line_of, line-each, source_of-source}
 use Rattle.history_laws.proofs.StateLaws.{legal-bounded}
 use Rattle.trace_lines.specs.Entries.{IsRowName, IsRecord, IsProduction, IsOutcome, IsEntry}
+use Rattle.trace_lines.specs.Choices.{choice_of, choice_at}
+use Rattle.trace_lines.specs.Lines.{text_of_entry}
 use Rattle.trace_lines.specs.Values.{AreValued}
+use Rattle.trace_lines.proofs.Choosing.{choice_at-entry}
 use Rattle.trace_lines.proofs.IdBounds.{pending-id, waiting-id}
 use Rattle.trace_lines.proofs.ValueLaws.{Fits, HasValues, LeavesValues, fire-leaves, handle-leaves, injected-fits, legal-values, row_of-values}
 
@@ -339,3 +342,12 @@ behind-entries case front (e ∷ es) runs keyed valued lawful short =
 pub legal-entries : (case : CaseShape) (history : List Entry) → IsRunnable case → AreKeyed case → AreValued case
     → IsLegalAndFenced case history → length history < 2 ^ 32 → AllByRecursion IsEntry history
 legal-entries case history = behind-entries case [] history
+
+-- so the line of each tells its choice
+pub legal-told : (case : CaseShape) (history : List Entry) (n : ℕ) (entry : Entry) → IsRunnable case → AreKeyed case → AreValued case
+    → IsLegalAndFenced case history → length history < 2 ^ 32 → slice_get history n ≡ Some entry
+    → choice_at (text_of_entry n entry) ≡ Some (choice_of entry)
+legal-told case history n entry runs keyed valued lawful short at =
+    let within = slice_get_within history n entry at in
+    choice_at-entry n entry (omega (arith, within, short))
+    (each-at IsEntry history n entry (legal-entries case history runs keyed valued lawful short) at)

@@ -1,14 +1,22 @@
-//! What the line of an entry tells.
-ghost use Rattle.std.specs.Prelude.{◌≡◌, ◌<◌, ◌≤◌, ◌^◌, ◌++◌, ℕ, true, [], length, All, List, Some};
+//! What the line of an entry tells, and how a printed history is parted into lines.
+ghost use Rattle.std.specs.Prelude.{◌≡◌, ◌<◌, ◌≤◌, ◌+◌, ◌^◌, ◌++◌, ℕ, true, [], length, slice_get, All, List, Some};
 ghost use Rattle.mw_types.specs.declared.entry.Entry.{Entry};
 ghost use Rattle.topology.specs.Shapes.{Shape};
 ghost use Rattle.read_back.specs.Writable.{HasNoControl};
+ghost use Rattle.run_history.specs.Cases.{CaseShape};
+ghost use Rattle.run_history.specs.Fences.{IsUnderLastClaim};
+ghost use Rattle.run_history.specs.Inputs.{IsRunnable};
+ghost use Rattle.run_history.specs.Legal.{IsLegal, MayFollow};
+ghost use Rattle.run_history.specs.Runs.{run_of};
 ghost use Rattle.run_history.specs.Texts.{IsResultText};
 ghost use Rattle.run_history.specs.HistoryLines.{entry_data, lines_of_history};
+ghost use Rattle.history_laws.specs.Keys.{AreKeyed};
+ghost use Rattle.history_laws.specs.Writes.{IsLegalAndFenced};
 ghost use Rattle.trace_lines.specs.Lines.{lines_in, begins_entry, entry_lines_in, text_of_entry};
 ghost use Rattle.trace_lines.specs.Entries.{IsEntry};
 ghost use Rattle.trace_lines.specs.Readings.{texts_from};
 ghost use Rattle.trace_lines.specs.Choices.{choice_of, choice_in, choice_at};
+ghost use Rattle.trace_lines.specs.Values.{AreValued};
 
 /// The line of an entry tells its choice, and so does the object that it spells.
 pub fn lines_tell_choices()
@@ -40,4 +48,22 @@ pub fn printed_histories_are_parted()
     // No line of an entry has a control byte, so it has no line feed inside.
     ensures plain { (n : ℕ) (entry : Entry) → n < 2 ^ 64 → IsEntry entry →
         HasNoControl (text_of_entry n entry) }
+{}
+
+/// Each entry of a lawful history is within the bounds of its types, where the case's lines have keys
+/// and values of 64 bits, as those of a real case have.
+pub fn lawful_entries_are_entries()
+    ensures next { (case : CaseShape) (history : List Entry) (entry : Entry) →
+        IsRunnable case → AreKeyed case → AreValued case → IsLegal case history →
+        length history + 1 < 2 ^ 32 → MayFollow case (run_of case.topology history) entry →
+        IsUnderLastClaim case.topology history entry → IsEntry entry }
+    ensures all { (case : CaseShape) (history : List Entry) →
+        IsRunnable case → AreKeyed case → AreValued case → IsLegalAndFenced case history →
+        length history < 2 ^ 32 → All IsEntry history }
+
+    // So the line of each tells its choice.
+    ensures told { (case : CaseShape) (history : List Entry) (n : ℕ) (entry : Entry) →
+        IsRunnable case → AreKeyed case → AreValued case → IsLegalAndFenced case history →
+        length history < 2 ^ 32 → slice_get history n ≡ Some entry →
+        choice_at (text_of_entry n entry) ≡ Some (choice_of entry) }
 {}
