@@ -1,8 +1,7 @@
 -- The line of an entry tells its choice.
-use Rattle.std.proofs.Common.{◌≡◌, ℕ, ◌<◌, ◌≤◌, ◌^◌, List, length, Bool, false, cond, Option, Some, None, option_map, option_and_then, nat_lt, refl, sym, ap, ◌∙◌, lt-ltb, arith}
+use Rattle.std.proofs.Common.{◌≡◌, ℕ, ◌<◌, ◌≤◌, ◌^◌, List, length, false, cond, Some, None, option_map, option_and_then, nat_lt, refl, sym, ap, ◌∙◌, lt-ltb, arith}
 use Rattle.std.proofs.lemmas.Bool.Decides.{nat_tests}
 use Rattle.list_lemmas.proofs.Lists.{some_same}
-use Rattle.mw_types.specs.declared.identity.RecordId.{RecordId}
 use Rattle.mw_types.specs.declared.identity.RowName.{RowName}
 use Rattle.mw_types.specs.declared.entry.Entry.{Entry}
 use Rattle.mw_types.specs.declared.entry.Entry.TheVariants.{Claim, Inject, Handle, Fire, Ack, Purge}
@@ -10,7 +9,6 @@ use Rattle.row_parts.specs.Contents.{IsKey}
 use Rattle.live_outlet.specs.Guesses.{key_of}
 use Rattle.live_outlet.proofs.IdLaws.{print-own}
 use Rattle.run_history.specs.HistoryLines.{entry_data}
-use Rattle.trace_lines.specs.declared.choice.Choice.{Choice}
 use Rattle.trace_lines.specs.declared.choice.Choice.TheVariants as choices
 use Rattle.trace_lines.specs.Lines.{text_of_entry}
 use Rattle.trace_lines.specs.Entries.{IsRowName, IsEntry}

@@ -1,5 +1,5 @@
 -- Each entry of a lawful history is within the bounds of its types.
-use Rattle.std.proofs.Common.{◌≡◌, ◌==◌, ℕ, ◌+◌, ◌<◌, ◌≤◌, ◌^◌, min, true, cond, List, [], ◌∷◌, ◌++◌, length, length-append, map, fold, refl, sym, ap, ◌∙◌, subst, arith, append_assoc}
+use Rattle.std.proofs.Common.{◌≡◌, ◌==◌, ℕ, ◌+◌, ◌<◌, ◌≤◌, ◌^◌, min, Bool, true, cond, List, [], ◌∷◌, ◌++◌, length, length-append, map, fold, refl, sym, ap, ◌∙◌, subst, arith, append_assoc}
 use Rattle.std.specs.Prelude.{Option, Some, None, All, IsSome, IfSome, unwrap_or, slice_get}
 use Rattle.std.specs.Option.{option_map, option_map_or, option_and_then}
 use Rattle.std.specs.List.{AllByRecursion, flat_map}
@@ -7,9 +7,9 @@ use Rattle.std.specs.Map.{lookup}
 use Rattle.std.specs.BTreeMap.{insert_entry, is_at}
 use Rattle.std.specs.Cmp.{tied_itself}
 use Rattle.std.specs.Ordering.{is_eq}
-use Rattle.std.proofs.lemmas.List.Elements.{All-from_recursion, All-get_or}
+use Rattle.std.proofs.lemmas.List.Elements.{recursion_from_All, All-from_recursion, All-get_or}
 use Rattle.std.proofs.lemmas.Option.{get_or_from_slice_get, slice_get_within}
-use Rattle.mw_types.specs.declared.TheConstants.{MAX_STAMP, INPUT_MAX, END}
+use Rattle.mw_types.specs.declared.TheConstants.{MAX_STAMP}
 use Rattle.mw_types.specs.declared.identity.RecordId.{RecordId}
 use Rattle.mw_types.specs.declared.identity.RowName.{RowName}
 use Rattle.mw_types.specs.declared.record.Record.{Record}
@@ -27,16 +27,15 @@ use Rattle.mw_types.specs.Orders.{row_cmp}
 use Rattle.mw_types.specs.Outcomes.{EffectsView}
 use Rattle.mw_types.proofs.OrderLaws.{row_cmp-total}
 use Rattle.injector.specs.Sources.{Source, SourceLine, item_at}
-use Rattle.topology.specs.Rules.{IsTopology}
-use Rattle.topology.specs.Shapes.{Shape, injectors_of, kind_of, parts_of}
+use Rattle.topology.specs.Shapes.{Shape, kind_of, parts_of}
 use Rattle.computations.specs.Handlers.{effects_of_record, effects_of_timer}
-use Rattle.row_parts.specs.Contents.{Contents, IsKey, cursor_in, found_delivery, same_id}
+use Rattle.row_parts.specs.Contents.{Contents, IsKey, cursor_in, same_id}
 use Rattle.row_parts.specs.Spelling.{FitsBytes}
 use Rattle.run_history.specs.Cases.{CaseShape, record_of, source_of}
-use Rattle.run_history.specs.Fences.{Begins, IsUnderLastClaim, interval_of, last_claim, sequencer_of}
+use Rattle.run_history.specs.Fences.{IsUnderLastClaim, interval_of, last_claim, sequencer_of}
 use Rattle.run_history.specs.Inputs.{IsRunnable}
 use Rattle.run_history.specs.Legal.{IsLegal, MayFollow, floor_of}
-use Rattle.run_history.specs.Made.{row_written, deliveries_of}
+use Rattle.run_history.specs.Made.{row_written}
 use Rattle.run_history.specs.Printing.{IsOnPart}
 use Rattle.run_history.specs.Runs.{Run, empty_run, followed, row_in, row_of, run_of}
 use Rattle.run_history.proofs.Claims.{last_claim-within}
@@ -63,7 +62,7 @@ use Rattle.trace_lines.specs.Lines.{text_of_entry}
 use Rattle.trace_lines.specs.Values.{AreValued}
 use Rattle.trace_lines.proofs.Choosing.{choice_at-entry}
 use Rattle.trace_lines.proofs.IdBounds.{pending-id, waiting-id}
-use Rattle.trace_lines.proofs.ValueLaws.{Fits, HasValues, LeavesValues, fire-leaves, handle-leaves, injected-fits, legal-values, row_of-values}
+use Rattle.trace_lines.proofs.ValueLaws.{Fits, HasValues, LeavesValues, fire-leaves, handle-leaves, injected-each, legal-values, row_of-values}
 
 -- ---- what is fixed by the history alone
 
@@ -130,7 +129,8 @@ left-within case history entry row next written =
     let number = next-length case.topology more in
     let long = length-append history (entry ∷ []) in
     let short = next.short in
-    let within = (legal-bounded case more next.runs (more-legal case history entry next)).states.within row (omega (arith, number, long, short)) in
+    let bounded = legal-bounded case more next.runs (more-legal case history entry next) in
+    let within = bounded.states.within row (omega (arith, number, long, short)) in
     subst (λ (c : Contents). IsWithin c.state)
     (ap (λ (r : Run). row_of case.topology r row) (run_of-push case.topology history entry)
     ∙ row_of-here case.topology (run_of case.topology history) entry row written) within
@@ -146,7 +146,7 @@ values-fit (states.Spike late held known) has =
 values-fit (states.Pass late) has = tt
 
 -- what was said of a handler's outcome, together
-outcome-of : (effects : EffectsView) (stamp : ℕ) (late : Rattle.std.proofs.Common.Bool) → IsWithin effects.state → IsAfter stamp late effects
+outcome-of : (effects : EffectsView) (stamp : ℕ) (late : Bool) → IsWithin effects.state → IsAfter stamp late effects
     → LeavesValues effects → AllByRecursion (λ (p : Production). IsKey p.key) effects.productions → IsOutcome effects
 outcome-of effects stamp late within after leaves keys = record {
   kept = record {
@@ -175,9 +175,10 @@ handle-outcome case history seq row id effects next =
     (kind_of case.topology row.part) effects may.does in
     let waiting = subst (AllByRecursion (λ (d : Delivery). IsKey d.item.key)) (sym (legal-tells case history next.legal).waiting)
     (each-filter (λ (d : Delivery). IsKey d.item.key) (is_left history) run.made
-    (Rattle.std.proofs.lemmas.List.Elements.recursion_from_All (λ (d : Delivery). IsKey d.item.key) run.made
+    (recursion_from_All (λ (d : Delivery). IsKey d.item.key) run.made
     (legal-keys case history next.keyed next.legal).records)) in
-    let key = find-each (λ (d : Delivery). IsKey d.item.key) (λ (d : Delivery). same_id d.id id) run.unhandled may.delivery waiting may.waits in
+    let key = find-each (λ (d : Delivery). IsKey d.item.key) (λ (d : Delivery). same_id d.id id) run.unhandled may.delivery
+    waiting may.waits in
     outcome-of effects may.delivery.item.stamp may.delivery.item.late
     (left-within case history (Handle seq row id effects) row next refl)
     (handle-after case run seq row id effects next.runs (legal-in_time case history next.runs next.legal) may)
@@ -214,21 +215,6 @@ fire-timer case history seq row timer mark effects next =
 
 -- ---- injected records
 
--- an injected record has a key
-injected-key : (case : CaseShape) (part line : ℕ) (item : Record) → AreKeyed case
-    → option_map record_of (item_at (source_of case part) line) ≡ Some item → IsKey item.key
-injected-key case part line item keyed of =
-    let l = line_of (source_of case part) line item of in
-    subst (λ (r : Record). IsKey r.key) l.2
-    (line-each (λ (l : SourceLine). IsKey l.item.record_key) (source_of case part) line l.0 (by_source (slice_get case.sources part) refl) l.1)
-  where
-    by_source : (o : Option Source) → slice_get case.sources part ≡ o → All (λ (l : SourceLine). IsKey l.item.record_key) (unwrap_or o [])
-    by_source None at = λ k d less. absurd (omega (arith, less))
-    by_source (Some source) at = subst (All (λ (l : SourceLine). IsKey l.item.record_key))
-        (get_or_from_slice_get case.sources part source source at)
-        (All-get_or (All (λ (l : SourceLine). IsKey l.item.record_key)) case.sources part source
-        (slice_get_within case.sources part source at) keyed)
-
 -- a cursor of a state that is within bounds has 32 bits
 cursor-small : (state : State) → IsWithin state → cursor_in state < 2 ^ 32
 cursor-small (states.Injector cursor) within = within
@@ -250,9 +236,9 @@ inject-line case history seq part line item next =
     let in_time = injected-in_time (source_of case part) line item (source_of-source case part next.runs) next.may.of_line in (
       subst (λ n. n < 2 ^ 32) (sym is) cursor,
       record {
-        key = injected-key case part line item next.keyed next.may.of_line;
+        key = injected-each (λ (r : Record). IsKey r.key) case part line item next.keyed next.may.of_line;
         stamp = omega (arith, in_time);
-        value = injected-fits case part line item next.valued next.may.of_line;
+        value = injected-each (λ (r : Record). Fits r.value) case part line item next.valued next.may.of_line;
       },
     )
 

@@ -1,5 +1,5 @@
 -- What a legal history makes has ids that can be printed.
-use Rattle.std.proofs.Common.{◌≡◌, ℕ, ◌+◌, ◌<◌, ◌≤◌, ◌^◌, List, [], ◌∷◌, ◌++◌, length, length-append, refl, subst, sym, arith}
+use Rattle.std.proofs.Common.{◌≡◌, ℕ, ◌<◌, ◌≤◌, ◌^◌, List, [], ◌∷◌, ◌++◌, length, length-append, refl, subst, sym, arith}
 use Rattle.std.specs.Prelude.{Option, Some, None, IsSome}
 use Rattle.std.specs.Option.{option_map_or}
 use Rattle.std.specs.List.{AllByRecursion}
@@ -18,7 +18,7 @@ use Rattle.run_history.specs.Made.{row_written, productions_of, late_cause, deli
 use Rattle.run_history.specs.Runs.{Run, empty_run, followed, row_of, run_of}
 use Rattle.run_history.proofs.Beginnings.{each-begins}
 use Rattle.run_history.proofs.Making.{consumers_few}
-use Rattle.list_lemmas.proofs.Lists.{each-append, each-filter, find-each, find-passes, none_some}
+use Rattle.list_lemmas.proofs.Lists.{each-append, each-filter, find-each, find-passes}
 use Rattle.list_lemmas.proofs.Places.{each-behind}
 use Rattle.history_laws.specs.Ids.{is_left}
 use Rattle.history_laws.proofs.Along.{along_all}
@@ -65,7 +65,8 @@ HoldsIds-followed shape done run entry rules holds = record {
       let old = holds.next in
       let long = length-append done (entry ∷ []) in
       each-append (λ (d : Delivery). IsId d.id) run.made (deliveries_of shape run.made run.next entry)
-      (holds.made (each-begins (λ e. length (productions_of e) ≤ 8) done (done ++ entry ∷ []) (entry ∷ [], refl) few) (omega (arith, short, long)))
+      (holds.made (each-begins (λ e. length (productions_of e) ≤ 8) done (done ++ entry ∷ []) (entry ∷ [], refl) few)
+      (omega (arith, short, long)))
       (entry-ids shape run.made run.next entry rules
       (each-behind (λ e. length (productions_of e) ≤ 8) done (entry ∷ []) few).0 (omega (arith, short, long, old)));
 }
@@ -99,7 +100,8 @@ pending-id case history row id runs legal short pending =
     let run = run_of case.topology history in
     by_found (found_delivery id (row_of case.topology run row).pending) refl pending
   where
-    by_found : (o : Option Delivery) → found_delivery id (row_of case.topology (run_of case.topology history) row).pending ≡ o → IsSome o → IsId id
+    by_found : (o : Option Delivery) → found_delivery id (row_of case.topology (run_of case.topology history) row).pending ≡ o
+        → IsSome o → IsId id
     by_found None found some = absurd (cc)
     by_found (Some d) found some =
         let run = run_of case.topology history in

@@ -1,6 +1,5 @@
 -- A printed history is parted into the lines of its entries.
-use Rattle.std.proofs.Common.{◌≡◌, ℕ, ◌+◌, ◌<◌, ◌≤◌, ◌^◌, ◌==◌, Bool, true, false, cond, List, [], ◌∷◌, ◌++◌, length, drop, refl, sym, ap, ◌∙◌, subst, arith, append_assoc, append-nil}
-use Rattle.std.specs.Prelude.{All}
+use Rattle.std.proofs.Common.{◌≡◌, ℕ, ◌+◌, ◌<◌, ◌≤◌, ◌^◌, ◌==◌, Bool, true, false, cond, List, [], ◌∷◌, ◌++◌, length, drop, refl, ap, ◌∙◌, arith, append_assoc, append-nil}
 use Rattle.std.specs.List.{AllByRecursion, flat_map, slice_split, onto_first, take_while}
 use Rattle.std.proofs.lemmas.Bool.{ne_eqb}
 use Rattle.std.proofs.lemmas.List.Elements.{All-from_recursion}
@@ -32,7 +31,8 @@ entry-no_control n e small is = compact_text-no_control (entry_data n e) (entry-
 lines_in-line : (line rest : List ℕ) → HasNoControl line → lines_in (line ++ 10 ∷ rest) ≡ line ∷ lines_in rest
 lines_in-line line rest plain =
     ap without_empty_end (slice_split_at (λ b. b == 10) line 10 rest (All-from_recursion (λ b. (b == 10) ≡ false) line
-    (each-weaker (λ b. 32 ≤ b) (λ b. (b == 10) ≡ false) (λ b high. ne_eqb b 10 (λ (is : b ≡ 10). omega (arith, high, is))) line plain)) refl)
+    (each-weaker (λ b. 32 ≤ b) (λ b. (b == 10) ≡ false)
+    (λ b high. ne_eqb b 10 (λ (is : b ≡ 10). omega (arith, high, is))) line plain)) refl)
     ∙ without_empty_end-cons line (slice_split (λ b. b == 10) rest) (omega (arith, length-slice_split (λ b. b == 10) rest))
 
 -- printed entries are parted from what stands behind them, and from one another
@@ -84,10 +84,12 @@ not_begun c other (part ∷ (next ∷ parts)) some =
 
 -- nor does a text that begins with the line of a result
 key-not_begun : (rest : List ℕ) → entry_lines_in (123 ∷ 34 ∷ 107 ∷ rest) ≡ []
-key-not_begun rest = not_begun 107 (λ text. refl) (slice_split (λ b. b == 10) rest) (omega (arith, length-slice_split (λ b. b == 10) rest))
+key-not_begun rest = not_begun 107 (λ text. refl) (slice_split (λ b. b == 10) rest)
+    (omega (arith, length-slice_split (λ b. b == 10) rest))
 
 fired-not_begun : (rest : List ℕ) → entry_lines_in (123 ∷ 34 ∷ 102 ∷ rest) ≡ []
-fired-not_begun rest = not_begun 102 (λ text. refl) (slice_split (λ b. b == 10) rest) (omega (arith, length-slice_split (λ b. b == 10) rest))
+fired-not_begun rest = not_begun 102 (λ text. refl) (slice_split (λ b. b == 10) rest)
+    (omega (arith, length-slice_split (λ b. b == 10) rest))
 
 spelled-not_begun : (history : List Entry) (lines : List ResultLine)
     → entry_lines_in (flat_map (λ line. as_line (line_data line)) lines ++ as_line (summary_data history)) ≡ []
@@ -101,8 +103,8 @@ pub result-not_begun : (shape : Shape) (history : List Entry) (text : List ℕ) 
 result-not_begun shape history text is = ap entry_lines_in is.spelled ∙ spelled-not_begun history is.lines
 
 -- so of a printed history with a result behind it the lines of entries are those of its own
-pub entry_lines_in-printed : (shape : Shape) (history : List Entry) (text : List ℕ) → AllByRecursion IsEntry history → length history ≤ 2 ^ 64
-    → IsResultText shape history text → entry_lines_in (lines_from 0 history ++ text) ≡ texts_from 0 history
+pub entry_lines_in-printed : (shape : Shape) (history : List Entry) (text : List ℕ) → AllByRecursion IsEntry history
+    → length history ≤ 2 ^ 64 → IsResultText shape history text → entry_lines_in (lines_from 0 history ++ text) ≡ texts_from 0 history
 entry_lines_in-printed shape history text each few is =
     ap (take_while begins_entry) (lines_in-from 0 history text each (omega (arith, few)))
     ∙ begin-from 0 history (lines_in text)

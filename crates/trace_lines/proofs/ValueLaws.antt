@@ -1,5 +1,5 @@
 -- What a legal history makes has values of 64 bits, and so have the states of its rows and the tags of their timers.
-use Rattle.std.proofs.Common.{◌≡◌, ◌==◌, ℕ, zero, suc, ℤ, pos, ◌<◌, ◌≤◌, ◌^◌, ◌-◌, ◌+◌, Bool, true, false, cond, List, [], ◌∷◌, ◌++◌, length, drop, find, SFits, w64, refl, sym, subst, arith}
+use Rattle.std.proofs.Common.{◌≡◌, ◌==◌, ℕ, zero, suc, ℤ, pos, ◌<◌, ◌≤◌, ◌^◌, ◌-◌, Bool, true, false, cond, List, [], ◌∷◌, ◌++◌, length, drop, find, SFits, w64, refl, sym, subst, arith}
 use Rattle.std.specs.Prelude.{⊤, int_lt, Option, Some, None, All, IfSome, slice_get, unwrap_or, filter, not}
 use Rattle.std.specs.Option.{option_map, option_map_or}
 use Rattle.std.specs.List.{AllByRecursion}
@@ -27,8 +27,8 @@ use Rattle.mw_types.specs.Outcomes.{EffectsView}
 use Rattle.injector.specs.Sources.{Source, SourceLine, item_at}
 use Rattle.topology.specs.Shapes.{consumers_of, kind_of}
 use Rattle.computations.specs.Handlers.{fresh_state, unchanged, outcome_with_timer, outcome_with_record, one_more, window_end, entered, counted, window_due, count_timer, due_time, held_with, total_due, is_spike, known_with, spike_timer, effects_of_record, effects_of_timer}
-use Rattle.row_parts.specs.Contents.{Contents, same_id, is_timer, set_again, fresh}
-use Rattle.run_history.specs.Cases.{CaseShape, fresh_of, record_of, source_of}
+use Rattle.row_parts.specs.Contents.{Contents, same_id, is_timer}
+use Rattle.run_history.specs.Cases.{CaseShape, record_of, source_of}
 use Rattle.run_history.specs.Finished.{handles}
 use Rattle.run_history.specs.Legal.{IsLegal, MayFollow}
 use Rattle.run_history.specs.Made.{deliveries_made, deliveries_of}
@@ -205,7 +205,8 @@ pub record AreValues (run : Run) : Type 0 where
 
 -- the row of a name does
 pub row_of-values : (case : CaseShape) (run : Run) (name : RowName) → AreValues run → HasRowValues (row_of case.topology run name)
-row_of-values case run name are = row_of-each case.topology run name HasRowValues are.rows (fresh_values (kind_of case.topology name.part), tt)
+row_of-values case run name are =
+    row_of-each case.topology run name HasRowValues are.rows (fresh_values (kind_of case.topology name.part), tt)
   where
     of_kind : (kind : Kind) → HasValues (fresh_state kind)
     of_kind (kinds.Count size) = tt
@@ -227,8 +228,8 @@ handle-leaves case run seq row id effects are may =
     (find-each (λ (d : Delivery). Fits d.item.value) (λ (d : Delivery). same_id d.id id) run.unhandled may.delivery are.waiting may.waits))
 
 -- and of a timer that fired
-pub fire-leaves : (case : CaseShape) (run : Run) (seq : ℕ) (row : RowName) (timer : Timer) (mark : ℕ) (effects : EffectsView) → AreValues run
-    → MayFollow case run (Fire seq row timer mark effects) → LeavesValues effects
+pub fire-leaves : (case : CaseShape) (run : Run) (seq : ℕ) (row : RowName) (timer : Timer) (mark : ℕ) (effects : EffectsView)
+    → AreValues run → MayFollow case run (Fire seq row timer mark effects) → LeavesValues effects
 fire-leaves case run seq row timer mark effects are may =
     let state = (row_of case.topology run row).state in
     let kind = was_some (λ (kind : Kind). effects_of_timer kind row.key state timer) (kind_of case.topology row.part) effects may.does in
@@ -242,8 +243,8 @@ advanced-values (states.Spike late held known) has = has
 advanced-values (states.Pass late) has = has
 
 -- the row that an entry leaves
-changed-values : (case : CaseShape) (run : Run) (entry : Entry) (sent : List Delivery) (row : Contents) → AreValues run → MayFollow case run entry
-    → HasRowValues row → HasRowValues (changed entry sent row)
+changed-values : (case : CaseShape) (run : Run) (entry : Entry) (sent : List Delivery) (row : Contents) → AreValues run
+    → MayFollow case run entry → HasRowValues row → HasRowValues (changed entry sent row)
 changed-values case run (Inject seq part line item) sent row are may old = (advanced-values row.state old.0, old.1)
 changed-values case run (Handle seq name id effects) sent row are may old =
     let leaves = handle-leaves case run seq name id effects are may in (
@@ -259,20 +260,21 @@ changed-values case run (Claim worker interval) sent row are may old = old
 changed-values case run (Ack seq name id) sent row are may old = old
 changed-values case run (Purge seq name floor) sent row are may old = old
 
--- an injected record has a value of 64 bits
-pub injected-fits : (case : CaseShape) (part line : ℕ) (item : Record) → AreValued case
-    → option_map record_of (item_at (source_of case part) line) ≡ Some item → Fits item.value
-injected-fits case part line item valued of =
+-- an injected record is as the records of all lines are
+pub injected-each : (P : Record → Type 0) (case : CaseShape) (part line : ℕ) (item : Record)
+    → All (λ (source : Source). All (λ (l : SourceLine). P (record_of l.item)) source) case.sources
+    → option_map record_of (item_at (source_of case part) line) ≡ Some item → P item
+injected-each P case part line item each of =
     let l = line_of (source_of case part) line item of in
-    subst (λ (r : Record). Fits r.value) l.2
-    (line-each (λ (l : SourceLine). Fits l.item.value) (source_of case part) line l.0 (by_source (slice_get case.sources part) refl) l.1)
+    subst P l.2 (line-each Holds (source_of case part) line l.0 (by_source (slice_get case.sources part) refl) l.1)
   where
-    by_source : (o : Option Source) → slice_get case.sources part ≡ o → All (λ (l : SourceLine). Fits l.item.value) (unwrap_or o [])
+    Holds : SourceLine → Type 0
+    Holds l = P (record_of l.item)
+
+    by_source : (o : Option Source) → slice_get case.sources part ≡ o → All Holds (unwrap_or o [])
     by_source None at = λ k d less. absurd (omega (arith, less))
-    by_source (Some source) at = subst (All (λ (l : SourceLine). Fits l.item.value))
-        (get_or_from_slice_get case.sources part source source at)
-        (All-get_or (All (λ (l : SourceLine). Fits l.item.value)) case.sources part source
-        (slice_get_within case.sources part source at) valued)
+    by_source (Some source) at = subst (All Holds) (get_or_from_slice_get case.sources part source source at)
+        (All-get_or (All Holds) case.sources part source (slice_get_within case.sources part source at) each)
 
 -- the deliveries of productions that have such values
 made-values : (case : CaseShape) (part : ℕ) (productions : List Production) (late : Bool) (commit : ℕ)
@@ -287,7 +289,7 @@ sent-values : (case : CaseShape) (run : Run) (entry : Entry) → AreValued case 
     → AllByRecursion (λ (d : Delivery). Fits d.item.value) (deliveries_of case.topology run.made run.next entry)
 sent-values case run (Inject seq part line item) valued are may =
     made-values case part (record { key = item.key; stamp = item.stamp; value = item.value } ∷ []) item.late run.next
-    (injected-fits case part line item valued may.of_line, tt)
+    (injected-each (λ (r : Record). Fits r.value) case part line item valued may.of_line, tt)
 sent-values case run (Handle seq row id effects) valued are may =
     made-values case row.part effects.productions _ run.next (handle-leaves case run seq row id effects are may).values
 sent-values case run (Fire seq row timer mark effects) valued are may =
@@ -308,6 +310,7 @@ AreValues-followed case run entry valued are may = record {
 }
 
 -- after each legal history values have 64 bits
-pub legal-values : (case : CaseShape) (history : List Entry) → AreValued case → IsLegal case history → AreValues (run_of case.topology history)
+pub legal-values : (case : CaseShape) (history : List Entry) → AreValued case → IsLegal case history
+    → AreValues (run_of case.topology history)
 legal-values case history valued = along_history case (λ done run. AreValues run)
     (λ done run entry are may. AreValues-followed case run entry valued are may) (record { waiting = tt; rows = tt }) history

@@ -1,5 +1,5 @@
 -- Each entry can be written, and is read as it was.
-use Rattle.std.proofs.Common.{◌≡◌, ℕ, zero, ℤ, pos, negsuc, ◌<◌, ◌≤◌, ◌^◌, max, List, [], ◌∷◌, map, Bool, cond, None, Some, true, codes, IsUtf8, SFits, w64, inl, refl, ap, ◌∙◌, arith}
+use Rattle.std.proofs.Common.{◌≡◌, ℕ, ℤ, pos, negsuc, ◌<◌, ◌≤◌, ◌^◌, List, [], ◌∷◌, map, Bool, cond, None, Some, true, codes, IsUtf8, SFits, w64, inl, refl, ap, ◌∙◌, arith}
 use Rattle.std.specs.Int.{to_be_bytes, w128}
 use Rattle.std.specs.List.{AllByRecursion}
 use Rattle.std.proofs.lemmas.List.Elements.{recursion_from_All}
@@ -56,18 +56,33 @@ state-utf8 state = IsUtf8-from_ascii (encode_lower (state_spelling state))
 production-writable : (p : Production) → p.stamp ≤ MAX_STAMP → IsProduction p → IsWritable (production_data p)
 production-writable p in_time is = (
   (refl, (refl, (refl, tt))),
-  (IsUtf8-are_ascii (codes "key") refl, is.key.text,
-  (IsUtf8-are_ascii (codes "ts") refl, omega (arith, in_time),
-  (IsUtf8-are_ascii (codes "value") refl, value-whole p.value is.value,
-  tt))),
+  (
+    IsUtf8-are_ascii (codes "key") refl,
+    is.key.text,
+    (
+      IsUtf8-are_ascii (codes "ts") refl,
+      omega (arith, in_time),
+      (
+        IsUtf8-are_ascii (codes "value") refl,
+        value-whole p.value is.value,
+        tt,
+      ),
+    ),
+  ),
 )
 
 timer-writable : (t : Timer) → t.time ≤ MAX_STAMP → t.tag < 2 ^ 64 → IsWritable (timer_data t)
 timer-writable t in_time small = (
   (refl, (refl, tt)),
-  (IsUtf8-are_ascii (codes "tag") refl, small,
-  (IsUtf8-are_ascii (codes "time") refl, omega (arith, in_time),
-  tt)),
+  (
+    IsUtf8-are_ascii (codes "tag") refl,
+    small,
+    (
+      IsUtf8-are_ascii (codes "time") refl,
+      omega (arith, in_time),
+      tt,
+    ),
+  ),
 )
 
 -- what can be written of two facts of each element
@@ -77,7 +92,8 @@ items-writable P Q shown can [] ps qs = tt
 items-writable P Q shown can (x ∷ xs) ps qs = (can x ps.0 qs.0, items-writable P Q shown can xs ps.1 qs.1)
 
 productions-writable : (e : EffectsView) → IsOutcome e → AreWritable (items_of (map production_data e.productions))
-productions-writable e is = items-writable (λ (p : Production). p.stamp ≤ MAX_STAMP) IsProduction production_data production-writable e.productions
+productions-writable e is =
+    items-writable (λ (p : Production). p.stamp ≤ MAX_STAMP) IsProduction production_data production-writable e.productions
     (recursion_from_All (λ (p : Production). p.stamp ≤ MAX_STAMP) e.productions is.kept.stamps)
     (recursion_from_All IsProduction e.productions is.productions)
 
@@ -92,78 +108,214 @@ timers-writable e is = items-writable (λ (t : Timer). t.time ≤ MAX_STAMP) (λ
 pub entry-writable : (n : ℕ) (e : Entry) → n < 2 ^ 64 → IsEntry e → IsWritable (entry_data n e)
 entry-writable n (Claim worker interval) small is = (
   (refl, (refl, (refl, (refl, tt)))),
-  (IsUtf8-are_ascii (codes "do") refl, IsUtf8-are_ascii (codes "claim") refl,
-  (IsUtf8-are_ascii (codes "interval") refl, omega (arith, is.1),
-  (IsUtf8-are_ascii (codes "n") refl, small,
-  (IsUtf8-are_ascii (codes "worker") refl, omega (arith, is.0),
-  tt)))),
+  (
+    IsUtf8-are_ascii (codes "do") refl,
+    IsUtf8-are_ascii (codes "claim") refl,
+    (
+      IsUtf8-are_ascii (codes "interval") refl,
+      omega (arith, is.1),
+      (
+        IsUtf8-are_ascii (codes "n") refl,
+        small,
+        (
+          IsUtf8-are_ascii (codes "worker") refl,
+          omega (arith, is.0),
+          tt,
+        ),
+      ),
+    ),
+  ),
 )
 entry-writable n (Inject seq part line item) small is = (
   (refl, (refl, (refl, (refl, (refl, (refl, (refl, (refl, (refl, tt))))))))),
-  (IsUtf8-are_ascii (codes "do") refl, IsUtf8-are_ascii (codes "inject") refl,
-  (IsUtf8-are_ascii (codes "key") refl, is.3.key.text,
-  (IsUtf8-are_ascii (codes "late") refl, tt,
-  (IsUtf8-are_ascii (codes "line") refl, omega (arith, is.2),
-  (IsUtf8-are_ascii (codes "n") refl, small,
-  (IsUtf8-are_ascii (codes "part") refl, omega (arith, is.1),
-  (IsUtf8-are_ascii (codes "seq") refl, is.0,
-  (IsUtf8-are_ascii (codes "ts") refl, is.3.stamp,
-  (IsUtf8-are_ascii (codes "value") refl, value-whole item.value is.3.value,
-  tt))))))))),
+  (
+    IsUtf8-are_ascii (codes "do") refl,
+    IsUtf8-are_ascii (codes "inject") refl,
+    (
+      IsUtf8-are_ascii (codes "key") refl,
+      is.3.key.text,
+      (
+        IsUtf8-are_ascii (codes "late") refl,
+        tt,
+        (
+          IsUtf8-are_ascii (codes "line") refl,
+          omega (arith, is.2),
+          (
+            IsUtf8-are_ascii (codes "n") refl,
+            small,
+            (
+              IsUtf8-are_ascii (codes "part") refl,
+              omega (arith, is.1),
+              (
+                IsUtf8-are_ascii (codes "seq") refl,
+                is.0,
+                (
+                  IsUtf8-are_ascii (codes "ts") refl,
+                  is.3.stamp,
+                  (
+                    IsUtf8-are_ascii (codes "value") refl,
+                    value-whole item.value is.3.value,
+                    tt,
+                  ),
+                ),
+              ),
+            ),
+          ),
+        ),
+      ),
+    ),
+  ),
 )
 entry-writable n (Handle seq row id effects) small is = (
   (refl, (refl, (refl, (refl, (refl, (refl, (refl, (refl, (refl, tt))))))))),
-  (IsUtf8-are_ascii (codes "do") refl, IsUtf8-are_ascii (codes "handle") refl,
-  (IsUtf8-are_ascii (codes "id") refl, id-utf8 id,
-  (IsUtf8-are_ascii (codes "n") refl, small,
-  (IsUtf8-are_ascii (codes "out") refl, productions-writable effects is.3,
-  (IsUtf8-are_ascii (codes "part") refl, omega (arith, is.1.part),
-  (IsUtf8-are_ascii (codes "row") refl, is.1.key.text,
-  (IsUtf8-are_ascii (codes "seq") refl, is.0,
-  (IsUtf8-are_ascii (codes "state") refl, state-utf8 effects.state,
-  (IsUtf8-are_ascii (codes "timers") refl, timers-writable effects is.3,
-  tt))))))))),
+  (
+    IsUtf8-are_ascii (codes "do") refl,
+    IsUtf8-are_ascii (codes "handle") refl,
+    (
+      IsUtf8-are_ascii (codes "id") refl,
+      id-utf8 id,
+      (
+        IsUtf8-are_ascii (codes "n") refl,
+        small,
+        (
+          IsUtf8-are_ascii (codes "out") refl,
+          productions-writable effects is.3,
+          (
+            IsUtf8-are_ascii (codes "part") refl,
+            omega (arith, is.1.part),
+            (
+              IsUtf8-are_ascii (codes "row") refl,
+              is.1.key.text,
+              (
+                IsUtf8-are_ascii (codes "seq") refl,
+                is.0,
+                (
+                  IsUtf8-are_ascii (codes "state") refl,
+                  state-utf8 effects.state,
+                  (
+                    IsUtf8-are_ascii (codes "timers") refl,
+                    timers-writable effects is.3,
+                    tt,
+                  ),
+                ),
+              ),
+            ),
+          ),
+        ),
+      ),
+    ),
+  ),
 )
 entry-writable n (Fire seq row timer mark effects) small is = (
   (refl, (refl, (refl, (refl, (refl, (refl, (refl, (refl, (refl, (refl, (refl, tt))))))))))),
-  (IsUtf8-are_ascii (codes "do") refl, IsUtf8-are_ascii (codes "fire") refl,
-  (IsUtf8-are_ascii (codes "late") refl, tt,
-  (IsUtf8-are_ascii (codes "mark") refl, is.3,
-  (IsUtf8-are_ascii (codes "n") refl, small,
-  (IsUtf8-are_ascii (codes "out") refl, productions-writable effects is.4,
-  (IsUtf8-are_ascii (codes "part") refl, omega (arith, is.1.part),
-  (IsUtf8-are_ascii (codes "row") refl, is.1.key.text,
-  (IsUtf8-are_ascii (codes "seq") refl, is.0,
-  (IsUtf8-are_ascii (codes "state") refl, state-utf8 effects.state,
-  (IsUtf8-are_ascii (codes "tag") refl, is.2.0,
-  (IsUtf8-are_ascii (codes "time") refl, is.2.1,
-  tt))))))))))),
+  (
+    IsUtf8-are_ascii (codes "do") refl,
+    IsUtf8-are_ascii (codes "fire") refl,
+    (
+      IsUtf8-are_ascii (codes "late") refl,
+      tt,
+      (
+        IsUtf8-are_ascii (codes "mark") refl,
+        is.3,
+        (
+          IsUtf8-are_ascii (codes "n") refl,
+          small,
+          (
+            IsUtf8-are_ascii (codes "out") refl,
+            productions-writable effects is.4,
+            (
+              IsUtf8-are_ascii (codes "part") refl,
+              omega (arith, is.1.part),
+              (
+                IsUtf8-are_ascii (codes "row") refl,
+                is.1.key.text,
+                (
+                  IsUtf8-are_ascii (codes "seq") refl,
+                  is.0,
+                  (
+                    IsUtf8-are_ascii (codes "state") refl,
+                    state-utf8 effects.state,
+                    (
+                      IsUtf8-are_ascii (codes "tag") refl,
+                      is.2.0,
+                      (
+                        IsUtf8-are_ascii (codes "time") refl,
+                        is.2.1,
+                        tt,
+                      ),
+                    ),
+                  ),
+                ),
+              ),
+            ),
+          ),
+        ),
+      ),
+    ),
+  ),
 )
 entry-writable n (Ack seq row id) small is = (
   (refl, (refl, (refl, (refl, (refl, (refl, tt)))))),
-  (IsUtf8-are_ascii (codes "do") refl, IsUtf8-are_ascii (codes "ack") refl,
-  (IsUtf8-are_ascii (codes "id") refl, id-utf8 id,
-  (IsUtf8-are_ascii (codes "n") refl, small,
-  (IsUtf8-are_ascii (codes "part") refl, omega (arith, is.1.part),
-  (IsUtf8-are_ascii (codes "row") refl, is.1.key.text,
-  (IsUtf8-are_ascii (codes "seq") refl, is.0,
-  tt)))))),
+  (
+    IsUtf8-are_ascii (codes "do") refl,
+    IsUtf8-are_ascii (codes "ack") refl,
+    (
+      IsUtf8-are_ascii (codes "id") refl,
+      id-utf8 id,
+      (
+        IsUtf8-are_ascii (codes "n") refl,
+        small,
+        (
+          IsUtf8-are_ascii (codes "part") refl,
+          omega (arith, is.1.part),
+          (
+            IsUtf8-are_ascii (codes "row") refl,
+            is.1.key.text,
+            (
+              IsUtf8-are_ascii (codes "seq") refl,
+              is.0,
+              tt,
+            ),
+          ),
+        ),
+      ),
+    ),
+  ),
 )
 entry-writable n (Purge seq row floor) small is = (
   (refl, (refl, (refl, (refl, (refl, (refl, tt)))))),
-  (IsUtf8-are_ascii (codes "do") refl, IsUtf8-are_ascii (codes "purge") refl,
-  (IsUtf8-are_ascii (codes "floor") refl, is.2,
-  (IsUtf8-are_ascii (codes "n") refl, small,
-  (IsUtf8-are_ascii (codes "part") refl, omega (arith, is.1.part),
-  (IsUtf8-are_ascii (codes "row") refl, is.1.key.text,
-  (IsUtf8-are_ascii (codes "seq") refl, is.0,
-  tt)))))),
+  (
+    IsUtf8-are_ascii (codes "do") refl,
+    IsUtf8-are_ascii (codes "purge") refl,
+    (
+      IsUtf8-are_ascii (codes "floor") refl,
+      is.2,
+      (
+        IsUtf8-are_ascii (codes "n") refl,
+        small,
+        (
+          IsUtf8-are_ascii (codes "part") refl,
+          omega (arith, is.1.part),
+          (
+            IsUtf8-are_ascii (codes "row") refl,
+            is.1.key.text,
+            (
+              IsUtf8-are_ascii (codes "seq") refl,
+              is.0,
+              tt,
+            ),
+          ),
+        ),
+      ),
+    ),
+  ),
 )
 
 -- ---- how deep an entry nests
 
 -- items of one depth nest no deeper
-items-shallow : {X : Type 0} (shown : X → Data) (n : ℕ) → ((x : X) → depth (shown x) ≤ n) → (xs : List X) → items_depth (items_of (map shown xs)) ≤ n
+items-shallow : {X : Type 0} (shown : X → Data) (n : ℕ) → ((x : X) → depth (shown x) ≤ n) → (xs : List X)
+    → items_depth (items_of (map shown xs)) ≤ n
 items-shallow shown n each [] = omega arith
 items-shallow shown n each (x ∷ xs) = omega (arith, each x, items-shallow shown n each xs)
 

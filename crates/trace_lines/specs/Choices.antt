@@ -36,7 +36,8 @@ row_with part key = record { part = part; key = key }
 
 -- the row that a value names
 abbrev pub row_in : Data → Option RowName
-row_in d = option_and_then (λ part. option_map (row_with part) (key_at (codes "row") d)) (short_at (codes "part") d)
+row_in d =
+    option_and_then (λ part. option_map (row_with part) (key_at (codes "row") d)) (short_at (codes "part") d)
 
 -- the choice of a claim
 abbrev pub claim_in : Data → Option Choice
@@ -53,15 +54,18 @@ handle_in d = option_map choices.Handle (id_at (codes "id") d)
 
 -- the choice of a fired timer
 abbrev pub fire_in : Data → Option Choice
-fire_in d = option_and_then (λ mark. option_map (λ row. choices.Fire row mark) (row_in d)) (stamp_at (codes "mark") d)
+fire_in d =
+    option_and_then (λ mark. option_map (λ row. choices.Fire row mark) (row_in d)) (stamp_at (codes "mark") d)
 
 -- the choice of an acknowledgement
 abbrev pub ack_in : Data → Option Choice
-ack_in d = option_and_then (λ id. option_map (λ row. choices.Ack row id) (row_in d)) (id_at (codes "id") d)
+ack_in d =
+    option_and_then (λ id. option_map (λ row. choices.Ack row id) (row_in d)) (id_at (codes "id") d)
 
 -- the choice of a purge
 abbrev pub purge_in : Data → Option Choice
-purge_in d = option_and_then (λ floor. option_map (λ row. choices.Purge row floor) (row_in d)) (stamp_at (codes "floor") d)
+purge_in d =
+    option_and_then (λ floor. option_map (λ row. choices.Purge row floor) (row_in d)) (stamp_at (codes "floor") d)
 
 -- the choice of an entry of the kind that a value names
 abbrev pub choice_named : List ℕ → Data → Option Choice

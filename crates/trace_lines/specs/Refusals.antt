@@ -11,9 +11,9 @@ use Rattle.trace_lines.specs.declared.refusal.AuditRefusal.TheVariants.{Bad, NoM
 use Rattle.trace_lines.specs.Entries.{IsEntryLine}
 use Rattle.trace_lines.specs.Readings.{IsRunText, IsFirstUnread, IsAllRead}
 
--- the line of this number, from 1, is the first that is wrong, for this reason: up to it there is no reading, and it
--- is no entry's line under its number, or it is one's; or all lines of entries have a reading, and that is not
--- finished, or is finished and the text is another
+-- the line of this number, from 1, is the first that is wrong, for this reason: up to it there is no
+-- reading, and it is no entry's line under its number, or it is one's; or all lines of entries have a
+-- reading, and that is not finished, or is finished and the text is another
 abbrev pub IsFirstWrong : CaseShape → List ℕ → ℕ → AuditWhy → Type 0
 IsFirstWrong case bytes number NotALine =
     (line : List ℕ) × IsFirstUnread case bytes number line × (IsEntryLine (number - 1) line → ⊥)

@@ -50,8 +50,8 @@ pub fn printed_histories_are_parted()
         HasNoControl (text_of_entry n entry) }
 {}
 
-/// Each entry of a lawful history is within the bounds of its types, where the case's lines have keys
-/// and values of 64 bits, as those of a real case have.
+/// Each entry of a lawful history is within the bounds of its types, where the case's lines have
+/// keys, and values of 64 bits, as those of a real case have.
 pub fn lawful_entries_are_entries()
     ensures next { (case : CaseShape) (history : List Entry) (entry : Entry) →
         IsRunnable case → AreKeyed case → AreValued case → IsLegal case history →

@@ -1,9 +1,13 @@
-//! What the lines of a printed history say: which entries they may be of, and what of each was chosen.
+//! What the lines of a printed history say: of which entries they may be, and what was chosen of each.
 //!
-//! Stands on `run_history`, `history_laws` and `read_back`. Definitions, in the order of reading:
-//! `specs/Lines.antt`, which lines a text has; `specs/Entries.antt`, which lines are lines of an entry;
-//! `specs/Readings.antt`, which history a text is of; `specs/Refusals.antt`, which line is the first
-//! that is wrong; `specs/Choices.antt`, what a line tells of the choice of its entry.
+//! Stands on `run_history`, `history_laws` and `read_back`. Public contract: `next_line` cuts a text
+//! line by line, `begins_entry` says which lines begin as those of entries, and `choice_at` answers
+//! what the definition reads of a line. The line of an entry tells its choice, entries of lawful
+//! histories are such entries, and a printed history is parted into the lines of its entries.
+//! Definitions, in the order of reading: `specs/Lines.antt`, which lines a text has;
+//! `specs/Entries.antt`, which of them are lines of an entry; `specs/Readings.antt`, of which history a
+//! text is; `specs/Refusals.antt`, which line is the first that is wrong; `specs/Choices.antt`, what
+//! a line tells of the choice of its entry; `specs/Values.antt`, which values a case's lines have.
 #![tactic(auto)]
 
 mod choice;
