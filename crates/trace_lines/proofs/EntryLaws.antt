@@ -1,14 +1,14 @@
 -- Each entry of a lawful history is within the bounds of its types.
-use Rattle.std.proofs.Common.{◌≡◌, ◌==◌, ℕ, ◌+◌, ◌<◌, ◌≤◌, ◌^◌, min, Bool, true, cond, List, [], ◌∷◌, ◌++◌, length, length-append, map, fold, refl, sym, ap, ◌∙◌, subst, arith, append_assoc}
-use Rattle.std.specs.Prelude.{Option, Some, None, All, IsSome, IfSome, unwrap_or, slice_get}
-use Rattle.std.specs.Option.{option_map, option_map_or, option_and_then}
+use Rattle.std.proofs.Common.{◌≡◌, ℕ, ◌+◌, ◌<◌, ◌≤◌, ◌^◌, min, Bool, true, cond, List, [], ◌∷◌, ◌++◌, length, length-append, map, fold, refl, sym, ap, ◌∙◌, subst, arith, append_assoc}
+use Rattle.std.specs.Prelude.{Option, Some, None, IsSome, IfSome, slice_get}
+use Rattle.std.specs.Option.{option_map_or, option_and_then}
 use Rattle.std.specs.List.{AllByRecursion, flat_map}
 use Rattle.std.specs.Map.{lookup}
 use Rattle.std.specs.BTreeMap.{insert_entry, is_at}
 use Rattle.std.specs.Cmp.{tied_itself}
 use Rattle.std.specs.Ordering.{is_eq}
-use Rattle.std.proofs.lemmas.List.Elements.{recursion_from_All, All-from_recursion, All-get_or}
-use Rattle.std.proofs.lemmas.Option.{get_or_from_slice_get, slice_get_within}
+use Rattle.std.proofs.lemmas.List.Elements.{recursion_from_All, All-from_recursion}
+use Rattle.std.proofs.lemmas.Option.{slice_get_within}
 use Rattle.mw_types.specs.declared.TheConstants.{MAX_STAMP}
 use Rattle.mw_types.specs.declared.identity.RecordId.{RecordId}
 use Rattle.mw_types.specs.declared.identity.RowName.{RowName}
@@ -26,12 +26,11 @@ use Rattle.mw_types.specs.Bounds.{IsWithin}
 use Rattle.mw_types.specs.Orders.{row_cmp}
 use Rattle.mw_types.specs.Outcomes.{EffectsView}
 use Rattle.mw_types.proofs.OrderLaws.{row_cmp-total}
-use Rattle.injector.specs.Sources.{Source, SourceLine, item_at}
 use Rattle.topology.specs.Shapes.{Shape, kind_of, parts_of}
 use Rattle.computations.specs.Handlers.{effects_of_record, effects_of_timer}
 use Rattle.row_parts.specs.Contents.{Contents, IsKey, cursor_in, same_id}
 use Rattle.row_parts.specs.Spelling.{FitsBytes}
-use Rattle.run_history.specs.Cases.{CaseShape, record_of, source_of}
+use Rattle.run_history.specs.Cases.{CaseShape, source_of}
 use Rattle.run_history.specs.Fences.{IsUnderLastClaim, interval_of, last_claim, sequencer_of}
 use Rattle.run_history.specs.Inputs.{IsRunnable}
 use Rattle.run_history.specs.Legal.{IsLegal, MayFollow, floor_of}
@@ -54,7 +53,7 @@ use Rattle.history_laws.proofs.LowLaws.{low_under-end}
 use Rattle.history_laws.proofs.PendingLaws.{was_some}
 use Rattle.history_laws.proofs.PrintLaws.{legal-on_parts}
 use Rattle.history_laws.proofs.RowSteps.{made_row, row_of-here}
-use Rattle.history_laws.proofs.StampLaws.{fire-after, fire-in_time, handle-after, injected-in_time, legal-in_time, line_of, line-each, source_of-source}
+use Rattle.history_laws.proofs.StampLaws.{fire-after, fire-in_time, handle-after, injected-in_time, legal-in_time, source_of-source}
 use Rattle.history_laws.proofs.StateLaws.{legal-bounded}
 use Rattle.trace_lines.specs.Entries.{IsRowName, IsRecord, IsProduction, IsOutcome, IsEntry}
 use Rattle.trace_lines.specs.Choices.{choice_of, choice_at}

@@ -19,9 +19,7 @@ mod refusal;
 
 pub use choice::Choice;
 pub use keyed::case_is_keyed;
-pub use laws::{
-    lawful_entries_are_entries, lines_tell_choices, printed_histories_are_parted,
-};
+pub use laws::{lawful_entries_are_entries, lines_tell_choices, printed_histories_are_parted};
 pub use lines::{begins_entry, next_line};
 pub use reading::choice_at;
 pub use refusal::{AuditRefusal, AuditWhy};
