@@ -5,3 +5,4 @@ pub mod Parting
 pub mod ValueLaws
 pub mod IdBounds
 pub mod EntryLaws
+pub mod OneReading
