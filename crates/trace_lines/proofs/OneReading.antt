@@ -2,6 +2,7 @@
 use Rattle.std.proofs.Common.{◌≡◌, ℕ, ◌+◌, ◌<◌, ◌≤◌, ◌^◌, List, [], ◌∷◌, ◌++◌, length, length-append, refl, sym, ap, ap₂, ◌∙◌, subst, arith, append_assoc}
 use Rattle.std.specs.Prelude.{Option, Some, None, slice_get}
 use Rattle.std.specs.Option.{option_map, option_and_then}
+use Rattle.mw_types.specs.declared.identity.RecordId.{RecordId}
 use Rattle.mw_types.specs.declared.identity.RowName.{RowName}
 use Rattle.mw_types.specs.declared.record.Record.{Record}
 use Rattle.mw_types.specs.declared.timer.Timer.{Timer}
@@ -43,9 +44,9 @@ abbrev inject_of : CaseShape → ℕ → ℕ → ℕ → Option Entry
 inject_of case part line seq = option_map (Inject seq part line) (option_map record_of (item_at (source_of case part) line))
 
 -- what handles a record in a row
-abbrev handle_of : CaseShape → List Entry → Delivery → RowName → Option Entry
-handle_of case history d row = option_and_then (λ seq. option_map (Handle seq row d.id)
-    (record_outcome case row (row_of case.topology (run_of case.topology history) row) d.item)) (seq_of case history row)
+abbrev handle_of : CaseShape → List Entry → RecordId → Record → RowName → Option Entry
+handle_of case history id item row = option_and_then (λ seq. option_map (Handle seq row id)
+    (record_outcome case row (row_of case.topology (run_of case.topology history) row) item)) (seq_of case history row)
 
 -- what fires a timer of a row
 abbrev fire_of : CaseShape → List Entry → RowName → ℕ → Timer → Option Entry
@@ -59,7 +60,7 @@ entry_for case history (choices.Inject part) =
     option_and_then (inject_of case part (cursor_of case (run_of case.topology history) part))
     (seq_of case history (record { part = part; key = [] }))
 entry_for case history (choices.Handle id) =
-    option_and_then (λ (d : Delivery). handle_of case history (record d { id = id }) d.to)
+    option_and_then (λ (d : Delivery). handle_of case history id d.item d.to)
     (found_delivery id (run_of case.topology history).unhandled)
 entry_for case history (choices.Fire row mark) = option_and_then (fire_of case history row mark)
     (slice_get (row_of case.topology (run_of case.topology history) row).timers 0)
@@ -71,13 +72,13 @@ entry_for-own : (case : CaseShape) (history : List Entry) (entry : Entry) → Ma
     → IsUnderLastClaim case.topology history entry → entry_for case history (choice_of entry) ≡ Some entry
 entry_for-own case history (Claim worker interval) may under = refl
 entry_for-own case history (Inject seq part line item) may under =
-    ap (option_and_then (inject_of case part (cursor_of case (run_of case.topology history) part))) (under (record { part = part; key = [] }) refl)
+    ap (option_and_then (inject_of case part (cursor_of case (run_of case.topology history) part)))
+    (under (record { part = part; key = [] }) refl)
     ∙ ap (λ l. inject_of case part l seq) (sym may.next_line)
     ∙ ap (option_map (Inject seq part line)) may.of_line
 entry_for-own case history (Handle seq row id effects) may under =
-    let d : Delivery = record may.delivery { id = id } in
-    ap (option_and_then (λ (e : Delivery). handle_of case history (record e { id = id }) e.to)) may.waits
-    ∙ ap (handle_of case history d) may.to_row
+    ap (option_and_then (λ (d : Delivery). handle_of case history id d.item d.to)) may.waits
+    ∙ ap (handle_of case history id may.delivery.item) may.to_row
     ∙ ap (option_and_then (λ s. option_map (Handle s row id)
     (record_outcome case row (row_of case.topology (run_of case.topology history) row) may.delivery.item))) (under row refl)
     ∙ ap (option_map (Handle seq row id)) may.does
@@ -139,12 +140,15 @@ behind-same case front (x ∷ xs) (y ∷ ys) runs keyed valued lawful_one short_
     let other : (front ++ x ∷ []) ++ ys ≡ front ++ y ∷ ys = more x ys ∙ ap (λ z. front ++ z ∷ ys) first in
     let count : length (front ++ x ∷ []) ≡ n + 1 = length-append front (x ∷ []) in
     ap₂ (λ z zs. z ∷ zs) first (behind-same case (front ++ x ∷ []) xs ys runs keyed valued
-    (subst (IsLegalAndFenced case) (sym (more x xs)) lawful_one) (subst (λ (h : List Entry). length h < 2 ^ 32) (sym (more x xs)) short_one)
-    (subst (IsLegalAndFenced case) (sym other) lawful_other) (subst (λ (h : List Entry). length h < 2 ^ 32) (sym other) short_other)
+    (subst (IsLegalAndFenced case) (sym (more x xs)) lawful_one)
+    (subst (λ (h : List Entry). length h < 2 ^ 32) (sym (more x xs)) short_one)
+    (subst (IsLegalAndFenced case) (sym other) lawful_other)
+    (subst (λ (h : List Entry). length h < 2 ^ 32) (sym other) short_other)
     (subst (λ m. texts_from m xs ≡ texts_from m ys) (sym count) lines))
 
 -- a history is as long as its lines are many
-reading-long : (case : CaseShape) (lines : List (List ℕ)) (history : List Entry) → IsReading case history lines → length history ≡ length lines
+reading-long : (case : CaseShape) (lines : List (List ℕ)) (history : List Entry) → IsReading case history lines
+    → length history ≡ length lines
 reading-long case lines history is =
     sym (length-numbered (λ (e : ℕ × Entry). text_of_entry e.0 e.1) 0 history) ∙ ap length is.printed
 

@@ -14,7 +14,7 @@ ghost use Rattle.history_laws.specs.Keys.{AreKeyed};
 ghost use Rattle.history_laws.specs.Writes.{IsLegalAndFenced};
 ghost use Rattle.trace_lines.specs.Lines.{lines_in, begins_entry, entry_lines_in, text_of_entry};
 ghost use Rattle.trace_lines.specs.Entries.{IsEntry};
-ghost use Rattle.trace_lines.specs.Readings.{texts_from};
+ghost use Rattle.trace_lines.specs.Readings.{texts_from, IsReading};
 ghost use Rattle.trace_lines.specs.Choices.{choice_of, choice_in, choice_at};
 ghost use Rattle.trace_lines.specs.Values.{AreValued};
 
@@ -66,4 +66,19 @@ pub fn lawful_entries_are_entries()
         IsRunnable case → AreKeyed case → AreValued case → IsLegalAndFenced case history →
         length history < 2 ^ 32 → slice_get history n ≡ Some entry →
         choice_at (text_of_entry n entry) ≡ Some (choice_of entry) }
+{}
+
+/// A lawful entry is fixed by its choice, given what stands before it, and so a lawful history is
+/// fixed by its lines.
+pub fn lines_have_one_reading()
+    ensures entry { (case : CaseShape) (history : List Entry) (one : Entry) (other : Entry) →
+        MayFollow case (run_of case.topology history) one →
+        IsUnderLastClaim case.topology history one →
+        MayFollow case (run_of case.topology history) other →
+        IsUnderLastClaim case.topology history other →
+        choice_of one ≡ choice_of other → one ≡ other }
+    ensures reading { (case : CaseShape) (lines : List (List ℕ))
+        (one : List Entry) (other : List Entry) →
+        IsRunnable case → AreKeyed case → AreValued case → length lines < 2 ^ 32 →
+        IsReading case one lines → IsReading case other lines → one ≡ other }
 {}
