@@ -1,6 +1,6 @@
 -- A lawful entry is fixed by its choice, and a lawful history by its lines.
-use Rattle.std.proofs.Common.{◌≡◌, ℕ, ◌+◌, ◌<◌, ◌≤◌, ◌^◌, List, [], ◌∷◌, ◌++◌, length, length-append, refl, sym, ap, ap₂, ◌∙◌, subst, arith, append_assoc}
-use Rattle.std.specs.Prelude.{Option, Some, None, slice_get}
+use Rattle.std.proofs.Common.{◌≡◌, ℕ, ◌+◌, ◌<◌, ◌^◌, List, [], ◌∷◌, ◌++◌, length, length-append, refl, sym, ap, ap₂, ◌∙◌, subst, arith, append_assoc}
+use Rattle.std.specs.Prelude.{Option, Some, slice_get}
 use Rattle.std.specs.Option.{option_map, option_and_then}
 use Rattle.mw_types.specs.declared.identity.RecordId.{RecordId}
 use Rattle.mw_types.specs.declared.identity.RowName.{RowName}
@@ -9,7 +9,6 @@ use Rattle.mw_types.specs.declared.timer.Timer.{Timer}
 use Rattle.mw_types.specs.declared.delivery.Delivery.{Delivery}
 use Rattle.mw_types.specs.declared.entry.Entry.{Entry}
 use Rattle.mw_types.specs.declared.entry.Entry.TheVariants.{Claim, Inject, Handle, Fire, Ack, Purge}
-use Rattle.mw_types.specs.Outcomes.{EffectsView}
 use Rattle.injector.specs.Sources.{item_at}
 use Rattle.row_parts.specs.Contents.{found_delivery}
 use Rattle.run_history.specs.Cases.{CaseShape, record_of, source_of}
@@ -26,12 +25,13 @@ use Rattle.history_laws.proofs.Along.{AreLegal-apart}
 use Rattle.trace_lines.specs.declared.choice.Choice.{Choice}
 use Rattle.trace_lines.specs.declared.choice.Choice.TheVariants as choices
 use Rattle.trace_lines.specs.Choices.{choice_of}
-use Rattle.trace_lines.specs.Lines.{text_of_entry}
+use Rattle.trace_lines.specs.Lines.{entry_lines_in, text_of_entry}
 use Rattle.trace_lines.specs.Entries.{IsEntry}
-use Rattle.trace_lines.specs.Readings.{texts_from, IsReading}
+use Rattle.trace_lines.specs.Readings.{texts_from, IsReading, IsRunText}
 use Rattle.trace_lines.specs.Values.{AreValued}
 use Rattle.trace_lines.proofs.Choosing.{choice_of-same}
-use Rattle.trace_lines.proofs.EntryLaws.{next-entry}
+use Rattle.trace_lines.proofs.EntryLaws.{legal-entries, next-entry}
+use Rattle.trace_lines.proofs.Parting.{entry_lines_in-printed}
 
 -- ---- the entry of a choice
 
@@ -160,3 +160,12 @@ reading-one case lines one other runs keyed valued short is_one is_other =
     let long_other = reading-long case lines other is_other in
     behind-same case [] one other runs keyed valued is_one.lawful (omega (arith, long_one, short))
     is_other.lawful (omega (arith, long_other, short)) (is_one.printed ∙ sym is_other.printed)
+
+-- the history of a text is the reading of its lines of entries
+pub run_text-read : (case : CaseShape) (history : List Entry) (bytes : List ℕ) → IsRunnable case → AreKeyed case → AreValued case
+    → length history < 2 ^ 32 → IsRunText case history bytes → IsReading case history (entry_lines_in bytes)
+run_text-read case history bytes runs keyed valued short is = record {
+  lawful = is.lawful;
+  printed = sym (ap entry_lines_in is.whole ∙ entry_lines_in-printed case.topology history is.result
+      (legal-entries case history runs keyed valued is.lawful short) (omega (arith, short)) is.is_result);
+}

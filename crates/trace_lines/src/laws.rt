@@ -14,7 +14,7 @@ ghost use Rattle.history_laws.specs.Keys.{AreKeyed};
 ghost use Rattle.history_laws.specs.Writes.{IsLegalAndFenced};
 ghost use Rattle.trace_lines.specs.Lines.{lines_in, begins_entry, entry_lines_in, text_of_entry};
 ghost use Rattle.trace_lines.specs.Entries.{IsEntry};
-ghost use Rattle.trace_lines.specs.Readings.{texts_from, IsReading};
+ghost use Rattle.trace_lines.specs.Readings.{texts_from, IsReading, IsRunText};
 ghost use Rattle.trace_lines.specs.Choices.{choice_of, choice_in, choice_at};
 ghost use Rattle.trace_lines.specs.Values.{AreValued};
 
@@ -81,4 +81,9 @@ pub fn lines_have_one_reading()
         (one : List Entry) (other : List Entry) →
         IsRunnable case → AreKeyed case → AreValued case → length lines < 2 ^ 32 →
         IsReading case one lines → IsReading case other lines → one ≡ other }
+
+    // The history of a run's text is the reading of the text's lines of entries.
+    ensures text { (case : CaseShape) (history : List Entry) (bytes : List ℕ) →
+        IsRunnable case → AreKeyed case → AreValued case → length history < 2 ^ 32 →
+        IsRunText case history bytes → IsReading case history (entry_lines_in bytes) }
 {}

@@ -1,6 +1,7 @@
 //! What the lines of a printed history say: of which entries they may be, and what was chosen of each.
 //!
-//! Stands on `run_history`, `history_laws` and `read_back`. Public contract: `next_line` cuts a text
+//! Stands on `run_history`, `history_laws` and `read_back`, takes from `live_outlet` how the print of
+//! an id is read, and from `book` that ids are within bounds. Public contract: `next_line` cuts a text
 //! line by line, `begins_entry` says which lines begin as those of entries, and `choice_at` answers
 //! what the definition reads of a line. The line of an entry tells its choice, entries of lawful
 //! histories are such entries, a printed history is parted into the lines of its entries, and lines
