@@ -1,10 +1,12 @@
 //! The steps of a turn of work that no message asks for.
-ghost use Rattle.std.specs.Prelude.{◌≡◌, ◌<◌, IfErr};
+ghost use Rattle.std.specs.Prelude.{◌≡◌, ◌<◌, IfErr, IsTrue, OnOk};
+ghost use Rattle.topology.specs.Shapes.{injectors_of};
 ghost use Rattle.node.specs.Fits.{Fits};
 ghost use Rattle.node.specs.Messages.{IsComputation};
 ghost use Rattle.node.specs.Works.{IsWorkOf};
+ghost use Rattle.node.specs.declared.outcome.Outcome.TheVariants as outcomes;
 ghost use Rattle.workers.specs.Serving.{HasServed};
-ghost use Rattle.workers.specs.Slices.{IsSliceFault};
+ghost use Rattle.workers.specs.Slices.{HasInjected, HasLinesOf, IsSliceFault};
 
 use crate::counts::{injectors_in, intervals_in, parts_in};
 use crate::tries::{fire, inject, purge, report};
@@ -16,7 +18,9 @@ use std::alloc::Global;
 use std::sync::Wait;
 
 // Whether there was nothing to do.
-fn is_nothing(outcome: &Outcome) -> bool {
+fn is_nothing(outcome: &Outcome) -> bool
+    ensures nothing { IsTrue result → outcome.now ≡ outcomes.Nothing }
+{
     match outcome {
         Outcome::Nothing => true,
         _ => false,
@@ -90,9 +94,12 @@ fn inject_part<R: Wait, N: Seen, D: Desk<Note = N>>(
     part: u32,
 ) -> Result<(), NodeFault>
     requires fits { Fits case.now (D.view desk.old) node.old }
+    requires part { part < injectors_of case.now.topology }
 
     ensures served { HasServed case.now 16 (D.view desk.old) (D.view desk.new)
         node.old node.new }
+    ensures lines { OnOk result
+        (HasLinesOf 16 case.now part node.old (D.view desk.old) (D.view desk.new)) }
     ensures fault { IfErr result (IsSliceFault (D.view desk.old) (D.view desk.new)) }
     ensures loan { D.loan desk.new ≡ D.loan desk.old }
     ensures home { D.home desk.new ≡ D.home desk.old }
@@ -118,6 +125,8 @@ pub(crate) fn inject_all<R: Wait, N: Seen, D: Desk<Note = N>>(
 
     ensures served { HasServed case.now 256 (D.view desk.old) (D.view desk.new)
         node.old node.new }
+    ensures injected { OnOk result
+        (HasInjected case.now node.old (D.view desk.old) (D.view desk.new)) }
     ensures fault { IfErr result (IsSliceFault (D.view desk.old) (D.view desk.new)) }
     ensures loan { D.loan desk.new ≡ D.loan desk.old }
     ensures home { D.home desk.new ≡ D.home desk.old }

@@ -48,7 +48,8 @@ fn is_committed(outcome: &Outcome) -> bool {
     }
 }
 
-// Writes what is prepared, between two points of the gate: the second is passed only where it was written.
+// Writes what is prepared, between two points of the gate: the second is passed only where it was
+// written.
 fn write_through<R: Wait, N: Seen, D: Desk<Note = N>, G: Gate>(
     rt: &R,
     alloc: Global,

@@ -1,11 +1,12 @@
 //! Calls of a worker, each tried until nobody else has the turn.
-ghost use Rattle.std.specs.Prelude.{◌≡◌, ◌<◌, IfErr, IsFalse, IsTrue};
+ghost use Rattle.std.specs.Prelude.{◌≡◌, ◌<◌, IfErr, IfOk, IsFalse, IsTrue};
 ghost use Rattle.topology.specs.Rules.{interval_count};
+ghost use Rattle.topology.specs.Shapes.{injectors_of};
 ghost use Rattle.node.specs.Fits.{Fits};
 ghost use Rattle.node.specs.Messages.{IsComputation};
 ghost use Rattle.node.specs.Works.{IsWorkOf};
-ghost use Rattle.workers.specs.Serving.{HasServed, IsBusy};
-ghost use Rattle.workers.specs.Slices.{IsSliceFault};
+ghost use Rattle.workers.specs.Serving.{HasServed, IsBusy, lines_told};
+ghost use Rattle.workers.specs.Slices.{HasLinesOf, IsSliceFault};
 
 use book::{Desk, Seen};
 use computations::Computation;
@@ -16,12 +17,12 @@ use std::sync::Wait;
 use std::thread;
 
 // Whether another had the turn.
-fn is_busy(outcome: &Outcome) -> bool
-    ensures busy { IsTrue result → IsBusy outcome.now }
-    ensures not_busy { IsFalse result → IsBusy outcome.now → ⊥ }
+fn is_busy(answer: &Result<Outcome, NodeFault>) -> bool
+    ensures busy { IsTrue result → IsBusy answer.now }
+    ensures not_busy { IsFalse result → IsBusy answer.now → ⊥ }
 {
-    match outcome {
-        Outcome::Busy { found: _ } => true,
+    match answer {
+        Ok(Outcome::Busy { found: _ }) => true,
         _ => false,
     }
 }
@@ -43,9 +44,9 @@ pub(crate) fn commit<R: Wait, N: Seen, D: Desk<Note = N>>(
     ensures home { D.home desk.new ≡ D.home desk.old }
 {
     for _ in rt.forever() {
-        let outcome = node.commit(alloc, desk, case)?;
-        if !is_busy(&outcome) {
-            return Ok(outcome);
+        let answer = node.commit(alloc, desk, case);
+        if !is_busy(&answer) {
+            return answer;
         }
         thread::yield_now();
     }
@@ -74,9 +75,9 @@ pub(crate) fn fire<R: Wait, N: Seen, D: Desk<Note = N>, C: Computation>(
     ensures home { D.home desk.new ≡ D.home desk.old }
 {
     for _ in rt.forever() {
-        let outcome = node.fire(alloc, desk, case, work, part)?;
-        if !is_busy(&outcome) {
-            return Ok(outcome);
+        let answer = node.fire(alloc, desk, case, work, part);
+        if !is_busy(&answer) {
+            return answer;
         }
         thread::yield_now();
     }
@@ -93,17 +94,21 @@ pub(crate) fn inject<R: Wait, N: Seen, D: Desk<Note = N>>(
     part: u32,
 ) -> Result<Outcome, NodeFault>
     requires fits { Fits case.now (D.view desk.old) node.old }
+    requires part { part < injectors_of case.now.topology }
 
     ensures served { HasServed case.now 1 (D.view desk.old) (D.view desk.new)
         node.old node.new }
+    ensures lines { IfOk result (λ outcome. HasLinesOf (lines_told outcome) case.now part
+        node.old (D.view desk.old) (D.view desk.new)) }
     ensures fault { IfErr result (IsSliceFault (D.view desk.old) (D.view desk.new)) }
     ensures loan { D.loan desk.new ≡ D.loan desk.old }
     ensures home { D.home desk.new ≡ D.home desk.old }
 {
     for _ in rt.forever() {
-        let outcome = node.inject(alloc, desk, case, part)?;
-        if !is_busy(&outcome) {
-            return Ok(outcome);
+        desk.sound();
+        let answer = node.inject(alloc, desk, case, part);
+        if !is_busy(&answer) {
+            return answer;
         }
         thread::yield_now();
     }
@@ -128,9 +133,9 @@ pub(crate) fn purge<R: Wait, N: Seen, D: Desk<Note = N>>(
     ensures home { D.home desk.new ≡ D.home desk.old }
 {
     for _ in rt.forever() {
-        let outcome = node.purge(alloc, desk, case, interval, 64)?;
-        if !is_busy(&outcome) {
-            return Ok(outcome);
+        let answer = node.purge(alloc, desk, case, interval, 64);
+        if !is_busy(&answer) {
+            return answer;
         }
         thread::yield_now();
     }
@@ -156,9 +161,9 @@ pub(crate) fn report<R: Wait, N: Seen, D: Desk<Note = N>>(
     ensures home { D.home desk.new ≡ D.home desk.old }
 {
     for _ in rt.forever() {
-        let outcome = node.report(alloc, desk, case, interval)?;
-        if !is_busy(&outcome) {
-            return Ok(outcome);
+        let answer = node.report(alloc, desk, case, interval);
+        if !is_busy(&answer) {
+            return answer;
         }
         thread::yield_now();
     }

@@ -1,12 +1,12 @@
 //! One turn of work between the two ends of the gate.
-ghost use Rattle.std.specs.Prelude.{◌≡◌, false, length, IfErr};
+ghost use Rattle.std.specs.Prelude.{◌≡◌, false, length, IfErr, OnOk};
 ghost use Rattle.run_history.specs.Cases.{CaseShape, intervals_of};
 ghost use Rattle.book.specs.Desks.{DeskView};
 ghost use Rattle.node.specs.Fits.{Fits};
 ghost use Rattle.node.specs.Works.{IsWorkOf};
 ghost use Rattle.workers.specs.Passing.{ArePasses};
 ghost use Rattle.workers.specs.Serving.{HasServed};
-ghost use Rattle.workers.specs.Slices.{IsSliceFault};
+ghost use Rattle.workers.specs.Slices.{HasInjected, IsSliceFault};
 
 use crate::orders::Orders;
 use crate::posting::send;
@@ -134,6 +134,8 @@ fn work_on<R: Wait, N: Seen, D: Desk<Note = N>, C: Computation>(
 
     ensures served { HasServed case.now 1232 (D.view desk.old) (D.view desk.new)
         node.old node.new }
+    ensures injected { OnOk result
+        (HasInjected case.now node.old (D.view desk.old) (D.view desk.new)) }
     ensures fault { IfErr result (IsSliceFault (D.view desk.old) (D.view desk.new)) }
     ensures loan { D.loan desk.new ≡ D.loan desk.old }
     ensures home { D.home desk.new ≡ D.home desk.old }
@@ -163,6 +165,8 @@ fn go_on<R: Wait, N: Seen, D: Desk<Note = N>, C: Computation, J: Office>(
 
     ensures served { HasServed case.now 1354 (D.view desk.old) (D.view desk.new)
         node.old node.new }
+    ensures injected { OnOk result
+        (HasInjected case.now node.old (D.view desk.old) (D.view desk.new)) }
     ensures fault { IfErr result (IsSliceFault (D.view desk.old) (D.view desk.new)) }
     ensures passes { ArePasses (length (intervals_of case.now.topology)) boxes.now passes.new }
     ensures loan { D.loan desk.new ≡ D.loan desk.old }
@@ -197,13 +201,15 @@ pub(crate) fn within<R: Wait, N: Seen, D: Desk<Note = N>, C: Computation, G: Gat
 
     ensures served { HasServed case.now 6000 (D.view desk.old) (D.view desk.new)
         node.old node.new }
+    ensures injected { OnOk result (orders.now.stall ≡ false →
+        HasInjected case.now node.old (D.view desk.old) (D.view desk.new)) }
     ensures fault { IfErr result (IsSliceFault (D.view desk.old) (D.view desk.new)) }
     ensures passes { ArePasses (length (intervals_of case.now.topology)) boxes.now passes.new }
     ensures loan { D.loan desk.new ≡ D.loan desk.old }
     ensures home { D.home desk.new ≡ D.home desk.old }
 {
     settle_up(rt, alloc, node, desk, case, boxes, passes)?;
-    let stalls = take_all(
+    let unwritten = take_all(
         rt,
         alloc,
         node,
@@ -215,7 +221,7 @@ pub(crate) fn within<R: Wait, N: Seen, D: Desk<Note = N>, C: Computation, G: Gat
         orders.stall,
         gate,
     )?;
-    if stalls {
+    if unwritten && orders.stall {
         return Ok(());
     }
     go_on(rt, alloc, node, desk, case, work, boxes, passes, orders)

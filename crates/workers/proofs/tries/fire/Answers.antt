@@ -1,48 +1,46 @@
-use Rattle.std.proofs.Common.{◌∙◌, refl, arith, rules}
-use Rattle.workers.proofs.CallLaws.{fire-served}
-use Rattle.workers.proofs.FaultLaws.{fault-fire}
-use Rattle.workers.specs.Serving.{HasServed, IsBusy, entries_of}
+use Rattle.std.proofs.Common.{◌∙◌, refl}
+use Rattle.std.proofs.lemmas.Result.{IfErr-weaker}
+use Rattle.book.specs.Desks.{DeskView}
+use Rattle.workers.specs.Serving.{IsBusy}
 use Rattle.workers.specs.Slices.{IsSliceFault}
-use Rattle.workers.proofs.Serving.{fault-after, served-kept, served-not, served-then, tried-again, tried-last}
+use Rattle.workers.proofs.CallLaws.{fire-answered}
+use Rattle.workers.proofs.FaultLaws.{fault-fire}
+use Rattle.workers.proofs.Serving.{faults-after, served-not, tried-again, tried-last}
 use Rattle.workers.proofs.tries.fire.Goals as goal
 
 pub loop-init : goal.loop-init
-loop-init g c = record {
-  served = served-not c.args.case.now (g.D.Desk.view c.args.desk.now) c.args.node.now c.requires.fits;
-  loan = refl;
-  home = refl;
-}
+loop-init g c = record { served = served-not c.requires.fits; loan = refl; home = refl }
 
--- a fault appended nothing
-pub returns-in_err-outcome-clause-served : goal.returns-in_err-outcome-clause-served
-returns-in_err-outcome-clause-served g c =
-    served-then c.args.case.now 0 0 1 (g.D.Desk.view c.args.desk.now) (g.D.Desk.view c.loop.desk) (g.D.Desk.view c.fire.new.desk)
-    c.args.node.now c.loop.node c.fire.new.self (omega arith) c.loop.invariant.served
-    (served-kept c.args.case.now (g.D.Desk.view c.loop.desk) (g.D.Desk.view c.fire.new.desk) c.loop.node c.fire.new.self c.fire.ensures.fits c.fire.ensures.number
-    c.in_err-outcome.ensures.looked c.in_err-outcome.ensures.kept)
-
--- and has its cause
-pub returns-in_err-outcome-clause-fault : goal.returns-in_err-outcome-clause-fault
-returns-in_err-outcome-clause-fault g c =
-    let fault : IsSliceFault (g.D.Desk.view c.args.desk.now) (g.D.Desk.view c.fire.new.desk) c.in_err-outcome.field-0.0 =
-    fault-after 0 (g.D.Desk.view c.args.desk.now) (g.D.Desk.view c.loop.desk) (g.D.Desk.view c.fire.new.desk) c.in_err-outcome.field-0.0
-    c.loop.invariant.served.worked (fault-fire c.args.case.now (g.D.Desk.view c.loop.desk) (g.D.Desk.view c.fire.new.desk) c.args.part c.loop.node c.in_err-outcome.field-0.0 c.in_err-outcome.ensures.fault) in search rules
-
--- an answer appended at most one entry
+-- the last try appended at most one entry
 pub returns-then-not-is_busy-clause-served : goal.returns-then-not-is_busy-clause-served
 returns-then-not-is_busy-clause-served g c =
-    tried-last c.args.case.now (g.D.Desk.view c.args.desk.now) (g.D.Desk.view c.loop.desk) (g.D.Desk.view c.fire.new.desk)
-    c.args.node.now c.loop.node c.fire.new.self c.in_ok-outcome.outcome c.loop.invariant.served
-    (fire-served c.args.case.now (g.D.Desk.view c.loop.desk) (g.D.Desk.view c.fire.new.desk) c.args.part c.loop.node c.fire.new.self c.in_ok-outcome.outcome c.loop.invariant.served.fits c.fire.ensures.fits c.fire.ensures.number c.in_ok-outcome.ensures.answers)
+    let mid : DeskView = g.D.Desk.view c.loop.desk in
+    let new : DeskView = g.D.Desk.view c.fire-answer.new.desk in
+    tried-last c.fire-answer.result c.loop.invariant.served
+    (fire-answered c.args.case.now mid new c.args.part c.loop.node c.fire-answer.new.self c.fire-answer.result c.loop.invariant.served.fits
+    c.fire-answer.ensures.fits c.fire-answer.ensures.number c.fire-answer.ensures.answers c.fire-answer.ensures.looked
+    c.fire-answer.ensures.kept)
+
+-- and failed for its cause
+pub returns-then-not-is_busy-clause-fault : goal.returns-then-not-is_busy-clause-fault
+returns-then-not-is_busy-clause-fault g c =
+    let mid : DeskView = g.D.Desk.view c.loop.desk in
+    let new : DeskView = g.D.Desk.view c.fire-answer.new.desk in
+    faults-after new c.fire-answer.result c.loop.invariant.served.worked
+    (IfErr-weaker c.fire-answer.result _ (IsSliceFault mid new) (fault-fire c.args.case.now mid new c.args.part c.loop.node)
+    c.fire-answer.ensures.fault)
 
 -- a try that was turned away appended nothing
 pub loop-preserved : goal.loop-preserved
 loop-preserved g c =
-    let busy : IsBusy c.in_ok-outcome.outcome = c.if-not-is_busy.ensures.busy search in
-    record {
-      served = tried-again c.args.case.now (g.D.Desk.view c.args.desk.now) (g.D.Desk.view c.loop.desk) (g.D.Desk.view c.fire.new.desk)
-          c.args.node.now c.loop.node c.fire.new.self c.in_ok-outcome.outcome c.loop.invariant.served
-          (fire-served c.args.case.now (g.D.Desk.view c.loop.desk) (g.D.Desk.view c.fire.new.desk) c.args.part c.loop.node c.fire.new.self c.in_ok-outcome.outcome c.loop.invariant.served.fits c.fire.ensures.fits c.fire.ensures.number c.in_ok-outcome.ensures.answers) busy;
-      loan = c.fire.ensures.loan ∙ c.loop.invariant.loan;
-      home = c.fire.ensures.home ∙ c.loop.invariant.home;
+    let mid : DeskView = g.D.Desk.view c.loop.desk in
+    let new : DeskView = g.D.Desk.view c.fire-answer.new.desk in
+    let busy : IsBusy c.fire-answer.result = c.if-not-is_busy.ensures.busy search in record {
+      served = tried-again c.fire-answer.result c.loop.invariant.served
+          (fire-answered c.args.case.now mid new c.args.part c.loop.node c.fire-answer.new.self c.fire-answer.result
+          c.loop.invariant.served.fits
+          c.fire-answer.ensures.fits c.fire-answer.ensures.number c.fire-answer.ensures.answers c.fire-answer.ensures.looked
+          c.fire-answer.ensures.kept) busy;
+      loan = c.fire-answer.ensures.loan ∙ c.loop.invariant.loan;
+      home = c.fire-answer.ensures.home ∙ c.loop.invariant.home;
     }

@@ -1,48 +1,47 @@
-use Rattle.std.proofs.Common.{◌∙◌, refl, arith, rules}
-use Rattle.workers.proofs.CallLaws.{purge-served}
-use Rattle.workers.proofs.FaultLaws.{fault-purge}
-use Rattle.workers.specs.Serving.{HasServed, IsBusy, entries_of}
+use Rattle.std.proofs.Common.{◌∙◌, refl}
+use Rattle.std.proofs.lemmas.Result.{IfErr-weaker}
+use Rattle.book.specs.Desks.{DeskView}
+use Rattle.workers.specs.Serving.{IsBusy}
 use Rattle.workers.specs.Slices.{IsSliceFault}
-use Rattle.workers.proofs.Serving.{fault-after, served-kept, served-not, served-then, tried-again, tried-last}
+use Rattle.workers.proofs.CallLaws.{purge-answered}
+use Rattle.workers.proofs.FaultLaws.{fault-purge}
+use Rattle.workers.proofs.Serving.{faults-after, served-not, tried-again, tried-last}
 use Rattle.workers.proofs.tries.purge.Goals as goal
 
 pub loop-init : goal.loop-init
-loop-init g c = record {
-  served = served-not c.args.case.now (g.D.Desk.view c.args.desk.now) c.args.node.now c.requires.fits;
-  loan = refl;
-  home = refl;
-}
+loop-init g c = record { served = served-not c.requires.fits; loan = refl; home = refl }
 
--- a fault appended nothing
-pub returns-in_err-outcome-clause-served : goal.returns-in_err-outcome-clause-served
-returns-in_err-outcome-clause-served g c =
-    served-then c.args.case.now 0 0 1 (g.D.Desk.view c.args.desk.now) (g.D.Desk.view c.loop.desk) (g.D.Desk.view c.purge.new.desk)
-    c.args.node.now c.loop.node c.purge.new.self (omega arith) c.loop.invariant.served
-    (served-kept c.args.case.now (g.D.Desk.view c.loop.desk) (g.D.Desk.view c.purge.new.desk) c.loop.node c.purge.new.self c.purge.ensures.fits c.purge.ensures.number
-    c.in_err-outcome.ensures.looked c.in_err-outcome.ensures.kept)
-
--- and has its cause
-pub returns-in_err-outcome-clause-fault : goal.returns-in_err-outcome-clause-fault
-returns-in_err-outcome-clause-fault g c =
-    let fault : IsSliceFault (g.D.Desk.view c.args.desk.now) (g.D.Desk.view c.purge.new.desk) c.in_err-outcome.field-0.0 =
-    fault-after 0 (g.D.Desk.view c.args.desk.now) (g.D.Desk.view c.loop.desk) (g.D.Desk.view c.purge.new.desk) c.in_err-outcome.field-0.0
-    c.loop.invariant.served.worked (fault-purge c.args.case.now.topology (g.D.Desk.view c.loop.desk) (g.D.Desk.view c.purge.new.desk) c.args.interval 64 c.loop.node c.in_err-outcome.field-0.0 c.in_err-outcome.ensures.fault) in search rules
-
--- an answer appended at most one entry
+-- the last try appended at most one entry
 pub returns-then-not-is_busy-clause-served : goal.returns-then-not-is_busy-clause-served
 returns-then-not-is_busy-clause-served g c =
-    tried-last c.args.case.now (g.D.Desk.view c.args.desk.now) (g.D.Desk.view c.loop.desk) (g.D.Desk.view c.purge.new.desk)
-    c.args.node.now c.loop.node c.purge.new.self c.in_ok-outcome.outcome c.loop.invariant.served
-    (purge-served c.args.case.now (g.D.Desk.view c.loop.desk) (g.D.Desk.view c.purge.new.desk) c.args.interval 64 c.loop.node c.purge.new.self c.in_ok-outcome.outcome c.loop.invariant.served.fits c.purge.ensures.fits c.purge.ensures.number c.in_ok-outcome.ensures.answers)
+    let mid : DeskView = g.D.Desk.view c.loop.desk in
+    let new : DeskView = g.D.Desk.view c.purge-answer.new.desk in
+    tried-last c.purge-answer.result c.loop.invariant.served
+    (purge-answered c.args.case.now mid new c.args.interval 64 c.loop.node c.purge-answer.new.self c.purge-answer.result
+    c.loop.invariant.served.fits
+    c.purge-answer.ensures.fits c.purge-answer.ensures.number c.purge-answer.ensures.answers c.purge-answer.ensures.looked
+    c.purge-answer.ensures.kept)
+
+-- and failed for its cause
+pub returns-then-not-is_busy-clause-fault : goal.returns-then-not-is_busy-clause-fault
+returns-then-not-is_busy-clause-fault g c =
+    let mid : DeskView = g.D.Desk.view c.loop.desk in
+    let new : DeskView = g.D.Desk.view c.purge-answer.new.desk in
+    faults-after new c.purge-answer.result c.loop.invariant.served.worked
+    (IfErr-weaker c.purge-answer.result _ (IsSliceFault mid new)
+    (fault-purge c.args.case.now.topology mid new c.args.interval 64 c.loop.node) c.purge-answer.ensures.fault)
 
 -- a try that was turned away appended nothing
 pub loop-preserved : goal.loop-preserved
 loop-preserved g c =
-    let busy : IsBusy c.in_ok-outcome.outcome = c.if-not-is_busy.ensures.busy search in
-    record {
-      served = tried-again c.args.case.now (g.D.Desk.view c.args.desk.now) (g.D.Desk.view c.loop.desk) (g.D.Desk.view c.purge.new.desk)
-          c.args.node.now c.loop.node c.purge.new.self c.in_ok-outcome.outcome c.loop.invariant.served
-          (purge-served c.args.case.now (g.D.Desk.view c.loop.desk) (g.D.Desk.view c.purge.new.desk) c.args.interval 64 c.loop.node c.purge.new.self c.in_ok-outcome.outcome c.loop.invariant.served.fits c.purge.ensures.fits c.purge.ensures.number c.in_ok-outcome.ensures.answers) busy;
-      loan = c.purge.ensures.loan ∙ c.loop.invariant.loan;
-      home = c.purge.ensures.home ∙ c.loop.invariant.home;
+    let mid : DeskView = g.D.Desk.view c.loop.desk in
+    let new : DeskView = g.D.Desk.view c.purge-answer.new.desk in
+    let busy : IsBusy c.purge-answer.result = c.if-not-is_busy.ensures.busy search in record {
+      served = tried-again c.purge-answer.result c.loop.invariant.served
+          (purge-answered c.args.case.now mid new c.args.interval 64 c.loop.node c.purge-answer.new.self c.purge-answer.result
+          c.loop.invariant.served.fits
+          c.purge-answer.ensures.fits c.purge-answer.ensures.number c.purge-answer.ensures.answers c.purge-answer.ensures.looked
+          c.purge-answer.ensures.kept) busy;
+      loan = c.purge-answer.ensures.loan ∙ c.loop.invariant.loan;
+      home = c.purge-answer.ensures.home ∙ c.loop.invariant.home;
     }

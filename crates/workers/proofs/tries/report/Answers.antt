@@ -1,48 +1,46 @@
-use Rattle.std.proofs.Common.{◌∙◌, refl, arith, rules}
-use Rattle.workers.proofs.CallLaws.{served-report}
-use Rattle.workers.proofs.FaultLaws.{fault-memory}
-use Rattle.workers.specs.Serving.{HasServed, IsBusy, entries_of}
+use Rattle.std.proofs.Common.{◌∙◌, refl}
+use Rattle.std.proofs.lemmas.Result.{IfErr-weaker}
+use Rattle.book.specs.Desks.{DeskView}
+use Rattle.workers.specs.Serving.{IsBusy}
 use Rattle.workers.specs.Slices.{IsSliceFault}
-use Rattle.workers.proofs.Serving.{fault-after, served-kept, served-not, served-then, tried-again, tried-last}
+use Rattle.workers.proofs.CallLaws.{report-answered}
+use Rattle.workers.proofs.FaultLaws.{fault-memory}
+use Rattle.workers.proofs.Serving.{faults-after, on_err-anyway, served-not, tried-again, tried-last}
 use Rattle.workers.proofs.tries.report.Goals as goal
 
 pub loop-init : goal.loop-init
-loop-init g c = record {
-  served = served-not c.args.case.now (g.D.Desk.view c.args.desk.now) c.args.node.now c.requires.fits;
-  loan = refl;
-  home = refl;
-}
+loop-init g c = record { served = served-not c.requires.fits; loan = refl; home = refl }
 
--- a fault appended nothing
-pub returns-in_err-outcome-clause-served : goal.returns-in_err-outcome-clause-served
-returns-in_err-outcome-clause-served g c =
-    served-then c.args.case.now 0 0 1 (g.D.Desk.view c.args.desk.now) (g.D.Desk.view c.loop.desk) (g.D.Desk.view c.report.new.desk)
-    c.args.node.now c.loop.node c.report.new.self (omega arith) c.loop.invariant.served
-    (served-kept c.args.case.now (g.D.Desk.view c.loop.desk) (g.D.Desk.view c.report.new.desk) c.loop.node c.report.new.self c.report.ensures.fits c.report.ensures.number
-    c.report.ensures.looked c.in_err-outcome.ensures.kept)
-
--- and has its cause
-pub returns-in_err-outcome-clause-fault : goal.returns-in_err-outcome-clause-fault
-returns-in_err-outcome-clause-fault g c =
-    let fault : IsSliceFault (g.D.Desk.view c.args.desk.now) (g.D.Desk.view c.report.new.desk) c.in_err-outcome.field-0.0 =
-    fault-after 0 (g.D.Desk.view c.args.desk.now) (g.D.Desk.view c.loop.desk) (g.D.Desk.view c.report.new.desk) c.in_err-outcome.field-0.0
-    c.loop.invariant.served.worked (fault-memory (g.D.Desk.view c.loop.desk) (g.D.Desk.view c.report.new.desk) c.in_err-outcome.field-0.0 c.in_err-outcome.ensures.memory) in search rules
-
--- an answer appended at most one entry
+-- the last try appended at most one entry
 pub returns-then-not-is_busy-clause-served : goal.returns-then-not-is_busy-clause-served
 returns-then-not-is_busy-clause-served g c =
-    tried-last c.args.case.now (g.D.Desk.view c.args.desk.now) (g.D.Desk.view c.loop.desk) (g.D.Desk.view c.report.new.desk)
-    c.args.node.now c.loop.node c.report.new.self c.in_ok-outcome.outcome c.loop.invariant.served
-    (served-report c.args.case.now (g.D.Desk.view c.loop.desk) (g.D.Desk.view c.report.new.desk) c.args.interval c.loop.node c.report.new.self c.in_ok-outcome.outcome c.loop.invariant.served.fits c.report.ensures.fits c.report.ensures.number c.in_ok-outcome.ensures.answers)
+    let mid : DeskView = g.D.Desk.view c.loop.desk in
+    let new : DeskView = g.D.Desk.view c.report-answer.new.desk in
+    tried-last c.report-answer.result c.loop.invariant.served
+    (report-answered c.args.case.now mid new c.args.interval c.loop.node c.report-answer.new.self c.report-answer.result
+    c.loop.invariant.served.fits
+    c.report-answer.ensures.fits c.report-answer.ensures.number c.report-answer.ensures.answers
+    (on_err-anyway c.report-answer.result c.report-answer.ensures.looked) c.report-answer.ensures.kept)
+
+-- and failed for its cause
+pub returns-then-not-is_busy-clause-fault : goal.returns-then-not-is_busy-clause-fault
+returns-then-not-is_busy-clause-fault g c =
+    let mid : DeskView = g.D.Desk.view c.loop.desk in
+    let new : DeskView = g.D.Desk.view c.report-answer.new.desk in
+    faults-after new c.report-answer.result c.loop.invariant.served.worked
+    (IfErr-weaker c.report-answer.result _ (IsSliceFault mid new) (fault-memory mid new) c.report-answer.ensures.memory)
 
 -- a try that was turned away appended nothing
 pub loop-preserved : goal.loop-preserved
 loop-preserved g c =
-    let busy : IsBusy c.in_ok-outcome.outcome = c.if-not-is_busy.ensures.busy search in
-    record {
-      served = tried-again c.args.case.now (g.D.Desk.view c.args.desk.now) (g.D.Desk.view c.loop.desk) (g.D.Desk.view c.report.new.desk)
-          c.args.node.now c.loop.node c.report.new.self c.in_ok-outcome.outcome c.loop.invariant.served
-          (served-report c.args.case.now (g.D.Desk.view c.loop.desk) (g.D.Desk.view c.report.new.desk) c.args.interval c.loop.node c.report.new.self c.in_ok-outcome.outcome c.loop.invariant.served.fits c.report.ensures.fits c.report.ensures.number c.in_ok-outcome.ensures.answers) busy;
-      loan = c.report.ensures.loan ∙ c.loop.invariant.loan;
-      home = c.report.ensures.home ∙ c.loop.invariant.home;
+    let mid : DeskView = g.D.Desk.view c.loop.desk in
+    let new : DeskView = g.D.Desk.view c.report-answer.new.desk in
+    let busy : IsBusy c.report-answer.result = c.if-not-is_busy.ensures.busy search in record {
+      served = tried-again c.report-answer.result c.loop.invariant.served
+          (report-answered c.args.case.now mid new c.args.interval c.loop.node c.report-answer.new.self c.report-answer.result
+          c.loop.invariant.served.fits
+          c.report-answer.ensures.fits c.report-answer.ensures.number c.report-answer.ensures.answers
+          (on_err-anyway c.report-answer.result c.report-answer.ensures.looked) c.report-answer.ensures.kept) busy;
+      loan = c.report-answer.ensures.loan ∙ c.loop.invariant.loan;
+      home = c.report-answer.ensures.home ∙ c.loop.invariant.home;
     }
