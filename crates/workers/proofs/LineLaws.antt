@@ -222,10 +222,11 @@ lines-answered case old new part was node (Ok outcome) sound fits injector not_b
 lines-answered case old new part was node (Err why) sound fits injector not_busy is = tt
 
 -- the last try's lines are those of all tries
-pub lines-last : {case : CaseShape} {old mid new : DeskView} {was between node : NodeView} {a b : ℕ} (part : ℕ)
+pub lines-last : {case : CaseShape} {old mid new : DeskView} {was between node : NodeView} {a b : ℕ} (injector : Option ℕ)
     (answer : Result Outcome NodeFault) → HasServed case a old mid was between → HasServed case b mid new between node
-    → IfOk answer (λ outcome. HasLinesOf (lines_told outcome) case part between mid new)
-    → IfOk answer (λ outcome. HasLinesOf (lines_told outcome) case part was old new)
-lines-last part (Ok outcome) one two lines =
+    → IfSome injector (λ part. IfOk answer (λ outcome. HasLinesOf (lines_told outcome) case part between mid new))
+    → IfSome injector (λ part. IfOk answer (λ outcome. HasLinesOf (lines_told outcome) case part was old new))
+lines-last None answer one two lines = tt
+lines-last (Some part) (Ok outcome) one two lines =
     lines-then part 0 (lines_told outcome) (lines_told outcome) (omega arith) one two (lines-none part one) lines
-lines-last part (Err why) one two lines = tt
+lines-last (Some part) (Err why) one two lines = tt

@@ -11,6 +11,7 @@
 //! `specs/Passing.antt`, the mailboxes of a run.
 #![tactic(auto)]
 
+mod calls;
 mod counts;
 mod learning;
 mod orders;

@@ -8,8 +8,9 @@ ghost use Rattle.node.specs.declared.outcome.Outcome.TheVariants as outcomes;
 ghost use Rattle.workers.specs.Serving.{HasServed};
 ghost use Rattle.workers.specs.Slices.{HasInjected, HasLinesOf, IsSliceFault};
 
+use crate::calls::{Fire, Inject, Purge, Report};
 use crate::counts::{injectors_in, intervals_in, parts_in};
-use crate::tries::{fire, inject, purge, report};
+use crate::tries::until_free;
 use book::{Desk, Seen};
 use computations::Computation;
 use node::{Node, NodeFault, Outcome};
@@ -49,7 +50,7 @@ fn fire_part<R: Wait, N: Seen, D: Desk<Note = N>, C: Computation>(
     ensures home { D.home desk.new ≡ D.home desk.old }
 {
     for done in 0..16u32 {
-        let outcome = fire(rt, alloc, node, desk, case, work, part)?;
+        let outcome = until_free(rt, alloc, node, desk, case, &Fire { work, part })?;
         if is_nothing(&outcome) {
             return Ok(());
         }
@@ -105,7 +106,7 @@ fn inject_part<R: Wait, N: Seen, D: Desk<Note = N>>(
     ensures home { D.home desk.new ≡ D.home desk.old }
 {
     for done in 0..16u32 {
-        let outcome = inject(rt, alloc, node, desk, case, part)?;
+        let outcome = until_free(rt, alloc, node, desk, case, &Inject { part })?;
         if is_nothing(&outcome) {
             return Ok(());
         }
@@ -156,7 +157,7 @@ pub(crate) fn purge_all<R: Wait, N: Seen, D: Desk<Note = N>>(
 {
     let intervals = intervals_in(case);
     for interval in 0..intervals {
-        purge(rt, alloc, node, desk, case, interval)?;
+        until_free(rt, alloc, node, desk, case, &Purge { interval })?;
     }
     Ok(())
 }
@@ -179,7 +180,7 @@ pub(crate) fn report_all<R: Wait, N: Seen, D: Desk<Note = N>>(
 {
     let intervals = intervals_in(case);
     for interval in 0..intervals {
-        report(rt, alloc, node, desk, case, interval)?;
+        until_free(rt, alloc, node, desk, case, &Report { interval })?;
     }
     Ok(())
 }

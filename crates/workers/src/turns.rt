@@ -8,11 +8,12 @@ ghost use Rattle.workers.specs.Passing.{ArePasses};
 ghost use Rattle.workers.specs.Serving.{HasServed};
 ghost use Rattle.workers.specs.Slices.{HasInjected, IsSliceFault};
 
+use crate::calls::Commit;
 use crate::orders::Orders;
 use crate::posting::send;
 use crate::steps::{fire_all, inject_all, purge_all, report_all};
 use crate::taking::take_all;
-use crate::tries::commit;
+use crate::tries::until_free;
 use book::{Desk, Seen};
 use computations::Computation;
 use mailboxes::{MailPass, Mailbox, Office};
@@ -45,7 +46,7 @@ fn settle_up<R: Wait, N: Seen, D: Desk<Note = N>, J: Office>(
     ensures home { D.home desk.new ≡ D.home desk.old }
 {
     let held = node.unsent();
-    commit(rt, alloc, node, desk, case)?;
+    until_free(rt, alloc, node, desk, case, &Commit)?;
     send(rt, alloc, node, desk, case, boxes, passes, held, false)?;
     Ok(())
 }

@@ -11,23 +11,23 @@ loop-interval-init g c = record {
 }
 
 -- a call that fails
-pub returns-in_err-purge-clause-served : goal.returns-in_err-purge-clause-served
-returns-in_err-purge-clause-served g c = served-then c.loop-interval.interval 1 61
+pub returns-in_err-until_free-clause-served : goal.returns-in_err-until_free-clause-served
+returns-in_err-until_free-clause-served g c = served-then c.loop-interval.interval 1 61
     (omega (arith, c.loop-interval-test.true, c.intervals_in-intervals.ensures.few)) c.loop-interval.invariant.served
-    c.purge.ensures.served
+    c.until_free.ensures.served
 
 -- has its cause
-pub returns-in_err-purge-clause-fault : goal.returns-in_err-purge-clause-fault
-returns-in_err-purge-clause-fault g c =
-    let fault : IsSliceFault (g.D.Desk.view c.args.desk.now) (g.D.Desk.view c.purge.new.desk) c.in_err-purge.field-0.0 =
-    fault-after c.loop-interval.invariant.served.worked c.in_err-purge.ensures.fault in search rules
+pub returns-in_err-until_free-clause-fault : goal.returns-in_err-until_free-clause-fault
+returns-in_err-until_free-clause-fault g c =
+    let fault : IsSliceFault (g.D.Desk.view c.args.desk.now) (g.D.Desk.view c.until_free.new.desk) c.in_err-until_free.field-0.0 =
+    fault-after c.loop-interval.invariant.served.worked c.in_err-until_free.ensures.fault in search rules
 
 pub loop-interval-preserved : goal.loop-interval-preserved
 loop-interval-preserved g c = record {
   served = served-then c.loop-interval.interval 1 (c.loop-interval.interval + 1) (omega arith) c.loop-interval.invariant.served
-      c.purge.ensures.served;
-  loan = c.purge.ensures.loan ∙ c.loop-interval.invariant.loan;
-  home = c.purge.ensures.home ∙ c.loop-interval.invariant.home;
+      c.until_free.ensures.served;
+  loan = c.until_free.ensures.loan ∙ c.loop-interval.invariant.loan;
+  home = c.until_free.ensures.home ∙ c.loop-interval.invariant.home;
 }
 
 -- the loop is done
