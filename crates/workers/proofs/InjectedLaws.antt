@@ -1,5 +1,5 @@
 -- How many lines an injector has injected, by a history.
-use Rattle.std.proofs.Common.{◌≡◌, ◌<◌, ◌≤◌, ◌+◌, ◌++◌, ◌∷◌, ◌∙◌, ℕ, true, cond, List, [], length, filter, refl, sym, ap, subst, arith, length-append, inl, inr}
+use Rattle.std.proofs.Common.{◌≡◌, ◌≤◌, ◌+◌, ◌++◌, ◌∷◌, ◌∙◌, ℕ, true, cond, List, [], length, filter, refl, sym, ap, subst, arith, length-append, inl, inr}
 use Rattle.std.specs.Prelude.{Option, Some, None}
 use Rattle.std.specs.Option.{option_map, option_map_or}
 use Rattle.std.proofs.lemmas.Bool.{cases_lt, eq-eqb}
@@ -18,7 +18,7 @@ use Rattle.injector.specs.Sources.{Source, SourceLine, item_at}
 use Rattle.computations.specs.Handlers.{effects_of_record, effects_of_timer, fresh_state}
 use Rattle.row_parts.specs.Contents.{Contents, cursor_in}
 use Rattle.run_history.specs.Cases.{CaseShape, is_injector}
-use Rattle.run_history.specs.Fences.{Begins, known}
+use Rattle.run_history.specs.Fences.{known}
 use Rattle.run_history.specs.Legal.{IsLegal, MayFollow}
 use Rattle.run_history.specs.Made.{deliveries_of, row_written}
 use Rattle.run_history.specs.Runs.{Run, advanced, changed, empty_run, followed, row_of, run_of}

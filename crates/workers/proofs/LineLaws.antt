@@ -1,5 +1,5 @@
 -- How many lines a worker's calls injected.
-use Rattle.std.proofs.Common.{◌≡◌, ◌<◌, ◌≤◌, ◌+◌, ◌++◌, ◌∷◌, ◌∙◌, ℕ, true, List, [], refl, sym, ap, subst, arith, inl, inr, ⊎_elim}
+use Rattle.std.proofs.Common.{◌≡◌, ◌<◌, ◌≤◌, ◌+◌, ◌∷◌, ◌∙◌, ℕ, List, [], refl, sym, ap, subst, arith, inl, inr, ⊎_elim}
 use Rattle.std.specs.Prelude.{◌⊎◌, Option, Some, None, IfOk, IfSome, IsSome, OnOk, Result, Ok, Err}
 use Rattle.std.specs.Option.{option_and_then, option_map}
 use Rattle.std.proofs.lemmas.Bool.{cases_lt, lt-ltb}
@@ -13,12 +13,12 @@ use Rattle.injector.specs.declared.item.Item.{Item}
 use Rattle.topology.specs.Shapes.{injectors_of}
 use Rattle.row_parts.specs.Contents.{Contents, cursor_in}
 use Rattle.run_history.specs.Cases.{CaseShape, record_of, source_of}
-use Rattle.run_history.specs.Fences.{IsOvertakenBy, interval_of, known}
+use Rattle.run_history.specs.Fences.{IsOvertakenBy, interval_of}
 use Rattle.run_history.specs.Legal.{IsLegal}
 use Rattle.book.specs.Desks.{DeskView, IsSound}
-use Rattle.holdings.specs.Holding.{HeldView, held_at, held_on, row_held}
+use Rattle.holdings.specs.Holding.{HeldView, held_at, row_held}
 use Rattle.node.specs.Answers.{AnswersAsked, AnswersWrite}
-use Rattle.node.specs.Asking.{Request, line_asked, next_line}
+use Rattle.node.specs.Asking.{line_asked, next_line}
 use Rattle.node.specs.Fits.{Fits}
 use Rattle.node.specs.Workers.{NodeView, leases_of, worker_at}
 use Rattle.node.specs.declared.outcome.NodeFault.{NodeFault}

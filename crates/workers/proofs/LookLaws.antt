@@ -1,10 +1,10 @@
 -- A worker whose desk looks.
-use Rattle.std.proofs.Common.{◌≡◌, ℕ, refl}
+use Rattle.std.proofs.Common.{refl}
 use Rattle.run_history.specs.Cases.{CaseShape}
 use Rattle.book.specs.Desks.{DeskView, HasLooked, IsSound}
 use Rattle.node.specs.Fits.{Fits}
 use Rattle.node.specs.Workers.{NodeView}
-use Rattle.node.proofs.FitLaws.{Fits-beside, looked_not, looked_twice}
+use Rattle.node.proofs.FitLaws.{Fits-beside}
 use Rattle.workers.specs.Serving.{HasServed}
 use Rattle.workers.proofs.Serving.{served-looked}
 

@@ -1,11 +1,9 @@
 -- What a worker's calls did is added up.
-use Rattle.std.proofs.Common.{◌≡◌, ◌∙◌, ◌<◌, ◌≤◌, ◌+◌, ◌++◌, ℕ, List, length, refl, sym, ap, subst, arith, inl, inr, ⊎_elim}
-use Rattle.std.specs.Prelude.{Option, Some, IfErr, OnErr, Result, Ok, Err}
-use Rattle.mw_types.specs.Causes.{Rose}
+use Rattle.std.proofs.Common.{◌≡◌, ◌∙◌, ◌≤◌, ◌+◌, ◌++◌, ℕ, List, refl, sym, ap, subst, arith, inl, inr, ⊎_elim}
+use Rattle.std.specs.Prelude.{Option, IfErr, OnErr, Result, Ok, Err}
 use Rattle.mw_types.proofs.CauseLaws.{Rose-before}
 use Rattle.mw_types.specs.declared.entry.Entry.{Entry}
 use Rattle.run_history.specs.Cases.{CaseShape}
-use Rattle.run_history.specs.Fences.{last_claim}
 use Rattle.run_history.proofs.Beginnings.{slice_get-more}
 use Rattle.run_history.proofs.Claims.{last_claim-latest, last_claim-there}
 use Rattle.book.specs.Desks.{DeskView, HasLooked}

@@ -76,15 +76,15 @@ HasLinesOf many case part was old new = IfSome old.told (λ _. (interval seq : �
     leases_of was.held interval ≡ Some seq →
     IsOvertaken interval seq new.seen ⊎ HasLines many case part old.seen new.seen)
 
--- each injector has 16 lines more, in this sense
+-- each injector has 16 lines more, or all, in this sense
 abbrev pub HasInjected : CaseShape → NodeView → DeskView → DeskView → Type 0
 HasInjected case was old new = (part : ℕ) → part < injectors_of case.topology →
     HasLinesOf 16 case part was old new
 
 -- ---- why a turn of work ends before its end
 
--- a turn of work ends by the keeper's fault only where the desk's count rose, by a full history only where what
--- was seen is full, and by no damaged row, since it claims nothing
+-- a turn of work ends by the keeper's fault only where the desk's count rose, by a full history only where
+-- what was seen is full, and by no damaged row, since it claims nothing
 pub record IsSliceFault (old new : DeskView) (why : NodeFault) : Type 0 where
   pub keeper : why ≡ faults.KeeperFault → Rose old.faults new.faults
   pub full : why ≡ faults.HistoryFull → length new.seen ≡ new.limit

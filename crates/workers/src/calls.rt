@@ -1,4 +1,4 @@
-//! The calls of a worker in its turn of work, each of which appends at most one entry, and no claim.
+//! The calls of a worker in its turn of work: each appends at most one entry, and no claim.
 ghost use Rattle.std.specs.Prelude.{◌≡◌, ◌<◌, IfErr, IfOk, IfSome};
 ghost use Rattle.node.specs.Fits.{Fits};
 ghost use Rattle.workers.specs.Serving.{HasServed, IsBusy, appended, lines_told};

@@ -74,8 +74,7 @@ pub fn slice<'s, 'a, R: Wait, K: Keeper, C: Computation, G: Gate, J: Office>(
         (shared_view desk.old.seat.now.place.me.0)
         (shared_view desk.new.seat.now.place.me.0)) }
 
-    // Its passes are of the same mailboxes, and its desk is of the same seat, at the same place of the
-    // same book.
+    // Its passes are of the same mailboxes, and its desk of the same seat and book.
     ensures passes { ArePasses (length (intervals_of case.now.topology)) boxes.now passes.new }
     ensures loan { desk.new.seat.ghost_name ≡ desk.old.seat.ghost_name }
     ensures home { shared_home desk.new.seat.now.place ≡ shared_home desk.old.seat.now.place }

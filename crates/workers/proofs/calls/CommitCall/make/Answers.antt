@@ -19,4 +19,5 @@ pub returns-clause-fault : goal.returns-clause-fault
 returns-clause-fault g c =
     let old : DeskView = g.D.Desk.view c.args.desk.now in
     let new : DeskView = g.D.Desk.view c.commit.new.desk in
-    IfErr-weaker c.commit.result _ (IsSliceFault old new) (fault-asked old new (work_asked c.args.case.now.topology c.args.node.now)) c.commit.ensures.fault
+    IfErr-weaker c.commit.result _ (IsSliceFault old new) (fault-asked old new (work_asked c.args.case.now.topology c.args.node.now))
+    c.commit.ensures.fault

@@ -18,4 +18,5 @@ pub returns-clause-fault : goal.returns-clause-fault
 returns-clause-fault g c =
     let old : DeskView = g.D.Desk.view c.args.desk.now in
     let new : DeskView = g.D.Desk.view c.fire.new.desk in
-    IfErr-weaker c.fire.result _ (IsSliceFault old new) (fault-fire c.args.case.now old new c.args.self.now.part c.args.node.now) c.fire.ensures.fault
+    IfErr-weaker c.fire.result _ (IsSliceFault old new) (fault-fire c.args.case.now old new c.args.self.now.part c.args.node.now)
+    c.fire.ensures.fault

@@ -20,7 +20,8 @@ pub returns-clause-fault : goal.returns-clause-fault
 returns-clause-fault g c =
     let old : DeskView = g.D.Desk.view c.args.desk.now in
     let new : DeskView = g.D.Desk.view c.inject.new.desk in
-    IfErr-weaker c.inject.result _ (IsSliceFault old new) (fault-asked old new (line_asked c.args.case.now c.args.node.now c.args.self.now.part)) c.inject.ensures.fault
+    IfErr-weaker c.inject.result _ (IsSliceFault old new)
+    (fault-asked old new (line_asked c.args.case.now c.args.node.now c.args.self.now.part)) c.inject.ensures.fault
 
 -- and injects a line, or there is none
 pub returns-clause-lines : goal.returns-clause-lines

@@ -18,4 +18,5 @@ pub returns-clause-fault : goal.returns-clause-fault
 returns-clause-fault g c =
     let old : DeskView = g.D.Desk.view c.args.desk.now in
     let new : DeskView = g.D.Desk.view c.purge.new.desk in
-    IfErr-weaker c.purge.result _ (IsSliceFault old new) (fault-purge c.args.case.now.topology old new c.args.self.now.interval 64 c.args.node.now) c.purge.ensures.fault
+    IfErr-weaker c.purge.result _ (IsSliceFault old new)
+    (fault-purge c.args.case.now.topology old new c.args.self.now.interval 64 c.args.node.now) c.purge.ensures.fault

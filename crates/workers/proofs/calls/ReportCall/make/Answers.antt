@@ -12,7 +12,8 @@ returns-clause-served g c =
     let old : DeskView = g.D.Desk.view c.args.desk.now in
     let new : DeskView = g.D.Desk.view c.report.new.desk in
     report-answered c.args.case.now old new c.args.self.now.interval c.args.node.now c.report.new.self c.report.result c.requires.fits
-    c.report.ensures.fits c.report.ensures.number c.report.ensures.answers (on_err-anyway c.report.result c.report.ensures.looked) c.report.ensures.kept
+    c.report.ensures.fits c.report.ensures.number c.report.ensures.answers (on_err-anyway c.report.result c.report.ensures.looked)
+    c.report.ensures.kept
 
 -- and fails for its cause
 pub returns-clause-fault : goal.returns-clause-fault
