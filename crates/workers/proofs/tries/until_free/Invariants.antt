@@ -1,6 +1,6 @@
 use Rattle.std.proofs.Common.{◌≡◌}
 use Rattle.workers.specs.Serving.{HasServed}
-use Rattle.workers.proofs.tries.purge.Given as goal
+use Rattle.workers.proofs.tries.until_free.Given as goal
 
 -- nothing was appended so far
 abbrev pub invariant-loop : goal.invariant-loop
