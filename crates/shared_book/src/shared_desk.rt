@@ -58,7 +58,13 @@ impl<'s, 'a, K: Keeper> SharedDesk<'s, 'a, K> {
 }
 
 impl<'s, 'a, K: Keeper> Desk for SharedDesk<'s, 'a, K> {
-    ghost use Rattle.shared_book.specs.SharedDesks.{shared_home, shared_view};
+    ghost use Rattle.std.specs.Prelude.{◌≤◌, ℕ, true, IfErr, IfOk, IsOk, OnErr};
+    ghost use Rattle.watermark.specs.Marks.{mark_of};
+    ghost use Rattle.book.specs.Conditions.{IsOwnWork};
+    ghost use Rattle.book.specs.DeskReasons.{HasReason, IsReportRefusal};
+    ghost use Rattle.book.specs.Desking.{IsReported};
+    ghost use Rattle.book.specs.Desks.{HasLooked};
+    ghost use Rattle.shared_book.specs.SharedDesks.{is_held, shared_home, shared_view};
 
     type Note = Note<K>;
 
@@ -113,7 +119,36 @@ impl<'s, 'a, K: Keeper> Desk for SharedDesk<'s, 'a, K> {
         purge_once(alloc, shared, self.seat, lease, name, row, floor)
     }
 
-    fn report(&mut self, lease: &Lease, own: u64) -> Result<u64, DeskRefusal> {
+    /// One raise of the mark, which is never refused, whoever has the turn and whoever has claimed the
+    /// interval since.
+    fn report(&mut self, lease: &Lease, own: u64) -> Result<u64, DeskRefusal>
+        requires lease { is_held self.old.seat.now.place.me.0.leases lease.now ≡ true }
+        requires own { let v = self.old.seat.now.place.me.0 in
+            IsOwnWork v.basis.case v.basis.told v.front lease.now own }
+
+        ensures always { IsOk result }
+
+        // As of any desk.
+        ensures answer { let new = shared_view self.new.seat.now.place.me.0 in
+            IfOk result (λ mark. mark ≡ mark_of new.marks lease.now.interval) }
+        ensures rise { let old = shared_view self.old.seat.now.place.me.0 in
+            let new = shared_view self.new.seat.now.place.me.0 in
+            (interval : ℕ) → mark_of old.marks interval ≤ mark_of new.marks interval }
+        ensures looked { HasLooked (shared_view self.old.seat.now.place.me.0)
+            (shared_view self.new.seat.now.place.me.0) }
+        ensures reason { let old = shared_view self.old.seat.now.place.me.0 in
+            let new = shared_view self.new.seat.now.place.me.0 in
+            IfErr result (HasReason old new lease.now) }
+        ensures only { IfErr result IsReportRefusal }
+        ensures raised { let old = shared_view self.old.seat.now.place.me.0 in
+            let new = shared_view self.new.seat.now.place.me.0 in old.alone ≡ true →
+            IfOk result (λ mark. IsReported old new lease.now own mark) }
+        ensures unchanged { let old = shared_view self.old.seat.now.place.me.0 in
+            let new = shared_view self.new.seat.now.place.me.0 in
+            old.alone ≡ true → OnErr result (new.marks ≡ old.marks) }
+        ensures loan { self.new.seat.ghost_name ≡ self.old.seat.ghost_name }
+        ensures home { shared_home self.new.seat.now.place ≡ shared_home self.old.seat.now.place }
+    {
         let shared = self.shared;
         Ok(report_once(shared, self.seat, lease, own))
     }

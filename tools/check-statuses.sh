@@ -1,10 +1,9 @@
 #!/usr/bin/env bash
-# Runs the built program once for each status, and compares what it says and how it ends. It is no part
-# of the gate, since a program that is proved may not start another.
+# Runs the program named once for each status, and compares what it says and how it ends: tools/check-statuses.sh PROGRAM
+# It is no part of `rt ci`, since a program that is proved may not start another.
 set -u
-root="$(cd "$(dirname "$0")" && pwd)"
-"$root/build.sh" > /dev/null || exit 1
-program="$root/crates/millwheel/out/millwheel"
+root="$(cd "$(dirname "$0")/.." && pwd)"
+program="$(realpath -e "${1:?a program}")" || exit 1
 room="$(mktemp -d)"
 trap 'rm -rf "$room"' EXIT
 cd "$room" || exit 1
@@ -44,6 +43,7 @@ expect 3 'millwheel: no file missing' solo t.json missing
 expect 4 'millwheel: topology refused: UnknownStream' solo later.json e
 expect 5 'millwheel: events refused: file 0 line 2: NotJson' solo t.json cut
 expect 5 'millwheel: events refused: file 1 line 2: NotJson' solo taps.json e cut
+expect 6 'millwheel: plan refused: line 1' replay --plan e t.json e
 expect 7 'millwheel: the keeper failed' solo --keep folder t.json e
 expect 10 'millwheel: the keeper is not empty: part 0 key ' solo --keep rows.db t.json e
 out=/dev/full expect 8 'millwheel: the output failed' solo t.json e

@@ -1,10 +1,10 @@
 #!/usr/bin/env python3
 """Runs the gate, and prints what each crate cost: processor minutes of its check, its tests and its edits.
 
-    ./gate-cost.py [rt ci's words]
+    tools/gate-cost.py [rt ci's words]
 
 looks once a second at the processes that `rt ci` started, and prints a table for docs/ when it has ended. A kit whose
-`rt ci` keeps what an earlier run proved measures from nothing by `./gate-cost.py --anew`.
+`rt ci` keeps what an earlier run proved measures from nothing by `tools/gate-cost.py --anew`.
 """
 import collections
 import os

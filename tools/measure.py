@@ -1,17 +1,17 @@
 #!/usr/bin/env python3
 """Measures built programs over inputs that any machine makes alike.
 
-    ./measure.py PROGRAM [OTHER ..]
+    tools/measure.py PROGRAM [OTHER ..]
 
 makes the inputs in a temporary folder, runs `PROGRAM solo TOPOLOGY EVENTS` over each with 4 GiB of memory at most,
 and prints processor seconds (the least of three runs), peak memory in MiB and the exit status; beside it the same of
 `PROGRAM plain` and of each OTHER program, and whether all wrote the same text. `plain` should take a third of `solo`
 at most. Another build comes from an older commit:
 
-    git worktree add ../older COMMIT && (cd ../older && ./build.sh)
-    ./measure.py crates/millwheel/out/millwheel ../older/crates/millwheel/out/millwheel
+    git worktree add ../older COMMIT && (cd ../older && tools/build.sh)
+    tools/measure.py crates/millwheel/out/millwheel ../older/crates/millwheel/out/millwheel
 
-`./build-unproved.py` makes a program in minutes that is compiled alike and not proved, for a change before its proof.
+`tools/build-unproved.py` makes a program in minutes that is compiled alike and not proved, for a change before its proof.
 """
 import hashlib
 import os

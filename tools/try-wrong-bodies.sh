@@ -1,7 +1,7 @@
 #!/usr/bin/env bash
-# Tries the wrong bodies that the gate leaves out, of the crates named or of all: ./try-wrong-bodies.sh [CRATE ..]
+# Tries the wrong bodies that the gate leaves out, of the crates named or of all: tools/try-wrong-bodies.sh [CRATE ..]
 # It works on a clone of what is committed, and begins with what checks on this machine kept.
-cd "$(dirname "$0")" || exit 1
+cd "$(dirname "$0")/.." || exit 1
 room="$(mktemp -d)"
 trap 'rm -rf "$room"' EXIT
 git clone -q . "$room/copy" && cd "$room/copy" || exit 1

@@ -1,7 +1,7 @@
 #!/usr/bin/env python3
 """Draws a run from its history lines, as one SVG picture that a browser shows by itself.
 
-    millwheel solo --history TOPOLOGY EVENTS.. | ./draw-history.py > picture.svg
+    millwheel solo --history TOPOLOGY EVENTS.. | tools/draw-history.py > picture.svg
 
 A lane is an interval of keys, from left to right stand the entries in their order. A band tells which worker owns the
 interval since its claim. A line goes from the entry that made a record to the one that handled it, and on to the one in

@@ -1,7 +1,7 @@
 #!/usr/bin/env python3
 """Prints what the functions of a crate cost to check, the dearest first.
 
-    ./function-cost.py CRATE [how many]
+    tools/function-cost.py CRATE [how many]
 
 reads what `rt check` kept in crates/CRATE/out/incremental. Of each function the prover keeps a file `..Lts.oantt`, the
 derivation that the borrow checker's part stands on. A crate's check takes 2.2 to 2.6 processor seconds for each million
