@@ -5,3 +5,4 @@ pub mod Spelling
 pub mod Taking
 pub mod Finding
 pub mod Pumping
+pub mod Prefixes
