@@ -6,3 +6,6 @@ pub mod Taking
 pub mod Finding
 pub mod Pumping
 pub mod Prefixes
+pub mod Emitting
+pub mod Pieces
+pub mod Covering

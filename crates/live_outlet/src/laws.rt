@@ -6,6 +6,7 @@ ghost use Rattle.live_outlet.specs.LiveLines.{LiveLine as Line, live_text, IsLiv
 ghost use Rattle.topology.specs.Shapes.{Shape};
 ghost use Rattle.live_outlet.specs.Collecting.{told_id};
 ghost use Rattle.live_outlet.specs.Outlets.{OutletView, IsPumpedFrom};
+ghost use Rattle.live_outlet.specs.Covering.{OutletStep, OneSink, IsFresh, AreDone, Covers, furthest};
 
 /// Each live line is read as one, under its id, and what is read as one is one.
 pub fn exactly_live_lines_are_told()
@@ -25,4 +26,15 @@ pub fn outlets_go_on_as_histories_grow()
 pub fn no_live_line_begins_another()
     ensures { (one other : Line) (more : List ℕ) → IsLive one → IsLive other →
         live_text one ++ more ≡ live_text other → more ≡ [] }
+{}
+
+/// Whatever outlets write into one sink, pumped from beginnings of one history in any order, stopped
+/// by faults and taken back, the text is made of live lines of that history's run, of which some were
+/// cut off, and has those of each beginning that a pump came to the end of. An outlet is pumped only
+/// where no other one owes an LF.
+pub fn texts_cover_what_was_pumped()
+    ensures { (shape : Shape) (history : List Entry) (steps : List OutletStep)
+        (first last : OneSink) (text : List ℕ) →
+        IsFresh first → AreDone shape history steps first last → last.text ≡ Some text →
+        Covers shape history (furthest steps) text }
 {}
