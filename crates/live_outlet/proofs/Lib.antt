@@ -9,3 +9,5 @@ pub mod Prefixes
 pub mod Emitting
 pub mod Pieces
 pub mod Covering
+pub mod Entries
+pub mod Results

@@ -10,7 +10,7 @@ use Rattle.mw_types.specs.declared.delivery.Emission.{Emission}
 use Rattle.topology.specs.Shapes.{Shape}
 use Rattle.text_lines.specs.Lines.{last_line}
 use Rattle.list_lemmas.proofs.Lists.{each-append, each-weaker}
-use Rattle.live_outlet.specs.LiveLines.{live_line_of}
+use Rattle.live_outlet.specs.LiveLines.{live_of, live_line_of, IsLive}
 use Rattle.live_outlet.specs.Outlets.{live_lines, AreLive, piece_of, owes_behind}
 use Rattle.live_outlet.specs.Covering.{told_by, IsBegun, ended, IsMadeOf, StandIn}
 
@@ -63,29 +63,28 @@ rest-begun : (shape : Shape) (run : List Emission) (line : List ℕ) → IsBegun
 rest-begun shape run [] is = tt
 rest-begun shape run (b ∷ bs) is = (is, tt)
 
--- the live lines of emissions stand among themselves
-stand-themselves : (shape : Shape) (es : List Emission) → StandIn shape (map (told_by shape) es) es
-stand-themselves shape [] = tt
-stand-themselves shape (e ∷ es) = (
-  (0, omega arith, refl),
-  each-weaker (λ (d : Emission). Contains (map (told_by shape) es) (told_by shape d))
-      (λ (d : Emission). Contains (told_by shape e ∷ map (told_by shape) es) (told_by shape d))
-      (λ d there. Contains-append_right (told_by shape e ∷ []) (map (told_by shape) es) (told_by shape d) there) es
-      (stand-themselves shape es),
-)
+-- what holds of an emission and some lines
+abbrev Stands : Shape → List (List ℕ) → Emission → Type 0
+Stands shape lines e = Contains lines (told_by shape e) × IsLive (live_of shape e)
 
 -- what stands goes on to stand among more lines
 pub stand-before : (shape : Shape) (lines more : List (List ℕ)) (es : List Emission) → StandIn shape lines es
     → StandIn shape (lines ++ more) es
-stand-before shape lines more es stand = each-weaker (λ (e : Emission). Contains lines (told_by shape e))
-    (λ (e : Emission). Contains (lines ++ more) (told_by shape e))
-    (λ e there. Contains-append_left lines more (told_by shape e) there) es stand
+stand-before shape lines more es stand = each-weaker (Stands shape lines) (Stands shape (lines ++ more))
+    (λ e is. (Contains-append_left lines more (told_by shape e) is.0, is.1)) es stand
 
 stand-behind : (shape : Shape) (lines more : List (List ℕ)) (es : List Emission) → StandIn shape more es
     → StandIn shape (lines ++ more) es
-stand-behind shape lines more es stand = each-weaker (λ (e : Emission). Contains more (told_by shape e))
-    (λ (e : Emission). Contains (lines ++ more) (told_by shape e))
-    (λ e there. Contains-append_right lines more (told_by shape e) there) es stand
+stand-behind shape lines more es stand = each-weaker (Stands shape more) (Stands shape (lines ++ more))
+    (λ e is. (Contains-append_right lines more (told_by shape e) is.0, is.1)) es stand
+
+-- the live lines of emissions stand among themselves
+stand-themselves : (shape : Shape) (es : List Emission) → AreLive shape es → StandIn shape (map (told_by shape) es) es
+stand-themselves shape [] live = tt
+stand-themselves shape (e ∷ es) live = (
+  ((0, omega arith, refl), live.0),
+  stand-behind shape (told_by shape e ∷ []) (map (told_by shape) es) es (stand-themselves shape es live.1),
+)
 
 -- ---- a whole piece
 
@@ -154,7 +153,7 @@ piece-written shape run lines text false (e ∷ es) is finished live of_run = re
   made = made-more shape run lines (map (told_by shape) (e ∷ es)) text (live_lines shape (e ∷ es)) is (not_owed is.rest finished)
       (made-lines shape run (e ∷ es) live of_run);
   finished = inl refl;
-  stand = stand-behind shape lines (map (told_by shape) (e ∷ es)) (e ∷ es) (stand-themselves shape (e ∷ es));
+  stand = stand-behind shape lines (map (told_by shape) (e ∷ es)) (e ∷ es) (stand-themselves shape (e ∷ es) live);
 }
 piece-written shape run lines text true (e ∷ es) is finished live of_run = record {
   more = is.rest ∷ map (told_by shape) (e ∷ es);
@@ -162,7 +161,7 @@ piece-written shape run lines text true (e ∷ es) is finished live of_run = rec
       (begun-rest shape run es e is.rest live of_run is.last) (made-lines shape run (e ∷ es) live of_run);
   finished = inl refl;
   stand = stand-behind shape lines (is.rest ∷ map (told_by shape) (e ∷ es)) (e ∷ es)
-      (stand-behind shape (is.rest ∷ []) (map (told_by shape) (e ∷ es)) (e ∷ es) (stand-themselves shape (e ∷ es)));
+      (stand-behind shape (is.rest ∷ []) (map (told_by shape) (e ∷ es)) (e ∷ es) (stand-themselves shape (e ∷ es) live));
 }
 
 -- ---- a piece that is cut off

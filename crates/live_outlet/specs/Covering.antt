@@ -35,9 +35,10 @@ pub record IsMadeOf (shape : Shape) (es : List Emission) (lines : List (List ℕ
   pub each : AllByRecursion (IsBegun shape es) lines
   pub last : AllByRecursion (IsBegun shape es) (last_line rest)
 
--- each of these emissions has its live line among these lines
+-- each of these emissions has its live line among these lines, and that tells what an emission can be
 abbrev pub StandIn : Shape → List (List ℕ) → List Emission → Type 0
-StandIn shape lines es = AllByRecursion (λ (e : Emission). Contains lines (told_by shape e)) es
+StandIn shape lines es =
+    AllByRecursion (λ (e : Emission). Contains lines (told_by shape e) × IsLive (live_of shape e)) es
 
 -- a text is made of the live lines of a history's run, and each emission of so many first entries has its live
 -- line in it, whole

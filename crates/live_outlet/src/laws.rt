@@ -1,12 +1,14 @@
 //! Which lines are read as live lines, and which histories an outlet goes on with.
-ghost use Rattle.std.specs.Prelude.{◌≡◌, ◌++◌, ℕ, List, [], Some};
+ghost use Rattle.std.specs.Prelude.{◌≡◌, ◌≤◌, ◌++◌, ℕ, List, [], length, Some};
 ghost use Rattle.mw_types.specs.declared.entry.Entry.{Entry};
 ghost use Rattle.mw_types.specs.declared.identity.RecordId.{RecordId as Id};
 ghost use Rattle.live_outlet.specs.LiveLines.{LiveLine as Line, live_text, IsLive};
 ghost use Rattle.topology.specs.Shapes.{Shape};
-ghost use Rattle.live_outlet.specs.Collecting.{told_id};
+ghost use Rattle.live_outlet.specs.Collecting.{told_id, IsCollected, WhyNot};
+ghost use Rattle.live_outlet.specs.declared.refusal.CollectRefusal.{CollectRefusal};
+ghost use Rattle.live_outlet.specs.declared.refusal.CollectRefusal.TheVariants.{NoMemory};
 ghost use Rattle.live_outlet.specs.Outlets.{OutletView, IsPumpedFrom};
-ghost use Rattle.live_outlet.specs.Covering.{OutletStep, OneSink, IsFresh, AreDone, Covers, furthest};
+ghost use Rattle.live_outlet.specs.Covering.{OutletStep, OneSink, IsFresh, AreDone, Covers, furthest, results_of};
 
 /// Each live line is read as one, under its id, and what is read as one is one.
 pub fn exactly_live_lines_are_told()
@@ -37,4 +39,16 @@ pub fn texts_cover_what_was_pumped()
         (first last : OneSink) (text : List ℕ) →
         IsFresh first → AreDone shape history steps first last → last.text ≡ Some text →
         Covers shape history (furthest steps) text }
+{}
+
+/// A text that covers a history collects to each of its results once, in the order of their ids, and
+/// no live line of it differs from another of its id.
+pub fn covering_texts_collect_once()
+    ensures agree { (shape : Shape) (history : List Entry) (place : ℕ) (text : List ℕ)
+        (why : CollectRefusal) →
+        Covers shape history place text → WhyNot text why → why ≡ NoMemory }
+    ensures once { (shape : Shape) (history : List Entry) (place : ℕ) (text : List ℕ)
+        (texts : List (List ℕ)) (others : ℕ) →
+        Covers shape history place text → length history ≤ place →
+        IsCollected text texts others → texts ≡ results_of shape history }
 {}
