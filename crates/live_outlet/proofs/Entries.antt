@@ -31,9 +31,11 @@ below_all id (e ∷ es) each = ap (λ o. cond (is_eq o) (Some e.1) (at_id es id)
 -- nor one before the first
 below_first : {X : Type 0} (id first : RecordId) (x : X) (es : List (RecordId × X)) → id_cmp id first ≡ Less
     → AllByRecursion (λ other. id_cmp first other ≡ Less) (keys_of es) → at_id ((first, x) ∷ es) id ≡ None
-below_first id first x es less each = below_all id ((first, x) ∷ es)
-    (less, each-weaker (λ other. id_cmp first other ≡ Less) (λ other. id_cmp id other ≡ Less)
-    (λ other above. id_cmp-total.trans id first other less above) (keys_of es) each)
+below_first id first x es less each = below_all id ((first, x) ∷ es) (
+  less,
+  each-weaker (λ other. id_cmp first other ≡ Less) (λ other. id_cmp id other ≡ Less)
+      (λ other above. id_cmp-total.trans id first other less above) (keys_of es) each,
+)
 
 -- behind a first entry of the same id the others cannot be told apart either
 at_tails : {X : Type 0} (id : RecordId) (x y : X) (es fs : List (RecordId × X)) → AllByRecursion (λ other. id_cmp id other ≡ Less) (keys_of es)

@@ -199,26 +199,32 @@ lines-cut shape run (e ∷ es) count live of_run =
     by_place : (length line < count) ⊎ (count ≤ length line)
         → ((lines : List (List ℕ)) × IsMadeOf shape run lines (take (count - (length line + 1)) after))
         → (lines : List (List ℕ)) × IsMadeOf shape run lines (take count ((line ++ 10 ∷ []) ++ after))
-    by_place (inr within) next = ([], record {
-      rest = take count line;
-      whole = ap (take count) (append_assoc line (10 ∷ []) after) ∙ take-append-le count line (10 ∷ after) within;
-      each = tt;
-      last = rest-begun shape run (take count line) begun;
-    })
+    by_place (inr within) next = (
+      [],
+      record {
+        rest = take count line;
+        whole = ap (take count) (append_assoc line (10 ∷ []) after) ∙ take-append-le count line (10 ∷ after) within;
+        each = tt;
+        last = rest-begun shape run (take count line) begun;
+      },
+    )
     by_place (inl past) next =
         let left = count - (length line + 1) in
         let at : count ≡ length line + suc left = omega (arith, past) in
-        let made = next.1 in (line ∷ next.0, record {
-          rest = made.rest;
-          whole = ap (take count) (append_assoc line (10 ∷ []) after)
-              ∙ ap (λ k. take k (line ++ 10 ∷ after)) at
-              ∙ take-past line (10 ∷ after) (suc left)
-              ∙ sym (append_assoc line (10 ∷ []) (take left after))
-              ∙ ap (λ l. (line ++ 10 ∷ []) ++ l) made.whole
-              ∙ sym (append_assoc (line ++ 10 ∷ []) (ended next.0) made.rest);
-          each = (record { emission = e; emitted = of_run.0; live = live.0; left = []; whole = append-nil line }, made.each);
-          last = made.last;
-        })
+        let made = next.1 in (
+          line ∷ next.0,
+          record {
+            rest = made.rest;
+            whole = ap (take count) (append_assoc line (10 ∷ []) after)
+                ∙ ap (λ k. take k (line ++ 10 ∷ after)) at
+                ∙ take-past line (10 ∷ after) (suc left)
+                ∙ sym (append_assoc line (10 ∷ []) (take left after))
+                ∙ ap (λ l. (line ++ 10 ∷ []) ++ l) made.whole
+                ∙ sym (append_assoc (line ++ 10 ∷ []) (ended next.0) made.rest);
+            each = (record { emission = e; emitted = of_run.0; live = live.0; left = []; whole = append-nil line }, made.each);
+            last = made.last;
+          },
+        )
 
 -- a beginning of a piece is written
 pub piece-begun : (shape : Shape) (run : List Emission) (lines : List (List ℕ)) (text : List ℕ) (owes : Bool) (es : List Emission) (count : ℕ)

@@ -52,9 +52,29 @@ fn line_in(alloc: Global, value: &Value) -> Result<Option<LiveLine>, NoMemory>
     let Some(found) = value_at(value, "value") else {
         return Ok(None);
     };
+    let line = line_with(alloc, id, key, stream, stamp, found)?;
+    Ok(Some(line))
+}
+
+// The line that tells this.
+fn line_with(
+    alloc: Global,
+    id: RecordId,
+    key: &str,
+    stream: &str,
+    stamp: u64,
+    value: i64,
+) -> Result<LiveLine, NoMemory>
+    requires id { IsId id }
+    requires key { IsKey key.now }
+    requires stream { IsTrue (is_name stream.now) }
+    ensures line { IfOk result (λ line. line ≡ record
+        { id = id; key = key.now; stream = stream.now; stamp = stamp; value = value }) }
+    ensures live { IfOk result IsLive }
+{
     let key = Text::of(alloc, key)?;
     let stream = Text::of(alloc, stream)?;
-    Ok(Some(told(id, key, stream, stamp, found)))
+    Ok(told(id, key, stream, stamp, value))
 }
 
 // A member that is an id.
