@@ -103,16 +103,23 @@ fn keep(
             first: held.line,
         });
     }
-    let text = bytes_of(alloc, text)?;
-    insert(firsts, id, Held { line, text })?;
+    insert(alloc, firsts, id, line, text)?;
     Ok(())
 }
 
 // Puts a live line among the first ones.
-fn insert(firsts: &mut Firsts, id: RecordId, held: Held) -> Result<(), NoMemory>
-    ensures { OnOk result (firsts.new.entries ≡ insert_entry id_cmp firsts.old.entries id held) }
+fn insert(
+    alloc: Global,
+    firsts: &mut Firsts,
+    id: RecordId,
+    line: u32,
+    text: &[u8],
+) -> Result<(), NoMemory>
+    ensures { OnOk result (firsts.new.entries ≡ insert_entry id_cmp firsts.old.entries id
+        (record { line = line; text = text.now })) }
 {
-    firsts.insert(id, held)?;
+    let text = bytes_of(alloc, text)?;
+    firsts.insert(id, Held { line, text })?;
     Ok(())
 }
 
