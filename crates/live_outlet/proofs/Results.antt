@@ -2,17 +2,17 @@
 use Rattle.std.proofs.Common.{◌≡◌, ℕ, zero, suc, ◌+◌, ◌-◌, ◌<◌, ◌≤◌, ◌==◌, Bool, true, false, cond, List, [], ◌∷◌, ◌++◌, length, map, take, Option, Some, None, refl, sym, ◌∙◌, ap, subst, arith, append_assoc, append-nil}
 use Rattle.std.specs.Prelude.{Contains, IsSome, slice_index}
 use Rattle.std.specs.Option.{option_map, option_map_or}
-use Rattle.std.specs.List.{AllByRecursion, slice_split}
+use Rattle.std.specs.List.{AllByRecursion, IsDistinct, slice_split}
 use Rattle.std.specs.List.Sorted.{IsStrictlySortedBy}
 use Rattle.std.specs.Map.{lookup, keys_of}
 use Rattle.std.specs.BTreeMap.{is_at}
 use Rattle.std.specs.Ordering.{is_eq, eq_by_cmp}
 use Rattle.std.specs.Cmp.{tied_itself, eq_by_cmp_equiv}
 use Rattle.std.proofs.lemmas.Bool.{ne_eqb}
-use Rattle.std.proofs.lemmas.List.Elements.{All-from_recursion, All-get_or, Contains-append_left}
+use Rattle.std.proofs.lemmas.List.Elements.{All-contains_itself, All-from_recursion, All-get_or, Contains-append_left, recursion_from_All}
 use Rattle.std.proofs.lemmas.List.Splits.{slice_split_none, slice_split_at}
 use Rattle.std.proofs.lemmas.Map.Keys.{IsDistinct-from_sorted}
-use Rattle.std.proofs.lemmas.Map.Views.{lookup-from_Contains}
+use Rattle.std.proofs.lemmas.Map.Views.{Contains-from_lookup, lookup-from_Contains}
 use Rattle.mw_types.specs.declared.identity.RecordId.{RecordId}
 use Rattle.mw_types.specs.declared.delivery.Emission.{Emission}
 use Rattle.mw_types.specs.declared.entry.Entry.{Entry}
@@ -23,7 +23,7 @@ use Rattle.text_lines.specs.Lines.{last_line, without_empty_end, without_return,
 use Rattle.run_history.specs.Runs.{run_of}
 use Rattle.read_back.specs.Writable.{HasNoControl}
 use Rattle.read_back.proofs.Control.{compact_text-no_control}
-use Rattle.list_lemmas.proofs.Lists.{each-append, each-weaker, none_some, some_same}
+use Rattle.list_lemmas.proofs.Lists.{each-append, each-both, each-map, each-weaker, none_some, some_same}
 use Rattle.live_outlet.specs.declared.held.Held.{Held}
 use Rattle.live_outlet.specs.declared.refusal.CollectRefusal.{CollectRefusal}
 use Rattle.live_outlet.specs.declared.refusal.CollectRefusal.TheVariants.{Differs, NoMemory}
@@ -35,7 +35,8 @@ use Rattle.live_outlet.proofs.Spelling.{told_id-own, told_id-is}
 use Rattle.live_outlet.proofs.Finding.{same_found}
 use Rattle.live_outlet.proofs.Prefixes.{no_more}
 use Rattle.live_outlet.proofs.Entries.{same_entries}
-use Rattle.live_outlet.proofs.Emitting.{ids_of, ids-ascend, emitted-all}
+use Rattle.live_outlet.specs.Outlets.{emitted_by}
+use Rattle.live_outlet.proofs.Emitting.{ids_of, ids-ascend, emitted-all, emitted-grows}
 
 -- ---- the lines of a text that is made of lines
 
@@ -300,3 +301,69 @@ covers-collects shape history place text texts others covers all collected =
         → option_map (λ (h : Held). h.text) o ≡ lookup (is_at (id_cmp id)) (by_id shape (run_of shape history).emissions)
     as_results id results each None none = sym (none-result shape (run_of shape history).emissions (tellings text) id each none)
     as_results id results each (Some h) is = sym (found-result shape (run_of shape history).emissions (tellings text) id h results is)
+
+-- ---- a text that covers a beginning
+
+-- what was found under an id is what the text tells first under it, and that is the result with that id
+found-by_id : (shape : Shape) (history : List Entry) (place : ℕ) (text : List ℕ) (texts : List (List ℕ)) (others : ℕ)
+    → Covers shape history place text → (collected : IsCollected text texts others) → (id : RecordId) (h : Held) → first_with id (tellings text) ≡ Some h
+    → lookup (is_at (id_cmp id)) (unnumbered collected.found) ≡ lookup (is_at (id_cmp id)) (by_id shape (run_of shape history).emissions)
+found-by_id shape history place text texts others covers collected id h is =
+    lookup-unnumbered (is_at (id_cmp id)) collected.found
+    ∙ ap (option_map (λ (h : Held). h.text)) (collected.each id ∙ is)
+    ∙ sym (found-result shape (run_of shape history).emissions (tellings text) id h (made-results shape history covers.lines text covers.made) is)
+
+-- the collected texts are those that were found
+texts-found : (text : List ℕ) (texts : List (List ℕ)) (others : ℕ) (collected : IsCollected text texts others)
+    → map (λ (p : RecordId × List ℕ). p.1) (unnumbered collected.found) ≡ texts
+texts-found text texts others collected = texts-unnumbered collected.found ∙ sym collected.texts_of
+
+-- each result of the beginning is collected
+pub covers-part : (shape : Shape) (history : List Entry) (place : ℕ) (text : List ℕ) (texts : List (List ℕ)) (others : ℕ)
+    → Covers shape history place text → IsCollected text texts others → AllByRecursion (Contains texts) (results_of shape (take place history))
+covers-part shape history place text texts others covers collected =
+    let run = (run_of shape history).emissions in
+    let es = emitted_by shape history place in
+    let grows = emitted-grows shape history place in
+    each-map (Contains texts) (told_by shape) es
+    (each-weaker (λ (e : Emission). Contains es e × IsSome (first_with e.id (tellings text))) (λ (e : Emission). Contains texts (told_by shape e))
+    (λ e both. of_found e (subst (λ l. Contains l e) grows.1 (Contains-append_left es grows.0 e both.0)) (first_with e.id (tellings text)) refl both.1) es
+    (each-both (Contains es) (λ (e : Emission). IsSome (first_with e.id (tellings text))) es (recursion_from_All (Contains es) es (All-contains_itself es))
+    (stand-found shape run covers.lines text es covers.made covers.all)))
+  where
+    of_found : (e : Emission) → Contains (run_of shape history).emissions e → (o : Option Held) → first_with e.id (tellings text) ≡ o → IsSome o
+        → Contains texts (told_by shape e)
+    of_found e there None is some = absurd (none_there None refl some)
+    of_found e there (Some h) is some =
+        subst (λ l. Contains l (told_by shape e)) (texts-found text texts others collected)
+        (contains-map (λ (p : RecordId × List ℕ). p.1) (unnumbered collected.found) (e.id, told_by shape e)
+        (Contains-from_lookup same_found e.id (told_by shape e) (unnumbered collected.found)
+        (found-by_id shape history place text texts others covers collected e.id h is
+        ∙ result-found shape (run_of shape history).emissions e (ids-ascend shape history) there)))
+
+-- and nothing but results is
+pub covers-only : (shape : Shape) (history : List Entry) (place : ℕ) (text : List ℕ) (texts : List (List ℕ)) (others : ℕ)
+    → Covers shape history place text → IsCollected text texts others → AllByRecursion (Contains (results_of shape history)) texts
+covers-only shape history place text texts others covers collected =
+    let found = unnumbered collected.found in
+    subst (AllByRecursion (Contains (results_of shape history))) (texts-found text texts others collected)
+    (each-map (Contains (results_of shape history)) (λ (p : RecordId × List ℕ). p.1) found
+    (each-weaker (Contains found) (λ (p : RecordId × List ℕ). Contains (results_of shape history) p.1)
+    (λ p there. of_found p (lookup-from_Contains (eq_by_cmp_equiv id_cmp-total) p.0 p.1 found distinct there)
+    (first_with p.0 (tellings text)) refl)
+    found (recursion_from_All (Contains found) found (All-contains_itself found))))
+  where
+    distinct : IsDistinct (eq_by_cmp id_cmp) (keys_of (unnumbered collected.found))
+    distinct = IsDistinct-from_sorted id_cmp (keys_of (unnumbered collected.found))
+        (subst (IsStrictlySortedBy id_cmp) (sym (keys_of-unnumbered collected.found)) collected.ascending)
+
+    of_found : (p : RecordId × List ℕ) → lookup (is_at (id_cmp p.0)) (unnumbered collected.found) ≡ Some p.1
+        → (o : Option Held) → first_with p.0 (tellings text) ≡ o → Contains (results_of shape history) p.1
+    of_found p at None none =
+        absurd (none_some p.1 (sym (ap (option_map (λ (h : Held). h.text)) (collected.each p.0 ∙ none))
+        ∙ sym (lookup-unnumbered (is_at (id_cmp p.0)) collected.found) ∙ at))
+    of_found p at (Some h) is =
+        subst (λ l. Contains l p.1) (texts-by_id shape (run_of shape history).emissions)
+        (contains-map (λ (q : RecordId × List ℕ). q.1) (by_id shape (run_of shape history).emissions) (p.0, p.1)
+        (Contains-from_lookup same_found p.0 p.1 (by_id shape (run_of shape history).emissions)
+        (sym (found-by_id shape history place text texts others covers collected p.0 h is) ∙ at)))

@@ -1,5 +1,6 @@
 //! Which lines are read as live lines, and which histories an outlet goes on with.
-ghost use Rattle.std.specs.Prelude.{◌≡◌, ◌≤◌, ◌++◌, ℕ, List, [], length, Some};
+ghost use Rattle.std.specs.Prelude.{◌≡◌, ◌≤◌, ◌++◌, ℕ, List, [], length, take, Contains, Some};
+ghost use Rattle.std.specs.List.{AllByRecursion};
 ghost use Rattle.mw_types.specs.declared.entry.Entry.{Entry};
 ghost use Rattle.mw_types.specs.declared.identity.RecordId.{RecordId as Id};
 ghost use Rattle.live_outlet.specs.LiveLines.{LiveLine as Line, live_text, IsLive};
@@ -41,12 +42,21 @@ pub fn texts_cover_what_was_pumped()
         Covers shape history (furthest steps) text }
 {}
 
-/// A text that covers a history collects to each of its results once, in the order of their ids, and
-/// no live line of it differs from another of its id.
+/// A text that covers so many first entries of a history collects to each of their results, and to
+/// nothing but results of the history, each once; where it covers all of them, to all results, in the
+/// order of their ids. No live line of it differs from another of its id.
 pub fn covering_texts_collect_once()
     ensures agree { (shape : Shape) (history : List Entry) (place : ℕ) (text : List ℕ)
         (why : CollectRefusal) →
         Covers shape history place text → WhyNot text why → why ≡ NoMemory }
+    ensures each { (shape : Shape) (history : List Entry) (place : ℕ) (text : List ℕ)
+        (texts : List (List ℕ)) (others : ℕ) →
+        Covers shape history place text → IsCollected text texts others →
+        AllByRecursion (Contains texts) (results_of shape (take place history)) }
+    ensures only { (shape : Shape) (history : List Entry) (place : ℕ) (text : List ℕ)
+        (texts : List (List ℕ)) (others : ℕ) →
+        Covers shape history place text → IsCollected text texts others →
+        AllByRecursion (Contains (results_of shape history)) texts }
     ensures once { (shape : Shape) (history : List Entry) (place : ℕ) (text : List ℕ)
         (texts : List (List ℕ)) (others : ℕ) →
         Covers shape history place text → length history ≤ place →
