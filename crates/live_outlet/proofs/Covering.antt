@@ -1,5 +1,5 @@
 -- The text of a sink after each pump, and after a list of steps.
-use Rattle.std.proofs.Common.{◌≡◌, ℕ, ◌+◌, ◌<◌, ◌≤◌, ◌⊎◌, Bool, true, false, List, [], ◌∷◌, ◌++◌, length, take, Option, Some, inl, inr, refl, sym, ◌∙◌, ap, subst, arith}
+use Rattle.std.proofs.Common.{◌≡◌, ℕ, ◌+◌, ◌<◌, ◌≤◌, ◌⊎◌, Bool, true, false, List, [], ◌∷◌, ◌++◌, length, take, Some, inl, inr, refl, sym, ◌∙◌, ap, subst, arith}
 use Rattle.std.specs.Prelude.{Contains, max}
 use Rattle.std.specs.List.{AllByRecursion}
 use Rattle.std.specs.Io.KnownBytes.{append_known}
@@ -10,10 +10,10 @@ use Rattle.mw_types.specs.declared.entry.Entry.{Entry}
 use Rattle.topology.specs.Shapes.{Shape}
 use Rattle.run_history.specs.Runs.{run_of}
 use Rattle.list_lemmas.proofs.Lists.{each-append, each-weaker, some_same}
-use Rattle.live_outlet.specs.Outlets.{OutletView, emitted_by, AreBetween, live_lines, AreLive, piece_of, owes_behind, WritesTo, StopsAt}
-use Rattle.live_outlet.specs.Covering.{IsMadeOf, StandIn, Covers, OutletStep, pumped, stopped, taken_back, OneSink, IsFresh, OthersStay, MayPump, Does, AreDone, furthest}
+use Rattle.live_outlet.specs.Outlets.{OutletView, emitted_by, AreBetween, live_lines, AreLive, piece_of, owes_behind}
+use Rattle.live_outlet.specs.Covering.{IsMadeOf, StandIn, Covers, OutletStep, pumped, stopped, taken_back, OneSink, IsFresh, OthersStay, Does, AreDone, furthest}
 use Rattle.live_outlet.proofs.Emitting.{emitted-grows, between-front, emitted-whole}
-use Rattle.live_outlet.proofs.Pieces.{Grows, stand-before, piece-written, piece-begun}
+use Rattle.live_outlet.proofs.Pieces.{stand-before, piece-written, piece-begun}
 
 -- ---- emissions of the run
 

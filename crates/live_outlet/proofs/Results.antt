@@ -1,5 +1,5 @@
 -- What a text that covers a history collects to.
-use Rattle.std.proofs.Common.{◌≡◌, ℕ, zero, suc, ◌+◌, ◌-◌, ◌<◌, ◌≤◌, ◌==◌, Bool, true, false, cond, List, [], ◌∷◌, ◌++◌, length, map, take, Option, Some, None, refl, sym, ◌∙◌, ap, subst, arith, append_assoc, append-nil}
+use Rattle.std.proofs.Common.{◌≡◌, ℕ, zero, suc, ◌+◌, ◌-◌, ◌≤◌, ◌==◌, Bool, true, false, cond, List, [], ◌∷◌, ◌++◌, length, map, take, Option, Some, None, refl, sym, ◌∙◌, ap, subst, arith, append_assoc, append-nil}
 use Rattle.std.specs.Prelude.{Contains, IsSome, slice_index}
 use Rattle.std.specs.Option.{option_map, option_map_or}
 use Rattle.std.specs.List.{AllByRecursion, IsDistinct, slice_split}
@@ -28,7 +28,7 @@ use Rattle.live_outlet.specs.declared.held.Held.{Held}
 use Rattle.live_outlet.specs.declared.refusal.CollectRefusal.{CollectRefusal}
 use Rattle.live_outlet.specs.declared.refusal.CollectRefusal.TheVariants.{Differs, NoMemory}
 use Rattle.live_outlet.specs.LiveLines.{live_of, live_data, IsLive}
-use Rattle.live_outlet.specs.Collecting.{Telling, told_id, tellings_from, tellings, told_before, first_with, IsCollected, IsFirstToDiffer, WhyNot}
+use Rattle.live_outlet.specs.Collecting.{Telling, told_id, tellings_from, tellings, first_with, IsCollected, WhyNot}
 use Rattle.live_outlet.specs.Covering.{told_by, IsBegun, ended, IsMadeOf, StandIn, Covers, results_of}
 use Rattle.live_outlet.proofs.Reading.{live-writable}
 use Rattle.live_outlet.proofs.Spelling.{told_id-own, told_id-is}

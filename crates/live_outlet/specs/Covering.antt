@@ -1,5 +1,5 @@
 -- What the text of a sink covers of a run, whatever outlets wrote it and wherever they were stopped. Own.
-use Rattle.std.specs.Prelude.{◌≡◌, ◌≢◌, ◌≤◌, ℕ, false, true, max, List, [], ◌∷◌, ◌++◌, length, map, take, Option, Some, Contains}
+use Rattle.std.specs.Prelude.{◌≡◌, ◌≢◌, ◌≤◌, ℕ, false, max, List, [], ◌∷◌, ◌++◌, length, map, take, Option, Some, Contains}
 use Rattle.std.specs.List.{AllByRecursion, flat_map}
 use Rattle.mw_types.specs.declared.delivery.Emission.{Emission}
 use Rattle.mw_types.specs.declared.entry.Entry.{Entry}
