@@ -29,7 +29,8 @@ of_run shape history from to es between =
     es (recursion_from_All (Contains es) es (All-contains_itself es))
 
 -- of two that are written one after another the first is of the run
-of_run-first : (shape : Shape) (history : List Entry) (from to : ℕ) (es left : List Emission) → AreBetween shape history from to (es ++ left)
+of_run-first : (shape : Shape) (history : List Entry) (from to : ℕ) (es left : List Emission)
+    → AreBetween shape history from to (es ++ left)
     → AllByRecursion (Contains (run_of shape history).emissions) es
 of_run-first shape history from to es left between = firsts es (of_run shape history from to (es ++ left) between)
   where
@@ -93,7 +94,8 @@ out_after : (shape : Shape) (history : List Entry) (from to : ℕ) (owes : Bool)
     → StandIn shape lines (emitted_by shape history from) → AreBetween shape history from to es → AreLive shape es
     → IsOut shape history to (owes_behind owes (live_lines shape es)) lines (text ++ piece_of owes (live_lines shape es))
 out_after shape history from to owes es lines text is finished stand between live =
-    let grown = piece-written shape (run_of shape history).emissions lines text owes es is finished live (of_run shape history from to es between) in record {
+    let grown = piece-written shape (run_of shape history).emissions lines text owes es is finished live
+    (of_run shape history from to es between) in record {
       lines = lines ++ grown.more;
       made = grown.made;
       finished = grown.finished;
@@ -106,7 +108,8 @@ out_after shape history from to owes es lines text is finished stand between liv
 -- ---- the steps
 
 -- a pump that answers Ok
-pumped-keeps : (shape : Shape) (history : List Entry) (who n : ℕ) (old new : OneSink) (lines : List (List ℕ)) → Keeps shape history old lines
+pumped-keeps : (shape : Shape) (history : List Entry) (who n : ℕ) (old new : OneSink) (lines : List (List ℕ))
+    → Keeps shape history old lines
     → Does shape history (pumped who n) old new
     → (on : GoesOn shape history new lines) × StandIn shape on.lines (emitted_by shape history n)
 pumped-keeps shape history who n old new lines keeps (may, others, end, wrote) =
@@ -136,7 +139,8 @@ pumped-keeps shape history who n old new lines keeps (may, others, end, wrote) =
     finishes rest left same (inr owed) = inr (who, same ∙ owed)
 
 -- a pump that is stopped
-stopped-keeps : (shape : Shape) (history : List Entry) (who n : ℕ) (old new : OneSink) (lines : List (List ℕ)) → Keeps shape history old lines
+stopped-keeps : (shape : Shape) (history : List Entry) (who n : ℕ) (old new : OneSink) (lines : List (List ℕ))
+    → Keeps shape history old lines
     → Does shape history (stopped who n) old new → GoesOn shape history new lines
 stopped-keeps shape history who n old new lines keeps (may, others, stops) =
     let o : OutletView = old.outlets who in
@@ -145,7 +149,8 @@ stopped-keeps shape history who n old new lines keeps (may, others, stops) =
     let between : AreBetween shape history o.place o'.place stops.es =
     between-front shape history n o.place o'.place stops.es may.place (omega (arith, within)) stops.between in
     let next : AreBetween shape history o'.place (o'.place + 1) (stops.begun ++ stops.left) =
-    between-front shape history n o'.place (o'.place + 1) (stops.begun ++ stops.left) (omega (arith, within)) (omega (arith, within)) stops.next in
+    between-front shape history n o'.place (o'.place + 1) (stops.begun ++ stops.left) (omega (arith, within))
+    (omega (arith, within)) stops.next in
     let first = piece_of o.owes (live_lines shape stops.es) in
     let left = owes_behind o.owes (live_lines shape stops.es) in
     let last = piece_of left (live_lines shape stops.begun) in
@@ -196,16 +201,20 @@ back-keeps shape history who old new lines keeps (others, text, place, owes) = r
 -- ---- lists of steps
 
 -- what a further beginning stands among
-furthest-stands : (shape : Shape) (history : List Entry) (lines : List (List ℕ)) (n m : ℕ) → StandIn shape lines (emitted_by shape history n)
+furthest-stands : (shape : Shape) (history : List Entry) (lines : List (List ℕ)) (n m : ℕ)
+    → StandIn shape lines (emitted_by shape history n)
     → StandIn shape lines (emitted_by shape history m) → StandIn shape lines (emitted_by shape history (max n m))
 furthest-stands shape history lines n m one other = by_case (cases_lt n m)
   where
     by_case : (n < m) ⊎ (m ≤ n) → StandIn shape lines (emitted_by shape history (max n m))
-    by_case (inl less) = let is : m ≡ max n m = omega (arith, less) in subst (λ k. StandIn shape lines (emitted_by shape history k)) is other
-    by_case (inr least) = let is : n ≡ max n m = omega (arith, least) in subst (λ k. StandIn shape lines (emitted_by shape history k)) is one
+    by_case (inl less) =
+        let is : m ≡ max n m = omega (arith, less) in subst (λ k. StandIn shape lines (emitted_by shape history k)) is other
+    by_case (inr least) =
+        let is : n ≡ max n m = omega (arith, least) in subst (λ k. StandIn shape lines (emitted_by shape history k)) is one
 
 -- steps one after another
-steps-keep : (shape : Shape) (history : List Entry) (steps : List OutletStep) (old new : OneSink) (lines : List (List ℕ)) → Keeps shape history old lines
+steps-keep : (shape : Shape) (history : List Entry) (steps : List OutletStep) (old new : OneSink) (lines : List (List ℕ))
+    → Keeps shape history old lines
     → AreDone shape history steps old new
     → (on : GoesOn shape history new lines) × StandIn shape on.lines (emitted_by shape history (furthest steps))
 steps-keep shape history [] old new lines keeps same =

@@ -149,7 +149,8 @@ in_order-followed : (shape : Shape) (run : Run) (entry : Entry) → IsInOrder ru
 in_order-followed shape run entry is =
     let sent = emissions_of shape run.made run.next entry in
     let of_sent = entry-commit shape run.made run.next entry in
-    let both : ids_of (run.emissions ++ sent) ≡ ids_of run.emissions ++ ids_of sent = map-append (λ (e : Emission). e.id) run.emissions sent in record {
+    let both : ids_of (run.emissions ++ sent) ≡ ids_of run.emissions ++ ids_of sent =
+    map-append (λ (e : Emission). e.id) run.emissions sent in record {
       below = subst (AllByRecursion (λ (id : RecordId). id.commit < run.next + 1)) (sym both)
           (each-append (λ (id : RecordId). id.commit < run.next + 1) (ids_of run.emissions) (ids_of sent)
           (each-weaker (λ (id : RecordId). id.commit < run.next) (λ (id : RecordId). id.commit < run.next + 1)

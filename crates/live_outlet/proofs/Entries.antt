@@ -38,7 +38,8 @@ below_first id first x es less each = below_all id ((first, x) ∷ es) (
 )
 
 -- behind a first entry of the same id the others cannot be told apart either
-at_tails : {X : Type 0} (id : RecordId) (x y : X) (es fs : List (RecordId × X)) → AllByRecursion (λ other. id_cmp id other ≡ Less) (keys_of es)
+at_tails : {X : Type 0} (id : RecordId) (x y : X) (es fs : List (RecordId × X))
+    → AllByRecursion (λ other. id_cmp id other ≡ Less) (keys_of es)
     → AllByRecursion (λ other. id_cmp id other ≡ Less) (keys_of fs)
     → ((q : RecordId) → at_id ((id, x) ∷ es) q ≡ at_id ((id, y) ∷ fs) q) → (q : RecordId) → at_id es q ≡ at_id fs q
 at_tails {X} id x y es fs one other same q = by_test (is_at (id_cmp q) id) refl (same q)
@@ -50,7 +51,8 @@ at_tails {X} id x y es fs one other same q = by_test (is_at (id_cmp q) id) refl 
     by_test false at both = both
 
 -- entries in order
-pub same_entries : {X : Type 0} (es fs : List (RecordId × X)) → IsStrictlySortedBy id_cmp (keys_of es) → IsStrictlySortedBy id_cmp (keys_of fs)
+pub same_entries : {X : Type 0} (es fs : List (RecordId × X)) → IsStrictlySortedBy id_cmp (keys_of es)
+    → IsStrictlySortedBy id_cmp (keys_of fs)
     → ((id : RecordId) → at_id es id ≡ at_id fs id) → es ≡ fs
 unfolding IsStrictlySortedBy
 same_entries [] [] one other same = refl

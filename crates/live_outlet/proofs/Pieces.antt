@@ -90,7 +90,8 @@ stand-themselves shape (e ∷ es) live = (
 
 -- more lines stand behind those of a text, and the lines of these emissions are among them; where an unfinished line may
 -- stand at its end, an LF is owed
-pub record Grows (shape : Shape) (run : List Emission) (lines : List (List ℕ)) (es : List Emission) (owes : Bool) (text : List ℕ) : Type 0 where
+pub record Grows (shape : Shape) (run : List Emission) (lines : List (List ℕ)) (es : List Emission) (owes : Bool)
+    (text : List ℕ) : Type 0 where
   pub more : List (List ℕ)
   pub made : IsMadeOf shape run (lines ++ more) text
   pub finished : (made.rest ≡ []) ⊎ (owes ≡ true)
@@ -121,7 +122,8 @@ made-behind : (shape : Shape) (run : List Emission) (lines ms : List (List ℕ))
     → IsBegun shape run is.rest → IsMadeOf shape run ms piece → IsMadeOf shape run (lines ++ is.rest ∷ ms) (text ++ 10 ∷ piece)
 made-behind shape run lines ms text piece is begun more = record {
   rest = more.rest;
-  whole = ap (λ t. t ++ 10 ∷ piece) is.whole ∙ ap (λ p. (ended lines ++ is.rest) ++ 10 ∷ p) more.whole ∙ ended-behind lines ms is.rest more.rest;
+  whole = ap (λ t. t ++ 10 ∷ piece) is.whole ∙ ap (λ p. (ended lines ++ is.rest) ++ 10 ∷ p) more.whole
+      ∙ ended-behind lines ms is.rest more.rest;
   each = each-append (IsBegun shape run) lines (is.rest ∷ ms) is.each (begun, more.each);
   last = more.last;
 }
@@ -227,11 +229,13 @@ lines-cut shape run (e ∷ es) count live of_run =
         )
 
 -- a beginning of a piece is written
-pub piece-begun : (shape : Shape) (run : List Emission) (lines : List (List ℕ)) (text : List ℕ) (owes : Bool) (es : List Emission) (count : ℕ)
+pub piece-begun : (shape : Shape) (run : List Emission) (lines : List (List ℕ)) (text : List ℕ) (owes : Bool) (es : List Emission)
+    (count : ℕ)
     (is : IsMadeOf shape run lines text) → (is.rest ≡ []) ⊎ (owes ≡ true) → AreLive shape es → AllByRecursion (Contains run) es
     → (more : List (List ℕ)) × IsMadeOf shape run (lines ++ more) (text ++ take count (piece_of owes (live_lines shape es)))
 piece-begun shape run lines text owes [] count is finished live of_run =
-    ([], subst (λ l. IsMadeOf shape run (lines ++ []) (text ++ l)) (sym (take_all count [] (omega arith))) (made-none shape run lines text is))
+    let none = sym (take_all count [] (omega arith)) in
+    ([], subst (λ l. IsMadeOf shape run (lines ++ []) (text ++ l)) none (made-none shape run lines text is))
 piece-begun shape run lines text false (e ∷ es) count is finished live of_run =
     let cut = lines-cut shape run (e ∷ es) count live of_run in
     (cut.0, made-more shape run lines cut.0 text _ is (not_owed is.rest finished) cut.1)

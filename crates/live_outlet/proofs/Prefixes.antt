@@ -102,7 +102,8 @@ behind_stamp line = quoted (codes "value") ++ 58 ∷ (number_text (of_integer li
 pub no_more : (one other : LiveLine) (more : List ℕ) → IsLive one → IsLive other → live_text one ++ more ≡ live_text other → more ≡ []
 no_more one other more is live begins =
     let same : live_text one ++ more ≡ live_text other ++ [] = begins ∙ sym (append-nil (live_text other)) in
-    let key = text_same false (codes "id") (printed_id one.id) (printed_id other.id) (from_key one) (from_key other) more [] (ap (drop 1) same) in
+    let key = text_same false (codes "id") (printed_id one.id) (printed_id other.id) (from_key one) (from_key other) more []
+    (ap (drop 1) same) in
     let stream = text_same true (codes "key") one.key other.key (from_stream one) (from_stream other) more [] key in
     let stamp = text_same true (codes "stream") one.stream other.stream (from_stamp one) (from_stamp other) more [] stream in
     let value : behind_stamp one ++ more ≡ behind_stamp other ++ [] =

@@ -59,13 +59,16 @@ no_feed line clean = each-weaker (λ (b : ℕ). 32 ≤ b) (λ (b : ℕ). (b == 1
 no_return : (line : List ℕ) → HasNoControl line → without_return line ≡ line
 no_return [] clean = refl
 no_return (b ∷ bs) clean =
-    let last = All-get_or (λ (c : ℕ). 32 ≤ c) (b ∷ bs) (length (b ∷ bs) - 1) 0 (omega arith) (All-from_recursion (λ (c : ℕ). 32 ≤ c) (b ∷ bs) clean) in
-    ap (λ (t : Bool). cond t (take (length (b ∷ bs) - 1) (b ∷ bs)) (b ∷ bs)) (ne_eqb (slice_index (b ∷ bs) (length (b ∷ bs) - 1)) 13 (λ e. omega (arith, last, e)))
+    let last = All-get_or (λ (c : ℕ). 32 ≤ c) (b ∷ bs) (length (b ∷ bs) - 1) 0 (omega arith)
+    (All-from_recursion (λ (c : ℕ). 32 ≤ c) (b ∷ bs) clean) in
+    ap (λ (t : Bool). cond t (take (length (b ∷ bs) - 1) (b ∷ bs)) (b ∷ bs))
+    (ne_eqb (slice_index (b ∷ bs) (length (b ∷ bs) - 1)) 13 (λ e. omega (arith, last, e)))
 
 -- the parts between line feeds
 parts-ended : (lines : List (List ℕ)) (rest : List ℕ) → AllByRecursion HasNoControl lines → HasNoControl rest
     → slice_split (λ b. b == 10) (ended lines ++ rest) ≡ lines ++ rest ∷ []
-parts-ended [] rest clean last = slice_split_none (λ b. b == 10) rest (All-from_recursion (λ (b : ℕ). (b == 10) ≡ false) rest (no_feed rest last))
+parts-ended [] rest clean last =
+    slice_split_none (λ b. b == 10) rest (All-from_recursion (λ (b : ℕ). (b == 10) ≡ false) rest (no_feed rest last))
 parts-ended (line ∷ lines) rest clean last =
     ap (slice_split (λ b. b == 10)) (append_assoc (line ++ 10 ∷ []) (ended lines) rest ∙ append_assoc line (10 ∷ []) (ended lines ++ rest))
     ∙ slice_split_at (λ b. b == 10) line 10 (ended lines ++ rest)
@@ -137,9 +140,14 @@ begun-told : (shape : Shape) (run : List Emission) (line : List ℕ) (id : Recor
     → (line ≡ told_by shape is.emission) × (id ≡ is.emission.id)
 begun-told shape run line id is told =
     let live = told_id-is line id told in
-    let none : is.left ≡ [] = no_more live.0 (live_of shape is.emission) is.left live.1 is.live (ap (λ l. l ++ is.left) live.3 ∙ is.whole) in
+    let none : is.left ≡ [] =
+    no_more live.0 (live_of shape is.emission) is.left live.1 is.live (ap (λ l. l ++ is.left) live.3 ∙ is.whole) in
     let whole : line ≡ told_by shape is.emission = sym (append-nil line) ∙ ap (λ l. line ++ l) (sym none) ∙ is.whole in
     (whole, some_same id is.emission.id (sym told ∙ ap told_id whole ∙ told_id-own (live_of shape is.emission) is.live))
+
+-- the live lines, where the first line tells this
+abbrev told_as : ℕ → List ℕ → Option RecordId → List Telling → List Telling
+told_as n text o rest = option_map_or (λ (id : RecordId). (id, record { line = n; text = text }) ∷ rest) o rest
 
 -- what is told of lines that begin live lines are results
 tellings-results : (shape : Shape) (run : List Emission) (n : ℕ) (lines : List (List ℕ)) → IsStrictlySortedBy id_cmp (ids_of run)
@@ -149,7 +157,8 @@ tellings-results shape run n (line ∷ lines) ascend begun =
     by_told (told_id line) refl (tellings-results shape run (n + 1) lines ascend begun.1)
   where
     by_told : (o : Option RecordId) → told_id line ≡ o → AllByRecursion (IsResult shape run) (tellings_from (n + 1) lines)
-        → AllByRecursion (IsResult shape run) (option_map_or (λ (id : RecordId). (id, record { line = n; text = line }) ∷ tellings_from (n + 1) lines) o (tellings_from (n + 1) lines))
+        → AllByRecursion (IsResult shape run)
+        (told_as n line o (tellings_from (n + 1) lines))
     by_told None told rest = rest
     by_told (Some id) told rest =
         let is = begun-told shape run line id begun.0 told in (
@@ -163,7 +172,7 @@ told-found : (n : ℕ) (lines : List (List ℕ)) (line : List ℕ) (id : RecordI
     → IsSome (first_with id (tellings_from n lines))
 told-found n [] line id told (k, within, is) = absurd (omega (arith, within))
 told-found n (x ∷ xs) line id told (zero, within, is) =
-    subst (λ (o : Option RecordId). IsSome (first_with id (option_map_or (λ (i : RecordId). (i, record { line = n; text = x }) ∷ tellings_from (n + 1) xs) o (tellings_from (n + 1) xs))))
+    subst (λ (o : Option RecordId). IsSome (first_with id (told_as n x o (tellings_from (n + 1) xs))))
     (sym (ap told_id is ∙ told))
     (subst (λ (b : Bool). IsSome (cond b (Some (record { line = n; text = x })) (first_with id (tellings_from (n + 1) xs))))
     (sym (ap is_eq (tied_itself id_cmp-total id))) refl)
@@ -175,7 +184,8 @@ told-found n (x ∷ xs) line id told (suc k, within, is) =
     by_test false h o some = some
 
     by_told : (o : Option RecordId) → IsSome (first_with id (tellings_from (n + 1) xs))
-        → IsSome (first_with id (option_map_or (λ (i : RecordId). (i, record { line = n; text = x }) ∷ tellings_from (n + 1) xs) o (tellings_from (n + 1) xs)))
+        → IsSome
+        (first_with id (told_as n x o (tellings_from (n + 1) xs)))
     by_told None some = some
     by_told (Some i) some = by_test (is_at (id_cmp id) i) (record { line = n; text = x }) (first_with id (tellings_from (n + 1) xs)) some
 
@@ -223,7 +233,8 @@ made-results shape history lines text is =
     (each-append (IsBegun shape run) lines (last_line is.rest) is.each is.last))
 
 -- no live line of such a text differs from an earlier one of its id
-pub covers-agrees : (shape : Shape) (history : List Entry) (place : ℕ) (text : List ℕ) (why : CollectRefusal) → Covers shape history place text
+pub covers-agrees : (shape : Shape) (history : List Entry) (place : ℕ) (text : List ℕ) (why : CollectRefusal)
+    → Covers shape history place text
     → WhyNot text why → why ≡ NoMemory
 covers-agrees shape history place text NoMemory covers why = refl
 covers-agrees shape history place text (Differs line first) covers why =
@@ -236,13 +247,15 @@ covers-agrees shape history place text (Differs line first) covers why =
     absurd (why.differs (some_same why.held why.text (sym held ∙ this)))
   where
     one_of : (before : List Telling)
-        → AllByRecursion (IsResult shape (run_of shape history).emissions) (before ++ (why.id, record { line = line; text = why.text }) ∷ why.after)
+        → AllByRecursion (IsResult shape (run_of shape history).emissions)
+        (before ++ (why.id, record { line = line; text = why.text }) ∷ why.after)
         → lookup (is_at (id_cmp why.id)) (by_id shape (run_of shape history).emissions) ≡ Some why.text
     one_of [] each = each.0
     one_of (x ∷ xs) each = one_of xs each.1
 
 -- each result of which the line stands in the text is found
-stand-found : (shape : Shape) (run : List Emission) (lines : List (List ℕ)) (text : List ℕ) (es : List Emission) → IsMadeOf shape run lines text
+stand-found : (shape : Shape) (run : List Emission) (lines : List (List ℕ)) (text : List ℕ) (es : List Emission)
+    → IsMadeOf shape run lines text
     → StandIn shape lines es → AllByRecursion (λ (e : Emission). IsSome (first_with e.id (tellings text))) es
 stand-found shape run lines text es is stand =
     each-weaker (λ (e : Emission). Contains lines (told_by shape e) × IsLive (live_of shape e))
@@ -306,12 +319,14 @@ covers-collects shape history place text texts others covers all collected =
 
 -- what was found under an id is what the text tells first under it, and that is the result with that id
 found-by_id : (shape : Shape) (history : List Entry) (place : ℕ) (text : List ℕ) (texts : List (List ℕ)) (others : ℕ)
-    → Covers shape history place text → (collected : IsCollected text texts others) → (id : RecordId) (h : Held) → first_with id (tellings text) ≡ Some h
+    → Covers shape history place text → (collected : IsCollected text texts others) → (id : RecordId) (h : Held)
+    → first_with id (tellings text) ≡ Some h
     → lookup (is_at (id_cmp id)) (unnumbered collected.found) ≡ lookup (is_at (id_cmp id)) (by_id shape (run_of shape history).emissions)
 found-by_id shape history place text texts others covers collected id h is =
     lookup-unnumbered (is_at (id_cmp id)) collected.found
     ∙ ap (option_map (λ (h : Held). h.text)) (collected.each id ∙ is)
-    ∙ sym (found-result shape (run_of shape history).emissions (tellings text) id h (made-results shape history covers.lines text covers.made) is)
+    ∙ sym (found-result shape (run_of shape history).emissions (tellings text) id h
+    (made-results shape history covers.lines text covers.made) is)
 
 -- the collected texts are those that were found
 texts-found : (text : List ℕ) (texts : List (List ℕ)) (others : ℕ) (collected : IsCollected text texts others)
@@ -320,18 +335,23 @@ texts-found text texts others collected = texts-unnumbered collected.found ∙ s
 
 -- each result of the beginning is collected
 pub covers-part : (shape : Shape) (history : List Entry) (place : ℕ) (text : List ℕ) (texts : List (List ℕ)) (others : ℕ)
-    → Covers shape history place text → IsCollected text texts others → AllByRecursion (Contains texts) (results_of shape (take place history))
+    → Covers shape history place text → IsCollected text texts others
+    → AllByRecursion (Contains texts) (results_of shape (take place history))
 covers-part shape history place text texts others covers collected =
     let run = (run_of shape history).emissions in
     let es = emitted_by shape history place in
     let grows = emitted-grows shape history place in
     each-map (Contains texts) (told_by shape) es
-    (each-weaker (λ (e : Emission). Contains es e × IsSome (first_with e.id (tellings text))) (λ (e : Emission). Contains texts (told_by shape e))
-    (λ e both. of_found e (subst (λ l. Contains l e) grows.1 (Contains-append_left es grows.0 e both.0)) (first_with e.id (tellings text)) refl both.1) es
-    (each-both (Contains es) (λ (e : Emission). IsSome (first_with e.id (tellings text))) es (recursion_from_All (Contains es) es (All-contains_itself es))
+    (each-weaker (λ (e : Emission). Contains es e × IsSome (first_with e.id (tellings text)))
+    (λ (e : Emission). Contains texts (told_by shape e))
+    (λ e both. of_found e (subst (λ l. Contains l e) grows.1 (Contains-append_left es grows.0 e both.0))
+    (first_with e.id (tellings text)) refl both.1) es
+    (each-both (Contains es) (λ (e : Emission). IsSome (first_with e.id (tellings text))) es
+    (recursion_from_All (Contains es) es (All-contains_itself es))
     (stand-found shape run covers.lines text es covers.made covers.all)))
   where
-    of_found : (e : Emission) → Contains (run_of shape history).emissions e → (o : Option Held) → first_with e.id (tellings text) ≡ o → IsSome o
+    of_found : (e : Emission) → Contains (run_of shape history).emissions e → (o : Option Held) → first_with e.id (tellings text) ≡ o
+        → IsSome o
         → Contains texts (told_by shape e)
     of_found e there None is some = absurd (none_there None refl some)
     of_found e there (Some h) is some =
