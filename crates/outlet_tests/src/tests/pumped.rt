@@ -265,6 +265,23 @@ const CALLS: &[(u64, u32)] = &[
     (24, 0),
 ];
 
+// The sink that fails at this call, once all is pumped into it.
+fn sink_after(
+    alloc: Global,
+    case: &Case,
+    history: &History,
+    goes_back: bool,
+    call: u64,
+) -> Result<MemSink, NoMemory>
+    requires { IsPrintable case.now.topology history.now }
+{
+    let mut out = failing(alloc, call)?;
+    match pump(alloc, case, history, goes_back, &mut out) {
+        Ok(()) => Ok(out),
+        Err(_) => Err(NoMemory),
+    }
+}
+
 // Whether the text collects to the two lines where the sink fails at this call.
 fn collects_after(
     alloc: Global,
@@ -276,10 +293,7 @@ fn collects_after(
 ) -> Result<bool, NoMemory>
     requires { IsPrintable case.now.topology history.now }
 {
-    let mut out = failing(alloc, call)?;
-    if pump(alloc, case, history, goes_back, &mut out).is_err() {
-        return Err(NoMemory);
-    }
+    let out = sink_after(alloc, case, history, goes_back, call)?;
     collects(alloc, out.text(), others)
 }
 
@@ -304,10 +318,7 @@ fn each_collects(
 fn is_written(alloc: Global, case: &Case, history: &History) -> Result<bool, NoMemory>
     requires { IsPrintable case.now.topology history.now }
 {
-    let mut out = failing(alloc, u64::MAX)?;
-    if pump(alloc, case, history, false, &mut out).is_err() {
-        return Err(NoMemory);
-    }
+    let out = sink_after(alloc, case, history, false, u64::MAX)?;
     Ok(out.text() == LINES)
 }
 
@@ -322,11 +333,18 @@ fn holds_of(alloc: Global, case: &Case, history: &History, at: u32) -> Result<bo
     }
 }
 
+// The same, in a case of its topology.
+fn holds_in(alloc: Global, case: &Case, at: u32) -> Result<bool, NoMemory>
+    requires { case.now.topology ≡ one_count 60 }
+{
+    let history = history(alloc)?;
+    holds_of(alloc, case, &history, at)
+}
+
 // The same, with the one case.
 fn holds(alloc: Global, at: u32) -> Result<bool, NoMemory> {
     let case = case(alloc)?;
-    let history = history(alloc)?;
-    holds_of(alloc, &case, &history, at)
+    holds_in(alloc, &case, at)
 }
 
 #[test]
