@@ -132,9 +132,12 @@ def held_by_another(room: Room) -> None:
     refused(room, "another process holds the file", "timed")
     holder.communicate()
     wrong = [] if rows_in(room.path("timed")) == room.rows else ["other rows"]
-    first = room.start("twice")
-    time.sleep(room.seconds / 4)
+    first, log = room.start("twice"), room.path("twice-wal")
+    while first.poll() is None and (not os.path.exists(log) or os.path.getsize(log) < 1 << 16):
+        time.sleep(0.001)
+    first.send_signal(signal.SIGSTOP)
     second = end_of(room.start("twice"))
+    first.send_signal(signal.SIGCONT)
     room.tell("a second run at once", {(7, FAILED)}, [second], wrong, "as it was")
     ended = end_of(first)
     is_whole = rows_in(room.path("twice")) == room.rows
