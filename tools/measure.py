@@ -5,7 +5,8 @@
 
 makes the inputs in a temporary folder, runs `PROGRAM solo TOPOLOGY EVENTS` over each with 4 GiB of memory at most,
 and prints processor seconds (the least of three runs), peak memory in MiB and the exit status; beside it the same of
-each OTHER program, and whether all wrote the same text. Another build comes from an older commit:
+`PROGRAM plain` and of each OTHER program, and whether all wrote the same text. `plain` should take a third of `solo`
+at most. Another build comes from an older commit:
 
     git worktree add ../older COMMIT && (cd ../older && tools/build.sh)
     tools/measure.py crates/millwheel/out/millwheel ../older/crates/millwheel/out/millwheel
@@ -20,6 +21,7 @@ import sys
 import tempfile
 
 RUNS = 3
+MODES = ("solo", "plain")
 MEMORY = 4 << 30
 
 # name, lines, keys, size of a window, and the timestamp of a line by its number
@@ -57,10 +59,10 @@ def make(room, entry):
     return topology, events
 
 
-def run(program, topology, events):
+def run(program, mode, topology, events):
     """One run: processor seconds, peak memory in MiB, exit status, and a sum of the text."""
     child = subprocess.Popen(
-        [program, "solo", topology, events],
+        [program, mode, topology, events],
         stdout=subprocess.PIPE,
         stderr=subprocess.DEVNULL,
         preexec_fn=lambda: resource.setrlimit(resource.RLIMIT_AS, (MEMORY, MEMORY)),
@@ -71,20 +73,20 @@ def run(program, topology, events):
 
 
 def main():
-    programs = sys.argv[1:]
-    if not programs:
+    words = [(os.path.abspath(program), mode) for program in sys.argv[1:] for mode in MODES]
+    if not words:
         sys.exit(__doc__)
     for entry in INPUTS:
         with tempfile.TemporaryDirectory() as room:
             topology, events = make(room, entry)
-            runs = [[] for _ in programs]
+            runs = [[] for _ in words]
             for _ in range(RUNS):
-                for program, seen in zip(programs, runs):
-                    seen.append(run(os.path.abspath(program), topology, events))
+                for (program, mode), seen in zip(words, runs):
+                    seen.append(run(program, mode, topology, events))
         columns = []
-        for seen in runs:
+        for (_, mode), seen in zip(words, runs):
             seconds = min(one[0] for one in seen)
-            columns.append("%6.2f s %6.0f MiB status %d" % (seconds, max(one[1] for one in seen), seen[0][2]))
+            columns.append("%s %6.2f s %6.0f MiB status %d" % (mode, seconds, max(one[1] for one in seen), seen[0][2]))
         done = {one[3] for seen in runs for one in seen if one[2] == 0}
         same = "" if len(done) <= 1 else "   TEXTS DIFFER"
         print("%-52s %s%s" % (entry[0], "   ".join(columns), same), flush=True)

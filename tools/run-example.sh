@@ -12,7 +12,7 @@ fi
 mode=solo folder=examples files=(t.json e) options=()
 for word in "$@"; do
     case "$word" in
-    requests) folder=crates/millwheel/data files=(topology.json front1.jsonl front2.jsonl) ;;
+    requests) folder=crates/millwheel_in_memory/data files=(topology.json front1.jsonl front2.jsonl) ;;
     --plan | --plan=*) mode=replay options+=("$word") ;;
     *) options+=("$word") ;;
     esac

@@ -7,7 +7,7 @@ cd "$(dirname "$0")"
 ./make-logs.py
 for front in front1 front2; do
     jq -cR -f to-events.jq $front.log > $front.jsonl
-    cmp $front.jsonl ../../crates/millwheel/data/$front.jsonl
+    cmp $front.jsonl ../../crates/millwheel_in_memory/data/$front.jsonl
 done
 "$program" solo topology.json front1.jsonl front2.jsonl | cmp - expected.jsonl
 echo "the text is expected.jsonl"

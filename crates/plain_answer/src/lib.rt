@@ -11,6 +11,7 @@
 #![tactic(auto)]
 
 mod examples;
+mod given;
 mod law;
 mod sends;
 mod spikes;
@@ -24,7 +25,8 @@ pub use examples::{
     two_readings_are_two_members, two_windows_are_counted,
 };
 pub use law::{
-    a_case_has_one_plain_text, finished_runs_write_one_text, results_are_the_plain_count,
+    a_case_has_one_plain_text, cuts_follow_readings, finished_runs_write_one_text,
+    plain_counts_split_by_key, plain_texts_split, results_are_the_plain_count,
 };
 pub use text::plain_text;
 pub use windows::windows_of;

@@ -1,5 +1,5 @@
 //! What a spike gives of all that it reads.
-ghost use Rattle.std.specs.Prelude.{ℕ, ◌≡◌, ◌≤◌, ◌≤ℤ◌, ◌+ℤ◌, ◌*ℤ◌, ◌^◌, ◌++◌, ◌∷◌, [], pos, neg_ℤ, int_lt, fold, length, IfOk, OnOk};
+ghost use Rattle.std.specs.Prelude.{◌≡◌, ◌≤◌, ◌≤ℤ◌, ◌+ℤ◌, ◌*ℤ◌, ◌^◌, ◌++◌, ◌∷◌, [], pos, neg_ℤ, int_lt, fold, length, IfOk, OnOk};
 ghost use Rattle.std.specs.BTreeMap.{insert_entry};
 ghost use Rattle.std.specs.List.Sorted.{IsPermutation};
 ghost use Rattle.mw_types.specs.declared.kind.Kind.TheVariants.{Spike};
@@ -8,7 +8,8 @@ ghost use Rattle.plain_answer.specs.Plain.{fires_of, plain_of};
 ghost use Rattle.plain_answer.specs.Spiked.{greater_at, known_of, noted_of, noted_with, spike_given, spike_of, spikes_along};
 ghost use Rattle.plain_answer.specs.Tallies.{window_cmp};
 
-use mw_types::{Duplicate, Key, NoMemory, Record};
+use crate::given::Given;
+use mw_types::{Duplicate, Key, NoMemory, Record, Seq};
 use std::alloc::Global;
 use std::collections::BTreeMap;
 
@@ -16,29 +17,26 @@ use std::collections::BTreeMap;
 type Places = BTreeMap<(Key, u64), i64>;
 
 // What a spike that compares so many values by this factor gives of all the members that it reads,
-// each with the key of the row that reads it. For a time past the greatest there is no memory.
+// each with the key of the row that reads it, and how often it fires: once a place. For a time past
+// the greatest there is no memory.
 pub(crate) fn spikes_of(
     alloc: Global,
     last: u32,
     times: u32,
     members: &[(Key, Record)],
-) -> Result<Vec<Record>, NoMemory>
+) -> Result<Given, NoMemory>
     requires last { last ≤ 64 }
     requires times { times ≤ 1000 }
-    ensures spikes { IfOk result (λ records.
-        IsPermutation (plain_of (Spike last times) members.now) records.items) }
+    ensures spikes { IfOk result (λ given.
+        IsPermutation (plain_of (Spike last times) members.now) given.records) }
+    ensures fires { IfOk result (λ given. given.fires ≡ fires_of (Spike last times) members.now) }
 {
     let places = places(alloc, members)?;
-    given(alloc, last, times, &places)
-}
-
-// How often a spike fires, whatever it compares: once a place.
-pub(crate) fn fires_of(alloc: Global, members: &[(Key, Record)]) -> Result<usize, NoMemory>
-    ensures fires { (last times : ℕ) →
-        IfOk result (λ fires. fires ≡ fires_of (Spike last times) members.now) }
-{
-    let places = places(alloc, members)?;
-    Ok(places.len())
+    let spikes = spikes(alloc, last, times, &places)?;
+    Ok(Given {
+        records: Seq::from_vec(spikes),
+        fires: places.len() as u64,
+    })
 }
 
 // The places of the members in time.
@@ -83,7 +81,7 @@ fn greater(places: &Places, place: &(Key, u64), value: i64) -> i64
 }
 
 // The spikes along the places.
-fn given(alloc: Global, last: u32, times: u32, places: &Places) -> Result<Vec<Record>, NoMemory>
+fn spikes(alloc: Global, last: u32, times: u32, places: &Places) -> Result<Vec<Record>, NoMemory>
     requires last { last ≤ 64 }
     requires times { times ≤ 1000 }
     ensures { IfOk result (λ records.

@@ -1,7 +1,7 @@
 use Rattle.std.proofs.Common.{[]}
 use Rattle.plain_answer.specs.Spiked.{spikes_along}
 use Rattle.plain_answer.proofs.Noting.{along-step}
-use Rattle.plain_answer.proofs.spikes.given.Goals as goal
+use Rattle.plain_answer.proofs.spikes.spikes.Goals as goal
 
 -- one place further along
 pub loop-place-preserved : goal.loop-place-preserved

@@ -1,6 +1,6 @@
 use Rattle.std.proofs.Common.{◌≡◌, ◌++◌, []}
 use Rattle.plain_answer.specs.Spiked.{spikes_along}
-use Rattle.plain_answer.proofs.spikes.given.Given as goal
+use Rattle.plain_answer.proofs.spikes.spikes.Given as goal
 
 -- the records so far, and those of what is left, are those of all
 abbrev pub invariant-loop-place : goal.invariant-loop-place
