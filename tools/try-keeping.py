@@ -4,7 +4,7 @@
 A run is killed at twenty moments, its disk is full at several sizes, another process holds its file, its file is none.
 Each row of the table that it prints says how often, the statuses, and what stood afterwards; it ends with status 1 where
 a status is another, or where a file that was kept does not open or holds rows of no beginning of its run. It is no part
-of the gate, and takes some minutes.
+of the gate, and takes half a minute.
 """
 import contextlib
 import os
@@ -18,7 +18,7 @@ import tempfile
 import time
 from typing import Callable
 
-from faults import EXAMPLES, Rows, entries_held, held_wrong, history_of, rows_in, run
+from faults import EXAMPLES, entries_held, held_wrong, history_of, rows_in, run
 
 LINES, KEYS = 3_000, 50
 TIMES = 20
