@@ -66,7 +66,7 @@ def sweep(program: str, words: list[str], kinds: list[str], library: str, store:
             ended = run([program, *kept], library, **{kind: form})
             why = fault_in(kind, ended, whole, bool(store))
             if store and not why and os.path.exists(store):
-                why = held_wrong(line, store, history)
+                why = held_wrong(line, store, history, ended.status)
             ends[ended.status] += 1
             wrong += ["%s=%s: %s" % (kind, form, why)] if why else []
         found.append((kind, many, ends, wrong))

@@ -4,7 +4,7 @@
 A run is killed at twenty moments, its disk is full at several sizes, another process holds its file, its file is none.
 Each row of the table that it prints says how often, the statuses, and what stood afterwards; it ends with status 1 where
 a status is another, or where a file that was kept does not open or holds rows of no beginning of its run. It is no part
-of the gate, and takes some minutes.
+of the gate, and takes half a minute.
 """
 import contextlib
 import os
@@ -18,7 +18,7 @@ import tempfile
 import time
 from typing import Callable
 
-from faults import EXAMPLES, Rows, entries_held, held_wrong, history_of, rows_in, run
+from faults import EXAMPLES, entries_held, held_wrong, history_of, rows_in, run
 
 LINES, KEYS = 3_000, 50
 TIMES = 20
@@ -85,7 +85,7 @@ def kills(room: Room) -> None:
         started.kill()
         ended.append(end_of(started))
         if os.path.exists(room.path(name)):
-            wrong.append(held_wrong(room.words, room.path(name), room.history))
+            wrong.append(held_wrong(room.words, room.path(name), room.history, ended[-1][0]))
             held.append(entries_held(rows_in(room.path(name)), room.history))
     after = "rows of the first %d to %d of %d entries" % (min(held), max(held), len(room.history))
     room.tell("`kill -9`", {(-9, ""), (0, "")}, ended, wrong, after)
@@ -100,7 +100,7 @@ def full(room: Room, what: str, folder: str, runs: Callable[[str, int], tuple[in
         for end in ("", "-wal"):
             if os.path.exists(room.path(name) + end):
                 shutil.move(room.path(name) + end, room.path(copy) + end)
-        wrong.append(held_wrong(room.words, room.path(copy), room.history))
+        wrong.append(held_wrong(room.words, room.path(copy), room.history, ended[-1][0]))
         held.append(entries_held(rows_in(room.path(copy)), room.history))
     after = "rows of the first %s of %d entries" % (", ".join(map(str, held)), len(room.history))
     room.tell(what, {(7, FAILED), (0, "")}, ended, wrong, after)
@@ -132,9 +132,12 @@ def held_by_another(room: Room) -> None:
     refused(room, "another process holds the file", "timed")
     holder.communicate()
     wrong = [] if rows_in(room.path("timed")) == room.rows else ["other rows"]
-    first = room.start("twice")
-    time.sleep(room.seconds / 4)
+    first, log = room.start("twice"), room.path("twice-wal")
+    while first.poll() is None and (not os.path.exists(log) or os.path.getsize(log) < 1 << 16):
+        time.sleep(0.001)
+    first.send_signal(signal.SIGSTOP)
     second = end_of(room.start("twice"))
+    first.send_signal(signal.SIGCONT)
     room.tell("a second run at once", {(7, FAILED)}, [second], wrong, "as it was")
     ended = end_of(first)
     is_whole = rows_in(room.path("twice")) == room.rows
