@@ -16,17 +16,17 @@ use Rattle.run_history.specs.Runs.{run_of, row_of}
 use Rattle.run_history.specs.Legal.{IsLegal, IsDone}
 use Rattle.history_laws.proofs.RowSteps.{row_of-each}
 use Rattle.list_lemmas.proofs.Lists.{none_some}
+use Rattle.list_lemmas.proofs.Filters.{by_keys}
+use Rattle.list_lemmas.proofs.Totals.{HaveSameTotals, totals-permuted}
 use Rattle.plain_answer.specs.Deeds.{Deed, fired_at, taken_into, open_window, deeds_of}
 use Rattle.plain_answer.specs.Plain.{Keyed, plain_of}
 use Rattle.plain_answer.specs.Stories.{done_of, out_of}
 use Rattle.plain_answer.proofs.Closing.{at_place, count_at, counted_at, closed, key-itself, legal-closed}
-use Rattle.plain_answer.proofs.Filters.{by_keys}
 use Rattle.plain_answer.proofs.Members.{out_at}
 use Rattle.plain_answer.proofs.Opening.{window-open}
 use Rattle.plain_answer.proofs.PlainCounts.{into, plain-at}
 use Rattle.plain_answer.proofs.Taking.{reads_done, taken-reads}
 use Rattle.plain_answer.proofs.Timing.{no-window}
-use Rattle.plain_answer.proofs.Totals.{HaveSameTotals, totals-permuted}
 
 -- where no window is open, each that has something fired
 closed-done : (size : ℕ) (key : List ℕ) (end : ℕ) (deeds : List Deed) → open_window size end deeds ≡ None

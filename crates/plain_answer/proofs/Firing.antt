@@ -12,6 +12,7 @@ use Rattle.run_history.specs.Made.{produced, late_cause}
 use Rattle.run_history.specs.Runs.{Run, run_of, row_of}
 use Rattle.run_history.specs.Legal.{MayFollow, IsLegal}
 use Rattle.list_lemmas.proofs.Places.{each-at}
+use Rattle.list_lemmas.proofs.Totals.{total, total-push}
 use Rattle.plain_answer.specs.Deeds.{windows_after, deeds_of}
 use Rattle.plain_answer.specs.Stories.{added_by, out_of, fires_on}
 use Rattle.plain_answer.proofs.Closing.{record-nothing}
@@ -20,7 +21,6 @@ use Rattle.plain_answer.proofs.Members.{out_at, out_at-append, added-here, added
 use Rattle.plain_answer.proofs.Passing.{kind-at, record-left, timer-left}
 use Rattle.plain_answer.proofs.Setting.{IsSet, legal-set, found-window}
 use Rattle.plain_answer.proofs.Stories.{out-push, along_legal}
-use Rattle.plain_answer.proofs.Totals.{total, total-push}
 
 -- a window that is found is one record
 closing-one : (key : List ℕ) (late : ℕ) (ws : List Window) (late_now : Bool) (due : Option Window) (w : Window) → due ≡ Some w

@@ -16,9 +16,9 @@ use Rattle.run_history.specs.Legal.{MayFollow, IsLegal}
 use Rattle.history_laws.specs.Ids.{is_left}
 use Rattle.history_laws.proofs.IdLaws.{passes_once, legal-ids}
 use Rattle.list_lemmas.proofs.Lists.{none_some, some_same, each-weaker, filter-all}
+use Rattle.list_lemmas.proofs.Totals.{total, total-append}
 use Rattle.plain_answer.specs.Stories.{handled_by, done_of}
 use Rattle.plain_answer.proofs.Stories.{run-push, done-push, along_legal}
-use Rattle.plain_answer.proofs.Totals.{total, total-append}
 
 -- what is found under its id, and the others
 taken-out : (id : RecordId) (f : Delivery → ℕ) (xs : List Delivery) (d : Delivery) → IsStrictlySortedBy delivery_cmp xs

@@ -1,5 +1,5 @@
 -- What a kind gives of a shard is what it gives of all that is in the shard.
-use Rattle.std.proofs.Common.{◌≡◌, ℕ, ◌<◌, ◌==◌, true, false, cond, List, [], ◌∷◌, ◌++◌, length, map, ℤ, refl, sym, ◌∙◌, ap, subst}
+use Rattle.std.proofs.Common.{◌≡◌, ℕ, ◌<◌, ◌==◌, true, false, cond, List, [], ◌∷◌, length, map, ℤ, refl, sym, ◌∙◌, ap, subst}
 use Rattle.std.specs.Prelude.{nat_eq}
 use Rattle.std.specs.List.{AllByRecursion, flat_map, range_with_len}
 use Rattle.std.specs.List.Sorted.{IsPermutation}
@@ -8,15 +8,15 @@ use Rattle.mw_types.specs.declared.kind.Kind.{Kind}
 use Rattle.mw_types.specs.declared.kind.Kind.TheVariants as kinds
 use Rattle.mw_types.specs.declared.record.Record.{Record}
 use Rattle.list_lemmas.proofs.Lists.{each-map, each-all}
+use Rattle.list_lemmas.proofs.Numbered.{numbered-total, map-flat_map}
+use Rattle.list_lemmas.proofs.Totals.{total, total-same, total-zero, total-length, HaveSameTotals}
 use Rattle.plain_answer.specs.Plain.{Keyed, once_each, plain_end, windows_in, places_in, spikes_in, plain_of, fires_of}
 use Rattle.plain_answer.specs.Splits.{Split, reads_in, records_in}
 use Rattle.plain_answer.proofs.Closing.{count_at}
-use Rattle.plain_answer.proofs.Members.{map-append}
 use Rattle.plain_answer.proofs.Moved.{windows-fire, places-long}
 use Rattle.plain_answer.proofs.PlainCounts.{in_window}
-use Rattle.plain_answer.proofs.Shards.{shards-total, shards-same, of_rows, rows-in, rows-split, rows-long}
+use Rattle.plain_answer.proofs.Shards.{shards-same, of_rows, rows-in, rows-split, rows-long}
 use Rattle.plain_answer.proofs.SpikePlain.{spikes-key}
-use Rattle.plain_answer.proofs.Totals.{total, total-same, total-zero, total-length, HaveSameTotals}
 
 -- a window has its row's key
 windows-key : (size : ℕ) (key : List ℕ) (items : List Record)
@@ -63,11 +63,6 @@ plain_of-in (kinds.Spike last times) split shard reads each =
     split shard reads
 plain_of-in kinds.Pass split shard reads each = λ g. ap (total g) (passes-in split shard reads each)
 
--- an image of joined lists
-map-flat_map : {A X Y : Type 0} (f : X → Y) (h : A → List X) (xs : List A) → map f (flat_map h xs) ≡ flat_map (λ a. map f (h a)) xs
-map-flat_map f h [] = refl
-map-flat_map f h (x ∷ xs) = map-append f (h x) (flat_map h xs) ∙ ap (λ l. map f (h x) ++ l) (map-flat_map f h xs)
-
 -- what a kind gives is what it gives of the shards
 pub plain_of-split : (kind : Kind) (split : Split) (n : ℕ) (reads : List Keyed) → ((key : List ℕ) → split key < n)
     → IsPermutation (plain_of kind reads) (flat_map (λ shard. plain_of kind (reads_in split shard reads)) (range_with_len 0 n))
@@ -105,5 +100,5 @@ pub reads-split : (split : Split) (n : ℕ) (reads : List Keyed) → ((key : Lis
 reads-split split n reads within =
     total-same (λ shard. length (reads_in split shard reads)) (λ shard. total (λ (m : Keyed). 1) (reads_in split shard reads))
     (range_with_len 0 n) (λ shard. sym (total-length (reads_in split shard reads)))
-    ∙ shards-total (λ (m : Keyed). 1) (λ (m : Keyed). split m.0) n reads (λ m. within m.0)
+    ∙ numbered-total (λ (m : Keyed). 1) (λ (m : Keyed). split m.0) n reads (λ m. within m.0)
     ∙ total-length reads

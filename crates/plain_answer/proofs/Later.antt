@@ -5,10 +5,10 @@ use Rattle.mw_types.specs.declared.record.Record.{Record}
 use Rattle.topology.specs.Shapes.{ComputationShape, injectors_of, parts_of}
 use Rattle.run_history.specs.Cases.{CaseShape}
 use Rattle.run_history.specs.Inputs.{IsRunnable}
+use Rattle.list_lemmas.proofs.Totals.{total, total-same, total-zero, HaveSameTotals}
 use Rattle.plain_answer.specs.Plain.{members_read, plain_of, streams_with, plain_streams}
 use Rattle.plain_answer.proofs.Making.{AreMadeTo, moved-read}
 use Rattle.plain_answer.proofs.Parts.{of_member, stream_total-push, members-total, later-unread}
-use Rattle.plain_answer.proofs.Totals.{total, total-same, total-zero, HaveSameTotals}
 
 module _ (case : CaseShape) (runs : IsRunnable case) where
   -- one more stream is not read by what is before it

@@ -1,11 +1,9 @@
-pub mod Totals
 pub mod Stories
 pub mod Handled
 pub mod Sent
 pub mod Members
 pub mod Injected
 pub mod Passing
-pub mod Filters
 pub mod Counting
 pub mod Timing
 pub mod Grading

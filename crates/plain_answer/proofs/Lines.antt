@@ -1,5 +1,5 @@
 -- Lists with the same totals are permutations, and so the lines of a history are the plain ones.
-use Rattle.std.proofs.Common.{◌≡◌, ℕ, zero, suc, ◌+◌, Bool, true, false, cond, List, [], ◌∷◌, length, map, filter, refl, sym, ◌∙◌, ap, arith}
+use Rattle.std.proofs.Common.{◌≡◌, ℕ, ◌+◌, true, List, [], ◌∷◌, map, refl, sym, ◌∙◌, ap, arith}
 use Rattle.std.specs.List.{flat_map, enumerate_from}
 use Rattle.std.specs.List.Sorted.{IsPermutation}
 use Rattle.std.specs.Ordering.{is_eq, nat_cmp, int_cmp, ordering_then}
@@ -18,41 +18,12 @@ use Rattle.run_history.specs.Legal.{IsLegal, IsDone}
 use Rattle.run_history.specs.Texts.{ResultLine, line_of, line_cmp}
 use Rattle.history_laws.proofs.RowSteps.{both_Equal}
 use Rattle.list_lemmas.proofs.Tests.{equal_from_test}
+use Rattle.list_lemmas.proofs.Permuted.{totals-permutation}
+use Rattle.list_lemmas.proofs.Totals.{total, when, total-append, total-map, total-zero}
 use Rattle.plain_answer.specs.Plain.{plain_line, lines_unread, plain_lines, plain_streams}
 use Rattle.plain_answer.specs.Stories.{Member}
-use Rattle.plain_answer.proofs.Filters.{by_keys}
 use Rattle.plain_answer.proofs.Parts.{IsPlain, stream_total, out-plain}
 use Rattle.plain_answer.proofs.Sent.{none_reads, is_unread, emitted-total}
-use Rattle.plain_answer.proofs.Totals.{total, when, total-append, total-map, total-zero, HaveSameTotals}
-
--- ---- the same totals
-
--- some copies of one thing
-copies : {X : Type 0} → ℕ → X → List X
-copies zero x = []
-copies (suc n) x = x ∷ copies n x
-
-module _ {X : Type 0} (same : X → X → Bool) (tells : (x y : X) → same x y ≡ true → x ≡ y) (itself : (x : X) → same x x ≡ true) where
-  -- what passes as one thing are copies of it
-  filter-copies : (k : X) (xs : List X) → filter (same k) xs ≡ copies (total (λ x. when (same k x) 1) xs) k
-  unfolding copies
-  filter-copies k [] = refl
-  filter-copies k (x ∷ xs) = elim (same k x) as
-      (λ b. same k x ≡ b → cond b (x ∷ filter (same k) xs) (filter (same k) xs) ≡ copies (when b 1 + total (λ x. when (same k x) 1) xs) k) [
-        | true ↦ λ e.
-            let one_more : suc (total (λ x. when (same k x) 1) xs) ≡ 1 + total (λ x. when (same k x) 1) xs = omega arith in
-            ap (λ y. y ∷ filter (same k) xs) (sym (tells k x e)) ∙ ap (λ l. k ∷ l) (filter-copies k xs)
-            ∙ ap (λ n. copies n k) one_more
-        | false ↦ λ e.
-            let none : total (λ x. when (same k x) 1) xs ≡ 0 + total (λ x. when (same k x) 1) xs = omega arith in
-            filter-copies k xs ∙ ap (λ n. copies n k) none
-      ] refl
-
-  -- lists with the same totals have the same elements
-  pub totals-permutation : (xs ys : List X) → HaveSameTotals xs ys → IsPermutation xs ys
-  totals-permutation xs ys totals =
-      by_keys same (λ x. x) itself (length xs) xs ys (omega arith)
-      (λ k. filter-copies k xs ∙ ap (λ n. copies n k) (totals (λ x. when (same k x) 1)) ∙ sym (filter-copies k ys))
 
 -- ---- lines
 

@@ -12,13 +12,13 @@ use Rattle.topology.specs.Shapes.{Shape, ComputationShape, injectors_of, parts_o
 use Rattle.injector.specs.Sources.{Source, item_at}
 use Rattle.run_history.specs.Cases.{CaseShape, record_of, source_of}
 use Rattle.history_laws.proofs.PendingLaws.{was_some}
+use Rattle.list_lemmas.proofs.Totals.{total, when, total-sum_by, HaveSameTotals, totals-permuted}
 use Rattle.plain_answer.specs.Plain.{Keyed, members_read, plain_of, injected_of, sources_of, streams_with, plain_streams}
 use Rattle.plain_answer.specs.Stories.{Member}
 use Rattle.plain_answer.specs.Sends.{EachMoved, HaveSameSums, ArePlain, AreRead}
 use Rattle.plain_answer.proofs.Parts.{stream_total, members-total}
 use Rattle.plain_answer.proofs.Sent.{sends}
 use Rattle.plain_answer.proofs.Same.{plain_of-same}
-use Rattle.plain_answer.proofs.Totals.{total, when, total-sum_by, HaveSameTotals, totals-permuted}
 
 -- with one more
 pub moved-push : (xs ys : List (List Record)) (x y : List Record) → EachMoved xs ys → HaveSameSums x y

@@ -13,8 +13,8 @@ use Rattle.run_history.specs.Made.{row_written, productions_of, late_cause, prod
 use Rattle.run_history.specs.Runs.{Run}
 use Rattle.run_history.specs.Cases.{is_injector}
 use Rattle.history_laws.proofs.FeedLaws.{injector-no_kind}
+use Rattle.list_lemmas.proofs.Totals.{total, when, total-map, total-filter}
 use Rattle.plain_answer.specs.Stories.{Member, member_of, added_by}
-use Rattle.plain_answer.proofs.Totals.{total, when, total-map, total-filter}
 
 -- a sum over the members of one part's stream
 abbrev pub part_total : (Record → ℕ) → ℕ → List Member → ℕ

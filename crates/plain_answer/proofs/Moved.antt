@@ -15,16 +15,17 @@ use Rattle.topology.specs.Shapes.{Shape, ComputationShape, injectors_of, parts_o
 use Rattle.run_history.specs.Cases.{CaseShape}
 use Rattle.run_history.specs.Texts.{line_cmp}
 use Rattle.list_lemmas.proofs.Lists.{each-map, each-all}
+use Rattle.list_lemmas.proofs.Filters.{by_keys}
+use Rattle.list_lemmas.proofs.Permuted.{totals-permutation, permuted-length}
+use Rattle.list_lemmas.proofs.Totals.{when, total-length, total-sum_by, total-same, HaveSameTotals}
 use Rattle.plain_answer.specs.Plain.{Keyed, members_read, row_members, row_keys, windows_in, places_in, plain_of, fires_of, injected_of, sources_of, streams_with, plain_streams, plain_line, plain_lines}
 use Rattle.plain_answer.specs.Sends.{lines_in, ArePlain}
 use Rattle.plain_answer.proofs.Closing.{key-itself}
-use Rattle.plain_answer.proofs.Filters.{by_keys}
-use Rattle.plain_answer.proofs.Lines.{line_cmp-total, same-line, streams-lines, totals-permutation}
+use Rattle.plain_answer.proofs.Lines.{line_cmp-total, same-line, streams-lines}
 use Rattle.plain_answer.proofs.Making.{moved-length, moved-total, injected-length}
 use Rattle.plain_answer.proofs.Same.{places-any, plain_of-same}
 use Rattle.plain_answer.proofs.Sent.{is_unread}
 use Rattle.plain_answer.proofs.SpikePlain.{row-at}
-use Rattle.plain_answer.proofs.Totals.{when, total-length, total-sum_by, total-same, totals-permuted, HaveSameTotals}
 
 -- the lines of the streams that nothing reads
 pub lines-moved : (case : CaseShape) (streams : List (List Record)) → ArePlain case streams
@@ -59,10 +60,6 @@ plain-length case streams plain =
 -- a count fires as often as it gives windows
 pub windows-fire : (size : ℕ) (ms : List Keyed) → length (plain_of (kinds.Count size) ms) ≡ fires_of (kinds.Count size) ms
 windows-fire size ms = length-flat_map (λ key. windows_in size key (row_members key ms)) (row_keys ms)
-
--- what is in some order has as many
-pub permuted-length : {X : Type 0} (xs ys : List X) → IsPermutation xs ys → length ys ≡ length xs
-permuted-length xs ys moved = sym (total-length ys) ∙ sym (totals-permuted xs ys moved (λ x. 1)) ∙ total-length xs
 
 -- a place of a row, as its key
 abbrev pub placed : List Keyed → List ℕ → List (List ℕ)

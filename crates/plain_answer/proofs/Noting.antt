@@ -23,19 +23,18 @@ use Rattle.row_parts.specs.Contents.{put_in}
 use Rattle.run_history.proofs.Lookups.{sorted-insert_entry}
 use Rattle.computations.specs.Handlers.{known_with}
 use Rattle.list_lemmas.proofs.Lists.{each-map, each-all}
+use Rattle.list_lemmas.proofs.Filters.{by_keys, filter-map}
+use Rattle.list_lemmas.proofs.Totals.{total-length, totals-permuted, total-sum_by, total-same}
 use Rattle.plain_answer.specs.Plain.{Keyed, row_members, row_keys, places_in, sum_of_last, spike_at, spikes_in, plain_of, fires_of}
 use Rattle.plain_answer.specs.Places.{with_place, place_of}
 use Rattle.plain_answer.specs.Tallies.{window_cmp}
 use Rattle.plain_answer.specs.Spiked.{Placed, greater_at, noted_with, noted_of, known_of, spike_given, spike_of, spikes_along}
 use Rattle.plain_answer.proofs.Closing.{same-key, key-itself}
-use Rattle.plain_answer.proofs.Filters.{by_keys}
 use Rattle.plain_answer.proofs.Greatest.{places-fold}
 use Rattle.plain_answer.proofs.Members.{map-append}
-use Rattle.plain_answer.proofs.Once.{filter-map}
 use Rattle.plain_answer.proofs.Places.{lastly, lastly-push, enough-known}
 use Rattle.plain_answer.proofs.SpikePlain.{row-at, spikes-key}
 use Rattle.plain_answer.proofs.Tallying.{window_cmp-total, same-window}
-use Rattle.plain_answer.proofs.Totals.{total-length, totals-permuted, total-sum_by, total-same}
 
 -- ---- the places of one key
 

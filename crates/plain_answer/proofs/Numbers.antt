@@ -23,12 +23,12 @@ use Rattle.run_history.specs.Texts.{is_inject, is_handle, is_fire, is_late}
 use Rattle.history_laws.proofs.FeedLaws.{injector-no_kind}
 use Rattle.history_laws.proofs.PendingLaws.{kind-there, was_some}
 use Rattle.list_lemmas.proofs.Lists.{each-append}
+use Rattle.list_lemmas.proofs.Totals.{total, when, total-sum_by, total-append, total-push, total-map, total-length, total-count_by, total-each, total-same, total-swap, HaveSameTotals}
 use Rattle.plain_answer.specs.Plain.{Keyed, members_read, plain_streams, plain_members, fires_of, fired_of, handled_of, sources_of, injected_of, injected_count, late_count}
 use Rattle.plain_answer.specs.Stories.{Member, member_of, handled_by, added_by, done_of, out_of, fires_on}
 use Rattle.plain_answer.proofs.Parts.{IsPlain, stream_total, kind_of-place, reads-plain, injectors-known}
 use Rattle.plain_answer.proofs.Stories.{done-push, out-push, along_legal}
 use Rattle.plain_answer.proofs.Taking.{reads_done, reads_done-total}
-use Rattle.plain_answer.proofs.Totals.{total, when, total-sum_by, total-append, total-push, total-map, total-length, total-count_by, total-each, total-same, total-swap, HaveSameTotals}
 
 -- ---- one of some computations
 

@@ -1,41 +1,9 @@
--- What stands once each in a list, what is found of it under one key, and lists that are joined key by key.
-use Rattle.std.proofs.Common.{◌≡◌, ◌||◌, not, Bool, true, false, cond, List, [], ◌∷◌, ◌++◌, map, filter, refl, ◌∙◌, ap, subst}
-use Rattle.std.specs.List.{flat_map, list_any}
+-- What stands once each in a list, and what is found of it under one key.
+use Rattle.std.proofs.Common.{◌≡◌, ◌||◌, not, Bool, true, false, cond, List, [], ◌∷◌, filter, refl, ◌∙◌, ap, subst}
+use Rattle.std.specs.List.{list_any}
 use Rattle.std.proofs.lemmas.Bool.{both_ways}
-use Rattle.std.proofs.lemmas.List.Elements.{filter-append}
+use Rattle.list_lemmas.proofs.Filters.{filter-comm}
 use Rattle.plain_answer.specs.Plain.{once_each}
-use Rattle.plain_answer.proofs.Filters.{filter-comm}
-
--- a filter of joined lists
-pub filter-flat_map : {X Y : Type 0} (p : Y → Bool) (f : X → List Y) (xs : List X) → filter p (flat_map f xs)
-    ≡ flat_map (λ x. filter p (f x)) xs
-filter-flat_map p f [] = refl
-filter-flat_map p f (x ∷ xs) = filter-append p (f x) (flat_map f xs) ∙ ap (λ l. filter p (f x) ++ l) (filter-flat_map p f xs)
-
--- a filter of images
-pub filter-map : {X Y : Type 0} (p : Y → Bool) (f : X → Y) (xs : List X) → filter p (map f xs) ≡ map f (filter (λ x. p (f x)) xs)
-filter-map p f [] = refl
-filter-map p f (x ∷ xs) = elim (p (f x)) as
-    (λ b. cond b (f x ∷ filter p (map f xs)) (filter p (map f xs))
-    ≡ map f (cond b (x ∷ filter (λ x. p (f x)) xs) (filter (λ x. p (f x)) xs))) [
-      | true ↦ ap (λ l. f x ∷ l) (filter-map p f xs)
-      | false ↦ filter-map p f xs
-    ]
-
--- nothing passes where nothing does
-pub filter-nothing : {X : Type 0} (p : X → Bool) (xs : List X) → ((x : X) → p x ≡ false) → filter p xs ≡ []
-filter-nothing p [] fails = refl
-filter-nothing p (x ∷ xs) fails = ap (λ b. cond b (x ∷ filter p xs) (filter p xs)) (fails x) ∙ filter-nothing p xs fails
-
--- what only some keys give is what they give
-pub flat_map-filter : {X Y : Type 0} (p : X → Bool) (f : X → List Y) (xs : List X) → ((x : X) → p x ≡ false → f x ≡ [])
-    → flat_map f xs ≡ flat_map f (filter p xs)
-flat_map-filter p f [] none = refl
-flat_map-filter p f (x ∷ xs) none = elim (p x) as
-    (λ b. p x ≡ b → f x ++ flat_map f xs ≡ flat_map f (cond b (x ∷ filter p xs) (filter p xs))) [
-      | true ↦ λ e. ap (λ l. f x ++ l) (flat_map-filter p f xs none)
-      | false ↦ λ e. ap (λ l. l ++ flat_map f xs) (none x e) ∙ flat_map-filter p f xs none
-    ] refl
 
 -- ---- once each
 

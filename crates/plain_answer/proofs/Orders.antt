@@ -1,5 +1,5 @@
 -- What a fold makes of a list whatever its order, where its steps may change places.
-use Rattle.std.proofs.Common.{◌≡◌, ℕ, ◌+◌, ◌<◌, Bool, true, false, List, [], ◌∷◌, ◌++◌, fold, ℤ, refl, sym, ◌∙◌, ap, arith}
+use Rattle.std.proofs.Common.{◌≡◌, ℕ, List, [], ◌∷◌, fold, ℤ, refl, sym, ◌∙◌, ap, arith}
 use Rattle.std.specs.Int.{int_max}
 use Rattle.std.specs.Ordering.{nat_cmp, int_cmp, match_ordering, ordering_then, is_eq}
 use Rattle.std.specs.declared.cmp.Ordering.{Ordering}
@@ -9,46 +9,9 @@ use Rattle.std.proofs.lemmas.Bool.Decides.{nat_tests}
 use Rattle.std.proofs.lemmas.Int.{clamps, ints}
 use Rattle.std.proofs.lemmas.Map.Lookups.{exact_unsigned, exact_signed, exact_pairs}
 use Rattle.list_lemmas.proofs.Tests.{equal_from_test}
+use Rattle.list_lemmas.proofs.Permuted.{fold-same}
+use Rattle.list_lemmas.proofs.Totals.{HaveSameTotals}
 use Rattle.plain_answer.specs.Places.{with_place}
-use Rattle.plain_answer.proofs.Totals.{total, when, total-append, HaveSameTotals}
-
--- ---- any fold
-
-module _ {X B : Type 0} (same : X → X → Bool) (tells : (x y : X) → same x y ≡ true → x ≡ y) (itself : (x : X) → same x x ≡ true)
-    (f : B → X → B) (swaps : (b : B) (x y : X) → f (f b x) y ≡ f (f b y) x) where
-  -- an element of a list, with what is before and behind it
-  record IsWithin (x : X) (ys : List X) : Type 0 where
-    front : List X
-    back : List X
-    is : ys ≡ front ++ x ∷ back
-
-  -- what is counted in a list is one of its elements
-  within : (x : X) (ys : List X) → 0 < total (λ y. when (same x y) 1) ys → IsWithin x ys
-  within x [] some = absurd (omega (arith, some))
-  within x (y ∷ ys) some = elim (same x y) as
-      (λ b. same x y ≡ b → 0 < when b 1 + total (λ y. when (same x y) 1) ys → IsWithin x (y ∷ ys)) [
-        | true ↦ λ e s. record { front = []; back = ys; is = ap (λ z. z ∷ ys) (sym (tells x y e)) }
-        | false ↦ λ e s.
-            let rest = within x ys (omega (arith, s)) in
-            record { front = y ∷ rest.front; back = rest.back; is = ap (λ l. y ∷ l) rest.is }
-      ] refl some
-
-  -- an element may as well come first
-  fold-front : (b : B) (us : List X) (x : X) (vs : List X) → fold f b (us ++ x ∷ vs) ≡ fold f (f b x) (us ++ vs)
-  fold-front b [] x vs = refl
-  fold-front b (u ∷ us) x vs = fold-front (f b u) us x vs ∙ ap (λ c. fold f c (us ++ vs)) (swaps b u x)
-
-  -- lists with the same elements fold to the same
-  pub fold-same : (xs ys : List X) → HaveSameTotals xs ys → (b : B) → fold f b xs ≡ fold f b ys
-  fold-same [] [] totals b = refl
-  fold-same [] (y ∷ ys) totals b = absurd (omega (arith, totals (λ x. 1)))
-  fold-same (x ∷ xs) ys totals b =
-      let here : when (same x x) 1 ≡ 1 = ap (λ c. when c 1) (itself x) in
-      let some : 0 < total (λ y. when (same x y) 1) ys = omega (arith, totals (λ y. when (same x y) 1), here) in
-      let at = within x ys some in
-      fold-same xs (at.front ++ at.back)
-      (λ g. omega (arith, totals g, ap (total g) at.is, total-append g at.front (x ∷ at.back), total-append g at.front at.back)) (f b x)
-      ∙ sym (ap (fold f b) at.is ∙ fold-front b at.front x at.back)
 
 -- ---- places
 

@@ -27,6 +27,7 @@ use Rattle.run_history.specs.Legal.{MayFollow, IsLegal, IsDone}
 use Rattle.history_laws.proofs.FeedLaws.{consumers-fed, feeds-before}
 use Rattle.history_laws.proofs.PendingLaws.{kind-there, was_some}
 use Rattle.list_lemmas.proofs.Lists.{each-append, each-map, each-all, each-weaker}
+use Rattle.list_lemmas.proofs.Totals.{total, when, total-append, total-map, total-filter, total-flat_map, total-same, total-each, total-both, HaveSameTotals}
 use Rattle.plain_answer.specs.Plain.{Keyed, members_read, plain_of, injected_of, sources_of, streams_with, plain_streams}
 use Rattle.plain_answer.specs.Stories.{Member, member_of, added_by, done_of, out_of}
 use Rattle.plain_answer.proofs.Handled.{handled-total}
@@ -35,7 +36,6 @@ use Rattle.plain_answer.proofs.Members.{out_at, out_at-total}
 use Rattle.plain_answer.proofs.Sent.{sends, send_of, sent-total}
 use Rattle.plain_answer.proofs.Stories.{out-push, along_legal}
 use Rattle.plain_answer.proofs.Taking.{reads_done, reads_done-total}
-use Rattle.plain_answer.proofs.Totals.{total, when, total-append, total-map, total-filter, total-flat_map, total-same, total-each, total-both, HaveSameTotals}
 
 -- ---- streams as one sum
 

@@ -28,8 +28,8 @@ use Rattle.history_laws.proofs.IdLaws.{legal-ids}
 use Rattle.history_laws.proofs.RowSteps.{row_of-step}
 use Rattle.history_laws.proofs.WorkLaws.{handled-late}
 use Rattle.list_lemmas.proofs.Lists.{none_some, some_same}
+use Rattle.list_lemmas.proofs.Totals.{total, total-push}
 use Rattle.plain_answer.specs.Stories.{handled_by, added_by, done_of, out_of, fires_on}
-use Rattle.plain_answer.proofs.Totals.{total, total-push}
 use Rattle.plain_answer.proofs.Stories.{run-push, done-push, out-push, along_legal}
 use Rattle.plain_answer.proofs.Members.{out_at, out_at-append, added-here, added-other, computation-apart}
 

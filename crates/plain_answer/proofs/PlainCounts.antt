@@ -9,10 +9,11 @@ use Rattle.std.proofs.lemmas.List.{append-nil}
 use Rattle.std.proofs.lemmas.List.Elements.{filter_agree}
 use Rattle.mw_types.specs.declared.kind.Kind.TheVariants as kinds
 use Rattle.mw_types.specs.declared.record.Record.{Record}
+use Rattle.list_lemmas.proofs.Filters.{filter-flat_map, filter-map, filter-nothing, flat_map-filter}
+use Rattle.list_lemmas.proofs.Totals.{total, when, total-map, total-filter, total-count_by}
 use Rattle.plain_answer.specs.Plain.{Keyed, row_members, row_keys, once_each, plain_end, windows_in, plain_of}
 use Rattle.plain_answer.proofs.Closing.{at_place, count_at, counted_at, same-key, key-itself}
-use Rattle.plain_answer.proofs.Once.{filter-flat_map, filter-map, filter-nothing, flat_map-filter, filter-once}
-use Rattle.plain_answer.proofs.Totals.{total, when, total-map, total-filter, total-count_by}
+use Rattle.plain_answer.proofs.Once.{filter-once}
 
 -- how many records a member brings into a window of a row: one or none
 abbrev pub into : ℕ → List ℕ → ℕ → Keyed → ℕ

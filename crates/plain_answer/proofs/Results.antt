@@ -15,6 +15,7 @@ use Rattle.run_history.specs.Legal.{IsLegal, IsDone}
 use Rattle.run_history.specs.Texts.{ResultLine, IsResultText, line_of, as_line, line_data, summary_data}
 use Rattle.serde_json.specs.Data.{object, member, no_members, number, unsigned}
 use Rattle.std.specs.Prelude.{codes}
+use Rattle.list_lemmas.proofs.Totals.{total, total-map, total-length, HaveSameTotals}
 use Rattle.plain_answer.specs.Plain.{Keyed, row_members, row_keys, windows_in, plain_of, fires_of, plain_lines, plain_summary, IsPlainText}
 use Rattle.plain_answer.specs.Stories.{done_of, out_of, fires_on}
 use Rattle.plain_answer.proofs.CountPlain.{count-plain}
@@ -25,7 +26,6 @@ use Rattle.plain_answer.proofs.Numbers.{FiresPlainly, handled-plain, fired-plain
 use Rattle.plain_answer.proofs.Parts.{IsPlain}
 use Rattle.plain_answer.proofs.Passing.{done_at, legal-passed, pass-fires}
 use Rattle.plain_answer.proofs.Taking.{member_read, reads_done}
-use Rattle.plain_answer.proofs.Totals.{total, total-map, total-length, HaveSameTotals}
 
 -- what is asked of the spikes of a history
 pub record AreSpikesPlain (case : CaseShape) (h : List Entry) : Type 0 where

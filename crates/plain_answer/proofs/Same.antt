@@ -6,15 +6,15 @@ use Rattle.std.proofs.lemmas.Bool.{eq-eqb}
 use Rattle.mw_types.specs.declared.kind.Kind.{Kind}
 use Rattle.mw_types.specs.declared.kind.Kind.TheVariants as kinds
 use Rattle.mw_types.specs.declared.record.Record.{Record}
+use Rattle.list_lemmas.proofs.Filters.{by_keys}
+use Rattle.list_lemmas.proofs.Totals.{total, when, total-map, total-filter, HaveSameTotals, totals-permuted}
 use Rattle.plain_answer.specs.Plain.{Keyed, row_members, places_in, spikes_in, plain_of}
 use Rattle.plain_answer.specs.Places.{place_of}
 use Rattle.plain_answer.proofs.Closing.{at_place, counted_at, key-itself}
-use Rattle.plain_answer.proofs.Filters.{by_keys}
 use Rattle.plain_answer.proofs.Greatest.{places-fold}
 use Rattle.plain_answer.proofs.Orders.{places-same}
 use Rattle.plain_answer.proofs.PlainCounts.{into, plain-at}
 use Rattle.plain_answer.proofs.SpikePlain.{row-at, spikes-key}
-use Rattle.plain_answer.proofs.Totals.{total, when, total-map, total-filter, HaveSameTotals, totals-permuted}
 
 -- the places of a row
 pub places-any : (key : List ℕ) (ms ns : List Keyed) → HaveSameTotals ms ns

@@ -14,9 +14,9 @@ use Rattle.run_history.specs.Cases.{CaseShape}
 use Rattle.run_history.specs.Made.{row_written, productions_of, late_cause, produced, sends_of, delivery_at, emission_at, emissions_to, deliveries_made, emissions_made, deliveries_of, emissions_of}
 use Rattle.run_history.specs.Runs.{Run, run_of}
 use Rattle.run_history.specs.Legal.{IsLegal}
+use Rattle.list_lemmas.proofs.Totals.{total, when, total-append, total-map, total-flat_map, total-zero}
 use Rattle.plain_answer.specs.Stories.{Member, member_of, added_by, out_of}
 use Rattle.plain_answer.proofs.Stories.{run-push, out-push, along_legal}
-use Rattle.plain_answer.proofs.Totals.{total, when, total-append, total-map, total-flat_map, total-zero}
 
 -- the row and the record of a delivery
 abbrev pub send_of : Delivery → RowName × Record

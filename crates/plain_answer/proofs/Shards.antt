@@ -1,78 +1,20 @@
 -- What one shard gives of what a part reads, and what the shards give together.
-use Rattle.std.proofs.Common.{◌≡◌, ℕ, zero, suc, ◌+◌, ◌<◌, ◌≤◌, ◌==◌, ◌&&◌, not, Bool, true, false, cond, List, [], ◌∷◌, ◌++◌, length, map, filter, refl, sym, ◌∙◌, ap, arith}
+use Rattle.std.proofs.Common.{◌≡◌, ℕ, ◌<◌, ◌==◌, ◌&&◌, not, Bool, true, false, cond, List, [], ◌∷◌, length, map, filter, refl, sym, ◌∙◌, ap, arith}
 use Rattle.std.specs.Prelude.{nat_eq}
 use Rattle.std.specs.Cmp.Lexicographic.{pointwise}
 use Rattle.std.specs.List.{AllByRecursion, flat_map, range_with_len}
 use Rattle.std.specs.List.Sorted.{IsPermutation}
-use Rattle.std.proofs.lemmas.Bool.Decides.{nat_tests}
-use Rattle.std.proofs.lemmas.List.{append-nil}
 use Rattle.std.proofs.lemmas.List.Elements.{filter_agree}
 use Rattle.mw_types.specs.declared.record.Record.{Record}
 use Rattle.list_lemmas.proofs.Lists.{filter-filter}
 use Rattle.list_lemmas.proofs.Tests.{both_true}
+use Rattle.list_lemmas.proofs.Filters.{by_keys, filter-comm, filter-flat_map, filter-nothing}
+use Rattle.list_lemmas.proofs.Numbered.{one-listed, flat_map-same}
+use Rattle.list_lemmas.proofs.Totals.{total, total-flat_map, total-length, total-same, HaveSameTotals, totals-permuted}
 use Rattle.plain_answer.specs.Plain.{Keyed, row_members, row_keys}
 use Rattle.plain_answer.specs.Splits.{Split, reads_in}
 use Rattle.plain_answer.proofs.Closing.{same-key, key-itself}
-use Rattle.plain_answer.proofs.Filters.{by_keys, filter-comm}
-use Rattle.plain_answer.proofs.Once.{filter-flat_map, filter-nothing}
 use Rattle.plain_answer.proofs.SpikePlain.{row-at}
-use Rattle.plain_answer.proofs.Totals.{total, when, total-filter, total-flat_map, total-length, total-same, total-swap, HaveSameTotals, totals-permuted}
-
--- ---- numbers of shards
-
--- a number that is before all of a range is none of it
-none-numbered : (k x a n : ℕ) → k < a → total (λ i. when (k == i) x) (range_with_len a n) ≡ 0
-none-numbered k x a zero less = refl
-none-numbered k x a (suc n) less =
-    let other : (k == a) ≡ false = grind (arith, nat_tests) in
-    let later : k < a + 1 = omega (arith, less) in
-    omega (arith, ap (λ b. when b x) other, none-numbered k x (a + 1) n later)
-
--- and one within is one of it
-one-numbered : (k x a n : ℕ) → a ≤ k → k < a + n → total (λ i. when (k == i) x) (range_with_len a n) ≡ x
-one-numbered k x a zero from to = absurd (omega (arith, from, to))
-one-numbered k x a (suc n) from to = elim (k == a) as
-    (λ b. (k == a) ≡ b → when b x + total (λ i. when (k == i) x) (range_with_len (a + 1) n) ≡ x) [
-      | true ↦ λ e.
-          let less : k < a + 1 = grind (arith, nat_tests) in
-          omega (arith, none-numbered k x (a + 1) n less)
-      | false ↦ λ e.
-          let more : a + 1 ≤ k = grind (arith, nat_tests) in
-          let within : k < a + 1 + n = omega (arith, to) in
-          omega (arith, one-numbered k x (a + 1) n more within)
-    ] refl
-
--- a sum over what is in each shard is that over all
-pub shards-total : {X : Type 0} (g f : X → ℕ) (n : ℕ) (xs : List X) → ((x : X) → f x < n)
-    → total (λ i. total g (filter (λ x. f x == i) xs)) (range_with_len 0 n) ≡ total g xs
-shards-total g f n xs within =
-    total-same (λ i. total g (filter (λ x. f x == i) xs)) (λ i. total (λ x. when (f x == i) (g x)) xs) (range_with_len 0 n)
-    (λ i. total-filter g (λ x. f x == i) xs)
-    ∙ total-swap (λ i x. when (f x == i) (g x)) (range_with_len 0 n) xs
-    ∙ total-same (λ x. total (λ i. when (f x == i) (g x)) (range_with_len 0 n)) g xs
-    (λ x. one-numbered (f x) (g x) 0 n (omega arith) (omega (arith, within x)))
-
--- lists of which those before and behind one are empty are that one together
-one-listed : {Y : Type 0} (k : ℕ) (ys : List Y) (a n : ℕ) → a ≤ k → k < a + n
-    → flat_map (λ i. cond (k == i) ys []) (range_with_len a n) ≡ ys
-one-listed k ys a zero from to = absurd (omega (arith, from, to))
-one-listed {Y} k ys a (suc n) from to = elim (k == a) as
-    (λ b. (k == a) ≡ b → cond b ys [] ++ flat_map (λ i. cond (k == i) ys []) (range_with_len (a + 1) n) ≡ ys) [
-      | true ↦ λ e.
-          let less : k < a + 1 = grind (arith, nat_tests) in
-          ap (λ l. ys ++ l) (none (a + 1) n less) ∙ append-nil ys
-      | false ↦ λ e.
-          let more : a + 1 ≤ k = grind (arith, nat_tests) in
-          let within : k < a + 1 + n = omega (arith, to) in
-          one-listed k ys (a + 1) n more within
-    ] refl
-  where
-    none : (a n : ℕ) → k < a → flat_map (λ i. cond (k == i) ys []) (range_with_len a n) ≡ []
-    none a zero less = refl
-    none a (suc n) less =
-        let other : (k == a) ≡ false = grind (arith, nat_tests) in
-        let later : k < a + 1 = omega (arith, less) in
-        ap (λ b. cond b ys [] ++ flat_map (λ i. cond (k == i) ys []) (range_with_len (a + 1) n)) other ∙ none (a + 1) n later
 
 -- ---- rows
 
@@ -116,11 +58,6 @@ module _ (split : Split) (shard : ℕ) where
           ≡ cond b (row_members key reads) []
       by true = refl
       by false = refl
-
--- joined lists that are the same of each number
-flat_map-same : {Y : Type 0} (f h : ℕ → List Y) → ((i : ℕ) → f i ≡ h i) → (is : List ℕ) → flat_map f is ≡ flat_map h is
-flat_map-same f h same [] = refl
-flat_map-same f h same (i ∷ is) = λ j. same i j ++ flat_map-same f h same is j
 
 -- the members of all shards are those that are read
 pub shards-same : (split : Split) (n : ℕ) (reads : List Keyed) → ((key : List ℕ) → split key < n)

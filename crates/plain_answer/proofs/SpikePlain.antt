@@ -20,21 +20,21 @@ use Rattle.run_history.specs.Runs.{run_of}
 use Rattle.run_history.specs.Legal.{IsLegal, IsDone}
 use Rattle.history_laws.proofs.RowSteps.{row_of-each}
 use Rattle.list_lemmas.proofs.Lists.{each-append, each-map, each-all}
+use Rattle.list_lemmas.proofs.Filters.{by_keys, filter-flat_map, flat_map-filter}
+use Rattle.list_lemmas.proofs.Totals.{total, when, total-map, total-filter, total-same, total-sum_by, total-length, HaveSameTotals, totals-permuted}
 use Rattle.plain_answer.specs.Plain.{Keyed, row_members, row_keys, places_in, sum_of_last, spike_at, spikes_in, plain_of, fires_of}
 use Rattle.plain_answer.specs.Places.{place_of}
 use Rattle.plain_answer.specs.Stories.{done_of, out_of, fires_on, fired_keys_by, fired_keys}
 use Rattle.plain_answer.proofs.Closing.{same-key, key-itself}
-use Rattle.plain_answer.proofs.Filters.{by_keys}
 use Rattle.plain_answer.proofs.Greatest.{places-fold}
 use Rattle.plain_answer.proofs.Members.{out_at}
-use Rattle.plain_answer.proofs.Once.{filter-flat_map, flat_map-filter, filter-once}
+use Rattle.plain_answer.proofs.Once.{filter-once}
 use Rattle.plain_answer.proofs.Orders.{places-same}
 use Rattle.plain_answer.proofs.Places.{held_place, held_timer}
 use Rattle.plain_answer.proofs.Results.{AreSpikesPlain}
 use Rattle.plain_answer.proofs.SpikeSteps.{is_mine, pair_of, pairs_of}
 use Rattle.plain_answer.proofs.Spiking.{legal-spiked}
 use Rattle.plain_answer.proofs.Taking.{member_read, reads_done, reads_done-total, is_at-both}
-use Rattle.plain_answer.proofs.Totals.{total, when, total-map, total-filter, total-same, total-sum_by, total-length, HaveSameTotals, totals-permuted}
 
 -- ---- lists row by row
 

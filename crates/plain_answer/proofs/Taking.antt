@@ -24,6 +24,7 @@ use Rattle.history_laws.proofs.FeedLaws.{kind-ranged}
 use Rattle.history_laws.proofs.PendingLaws.{kind-there}
 use Rattle.history_laws.proofs.RowSteps.{same_row}
 use Rattle.list_lemmas.proofs.Lists.{each-append, each-weaker, find-each}
+use Rattle.list_lemmas.proofs.Totals.{total, when, total-append, total-map, total-filter, total-each}
 use Rattle.plain_answer.specs.Deeds.{Deed, took, fired, takes_into, taken_into, taken, deeds_in, deeds_of}
 use Rattle.plain_answer.specs.Grades.{grade}
 use Rattle.plain_answer.specs.Plain.{Keyed, plain_end}
@@ -34,7 +35,6 @@ use Rattle.plain_answer.proofs.Grading.{IsGraded, legal-graded}
 use Rattle.plain_answer.proofs.Passing.{done_at}
 use Rattle.plain_answer.proofs.PlainCounts.{into}
 use Rattle.plain_answer.proofs.Stories.{deeds-push, done-push, along_legal}
-use Rattle.plain_answer.proofs.Totals.{total, when, total-append, total-map, total-filter, total-each}
 
 -- a row's name, by its part and its key
 pub is_at-both : (name row : RowName) → is_at (row_cmp name) row ≡ ((row.part == name.part) && pointwise nat_eq name.key row.key)

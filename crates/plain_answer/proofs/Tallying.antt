@@ -19,13 +19,12 @@ use Rattle.mw_types.specs.declared.record.Record.{Record}
 use Rattle.mw_types.specs.Orders.{key_cmp}
 use Rattle.run_history.proofs.Lookups.{lookup-insert_entry, sorted-insert_entry}
 use Rattle.list_lemmas.proofs.Tests.{equal_from_test}
+use Rattle.list_lemmas.proofs.Filters.{by_keys, filter-map}
+use Rattle.list_lemmas.proofs.Totals.{total, when, total-push}
 use Rattle.plain_answer.specs.Plain.{Keyed, plain_end, plain_of}
 use Rattle.plain_answer.specs.Tallies.{window_cmp, tally_at, tally_with, tally_of, window_given}
 use Rattle.plain_answer.proofs.Closing.{at_place, count_at, counted_at, same-key, key-itself}
-use Rattle.plain_answer.proofs.Filters.{by_keys}
-use Rattle.plain_answer.proofs.Once.{filter-map}
 use Rattle.plain_answer.proofs.PlainCounts.{into, plain-at}
-use Rattle.plain_answer.proofs.Totals.{total, when, total-push}
 
 -- windows are in a total order
 pub window_cmp-total : IsTotalOrder window_cmp

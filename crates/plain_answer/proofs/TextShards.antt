@@ -20,12 +20,15 @@ use Rattle.run_history.specs.Made.{row_to, sends_of}
 use Rattle.run_history.specs.Texts.{ResultLine, line_cmp, as_line, line_data}
 use Rattle.serde_json.specs.Data.{object, member, no_members, number, unsigned}
 use Rattle.list_lemmas.proofs.Lists.{each-map, each-all, each-weaker, each-filter, each-flat_map, each-enumerate}
+use Rattle.list_lemmas.proofs.Numbered.{numbered-total, total-numbered}
+use Rattle.list_lemmas.proofs.Permuted.{totals-permutation}
+use Rattle.list_lemmas.proofs.Totals.{total, when, total-sum_by, total-map, total-filter, total-flat_map, total-same, total-both, total-swap, total-zero, total-length, total-count_by, HaveSameTotals}
 use Rattle.plain_answer.specs.Plain.{Keyed, members_read, plain_of, fires_of, injected_of, sources_of, streams_with, plain_streams, plain_members, fired_of, handled_of, injected_count, late_count, plain_line, plain_lines, plain_summary, IsPlainText}
 use Rattle.plain_answer.specs.Sends.{EachMoved}
 use Rattle.plain_answer.specs.Splits.{Split, reads_in, records_in, FollowsReadings, IsShard, AreShards, summed, IsMergedText}
 use Rattle.plain_answer.specs.Stories.{Member}
 use Rattle.plain_answer.proofs.KindShards.{plain_of-in, fires_of-split, reads-split}
-use Rattle.plain_answer.proofs.Lines.{line_cmp-total, same-line, streams-lines, totals-permutation}
+use Rattle.plain_answer.proofs.Lines.{line_cmp-total, same-line, streams-lines}
 use Rattle.plain_answer.proofs.Making.{moved-push, moved-length, moved-total, moved-read, moved-plain}
 use Rattle.plain_answer.proofs.Members.{map-append}
 use Rattle.plain_answer.proofs.Moved.{fires_of-same}
@@ -33,16 +36,8 @@ use Rattle.plain_answer.proofs.Numbers.{sources-total}
 use Rattle.plain_answer.proofs.Parts.{stream_total, of_member, to_part, members-total}
 use Rattle.plain_answer.proofs.Same.{plain_of-same}
 use Rattle.plain_answer.proofs.Sent.{is_unread}
-use Rattle.plain_answer.proofs.Shards.{shards-total}
-use Rattle.plain_answer.proofs.Totals.{total, when, total-sum_by, total-map, total-filter, total-flat_map, total-same, total-both, total-swap, total-zero, total-length, total-count_by, HaveSameTotals}
 
 -- ---- sums over shards
-
--- what is of each shard what is there of its number sums up to the sum over the numbers
-total-numbered : {X : Type 0} (f : X → ℕ) (g : ℕ → ℕ) (n : ℕ) (xs : List X)
-    → AllByRecursion (λ (p : ℕ × X). f p.1 ≡ g p.0) (enumerate_from n xs) → total f xs ≡ total g (range_with_len n (length xs))
-total-numbered f g n [] each = refl
-total-numbered f g n (x ∷ xs) each = omega (arith, each.0, total-numbered f g (n + 1) xs each.1)
 
 -- streams of which each has what is in one shard
 abbrev streams_in : Split → ℕ → List (List Record) → List (List Record)
@@ -56,7 +51,7 @@ streams-split split shards g n [] within = total-zero (range_with_len 0 shards)
 streams-split split shards g n (x ∷ xs) within =
     total-both (λ shard. total (λ r. g (n, r)) (records_in split shard x)) (λ shard. stream_total g (n + 1) (streams_in split shard xs))
     (range_with_len 0 shards)
-    ∙ (λ i. shards-total (λ r. g (n, r)) (λ (r : Record). split r.key) shards x (λ r. within r.key) i
+    ∙ (λ i. numbered-total (λ r. g (n, r)) (λ (r : Record). split r.key) shards x (λ r. within r.key) i
     + streams-split split shards g (n + 1) xs within i)
 
 -- ---- what a part reads of a shard

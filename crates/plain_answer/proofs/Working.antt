@@ -10,11 +10,11 @@ use Rattle.injector.specs.declared.item.Item.{Item}
 use Rattle.injector.specs.Sources.{Source, SourceLine, item_at}
 use Rattle.run_history.specs.Cases.{CaseShape, source_of}
 use Rattle.run_history.specs.Inputs.{IsRunnable}
+use Rattle.list_lemmas.proofs.Totals.{total, when, total-count_by, total-length, total-map, total-sum_by, HaveSameTotals}
 use Rattle.plain_answer.specs.Plain.{Keyed, members_read, sources_of, plain_streams, plain_members}
 use Rattle.plain_answer.specs.Sends.{ArePlain, AreRead}
 use Rattle.plain_answer.proofs.Later.{made-read}
 use Rattle.plain_answer.proofs.Making.{AreMadeTo, moved-read, dropped, kind_there}
-use Rattle.plain_answer.proofs.Totals.{total, when, total-count_by, total-length, total-map, total-sum_by, HaveSameTotals}
 
 -- how many members a part reads
 abbrev pub members_long : Kind → List Keyed → ℕ

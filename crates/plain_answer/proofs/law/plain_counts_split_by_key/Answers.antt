@@ -1,9 +1,9 @@
 use Rattle.std.proofs.Common.{sym, ◌∙◌, length}
 use Rattle.std.specs.List.{range_with_len}
+use Rattle.list_lemmas.proofs.Totals.{total-sum_by}
 use Rattle.plain_answer.specs.Plain.{fires_of}
 use Rattle.plain_answer.specs.Splits.{reads_in}
 use Rattle.plain_answer.proofs.KindShards.{plain_of-split, fires_of-split, reads-split}
-use Rattle.plain_answer.proofs.Totals.{total-sum_by}
 use Rattle.plain_answer.proofs.law.plain_counts_split_by_key.Goals as goal
 
 pub returns : goal.returns

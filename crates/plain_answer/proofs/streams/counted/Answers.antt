@@ -1,7 +1,8 @@
 use Rattle.std.proofs.Common.{◌∙◌}
 use Rattle.mw_types.specs.declared.kind.Kind.TheVariants as kinds
+use Rattle.list_lemmas.proofs.Permuted.{permuted-length}
 use Rattle.plain_answer.specs.Plain.{plain_of}
-use Rattle.plain_answer.proofs.Moved.{permuted-length, windows-fire}
+use Rattle.plain_answer.proofs.Moved.{windows-fire}
 use Rattle.plain_answer.proofs.streams.counted.Goals as goal
 
 -- a count fires once a window
