@@ -448,14 +448,13 @@ places-fire last times ms =
 
 -- one place further along
 pub along-step : (last times : ℕ) (all before : List Record) {after : List Record} (row : List ℕ) {next : List ℕ}
-    (known : List ℤ) {seen own more : List ℤ} (e : Placed) {from es : List Placed}
-    → after ≡ before ++ spike_of last times seen e → seen ≡ own → next ≡ e.0.0 → own ≡ known_of row known e.0.0
-    → more ≡ known_with last own e.1 → from ≡ e ∷ es
+    (known : List ℤ) {more : List ℤ} (e : Placed) {from es : List Placed}
+    → after ≡ before ++ spike_of last times (known_of row known e.0.0) e → next ≡ e.0.0
+    → more ≡ known_with last (known_of row known e.0.0) e.1 → from ≡ e ∷ es
     → before ++ spikes_along last times row known from ≡ all
     → after ++ spikes_along last times next more es ≡ all
-along-step last times all before {after} row {next} known {seen} {own} {more} e {from} {es} pushed same turned kept learnt steps was =
+along-step last times all before row known e {es = es} pushed turned learnt steps was =
     (λ i. pushed i ++ spikes_along last times (turned i) (learnt i) es)
-    ∙ (λ i. (before ++ spike_of last times ((same ∙ kept) i) e) ++ spikes_along last times e.0.0 (known_with last (kept i) e.1) es)
     ∙ append_assoc before (spike_of last times (known_of row known e.0.0) e)
     (spikes_along last times e.0.0 (known_with last (known_of row known e.0.0) e.1) es)
     ∙ ap (λ l. before ++ spikes_along last times row known l) (sym steps)

@@ -5,9 +5,11 @@
 //! `history_laws`. Public contract: the result text of every legal and finished history of a case
 //! is the plain count of the case, in whatever order its entries came, so that two such histories
 //! of a case have one text; `plain_text` writes that text from the files alone; `windows_of`
-//! computes what a count gives. Definitions: `specs/Plain.antt`, which is to be read from the top,
-//! `specs/Ends.antt`, when a run is at its end, and `specs/Rows.antt`, with cases that were worked
-//! by hand; no public clause cites the other files of `specs/`.
+//! computes what a count gives; and a plain count splits, of one part by the rows that read, and of
+//! a case by what is the same of a key and of all that is extracted of it. Definitions:
+//! `specs/Plain.antt`, which is to be read from the top, `specs/Ends.antt`, when a run is at its
+//! end, `specs/Splits.antt`, what a shard is, and `specs/Rows.antt`, with cases that were worked by
+//! hand; no public clause cites the other files of `specs/`.
 #![tactic(auto)]
 
 mod examples;

@@ -80,6 +80,13 @@ fn greater(places: &Places, place: &(Key, u64), value: i64) -> i64
     }
 }
 
+// The row at hand: its key, and the last values that are known of it.
+#[derive(Drop)]
+struct Row {
+    key: Key,
+    known: Vec<i64>,
+}
+
 // The spikes along the places.
 fn spikes(alloc: Global, last: u32, times: u32, places: &Places) -> Result<Vec<Record>, NoMemory>
     requires last { last ≤ 64 }
@@ -88,24 +95,48 @@ fn spikes(alloc: Global, last: u32, times: u32, places: &Places) -> Result<Vec<R
         records.items ≡ spikes_along last times [] [] places.now.entries) }
 {
     let mut records = Vec::new(alloc);
-    let mut row = Key::none(alloc);
-    let mut known = Vec::new(alloc);
+    let mut row = Row {
+        key: Key::none(alloc),
+        known: Vec::new(alloc),
+    };
     for (place, value) in places {
-        turn(alloc, &mut row, &mut known, &place.0)?;
-        push_spike(alloc, last, times, &known, &mut records, place, value)?;
-        learn(&mut known, last, value)?;
+        go_on(alloc, last, times, &mut row, &mut records, place, value)?;
     }
     Ok(records)
 }
 
-// Goes over to the row of this key, of which no value is known, unless it is at hand.
-fn turn(alloc: Global, row: &mut Key, known: &mut Vec<i64>, key: &Key) -> Result<(), NoMemory>
-    ensures row { OnOk result (row.new ≡ key.now) }
-    ensures known { OnOk result (known.new.items ≡ known_of row.old known.old.items key.now) }
+// Goes on by one place: puts its spike behind the records, if it is one, and learns its value.
+fn go_on(
+    alloc: Global,
+    last: u32,
+    times: u32,
+    row: &mut Row,
+    records: &mut Vec<Record>,
+    place: &(Key, u64),
+    value: &i64,
+) -> Result<(), NoMemory>
+    requires last { last ≤ 64 }
+    requires times { times ≤ 1000 }
+    ensures spike { OnOk result (records.new.items ≡ records.old.items ++ spike_of last times
+        (known_of row.old.key row.old.known.items place.now.0) (place.now, value.now)) }
+    ensures row { OnOk result (row.new.key ≡ place.now.0) }
+    ensures known { OnOk result (row.new.known.items ≡ known_with last
+        (known_of row.old.key row.old.known.items place.now.0) value.now) }
 {
-    if *row != *key {
-        *row = key.copy(alloc)?;
-        known.clear();
+    turn(alloc, row, &place.0)?;
+    push_spike(alloc, last, times, &row.known, records, place, value)?;
+    learn(&mut row.known, last, value)
+}
+
+// Goes over to the row of this key, of which no value is known, unless it is at hand.
+fn turn(alloc: Global, row: &mut Row, key: &Key) -> Result<(), NoMemory>
+    ensures row { OnOk result (row.new.key ≡ key.now) }
+    ensures known { OnOk result
+        (row.new.known.items ≡ known_of row.old.key row.old.known.items key.now) }
+{
+    if row.key != *key {
+        row.key = key.copy(alloc)?;
+        row.known.clear();
     }
     Ok(())
 }
