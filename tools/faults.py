@@ -100,8 +100,8 @@ def entries_held(rows: Rows, history: list[dict]) -> int:
     return held
 
 
-def held_wrong(words: list[str], store: str, history: list[dict], status: int) -> str:
-    """What is wrong with the file that a run of these words kept, or nothing; one that ended with 0 or 8 keeps all rows."""
+def held_wrong(words: list[str], store: str, history: list[dict], is_whole: bool) -> str:
+    """What is wrong with the file that a run of these words kept, or nothing; a whole run keeps all rows."""
     copy = store + ".again"
     for end in ("", "-wal"):
         if os.path.exists(store + end):
@@ -113,6 +113,6 @@ def held_wrong(words: list[str], store: str, history: list[dict], status: int) -
         held = entries_held(rows_in(store), history)
     except (OSError, ValueError, sqlite3.Error) as error:
         return "the file: %s" % error
-    if status in (0, 8) and held < len(history):
+    if is_whole and held < len(history):
         return "the file has %d entries of %d" % (held, len(history))
     return "" if again == (10 if held else 0) else "a second run ended with %d over %d entries" % (again, held)

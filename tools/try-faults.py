@@ -66,7 +66,9 @@ def sweep(program: str, words: list[str], kinds: list[str], library: str, store:
             ended = run([program, *kept], library, **{kind: form})
             why = fault_in(kind, ended, whole, bool(store))
             if store and not why and os.path.exists(store):
-                why = held_wrong(line, store, history, ended.status)
+                # the rows are kept where the output alone fails, and not where closing the file fails behind it
+                is_whole = ended.status == 0 or ended.status == 8 and ".." not in form
+                why = held_wrong(line, store, history, is_whole)
             ends[ended.status] += 1
             wrong += ["%s=%s: %s" % (kind, form, why)] if why else []
         found.append((kind, many, ends, wrong))

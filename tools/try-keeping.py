@@ -85,7 +85,7 @@ def kills(room: Room) -> None:
         started.kill()
         ended.append(end_of(started))
         if os.path.exists(room.path(name)):
-            wrong.append(held_wrong(room.words, room.path(name), room.history, ended[-1][0]))
+            wrong.append(held_wrong(room.words, room.path(name), room.history, ended[-1][0] == 0))
             held.append(entries_held(rows_in(room.path(name)), room.history))
     after = "rows of the first %d to %d of %d entries" % (min(held), max(held), len(room.history))
     room.tell("`kill -9`", {(-9, ""), (0, "")}, ended, wrong, after)
@@ -100,7 +100,7 @@ def full(room: Room, what: str, folder: str, runs: Callable[[str, int], tuple[in
         for end in ("", "-wal"):
             if os.path.exists(room.path(name) + end):
                 shutil.move(room.path(name) + end, room.path(copy) + end)
-        wrong.append(held_wrong(room.words, room.path(copy), room.history, ended[-1][0]))
+        wrong.append(held_wrong(room.words, room.path(copy), room.history, ended[-1][0] == 0))
         held.append(entries_held(rows_in(room.path(copy)), room.history))
     after = "rows of the first %s of %d entries" % (", ".join(map(str, held)), len(room.history))
     room.tell(what, {(7, FAILED), (0, "")}, ended, wrong, after)
