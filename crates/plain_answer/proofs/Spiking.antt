@@ -25,7 +25,7 @@ use Rattle.mw_types.specs.declared.entry.Entry.TheVariants.{Claim, Inject, Handl
 use Rattle.mw_types.specs.Orders.{row_cmp}
 use Rattle.mw_types.specs.Outcomes.{EffectsView}
 use Rattle.topology.specs.Shapes.{Shape, kind_of, parts_of}
-use Rattle.row_parts.specs.Contents.{Contents, same_id, without_timer}
+use Rattle.row_parts.specs.Contents.{Contents, found_delivery, same_id, without_timer}
 use Rattle.computations.specs.Handlers.{fresh_state, one_more, due_time, held_with, spike_record, effects_of_record, effects_of_timer}
 use Rattle.run_history.specs.Cases.{CaseShape}
 use Rattle.run_history.specs.Inputs.{IsRunnable}
@@ -149,7 +149,7 @@ module _ (case : CaseShape) (name : RowName) (last times : ℕ) (runs : IsRunnab
 
   -- a place that fired is below a record in time
   below-now : (h : List Entry) (id : RecordId) (d : Delivery) (p : ℕ × ℤ) → IsPassed (run_of shape h) p
-      → Rattle.run_history.specs.Made.found_delivery id (run_of shape h).unhandled ≡ Some d
+      → found_delivery id (run_of shape h).unhandled ≡ Some d
       → d.to ≡ name → d.item.late ≡ false → d.item.stamp < MAX_STAMP → p.0 < d.item.stamp
   below-now h id d p passed waits to_row in_time small =
       let work : IsWorkFrom shape (run_of shape h) (due_time p.0) name.part = passed zero in
@@ -161,7 +161,7 @@ module _ (case : CaseShape) (name : RowName) (last times : ℕ) (runs : IsRunnab
 
   -- what waits for the row is below the greatest timestamp
   small : (h : List Entry) (id : RecordId) (d : Delivery) → IsLegal case h
-      → Rattle.run_history.specs.Made.found_delivery id (run_of shape h).unhandled ≡ Some d → d.to ≡ name
+      → found_delivery id (run_of shape h).unhandled ≡ Some d → d.to ≡ name
       → d.item.stamp < MAX_STAMP
   small h id d legal waits to_row =
       let graded : d.item.stamp ≤ grade d.to.part = find-each IsGraded (λ (e : Delivery). same_id e.id id) (run_of shape h).unhandled d

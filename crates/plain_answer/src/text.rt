@@ -11,7 +11,7 @@ ghost use Rattle.plain_answer.specs.Sends.{lines_in, ArePlain};
 use crate::streams::all_streams;
 use crate::summary::summary_line;
 use mw_types::{Bytes, Duplicate, Name, NoMemory, Record, Seq};
-use run_history::Case;
+use run_history::{Case, ResultLine};
 use std::alloc::Global;
 use topology::Topology;
 

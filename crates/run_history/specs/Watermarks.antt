@@ -10,7 +10,7 @@ use Rattle.mw_types.specs.declared.timer.Timer.{Timer}
 use Rattle.mw_types.specs.declared.delivery.Delivery.{Delivery}
 use Rattle.injector.specs.Sources.{stated_at}
 use Rattle.topology.specs.Shapes.{parts_of, feeds_of}
-use Rattle.row_parts.specs.Contents.{Contents}
+use Rattle.row_parts.specs.Contents.{Contents, cursor_in}
 use Rattle.run_history.specs.Cases.{CaseShape, is_injector, source_of}
 use Rattle.run_history.specs.Runs.{Run, row_of}
 
