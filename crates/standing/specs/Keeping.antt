@@ -1,6 +1,7 @@
 -- What is kept of a history, so that nothing is sought in it again. No public clause cites this module.
-use Rattle.std.specs.Prelude.{◌≡◌, ◌≤◌, ◌^◌, ℕ, List, [], ◌∷◌, length, drop, Option, Some, None, Result, Ok, Err, if◌then◌else◌}
+use Rattle.std.specs.Prelude.{◌≡◌, ◌≤◌, ◌^◌, ◌+◌, ◌-◌, ℕ, List, [], ◌∷◌, length, drop, Option, Some, None, Result, Ok, Err, if◌then◌else◌}
 use Rattle.std.specs.Option.{option_and_then, option_map_or}
+use Rattle.std.specs.List.{AllByRecursion}
 use Rattle.std.specs.Map.{lookup}
 use Rattle.std.specs.BTreeMap.{get, is_at}
 use Rattle.std.specs.Ordering.{nat_cmp}
@@ -10,13 +11,14 @@ use Rattle.mw_types.specs.declared.identity.RowName.{RowName}
 use Rattle.mw_types.specs.declared.delivery.Delivery.{Delivery}
 use Rattle.mw_types.specs.declared.entry.Entry.{Entry}
 use Rattle.topology.specs.Shapes.{Shape}
-use Rattle.row_parts.specs.Contents.{Contents, found_delivery, same_id}
+use Rattle.row_parts.specs.Contents.{Contents, IsId, found_delivery, same_id}
 use Rattle.run_history.specs.Cases.{CaseShape}
 use Rattle.run_history.specs.Made.{deliveries_of, row_written}
-use Rattle.run_history.specs.Runs.{Run, cached, row_after, row_in, run_of}
+use Rattle.run_history.specs.Runs.{Run, cached, row_after, row_in, row_of, run_of}
 use Rattle.run_history.specs.Inputs.{IsRunnable}
 use Rattle.run_history.specs.Fences.{interval_of, is_claim, last_claim}
-use Rattle.run_history.specs.Finished.{handles}
+use Rattle.run_history.specs.Finished.{handles, unfinished, work_in}
+use Rattle.book.specs.Senders.{AreSenders}
 use Rattle.history_laws.specs.Writes.{IsLegalAndFenced}
 use Rattle.computations.specs.Parts.{Parts, HasState, part_record, part_timer}
 use Rattle.node.specs.Works.{IsWorkOf}
@@ -26,6 +28,10 @@ use Rattle.book.specs.declared.entries.Step.{Step}
 use Rattle.mw_types.specs.declared.memory.NoMemory.{NoMemory}
 use Rattle.book.specs.Proposals.{IsEntryOf, left_by}
 use Rattle.standing.specs.declared.kept.Kept.{Kept}
+
+-- the name of an injector's row
+abbrev pub injector_name : ℕ → RowName
+injector_name part = record { part = part; key = [] }
 
 -- the number of the last claim of a row's interval, which an entry on the row has to carry
 abbrev pub sequencer_for : Shape → List Entry → RowName → Option ℕ
@@ -40,11 +46,15 @@ waiting_in waiting id = lookup (is_at (id_cmp id)) waiting
 abbrev pub AreWaiting : List Delivery → List (RecordId × Delivery) → Type 0
 AreWaiting unhandled waiting = (id : RecordId) → waiting_in waiting id ≡ found_delivery id unhandled
 
--- what is kept is what stands after the history: its rows, what waits, and the last claim of each interval
+-- what is kept is what stands after the history: its rows, what waits, the last claim of each interval, what
+-- is pending in which row, and how much work is left
 pub record IsKept (case : CaseShape) (history : List Entry) (kept : Kept) : Type 0 where
   pub rows : kept.rows.entries ≡ (run_of case.topology history).rows
   pub waiting : AreWaiting (run_of case.topology history).unhandled kept.waiting.entries
+  pub ids : AllByRecursion (λ (d : Delivery). IsId d.id) (run_of case.topology history).unhandled
   pub claims : (interval : ℕ) → get nat_cmp kept.claims interval ≡ last_claim interval history
+  pub senders : AreSenders case.topology (run_of case.topology history) kept.pending.entries
+  pub left : kept.work ≡ unfinished case (run_of case.topology history)
 
 -- a history that is followed is legal and fenced, of a case that may be run
 pub record IsFollowed (case : CaseShape) (history : List Entry) : Type 0 where
@@ -53,10 +63,10 @@ pub record IsFollowed (case : CaseShape) (history : List Entry) : Type 0 where
   pub few : length history ≤ 2 ^ 32
 
 -- a history that is followed, with the computations of its case and what is kept of it
-pub record IsStanding (case : CaseShape) (work : Parts) (history : List Entry) (kept : Kept) : Type 0 where
-  pub work : IsWorkOf case.topology (HasState work) (part_record work) (part_timer work)
+pub record IsStanding (case : CaseShape) (parts : Parts) (history : List Entry) (kept : Kept) : Type 0 where
+  pub work : IsWorkOf case.topology (HasState parts) (part_record parts) (part_timer parts)
   pub followed : IsFollowed case history
-  pub kept : IsKept case history kept
+  pub keeps : IsKept case history kept
 
 -- ---- the next entry
 
@@ -115,3 +125,8 @@ HasClaimed entry number old new = (interval : ℕ) →
 abbrev pub IsRowOfStep : RowName → Result Step NoMemory → NamedRow → Type 0
 IsRowOfStep name (Ok step) left = left ≡ record { name = name; row = step.left }
 IsRowOfStep name (Err want) left = ⊥
+
+-- how much work is left of so much, once a row is put under its name
+abbrev pub HasWorkLeft : CaseShape → List (RowName × Contents) → NamedRow → ℕ → ℕ → Type 0
+HasWorkLeft case rows left old new = new ≡ (old + work_in case left.name left.row)
+    - work_in case left.name (row_of case.topology (cached rows) left.name)

@@ -1,8 +1,9 @@
 //! Records of which the sender learns that they were handled.
-ghost use Rattle.std.specs.Prelude.{IfOk};
+ghost use Rattle.std.specs.Prelude.{◌≡◌, ◌&&◌, IfOk, is_none, is_some};
+ghost use Rattle.row_parts.specs.Contents.{found_delivery};
 ghost use Rattle.standing.specs.declared.choice.Choice.TheVariants as choices;
 ghost use Rattle.standing.specs.Choices.{IsChosen};
-ghost use Rattle.standing.specs.Keeping.{IsFollowed, IsKept};
+ghost use Rattle.standing.specs.Keeping.{IsFollowed, IsKept, pending_in, waiting_in};
 
 use crate::finding::sequencer;
 use crate::kept::Kept;
@@ -36,7 +37,10 @@ pub(crate) fn acknowledgement_of(
 }
 
 // Whether an id is pending in a row and waits no more.
-fn is_settled(kept: &Kept, name: &RowName, id: RecordId) -> bool {
+fn is_settled(kept: &Kept, name: &RowName, id: RecordId) -> bool
+    ensures { result ≡ (is_some (found_delivery id (pending_in kept.now.rows.entries name.now))
+        && is_none (waiting_in kept.now.waiting.entries id)) }
+{
     match kept.rows.get(name) {
         Some(row) => row.is_pending(id) && kept.waiting.get(&id).is_none(),
         None => false,

@@ -1,10 +1,10 @@
 //! Lines that injectors inject.
-ghost use Rattle.std.specs.Prelude.{◌≡◌, ◌<◌, [], IfOk, length};
+ghost use Rattle.std.specs.Prelude.{◌≡◌, ◌<◌, IfOk, length};
 ghost use Rattle.topology.specs.Shapes.{injectors_of};
 ghost use Rattle.run_history.specs.Cases.{source_of};
 ghost use Rattle.standing.specs.declared.choice.Choice.TheVariants as choices;
 ghost use Rattle.standing.specs.Choices.{IsChosen};
-ghost use Rattle.standing.specs.Keeping.{IsFollowed, IsKept};
+ghost use Rattle.standing.specs.Keeping.{IsFollowed, IsKept, injector_name};
 
 use crate::finding::{cursor, sequencer};
 use crate::kept::Kept;
@@ -48,7 +48,7 @@ pub(crate) fn injection_of(
 
 // The name of an injector's row.
 pub(crate) fn injector_row(alloc: Global, part: u32) -> RowName
-    ensures { result ≡ record { part = part; key = [] } }
+    ensures { result ≡ injector_name part }
 {
     RowName {
         part,

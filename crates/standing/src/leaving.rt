@@ -7,12 +7,12 @@ ghost use Rattle.run_history.specs.Runs.{cached, row_in, row_of};
 ghost use Rattle.book.specs.Proposals.{IsProposable};
 ghost use Rattle.book.specs.declared.proposal.Proposal.TheVariants as proposals;
 ghost use Rattle.standing.specs.Choices.{MayCome};
-ghost use Rattle.standing.specs.Keeping.{IsFollowed, IsKept, IsLeftBy, IsLeftOf, IsRowOfStep, waiting_in};
+ghost use Rattle.standing.specs.Keeping.{IsFollowed, IsKept, IsLeftBy, IsLeftOf, IsRowOfStep, injector_name, waiting_in};
 
 use crate::injecting::injector_row;
 use crate::kept::{Kept, Rows};
 use book::{NamedRow, Proposal, Step, purged, settled, step_of};
-use mw_types::{Duplicate, Effects, Entry, NoMemory, RecordId, RowName, Timer};
+use mw_types::{Delivery, Duplicate, Effects, Entry, NoMemory, RecordId, RowName, Timer};
 use row_parts::Row;
 use run_history::{Case, History, first_row};
 use std::alloc::Global;
@@ -37,9 +37,7 @@ pub(crate) fn left_of(
         Entry::Inject {
             seq, part, line, ..
         } => {
-            let name = injector_row(alloc, *part);
-            let proposal = Proposal::Inject { line: *line };
-            let left = row_after(alloc, case, &kept.rows, *seq, name, &proposal, commit)?;
+            let left = row_injected(alloc, case, &kept.rows, *seq, *part, *line, commit)?;
             Ok(Some(left))
         }
         Entry::Handle {
@@ -113,6 +111,30 @@ fn named(name: RowName, step: Result<Step, NoMemory>) -> Result<NamedRow, NoMemo
             Err(want)
         }
     }
+}
+
+// The row of an injector that has injected a line.
+fn row_injected(
+    alloc: Global,
+    case: &Case,
+    rows: &Rows,
+    seq: u64,
+    part: u32,
+    line: u32,
+    commit: u64,
+) -> Result<NamedRow, NoMemory>
+    requires proposal { IsProposable case.now (injector_name part)
+        (row_of case.now.topology (cached rows.now.entries) (injector_name part))
+        (proposals.Inject line) }
+    requires fit { fits case.now commit (injector_name part)
+        (row_of case.now.topology (cached rows.now.entries) (injector_name part)) ≡ true }
+    requires commit { commit < 2 ^ 32 }
+    ensures { IfOk result (IsLeftBy case.now seq (injector_name part) (proposals.Inject line) commit
+        (row_of case.now.topology (cached rows.now.entries) (injector_name part))) }
+{
+    let name = injector_row(alloc, part);
+    let proposal = Proposal::Inject { line };
+    row_after(alloc, case, rows, seq, name, &proposal, commit)
 }
 
 // The row that has handled the record which waits under this id.

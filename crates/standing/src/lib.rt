@@ -15,9 +15,14 @@ mod growing;
 mod handling;
 mod injecting;
 mod kept;
+mod law;
 mod leaving;
+mod purging;
+mod senders;
 mod standings;
 mod waiting;
+mod work_left;
 
 pub use choice::Choice;
+pub use law::choices_have_one_entry;
 pub use standings::Standing;

@@ -1,12 +1,20 @@
 //! A history that is followed.
-ghost use Rattle.std.specs.Prelude.{◌≡◌, ◌<◌, ◌^◌, ◌++◌, ◌∷◌, [], IfOk, length};
+ghost use Rattle.std.specs.Prelude.{◌≡◌, ◌↔◌, ◌<◌, ◌^◌, ◌++◌, ◌∷◌, [], IfOk, IsTrue, length};
+ghost use Rattle.run_history.specs.Finished.{IsFinished};
+ghost use Rattle.run_history.specs.Runs.{run_of};
 ghost use Rattle.history_laws.specs.Writes.{IsLegalAndFenced};
 ghost use Rattle.standing.specs.Choices.{IsChosen, MayCome};
+ghost use Rattle.standing.specs.declared.choice.Choice.TheVariants as choices;
 
+use crate::acknowledging::acknowledgement_of;
+use crate::claiming::claim_of;
+use crate::handling::handling_of;
+use crate::injecting::injection_of;
 use crate::kept::Kept;
+use crate::purging::purge_of;
 use computations::Kinds;
 use history_laws::case_is_runnable;
-use mw_types::{Entry, NoMemory};
+use mw_types::{Entry, NoMemory, RecordId, RowName};
 use run_history::{Case, History};
 use std::alloc::Global;
 use std::marker::Model;
@@ -43,7 +51,7 @@ impl<'a> Standing<'a> {
             case,
             work,
             history: History::new(alloc),
-            kept: Kept::new(alloc),
+            kept: Kept::new(alloc, case),
         })
     }
 
@@ -53,6 +61,66 @@ impl<'a> Standing<'a> {
         ensures lawful { IsLegalAndFenced self.now.case self.now.history }
     {
         &self.history
+    }
+
+    /// The claim of an interval by a worker, or none where one of both is not there.
+    pub fn claim_of(&self, worker: u32, interval: u32) -> Option<Entry>
+        ensures chosen { IsChosen self.now.case self.now.history
+            (choices.Claim worker interval) result }
+    {
+        claim_of(self.case, worker, interval)
+    }
+
+    /// The lawful entry of an injector's next line, or none exactly where there is none.
+    pub fn injection_of(&self, alloc: Global, part: u32) -> Result<Option<Entry>, NoMemory>
+        ensures chosen { IfOk result
+            (IsChosen self.now.case self.now.history (choices.Inject part)) }
+    {
+        injection_of(alloc, self.case, &self.history, &self.kept, part)
+    }
+
+    /// The lawful entry of the record of this id, or none exactly where there is none.
+    pub fn handling_of(&self, alloc: Global, id: RecordId) -> Result<Option<Entry>, NoMemory>
+        ensures chosen { IfOk result
+            (IsChosen self.now.case self.now.history (choices.Handle id)) }
+    {
+        handling_of(alloc, self.case, &self.work, &self.history, &self.kept, id)
+    }
+
+    /// The lawful entry by which a row learns that the record of this id was handled, or none exactly
+    /// where there is none.
+    pub fn acknowledgement_of(
+        &self,
+        alloc: Global,
+        row: &RowName,
+        id: RecordId,
+    ) -> Result<Option<Entry>, NoMemory>
+        ensures chosen { IfOk result
+            (IsChosen self.now.case self.now.history (choices.Ack row.now id)) }
+    {
+        acknowledgement_of(alloc, self.case, &self.history, &self.kept, row, id)
+    }
+
+    /// The lawful entry by which a row forgets the ids below a floor, or none exactly where there is
+    /// none.
+    pub fn purge_of(
+        &self,
+        alloc: Global,
+        row: &RowName,
+        floor: u64,
+    ) -> Result<Option<Entry>, NoMemory>
+        ensures chosen { IfOk result
+            (IsChosen self.now.case self.now.history (choices.Purge row.now floor)) }
+    {
+        purge_of(alloc, self.case, &self.history, &self.kept, row, floor)
+    }
+
+    /// Whether no work is left.
+    pub fn is_finished(&self) -> bool
+        ensures finished { IsTrue result
+            ↔ IsFinished self.now.case (run_of self.now.case.topology self.now.history) }
+    {
+        self.kept.work == 0
     }
 
     /// The history so far, at the end.
