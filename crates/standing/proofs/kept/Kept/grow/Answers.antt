@@ -24,7 +24,7 @@ returns-in-Some c =
     (λ rows waiting pending work. kept-put case history entry left old c.put.new.self c.requires.followed c.requires.next.may c.requires.few
     c.requires.kept leaves rows waiting
     (subst (λ n. IsAfterEntry n entry left.name (length (newly_pending old.rows.entries left)) old.pending.entries c.put.new.self.pending.entries)
-    c.len-in-Some.ensures.count pending)
+    c.len.ensures.count pending)
     work c.put.ensures.claims)
     c.put.ensures.rows c.put.ensures.waiting c.put.ensures.pending c.put.ensures.work
 
