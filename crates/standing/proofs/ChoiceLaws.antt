@@ -1,13 +1,12 @@
 -- Which entries are lawful of a choice.
-use Rattle.std.proofs.Common.{◌≡◌, ◌∙◌, ◌<◌, ◌≤◌, ℕ, true, List, [], length, refl, sym, ap, subst}
-use Rattle.std.specs.Prelude.{IsNone, IsSome, None, Option, Some, slice_get}
+use Rattle.std.proofs.Common.{◌≡◌, ◌∙◌, ◌<◌, ℕ, true, List, [], length, refl, sym, ap, subst}
+use Rattle.std.specs.Prelude.{IsNone, IsSome, None, Some, slice_get}
 use Rattle.std.specs.Option.{option_map}
 use Rattle.std.proofs.lemmas.Option.{slice_get_within}
-use Rattle.list_lemmas.proofs.Lists.{none_some, some_same}
+use Rattle.list_lemmas.proofs.Lists.{some_same}
 use Rattle.mw_types.specs.declared.identity.RecordId.{RecordId}
 use Rattle.mw_types.specs.declared.identity.RowName.{RowName}
 use Rattle.mw_types.specs.declared.record.Record.{Record}
-use Rattle.mw_types.specs.declared.timer.Timer.{Timer}
 use Rattle.mw_types.specs.declared.delivery.Delivery.{Delivery}
 use Rattle.mw_types.specs.declared.entry.Entry.{Entry}
 use Rattle.mw_types.specs.declared.entry.Entry.TheVariants.{Claim, Inject, Handle, Fire, Ack, Purge}
@@ -18,9 +17,9 @@ use Rattle.topology.specs.Rules.{interval_count}
 use Rattle.row_parts.specs.Contents.{found_delivery}
 use Rattle.run_history.specs.Cases.{CaseShape, is_injector, record_of, source_of}
 use Rattle.run_history.specs.Made.{row_written}
-use Rattle.run_history.specs.Runs.{row_in, row_of, run_of}
-use Rattle.run_history.specs.Watermarks.{cursor_of, low_watermark}
-use Rattle.run_history.specs.Legal.{MayFollow, floor_of, record_outcome, timer_outcome}
+use Rattle.run_history.specs.Runs.{row_of, run_of}
+use Rattle.run_history.specs.Watermarks.{cursor_of}
+use Rattle.run_history.specs.Legal.{record_outcome, timer_outcome}
 use Rattle.run_history.specs.Fences.{IsUnderLastClaim, sequencer_of}
 use Rattle.run_history.proofs.Fenced.{claim-under}
 use Rattle.history_laws.proofs.StampLaws.{line_of}
@@ -33,20 +32,28 @@ use Rattle.standing.specs.Keeping.{sequencer_for}
 under-from : (shape : Shape) (history : List Entry) (entry : Entry) (name : RowName) (seq : ℕ) → row_written entry ≡ Some name
     → sequencer_of entry ≡ Some seq → sequencer_for shape history name ≡ Some seq → IsUnderLastClaim shape history entry
 under-from shape history entry name seq on carries is other written =
-    subst (λ (n : RowName). sequencer_for shape history n ≡ sequencer_of entry) (some_same name other (sym on ∙ written)) (is ∙ sym carries)
+    subst (λ (n : RowName). sequencer_for shape history n ≡ sequencer_of entry) (some_same name other (sym on ∙ written)) (is
+    ∙ sym carries)
 
 -- ---- claims
 
 -- a claim of what is there
 pub claim-chosen : (case : CaseShape) (history : List Entry) (worker interval : ℕ) → worker < 16 → interval < interval_count case.topology
     → IsChosen case history (choices.Claim worker interval) (Some (Claim worker interval))
-claim-chosen case history worker interval few there =
-    (refl, record { may = record { worker_there = few; interval_there = there }; under = claim-under case.topology history worker interval })
+claim-chosen case history worker interval few there = (
+  refl,
+  record {
+    may = record { worker_there = few; interval_there = there };
+    under = claim-under case.topology history worker
+        interval;
+  },
+)
 
 -- the worker and the interval of a choice
 abbrev worker_in : Choice → ℕ
 worker_in (choices.Claim worker interval) = worker
 worker_in _ = 0
+
 abbrev interval_in : Choice → ℕ
 interval_in (choices.Claim worker interval) = interval
 interval_in _ = 0
@@ -142,7 +149,8 @@ pub handling-none : (case : CaseShape) (history : List Entry) (id : RecordId)
     → IsChosen case history (choices.Handle id) None
 handling-none case history id never (Handle seq row i effects) same may =
     never may.may.delivery seq
-    (subst (λ (j : RecordId). found_delivery j (run_of case.topology history).unhandled ≡ Some may.may.delivery) (ap id_in same) may.may.waits)
+    (subst (λ (j : RecordId). found_delivery j (run_of case.topology history).unhandled ≡ Some may.may.delivery)
+    (ap id_in same) may.may.waits)
     (ap (sequencer_for case.topology history) may.may.to_row ∙ may.under row refl)
 handling-none case history id never (Claim worker interval) same may = absurd cc
 handling-none case history id never (Inject seq part line item) same may = absurd cc
@@ -208,7 +216,8 @@ number_in _ = 0
 -- lawful entries of one choice are the same
 pub one-chosen : (case : CaseShape) (history : List Entry) (a b : Entry) → MayCome case history a → MayCome case history b
     → choice_of a ≡ choice_of b → a ≡ b
-one-chosen case history (Claim worker_a id_a) (Claim worker_b id_b) one other same = λ j. Claim (ap worker_in same j) (ap interval_in same j)
+one-chosen case history (Claim worker_a id_a) (Claim worker_b id_b) one other same = λ j. Claim (ap worker_in same j)
+    (ap interval_in same j)
 one-chosen case history (Claim worker_a id_a) (Inject seq_b part_b line_b it_b) one other same = absurd cc
 one-chosen case history (Claim worker_a id_a) (Handle seq_b row_b id_b left_b) one other same = absurd cc
 one-chosen case history (Claim worker_a id_a) (Fire seq_b row_b it_b mark_b left_b) one other same = absurd cc
@@ -218,8 +227,10 @@ one-chosen case history (Inject seq_a part_a line_a it_a) (Claim worker_b id_b) 
 one-chosen case history (Inject seq_a part_a line_a it_a) (Inject seq_b part_b line_b it_b) one other same =
     let part = ap part_in same in
     let line = one.may.next_line ∙ ap (cursor_of case (run_of case.topology history)) part ∙ sym other.may.next_line in
-    let item = some_same it_a it_b (sym one.may.of_line ∙ (λ j. option_map record_of (item_at (source_of case (part j)) (line j))) ∙ other.may.of_line) in
-    let seq = some_same seq_a seq_b (sym (one.under (row_of_injector part_a) refl) ∙ ap (λ q. sequencer_for case.topology history (row_of_injector q)) part
+    let item = some_same it_a it_b (sym one.may.of_line ∙ (λ j. option_map record_of (item_at (source_of case (part j))
+    (line j))) ∙ other.may.of_line) in
+    let seq = some_same seq_a seq_b (sym (one.under (row_of_injector part_a) refl) ∙ ap (λ q. sequencer_for case.topology history
+    (row_of_injector q)) part
     ∙ other.under (row_of_injector part_b) refl) in
     λ j. Inject (seq j) (part j) (line j) (item j)
 one-chosen case history (Inject seq_a part_a line_a it_a) (Handle seq_b row_b id_b left_b) one other same = absurd cc
@@ -234,9 +245,11 @@ one-chosen case history (Handle seq_a row_a id_a left_a) (Handle seq_b row_b id_
     let delivery = some_same one.may.delivery other.may.delivery
     (sym one.may.waits ∙ ap (λ i. found_delivery i run.unhandled) id ∙ other.may.waits) in
     let row = sym one.may.to_row ∙ ap (λ (d : Delivery). d.to) delivery ∙ other.may.to_row in
-    let effects = some_same left_a left_b (sym one.may.does ∙ (λ j. record_outcome case (row j) (row_of case.topology run (row j)) (delivery j).item)
+    let effects = some_same left_a left_b (sym one.may.does ∙ (λ j. record_outcome case (row j) (row_of case.topology run (row j))
+    (delivery j).item)
     ∙ other.may.does) in
-    let seq = some_same seq_a seq_b (sym (one.under row_a refl) ∙ ap (sequencer_for case.topology history) row ∙ other.under row_b refl) in
+    let seq = some_same seq_a seq_b (sym (one.under row_a refl) ∙ ap (sequencer_for case.topology history) row
+    ∙ other.under row_b refl) in
     λ j. Handle (seq j) (row j) (id j) (effects j)
 one-chosen case history (Handle seq_a row_a id_a left_a) (Fire seq_b row_b it_b mark_b left_b) one other same = absurd cc
 one-chosen case history (Handle seq_a row_a id_a left_a) (Ack seq_b row_b id_b) one other same = absurd cc
@@ -249,9 +262,11 @@ one-chosen case history (Fire seq_a row_a it_a mark_a left_a) (Fire seq_b row_b 
     let row = ap row_in_choice same in
     let timer = some_same it_a it_b (sym one.may.least_timer ∙ ap (λ (n : RowName). slice_get (row_of case.topology run n).timers 0) row
     ∙ other.may.least_timer) in
-    let effects = some_same left_a left_b (sym one.may.does ∙ (λ j. timer_outcome case (row j) (row_of case.topology run (row j)) (timer j))
+    let effects = some_same left_a left_b (sym one.may.does ∙ (λ j. timer_outcome case (row j) (row_of case.topology run (row j))
+    (timer j))
     ∙ other.may.does) in
-    let seq = some_same seq_a seq_b (sym (one.under row_a refl) ∙ ap (sequencer_for case.topology history) row ∙ other.under row_b refl) in
+    let seq = some_same seq_a seq_b (sym (one.under row_a refl) ∙ ap (sequencer_for case.topology history) row
+    ∙ other.under row_b refl) in
     λ j. Fire (seq j) (row j) (timer j) (ap number_in same j) (effects j)
 one-chosen case history (Fire seq_a row_a it_a mark_a left_a) (Ack seq_b row_b id_b) one other same = absurd cc
 one-chosen case history (Fire seq_a row_a it_a mark_a left_a) (Purge seq_b row_b floor_b) one other same = absurd cc
@@ -261,7 +276,8 @@ one-chosen case history (Ack seq_a row_a id_a) (Handle seq_b row_b id_b left_b) 
 one-chosen case history (Ack seq_a row_a id_a) (Fire seq_b row_b it_b mark_b left_b) one other same = absurd cc
 one-chosen case history (Ack seq_a row_a id_a) (Ack seq_b row_b id_b) one other same =
     let row = ap row_in_choice same in
-    let seq = some_same seq_a seq_b (sym (one.under row_a refl) ∙ ap (sequencer_for case.topology history) row ∙ other.under row_b refl) in
+    let seq = some_same seq_a seq_b (sym (one.under row_a refl) ∙ ap (sequencer_for case.topology history) row
+    ∙ other.under row_b refl) in
     λ j. Ack (seq j) (row j) (ap id_in same j)
 one-chosen case history (Ack seq_a row_a id_a) (Purge seq_b row_b floor_b) one other same = absurd cc
 one-chosen case history (Purge seq_a row_a floor_a) (Claim worker_b id_b) one other same = absurd cc
@@ -271,5 +287,6 @@ one-chosen case history (Purge seq_a row_a floor_a) (Fire seq_b row_b it_b mark_
 one-chosen case history (Purge seq_a row_a floor_a) (Ack seq_b row_b id_b) one other same = absurd cc
 one-chosen case history (Purge seq_a row_a floor_a) (Purge seq_b row_b floor_b) one other same =
     let row = ap row_in_choice same in
-    let seq = some_same seq_a seq_b (sym (one.under row_a refl) ∙ ap (sequencer_for case.topology history) row ∙ other.under row_b refl) in
+    let seq = some_same seq_a seq_b (sym (one.under row_a refl) ∙ ap (sequencer_for case.topology history) row
+    ∙ other.under row_b refl) in
     λ j. Purge (seq j) (row j) (ap number_in same j)

@@ -1,11 +1,11 @@
 -- What is known of what is found by what is kept.
-use Rattle.std.proofs.Common.{◌≡◌, ◌∙◌, ◌<◌, ◌≤◌, ◌&&◌, ℕ, Bool, true, false, cond, List, [], length, refl, sym, ap, subst, arith}
+use Rattle.run_history.specs.Legal.{record_outcome}
+use Rattle.std.proofs.Common.{◌≡◌, ◌∙◌, ◌<◌, ◌≤◌, ◌&&◌, ℕ, Bool, true, false, cond, List, length, refl, sym, ap, subst, arith}
 use Rattle.std.specs.Prelude.{IsNone, IsSome, None, Option, Some, is_none, is_some, nat_le, nat_lt, not, unwrap_or, ◌==◌}
-use Rattle.std.specs.List.{list_all}
 use Rattle.std.specs.Option.{option_and_then, option_map_or}
 use Rattle.std.specs.BTreeMap.{get}
 use Rattle.std.specs.Ordering.{nat_cmp}
-use Rattle.std.proofs.lemmas.Bool.{and_from, both_ways, leb-true, ltb-true, le-leb}
+use Rattle.std.proofs.lemmas.Bool.{and_from, leb-true, ltb-true}
 use Rattle.list_lemmas.proofs.Lists.{find-each, find-passes, none_some, some_same}
 use Rattle.list_lemmas.proofs.Places.{each-passes}
 use Rattle.list_lemmas.proofs.Tests.{both_true}
@@ -81,9 +81,11 @@ reader-there case history id d follows waits =
     let there = found-there shape sent.sender d.id (row_in run sent.sender) (ap is_some sent.pending) in
     let part = (legal-on_parts case history follows.lawful.legal).rows sent.sender there in
     let fit = fits-parts case (length history) sent.sender row (legal-fits case history sent.sender follows.lawful.legal part) in
-    let goes = find-each (λ (e : Delivery). is_sent_before shape (length history) e ≡ true) (λ (e : Delivery). same_id e.id d.id) row.pending d
+    let goes = find-each (λ (e : Delivery). is_sent_before shape (length history) e ≡ true) (λ
+    (e : Delivery). same_id e.id d.id) row.pending d
     (each-passes (is_sent_before shape (length history)) row.pending fit.1) sent.pending in
-    let last = both_true (nat_lt d.id.commit (length history) && nat_le (injectors_of shape) d.to.part) (nat_lt d.to.part (parts_of shape)) goes in
+    let last = both_true (nat_lt d.id.commit (length history) && nat_le (injectors_of shape) d.to.part) (nat_lt d.to.part
+    (parts_of shape)) goes in
     let first = both_true (nat_lt d.id.commit (length history)) (nat_le (injectors_of shape) d.to.part) last.0 in
     (leb-true (injectors_of shape) d.to.part first.1, ltb-true d.to.part (parts_of shape) last.1)
 
@@ -135,7 +137,8 @@ not-handled case history id d follows waits = by_test (is_handled id history) re
     by_test false is = refl
 
 -- a record that an entry handles may be proposed
-pub handling-kept : (case : CaseShape) (history : List Entry) (kept : Kept) (seq : ℕ) (name : RowName) (id : RecordId) (effects : EffectsView)
+pub handling-kept : (case : CaseShape) (history : List Entry) (kept : Kept) (seq : ℕ) (name : RowName) (id : RecordId)
+    (effects : EffectsView)
     (d : Delivery) → IsFollowed case history → IsKept case history kept → MayCome case history (Handle seq name id effects)
     → waiting_in kept.waiting.entries id ≡ Some d
     → IsHandling case name (row_of case.topology (cached kept.rows.entries) name) d effects
@@ -153,7 +156,7 @@ handling-kept case history kept seq name id effects d follows keeps may found =
       to_row = to_row;
       new = ap (is_finished d.id) row ∙ sym (ap (λ (n : RowName). is_finished d.id (row_of shape run n)) to_row)
           ∙ finished-handled case history d follows.lawful.legal made ∙ not-handled case history d.id d follows own;
-      does = (λ i. Rattle.run_history.specs.Legal.record_outcome case name (row i) (sym same i).item) ∙ may.may.does;
+      does = (λ i. record_outcome case name (row i) (sym same i).item) ∙ may.may.does;
     }
 
 -- ---- an id that is settled
@@ -164,7 +167,8 @@ pub settled-part : (case : CaseShape) (history : List Entry) (kept : Kept) (name
     → (is_some (found_delivery id (pending_in kept.rows.entries name)) && is_none (waiting_in kept.waiting.entries id)) ≡ true
     → name.part < parts_of case.topology
 settled-part case history kept name id follows keeps settled =
-    let both = both_true (is_some (found_delivery id (pending_in kept.rows.entries name))) (is_none (waiting_in kept.waiting.entries id)) settled in
+    let both = both_true (is_some (found_delivery id (pending_in kept.rows.entries name))) (is_none
+    (waiting_in kept.waiting.entries id)) settled in
     (legal-on_parts case history follows.lawful.legal).rows name
     (found-there case.topology name id (row_in (run_of case.topology history) name)
     (sym (ap (λ (l : List Delivery). is_some (found_delivery id l)) (pending-of case.topology kept.rows.entries name
@@ -176,7 +180,8 @@ pub settled-found : (case : CaseShape) (history : List Entry) (kept : Kept) (nam
     ≡ (is_some (found_delivery id (row_of case.topology (run_of case.topology history) name).pending)
     && is_none (found_delivery id (run_of case.topology history).unhandled))
 settled-found case history kept name id keeps =
-    let pending = pending-of case.topology kept.rows.entries name ∙ ap (λ (c : Contents). c.pending) (row-kept case history kept name keeps) in
+    let pending = pending-of case.topology kept.rows.entries name ∙ ap (λ (c : Contents). c.pending)
+    (row-kept case history kept name keeps) in
     λ i. is_some (found_delivery id (pending i)) && is_none (keeps.waiting id i)
 
 -- an id may be settled where it is found so
@@ -199,4 +204,5 @@ pub there-part : (case : CaseShape) (history : List Entry) (kept : Kept) (name :
     → IsKept case history kept → (is_some (row_in (cached kept.rows.entries) name) && rises) ≡ true → name.part < parts_of case.topology
 there-part case history kept name rises follows keeps both =
     (legal-on_parts case history follows.lawful.legal).rows name
-    (sym (ap is_some (there-kept case history kept name keeps)) ∙ (both_true (is_some (row_in (cached kept.rows.entries) name)) rises both).0)
+    (sym (ap is_some (there-kept case history kept name keeps)) ∙ (both_true (is_some (row_in
+    (cached kept.rows.entries) name)) rises both).0)

@@ -1,27 +1,25 @@
 -- The row that an entry leaves which may come next.
-use Rattle.std.proofs.Common.{◌≡◌, ◌∙◌, ◌<◌, ◌≤◌, ◌^◌, ℕ, Bool, true, false, List, [], ◌∷◌, fold, length, map, min, refl, sym, ap, subst, arith}
-use Rattle.std.specs.Prelude.{IsSome, None, Option, Some, slice_get, unwrap_or}
+use Rattle.std.proofs.Common.{◌≡◌, ◌∙◌, ◌<◌, ◌≤◌, ◌^◌, ℕ, true, false, List, [], ◌∷◌, fold, length, map, min, refl, sym, ap, subst, arith}
+use Rattle.std.specs.Prelude.{Option, Some, unwrap_or}
 use Rattle.std.specs.Option.{option_map_or}
-use Rattle.std.proofs.lemmas.Option.{slice_get_within}
-use Rattle.list_lemmas.proofs.Lists.{some_same}
+use Rattle.list_lemmas.proofs.Lists.{some_same, find-passes}
 use Rattle.mw_types.specs.declared.identity.RecordId.{RecordId}
 use Rattle.mw_types.specs.declared.identity.RowName.{RowName}
 use Rattle.mw_types.specs.declared.record.Record.{Record}
 use Rattle.mw_types.specs.declared.timer.Timer.{Timer}
 use Rattle.mw_types.specs.declared.delivery.Delivery.{Delivery}
 use Rattle.mw_types.specs.declared.entry.Entry.{Entry}
-use Rattle.mw_types.specs.declared.entry.Entry.TheVariants.{Claim, Inject, Handle, Fire, Ack, Purge}
+use Rattle.mw_types.specs.declared.entry.Entry.TheVariants.{Inject, Handle, Fire, Ack, Purge}
 use Rattle.mw_types.specs.Outcomes.{EffectsView}
-use Rattle.topology.specs.Shapes.{Shape, parts_of}
-use Rattle.row_parts.specs.Contents.{Contents, found_delivery, fresh, ids_from, without_delivery}
+use Rattle.row_parts.specs.Contents.{Contents, found_delivery, fresh, ids_from, without_delivery, same_id}
 use Rattle.run_history.specs.Cases.{CaseShape, fresh_of}
 use Rattle.run_history.specs.Finished.{all_pending}
 use Rattle.run_history.specs.Fits.{fits}
 use Rattle.run_history.specs.Made.{deliveries_made, late_cause, productions_of, row_written}
-use Rattle.run_history.specs.Runs.{Run, cached, row_in, row_of, run_of, written_row}
+use Rattle.run_history.specs.Runs.{cached, row_in, row_of, run_of, written_row}
 use Rattle.run_history.proofs.RunLaws.{next-length}
 use Rattle.history_laws.proofs.FitLaws.{legal-fits}
-use Rattle.history_laws.proofs.IdLaws.{legal-ids, waits_as_made}
+use Rattle.history_laws.proofs.IdLaws.{legal-ids, waits_as_made, same_id-true}
 use Rattle.book.specs.Proposals.{is_cause_late, left_by}
 use Rattle.book.specs.declared.proposal.Proposal.{Proposal}
 use Rattle.book.specs.declared.proposal.Proposal.TheVariants as proposals
@@ -57,7 +55,8 @@ left-same case history kept name proposal commit entry keeps number on late =
     (row_of shape run name)) on)
 
 -- so the row that was left by the entry of a proposal is the row that the entry leaves
-pub left-by_proposal : (case : CaseShape) (history : List Entry) (kept : Kept) (name : RowName) (seq : ℕ) (proposal : Proposal) (commit : ℕ)
+pub left-by_proposal : (case : CaseShape) (history : List Entry) (kept : Kept) (name : RowName) (seq : ℕ) (proposal : Proposal)
+    (commit : ℕ)
     (entry : Entry) (left : NamedRow)
     → IsKept case history kept → commit ≡ length history → row_written entry ≡ Some name
     → is_cause_late proposal entry ≡ late_cause (run_of case.topology history).made entry
@@ -72,18 +71,21 @@ left-by_proposal case history kept name seq proposal commit entry left keeps num
 )
 
 -- an injected line
-pub left-injected : (case : CaseShape) (history : List Entry) (kept : Kept) (seq part line : ℕ) (item : Record) (commit : ℕ) (left : NamedRow)
+pub left-injected : (case : CaseShape) (history : List Entry) (kept : Kept) (seq part line : ℕ) (item : Record) (commit : ℕ)
+    (left : NamedRow)
     → IsKept case history kept → MayCome case history (Inject seq part line item) → commit ≡ length history
     → IsLeftBy case seq (record { part = part; key = [] }) (proposals.Inject line) commit
     (row_of case.topology (cached kept.rows.entries) (record { part = part; key = [] })) left
     → IsLeftOf case history (Inject seq part line item) (Some left)
 left-injected case history kept seq part line item commit left keeps may number by =
-    left-by_proposal case history kept (record { part = part; key = [] }) seq (proposals.Inject line) commit (Inject seq part line item) left
+    left-by_proposal case history kept (record { part = part; key = [] }) seq (proposals.Inject line) commit
+    (Inject seq part line item) left
     keeps number refl refl by
     (by.of_proposal.1.1 ∙ ap (Inject seq part line) (some_same _ _ (sym by.of_proposal.1.0 ∙ may.may.of_line)))
 
 -- a handled record
-pub left-handled : (case : CaseShape) (history : List Entry) (kept : Kept) (seq : ℕ) (name : RowName) (id : RecordId) (effects : EffectsView)
+pub left-handled : (case : CaseShape) (history : List Entry) (kept : Kept) (seq : ℕ) (name : RowName) (id : RecordId)
+    (effects : EffectsView)
     (commit : ℕ) (delivery : Delivery) (left : NamedRow)
     → IsFollowed case history → IsKept case history kept → MayCome case history (Handle seq name id effects) → commit ≡ length history
     → found_delivery id (run_of case.topology history).unhandled ≡ Some delivery
@@ -92,9 +94,9 @@ pub left-handled : (case : CaseShape) (history : List Entry) (kept : Kept) (seq 
 left-handled case history kept seq name id effects commit delivery left follows keeps may number waits by =
     let run = run_of case.topology history in
     let made = waits_as_made history run id delivery (legal-ids case history follows.lawful.legal) waits in
-    let same_delivery : delivery.id ≡ id = Rattle.history_laws.proofs.IdLaws.same_id-true delivery.id id
-    (Rattle.list_lemmas.proofs.Lists.find-passes
-    (λ (d : Delivery). Rattle.row_parts.specs.Contents.same_id d.id id) run.unhandled delivery waits) in
+    let same_delivery : delivery.id ≡ id = same_id-true delivery.id id
+    (find-passes
+    (λ (d : Delivery). same_id d.id id) run.unhandled delivery waits) in
     left-by_proposal case history kept name seq (proposals.Handle delivery effects) commit (Handle seq name id effects) left
     keeps number refl (sym (ap (λ (o : Option Delivery). option_map_or (λ (d : Delivery). d.item.late) o false) made)) by
     (by.of_proposal ∙ ap (λ (i : RecordId). Handle seq name i effects) same_delivery)
@@ -113,7 +115,8 @@ left-fired case history kept seq name timer mark effects commit left keeps numbe
 row-there : (case : CaseShape) (history : List Entry) (kept : Kept) (name : RowName) (row : Contents) → IsKept case history kept
     → row_in (cached kept.rows.entries) name ≡ Some row → row ≡ row_of case.topology (run_of case.topology history) name
 row-there case history kept name row keeps there =
-    sym (ap (λ (o : Option Contents). unwrap_or o (fresh (fresh_of case.topology name.part))) (sym (there-kept case history kept name keeps) ∙ there))
+    sym (ap (λ (o : Option Contents). unwrap_or o (fresh (fresh_of case.topology name.part))) (sym
+    (there-kept case history kept name keeps) ∙ there))
 
 -- an id that is settled
 pub left-settled : (case : CaseShape) (history : List Entry) (kept : Kept) (seq : ℕ) (name : RowName) (id : RecordId) (commit : ℕ)
@@ -149,7 +152,8 @@ fold-min n [] = omega arith
 fold-min n (m ∷ ms) = let rest = fold-min (min n m) ms in omega (arith, rest)
 
 -- a floor that may be set is at most the number of the next entry
-pub floor-few : (case : CaseShape) (history : List Entry) (seq : ℕ) (name : RowName) (floor : ℕ) → MayCome case history (Purge seq name floor)
+pub floor-few : (case : CaseShape) (history : List Entry) (seq : ℕ) (name : RowName) (floor : ℕ) → MayCome case history
+    (Purge seq name floor)
     → length history < 2 ^ 32 → floor ≤ 2 ^ 32
 floor-few case history seq name floor may few =
     let run = run_of case.topology history in

@@ -1,5 +1,5 @@
 -- The table of the low watermarks of all parts, made in one pass over them.
-use Rattle.std.proofs.Common.{◌≡◌, ℕ, zero, suc, ◌+◌, ◌-◌, ◌<◌, ◌≤◌, cond, List, [], ◌∷◌, ◌++◌, length, map, get_or, inl, inr, refl, sym, ap, ◌∙◌, subst, arith, length-append}
+use Rattle.std.proofs.Common.{◌≡◌, ℕ, zero, suc, ◌+◌, ◌-◌, ◌<◌, ◌≤◌, cond, List, [], ◌∷◌, length, map, get_or, inl, inr, refl, sym, ap, ◌∙◌, subst, arith, length-append}
 use Rattle.std.specs.List.{AllByRecursion}
 use Rattle.std.proofs.lemmas.List.{get_or_append_left, get_or-append_right}
 use Rattle.std.proofs.lemmas.Bool.{cases_lt}
@@ -34,7 +34,8 @@ module _ (case : CaseShape) (run : Run) (topology : IsTopology case.topology) wh
       (map-agree (λ f. f < part) (fed_by depth) (fed_by other) each (feeds_of case.topology part) (fed part))
 
   -- looking back further than a part's number changes nothing
-  deeper : (depth part other : ℕ) → part ≤ depth → part ≤ other → low_under case run (suc depth) part ≡ low_under case run (suc other) part
+  deeper : (depth part other : ℕ) → part ≤ depth → part ≤ other → low_under case run (suc depth) part ≡ low_under case run
+      (suc other) part
   deeper zero part other le less = agrees zero other part (λ f lt. absurd (omega (arith, lt, le)))
   deeper (suc depth) part zero le less = agrees (suc depth) zero part (λ f lt. absurd (omega (arith, lt, less)))
   deeper (suc depth) part (suc other) le less =

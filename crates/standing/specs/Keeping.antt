@@ -103,7 +103,8 @@ abbrev pub HasNoted : List Delivery → List (RecordId × Delivery) → List (Re
 HasNoted sent old new = (id : RecordId) → waiting_in new id ≡ found_then id sent (waiting_in old id)
 
 -- an entry has taken what it handled, and then these were noted
-pub record HasChanged (entry : Entry) (sent : List Delivery) (old new : List (RecordId × Delivery)) : Type 0 where
+pub record HasChanged (entry : Entry) (sent : List Delivery) (old new : List (RecordId × Delivery))
+    : Type 0 where
   pub between : List (RecordId × Delivery)
   pub taken : HasTaken entry old between
   pub noted : HasNoted sent between new

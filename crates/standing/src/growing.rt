@@ -64,7 +64,8 @@ impl Kept {
     ) -> Result<(), NoMemory>
         ensures rows { OnOk result (self.new.rows.entries
             ≡ insert_entry row_cmp self.old.rows.entries left.name left.row) }
-        ensures waiting { OnOk result (HasChanged entry.now (newly_pending self.old.rows.entries left)
+        ensures waiting { OnOk result (HasChanged entry.now
+            (newly_pending self.old.rows.entries left)
             self.old.waiting.entries self.new.waiting.entries) }
         ensures pending { OnOk result (IsAfterEntry number entry.now left.name
             (length (newly_pending self.old.rows.entries left))
@@ -129,7 +130,8 @@ fn put_row(rows: &mut Rows, name: RowName, row: Row) -> Result<(), NoMemory>
 
 // Notes that a claim is the last of its interval.
 fn note_claim(claims: &mut Claims, entry: &Entry, number: u64) -> Result<(), NoMemory>
-    ensures { OnOk result (HasClaimed entry.now number (get nat_cmp claims.old) (get nat_cmp claims.new)) }
+    ensures { OnOk result (HasClaimed entry.now number
+        (get nat_cmp claims.old) (get nat_cmp claims.new)) }
 {
     if let Entry::Claim { interval, .. } = entry {
         claims.insert(*interval, number)?;

@@ -35,7 +35,10 @@ pub(crate) fn left_of(
     match entry {
         Entry::Claim { .. } => Ok(None),
         Entry::Inject {
-            seq, part, line, ..
+            seq,
+            part,
+            line,
+            ..
         } => {
             let left = row_injected(alloc, case, &kept.rows, *seq, *part, *line, commit)?;
             Ok(Some(left))
@@ -56,9 +59,7 @@ pub(crate) fn left_of(
             mark,
             effects,
         } => {
-            let left = row_fired(
-                alloc, case, kept, *seq, row, *timer, *mark, effects, commit,
-            )?;
+            let left = row_fired(alloc, case, kept, *seq, row, *timer, *mark, effects, commit)?;
             Ok(Some(left))
         }
         Entry::Ack { row, id, .. } => {
@@ -169,7 +170,11 @@ fn row_handled(
 }
 
 // That a record was handled.
-fn handle_proposal(alloc: Global, delivery: &Delivery, effects: &Effects) -> Result<Proposal, NoMemory>
+fn handle_proposal(
+    alloc: Global,
+    delivery: &Delivery,
+    effects: &Effects,
+) -> Result<Proposal, NoMemory>
     ensures { IfOk result (λ p. p ≡ proposals.Handle delivery.now effects.now) }
 {
     let delivery = delivery.copy(alloc)?;
@@ -219,10 +224,13 @@ fn row_settled(
     requires commit { commit < 2 ^ 32 }
     ensures { IfOk result (λ left. (row : Contents)
         × (row_in (cached rows.now.entries) name.now ≡ Some row)
-        × (left ≡ record { name = name.now; row = record row {
-          pending = without_delivery id row.pending;
-          last = commit;
-        } })) }
+        × (left ≡ record {
+          name = name.now;
+          row = record row {
+            pending = without_delivery id row.pending;
+            last = commit;
+          };
+        })) }
 {
     let row = rows.get(name).unwrap();
     let left = settled(alloc, row, id, commit)?;
@@ -244,11 +252,14 @@ fn row_purged(
     requires commit { commit < 2 ^ 32 }
     ensures { IfOk result (λ left. (row : Contents)
         × (row_in (cached rows.now.entries) name.now ≡ Some row)
-        × (left ≡ record { name = name.now; row = record row {
-          floor = floor;
-          seen = ids_from floor row.seen;
-          last = commit;
-        } })) }
+        × (left ≡ record {
+          name = name.now;
+          row = record row {
+            floor = floor;
+            seen = ids_from floor row.seen;
+            last = commit;
+          };
+        })) }
 {
     let row = rows.get(name).unwrap();
     let left = purged(alloc, row, floor, commit)?;

@@ -87,8 +87,8 @@ impl<'a> Standing<'a> {
         handling_of(alloc, self.case, &self.work, &self.history, &self.kept, id)
     }
 
-    /// The lawful entry by which a row learns that the record of this id was handled, or none exactly
-    /// where there is none.
+    /// The lawful entry by which a row learns that the record of this id was handled, or none
+    /// exactly where there is none.
     pub fn acknowledgement_of(
         &self,
         alloc: Global,
@@ -101,8 +101,8 @@ impl<'a> Standing<'a> {
         acknowledgement_of(alloc, self.case, &self.history, &self.kept, row, id)
     }
 
-    /// The lawful entry by which a row forgets the ids below a floor, or none exactly where there is
-    /// none.
+    /// The lawful entry by which a row forgets the ids below a floor, or none exactly where there
+    /// is none.
     pub fn purge_of(
         &self,
         alloc: Global,
@@ -137,8 +137,8 @@ impl<'a> Standing<'a> {
         history
     }
 
-    /// The same with this entry too, which may come next. Where there is no memory nothing is left of
-    /// it, so that no step has to be taken back.
+    /// The same with this entry too, which may come next. Where there is no memory nothing is left
+    /// of it, so that no step has to be taken back.
     pub fn push(self, alloc: Global, entry: Entry) -> Result<Standing<'a>, NoMemory>
         requires next { MayCome self.case self.history entry }
         requires few { length self.history < 2 ^ 32 }

@@ -18,7 +18,8 @@ returns-then-not-is_settled c =
     let no : c.is_settled.result ≡ false = search rules in
     acknowledgement-none c.args.case.now c.args.history.now c.args.name.now c.args.id
     (λ may. both_ways c.is_settled.result no
-    (c.is_settled.ensures ∙ settled-true c.args.case.now c.args.history.now c.args.kept.now c.args.name.now c.args.id c.requires.kept may))
+    (c.is_settled.ensures ∙ settled-true c.args.case.now c.args.history.now c.args.kept.now c.args.name.now c.args.id
+    c.requires.kept may))
 
 -- a row in which an id is pending is of a part that is there
 pub sequencer-requires : goal.sequencer-requires
@@ -40,5 +41,6 @@ returns-in_ok-row-in-Some c =
     (sym (settled-found case history c.args.kept.now c.args.name.now c.args.id c.requires.kept) ∙ sym c.is_settled.ensures ∙ yes) in
     subst (λ (n : RowName). IsChosen case history (choices.Ack c.args.name.now c.args.id) (Some (Ack c.in-Some.seq n c.args.id)))
     (sym c.in_ok-row-in-Some.ensures.copied)
-    (acknowledgement-chosen case history c.args.name.now c.args.id c.in-Some.seq both.0 (none-there (found_delivery c.args.id run.unhandled) both.1)
+    (acknowledgement-chosen case history c.args.name.now c.args.id c.in-Some.seq both.0 (none-there
+    (found_delivery c.args.id run.unhandled) both.1)
     (sym (claimed-kept case history c.args.kept.now c.args.name.now c.requires.kept) ∙ sym c.sequencer.ensures ∙ c.in-Some.is))

@@ -13,7 +13,8 @@ pub delivered-requires-clause-waits : goal.delivered-requires-clause-waits
 delivered-requires-clause-waits c =
     let found : waiting_in c.args.kept.now.waiting.entries c.args.id ≡ Some c.in-Some.delivery.now = search rules in
     let waits = waits-kept c.args.case.now c.args.history.now c.args.kept.now c.args.id c.in-Some.delivery.now c.requires.kept found in
-    subst (λ (i : RecordId). found_delivery i (run_of c.args.case.now.topology c.args.history.now).unhandled ≡ Some c.in-Some.delivery.now)
+    subst (λ (i : RecordId). found_delivery i (run_of c.args.case.now.topology c.args.history.now).unhandled ≡ Some
+    c.in-Some.delivery.now)
     (sym waits.1) waits.0
 
 -- and its own is the id

@@ -1,10 +1,6 @@
-use Rattle.std.proofs.Common.{◌≡◌, ◌≤◌, ◌∙◌, [], Some, ap, arith, subst, sym}
+use Rattle.std.proofs.Common.{[], Some, ap, subst, sym}
 use Rattle.mw_types.specs.declared.entry.Entry.{Entry}
-use Rattle.mw_types.specs.declared.entry.Entry.TheVariants.{Inject, Handle, Fire, Ack, Purge}
 use Rattle.run_history.specs.Made.{row_written}
-use Rattle.run_history.specs.Runs.{run_of}
-use Rattle.run_history.specs.Legal.{MayPurge}
-use Rattle.run_history.proofs.RunLaws.{next-length}
 use Rattle.standing.specs.Choices.{MayCome}
 use Rattle.standing.specs.Keeping.{IsLeftOf}
 use Rattle.standing.proofs.FoundLaws.{handling-kept, waits-kept}
@@ -32,7 +28,8 @@ row_fired-requires-clause-fit c =
 -- what waits under the id may be proposed
 pub row_handled-requires-clause-proposal : goal.row_handled-requires-clause-proposal
 row_handled-requires-clause-proposal c delivery found =
-    handling-kept c.args.case.now c.args.history.now c.args.kept.now c.in-Handle.seq c.in-Handle.row c.in-Handle.id c.in-Handle.effects delivery
+    handling-kept c.args.case.now c.args.history.now c.args.kept.now c.in-Handle.seq c.in-Handle.row c.in-Handle.id
+    c.in-Handle.effects delivery
     c.requires.followed c.requires.kept (subst (MayCome c.args.case.now c.args.history.now) c.in-Handle.is c.requires.next) found
 
 -- no floor is above the number of the next entry
@@ -58,7 +55,8 @@ returns-in_ok-left-in-Handle c =
     let history = c.args.history.now in
     let made = c.in_ok-left-in-Handle.ensures in
     subst (λ (e : Entry). IsLeftOf case history e (Some c.in_ok-left-in-Handle.left)) (sym c.in-Handle.is)
-    (left-handled case history c.args.kept.now c.in-Handle.seq c.in-Handle.row c.in-Handle.id c.in-Handle.effects c.len-commit.result made.0
+    (left-handled case history c.args.kept.now c.in-Handle.seq c.in-Handle.row c.in-Handle.id c.in-Handle.effects
+    c.len-commit.result made.0
     c.in_ok-left-in-Handle.left c.requires.followed c.requires.kept (subst (MayCome case history) c.in-Handle.is c.requires.next)
     c.len-commit.ensures.count (waits-kept case history c.args.kept.now c.in-Handle.id made.0 c.requires.kept made.1).0 made.2)
 
@@ -67,7 +65,8 @@ returns-in_ok-left-in-Fire c =
     let case = c.args.case.now in
     let history = c.args.history.now in
     subst (λ (e : Entry). IsLeftOf case history e (Some c.in_ok-left-in-Fire.left)) (sym c.in-Fire.is)
-    (left-fired case history c.args.kept.now c.in-Fire.seq c.in-Fire.row c.in-Fire.timer c.in-Fire.mark c.in-Fire.effects c.len-commit.result
+    (left-fired case history c.args.kept.now c.in-Fire.seq c.in-Fire.row c.in-Fire.timer c.in-Fire.mark c.in-Fire.effects
+    c.len-commit.result
     c.in_ok-left-in-Fire.left c.requires.kept c.len-commit.ensures.count c.in_ok-left-in-Fire.ensures)
 
 pub returns-in_ok-left-in-Ack : goal.returns-in_ok-left-in-Ack

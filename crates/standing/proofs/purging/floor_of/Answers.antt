@@ -18,4 +18,5 @@ returns-in-None c =
     let shape = c.args.case.now.topology in
     let history = c.args.history.now in
     c.len.ensures.count
-    ∙ floor-none shape history ((none-pending shape history c.args.kept.now.pending.entries c.requires.senders).0 (c.in-None.ensures.none.0 refl))
+    ∙ floor-none shape history ((none-pending shape history c.args.kept.now.pending.entries c.requires.senders).0
+    (c.in-None.ensures.none.0 refl))

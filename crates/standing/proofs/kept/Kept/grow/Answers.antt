@@ -1,9 +1,8 @@
 use Rattle.std.proofs.Common.{◌≡◌, subst, refl, length}
-use Rattle.std.specs.Prelude.{None, Option}
+use Rattle.std.specs.Prelude.{None}
 use Rattle.std.specs.BTreeMap.{get}
 use Rattle.std.specs.Ordering.{nat_cmp}
 use Rattle.list_lemmas.proofs.Told.{on_ok-map}
-use Rattle.book.specs.declared.answers.NamedRow.{NamedRow}
 use Rattle.book.specs.Sending.{IsAfterEntry}
 use Rattle.run_history.specs.Made.{row_written}
 use Rattle.standing.specs.declared.kept.Kept.{Kept}
@@ -21,9 +20,11 @@ returns-in-Some c =
     let left = c.in-Some.left in
     let leaves = subst (IsLeftOf case history entry) c.in-Some.is c.in_ok-left.ensures in
     on_ok-four c.put.result
-    (λ rows waiting pending work. kept-put case history entry left old c.put.new.self c.requires.followed c.requires.next.may c.requires.few
+    (λ rows waiting pending work. kept-put case history entry left old c.put.new.self c.requires.followed c.requires.next.may
+    c.requires.few
     c.requires.kept leaves rows waiting
-    (subst (λ n. IsAfterEntry n entry left.name (length (newly_pending old.rows.entries left)) old.pending.entries c.put.new.self.pending.entries)
+    (subst (λ n. IsAfterEntry n entry left.name (length (newly_pending old.rows.entries left)) old.pending.entries
+    c.put.new.self.pending.entries)
     c.len.ensures.count pending)
     work c.put.ensures.claims)
     c.put.ensures.rows c.put.ensures.waiting c.put.ensures.pending c.put.ensures.work

@@ -1,4 +1,4 @@
-use Rattle.std.proofs.Common.{List, length, subst}
+use Rattle.std.proofs.Common.{List, subst}
 use Rattle.list_lemmas.proofs.Told.{on_ok-map}
 use Rattle.mw_types.specs.declared.delivery.Delivery.{Delivery}
 use Rattle.book.specs.Sending.{IsAfterEntry}
