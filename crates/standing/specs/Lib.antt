@@ -1,0 +1,4 @@
+pub mod Choices
+pub mod Standings
+pub mod Keeping
+pub mod Lows
