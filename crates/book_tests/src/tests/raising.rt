@@ -6,9 +6,11 @@ ghost use Rattle.shared_book.specs.SharedDesks.{shared_home, shared_view};
 ghost use Rattle.book_tests.specs.TestSeats.{GoesOn, IsAtRest};
 
 use super::example::two_line_case;
+use super::seats::Tried;
 use book::{Book, Claimed, Desk, DeskRefusal, Lease};
-use mw_types::{Bytes, Key, RowName};
+use mw_types::{Bytes, Key, NoMemory, RowName};
 use row_keeper::{BlindKeeper, Keeper, KeptRow};
+use run_history::Case;
 use shared_book::{Seat, Shared, SharedDesk};
 use std::alloc::Global;
 use std::process::Abort;
@@ -69,13 +71,13 @@ fn loaded(loads: Loads, interval: u32, mark: u64) -> Loads {
     }
 }
 
-// One try to claim the interval.
+// One try to claim the interval, and what came of it where there is no lease.
 fn lease_once<K: Keeper>(
     alloc: Global,
     desk: &mut SharedDesk<'_, '_, K>,
     worker: u32,
     interval: u32,
-) -> Result<Lease, DeskRefusal>
+) -> Result<Lease, Tried>
     requires may { MayClaim (shared_view desk.old.seat.now.place.me.0).case worker interval }
     ensures held { IfOk result (λ lease.
         (shared_view desk.new.seat.now.place.me.0).leases lease ≡ true) }
@@ -86,7 +88,8 @@ fn lease_once<K: Keeper>(
 {
     match desk.claim(alloc, worker, interval) {
         Ok(Claimed { lease, rows: _rows }) => Ok(lease),
-        Err(why) => Err(why),
+        Err(DeskRefusal::Busy { found }) => Err(Tried::Busy { found }),
+        Err(_why) => Err(Tried::Refused),
     }
 }
 
@@ -109,8 +112,8 @@ fn lease_at_last<K: Keeper, R: Wait>(
     for _ in rt.forever() {
         match lease_once(alloc, desk, worker, interval) {
             Ok(lease) => return Some(lease),
-            Err(DeskRefusal::Busy { found: _ }) => yield_now(),
-            Err(_why) => return None,
+            Err(Tried::Busy { .. }) => yield_now(),
+            Err(_) => return None,
         }
     }
     unreachable!()
@@ -335,13 +338,31 @@ fn in_threads<K: Keeper + Send, R: Threads + Wait + Sync>(
     both
 }
 
-// Whether all that two threads loaded is as it has to be, and these are the marks at the end: the injector's,
-// and of the count's interval the greatest to which it was raised.
-fn are_raised(marks: &[u64], source: u64, first: Loads, second: Loads) -> bool {
-    first.is_sound && second.is_sound && marks == [source, first.count.max(second.count)].as_slice()
+// Whether all that two threads loaded is as it has to be, and the book has two claims and these marks: the
+// injector's, and of the count's interval the greatest to which it was raised.
+fn are_raised<K: Keeper>(book: &Book<'_, K>, source: u64, first: Loads, second: Loads) -> bool {
+    let marks = [source, first.count.max(second.count)];
+    book.history().len() == 2
+        && first.is_sound
+        && second.is_sound
+        && book.marks() == marks.as_slice()
 }
 
-// The book comes back with two claims, and the marks to which the threads raised them.
+// The book comes back with the marks to which the threads raised them.
+fn comes_back<K: Keeper>(rt: &impl Abort, shared: Shared<'_, K>, both: Joined<K>, source: u64)
+    requires rest { let table = shared.table.shared in
+        IsAtRest table.table_id shared.case.now 2 (0 ∷ 1 ∷ []) both.seat.place }
+{
+    let Joined {
+        seat,
+        first,
+        second,
+    } = both;
+    let book = shared.close(seat);
+    assert!(rt; are_raised(&book, source, first, second));
+}
+
+// Two threads over the seats of a book.
 fn two_threads<K: Keeper + Send, R: Threads + Wait + Abort + Sync>(
     rt: &R,
     alloc: Global,
@@ -358,13 +379,7 @@ fn two_threads<K: Keeper + Send, R: Threads + Wait + Abort + Sync>(
     let mut other = seat;
     let one = shared.deal(&mut other);
     let both = in_threads(rt, alloc, &shared, one, other, row.one, row.other);
-    let Joined {
-        seat,
-        first,
-        second,
-    } = both;
-    let book = shared.close(seat);
-    assert!(rt; book.history().len() == 2 && are_raised(book.marks(), row.source, first, second));
+    comes_back(rt, shared, both, row.source);
 }
 
 // The book is shared among two seats.
@@ -391,6 +406,17 @@ fn blind(alloc: Global) -> BlindKeeper {
     };
     let bytes = Bytes::new(alloc);
     BlindKeeper::new(KeptRow { name, bytes })
+}
+
+// A book over such a keeper, in which nothing has happened yet.
+fn blind_book<'a>(alloc: Global, case: &'a Case) -> Result<Book<'a, BlindKeeper>, NoMemory>
+    ensures case { IfOk result (λ book. book.case ≡ case.now) }
+    ensures untold { IfOk result (λ book. book.rows ≡ None) }
+{
+    match Book::start(alloc, case, blind(alloc), 8) {
+        Ok(book) => Ok(book),
+        Err(_) => Err(NoMemory),
+    }
 }
 
 // Each raises the mark of its own interval; both raise the injector's, where the lease that was claimed first is
@@ -424,10 +450,7 @@ fn marks_rise_in_threads(rt: HostRuntime) -> Result<(), Fail> {
     let alloc = rt.alloc();
     let case = two_line_case(alloc)?;
     for row in &ROWS {
-        match Book::start(alloc, &case, blind(alloc), 8) {
-            Ok(book) => shared(&rt, alloc, book, *row),
-            Err(_) => assert!(rt; false),
-        }
+        shared(&rt, alloc, blind_book(alloc, &case)?, *row);
     }
     Ok(())
 }
