@@ -6,8 +6,6 @@ spells keys, so equal keys are equal bytes.
 import re
 from dataclasses import dataclass, field
 
-# A watermark line stands before each so many record lines of a run, so that few windows of a row are open at once.
-WATERMARK_EVERY = 64
 # The greatest timestamp that an event file may state.
 INPUT_MAX = 1 << 62
 KEY = b',"key":'
@@ -86,15 +84,8 @@ def watermark_line(stamp: int) -> bytes:
 def event_file(timely: list[bytes], late: list[bytes]) -> bytes:
     """An event file in which exactly `late` are late.
 
-    The others come first, ascending, with watermark lines that none of them is below; then a watermark above each late
-    one, and the late ones.
+    The others come first, under no watermark; then a watermark above each late one, and the late ones. Their order is
+    of no account to a count of the whole file.
     """
-    found, mark = [], 0
-    for place, line in enumerate(sorted(timely, key=stamp_of)):
-        if place % WATERMARK_EVERY == 0:
-            mark = stamp_of(line)
-            found.append(watermark_line(mark))
-        found.append(line)
-    if late:
-        found.append(watermark_line(max(mark, 1 + max(map(stamp_of, late)))))
-    return b"".join(found + late)
+    mark = [watermark_line(1 + max(map(stamp_of, late)))] if late else []
+    return b"".join(timely + mark + late)

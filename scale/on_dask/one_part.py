@@ -63,7 +63,7 @@ def runs_by_time(last: int, limits: program.Limits, row: list[bytes]) -> list[Ru
     """A row that is too long for a run, by time. Each run but the first begins with the last places before its own,
     which give nothing there, since too few are before them."""
     kept = greatest_by_place(row)
-    room = min(limits.lines, limits.file_bytes // (max(map(len, kept)) + program.WATERMARK_BYTES))
+    room = min(limits.lines, limits.file_bytes // max(map(len, kept)))
     step = max(1, room - last)
     runs = []
     for start in range(0, len(kept), step):

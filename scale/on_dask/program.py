@@ -7,11 +7,9 @@ from collections.abc import Iterable
 from dataclasses import dataclass
 
 # The program's mode by which each run is made. This is the one place that names it.
-MODE = "solo"
-# The statuses that are no fault of the input: the keeper, the output, memory and a read. The engine tries again.
-PASSING = (7, 8, 9, 13)
-# What a watermark line adds to a file at most, counted with each record line.
-WATERMARK_BYTES = 30
+MODE = "plain"
+# The statuses that are no fault of the input: the output, memory and a read. The engine tries again.
+PASSING = (8, 9, 13)
 
 
 class Refused(Exception):
@@ -28,14 +26,15 @@ class Failed(OSError):
 
 @dataclass(frozen=True)
 class Limits:
-    """What one run is given at most: record lines, and bytes of an event file; below the program's own limits."""
+    """What one run is given at most: record lines, and their bytes; below the program's own limits, so that there is
+    room for a watermark line in each file."""
 
     lines: int = 250_000
     file_bytes: int = 30 << 20
 
     def hold(self, lines: list[bytes]) -> bool:
         """Whether one run may have these lines."""
-        return len(lines) <= self.lines and sum(map(len, lines)) + WATERMARK_BYTES * len(lines) <= self.file_bytes
+        return len(lines) <= self.lines and sum(map(len, lines)) <= self.file_bytes
 
     def packed(self, groups: Iterable[list[bytes]]) -> list[list[bytes]]:
         """The lines of these groups, each group whole and in its order, as few runs as they fill one after the other;
@@ -43,7 +42,7 @@ class Limits:
         runs: list[list[bytes]] = []
         lines = size = 0
         for group in groups:
-            cost = sum(map(len, group)) + WATERMARK_BYTES * len(group)
+            cost = sum(map(len, group))
             if not runs or lines + len(group) > self.lines or size + cost > self.file_bytes:
                 runs.append([])
                 lines = size = 0

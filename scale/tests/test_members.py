@@ -26,10 +26,6 @@ class Members(unittest.TestCase):
                 found = late_lines(event_file(*given))
                 self.assertEqual([sorted(some) for some in found], [sorted(some) for some in given])
 
-    def test_few_windows_are_open_at_once(self):
-        file = event_file([member_line(b'"a"', stamp * 60, 1) for stamp in range(1000)], [])
-        self.assertGreaterEqual(file.count(b"watermark"), 10)
-
     def test_a_member_is_what_was_spelled(self):
         for key in (b'"a"', b'"\\"q\\"/x"', '"é"'.encode(), b'"}\\n"'):
             self.assertEqual(parts_of(member_line(key, 7, -8)), (key, 7, -8))

@@ -4,7 +4,7 @@ import unittest
 
 from on_dask import one_cut, one_part, result
 from on_dask.members import Chunk, lines_of, member_line, parts_of
-from on_dask.program import WATERMARK_BYTES, Limits
+from on_dask.program import Limits
 
 SMALL = Limits(lines=5, file_bytes=1 << 20)
 
@@ -69,7 +69,7 @@ class OnePart(unittest.TestCase):
 class Pieces(unittest.TestCase):
     def test_pieces_fit_and_are_all(self):
         lines = [b"x" * n + b"\n" for n in range(20)]
-        for limits in (SMALL, Limits(100, 60 + 4 * WATERMARK_BYTES)):
+        for limits in (SMALL, Limits(100, 60)):
             pieces = limits.pieces(lines)
             self.assertEqual([line for some in pieces for line in some], lines)
             self.assertTrue(all(map(limits.hold, pieces)))

@@ -26,9 +26,9 @@ EDITS = {
         BESIDE + "test_each_refused_line_has_its_place"),
     "a file's lines are counted from its last block": (
         "job", "for one in scans[:place])", "for one in scans[place:])", BESIDE + "test_each_refused_line_has_its_place"),
-    "a late line is in time": ("members", "b\"\".join(found + late)", "b\"\".join(late + found)", "tests.test_members"),
-    "late lines stand in time among the others": ("members", "max(mark, 1 + max(map(stamp_of, late)))", "0",
-                                                  "tests.test_members"),
+    "late lines stand among the others": ("members", "timely + mark + late", "mark + timely + late", "tests.test_members"),
+    "the last of the late lines is in time": ("members", "1 + max(map(stamp_of, late))", "max(map(stamp_of, late))",
+                                              "tests.test_members"),
     "the tail is the cut": ("keys", 'rpartition(b"/")[2]', 'partition(b"/")[2]', "tests.test_keys"),
     "head and tail have a cut": ("keys", 'if {"head", "tail"} <= taken', "if not taken", "tests.test_keys"),
     "an empty part is taken": ("keys", "if part else key", "if slash else key", "tests.test_keys"),

@@ -26,7 +26,7 @@ both_Equal Equal b e = (refl, e)
 both_Equal Greater b e = absurd (cc)
 
 -- an id that is found under another is that id
-same_found : (q id : RecordId) → is_at (id_cmp q) id ≡ true → q ≡ id
+pub same_found : (q id : RecordId) → is_at (id_cmp q) id ≡ true → q ≡ id
 same_found q id at =
     let both = both_Equal _ _ (equal_from_test (id_cmp q id) at) in
     let commit = exact_unsigned q.commit id.commit both.0 in

@@ -5,3 +5,9 @@ pub mod Spelling
 pub mod Taking
 pub mod Finding
 pub mod Pumping
+pub mod Prefixes
+pub mod Emitting
+pub mod Pieces
+pub mod Covering
+pub mod Entries
+pub mod Results

@@ -1,7 +1,7 @@
 -- Which lines are live lines, by what is read of them.
 use Rattle.std.proofs.Common.{◌≡◌, ℕ, ℤ, pos, negsuc, ◌<◌, ◌≤◌, ◌^◌, ◌&&◌, nat_lt, nat_le, nat_eq, List, length, Bool, true, false, cond, Option, Some, None, option_and_then, SFits, w64, refl, sym, ap, ◌∙◌, arith}
 use Rattle.std.specs.Cmp.Lexicographic.{pointwise, bytes_decides}
-use Rattle.std.proofs.lemmas.Bool.{and_parts, lt-ltb, false_from_ne_true}
+use Rattle.std.proofs.lemmas.Bool.{and_parts, lt-ltb}
 use Rattle.std.proofs.lemmas.Bool.Decides.{nat_tests}
 use Rattle.std.proofs.lemmas.Str.{is_utf8-from_IsUtf8, IsUtf8-from_is_utf8}
 use Rattle.mw_types.specs.declared.identity.RecordId.{RecordId}
@@ -57,26 +57,15 @@ live-is line is =
       value = long-is line.value f.1;
     }
 
--- a live line that is guessed of its own text is told
-pub told_id-some : (text : List ℕ) (line : LiveLine) → Some line ≡ line_guessed text → IsLive line
-    → live_text line ≡ text → Some line.id ≡ told_id text
-told_id-some text line guessed is same =
+-- a live line is spelt by its own text
+pub id_spelt-some : (text : List ℕ) (line : LiveLine) → IsLive line → live_text line ≡ text → Some line.id ≡ id_spelt text line
+id_spelt-some text line is same =
     sym (ap (λ (b : Bool). cond b (Some line.id) None) (both _ _ (live-yes line is) ((bytes_decides (live_text line) text).1 same)))
-    ∙ ap (option_and_then (id_spelt text)) guessed
-
--- a line that is guessed of another text is not
-pub told_id-none : (text : List ℕ) (line : LiveLine) → Some line ≡ line_guessed text → IsLive line
-    → (live_text line ≡ text → ⊥) → ◌≡◌ {A = Option RecordId} None (told_id text)
-told_id-none text line guessed is other =
-    let no : pointwise nat_eq (live_text line) text ≡ false =
-    false_from_ne_true _ (λ yes. other ((bytes_decides (live_text line) text).0 yes)) in
-    sym (ap (λ (b : Bool). cond (b && pointwise nat_eq (live_text line) text) (Some line.id) None) (live-yes line is)
-    ∙ ap (λ (b : Bool). cond b (Some line.id) None) no)
-    ∙ ap (option_and_then (id_spelt text)) guessed
 
 -- each live line is told
 pub told_id-own : (line : LiveLine) → IsLive line → told_id (live_text line) ≡ Some line.id
-told_id-own line is = sym (told_id-some (live_text line) line (sym (line_guessed-own line is)) is refl)
+told_id-own line is =
+    ap (option_and_then (id_spelt (live_text line))) (line_guessed-own line is) ∙ sym (id_spelt-some (live_text line) line is refl)
 
 -- what is told is a live line's
 pub told_id-is : (text : List ℕ) (id : RecordId) → told_id text ≡ Some id

@@ -2,11 +2,13 @@
 ghost use Rattle.std.specs.Prelude.{◌≡◌, ◌++◌, ◌<◌, ◌^◌, ◌+◌, Ok, length, map, ℕ, IfErr, IfOk, OnOk};
 ghost use Rattle.std.specs.BTreeMap.{insert_entry, IsOrdered};
 ghost use Rattle.mw_types.specs.Orders.{id_cmp};
-ghost use Rattle.live_outlet.specs.Collecting.{told_id, IsCollected, WhyNot, first_with};
+ghost use Rattle.live_outlet.specs.LiveLines.{IsLive};
+ghost use Rattle.live_outlet.specs.Collecting.{told_id, id_spelt, IsCollected, WhyNot, first_with};
 ghost use Rattle.live_outlet.specs.Progress.{line_taken, kept_beside, IsRefusalOf};
 
 use crate::guess::line_guessed;
 use crate::held::Held;
+use crate::line::LiveLine;
 use crate::refusal::CollectRefusal;
 use mw_types::{Bytes, NoMemory, RecordId, Seq};
 use std::alloc::Global;
@@ -101,16 +103,23 @@ fn keep(
             first: held.line,
         });
     }
-    let text = bytes_of(alloc, text)?;
-    insert(firsts, id, Held { line, text })?;
+    insert(alloc, firsts, id, line, text)?;
     Ok(())
 }
 
 // Puts a live line among the first ones.
-fn insert(firsts: &mut Firsts, id: RecordId, held: Held) -> Result<(), NoMemory>
-    ensures { OnOk result (firsts.new.entries ≡ insert_entry id_cmp firsts.old.entries id held) }
+fn insert(
+    alloc: Global,
+    firsts: &mut Firsts,
+    id: RecordId,
+    line: u32,
+    text: &[u8],
+) -> Result<(), NoMemory>
+    ensures { OnOk result (firsts.new.entries ≡ insert_entry id_cmp firsts.old.entries id
+        (record { line = line; text = text.now })) }
 {
-    firsts.insert(id, held)?;
+    let text = bytes_of(alloc, text)?;
+    firsts.insert(id, Held { line, text })?;
     Ok(())
 }
 
@@ -118,9 +127,17 @@ fn insert(firsts: &mut Firsts, id: RecordId, held: Held) -> Result<(), NoMemory>
 fn told_id(alloc: Global, text: &[u8]) -> Result<Option<RecordId>, NoMemory>
     ensures { IfOk result (λ id. id ≡ told_id text.now) }
 {
-    let Some(line) = line_guessed(alloc, text)? else {
-        return Ok(None);
-    };
+    match line_guessed(alloc, text)? {
+        Some(line) => id_spelt(alloc, text, &line),
+        None => Ok(None),
+    }
+}
+
+// The id of a line, where this is what it has before its LF.
+fn id_spelt(alloc: Global, text: &[u8], line: &LiveLine) -> Result<Option<RecordId>, NoMemory>
+    requires live { IsLive line.now }
+    ensures { IfOk result (λ id. id ≡ id_spelt text.now line.now) }
+{
     let spelt = line.text(alloc)?;
     if spelt.as_slice() == text {
         Ok(Some(line.id))

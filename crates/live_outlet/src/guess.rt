@@ -1,5 +1,5 @@
 //! Of which emission a line may tell.
-ghost use Rattle.std.specs.Prelude.{◌≡◌, IfOk, IfSome, IsTrue, codes};
+ghost use Rattle.std.specs.Prelude.{◌≡◌, IfOk, IfSome, IsTrue, Some, codes};
 ghost use Rattle.std.specs.Option.{option_map};
 ghost use Rattle.std.specs.List.{list_all};
 ghost use Rattle.topology.specs.Rules.{is_name_byte, is_name};
@@ -52,9 +52,28 @@ fn line_in(alloc: Global, value: &Value) -> Result<Option<LiveLine>, NoMemory>
     let Some(found) = value_at(value, "value") else {
         return Ok(None);
     };
+    line_with(alloc, id, key, stream, stamp, found)
+}
+
+// The line that tells this.
+fn line_with(
+    alloc: Global,
+    id: RecordId,
+    key: &str,
+    stream: &str,
+    stamp: u64,
+    value: i64,
+) -> Result<Option<LiveLine>, NoMemory>
+    requires id { IsId id }
+    requires key { IsKey key.now }
+    requires stream { IsTrue (is_name stream.now) }
+    ensures line { IfOk result (λ line. line ≡ Some (record
+        { id = id; key = key.now; stream = stream.now; stamp = stamp; value = value })) }
+    ensures live { IfOk result (λ line. IfSome line IsLive) }
+{
     let key = Text::of(alloc, key)?;
     let stream = Text::of(alloc, stream)?;
-    Ok(Some(told(id, key, stream, stamp, found)))
+    Ok(Some(told(id, key, stream, stamp, value)))
 }
 
 // A member that is an id.

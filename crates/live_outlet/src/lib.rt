@@ -17,7 +17,10 @@ mod refusal;
 
 pub use collecting::{Collected, collect};
 pub use held::Held;
-pub use laws::{exactly_live_lines_are_told, outlets_go_on_as_histories_grow};
+pub use laws::{
+    covering_texts_collect_once, exactly_live_lines_are_told, no_live_line_begins_another,
+    outlets_go_on_as_histories_grow, texts_cover_what_was_pumped,
+};
 pub use line::LiveLine;
 pub use live::live_line;
 pub use outlet::Outlet;

@@ -1,5 +1,6 @@
 //! What a live line tells, and its text.
-ghost use Rattle.std.specs.Prelude.{◌≡◌, ◌++◌, ◌∷◌, [], IfOk, IsTrue, OnOk};
+ghost use Rattle.std.specs.Prelude.{◌≡◌, ◌++◌, ◌∷◌, [], codes, IfOk, IsTrue, OnOk};
+ghost use Rattle.mw_types.specs.PrintedIds.{printed_id};
 ghost use Rattle.json.specs.Token.{key, string};
 ghost use Rattle.row_parts.specs.Contents.{IsId, IsKey};
 ghost use Rattle.topology.specs.Rules.{is_name};
@@ -87,8 +88,7 @@ impl LiveLine {
         ensures members { OnOk result
             (writer.new.tokens ≡ writer.old.tokens ++ text_tokens self.now) }
     {
-        let id = self.id.uuid(alloc)?;
-        write_text(writer, "id", id.text())?;
+        write_id(alloc, writer, self.id)?;
         write_text(writer, "key", self.key.text())?;
         write_text(writer, "stream", self.stream.text())?;
         Ok(())
@@ -110,6 +110,17 @@ impl LiveLine {
 
 // Room for a line of the usual length.
 const LINE_ROOM: usize = 160;
+
+// Writes the member that is the id.
+fn write_id(alloc: Global, writer: &mut Writer, id: RecordId) -> Result<(), NoMemory>
+    requires { IsId id }
+    ensures before { OnOk result (writer.new.before ≡ writer.old.before) }
+    ensures member { OnOk result (writer.new.tokens
+        ≡ writer.old.tokens ++ key (codes "id") ∷ string (printed_id id) ∷ []) }
+{
+    let id = id.uuid(alloc)?;
+    write_text(writer, "id", id.text())
+}
 
 // Writes a member that is a text.
 fn write_text(writer: &mut Writer, name: &str, text: &str) -> Result<(), NoMemory>

@@ -2,7 +2,8 @@
 ghost use Rattle.std.specs.Prelude.{◌≡◌, ◌++◌, ◌<◌, IfOk, OnOk};
 ghost use Rattle.topology.specs.Shapes.{parts_of};
 ghost use Rattle.row_parts.specs.Contents.{IsId};
-ghost use Rattle.live_outlet.specs.LiveLines.{live_of, live_line_of, IsLive};
+ghost use Rattle.run_history.specs.Texts.{as_line};
+ghost use Rattle.live_outlet.specs.LiveLines.{live_data, live_of, live_line_of, IsLive};
 
 use crate::line::{LiveLine, told};
 use mw_types::{Bytes, Emission, NoMemory, Text};
@@ -18,6 +19,14 @@ pub fn live_line(alloc: Global, case: &Case, emission: &Emission) -> Result<Byte
     ensures live { OnOk result (IsLive (live_of case.now.topology emission.now)) }
 {
     let line = line(alloc, case, emission)?;
+    ended(alloc, &line)
+}
+
+// The text of a line, with its LF.
+fn ended(alloc: Global, line: &LiveLine) -> Result<Bytes, NoMemory>
+    requires { IsId line.now.id }
+    ensures { IfOk result (λ text. text ≡ as_line (live_data line.now)) }
+{
     let mut text = line.text(alloc)?;
     text.push(b'\n')?;
     Ok(Bytes::from_vec(text))

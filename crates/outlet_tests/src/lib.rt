@@ -1,6 +1,6 @@
-//! Live lines as they are collected: a row that was worked out by hand.
+//! Live lines as they are pumped and collected: rows that were worked out by hand.
 //!
-//! Stands on `live_outlet` and has its tests alone. No call is public.
+//! Stands on `live_outlet`, `run_history` and `mw_ports`, and has tests alone. No call is public.
 #![tactic(auto)]
 
 #[cfg(test)]

@@ -37,4 +37,9 @@ pub mod Sending
 pub mod Making
 pub mod Noting
 pub mod Moved
+pub mod Later
 pub mod Working
+pub mod Shards
+pub mod KindShards
+pub mod TextShards
+pub mod Cuts

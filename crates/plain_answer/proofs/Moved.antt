@@ -65,11 +65,11 @@ pub permuted-length : {X : Type 0} (xs ys : List X) → IsPermutation xs ys → 
 permuted-length xs ys moved = sym (total-length ys) ∙ sym (totals-permuted xs ys moved (λ x. 1)) ∙ total-length xs
 
 -- a place of a row, as its key
-abbrev placed : List Keyed → List ℕ → List (List ℕ)
+abbrev pub placed : List Keyed → List ℕ → List (List ℕ)
 placed ms k = map (λ (p : ℕ × ℤ). k) (places_in (row_members k ms))
 
 -- a spike fires once for each of them
-places-long : (last times : ℕ) (ms : List Keyed)
+pub places-long : (last times : ℕ) (ms : List Keyed)
     → length (flat_map (placed ms) (row_keys ms)) ≡ fires_of (kinds.Spike last times) ms
 places-long last times ms =
     length-flat_map (placed ms) (row_keys ms)

@@ -1,6 +1,6 @@
 -- What a spike gives is what comes along its places, noted one member after another. On the way to the code of the plain text.
 use Rattle.std.proofs.Common.{◌≡◌, ℕ, zero, suc, ◌-◌, ◌&&◌, not, Bool, true, false, cond, List, [], ◌∷◌, ◌++◌, length, map, filter, fold, drop, append_assoc, ℤ, Some, None, refl, sym, ◌∙◌, ap, subst, arith}
-use Rattle.std.specs.Prelude.{nat_eq, nat_le, pos, int_lt, ◌*ℤ◌, Result, Ok, Err, IfOk}
+use Rattle.std.specs.Prelude.{nat_eq, nat_le, pos, int_lt, ◌*ℤ◌}
 use Rattle.std.specs.Int.{int_max}
 use Rattle.std.specs.Option.{option_map_or}
 use Rattle.std.specs.declared.cmp.Ordering.{Ordering}
@@ -400,13 +400,10 @@ noted-plain last times ms =
     nothing key false = refl
 
 -- what comes along such places is what a spike gives plainly
-pub spikes-plain : {A E : Type 0} (items : A → List Record) (last times : ℕ) (ms : List Keyed) (places : List Placed)
-    (result : Result A E)
-    → places ≡ noted_of ms → IfOk result (λ a. items a ≡ spikes_along last times [] [] places)
-    → IfOk result (λ a. IsPermutation (plain_of (kinds.Spike last times) ms) (items a))
-spikes-plain items last times ms places (Err why) is given = tt
-spikes-plain items last times ms places (Ok a) is given =
-    subst (IsPermutation (plain_of (kinds.Spike last times) ms)) (sym (given ∙ ap (spikes_along last times [] []) is))
+pub noted-spikes : (last times : ℕ) (ms : List Keyed) (places : List Placed) (items : List Record) → places ≡ noted_of ms
+    → items ≡ spikes_along last times [] [] places → IsPermutation (plain_of (kinds.Spike last times) ms) items
+noted-spikes last times ms places items is along =
+    subst (IsPermutation (plain_of (kinds.Spike last times) ms)) (sym (along ∙ ap (spikes_along last times [] []) is))
     (noted-plain last times ms)
 
 -- and a spike fires once a place
@@ -451,14 +448,13 @@ places-fire last times ms =
 
 -- one place further along
 pub along-step : (last times : ℕ) (all before : List Record) {after : List Record} (row : List ℕ) {next : List ℕ}
-    (known : List ℤ) {seen own more : List ℤ} (e : Placed) {from es : List Placed}
-    → after ≡ before ++ spike_of last times seen e → seen ≡ own → next ≡ e.0.0 → own ≡ known_of row known e.0.0
-    → more ≡ known_with last own e.1 → from ≡ e ∷ es
+    (known : List ℤ) {more : List ℤ} (e : Placed) {from es : List Placed}
+    → after ≡ before ++ spike_of last times (known_of row known e.0.0) e → next ≡ e.0.0
+    → more ≡ known_with last (known_of row known e.0.0) e.1 → from ≡ e ∷ es
     → before ++ spikes_along last times row known from ≡ all
     → after ++ spikes_along last times next more es ≡ all
-along-step last times all before {after} row {next} known {seen} {own} {more} e {from} {es} pushed same turned kept learnt steps was =
+along-step last times all before row known e {es = es} pushed turned learnt steps was =
     (λ i. pushed i ++ spikes_along last times (turned i) (learnt i) es)
-    ∙ (λ i. (before ++ spike_of last times ((same ∙ kept) i) e) ++ spikes_along last times e.0.0 (known_with last (kept i) e.1) es)
     ∙ append_assoc before (spike_of last times (known_of row known e.0.0) e)
     (spikes_along last times e.0.0 (known_with last (known_of row known e.0.0) e.1) es)
     ∙ ap (λ l. before ++ spikes_along last times row known l) (sym steps)

@@ -232,7 +232,7 @@ injected-total case f = along_legal case
     one run (Purge seq row floor) may = refl
 
 -- a sum over the records of sources
-sources-total : (f : Record → ℕ) (n : ℕ) (sources : List Source)
+pub sources-total : (f : Record → ℕ) (n : ℕ) (sources : List Source)
     → stream_total (λ (o : Member). f o.1) n (map injected_of sources) ≡ total (λ source. total f (injected_of source)) sources
 sources-total f n [] = refl
 sources-total f n (s ∷ ss) = ap (λ m. total f (injected_of s) + m) (sources-total f (n + 1) ss)

@@ -45,7 +45,7 @@ stream_total g n [] = 0
 stream_total g n (x ∷ xs) = total (λ r. g (n, r)) x + stream_total g (n + 1) xs
 
 -- with one more stream
-stream_total-push : (g : Member → ℕ) (n : ℕ) (xs : List (List Record)) (x : List Record)
+pub stream_total-push : (g : Member → ℕ) (n : ℕ) (xs : List (List Record)) (x : List Record)
     → stream_total g n (xs ++ x ∷ []) ≡ stream_total g n xs + total (λ r. g (n + length xs, r)) x
 stream_total-push g n [] x =
     let same : n ≡ n + 0 = omega arith in
@@ -55,11 +55,11 @@ stream_total-push g n (y ∷ ys) x =
     omega (arith, stream_total-push g (n + 1) ys x, ap (λ k. total (λ r. g (k, r)) x) same)
 
 -- what is sent to a part, as what its rows read
-abbrev to_part : ℕ → (Keyed → ℕ) → RowName × Record → ℕ
+abbrev pub to_part : ℕ → (Keyed → ℕ) → RowName × Record → ℕ
 to_part part g s = when (s.0.part == part) (g (s.0.key, s.1))
 
 -- a sum over what a part reads of streams
-abbrev of_member : Shape → ℕ → (Keyed → ℕ) → Member → ℕ
+abbrev pub of_member : Shape → ℕ → (Keyed → ℕ) → Member → ℕ
 of_member shape part g o = total (to_part part g) (sends shape o)
 
 -- a sum over all that streams send
@@ -139,7 +139,7 @@ none-read shape part g item (s ∷ ss) each =
     omega (arith, here, none-read shape part g item ss each.1)
 
 -- a part reads nothing of a part behind it
-later-unread : (case : CaseShape) (part : ℕ) (g : Keyed → ℕ) (o : Member) → IsRunnable case → IsThere case.topology o → part ≤ o.0
+pub later-unread : (case : CaseShape) (part : ℕ) (g : Keyed → ℕ) (o : Member) → IsRunnable case → IsThere case.topology o → part ≤ o.0
     → of_member case.topology part g o ≡ 0
 later-unread case part g o runs there behind =
     none-read case.topology part g o.1 (consumers_of case.topology o.0)

@@ -19,7 +19,7 @@ abbrev pub into : ℕ → List ℕ → ℕ → Keyed → ℕ
 into size key end m = when (pointwise nat_eq key m.0 && not m.1.late) (when (plain_end size m.1.stamp == end) 1)
 
 -- the count of a window of a row
-abbrev in_window : ℕ → ℕ → List Record → ℕ
+abbrev pub in_window : ℕ → ℕ → List Record → ℕ
 in_window size end items = count_by (λ (r : Record). plain_end size r.stamp == end) items
 
 -- the count of a window is a sum over what the part reads

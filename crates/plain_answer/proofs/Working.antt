@@ -9,9 +9,11 @@ use Rattle.topology.specs.Shapes.{Shape, ComputationShape, injectors_of, parts_o
 use Rattle.injector.specs.declared.item.Item.{Item}
 use Rattle.injector.specs.Sources.{Source, SourceLine, item_at}
 use Rattle.run_history.specs.Cases.{CaseShape, source_of}
+use Rattle.run_history.specs.Inputs.{IsRunnable}
 use Rattle.plain_answer.specs.Plain.{Keyed, members_read, sources_of, plain_streams, plain_members}
 use Rattle.plain_answer.specs.Sends.{ArePlain, AreRead}
-use Rattle.plain_answer.proofs.Making.{moved-read, dropped, kind_there}
+use Rattle.plain_answer.proofs.Later.{made-read}
+use Rattle.plain_answer.proofs.Making.{AreMadeTo, moved-read, dropped, kind_there}
 use Rattle.plain_answer.proofs.Totals.{total, when, total-count_by, total-length, total-map, total-sum_by, HaveSameTotals}
 
 -- how many members a part reads
@@ -54,36 +56,33 @@ work-none w case part over =
 abbrev pub IsSteady : (Kind → List Keyed → ℕ) → Type 0
 IsSteady w = (kind : Kind) (ms ns : List Keyed) → HaveSameTotals ms ns → w kind ms ≡ w kind ns
 
--- with one part more
-work-push : (w : Kind → List Keyed → ℕ) → IsSteady w → (case : CaseShape) (part : ℕ) (c : ComputationShape)
-    (streams : List (List Record)) (reads : List (List Keyed)) (all sum n next : ℕ)
-    → injectors_of case.topology ≤ part → part < parts_of case.topology
+-- with one part more, of what it reads in some order
+work-push : (w : Kind → List Keyed → ℕ) → IsSteady w → (case : CaseShape) (part : ℕ) (c : ComputationShape) (ms : List Keyed)
+    (all sum n next : ℕ) → injectors_of case.topology ≤ part
     → slice_get case.topology.computations (part - injectors_of case.topology) ≡ Some c
-    → ArePlain case streams → AreRead case.topology streams reads
-    → n ≡ w c.kind (get_or reads part []) → next ≡ sum + n → sum + work_left w case part ≡ all
+    → HaveSameTotals (members_read case.topology (plain_streams case) part) ms
+    → n ≡ w c.kind ms → next ≡ sum + n → sum + work_left w case part ≡ all
     → next + work_left w case (part + 1) ≡ all
-work-push w steady case part c streams reads all sum n next from within at plain read is more was =
+work-push w steady case part c ms all sum n next from at same is more was =
     let members : List Keyed = members_read case.topology (plain_streams case) part in
     let behind : part - injectors_of case.topology + 1 ≡ part + 1 - injectors_of case.topology = omega (arith, from) in
     let here : work_left w case part ≡ w c.kind members + work_left w case (part + 1) =
     ap (work_from w case part) (dropped case.topology.computations (part - injectors_of case.topology) c at)
     ∙ ap (λ k. w c.kind members + work_from w case (part + 1) (drop k case.topology.computations)) behind in
-    let same : n ≡ w c.kind members =
-    is ∙ ap (w c.kind) (read.each part within)
-    ∙ sym (steady c.kind members (members_read case.topology streams part)
-    (moved-read case.topology (plain_streams case) streams part plain)) in
-    omega (arith, here, same, more, was)
+    let own : n ≡ w c.kind members = is ∙ sym (steady c.kind members ms same) in
+    omega (arith, here, own, more, was)
 
--- the same, of a part of this kind
+-- the same, of a part of this kind, while the streams behind it are not there
 pub work-next : (w : Kind → List Keyed → ℕ) → IsSteady w → (case : CaseShape) (part : ℕ) (kind : Kind)
-    (streams : List (List Record)) (reads : List (List Keyed)) (all sum n next : ℕ)
+    (streams : List (List Record)) (reads : List (List Keyed)) (all sum n next : ℕ) → IsRunnable case
     → injectors_of case.topology ≤ part → part < parts_of case.topology → kind_of case.topology part ≡ Some kind
-    → ArePlain case streams → AreRead case.topology streams reads
+    → AreMadeTo case part streams → AreRead case.topology streams reads
     → n ≡ w kind (get_or reads part []) → next ≡ sum + n → sum + work_left w case part ≡ all
     → next + work_left w case (part + 1) ≡ all
-work-next w steady case part kind streams reads all sum n next from within of plain read is more was =
+work-next w steady case part kind streams reads all sum n next runs from within of made read is more was =
     let there = kind_there case.topology part kind from of in
-    work-push w steady case part there.0 streams reads all sum n next from within there.1 plain read
+    work-push w steady case part there.0 (get_or reads part []) all sum n next from there.1
+    (λ g. made-read case runs part streams from within made g ∙ sym (ap (total g) (read.each part within)))
     (is ∙ ap (λ k. w k (get_or reads part [])) (sym there.2)) more was
 
 -- how many members are read does not
@@ -98,7 +97,8 @@ pub long-next : (case : CaseShape) (part : ℕ) (streams : List (List Record)) (
     → next + work_left members_long case (part + 1) ≡ all
 long-next case part streams reads all sum n next from within plain read is more was =
     let there = placed case.topology.computations (part - injectors_of case.topology) (omega (arith, from, within)) in
-    work-push members_long long-steady case part there.0 streams reads all sum n next from within there.1 plain read is more was
+    work-push members_long long-steady case part there.0 (get_or reads part []) all sum n next from there.1
+    (λ g. moved-read case.topology (plain_streams case) streams part plain g ∙ sym (ap (total g) (read.each part within))) is more was
   where
     placed : (cs : List ComputationShape) (i : ℕ) → i < length cs → (c : ComputationShape) × (slice_get cs i ≡ Some c)
     placed [] i less = absurd (omega (arith, less))

@@ -8,3 +8,4 @@ pub mod Places
 pub mod Tallies
 pub mod Sends
 pub mod Spiked
+pub mod Splits

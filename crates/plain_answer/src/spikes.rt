@@ -1,5 +1,5 @@
 //! What a spike gives of all that it reads.
-ghost use Rattle.std.specs.Prelude.{ℕ, ◌≡◌, ◌≤◌, ◌≤ℤ◌, ◌+ℤ◌, ◌*ℤ◌, ◌^◌, ◌++◌, ◌∷◌, [], pos, neg_ℤ, int_lt, fold, length, IfOk, OnOk};
+ghost use Rattle.std.specs.Prelude.{◌≡◌, ◌≤◌, ◌≤ℤ◌, ◌+ℤ◌, ◌*ℤ◌, ◌^◌, ◌++◌, ◌∷◌, [], pos, neg_ℤ, int_lt, fold, length, IfOk, OnOk};
 ghost use Rattle.std.specs.BTreeMap.{insert_entry};
 ghost use Rattle.std.specs.List.Sorted.{IsPermutation};
 ghost use Rattle.mw_types.specs.declared.kind.Kind.TheVariants.{Spike};
@@ -8,7 +8,8 @@ ghost use Rattle.plain_answer.specs.Plain.{fires_of, plain_of};
 ghost use Rattle.plain_answer.specs.Spiked.{greater_at, known_of, noted_of, noted_with, spike_given, spike_of, spikes_along};
 ghost use Rattle.plain_answer.specs.Tallies.{window_cmp};
 
-use mw_types::{Duplicate, Key, NoMemory, Record};
+use crate::given::Given;
+use mw_types::{Duplicate, Key, NoMemory, Record, Seq};
 use std::alloc::Global;
 use std::collections::BTreeMap;
 
@@ -16,29 +17,26 @@ use std::collections::BTreeMap;
 type Places = BTreeMap<(Key, u64), i64>;
 
 // What a spike that compares so many values by this factor gives of all the members that it reads,
-// each with the key of the row that reads it. For a time past the greatest there is no memory.
+// each with the key of the row that reads it, and how often it fires: once a place. For a time past
+// the greatest there is no memory.
 pub(crate) fn spikes_of(
     alloc: Global,
     last: u32,
     times: u32,
     members: &[(Key, Record)],
-) -> Result<Vec<Record>, NoMemory>
+) -> Result<Given, NoMemory>
     requires last { last ≤ 64 }
     requires times { times ≤ 1000 }
-    ensures spikes { IfOk result (λ records.
-        IsPermutation (plain_of (Spike last times) members.now) records.items) }
+    ensures spikes { IfOk result (λ given.
+        IsPermutation (plain_of (Spike last times) members.now) given.records) }
+    ensures fires { IfOk result (λ given. given.fires ≡ fires_of (Spike last times) members.now) }
 {
     let places = places(alloc, members)?;
-    given(alloc, last, times, &places)
-}
-
-// How often a spike fires, whatever it compares: once a place.
-pub(crate) fn fires_of(alloc: Global, members: &[(Key, Record)]) -> Result<usize, NoMemory>
-    ensures fires { (last times : ℕ) →
-        IfOk result (λ fires. fires ≡ fires_of (Spike last times) members.now) }
-{
-    let places = places(alloc, members)?;
-    Ok(places.len())
+    let spikes = spikes(alloc, last, times, &places)?;
+    Ok(Given {
+        records: Seq::from_vec(spikes),
+        fires: places.len() as u64,
+    })
 }
 
 // The places of the members in time.
@@ -82,32 +80,63 @@ fn greater(places: &Places, place: &(Key, u64), value: i64) -> i64
     }
 }
 
+// The row at hand: its key, and the last values that are known of it.
+#[derive(Drop)]
+struct Row {
+    key: Key,
+    known: Vec<i64>,
+}
+
 // The spikes along the places.
-fn given(alloc: Global, last: u32, times: u32, places: &Places) -> Result<Vec<Record>, NoMemory>
+fn spikes(alloc: Global, last: u32, times: u32, places: &Places) -> Result<Vec<Record>, NoMemory>
     requires last { last ≤ 64 }
     requires times { times ≤ 1000 }
     ensures { IfOk result (λ records.
         records.items ≡ spikes_along last times [] [] places.now.entries) }
 {
     let mut records = Vec::new(alloc);
-    let mut row = Key::none(alloc);
-    let mut known = Vec::new(alloc);
+    let mut row = Row {
+        key: Key::none(alloc),
+        known: Vec::new(alloc),
+    };
     for (place, value) in places {
-        turn(alloc, &mut row, &mut known, &place.0)?;
-        push_spike(alloc, last, times, &known, &mut records, place, value)?;
-        learn(&mut known, last, value)?;
+        go_on(alloc, last, times, &mut row, &mut records, place, value)?;
     }
     Ok(records)
 }
 
-// Goes over to the row of this key, of which no value is known, unless it is at hand.
-fn turn(alloc: Global, row: &mut Key, known: &mut Vec<i64>, key: &Key) -> Result<(), NoMemory>
-    ensures row { OnOk result (row.new ≡ key.now) }
-    ensures known { OnOk result (known.new.items ≡ known_of row.old known.old.items key.now) }
+// Goes on by one place: puts its spike behind the records, if it is one, and learns its value.
+fn go_on(
+    alloc: Global,
+    last: u32,
+    times: u32,
+    row: &mut Row,
+    records: &mut Vec<Record>,
+    place: &(Key, u64),
+    value: &i64,
+) -> Result<(), NoMemory>
+    requires last { last ≤ 64 }
+    requires times { times ≤ 1000 }
+    ensures spike { OnOk result (records.new.items ≡ records.old.items ++ spike_of last times
+        (known_of row.old.key row.old.known.items place.now.0) (place.now, value.now)) }
+    ensures row { OnOk result (row.new.key ≡ place.now.0) }
+    ensures known { OnOk result (row.new.known.items ≡ known_with last
+        (known_of row.old.key row.old.known.items place.now.0) value.now) }
 {
-    if *row != *key {
-        *row = key.copy(alloc)?;
-        known.clear();
+    turn(alloc, row, &place.0)?;
+    push_spike(alloc, last, times, &row.known, records, place, value)?;
+    learn(&mut row.known, last, value)
+}
+
+// Goes over to the row of this key, of which no value is known, unless it is at hand.
+fn turn(alloc: Global, row: &mut Row, key: &Key) -> Result<(), NoMemory>
+    ensures row { OnOk result (row.new.key ≡ key.now) }
+    ensures known { OnOk result
+        (row.new.known.items ≡ known_of row.old.key row.old.known.items key.now) }
+{
+    if row.key != *key {
+        row.key = key.copy(alloc)?;
+        row.known.clear();
     }
     Ok(())
 }

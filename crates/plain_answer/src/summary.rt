@@ -1,19 +1,17 @@
 //! The numbers of the plain text's last line.
 ghost use Rattle.std.specs.Prelude.{◌≡◌, ◌+◌, ◌<◌, [], length, count_by, take, false, string_bytes, IfOk, OnOk};
 ghost use Rattle.injector.specs.Sources.{SourceLine};
-ghost use Rattle.mw_types.specs.Kinds.{IsKind};
 ghost use Rattle.run_history.specs.Texts.{as_line};
-ghost use Rattle.plain_answer.specs.Plain.{fired_of, fires_of, handled_of, injected_count, late_count, plain_summary};
+ghost use Rattle.plain_answer.specs.Plain.{fired_of, handled_of, injected_count, late_count, plain_summary};
 ghost use Rattle.plain_answer.specs.Sends.{ArePlain, AreRead};
 ghost use Rattle.serde_json.specs.Data.{number, object, put, unsigned};
 ghost use Rattle.serde_json.specs.View.{members_view, view};
 ghost use Rattle.serde_json.specs.Written.{has_float};
 
-use crate::spikes;
+use crate::given::added;
 use crate::streams::Sent;
-use crate::windows::windows_of;
 use injector::Items;
-use mw_types::{Key, Kind, NoMemory, Record};
+use mw_types::NoMemory;
 use run_history::Case;
 use serde_json::{Map, Value};
 use std::alloc::Global;
@@ -22,6 +20,7 @@ use std::alloc::Global;
 pub(crate) fn summary_line(alloc: Global, case: &Case, all: &Sent) -> Result<String, NoMemory>
     requires plain { ArePlain case.now all.now.streams.items }
     requires read { AreRead case.now.topology all.now.streams.items all.now.reads.items }
+    requires fired { all.now.fired ≡ fired_of case.now }
     ensures { IfOk result (λ text. string_bytes text ≡ as_line (plain_summary case.now)) }
 {
     let value = summary(alloc, case, all)?;
@@ -42,6 +41,7 @@ fn value_line(alloc: Global, value: &Value) -> Result<String, NoMemory>
 fn summary(alloc: Global, case: &Case, all: &Sent) -> Result<Value, NoMemory>
     requires plain { ArePlain case.now all.now.streams.items }
     requires read { AreRead case.now.topology all.now.streams.items all.now.reads.items }
+    requires fired { all.now.fired ≡ fired_of case.now }
     ensures { IfOk result (λ value. view value ≡ plain_summary case.now) }
 {
     let mut map = Map::new(alloc);
@@ -59,9 +59,10 @@ fn put_numbers(
     requires empty { map.old.entries ≡ [] }
     requires plain { ArePlain case.now all.now.streams.items }
     requires read { AreRead case.now.topology all.now.streams.items all.now.reads.items }
+    requires fired { all.now.fired ≡ fired_of case.now }
     ensures { OnOk result (object (members_view map.new.entries) ≡ plain_summary case.now) }
 {
-    put_number(alloc, map, "fired", fired(alloc, case, all)?)?;
+    put_number(alloc, map, "fired", all.fired)?;
     put_number(alloc, map, "handled", handled(case, all)?)?;
     put_number(alloc, map, "injected", injected_number(case)?)?;
     put_number(alloc, map, "late", late_number(case)?)
@@ -79,20 +80,6 @@ fn put_number(
 {
     serde_json::put(map, alloc, name, Value::from(value))?;
     Ok(())
-}
-
-// How many timers fire.
-fn fired(alloc: Global, case: &Case, all: &Sent) -> Result<u64, NoMemory>
-    requires plain { ArePlain case.now all.now.streams.items }
-    requires read { AreRead case.now.topology all.now.streams.items all.now.reads.items }
-    ensures { IfOk result (λ n. n ≡ fired_of case.now) }
-{
-    let mut sum = 0;
-    for part in case.topology.injectors()..case.topology.parts() {
-        let members = all.reads[part as usize].as_slice();
-        sum = added(sum, fires(alloc, case.topology.kind(part), members)?)?;
-    }
-    Ok(sum)
 }
 
 // How many records are handled.
@@ -150,26 +137,4 @@ fn late_at(source: &Items, line: u32) -> u64
         ≡ count_by (λ (l : SourceLine). l.item.late) (take line source.now) + result }
 {
     u64::from(source.at(line).late)
-}
-
-// How often a part of a kind fires.
-fn fires(alloc: Global, kind: Kind, members: &[(Key, Record)]) -> Result<u64, NoMemory>
-    requires { IsKind kind }
-    ensures { IfOk result (λ n. n ≡ fires_of kind members.now) }
-{
-    match kind {
-        Kind::Count { size } => Ok(windows_of(alloc, size, members)?.len() as u64),
-        Kind::Spike { .. } => Ok(spikes::fires_of(alloc, members)? as u64),
-        Kind::Pass => Ok(0),
-    }
-}
-
-// A sum with a number more, where it fits.
-fn added(sum: u64, more: u64) -> Result<u64, NoMemory>
-    ensures { IfOk result (λ n. n ≡ sum + more) }
-{
-    match sum.checked_add(more) {
-        Some(n) => Ok(n),
-        None => Err(NoMemory),
-    }
 }

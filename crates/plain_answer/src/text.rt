@@ -5,10 +5,10 @@ ghost use Rattle.std.specs.List.Sorted.{IsPermutation, IsSorted};
 ghost use Rattle.topology.specs.declared.subscription.Subscription.{Subscription};
 ghost use Rattle.topology.specs.Shapes.{consumers_of, parts_of, stream_of};
 ghost use Rattle.run_history.specs.Texts.{line_cmp, line_data, as_line};
-ghost use Rattle.plain_answer.specs.Plain.{lines_unread, plain_line, plain_lines, IsPlainText};
-ghost use Rattle.plain_answer.specs.Sends.{lines_in, ArePlain};
+ghost use Rattle.plain_answer.specs.Plain.{fired_of, lines_unread, plain_line, plain_lines, plain_summary, IsPlainText};
+ghost use Rattle.plain_answer.specs.Sends.{lines_in, ArePlain, AreRead};
 
-use crate::streams::all_streams;
+use crate::streams::{Sent, all_streams};
 use crate::summary::summary_line;
 use mw_types::{Bytes, Duplicate, Name, NoMemory, Record, Seq};
 use run_history::{Case, ResultLine};
@@ -25,10 +25,31 @@ pub fn plain_text(alloc: Global, case: &Case) -> Result<Bytes, NoMemory>
     ensures plain { IfOk result (IsPlainText case.now) }
 {
     let all = all_streams(alloc, case)?;
+    text_of(alloc, case, &all)
+}
+
+// The text of what the streams have.
+fn text_of(alloc: Global, case: &Case, all: &Sent) -> Result<Bytes, NoMemory>
+    requires plain { ArePlain case.now all.now.streams.items }
+    requires read { AreRead case.now.topology all.now.streams.items all.now.reads.items }
+    requires fired { all.now.fired ≡ fired_of case.now }
+    ensures { IfOk result (IsPlainText case.now) }
+{
     let lines = sorted_lines(alloc, case, &all.streams)?;
     let mut text = lines_text(alloc, &lines)?;
-    text.extend_from_slice(summary_line(alloc, case, &all)?.as_bytes())?;
+    write_summary(alloc, &mut text, case, all)?;
     Ok(Bytes::from_vec(text))
+}
+
+// Appends the summary line.
+fn write_summary(alloc: Global, text: &mut Vec<u8>, case: &Case, all: &Sent) -> Result<(), NoMemory>
+    requires plain { ArePlain case.now all.now.streams.items }
+    requires read { AreRead case.now.topology all.now.streams.items all.now.reads.items }
+    requires fired { all.now.fired ≡ fired_of case.now }
+    ensures { OnOk result (text.new.items ≡ text.old.items ++ as_line (plain_summary case.now)) }
+{
+    text.extend_from_slice(summary_line(alloc, case, all)?.as_bytes())?;
+    Ok(())
 }
 
 // The lines of the streams that nothing reads, in order.

@@ -1,15 +1,14 @@
 -- What each call of a worker appends, by what it answers.
-use Rattle.std.proofs.Common.{◌≡◌, ◌≢◌, ◌∙◌, ◌==◌, ◌++◌, ◌∷◌, ℕ, Bool, true, false, List, [], refl, sym, ap, subst, inl, inr}
-use Rattle.std.specs.Prelude.{Option, Some, None, IsSome, IfSome, if◌then◌else◌, unwrap_or}
+use Rattle.std.proofs.Common.{◌≡◌, ◌∙◌, ◌∷◌, ℕ, Bool, true, false, List, [], refl, sym, ap, subst, inl, inr}
+use Rattle.std.specs.Prelude.{Option, Some, None, IsSome, IfOk, IfSome, OnErr, Result, Ok, Err, if◌then◌else◌, unwrap_or}
 use Rattle.std.specs.Option.{is_some, option_and_then, option_map, option_map_or}
-use Rattle.std.proofs.lemmas.Bool.{cases_eq, eq-eqb, ne_eqb}
+use Rattle.std.proofs.lemmas.Bool.{cases_eq, ne_eqb}
 use Rattle.mw_types.specs.Outcomes.{EffectsView}
 use Rattle.mw_types.specs.declared.delivery.Delivery.{Delivery}
 use Rattle.mw_types.specs.declared.entry.Entry.{Entry}
 use Rattle.mw_types.specs.declared.entry.Entry.TheVariants as entries
 use Rattle.mw_types.specs.declared.identity.RecordId.{RecordId}
 use Rattle.mw_types.specs.declared.identity.RowName.{RowName}
-use Rattle.mw_types.specs.declared.record.Record.{Record}
 use Rattle.injector.specs.Sources.{item_at}
 use Rattle.injector.specs.declared.item.Item.{Item}
 use Rattle.topology.specs.Shapes.{Shape}
@@ -21,17 +20,18 @@ use Rattle.book.specs.Desks.{DeskView, HasLooked}
 use Rattle.book.specs.declared.proposal.Proposal.{Proposal}
 use Rattle.book.specs.declared.proposal.Proposal.TheVariants as proposals
 use Rattle.holdings.specs.Holding.{HeldView, held_at, held_on, row_held}
-use Rattle.node.specs.Answers.{AnswersAck, AnswersAckOf, AnswersAsked, AnswersFire, AnswersPurge, AnswersReport, AnswersReportOf, AnswersSome, AnswersWrite, HasKept, IsCommitted, IsLost, received, taken_from}
+use Rattle.node.specs.Answers.{AnswersAck, AnswersAckOf, AnswersAsked, AnswersFire, AnswersPurge, AnswersReport, AnswersReportOf, AnswersSome, AnswersWrite, HasKept, IsLost, received, taken_from}
 use Rattle.node.specs.Asking.{MayAskFire, MayAskPurge, Request, handled_as, line_asked, next_line, proposed, settling, work_asked}
 use Rattle.node.specs.Fits.{Fits}
 use Rattle.node.specs.Workers.{NodeView, Sending, WorkView, Worker, leases_of, sending_of, with_lease, with_outgoing, with_written, worker_at}
+use Rattle.node.specs.declared.outcome.NodeFault.{NodeFault}
 use Rattle.node.specs.declared.outcome.Outcome.{Outcome}
 use Rattle.node.specs.declared.outcome.Outcome.TheVariants as outcomes
 use Rattle.node.specs.declared.outgoing.Outgoing.{Outgoing}
 use Rattle.node.specs.declared.outgoing.Outgoing.TheVariants as outgoing
 use Rattle.node.proofs.FitLaws.{held-interval}
-use Rattle.workers.specs.Serving.{HasServed, KeepsLeases, entries_of}
-use Rattle.workers.specs.Slices.{IsOvertaken}
+use Rattle.workers.specs.Serving.{HasServed, appended, entries_of}
+use Rattle.workers.specs.Slices.{IsOvertaken, KeepsLeases}
 use Rattle.workers.proofs.Serving.{leases-same, served-kept}
 use Rattle.workers.proofs.Working.{worked-looked, worked-once}
 
@@ -301,3 +301,56 @@ pub purge-served : (case : CaseShape) (old new : DeskView) (interval many : ℕ)
 purge-served case old new interval many was node outcome before fits number is =
     served-some case old new (MayAskPurge case.topology was interval many is.floor) was node outcome fits number
     (λ asked may. purge-servable case old was interval many is.floor asked before may) is.answers
+
+-- ---- calls that may fail
+
+-- what is prepared is written, or that fails
+pub commit-answered : (case : CaseShape) (old new : DeskView) (was node : NodeView) (answer : Result Outcome NodeFault)
+    → Fits case old was → Fits case new node → node.number ≡ was.number
+    → IfOk answer (AnswersAsked case.topology old new (work_asked case.topology was) (with_written (sending_of was) (worker_at was)) was
+    node)
+    → OnErr answer (HasLooked old new) → OnErr answer (HasKept was node) → HasServed case (appended answer) old new was node
+commit-answered case old new was node (Ok outcome) before fits number is looked kept =
+    commit-served case old new was node outcome before fits number is
+commit-answered case old new was node (Err why) before fits number is looked kept =
+    served-kept case old new was node fits number looked kept
+
+-- a line is injected, or that fails
+pub inject-answered : (case : CaseShape) (old new : DeskView) (part : ℕ) (was node : NodeView) (answer : Result Outcome NodeFault)
+    → Fits case old was → Fits case new node → node.number ≡ was.number
+    → IfOk answer (AnswersAsked case.topology old new (line_asked case was part) (worker_at was) was node)
+    → OnErr answer (HasLooked old new) → OnErr answer (HasKept was node) → HasServed case (appended answer) old new was node
+inject-answered case old new part was node (Ok outcome) before fits number is looked kept =
+    inject-served case old new part was node outcome before fits number is
+inject-answered case old new part was node (Err why) before fits number is looked kept =
+    served-kept case old new was node fits number looked kept
+
+-- a timer fires, or that fails
+pub fire-answered : (case : CaseShape) (old new : DeskView) (part : ℕ) (was node : NodeView) (answer : Result Outcome NodeFault)
+    → Fits case old was → Fits case new node → node.number ≡ was.number
+    → IfOk answer (AnswersFire case old new part was node)
+    → OnErr answer (HasLooked old new) → OnErr answer (HasKept was node) → HasServed case (appended answer) old new was node
+fire-answered case old new part was node (Ok outcome) before fits number is looked kept =
+    fire-served case old new part was node outcome before fits number is
+fire-answered case old new part was node (Err why) before fits number is looked kept =
+    served-kept case old new was node fits number looked kept
+
+-- a row forgets ids, or that fails
+pub purge-answered : (case : CaseShape) (old new : DeskView) (interval many : ℕ) (was node : NodeView) (answer : Result Outcome NodeFault)
+    → Fits case old was → Fits case new node → node.number ≡ was.number
+    → IfOk answer (AnswersPurge case.topology old new interval many was node)
+    → OnErr answer (HasLooked old new) → OnErr answer (HasKept was node) → HasServed case (appended answer) old new was node
+purge-answered case old new interval many was node (Ok outcome) before fits number is looked kept =
+    purge-served case old new interval many was node outcome before fits number is
+purge-answered case old new interval many was node (Err why) before fits number is looked kept =
+    served-kept case old new was node fits number looked kept
+
+-- own work is reported, or that fails
+pub report-answered : (case : CaseShape) (old new : DeskView) (interval : ℕ) (was node : NodeView) (answer : Result Outcome NodeFault)
+    → Fits case old was → Fits case new node → node.number ≡ was.number
+    → IfOk answer (AnswersReport case old new (held_at was.held interval) was node)
+    → OnErr answer (HasLooked old new) → OnErr answer (HasKept was node) → HasServed case (appended answer) old new was node
+report-answered case old new interval was node (Ok outcome) before fits number is looked kept =
+    served-report case old new interval was node outcome before fits number is
+report-answered case old new interval was node (Err why) before fits number is looked kept =
+    served-kept case old new was node fits number looked kept

@@ -1,6 +1,6 @@
 -- Why a call of a worker fails that claims nothing.
-use Rattle.std.proofs.Common.{◌≡◌, ◌∙◌, ℕ, sym, ap, subst, ⊎_elim}
-use Rattle.std.specs.Prelude.{Option, Some, None, ⊤}
+use Rattle.std.proofs.Common.{◌≡◌, ℕ, sym, ap, subst, ⊎_elim}
+use Rattle.std.specs.Prelude.{Option, Some, None}
 use Rattle.mw_types.proofs.CauseLaws.{Rose-before}
 use Rattle.book.specs.Books.{LeaseView}
 use Rattle.book.specs.Desks.{DeskView}

@@ -1,11 +1,9 @@
 -- What a worker's calls did is added up.
-use Rattle.std.proofs.Common.{◌≡◌, ◌∙◌, ◌<◌, ◌≤◌, ◌+◌, ◌++◌, ℕ, List, length, refl, sym, ap, subst, arith, inl, inr, ⊎_elim}
-use Rattle.std.specs.Prelude.{Option, Some}
-use Rattle.mw_types.specs.Causes.{Rose}
+use Rattle.std.proofs.Common.{◌≡◌, ◌∙◌, ◌≤◌, ◌+◌, ◌++◌, ℕ, List, refl, sym, ap, subst, arith, inl, inr, ⊎_elim}
+use Rattle.std.specs.Prelude.{Option, IfErr, OnErr, Result, Ok, Err}
 use Rattle.mw_types.proofs.CauseLaws.{Rose-before}
 use Rattle.mw_types.specs.declared.entry.Entry.{Entry}
 use Rattle.run_history.specs.Cases.{CaseShape}
-use Rattle.run_history.specs.Fences.{last_claim}
 use Rattle.run_history.proofs.Beginnings.{slice_get-more}
 use Rattle.run_history.proofs.Claims.{last_claim-latest, last_claim-there}
 use Rattle.book.specs.Desks.{DeskView, HasLooked}
@@ -15,8 +13,8 @@ use Rattle.node.specs.Workers.{NodeView, Worker, leases_of}
 use Rattle.node.specs.declared.outcome.NodeFault.{NodeFault}
 use Rattle.node.specs.declared.outcome.Outcome.{Outcome}
 use Rattle.node.specs.declared.outcome.Outcome.TheVariants as outcomes
-use Rattle.workers.specs.Serving.{HasServed, IsBusy, KeepsLeases, entries_of}
-use Rattle.workers.specs.Slices.{HasWorked, IsOvertaken, IsSliceFault}
+use Rattle.workers.specs.Serving.{HasServed, IsBusy, appended, entries_of}
+use Rattle.workers.specs.Slices.{HasWorked, IsOvertaken, IsSliceFault, KeepsLeases}
 use Rattle.workers.proofs.Working.{worked-less, worked-looked, worked-not, worked-then}
 
 -- ---- leases
@@ -44,13 +42,8 @@ leases-both mid rest new was between node more one two interval seq is = ⊎_eli
 -- ---- calls
 
 -- nothing was done
-pub served-not : (case : CaseShape) (desk : DeskView) (node : NodeView) → Fits case desk node → HasServed case 0 desk desk node node
-served-not case desk node fits = record {
-  fits = fits;
-  number = refl;
-  worked = worked-not desk;
-  kept = λ interval seq is. inl is;
-}
+pub served-not : {case : CaseShape} {desk : DeskView} {node : NodeView} → Fits case desk node → HasServed case 0 desk desk node node
+served-not {desk = desk} fits = record { fits = fits; number = refl; worked = worked-not desk; kept = λ interval seq is. inl is }
 
 -- a desk was looked at, and the leases are the same
 pub served-looked : (case : CaseShape) (old new : DeskView) (was node : NodeView) → Fits case new node → node.number ≡ was.number
@@ -69,9 +62,9 @@ served-kept case old new was node fits number looked kept =
     served-looked case old new was node fits number looked (ap (λ (w : Worker). w.leases) kept)
 
 -- at most so many is at most more
-pub served-less : (case : CaseShape) (m n : ℕ) (old new : DeskView) (was node : NodeView) → m ≤ n → HasServed case m old new was node
+pub served-less : {case : CaseShape} {old new : DeskView} {was node : NodeView} (m n : ℕ) → m ≤ n → HasServed case m old new was node
     → HasServed case n old new was node
-served-less case m n old new was node less served = record {
+served-less {old = old} {new = new} m n less served = record {
   fits = served.fits;
   number = served.number;
   worked = worked-less m n old new less served.worked;
@@ -79,9 +72,9 @@ served-less case m n old new was node less served = record {
 }
 
 -- calls after calls
-pub served-then : (case : CaseShape) (m n k : ℕ) (old mid new : DeskView) (was between node : NodeView) → m + n ≤ k
+pub served-then : {case : CaseShape} {old mid new : DeskView} {was between node : NodeView} (m n k : ℕ) → m + n ≤ k
     → HasServed case m old mid was between → HasServed case n mid new between node → HasServed case k old new was node
-served-then case m n k old mid new was between node less one two = record {
+served-then {old = old} {mid = mid} {new = new} {was = was} {between = between} {node = node} m n k less one two = record {
   fits = two.fits;
   number = two.number ∙ one.number;
   worked = worked-then m n k old mid new less one.worked two.worked;
@@ -91,8 +84,8 @@ served-then case m n k old mid new was between node less one two = record {
 -- ---- a call that is tried until nobody else has the turn
 
 -- who was turned away appended nothing
-pub entries-busy : (outcome : Outcome) → IsBusy outcome → entries_of outcome ≡ 0
-entries-busy (outcomes.Busy found) busy = refl
+entries-busy : (answer : Result Outcome NodeFault) → IsBusy answer → appended answer ≡ 0
+entries-busy (Ok (outcomes.Busy found)) busy = refl
 entries-busy _ busy = absurd busy
 
 -- a call appends at most one entry
@@ -100,27 +93,43 @@ pub entries-few : (outcome : Outcome) → entries_of outcome ≤ 1
 entries-few (outcomes.Committed commit) = omega arith
 entries-few _ = omega arith
 
+-- also where it may fail
+appended-few : (answer : Result Outcome NodeFault) → appended answer ≤ 1
+appended-few (Ok outcome) = entries-few outcome
+appended-few (Err why) = omega arith
+
 -- a try that was turned away
-pub tried-again : (case : CaseShape) (old mid new : DeskView) (was between node : NodeView) (outcome : Outcome)
-    → HasServed case 0 old mid was between → HasServed case (entries_of outcome) mid new between node → IsBusy outcome
+pub tried-again : {case : CaseShape} {old mid new : DeskView} {was between node : NodeView} (answer : Result Outcome NodeFault)
+    → HasServed case 0 old mid was between → HasServed case (appended answer) mid new between node → IsBusy answer
     → HasServed case 0 old new was node
-tried-again case old mid new was between node outcome one two busy =
-    served-then case 0 (entries_of outcome) 0 old mid new was between node (let none = entries-busy outcome busy in omega (arith, none)) one two
+tried-again answer one two busy =
+    served-then 0 (appended answer) 0 (let none = entries-busy answer busy in omega (arith, none)) one two
 
 -- the last try
-pub tried-last : (case : CaseShape) (old mid new : DeskView) (was between node : NodeView) (outcome : Outcome)
-    → HasServed case 0 old mid was between → HasServed case (entries_of outcome) mid new between node
+pub tried-last : {case : CaseShape} {old mid new : DeskView} {was between node : NodeView} (answer : Result Outcome NodeFault)
+    → HasServed case 0 old mid was between → HasServed case (appended answer) mid new between node
     → HasServed case 1 old new was node
-tried-last case old mid new was between node outcome one two =
-    served-then case 0 (entries_of outcome) 1 old mid new was between node (let few = entries-few outcome in omega (arith, few)) one two
+tried-last answer one two =
+    served-then 0 (appended answer) 1 (let few = appended-few answer in omega (arith, few)) one two
 
 -- ---- faults
 
 -- a fault behind what was done before
-pub fault-after : (m : ℕ) (old mid new : DeskView) (why : NodeFault) → HasWorked m old mid → IsSliceFault mid new why
+pub fault-after : {old mid new : DeskView} {m : ℕ} {why : NodeFault} → HasWorked m old mid → IsSliceFault mid new why
     → IsSliceFault old new why
-fault-after m old mid new why worked fault = record {
+fault-after {old = old} {mid = mid} {new = new} worked fault = record {
   keeper = λ is. Rose-before old.faults mid.faults new.faults worked.faults (fault.keeper is);
   full = fault.full;
   no_row = fault.no_row;
 }
+
+-- and so each fault
+pub faults-after : {T : Type 0} {old mid : DeskView} {m : ℕ} (new : DeskView) (result : Result T NodeFault) → HasWorked m old mid
+    → IfErr result (IsSliceFault mid new) → IfErr result (IsSliceFault old new)
+faults-after new (Ok x) worked fault = tt
+faults-after new (Err why) worked fault = fault-after worked fault
+
+-- what holds anyway holds where a call failed
+pub on_err-anyway : {T E P : Type 0} (result : Result T E) → P → OnErr result P
+on_err-anyway (Ok x) is = tt
+on_err-anyway (Err why) is = is

@@ -1,13 +1,12 @@
 -- What calls append is added up.
-use Rattle.std.proofs.Common.{◌≡◌, ◌∙◌, ◌<◌, ◌≤◌, ◌+◌, ◌++◌, ◌∷◌, ℕ, zero, suc, List, [], length, refl, sym, ap, subst, arith, append-nil, append_assoc, length-append, ⊎_elim}
-use Rattle.std.specs.Prelude.{Option, Some, None, IsSome, slice_get, Contains, drop}
+use Rattle.std.proofs.Common.{◌≡◌, ◌∙◌, ◌≤◌, ◌+◌, ◌++◌, ◌∷◌, ℕ, zero, suc, List, [], length, refl, sym, ap, subst, arith, append-nil, append_assoc, length-append, ⊎_elim}
+use Rattle.std.specs.Prelude.{Some, IsSome, slice_get, Contains}
 use Rattle.std.proofs.lemmas.List.Elements.{Contains-append_cases}
 use Rattle.mw_types.specs.declared.entry.Entry.{Entry}
 use Rattle.mw_types.specs.declared.entry.Entry.TheVariants as entries
 use Rattle.run_history.specs.Fences.{sequencer_of}
 use Rattle.run_history.proofs.Beginnings.{at-Begins, slice_get-last}
-use Rattle.book.specs.Books.{LeaseView}
-use Rattle.book.specs.Desks.{DeskView, HasLooked, HasMoved, numbers_from}
+use Rattle.book.specs.Desks.{DeskView, HasLooked, HasMoved}
 use Rattle.book.proofs.Numbers.{numbers_from-none, numbers_from-one}
 use Rattle.workers.specs.Slices.{HasWorked, IsAddedAt}
 

@@ -5,7 +5,8 @@ use Rattle.mailboxes.specs.declared.mailbox.Mailbox.{Mailbox}
 use Rattle.mailboxes.specs.declared.passes.MailPass.{MailPass}
 
 -- a worker has so many mailboxes, and one pass of each, in the same order
-pub record ArePasses {N J : Type 0} (count : ℕ) (boxes : List (Mailbox N J)) (passes : List (MailPass N J)) : Type 0 where
+pub record ArePasses {N J : Type 0} (count : ℕ) (boxes : List (Mailbox N J))
+    (passes : List (MailPass N J)) : Type 0 where
   pub many_boxes : length boxes ≡ count
   pub many_passes : length passes ≡ count
   pub each : (at : ℕ) (box : Mailbox N J) (pass : MailPass N J) → at < count →

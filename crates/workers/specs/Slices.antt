@@ -5,16 +5,14 @@ use Rattle.std.specs.Prelude.{◌≡◌, ◌<◌, ◌≤◌, ◌+◌, ◌==◌, 
 use Rattle.mw_types.specs.Causes.{Rose}
 use Rattle.mw_types.specs.declared.entry.Entry.{Entry}
 use Rattle.mw_types.specs.declared.entry.Entry.TheVariants as entries
-use Rattle.mw_types.specs.declared.identity.RowName.{RowName}
 use Rattle.topology.specs.Shapes.{injectors_of}
 use Rattle.run_history.specs.Cases.{CaseShape, source_of}
-use Rattle.run_history.specs.Fences.{IsOvertakenBy}
+use Rattle.run_history.specs.Fences.{IsOvertakenBy, interval_of}
 use Rattle.book.specs.Books.{LeaseView}
 use Rattle.book.specs.Desks.{DeskView}
 use Rattle.book.specs.DeskReasons.{IsNoDamage}
-use Rattle.holdings.specs.Holding.{HeldView, held_on}
 use Rattle.node.specs.Answers.{refusal_of}
-use Rattle.node.specs.Workers.{NodeView}
+use Rattle.node.specs.Workers.{NodeView, leases_of}
 use Rattle.node.specs.declared.outcome.NodeFault.{NodeFault}
 use Rattle.node.specs.declared.outcome.NodeFault.TheVariants as faults
 
@@ -24,10 +22,11 @@ use Rattle.node.specs.declared.outcome.NodeFault.TheVariants as faults
 pub record IsAddedAt (old new : DeskView) (at : ℕ) : Type 0 where
   pub later : length old.seen ≤ at
   pub below : at < length new.seen
-  pub no_claim : (worker interval : ℕ) → slice_get new.seen at ≡ Some (entries.Claim worker interval) → ⊥
+  pub no_claim : (worker interval : ℕ) →
+      slice_get new.seen at ≡ Some (entries.Claim worker interval) → ⊥
 
--- a desk came to see more, and appended at most so many entries of its own, none of them a claim; it may use the
--- leases that it could use before, and its count of faults has not fallen
+-- a desk came to see more, and appended at most so many entries of its own, none of them a claim; it may use
+-- the leases that it could use before, and its count of faults has not fallen
 pub record HasWorked (most : ℕ) (old new : DeskView) : Type 0 where
   pub case : new.case ≡ old.case
   pub limit : new.limit ≡ old.limit
@@ -53,27 +52,39 @@ is_line part _ = false
 abbrev pub injected : ℕ → List Entry → ℕ
 injected part history = length (filter (is_line part) history)
 
+-- so many lines more of an injector were injected, or all that it has
+abbrev pub HasLines : ℕ → CaseShape → ℕ → List Entry → List Entry → Type 0
+HasLines many case part old new =
+    min (length (source_of case part)) (injected part old + many) ≤ injected part new
+
+-- ---- what became of leases
+
 -- a later claim of the interval is there
 abbrev pub IsOvertaken : ℕ → ℕ → List Entry → Type 0
 IsOvertaken interval seq history = (newer : ℕ) × IsOvertakenBy newer interval seq history
 
--- so many lines more of an injector were injected, or all that it has, unless its lease was overtaken
-abbrev pub HasLines : ℕ → CaseShape → ℕ → LeaseView → List Entry → List Entry → Type 0
-HasLines many case part lease old new = IsOvertaken lease.interval lease.seq new
-    ⊎ (min (length (source_of case part)) (injected part old + many) ≤ injected part new)
+-- each lease that a worker held it holds still, unless another has overtaken it
+abbrev pub KeepsLeases : List Entry → NodeView → NodeView → Type 0
+KeepsLeases seen was node = (interval seq : ℕ) → leases_of was.held interval ≡ Some seq →
+    (leases_of node.held interval ≡ Some seq) ⊎ IsOvertaken interval seq seen
 
--- each injector that a worker held has 16 lines more, or all, unless its lease was overtaken, where a contract can
--- see the keeper's rows
+-- an injector whose interval a worker held has so many lines more, or all, unless another has overtaken its
+-- lease, where a contract can see the keeper's rows
+abbrev pub HasLinesOf : ℕ → CaseShape → ℕ → NodeView → DeskView → DeskView → Type 0
+HasLinesOf many case part was old new = IfSome old.told (λ _. (interval seq : ℕ) →
+    interval_of case.topology (record { part = part; key = [] }) ≡ Some interval →
+    leases_of was.held interval ≡ Some seq →
+    IsOvertaken interval seq new.seen ⊎ HasLines many case part old.seen new.seen)
+
+-- each injector has 16 lines more, or all, in this sense
 abbrev pub HasInjected : CaseShape → NodeView → DeskView → DeskView → Type 0
-HasInjected case was old new = IfSome old.told (λ _. (part : ℕ) (held : HeldView) →
-    part < injectors_of case.topology →
-    held_on case.topology was.held (record { part = part; key = [] }) ≡ Some held →
-    HasLines 16 case part held.lease old.seen new.seen)
+HasInjected case was old new = (part : ℕ) → part < injectors_of case.topology →
+    HasLinesOf 16 case part was old new
 
 -- ---- why a turn of work ends before its end
 
--- a turn of work ends by the keeper's fault only where the desk's count rose, by a full history only where what
--- was seen is full, and by no damaged row, since it claims nothing
+-- a turn of work ends by the keeper's fault only where the desk's count rose, by a full history only where
+-- what was seen is full, and by no damaged row, since it claims nothing
 pub record IsSliceFault (old new : DeskView) (why : NodeFault) : Type 0 where
   pub keeper : why ≡ faults.KeeperFault → Rose old.faults new.faults
   pub full : why ≡ faults.HistoryFull → length new.seen ≡ new.limit

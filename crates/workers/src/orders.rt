@@ -4,7 +4,8 @@ ghost use Rattle.std.specs.Prelude.{◌≡◌, false};
 /// What a worker is asked to do in one turn of work, beside what it does in each.
 #[derive(Clone, Copy)]
 pub struct Orders {
-    /// The round, from 0: in each fourth one it sends what is pending again, and has rows forget ids.
+    /// The round, from 0: in each fourth one it sends what is pending again, and has rows forget
+    /// ids.
     pub round: u32,
     /// It ends its turn with the first record that it has handled, which it leaves unwritten.
     pub stall: bool,

@@ -1,6 +1,7 @@
 //! Messages that a worker puts into mailboxes.
 ghost use Rattle.std.specs.Prelude.{◌≡◌, ◌<◌, length};
 ghost use Rattle.run_history.specs.Cases.{intervals_of};
+ghost use Rattle.crossbeam_queue.specs.Passes.{IsPassOf};
 ghost use Rattle.node.specs.Fits.{Fits};
 ghost use Rattle.node.specs.Messages.{IsAddressed};
 ghost use Rattle.node.specs.Received.{note_of, outgoing_of};
@@ -26,7 +27,22 @@ fn address<N: Seen>(case: &Case, message: &Message<N>) -> u32
     }
 }
 
-// Puts a message into the mailbox of its interval; where that is full it is dropped.
+// Puts a message into a mailbox; where that is full it is dropped.
+fn put<R: Wait, N: Seen, J: Office>(
+    rt: &R,
+    mailbox: &Mailbox<N, J>,
+    pass: &mut MailPass<N, J>,
+    message: Message<N>,
+)
+    requires pass { IsPassOf mailbox.now.line pass.old.pass }
+    requires known { N.book (note_of message) ≡ J.book }
+    requires addressed { IsAddressed J.shape (outgoing_of message) }
+    ensures pass { IsPassOf mailbox.now.line pass.new.pass }
+{
+    let _full = mailbox.push(rt, pass, message);
+}
+
+// Puts a message into the mailbox of its interval.
 fn post<R: Wait, N: Seen, J: Office>(
     rt: &R,
     case: &Case,
@@ -41,7 +57,7 @@ fn post<R: Wait, N: Seen, J: Office>(
     ensures passes { ArePasses (length (intervals_of case.now.topology)) boxes.now passes.new }
 {
     let interval = address(case, &message) as usize;
-    let _full = boxes[interval].push(rt, &mut passes[interval], message);
+    put(rt, &boxes[interval], &mut passes[interval], message);
 }
 
 // Sends the first of what it has to send once more, where that is a record.

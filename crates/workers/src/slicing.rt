@@ -1,12 +1,13 @@
 //! One turn of work of one worker.
-ghost use Rattle.std.specs.Prelude.{◌≡◌, length, IfErr};
+ghost use Rattle.std.specs.Prelude.{◌≡◌, false, length, IfErr, OnOk};
 ghost use Rattle.run_history.specs.Cases.{intervals_of};
 ghost use Rattle.node.specs.Fits.{Fits};
 ghost use Rattle.node.specs.Works.{IsWorkOf};
 ghost use Rattle.shared_book.specs.SharedDesks.{shared_home, shared_view};
 ghost use Rattle.workers.specs.Passing.{ArePasses};
-ghost use Rattle.workers.specs.Slices.{HasWorked, IsSliceFault};
+ghost use Rattle.workers.specs.Slices.{HasInjected, HasWorked, IsSliceFault, KeepsLeases};
 
+use crate::learning::learn;
 use crate::orders::Orders;
 use crate::turns::within;
 use computations::Computation;
@@ -21,15 +22,19 @@ use std::sync::Wait;
 
 /// One turn of work of one worker, at the desk of a book that it shares with others.
 ///
-/// It goes by steps: what it has prepared is written, and what it held is sent; of the mailbox of each interval that it has it takes up to 64
-/// messages; up to 16 timers of each computation fire; up to 16 lines of each injector are injected; in each fourth round, what is
-/// pending is to be sent again, and rows forget ids; what it has to send is put into mailboxes, where a message is dropped that finds no
-/// room; its own work is reported. Where another has the turn to append it tries again. A worker that stalls ends with the first record
-/// that it has handled, unwritten.
+/// First it loads the marks that others have reported, so that what it reports may rise behind
+/// them. Then it goes by steps: what it has prepared is written, and what it held is sent; of the
+/// mailbox of each interval that it has it takes up to 64 messages; up to 16 timers of each
+/// computation fire; up to 16 lines of each injector are injected; in each fourth round, what is
+/// pending is to be sent again, and rows forget ids; what it has to send is put into mailboxes,
+/// where a message is dropped that finds no room; its own work is reported. Where another has the
+/// turn to append it tries again. A worker that stalls ends with the first record that it has
+/// handled, unwritten.
 ///
-/// It takes no interval, and appends at most 6,000 entries. It fails only where memory runs out, the keeper fails or the history is full; what it did
-/// before stands. The mailboxes are those of the case's intervals, in their order, with a pass of each. No clause says how
-/// much it does, nor which messages it sends.
+/// It takes no interval, and appends at most 6,000 entries. It fails only where memory runs out,
+/// the keeper fails or the history is full; what it did before stands. The mailboxes are those of
+/// the case's intervals, in their order, with a pass of each. No clause says which messages it
+/// takes or sends, nor which timers fire.
 pub fn slice<'s, 'a, R: Wait, K: Keeper, C: Computation, G: Gate, J: Office>(
     rt: &R,
     alloc: Global,
@@ -55,19 +60,30 @@ pub fn slice<'s, 'a, R: Wait, K: Keeper, C: Computation, G: Gate, J: Office>(
         (shared_view desk.new.seat.now.place.me.0) node.new }
     ensures number { node.new.number ≡ node.old.number }
 
-    // It appended so many entries at most, none of them a claim, and kept its leases.
+    // It appended so many entries at most, none of them a claim, and lost a lease only to another.
     ensures worked { HasWorked 6000 (shared_view desk.old.seat.now.place.me.0)
         (shared_view desk.new.seat.now.place.me.0) }
+    ensures kept { KeepsLeases (shared_view desk.new.seat.now.place.me.0).seen
+        node.old node.new }
+
+    // Each injector that it had has 16 lines more, or all.
+    ensures injected { OnOk result (orders.now.stall ≡ false →
+        HasInjected case.now node.old (shared_view desk.old.seat.now.place.me.0)
+        (shared_view desk.new.seat.now.place.me.0)) }
     ensures fault { IfErr result (IsSliceFault
         (shared_view desk.old.seat.now.place.me.0)
         (shared_view desk.new.seat.now.place.me.0)) }
 
-    // Its passes are of the same mailboxes, and its desk stands at the same place of the same book.
+    // Its passes are of the same mailboxes, and its desk of the same seat and book.
     ensures passes { ArePasses (length (intervals_of case.now.topology)) boxes.now passes.new }
     ensures loan { desk.new.seat.ghost_name ≡ desk.old.seat.ghost_name }
     ensures home { shared_home desk.new.seat.now.place ≡ shared_home desk.old.seat.now.place }
+    ensures table { desk.new.shared.now.table.shared.table_id
+        ≡ desk.old.shared.now.table.shared.table_id }
+    ensures case { desk.new.shared.now.case.now ≡ desk.old.shared.now.case.now }
 {
     gate.at(node.worker(), Point::Begin);
+    learn(desk, case);
     let done = within(
         rt, alloc, node, desk, case, work, boxes, passes, orders, gate,
     );

@@ -1,13 +1,16 @@
 //! The steps of a turn of work that no message asks for.
-ghost use Rattle.std.specs.Prelude.{◌≡◌, ◌<◌, IfErr};
+ghost use Rattle.std.specs.Prelude.{◌≡◌, ◌<◌, IfErr, IsTrue, OnOk};
+ghost use Rattle.topology.specs.Shapes.{injectors_of};
 ghost use Rattle.node.specs.Fits.{Fits};
 ghost use Rattle.node.specs.Messages.{IsComputation};
 ghost use Rattle.node.specs.Works.{IsWorkOf};
+ghost use Rattle.node.specs.declared.outcome.Outcome.TheVariants as outcomes;
 ghost use Rattle.workers.specs.Serving.{HasServed};
-ghost use Rattle.workers.specs.Slices.{IsSliceFault};
+ghost use Rattle.workers.specs.Slices.{HasInjected, HasLinesOf, IsSliceFault};
 
+use crate::calls::{Fire, Inject, Purge, Report};
 use crate::counts::{injectors_in, intervals_in, parts_in};
-use crate::tries::{fire, inject, purge, report};
+use crate::tries::until_free;
 use book::{Desk, Seen};
 use computations::Computation;
 use node::{Node, NodeFault, Outcome};
@@ -16,7 +19,9 @@ use std::alloc::Global;
 use std::sync::Wait;
 
 // Whether there was nothing to do.
-fn is_nothing(outcome: &Outcome) -> bool {
+fn is_nothing(outcome: &Outcome) -> bool
+    ensures nothing { IsTrue result → outcome.now ≡ outcomes.Nothing }
+{
     match outcome {
         Outcome::Nothing => true,
         _ => false,
@@ -45,7 +50,7 @@ fn fire_part<R: Wait, N: Seen, D: Desk<Note = N>, C: Computation>(
     ensures home { D.home desk.new ≡ D.home desk.old }
 {
     for done in 0..16u32 {
-        let outcome = fire(rt, alloc, node, desk, case, work, part)?;
+        let outcome = until_free(rt, alloc, node, desk, case, &Fire { work, part })?;
         if is_nothing(&outcome) {
             return Ok(());
         }
@@ -90,15 +95,18 @@ fn inject_part<R: Wait, N: Seen, D: Desk<Note = N>>(
     part: u32,
 ) -> Result<(), NodeFault>
     requires fits { Fits case.now (D.view desk.old) node.old }
+    requires part { part < injectors_of case.now.topology }
 
     ensures served { HasServed case.now 16 (D.view desk.old) (D.view desk.new)
         node.old node.new }
+    ensures lines { OnOk result
+        (HasLinesOf 16 case.now part node.old (D.view desk.old) (D.view desk.new)) }
     ensures fault { IfErr result (IsSliceFault (D.view desk.old) (D.view desk.new)) }
     ensures loan { D.loan desk.new ≡ D.loan desk.old }
     ensures home { D.home desk.new ≡ D.home desk.old }
 {
     for done in 0..16u32 {
-        let outcome = inject(rt, alloc, node, desk, case, part)?;
+        let outcome = until_free(rt, alloc, node, desk, case, &Inject { part })?;
         if is_nothing(&outcome) {
             return Ok(());
         }
@@ -118,6 +126,8 @@ pub(crate) fn inject_all<R: Wait, N: Seen, D: Desk<Note = N>>(
 
     ensures served { HasServed case.now 256 (D.view desk.old) (D.view desk.new)
         node.old node.new }
+    ensures injected { OnOk result
+        (HasInjected case.now node.old (D.view desk.old) (D.view desk.new)) }
     ensures fault { IfErr result (IsSliceFault (D.view desk.old) (D.view desk.new)) }
     ensures loan { D.loan desk.new ≡ D.loan desk.old }
     ensures home { D.home desk.new ≡ D.home desk.old }
@@ -147,7 +157,7 @@ pub(crate) fn purge_all<R: Wait, N: Seen, D: Desk<Note = N>>(
 {
     let intervals = intervals_in(case);
     for interval in 0..intervals {
-        purge(rt, alloc, node, desk, case, interval)?;
+        until_free(rt, alloc, node, desk, case, &Purge { interval })?;
     }
     Ok(())
 }
@@ -170,7 +180,7 @@ pub(crate) fn report_all<R: Wait, N: Seen, D: Desk<Note = N>>(
 {
     let intervals = intervals_in(case);
     for interval in 0..intervals {
-        report(rt, alloc, node, desk, case, interval)?;
+        until_free(rt, alloc, node, desk, case, &Report { interval })?;
     }
     Ok(())
 }

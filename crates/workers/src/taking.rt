@@ -10,8 +10,9 @@ ghost use Rattle.workers.specs.Passing.{ArePasses};
 ghost use Rattle.workers.specs.Serving.{HasServed};
 ghost use Rattle.workers.specs.Slices.{IsSliceFault};
 
+use crate::calls::Commit;
 use crate::counts::intervals_in;
-use crate::tries::commit;
+use crate::tries::until_free;
 use book::{Desk, Seen};
 use computations::Computation;
 use mailboxes::{MailPass, Mailbox, Office};
@@ -48,7 +49,8 @@ fn is_committed(outcome: &Outcome) -> bool {
     }
 }
 
-// Writes what is prepared, between two points of the gate: the second is passed only where it was written.
+// Writes what is prepared, between two points of the gate: the second is passed only where it was
+// written.
 fn write_through<R: Wait, N: Seen, D: Desk<Note = N>, G: Gate>(
     rt: &R,
     alloc: Global,
@@ -66,7 +68,7 @@ fn write_through<R: Wait, N: Seen, D: Desk<Note = N>, G: Gate>(
     ensures home { D.home desk.new ≡ D.home desk.old }
 {
     gate.at(node.worker(), Point::BeforeCommit);
-    let outcome = commit(rt, alloc, node, desk, case)?;
+    let outcome = until_free(rt, alloc, node, desk, case, &Commit)?;
     if is_committed(&outcome) {
         gate.at(node.worker(), Point::AfterCommit);
     }

@@ -1,18 +1,19 @@
 //! One turn of work between the two ends of the gate.
-ghost use Rattle.std.specs.Prelude.{◌≡◌, false, length, IfErr};
+ghost use Rattle.std.specs.Prelude.{◌≡◌, false, length, IfErr, OnOk};
 ghost use Rattle.run_history.specs.Cases.{CaseShape, intervals_of};
 ghost use Rattle.book.specs.Desks.{DeskView};
 ghost use Rattle.node.specs.Fits.{Fits};
 ghost use Rattle.node.specs.Works.{IsWorkOf};
 ghost use Rattle.workers.specs.Passing.{ArePasses};
 ghost use Rattle.workers.specs.Serving.{HasServed};
-ghost use Rattle.workers.specs.Slices.{IsSliceFault};
+ghost use Rattle.workers.specs.Slices.{HasInjected, IsSliceFault};
 
+use crate::calls::Commit;
 use crate::orders::Orders;
 use crate::posting::send;
 use crate::steps::{fire_all, inject_all, purge_all, report_all};
 use crate::taking::take_all;
-use crate::tries::commit;
+use crate::tries::until_free;
 use book::{Desk, Seen};
 use computations::Computation;
 use mailboxes::{MailPass, Mailbox, Office};
@@ -45,7 +46,7 @@ fn settle_up<R: Wait, N: Seen, D: Desk<Note = N>, J: Office>(
     ensures home { D.home desk.new ≡ D.home desk.old }
 {
     let held = node.unsent();
-    commit(rt, alloc, node, desk, case)?;
+    until_free(rt, alloc, node, desk, case, &Commit)?;
     send(rt, alloc, node, desk, case, boxes, passes, held, false)?;
     Ok(())
 }
@@ -134,6 +135,8 @@ fn work_on<R: Wait, N: Seen, D: Desk<Note = N>, C: Computation>(
 
     ensures served { HasServed case.now 1232 (D.view desk.old) (D.view desk.new)
         node.old node.new }
+    ensures injected { OnOk result
+        (HasInjected case.now node.old (D.view desk.old) (D.view desk.new)) }
     ensures fault { IfErr result (IsSliceFault (D.view desk.old) (D.view desk.new)) }
     ensures loan { D.loan desk.new ≡ D.loan desk.old }
     ensures home { D.home desk.new ≡ D.home desk.old }
@@ -163,6 +166,8 @@ fn go_on<R: Wait, N: Seen, D: Desk<Note = N>, C: Computation, J: Office>(
 
     ensures served { HasServed case.now 1354 (D.view desk.old) (D.view desk.new)
         node.old node.new }
+    ensures injected { OnOk result
+        (HasInjected case.now node.old (D.view desk.old) (D.view desk.new)) }
     ensures fault { IfErr result (IsSliceFault (D.view desk.old) (D.view desk.new)) }
     ensures passes { ArePasses (length (intervals_of case.now.topology)) boxes.now passes.new }
     ensures loan { D.loan desk.new ≡ D.loan desk.old }
@@ -197,13 +202,15 @@ pub(crate) fn within<R: Wait, N: Seen, D: Desk<Note = N>, C: Computation, G: Gat
 
     ensures served { HasServed case.now 6000 (D.view desk.old) (D.view desk.new)
         node.old node.new }
+    ensures injected { OnOk result (orders.now.stall ≡ false →
+        HasInjected case.now node.old (D.view desk.old) (D.view desk.new)) }
     ensures fault { IfErr result (IsSliceFault (D.view desk.old) (D.view desk.new)) }
     ensures passes { ArePasses (length (intervals_of case.now.topology)) boxes.now passes.new }
     ensures loan { D.loan desk.new ≡ D.loan desk.old }
     ensures home { D.home desk.new ≡ D.home desk.old }
 {
     settle_up(rt, alloc, node, desk, case, boxes, passes)?;
-    let stalls = take_all(
+    let unwritten = take_all(
         rt,
         alloc,
         node,
@@ -215,7 +222,7 @@ pub(crate) fn within<R: Wait, N: Seen, D: Desk<Note = N>, C: Computation, G: Gat
         orders.stall,
         gate,
     )?;
-    if stalls {
+    if unwritten && orders.stall {
         return Ok(());
     }
     go_on(rt, alloc, node, desk, case, work, boxes, passes, orders)

@@ -4,4 +4,4 @@ use Rattle.plain_answer.proofs.streams.passed.Given as goal
 
 -- the records so far
 abbrev pub invariant-loop-member : goal.invariant-loop-member
-invariant-loop-member l = l.items ≡ map (λ (m : Keyed). m.1) (take l.member-index l.members)
+invariant-loop-member l = l.records ≡ map (λ (m : Keyed). m.1) (take l.member-index l.members)

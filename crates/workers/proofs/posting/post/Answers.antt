@@ -7,6 +7,6 @@ use Rattle.workers.proofs.posting.post.Goals as goal
 pub returns : goal.returns
 returns g c = record {
   passes = passes-set (length (intervals_of c.args.case.now.topology)) c.address-interval.result c.args.boxes.now c.args.passes.now
-      c.index-boxes-interval.result c.push-full.new.pass c.address-interval.ensures.there c.index-boxes-interval.is
-      c.push-full.ensures.pass c.requires.passes;
+      c.index-boxes-interval.result c.put.new.pass c.address-interval.ensures.there c.index-boxes-interval.is
+      c.put.ensures.pass c.requires.passes;
 }

@@ -5,7 +5,7 @@ use Rattle.workers.proofs.posting.send.Goals as goal
 
 pub loop-init : goal.loop-init
 loop-init g c = record {
-  served = served-not c.args.case.now (g.D.Desk.view c.args.desk.now) c.args.node.now c.requires.fits;
+  served = served-not c.requires.fits;
   passes = c.requires.passes;
   loan = refl;
   home = refl;
@@ -17,15 +17,11 @@ send_one-requires-clause-book g c = ap (λ (h : Home). h.book) c.loop.invariant.
 
 -- one message more was sent, or memory ran out
 pub returns-in_err-send_one-clause-served : goal.returns-in_err-send_one-clause-served
-returns-in_err-send_one-clause-served g c = served-then c.args.case.now 0 0 0 (g.D.Desk.view c.args.desk.now)
-    (g.D.Desk.view c.loop.desk) (g.D.Desk.view c.send_one.new.desk) c.args.node.now c.loop.node c.send_one.new.node (omega arith)
-    c.loop.invariant.served c.send_one.ensures.served
+returns-in_err-send_one-clause-served g c = served-then 0 0 0 (omega arith) c.loop.invariant.served c.send_one.ensures.served
 
 pub loop-preserved : goal.loop-preserved
 loop-preserved g c = record {
-  served = served-then c.args.case.now 0 0 0 (g.D.Desk.view c.args.desk.now) (g.D.Desk.view c.loop.desk)
-      (g.D.Desk.view c.send_one.new.desk) c.args.node.now c.loop.node c.send_one.new.node (omega arith)
-      c.loop.invariant.served c.send_one.ensures.served;
+  served = served-then 0 0 0 (omega arith) c.loop.invariant.served c.send_one.ensures.served;
   passes = c.send_one.ensures.passes;
   loan = c.send_one.ensures.loan ∙ c.loop.invariant.loan;
   home = c.send_one.ensures.home ∙ c.loop.invariant.home;

@@ -4,6 +4,4 @@ use Rattle.workers.proofs.posting.send_one.Goals as goal
 
 -- a record is sent once more, and then sent
 pub returns-clause-served : goal.returns-clause-served
-returns-clause-served g c = served-then c.args.case.now 0 0 0 (g.D.Desk.view c.args.desk.now) (g.D.Desk.view c.send_again.new.desk)
-    (g.D.Desk.view c.send_first-2.new.desk) c.args.node.now c.args.node.now c.send_first-2.new.node (omega arith)
-    c.send_again.ensures.served c.send_first-2.ensures.served
+returns-clause-served g c = served-then 0 0 0 (omega arith) c.send_again.ensures.served c.send_first-2.ensures.served

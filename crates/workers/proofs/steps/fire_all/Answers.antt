@@ -5,8 +5,7 @@ use Rattle.workers.proofs.steps.fire_all.Goals as goal
 
 pub loop-part-init : goal.loop-part-init
 loop-part-init g c = record {
-  served = served-less c.args.case.now 0 (16 * c.injectors_in-injectors.result) (g.D.Desk.view c.args.desk.now) (g.D.Desk.view c.args.desk.now) c.args.node.now c.args.node.now (omega arith)
-      (served-not c.args.case.now (g.D.Desk.view c.args.desk.now) c.args.node.now c.requires.fits);
+  served = served-less 0 (16 * c.injectors_in-injectors.result) (omega arith) (served-not c.requires.fits);
   low = (omega (arith, c.injectors_in-injectors.ensures.count));
   loan = refl;
   home = refl;
@@ -14,22 +13,19 @@ loop-part-init g c = record {
 
 -- a call that fails
 pub returns-in_err-fire_part-clause-served : goal.returns-in_err-fire_part-clause-served
-returns-in_err-fire_part-clause-served g c = served-then c.args.case.now (16 * c.loop-part.part) 16 976 (g.D.Desk.view c.args.desk.now) (g.D.Desk.view c.loop-part.desk) (g.D.Desk.view c.fire_part.new.desk)
-    c.args.node.now c.loop-part.node c.fire_part.new.node
+returns-in_err-fire_part-clause-served g c = served-then (16 * c.loop-part.part) 16 976
     (omega (arith, c.loop-part-test.true, c.parts_in-parts.ensures.few)) c.loop-part.invariant.served c.fire_part.ensures.served
 
 -- has its cause
 pub returns-in_err-fire_part-clause-fault : goal.returns-in_err-fire_part-clause-fault
 returns-in_err-fire_part-clause-fault g c =
     let fault : IsSliceFault (g.D.Desk.view c.args.desk.now) (g.D.Desk.view c.fire_part.new.desk) c.in_err-fire_part.field-0.0 =
-    fault-after (16 * c.loop-part.part) (g.D.Desk.view c.args.desk.now) (g.D.Desk.view c.loop-part.desk) (g.D.Desk.view c.fire_part.new.desk) c.in_err-fire_part.field-0.0
-    c.loop-part.invariant.served.worked c.in_err-fire_part.ensures.fault in search rules
+    fault-after c.loop-part.invariant.served.worked c.in_err-fire_part.ensures.fault in search rules
 
 pub loop-part-preserved : goal.loop-part-preserved
 loop-part-preserved g c = record {
-  served = served-then c.args.case.now (16 * c.loop-part.part) 16 (16 * (c.loop-part.part + 1)) (g.D.Desk.view c.args.desk.now) (g.D.Desk.view c.loop-part.desk) (g.D.Desk.view c.fire_part.new.desk)
-      c.args.node.now c.loop-part.node c.fire_part.new.node
-      (omega arith) c.loop-part.invariant.served c.fire_part.ensures.served;
+  served = served-then (16 * c.loop-part.part) 16 (16 * (c.loop-part.part + 1)) (omega arith) c.loop-part.invariant.served
+      c.fire_part.ensures.served;
   low = let low = c.loop-part.invariant.low in omega (arith, low);
   loan = c.fire_part.ensures.loan ∙ c.loop-part.invariant.loan;
   home = c.fire_part.ensures.home ∙ c.loop-part.invariant.home;
@@ -37,5 +33,5 @@ loop-part-preserved g c = record {
 
 -- the loop is done
 pub returns-clause-served : goal.returns-clause-served
-returns-clause-served g c = served-less c.args.case.now (16 * c.loop-part.part) 976 (g.D.Desk.view c.args.desk.now) (g.D.Desk.view c.loop-part.desk) c.args.node.now c.loop-part.node
-    (grind (arith, c.parts_in-parts.ensures.few)) c.loop-part.invariant.served
+returns-clause-served g c = served-less (16 * c.loop-part.part) 976 (grind (arith, c.parts_in-parts.ensures.few))
+    c.loop-part.invariant.served

@@ -1,44 +1,60 @@
-use Rattle.std.proofs.Common.{◌∙◌, ◌+◌, ◌*◌, refl, arith, rules}
-use Rattle.workers.specs.Slices.{IsSliceFault}
+use Rattle.std.proofs.Common.{◌≡◌, ◌∙◌, ◌+◌, refl, subst, arith, rules}
+use Rattle.node.specs.declared.outcome.Outcome.{Outcome}
+use Rattle.node.specs.declared.outcome.Outcome.TheVariants as outcomes
+use Rattle.workers.specs.Serving.{lines_told}
+use Rattle.workers.specs.Slices.{HasLinesOf, IsSliceFault}
+use Rattle.workers.proofs.LineLaws.{lines-less, lines-none, lines-then, told-some}
 use Rattle.workers.proofs.Serving.{fault-after, served-less, served-not, served-then}
 use Rattle.workers.proofs.steps.inject_part.Goals as goal
 
 pub loop-done-init : goal.loop-done-init
 loop-done-init g c = record {
-  served = served-not c.args.case.now (g.D.Desk.view c.args.desk.now) c.args.node.now c.requires.fits;
+  served = served-not c.requires.fits;
+  lines = lines-none c.args.part (served-not c.requires.fits);
   loan = refl;
   home = refl;
 }
 
 -- a call that fails
 pub returns-in_err-outcome-clause-served : goal.returns-in_err-outcome-clause-served
-returns-in_err-outcome-clause-served g c = served-then c.args.case.now c.loop-done.done 1 16 (g.D.Desk.view c.args.desk.now) (g.D.Desk.view c.loop-done.desk) (g.D.Desk.view c.inject.new.desk)
-    c.args.node.now c.loop-done.node c.inject.new.node
-    (omega (arith, c.loop-done-test.true)) c.loop-done.invariant.served c.inject.ensures.served
+returns-in_err-outcome-clause-served g c = served-then c.loop-done.done 1 16 (omega (arith, c.loop-done-test.true))
+    c.loop-done.invariant.served c.until_free.ensures.served
 
 -- has its cause
 pub returns-in_err-outcome-clause-fault : goal.returns-in_err-outcome-clause-fault
 returns-in_err-outcome-clause-fault g c =
-    let fault : IsSliceFault (g.D.Desk.view c.args.desk.now) (g.D.Desk.view c.inject.new.desk) c.in_err-outcome.field-0.0 =
-    fault-after c.loop-done.done (g.D.Desk.view c.args.desk.now) (g.D.Desk.view c.loop-done.desk) (g.D.Desk.view c.inject.new.desk) c.in_err-outcome.field-0.0
-    c.loop-done.invariant.served.worked c.in_err-outcome.ensures.fault in search rules
+    let fault : IsSliceFault (g.D.Desk.view c.args.desk.now) (g.D.Desk.view c.until_free.new.desk) c.in_err-outcome.field-0.0 =
+    fault-after c.loop-done.invariant.served.worked c.in_err-outcome.ensures.fault in search rules
 
 -- there was nothing to do
 pub returns-then-is_nothing-clause-served : goal.returns-then-is_nothing-clause-served
-returns-then-is_nothing-clause-served g c = served-then c.args.case.now c.loop-done.done 1 16 (g.D.Desk.view c.args.desk.now) (g.D.Desk.view c.loop-done.desk) (g.D.Desk.view c.inject.new.desk)
-    c.args.node.now c.loop-done.node c.inject.new.node
-    (omega (arith, c.loop-done-test.true)) c.loop-done.invariant.served c.inject.ensures.served
+returns-then-is_nothing-clause-served g c = served-then c.loop-done.done 1 16 (omega (arith, c.loop-done-test.true))
+    c.loop-done.invariant.served c.until_free.ensures.served
+
+-- so all lines are injected
+pub returns-then-is_nothing-clause-lines : goal.returns-then-is_nothing-clause-lines
+returns-then-is_nothing-clause-lines g c =
+    let case = c.args.case.now in
+    let nothing : c.in_ok-outcome.outcome ≡ outcomes.Nothing = c.if-is_nothing.ensures.nothing search in
+    lines-then c.args.part c.loop-done.done 16 16 (omega arith) c.loop-done.invariant.served c.until_free.ensures.served
+    c.loop-done.invariant.lines (subst (λ (o : Outcome). HasLinesOf (lines_told o) case c.args.part c.loop-done.node
+    (g.D.Desk.view c.loop-done.desk) (g.D.Desk.view c.until_free.new.desk)) nothing c.in_ok-outcome.ensures.lines)
 
 pub loop-done-preserved : goal.loop-done-preserved
 loop-done-preserved g c = record {
-  served = served-then c.args.case.now c.loop-done.done 1 (c.loop-done.done + 1) (g.D.Desk.view c.args.desk.now) (g.D.Desk.view c.loop-done.desk) (g.D.Desk.view c.inject.new.desk)
-      c.args.node.now c.loop-done.node c.inject.new.node
-      (omega arith) c.loop-done.invariant.served c.inject.ensures.served;
-  loan = c.inject.ensures.loan ∙ c.loop-done.invariant.loan;
-  home = c.inject.ensures.home ∙ c.loop-done.invariant.home;
+  served = served-then c.loop-done.done 1 (c.loop-done.done + 1) (omega arith) c.loop-done.invariant.served c.until_free.ensures.served;
+  lines = lines-then c.args.part c.loop-done.done (lines_told c.in_ok-outcome.outcome) (c.loop-done.done + 1)
+      (let some = told-some c.in_ok-outcome.outcome in omega (arith, some)) c.loop-done.invariant.served c.until_free.ensures.served
+      c.loop-done.invariant.lines c.in_ok-outcome.ensures.lines;
+  loan = c.until_free.ensures.loan ∙ c.loop-done.invariant.loan;
+  home = c.until_free.ensures.home ∙ c.loop-done.invariant.home;
 }
 
 -- the loop is done
 pub returns-clause-served : goal.returns-clause-served
-returns-clause-served g c = served-less c.args.case.now c.loop-done.done 16 (g.D.Desk.view c.args.desk.now) (g.D.Desk.view c.loop-done.desk) c.args.node.now c.loop-done.node
-    (grind arith) c.loop-done.invariant.served
+returns-clause-served g c = served-less c.loop-done.done 16 (grind arith) c.loop-done.invariant.served
+
+-- and 16 lines were injected
+pub returns-clause-lines : goal.returns-clause-lines
+returns-clause-lines g c = lines-less c.args.case.now c.args.part c.loop-done.done 16 (g.D.Desk.view c.args.desk.now)
+    (g.D.Desk.view c.loop-done.desk) c.args.node.now (grind arith) c.loop-done.invariant.lines

@@ -1,11 +1,13 @@
 use Rattle.std.proofs.Common.{◌≡◌}
 use Rattle.workers.specs.Serving.{HasServed}
+use Rattle.workers.specs.Slices.{HasLinesOf}
 use Rattle.workers.proofs.steps.inject_part.Given as goal
 
--- at most 1 entry a turn of the loop
+-- a line each time, and at most one entry
 abbrev pub invariant-loop-done : goal.invariant-loop-done
 invariant-loop-done g l = record {
   served : HasServed l.case l.done (g.D.Desk.view l.initial.desk) (g.D.Desk.view l.desk) l.initial.node l.node;
+  lines : HasLinesOf l.done l.case l.part l.initial.node (g.D.Desk.view l.initial.desk) (g.D.Desk.view l.desk);
   loan : g.D.Desk.loan l.desk ≡ g.D.Desk.loan l.initial.desk;
   home : g.D.Desk.home l.desk ≡ g.D.Desk.home l.initial.desk;
 }

@@ -5,7 +5,7 @@ use Rattle.workers.proofs.taking.take_all.Goals as goal
 
 pub loop-interval-init : goal.loop-interval-init
 loop-interval-init g c = record {
-  served = served-not c.args.case.now (g.D.Desk.view c.args.desk.now) c.args.node.now c.requires.fits;
+  served = served-not c.requires.fits;
   passes = c.requires.passes;
   loan = refl;
   home = refl;
@@ -21,21 +21,20 @@ take_at-requires-clause-book g c = ap (λ (h : Home). h.book) c.loop-interval.in
 
 -- an interval more, and that failed
 pub returns-in_err-take_at-clause-served : goal.returns-in_err-take_at-clause-served
-returns-in_err-take_at-clause-served g c = served-then c.args.case.now (64 * c.loop-interval.interval) 64 3904 (g.D.Desk.view c.args.desk.now)
-    (g.D.Desk.view c.loop-interval.desk) (g.D.Desk.view c.take_at.new.desk) c.args.node.now c.loop-interval.node c.take_at.new.node
-    (omega (arith, c.loop-interval-test.true, c.intervals_in-intervals.ensures.few)) c.loop-interval.invariant.served c.take_at.ensures.served
+returns-in_err-take_at-clause-served g c = served-then (64 * c.loop-interval.interval) 64 3904
+    (omega (arith, c.loop-interval-test.true, c.intervals_in-intervals.ensures.few)) c.loop-interval.invariant.served
+    c.take_at.ensures.served
 
 -- the worker stalls
 pub returns-then-branch-clause-served : goal.returns-then-branch-clause-served
-returns-then-branch-clause-served g c = served-then c.args.case.now (64 * c.loop-interval.interval) 64 3904 (g.D.Desk.view c.args.desk.now)
-    (g.D.Desk.view c.loop-interval.desk) (g.D.Desk.view c.take_at.new.desk) c.args.node.now c.loop-interval.node c.take_at.new.node
-    (omega (arith, c.loop-interval-test.true, c.intervals_in-intervals.ensures.few)) c.loop-interval.invariant.served c.take_at.ensures.served
+returns-then-branch-clause-served g c = served-then (64 * c.loop-interval.interval) 64 3904
+    (omega (arith, c.loop-interval-test.true, c.intervals_in-intervals.ensures.few)) c.loop-interval.invariant.served
+    c.take_at.ensures.served
 
 pub loop-interval-preserved : goal.loop-interval-preserved
 loop-interval-preserved g c = record {
-  served = served-then c.args.case.now (64 * c.loop-interval.interval) 64 (64 * (c.loop-interval.interval + 1)) (g.D.Desk.view c.args.desk.now)
-      (g.D.Desk.view c.loop-interval.desk) (g.D.Desk.view c.take_at.new.desk) c.args.node.now c.loop-interval.node c.take_at.new.node
-      (omega arith) c.loop-interval.invariant.served c.take_at.ensures.served;
+  served = served-then (64 * c.loop-interval.interval) 64 (64 * (c.loop-interval.interval + 1)) (omega arith)
+      c.loop-interval.invariant.served c.take_at.ensures.served;
   passes = c.take_at.ensures.passes;
   loan = c.take_at.ensures.loan ∙ c.loop-interval.invariant.loan;
   home = c.take_at.ensures.home ∙ c.loop-interval.invariant.home;

@@ -6,8 +6,7 @@ use Rattle.workers.proofs.taking.take_at.Goals as goal
 
 -- it does not have the interval
 pub returns-then-not-holds-clause-served : goal.returns-then-not-holds-clause-served
-returns-then-not-holds-clause-served g c = served-less c.args.case.now 0 64 (g.D.Desk.view c.args.desk.now) (g.D.Desk.view c.args.desk.now)
-    c.args.node.now c.args.node.now (omega arith) (served-not c.args.case.now (g.D.Desk.view c.args.desk.now) c.args.node.now c.requires.fits)
+returns-then-not-holds-clause-served g c = served-less 0 64 (omega arith) (served-not c.requires.fits)
 
 -- the pass that was used stands in its place again
 pub returns-clause-passes : goal.returns-clause-passes

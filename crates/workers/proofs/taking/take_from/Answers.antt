@@ -4,7 +4,7 @@ use Rattle.workers.proofs.taking.take_from.Goals as goal
 
 pub loop-done-init : goal.loop-done-init
 loop-done-init g c = record {
-  served = served-not c.args.case.now (g.D.Desk.view c.args.desk.now) c.args.node.now c.requires.fits;
+  served = served-not c.requires.fits;
   pass = c.requires.pass;
   loan = refl;
   home = refl;
@@ -16,21 +16,17 @@ take_one-requires-clause-alone g c = c.loop-done.invariant.served.worked.alone �
 
 -- a message was taken, and that failed
 pub returns-in_err-take_one-clause-served : goal.returns-in_err-take_one-clause-served
-returns-in_err-take_one-clause-served g c = served-then c.args.case.now c.loop-done.done 1 64 (g.D.Desk.view c.args.desk.now)
-    (g.D.Desk.view c.loop-done.desk) (g.D.Desk.view c.take_one.new.desk) c.args.node.now c.loop-done.node c.take_one.new.node
-    (omega (arith, c.loop-done-test.true)) c.loop-done.invariant.served c.take_one.ensures.served
+returns-in_err-take_one-clause-served g c = served-then c.loop-done.done 1 64 (omega (arith, c.loop-done-test.true))
+    c.loop-done.invariant.served c.take_one.ensures.served
 
 -- the worker stalls
 pub returns-then-branch-clause-served : goal.returns-then-branch-clause-served
-returns-then-branch-clause-served g c = served-then c.args.case.now c.loop-done.done 1 64 (g.D.Desk.view c.args.desk.now)
-    (g.D.Desk.view c.loop-done.desk) (g.D.Desk.view c.take_one.new.desk) c.args.node.now c.loop-done.node c.take_one.new.node
-    (omega (arith, c.loop-done-test.true)) c.loop-done.invariant.served c.take_one.ensures.served
+returns-then-branch-clause-served g c = served-then c.loop-done.done 1 64 (omega (arith, c.loop-done-test.true))
+    c.loop-done.invariant.served c.take_one.ensures.served
 
 pub loop-done-preserved : goal.loop-done-preserved
 loop-done-preserved g c = record {
-  served = served-then c.args.case.now c.loop-done.done 1 (c.loop-done.done + 1) (g.D.Desk.view c.args.desk.now)
-      (g.D.Desk.view c.loop-done.desk) (g.D.Desk.view c.take_one.new.desk) c.args.node.now c.loop-done.node c.take_one.new.node
-      (omega arith) c.loop-done.invariant.served c.take_one.ensures.served;
+  served = served-then c.loop-done.done 1 (c.loop-done.done + 1) (omega arith) c.loop-done.invariant.served c.take_one.ensures.served;
   pass = c.pop.ensures.pass;
   loan = c.take_one.ensures.loan ∙ c.loop-done.invariant.loan;
   home = c.take_one.ensures.home ∙ c.loop-done.invariant.home;

@@ -1,6 +1,5 @@
-use Rattle.std.proofs.Common.{ap, rules}
+use Rattle.std.proofs.Common.{rules}
 use Rattle.node.specs.Received.{note_of, outgoing_of}
-use Rattle.node.specs.Workers.{Worker}
 use Rattle.node.proofs.OutLaws.{vouched-beside}
 use Rattle.workers.specs.Slices.{IsSliceFault}
 use Rattle.workers.proofs.CallLaws.{leases-taken}

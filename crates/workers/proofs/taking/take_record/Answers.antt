@@ -4,12 +4,8 @@ use Rattle.workers.proofs.taking.take_record.Goals as goal
 
 -- the record was taken in, and what is prepared was not written
 pub returns-in_err-write_through-clause-served : goal.returns-in_err-write_through-clause-served
-returns-in_err-write_through-clause-served g c = served-then c.args.case.now 0 1 1 (g.D.Desk.view c.args.desk.now)
-    (g.D.Desk.view c.take_in.new.desk) (g.D.Desk.view c.write_through.new.desk) c.args.node.now c.take_in.new.node
-    c.write_through.new.node (omega arith) c.take_in.ensures.served c.write_through.ensures.served
+returns-in_err-write_through-clause-served g c = served-then 0 1 1 (omega arith) c.take_in.ensures.served c.write_through.ensures.served
 
 -- the record was taken in, and written
 pub returns-clause-served : goal.returns-clause-served
-returns-clause-served g c = served-then c.args.case.now 0 1 1 (g.D.Desk.view c.args.desk.now) (g.D.Desk.view c.take_in.new.desk)
-    (g.D.Desk.view c.write_through.new.desk) c.args.node.now c.take_in.new.node c.write_through.new.node (omega arith)
-    c.take_in.ensures.served c.write_through.ensures.served
+returns-clause-served g c = served-then 0 1 1 (omega arith) c.take_in.ensures.served c.write_through.ensures.served

@@ -17,8 +17,7 @@ take_ack-requires-clause-vouched g c = vouched-beside c.args.case.now (g.D.Desk.
 -- a fault appended nothing
 pub returns-in_err-outcome-clause-served : goal.returns-in_err-outcome-clause-served
 returns-in_err-outcome-clause-served g c =
-    served-less c.args.case.now 0 1 (g.D.Desk.view c.args.desk.now) (g.D.Desk.view c.take_ack.new.desk) c.args.node.now
-    c.take_ack.new.self (omega arith) (served-kept c.args.case.now (g.D.Desk.view c.args.desk.now) (g.D.Desk.view c.take_ack.new.desk)
+    served-less 0 1 (omega arith) (served-kept c.args.case.now (g.D.Desk.view c.args.desk.now) (g.D.Desk.view c.take_ack.new.desk)
     c.args.node.now c.take_ack.new.self c.take_ack.ensures.fits c.take_ack.ensures.number c.in_err-outcome.ensures.looked
     c.in_err-outcome.ensures.kept)
 
@@ -33,8 +32,7 @@ returns-in_err-outcome-clause-fault g c =
 -- an answer appended at most one entry
 pub returns-clause-served : goal.returns-clause-served
 returns-clause-served g c =
-    served-less c.args.case.now (entries_of c.in_ok-outcome.outcome) 1 (g.D.Desk.view c.args.desk.now)
-    (g.D.Desk.view c.take_ack.new.desk) c.args.node.now c.take_ack.new.self (entries-few c.in_ok-outcome.outcome)
+    served-less (entries_of c.in_ok-outcome.outcome) 1 (entries-few c.in_ok-outcome.outcome)
     (served-ack c.args.case.now (g.D.Desk.view c.args.desk.now) (g.D.Desk.view c.take_ack.new.desk) (outgoing_of c.args.message)
     c.args.node.now c.take_ack.new.self c.in_ok-outcome.outcome c.requires.fits c.take_ack.ensures.fits c.take_ack.ensures.number
     c.in_ok-outcome.ensures.answers)

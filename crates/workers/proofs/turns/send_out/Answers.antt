@@ -10,14 +10,12 @@ returns-then-orders-clause-served g c = served-rest c.args.case.now (g.D.Desk.vi
 
 -- memory ran out
 pub returns-in_err-send-clause-served : goal.returns-in_err-send-clause-served
-returns-in_err-send-clause-served g c = served-then c.args.case.now 0 0 0 (g.D.Desk.view c.args.desk.now) (g.D.Desk.view c.args.desk.now) (g.D.Desk.view c.send.new.desk)
-    c.args.node.now c.let_go.new.node c.send.new.node (omega arith)
+returns-in_err-send-clause-served g c = served-then 0 0 0 (omega arith)
     (served-rest c.args.case.now (g.D.Desk.view c.args.desk.now) c.args.node.now c.let_go.new.node
     (c.let_go.ensures.fits c.args.case.now (g.D.Desk.view c.args.desk.now) c.requires.fits) c.let_go.ensures.rest) c.send.ensures.served
 
 -- it was sent
 pub returns-clause-served : goal.returns-clause-served
-returns-clause-served g c = served-then c.args.case.now 0 0 0 (g.D.Desk.view c.args.desk.now) (g.D.Desk.view c.args.desk.now) (g.D.Desk.view c.send.new.desk)
-    c.args.node.now c.let_go.new.node c.send.new.node (omega arith)
+returns-clause-served g c = served-then 0 0 0 (omega arith)
     (served-rest c.args.case.now (g.D.Desk.view c.args.desk.now) c.args.node.now c.let_go.new.node
     (c.let_go.ensures.fits c.args.case.now (g.D.Desk.view c.args.desk.now) c.requires.fits) c.let_go.ensures.rest) c.send.ensures.served

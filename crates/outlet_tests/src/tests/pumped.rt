@@ -1,0 +1,364 @@
+//! The windows of a first run as they are pumped: at once, and by a sink that fails at each call in
+//! turn. No row owns anything, and one case serves all.
+ghost use Rattle.std.specs.Prelude.{◌≡◌, ◌≤◌, All, IfOk, length};
+ghost use Rattle.mw_types.specs.declared.TheConstants.{MAX_STAMP};
+ghost use Rattle.mw_types.specs.declared.record.Production.{Production as Produced};
+ghost use Rattle.topology.specs.Samples.{one_count};
+ghost use Rattle.run_history.specs.Made.{productions_of};
+ghost use Rattle.run_history.specs.Printing.{IsOnPart, IsPrintable};
+
+use injector::{Items, ItemsList};
+use live_outlet::{CollectRefusal, Outlet, collect};
+use mw_ports::{MemSink, SinkFault};
+use mw_types::{
+    Bytes, CallList, Effects, Entry, Key, NoMemory, Production, ProductionList, Record, RecordId,
+    RowName, Seq, State, Timer,
+};
+use run_history::{Case, History};
+use std::alloc::Global;
+use topology::Topology;
+
+// The lines of the two windows, which the entries 11 and 12 close.
+const LINES: &[u8] =
+    b"{\"id\":\"00000000-0000-8000-8000-00000000000b\",\"key\":\"a\",\"stream\":\"windows\",\"ts\":60,\"value\":2}\n{\"id\":\"00000000-0000-8000-8000-00000000000c\",\"key\":\"a\",\"stream\":\"windows\",\"ts\":120,\"value\":1}\n";
+
+// How many entries the history has.
+const ENTRIES: u32 = 13;
+
+// A text has fewer bytes.
+const MOST: usize = 1 << 32;
+
+// The key a.
+fn key(alloc: Global) -> Result<Key, NoMemory> {
+    match Key::of(alloc, "a") {
+        Ok(key) => Ok(key),
+        Err(_) => Err(NoMemory),
+    }
+}
+
+// The row of the key a of the count.
+fn count_row(alloc: Global) -> Result<RowName, NoMemory>
+    ensures { IfOk result (λ row. row.part ≡ 1) }
+{
+    Ok(RowName {
+        part: 1,
+        key: key(alloc)?,
+    })
+}
+
+// What a handler left that produced these. Its state is of no matter here.
+fn effects(alloc: Global, productions: ProductionList) -> Effects
+    requires stamps { All (λ (p : Produced). p.stamp ≤ MAX_STAMP) productions }
+    ensures produced { result.productions ≡ productions }
+{
+    Effects {
+        state: State::Pass { late: 0 },
+        timers: Seq::new(alloc),
+        productions,
+    }
+}
+
+// The record of this time is injected.
+fn injected(alloc: Global, line: u32, stamp: u64) -> Result<Entry, NoMemory>
+    ensures part { IfOk result (IsOnPart (one_count 60)) }
+    ensures few { IfOk result (λ entry. length (productions_of entry) ≤ 8) }
+{
+    Ok(Entry::Inject {
+        seq: 0,
+        part: 0,
+        line,
+        item: Record {
+            key: key(alloc)?,
+            stamp,
+            value: 1,
+            late: false,
+        },
+    })
+}
+
+// The record that this entry made is handled.
+fn handled(alloc: Global, commit: u64) -> Result<Entry, NoMemory>
+    ensures part { IfOk result (IsOnPart (one_count 60)) }
+    ensures few { IfOk result (λ entry. length (productions_of entry) ≤ 8) }
+{
+    Ok(Entry::Handle {
+        seq: 1,
+        row: count_row(alloc)?,
+        id: RecordId { commit, index: 0 },
+        effects: effects(alloc, Seq::new(alloc)),
+    })
+}
+
+// The injector's row learns that it was.
+fn acknowledged(alloc: Global, commit: u64) -> Entry
+    ensures part { IsOnPart (one_count 60) result }
+    ensures few { length (productions_of result) ≤ 8 }
+{
+    Entry::Ack {
+        seq: 0,
+        row: RowName {
+            part: 0,
+            key: Key::none(alloc),
+        },
+        id: RecordId { commit, index: 0 },
+    }
+}
+
+// What the count of a window is, as it is produced.
+fn count(alloc: Global, stamp: u32, value: i64) -> Result<ProductionList, NoMemory>
+    ensures few { IfOk result (λ all. length all ≤ 8) }
+    ensures stamps { IfOk result (All (λ (p : Produced). p.stamp ≤ MAX_STAMP)) }
+{
+    let mut productions = Seq::new(alloc);
+    productions.push(Production {
+        key: key(alloc)?,
+        stamp: u64::from(stamp),
+        value,
+    })?;
+    Ok(productions)
+}
+
+// The window that ends at this time is closed.
+fn fired(alloc: Global, time: u32, value: i64) -> Result<Entry, NoMemory>
+    ensures part { IfOk result (IsOnPart (one_count 60)) }
+    ensures few { IfOk result (λ entry. length (productions_of entry) ≤ 8) }
+{
+    let productions = count(alloc, time, value)?;
+    Ok(Entry::Fire {
+        seq: 1,
+        row: count_row(alloc)?,
+        timer: Timer {
+            tag: 0,
+            time: u64::from(time),
+            late: false,
+        },
+        mark: u64::from(time),
+        effects: effects(alloc, productions),
+    })
+}
+
+// The entry of this number.
+fn entry(alloc: Global, n: u32) -> Result<Entry, NoMemory>
+    ensures part { IfOk result (IsOnPart (one_count 60)) }
+    ensures few { IfOk result (λ entry. length (productions_of entry) ≤ 8) }
+{
+    match n {
+        0 | 1 => Ok(Entry::Claim {
+            worker: 0,
+            interval: n,
+        }),
+        2 => injected(alloc, 0, 10),
+        3 => handled(alloc, 2),
+        4 => Ok(acknowledged(alloc, 2)),
+        5 => injected(alloc, 1, 59),
+        6 => handled(alloc, 5),
+        7 => Ok(acknowledged(alloc, 5)),
+        8 => injected(alloc, 2, 60),
+        9 => handled(alloc, 8),
+        10 => Ok(acknowledged(alloc, 8)),
+        11 => fired(alloc, 60, 2),
+        _ => fired(alloc, 120, 1),
+    }
+}
+
+// The history of the first run.
+fn history(alloc: Global) -> Result<History, NoMemory>
+    ensures { IfOk result (IsPrintable (one_count 60)) }
+{
+    let mut history = History::new(alloc);
+    for n in 0..ENTRIES {
+        history.push(entry(alloc, n)?)?;
+    }
+    Ok(history)
+}
+
+// A case of its topology, whose event file is of no matter here.
+fn case(alloc: Global) -> Result<Case, NoMemory>
+    ensures { IfOk result (λ case. case.topology ≡ one_count 60) }
+{
+    let mut all = ItemsList::new(alloc);
+    all.push(Items::new(alloc))?;
+    Case::of(alloc, Topology::one_count(alloc, 60)?, all)
+}
+
+// A sink that takes 8 bytes a call and fails at this one.
+fn failing(alloc: Global, call: u64) -> Result<MemSink, NoMemory> {
+    let mut failing = CallList::new(alloc);
+    failing.push(call)?;
+    Ok(MemSink::of(alloc, 8, failing, CallList::new(alloc)))
+}
+
+// The history is pumped, and once more where the sink failed; first all is written again where the
+// outlet goes back.
+fn pump(
+    alloc: Global,
+    case: &Case,
+    history: &History,
+    goes_back: bool,
+    out: &mut MemSink,
+) -> Result<(), SinkFault>
+    requires { IsPrintable case.now.topology history.now }
+{
+    let mut outlet = Outlet::new(alloc);
+    if outlet.pump(alloc, case, history, out).is_ok() {
+        return Ok(());
+    }
+    if goes_back {
+        outlet.back(alloc);
+    }
+    outlet.pump(alloc, case, history, out)?;
+    Ok(())
+}
+
+// Whether these are the two lines, without their LF.
+fn are_lines(lines: &[Bytes]) -> bool {
+    let mut rest = LINES;
+    for line in lines {
+        let line = line.as_slice();
+        if rest.len() <= line.len() || &rest[..line.len()] != line || rest[line.len()] != b'\n' {
+            return false;
+        }
+        rest = &rest[line.len() + 1..];
+    }
+    rest.is_empty()
+}
+
+// Whether a text collects to the two lines, beside so many others.
+fn collects(alloc: Global, text: &[u8], others: u32) -> Result<bool, NoMemory> {
+    if text.len() >= MOST {
+        return Err(NoMemory);
+    }
+    match collect(alloc, text) {
+        Ok(all) => Ok(all.other == others && are_lines(all.lines.as_slice())),
+        Err(CollectRefusal::NoMemory) => Err(NoMemory),
+        Err(_) => Ok(false),
+    }
+}
+
+// At which call the sink fails, and how many lines of the text are then cut off: a line takes 12
+// calls, and one that fails before the first byte of a line cuts nothing.
+const CALLS: &[(u64, u32)] = &[
+    (0, 0),
+    (1, 1),
+    (2, 1),
+    (3, 1),
+    (4, 1),
+    (5, 1),
+    (6, 1),
+    (7, 1),
+    (8, 1),
+    (9, 1),
+    (10, 1),
+    (11, 1),
+    (12, 0),
+    (13, 1),
+    (14, 1),
+    (15, 1),
+    (16, 1),
+    (17, 1),
+    (18, 1),
+    (19, 1),
+    (20, 1),
+    (21, 1),
+    (22, 1),
+    (23, 1),
+    (24, 0),
+];
+
+// The sink that fails at this call, once all is pumped into it.
+fn sink_after(
+    alloc: Global,
+    case: &Case,
+    history: &History,
+    goes_back: bool,
+    call: u64,
+) -> Result<MemSink, NoMemory>
+    requires { IsPrintable case.now.topology history.now }
+{
+    let mut out = failing(alloc, call)?;
+    match pump(alloc, case, history, goes_back, &mut out) {
+        Ok(()) => Ok(out),
+        Err(_) => Err(NoMemory),
+    }
+}
+
+// Whether the text collects to the two lines where the sink fails at this call.
+fn collects_after(
+    alloc: Global,
+    case: &Case,
+    history: &History,
+    goes_back: bool,
+    call: u64,
+    others: u32,
+) -> Result<bool, NoMemory>
+    requires { IsPrintable case.now.topology history.now }
+{
+    let out = sink_after(alloc, case, history, goes_back, call)?;
+    collects(alloc, out.text(), others)
+}
+
+// Whether it does so for each call.
+fn each_collects(
+    alloc: Global,
+    case: &Case,
+    history: &History,
+    goes_back: bool,
+) -> Result<bool, NoMemory>
+    requires { IsPrintable case.now.topology history.now }
+{
+    for (call, others) in CALLS {
+        if !collects_after(alloc, case, history, goes_back, *call, *others)? {
+            return Ok(false);
+        }
+    }
+    Ok(true)
+}
+
+// Whether the two lines are written as they are, by a sink that does not fail.
+fn is_written(alloc: Global, case: &Case, history: &History) -> Result<bool, NoMemory>
+    requires { IsPrintable case.now.topology history.now }
+{
+    let out = sink_after(alloc, case, history, false, u64::MAX)?;
+    Ok(out.text() == LINES)
+}
+
+// What is shown of the history, by number.
+fn holds_of(alloc: Global, case: &Case, history: &History, at: u32) -> Result<bool, NoMemory>
+    requires { IsPrintable case.now.topology history.now }
+{
+    match at {
+        0 => is_written(alloc, case, history),
+        1 => each_collects(alloc, case, history, false),
+        _ => each_collects(alloc, case, history, true),
+    }
+}
+
+// The same, in a case of its topology.
+fn holds_in(alloc: Global, case: &Case, at: u32) -> Result<bool, NoMemory>
+    requires { case.now.topology ≡ one_count 60 }
+{
+    let history = history(alloc)?;
+    holds_of(alloc, case, &history, at)
+}
+
+// The same, with the one case.
+fn holds(alloc: Global, at: u32) -> Result<bool, NoMemory> {
+    let case = case(alloc)?;
+    holds_in(alloc, &case, at)
+}
+
+#[test]
+fn live_ids(rt: HostRuntime) -> Result<(), NoMemory> {
+    assert!(rt; holds(rt.alloc(), 0)?);
+    Ok(())
+}
+
+#[test]
+fn a_text_that_was_cut_at_each_call_in_turn_collects_to_all(
+    rt: HostRuntime,
+) -> Result<(), NoMemory> {
+    for (at, name) in &[(1, "pumped again"), (2, "taken back and pumped again")] {
+        assert!(rt; holds(rt.alloc(), *at)?, "{name}");
+    }
+    Ok(())
+}

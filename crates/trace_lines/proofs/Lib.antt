@@ -1,0 +1,8 @@
+pub mod Cutting
+pub mod Writing
+pub mod Choosing
+pub mod Parting
+pub mod ValueLaws
+pub mod IdBounds
+pub mod EntryLaws
+pub mod OneReading

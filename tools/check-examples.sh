@@ -1,0 +1,30 @@
+#!/usr/bin/env bash
+# Runs each example of the pages by the program named, and compares its text: tools/check-examples.sh PROGRAM
+set -o pipefail
+program="$(realpath -e "${1:?a program}")" || exit 1
+cd "$(dirname "$0")/../examples" || exit 1
+stored=../crates/millwheel_in_memory
+failed=0
+
+# The file that has the wanted text, and the words.
+expect() {
+    local wanted="$1"
+    shift
+    "$program" "$@" | cmp - "$wanted" || { echo "another text: $*"; failed=1; }
+}
+
+# The gate's stored run has copies of what stands here, since rt ci lays only a crate's own files.
+cmp requests/topology.json $stored/data/topology.json || failed=1
+cmp requests/expected.jsonl $stored/stdout || failed=1
+
+expect expected.jsonl solo t.json e
+expect expected.jsonl plain t.json e
+expect expected.jsonl replay --plan old_owner.plan t.json e
+expect expected.jsonl replay --plan crash.plan t.json e
+for mode in solo plain; do
+    expect $stored/stdout $mode $stored/data/{topology.json,front1.jsonl,front2.jsonl}
+done
+expect <(echo '{"fired":3,"handled":3,"injected":3,"late":0}') load 7 3
+
+[ "$failed" = 0 ] && echo "each example has its text"
+exit "$failed"

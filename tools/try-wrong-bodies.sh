@@ -1,0 +1,14 @@
+#!/usr/bin/env bash
+# Tries the wrong bodies that the gate leaves out, of the crates named or of all: tools/try-wrong-bodies.sh [CRATE ..]
+# It works on a clone of what is committed, and begins with what checks on this machine kept.
+cd "$(dirname "$0")/.." || exit 1
+room="$(mktemp -d)"
+trap 'rm -rf "$room"' EXIT
+git clone -q . "$room/copy" && cd "$room/copy" || exit 1
+[ "$#" -gt 0 ] || set -- $(ls -d crates/*/wrong | cut -d/ -f2)
+for crate in "$@"; do
+    [ -d "crates/$crate/wrong" ] || { echo "no wrong bodies are left out of $crate"; exit 1; }
+    rm -rf "crates/$crate/must-fail"
+    cp -r "crates/$crate/wrong" "crates/$crate/must-fail"
+done
+rt must-fail "$@"
