@@ -8,6 +8,7 @@ mod hands;
 mod histories;
 mod many_seats;
 mod overtaken;
+mod raising;
 mod refusals;
 mod rising;
 mod seats;

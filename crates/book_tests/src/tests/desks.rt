@@ -15,6 +15,15 @@ use std::alloc::Global;
 use std::process::Abort;
 use std::test::Fail;
 
+// What came of a claim through a desk.
+fn of_claim(claimed: Result<Claimed, DeskRefusal>) -> Tried {
+    match claimed {
+        Ok(Claimed { lease, rows: _rows }) => Tried::Claimed { seq: lease.seq() },
+        Err(DeskRefusal::Busy { found }) => Tried::Busy { found },
+        Err(_why) => Tried::Refused,
+    }
+}
+
 // A claim through any desk.
 fn claim_through<D: Desk>(desk: &mut D, alloc: Global, worker: u32, interval: u32) -> Tried
     requires may { MayClaim (D.view desk.old).case worker interval }
@@ -22,11 +31,7 @@ fn claim_through<D: Desk>(desk: &mut D, alloc: Global, worker: u32, interval: u3
     ensures loan { D.loan desk.new ≡ D.loan desk.old }
     ensures home { D.home desk.new ≡ D.home desk.old }
 {
-    match desk.claim(alloc, worker, interval) {
-        Ok(Claimed { lease, rows: _rows }) => Tried::Claimed { seq: lease.seq() },
-        Err(DeskRefusal::Busy { found }) => Tried::Busy { found },
-        Err(_why) => Tried::Refused,
-    }
+    of_claim(desk.claim(alloc, worker, interval))
 }
 
 // One claim through the desk of a seat: the claims of the intervals before it are there, and the floor's word

@@ -52,14 +52,21 @@ fn two_lines(alloc: Global) -> Result<Items, NoMemory>
     Ok(lines)
 }
 
+// The one file.
+fn one_file(alloc: Global) -> Result<ItemsList, NoMemory>
+    ensures { IfOk result (λ items. items ≡ rise_source ∷ []) }
+{
+    let mut items = ItemsList::new(alloc);
+    items.push(two_lines(alloc)?)?;
+    Ok(items)
+}
+
 // Windows of 60 over the two records.
 pub(crate) fn two_line_case(alloc: Global) -> Result<Case, NoMemory>
     ensures { IfOk result (λ case. case ≡ rise_case) }
 {
-    let topology = Topology::one_count(alloc, 60)?;
-    let mut items = ItemsList::new(alloc);
-    items.push(two_lines(alloc)?)?;
-    Case::of(alloc, topology, items)
+    let items = one_file(alloc)?;
+    Case::of(alloc, Topology::one_count(alloc, 60)?, items)
 }
 
 // The name of the injector's row.
@@ -134,16 +141,22 @@ fn end_of_window() -> Timer
     }
 }
 
+// The timer of the window alone.
+fn one_timer(alloc: Global) -> Result<TimerList, NoMemory>
+    ensures { IfOk result (λ timers. timers ≡ end_of 60 ∷ []) }
+{
+    let mut timers = TimerList::new(alloc);
+    timers.push(end_of_window())?;
+    Ok(timers)
+}
+
 // What the record at 10 leaves.
 fn counts(alloc: Global) -> Result<Effects, NoMemory>
     ensures { IfOk result (λ effects. effects ≡ counts (window 60 1 ∷ []) 60) }
 {
-    let state = one_open(alloc)?;
-    let mut timers = TimerList::new(alloc);
-    timers.push(end_of_window())?;
     Ok(Effects {
-        state,
-        timers,
+        state: one_open(alloc)?,
+        timers: one_timer(alloc)?,
         productions: ProductionList::new(alloc),
     })
 }

@@ -61,6 +61,25 @@ fn expect_left(rt: &impl Abort, entries: &[Entry], left: [u32; 3]) {
     }
 }
 
+// Two turns with two claims each come to this.
+fn expect_tried<K: Keeper>(
+    rt: &impl Abort,
+    alloc: Global,
+    shared: &Shared<'_, K>,
+    seat: &mut Seat<K>,
+    want: &[Tried; 4],
+)
+    requires case { shared.now.case.now ≡ rise_case }
+    requires rest { let table = shared.now.table.shared in
+        IsAtRest table.table_id shared.now.case.now 1 (0 ∷ []) seat.old.place }
+    ensures rest { let table = shared.now.table.shared in
+        IsAtRest table.table_id shared.now.case.now 1 (0 ∷ []) seat.new.place }
+{
+    let (a, b) = claim_twice(alloc, shared, seat, 0);
+    let (c, d) = claim_twice(alloc, shared, seat, 2);
+    assert!(rt; [a, b, c, d] == *want);
+}
+
 // Two turns with two claims each, over a keeper that fails at one of them.
 fn two_turns<K: Keeper>(
     rt: &impl Abort,
@@ -74,9 +93,7 @@ fn two_turns<K: Keeper>(
         IsAtRest table.table_id shared.case.now 1 (0 ∷ []) seat.place }
 {
     let mut seat = seat;
-    let (a, b) = claim_twice(alloc, &shared, &mut seat, 0);
-    let (c, d) = claim_twice(alloc, &shared, &mut seat, 2);
-    assert!(rt; [a, b, c, d] == fault.tried);
+    expect_tried(rt, alloc, &shared, &mut seat, &fault.tried);
     let book = shared.close(seat);
     expect_left(rt, book.history().entries(), fault.left);
 }

@@ -7,7 +7,7 @@ use super::calls::{claim, claim_both, inject};
 use super::example::{key_a, two_line_case};
 use super::hands::Hands;
 use super::starts::started;
-use book::{Book, ClaimRefusal, Claimed, StartRefusal, StartWhy, WriteRefusal};
+use book::{Book, ClaimRefusal, Claimed, NamedRow, StartRefusal, StartWhy, WriteRefusal};
 use mw_types::{Bytes, CallList, Key, NoMemory, RowName, State};
 use record_codec::encode_row;
 use row_keeper::{BlindKeeper, Keeper, KeeperFault, KeptRow, MemKeeper};
@@ -75,26 +75,28 @@ fn damaged(alloc: Global) -> Result<KeptRow, NoMemory> {
     })
 }
 
+// Whether these are of the damaged row.
+fn are_of_row_a(name: &RowName, bytes: &Bytes) -> bool {
+    name.part == 1 && name.key.text() == "a" && bytes.as_slice() == [255].as_slice()
+}
+
 // Whether a claim was refused for the damaged row.
 fn is_damaged(claimed: Result<Claimed, ClaimRefusal>) -> bool {
     match claimed {
-        Err(ClaimRefusal::RowDamaged { name, bytes }) => {
-            name.part == 1 && name.key.text() == "a" && bytes.as_slice() == [255].as_slice()
-        }
+        Err(ClaimRefusal::RowDamaged { name, bytes }) => are_of_row_a(&name, &bytes),
         _ => false,
     }
 }
 
-// Tries a claim of the interval of the damaged row, after one of the other.
-fn try_damaged<K: Keeper>(rt: &impl Abort, alloc: Global, book: Book<'_, K>)
-    requires risen { HasRisen 0 book }
+// Whether a claim of the interval of the damaged row names it, after one of the other: the history has that
+// alone.
+fn is_named_second<K: Keeper>(alloc: Global, book: &mut Book<'_, K>) -> bool
+    requires risen { HasRisen 0 book.old }
 {
-    let mut book = book;
-    match claim(alloc, &mut book, 0) {
-        Ok(_) => assert!(rt; is_damaged(claim(alloc, &mut book, 1))),
-        Err(_) => assert!(rt; false),
+    match claim(alloc, book, 0) {
+        Ok(_) => is_damaged(claim(alloc, book, 1)) && book.history().len() == 1,
+        Err(_) => false,
     }
-    assert!(rt; book.history().len() == 1);
 }
 
 // Worker 0 claims the interval of the count, before anything is claimed.
@@ -104,30 +106,35 @@ fn claim_count<K: Keeper>(alloc: Global, book: &mut Book<'_, K>) -> Result<Claim
     book.claim(alloc, 0, 1)
 }
 
-// Tries a claim of the interval of the damaged row before any other: the history stays empty.
-fn try_damaged_first<K: Keeper>(rt: &impl Abort, alloc: Global, book: Book<'_, K>)
-    requires risen { HasRisen 0 book }
+// The same, before any other: the history stays empty.
+fn is_named_first<K: Keeper>(alloc: Global, book: &mut Book<'_, K>) -> bool
+    requires risen { HasRisen 0 book.old }
 {
-    let mut book = book;
-    let is_named = is_damaged(claim_count(alloc, &mut book));
-    assert!(rt; is_named && book.history().is_empty());
+    is_damaged(claim_count(alloc, book)) && book.history().is_empty()
+}
+
+// Whether the damaged row is named, and nothing is appended that names it.
+fn is_named(alloc: Global, case: &Case, is_first: bool) -> Result<bool, NoMemory>
+    requires case { case.now ≡ rise_case }
+{
+    match Book::start(alloc, case, BlindKeeper::new(damaged(alloc)?), 8) {
+        Ok(mut book) => {
+            if is_first {
+                Ok(is_named_first(alloc, &mut book))
+            } else {
+                Ok(is_named_second(alloc, &mut book))
+            }
+        }
+        Err(_) => Ok(false),
+    }
 }
 
 #[test]
 fn a_damaged_row_is_named(rt: HostRuntime) -> Result<(), Fail> {
     let alloc = rt.alloc();
     let case = two_line_case(alloc)?;
-    for is_first in [true, false] {
-        match Book::start(alloc, &case, BlindKeeper::new(damaged(alloc)?), 8) {
-            Ok(book) => {
-                if is_first {
-                    try_damaged_first(&rt, alloc, book);
-                } else {
-                    try_damaged(&rt, alloc, book);
-                }
-            }
-            Err(_) => assert!(rt; false),
-        }
+    for is_first in &[true, false] {
+        assert!(rt; is_named(alloc, &case, *is_first)?);
     }
     Ok(())
 }
@@ -144,24 +151,27 @@ fn sound(alloc: Global) -> Result<KeptRow, NoMemory> {
     })
 }
 
+// Whether these are one row, of the injector.
+fn are_sound(rows: &[NamedRow]) -> bool {
+    match rows {
+        [one] => one.name.part == 0 && matches!(one.row.state, State::Injector { cursor: 0 }),
+        _ => false,
+    }
+}
+
 // Whether a claim was answered with one row, of the injector.
 fn is_sound(claimed: Result<Claimed, ClaimRefusal>) -> bool {
     match claimed {
-        Ok(Claimed { lease: _, rows }) => match rows.as_slice() {
-            [one] => one.name.part == 0 && matches!(one.row.state, State::Injector { cursor: 0 }),
-            _ => false,
-        },
+        Ok(Claimed { lease: _, rows }) => are_sound(rows.as_slice()),
         Err(_) => false,
     }
 }
 
-// Tries a claim of the interval of the sound row.
-fn try_sound<K: Keeper>(rt: &impl Abort, alloc: Global, book: Book<'_, K>)
-    requires risen { HasRisen 0 book }
+// Whether a claim of the interval of the sound row is answered with it.
+fn has_sound<K: Keeper>(alloc: Global, book: &mut Book<'_, K>) -> bool
+    requires risen { HasRisen 0 book.old }
 {
-    let mut book = book;
-    assert!(rt; is_sound(claim(alloc, &mut book, 0)));
-    assert!(rt; book.history().len() == 1);
+    is_sound(claim(alloc, book, 0)) && book.history().len() == 1
 }
 
 #[test]
@@ -170,7 +180,7 @@ fn a_sound_row_is_claimed(rt: HostRuntime) -> Result<(), Fail> {
     let case = two_line_case(alloc)?;
     let keeper = BlindKeeper::new(sound(alloc)?);
     match Book::start(alloc, &case, keeper, 8) {
-        Ok(book) => try_sound(&rt, alloc, book),
+        Ok(mut book) => assert!(rt; has_sound(alloc, &mut book)),
         Err(_) => assert!(rt; false),
     }
     Ok(())

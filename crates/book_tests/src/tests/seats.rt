@@ -22,6 +22,15 @@ pub(crate) enum Tried {
     Refused,
 }
 
+// What came of a claim in a turn.
+fn of_claim(claimed: Result<Claimed, ClaimRefusal>) -> Tried {
+    match claimed {
+        Ok(Claimed { lease, rows: _rows }) => Tried::Claimed { seq: lease.seq() },
+        Err(ClaimRefusal::KeeperFault) => Tried::KeeperFault,
+        Err(_why) => Tried::Refused,
+    }
+}
+
 // A claim in a turn.
 pub(crate) fn claim_with<K: Keeper>(
     alloc: Global,
@@ -42,11 +51,7 @@ pub(crate) fn claim_with<K: Keeper>(
         ≡ turn.old.seat.now.place.me.0.numbers }
     ensures basis { turn.new.seat.now.place.me.0.basis ≡ turn.old.seat.now.place.me.0.basis }
 {
-    match turn.claim(alloc, worker, interval) {
-        Ok(Claimed { lease, rows: _rows }) => Tried::Claimed { seq: lease.seq() },
-        Err(ClaimRefusal::KeeperFault) => Tried::KeeperFault,
-        Err(_why) => Tried::Refused,
-    }
+    of_claim(turn.claim(alloc, worker, interval))
 }
 
 // One try for the turn, and a claim in it.

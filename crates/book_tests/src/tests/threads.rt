@@ -216,7 +216,8 @@ const THREADS: [(u32, Shares); 3] = [
 fn threads_append_to_one_history(rt: HostRuntime) -> Result<(), Fail> {
     let alloc = rt.alloc();
     let case = two_line_case(alloc)?;
-    for (seats, shares) in THREADS {
+    for row in &THREADS {
+        let (seats, shares) = *row;
         shared(&rt, alloc, started(alloc, &case, 10_000)?, shares, seats);
     }
     Ok(())

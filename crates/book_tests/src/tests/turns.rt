@@ -14,8 +14,12 @@ use std::alloc::Global;
 use std::process::Abort;
 use std::test::Fail;
 
-// While one seat has the turn, the other is told so: the word is 1 more than the number of the seat.
-fn busy<K: Keeper>(rt: &impl Abort, shared: &Shared<'_, K>, one: &mut Seat<K>, other: &mut Seat<K>)
+// What one seat finds while the other has the turn, where the other gets it.
+fn found_beside<K: Keeper>(
+    shared: &Shared<'_, K>,
+    one: &mut Seat<K>,
+    other: &mut Seat<K>,
+) -> Option<u64>
     requires one { let table = shared.now.table.shared in
         IsAtRest table.table_id shared.now.case.now 2 (0 ∷ []) one.old.place }
     requires other { let table = shared.now.table.shared in
@@ -27,11 +31,26 @@ fn busy<K: Keeper>(rt: &impl Abort, shared: &Shared<'_, K>, one: &mut Seat<K>, o
 {
     match one.try_turn(&*shared) {
         Ok(turn) => {
-            assert!(rt; try_once(shared, other) == 1);
+            let found = try_once(shared, other);
             turn.release();
+            Some(found)
         }
-        Err(_) => assert!(rt; false),
+        Err(_) => None,
     }
+}
+
+// While one seat has the turn, the other is told so: the word is 1 more than the number of the seat.
+fn busy<K: Keeper>(rt: &impl Abort, shared: &Shared<'_, K>, one: &mut Seat<K>, other: &mut Seat<K>)
+    requires one { let table = shared.now.table.shared in
+        IsAtRest table.table_id shared.now.case.now 2 (0 ∷ []) one.old.place }
+    requires other { let table = shared.now.table.shared in
+        IsAtRest table.table_id shared.now.case.now 2 (1 ∷ []) other.old.place }
+    ensures one { let table = shared.now.table.shared in
+        IsAtRest table.table_id shared.now.case.now 2 (0 ∷ []) one.new.place }
+    ensures other { let table = shared.now.table.shared in
+        IsAtRest table.table_id shared.now.case.now 2 (1 ∷ []) other.new.place }
+{
+    assert!(rt; found_beside(shared, one, other) == Some(1));
     assert!(rt; try_once(shared, other) == 0);
 }
 

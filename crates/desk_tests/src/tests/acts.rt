@@ -27,6 +27,8 @@ pub(crate) enum Act {
     ReportSource,
     // Report the own work of the count's interval.
     ReportCount,
+    // Load the mark of the injector's interval.
+    LoadSource,
     // Fire the count's next timer.
     Fire,
     // Purge a row of the count's interval.
@@ -126,6 +128,19 @@ fn take<N: Seen, D: Desk<Note = N>>(
     }
 }
 
+// A worker's desk loads the mark of the injector's interval.
+fn load<N: Seen, D: Desk<Note = N>>(given: &Example, desk: &mut D, node: &Node<N>) -> Outcome
+    requires fits { Fits given.now.case (D.view desk.old) node.now }
+    ensures fits { Fits given.now.case (D.view desk.new) node.now }
+    ensures loan { D.loan desk.new ≡ D.loan desk.old }
+    ensures home { D.home desk.new ≡ D.home desk.old }
+{
+    desk.sound();
+    let mark = desk.mark(0);
+    desk.sound();
+    Outcome::Marked { mark }
+}
+
 // A worker does what it is asked to.
 pub(crate) fn act_on<N: Seen, D: Desk<Note = N>>(
     alloc: Global,
@@ -148,6 +163,7 @@ pub(crate) fn act_on<N: Seen, D: Desk<Note = N>>(
         Act::Write => node.commit(alloc, desk, case),
         Act::ReportSource => node.report(alloc, desk, case, 0),
         Act::ReportCount => node.report(alloc, desk, case, 1),
+        Act::LoadSource => Ok(load(given, desk, node)),
         Act::Fire => node.fire(alloc, desk, case, given.work(), 1),
         Act::Purge => node.purge(alloc, desk, case, 1, 1),
         Act::Sweep => node.sweep(alloc, &*desk, case),

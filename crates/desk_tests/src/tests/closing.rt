@@ -3,6 +3,7 @@ ghost use Rattle.std.specs.Prelude.{◌≡◌, ◌∷◌, []};
 ghost use Rattle.desk_tests.specs.DeskTests.{IsAtRest};
 
 use super::acts::{Act, Answer};
+use super::entries::has_marks;
 use super::example::{Example, two_lines_example};
 use super::seats::at_seat;
 use super::starts::started;
@@ -28,7 +29,7 @@ const TABLE: &[(Act, Answer)] = &[
 ];
 
 // The book comes back, with both marks.
-fn has_marks<K: Keeper>(
+fn comes_back<K: Keeper>(
     rt: &impl Abort,
     alloc: Global,
     given: &Example,
@@ -42,10 +43,7 @@ fn has_marks<K: Keeper>(
     let mut seat = seat;
     at_seat(rt, alloc, given, &shared, &mut seat, TABLE);
     let book = shared.close(seat);
-    assert!(rt; book.marks().len() == 2);
-    for mark in book.marks() {
-        assert!(rt; *mark == 60);
-    }
+    has_marks(rt, &book, &[60, 60]);
 }
 
 #[test]
@@ -53,7 +51,7 @@ fn close_hands_marks_back(rt: HostRuntime) -> Result<(), Fail> {
     let alloc = rt.alloc();
     let given = two_lines_example(alloc)?;
     match Shared::start(alloc, started(alloc, &given)?, 1) {
-        Ok((shared, seat)) => has_marks(&rt, alloc, &given, shared, seat),
+        Ok((shared, seat)) => comes_back(&rt, alloc, &given, shared, seat),
         Err(_refusal) => assert!(rt; false),
     }
     Ok(())

@@ -6,6 +6,7 @@ ghost use Rattle.shared_book.specs.SharedDesks.{shared_home, shared_view};
 
 use super::acts::{Act, Answer, act_on, receive, short};
 use super::example::Example;
+use book::Desk;
 use node::{Node, NodeFault, Outcome};
 use row_keeper::Keeper;
 use shared_book::{Note, SharedDesk};
@@ -25,6 +26,8 @@ pub(crate) enum Step {
     Copy,
     // Worker 0 takes in what worker 1 has to send first.
     Back,
+    // Worker 0's desk takes the turn and gives it back.
+    CatchUp,
 }
 
 // A worker takes in what another has to send first.
@@ -87,6 +90,23 @@ fn hand_copy<K: Keeper>(
     }
 }
 
+// A worker's desk takes the turn and gives it back.
+fn catch_up<K: Keeper>(
+    given: &Example,
+    desk: &mut SharedDesk<'_, '_, K>,
+    node: &Node<Note<K>>,
+) -> Outcome
+    requires fits { Fits given.now.case (shared_view desk.old.seat.now.place.me.0) node.now }
+    ensures fits { Fits given.now.case (shared_view desk.new.seat.now.place.me.0) node.now }
+    ensures loan { desk.new.seat.ghost_name ≡ desk.old.seat.ghost_name }
+    ensures home { shared_home desk.new.seat.now.place ≡ shared_home desk.old.seat.now.place }
+{
+    desk.sound();
+    desk.catch_up();
+    desk.sound();
+    Outcome::Nothing
+}
+
 // What comes of a step.
 fn stepped<K: Keeper>(
     alloc: Global,
@@ -119,10 +139,47 @@ fn stepped<K: Keeper>(
         Step::Hand => hand(alloc, given, one, first, other, second),
         Step::Copy => hand_copy(alloc, given, one, first, other, second),
         Step::Back => hand(alloc, given, other, second, one, first),
+        Step::CatchUp => Ok(catch_up(given, one, first)),
     }
 }
 
 // One step comes after the other, and each time the answer is what was worked out by hand.
+fn take_steps<K: Keeper>(
+    rt: &impl Abort,
+    alloc: Global,
+    given: &Example,
+    one: &mut SharedDesk<'_, '_, K>,
+    first: &mut Node<Note<K>>,
+    other: &mut SharedDesk<'_, '_, K>,
+    second: &mut Node<Note<K>>,
+    steps: &[(Step, Answer)],
+)
+    requires book { (shared_home one.old.seat.now.place).book
+        ≡ (shared_home other.old.seat.now.place).book }
+    requires first { Fits given.now.case
+        (shared_view one.old.seat.now.place.me.0) first.old }
+    requires second { Fits given.now.case
+        (shared_view other.old.seat.now.place.me.0) second.old }
+    ensures first { Fits given.now.case
+        (shared_view one.new.seat.now.place.me.0) first.new }
+    ensures loan { one.new.seat.ghost_name ≡ one.old.seat.ghost_name }
+    ensures home { shared_home one.new.seat.now.place ≡ shared_home one.old.seat.now.place }
+    ensures second { Fits given.now.case
+        (shared_view other.new.seat.now.place.me.0) second.new }
+    ensures other_loan { other.new.seat.ghost_name ≡ other.old.seat.ghost_name }
+    ensures other_home { shared_home other.new.seat.now.place
+        ≡ shared_home other.old.seat.now.place }
+{
+    let mut nth = 0u32;
+    for row in steps {
+        let (step, want) = *row;
+        nth = nth.saturating_add(1);
+        let answer = stepped(alloc, given, one, first, other, second, step);
+        assert!(rt; short(answer) == want, "{nth}");
+    }
+}
+
+// The same, of two workers that have not acted yet.
 pub(crate) fn cross<K: Keeper>(
     rt: &impl Abort,
     alloc: Global,
@@ -145,11 +202,5 @@ pub(crate) fn cross<K: Keeper>(
 {
     let mut first = Node::new(alloc, 0);
     let mut second = Node::new(alloc, 1);
-    let mut nth = 0u32;
-    for row in steps {
-        let (step, want) = *row;
-        nth = nth.saturating_add(1);
-        let answer = stepped(alloc, given, one, &mut first, other, &mut second, step);
-        assert!(rt; short(answer) == want, "{nth}");
-    }
+    take_steps(rt, alloc, given, one, &mut first, other, &mut second, steps);
 }

@@ -36,3 +36,8 @@ pub(crate) fn has_entries<K: Keeper>(rt: &impl Abort, book: &Book<'_, K>, want: 
         assert!(rt; in_short(entry) == *want);
     }
 }
+
+// The marks of a book are these.
+pub(crate) fn has_marks<K: Keeper>(rt: &impl Abort, book: &Book<'_, K>, want: &[u64]) {
+    assert!(rt; book.marks() == want);
+}

@@ -52,8 +52,8 @@ const ENTRIES: &[Told] = &[
 // A keeper in memory whose calls of these numbers fail.
 fn keeper(alloc: Global) -> Result<MemKeeper, NoMemory> {
     let mut calls = CallList::new(alloc);
-    for number in FAILING {
-        calls.push(number)?;
+    for number in &FAILING {
+        calls.push(*number)?;
     }
     Ok(MemKeeper::new(alloc, calls))
 }

@@ -1,7 +1,7 @@
 use Rattle.std.proofs.Common.{◌≡◌}
 use Rattle.node.specs.Fits.{Fits}
 use Rattle.shared_book.specs.SharedDesks.{shared_home, shared_view}
-use Rattle.desk_tests.proofs.tests.crossing.cross.Given as goal
+use Rattle.desk_tests.proofs.tests.crossing.take_steps.Given as goal
 
 -- both workers fit their desks, which keep their places
 abbrev pub invariant-loop-row : goal.invariant-loop-row
