@@ -1,4 +1,4 @@
--- The low watermarks of all parts, made in one pass over them. No public clause cites this module.
+-- The low watermarks of all parts, made in one pass over them. Own, of what Watermarks.antt says of each part.
 use Rattle.std.specs.Prelude.{ℕ, zero, suc, if◌then◌else◌, List, [], ◌∷◌, ◌++◌, map, get_or}
 use Rattle.mw_types.specs.declared.TheConstants.{END}
 use Rattle.topology.specs.Shapes.{feeds_of}
