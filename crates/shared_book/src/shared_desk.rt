@@ -37,7 +37,8 @@ pub struct SharedDesk<'s, 'a, K: Keeper> {
     ghost case: { seat.now.place.me.0.basis.case ≡ shared.now.case.now },
     ghost turn: { seat.now.place.me.0.turn ≡ false },
     ghost places: { seat.now.place.me.1 ≡ [] },
-    ghost kept: { HasKept seat.now.place.me.0 } by { let v = seat.now.place.me.0 in IsKeptOfSeat-prop v.basis v.front v.leases v.floor },
+    ghost kept: { HasKept seat.now.place.me.0 } by { let v = seat.now.place.me.0 in
+        IsKeptOfSeat-prop v.basis v.front v.leases v.floor },
 }
 
 impl<'s, 'a, K: Keeper> SharedDesk<'s, 'a, K> {

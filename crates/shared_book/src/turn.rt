@@ -118,7 +118,8 @@ impl<'s, 'a, K: Keeper> Turn<'s, 'a, K> {
         requires turn { HasTurn self.old.seat.now.place.me }
         requires lease { MayWrite self.old.seat.now.place.me.0 lease.now name.now }
         requires row { IsRowHeld self.old.seat.now.place.me.0 lease.now name.now row.now }
-        requires proposal { IsProposable self.old.shared.now.case.now name.now row.now proposal.now }
+        requires proposal { let shared = self.old.shared.now in
+            IsProposable shared.case.now name.now row.now proposal.now }
         requires seen { IsProposedIn self.old.seat.now.place.me.0 name.now proposal.now }
 
         ensures loan { self.new.seat.ghost_name ≡ self.old.seat.ghost_name }
