@@ -23,9 +23,10 @@ use Rattle.run_history.specs.Legal.{record_outcome, timer_outcome}
 use Rattle.run_history.specs.Fences.{IsUnderLastClaim, sequencer_of}
 use Rattle.run_history.proofs.Fenced.{claim-under}
 use Rattle.history_laws.proofs.StampLaws.{line_of}
-use Rattle.standing.specs.declared.choice.Choice.{Choice}
-use Rattle.standing.specs.declared.choice.Choice.TheVariants as choices
-use Rattle.standing.specs.Choices.{IsChosen, MayCome, choice_of}
+use Rattle.trace_lines.specs.declared.choice.Choice.{Choice}
+use Rattle.trace_lines.specs.declared.choice.Choice.TheVariants as choices
+use Rattle.trace_lines.specs.Choices.{choice_of}
+use Rattle.standing.specs.Choices.{IsChosen, MayCome}
 use Rattle.standing.specs.Keeping.{sequencer_for}
 
 -- an entry that carries the sequencer of its row is under the last claim

@@ -1,7 +1,7 @@
 //! Records of which the sender learns that they were handled.
 ghost use Rattle.std.specs.Prelude.{◌≡◌, ◌&&◌, IfOk, is_none, is_some};
 ghost use Rattle.row_parts.specs.Contents.{found_delivery};
-ghost use Rattle.standing.specs.declared.choice.Choice.TheVariants as choices;
+ghost use Rattle.trace_lines.specs.declared.choice.Choice.TheVariants as choices;
 ghost use Rattle.standing.specs.Choices.{IsChosen};
 ghost use Rattle.standing.specs.Keeping.{IsFollowed, IsKept, pending_in, waiting_in};
 

@@ -1,7 +1,7 @@
 //! Claims of intervals.
 ghost use Rattle.std.specs.Prelude.{ℕ, List};
 ghost use Rattle.mw_types.specs.declared.entry.Entry.{Entry};
-ghost use Rattle.standing.specs.declared.choice.Choice.TheVariants as choices;
+ghost use Rattle.trace_lines.specs.declared.choice.Choice.TheVariants as choices;
 ghost use Rattle.standing.specs.Choices.{IsChosen};
 
 use mw_types::Entry;

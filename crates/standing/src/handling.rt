@@ -6,7 +6,7 @@ ghost use Rattle.run_history.specs.Legal.{record_outcome};
 ghost use Rattle.row_parts.specs.Contents.{found_delivery};
 ghost use Rattle.run_history.specs.Runs.{cached, row_of, run_of};
 ghost use Rattle.node.specs.Works.{IsStateThere, IsWorkOf};
-ghost use Rattle.standing.specs.declared.choice.Choice.TheVariants as choices;
+ghost use Rattle.trace_lines.specs.declared.choice.Choice.TheVariants as choices;
 ghost use Rattle.standing.specs.Choices.{IsChosen};
 ghost use Rattle.standing.specs.Keeping.{IsFollowed, IsKept};
 

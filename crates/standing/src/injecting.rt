@@ -2,7 +2,7 @@
 ghost use Rattle.std.specs.Prelude.{◌≡◌, ◌<◌, IfOk, length};
 ghost use Rattle.topology.specs.Shapes.{injectors_of};
 ghost use Rattle.run_history.specs.Cases.{source_of};
-ghost use Rattle.standing.specs.declared.choice.Choice.TheVariants as choices;
+ghost use Rattle.trace_lines.specs.declared.choice.Choice.TheVariants as choices;
 ghost use Rattle.standing.specs.Choices.{IsChosen};
 ghost use Rattle.standing.specs.Keeping.{IsFollowed, IsKept, injector_name};
 

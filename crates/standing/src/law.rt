@@ -7,7 +7,8 @@ ghost use Rattle.run_history.specs.Watermarks.{low_watermark};
 ghost use Rattle.topology.specs.Rules.{IsTopology};
 ghost use Rattle.topology.specs.Shapes.{parts_of};
 ghost use Rattle.mw_types.specs.declared.TheConstants.{END};
-ghost use Rattle.standing.specs.Choices.{MayCome, choice_of};
+ghost use Rattle.trace_lines.specs.Choices.{choice_of};
+ghost use Rattle.standing.specs.Choices.{MayCome};
 ghost use Rattle.standing.specs.Lows.{lows_of};
 
 /// Lawful entries of one choice are the same.

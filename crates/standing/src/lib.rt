@@ -5,11 +5,10 @@
 //! history is legal and fenced, and `push` takes any entry that may come next; `claim_of`,
 //! `injection_of`, `handling_of`, `acknowledgement_of` and `purge_of` answer the one lawful entry
 //! of a choice, or none exactly where no lawful entry has it; `is_finished` says whether work is
-//! left. Definitions: `specs/Choices.antt`, what chooses an entry; `specs/Standings.antt`.
+//! left. Definitions: `specs/Choices.antt`, which entry of a choice may come next; `specs/Standings.antt`.
 #![tactic(auto)]
 
 mod acknowledging;
-mod choice;
 mod claiming;
 mod finding;
 mod growing;
@@ -24,6 +23,5 @@ mod standings;
 mod waiting;
 mod work_left;
 
-pub use choice::Choice;
 pub use law::{choices_have_one_entry, one_pass_finds_the_low_watermarks};
 pub use standings::Standing;

@@ -4,7 +4,7 @@ ghost use Rattle.run_history.specs.Finished.{IsFinished};
 ghost use Rattle.run_history.specs.Runs.{run_of};
 ghost use Rattle.history_laws.specs.Writes.{IsLegalAndFenced};
 ghost use Rattle.standing.specs.Choices.{IsChosen, MayCome};
-ghost use Rattle.standing.specs.declared.choice.Choice.TheVariants as choices;
+ghost use Rattle.trace_lines.specs.declared.choice.Choice.TheVariants as choices;
 
 use crate::acknowledging::acknowledgement_of;
 use crate::claiming::claim_of;

@@ -6,7 +6,7 @@ use Rattle.mw_types.specs.declared.identity.RowName.{RowName}
 use Rattle.mw_types.specs.declared.entry.Entry.TheVariants.{Ack}
 use Rattle.row_parts.specs.Contents.{found_delivery}
 use Rattle.run_history.specs.Runs.{row_of, run_of}
-use Rattle.standing.specs.declared.choice.Choice.TheVariants as choices
+use Rattle.trace_lines.specs.declared.choice.Choice.TheVariants as choices
 use Rattle.standing.specs.Choices.{IsChosen}
 use Rattle.standing.proofs.ChoiceLaws.{acknowledgement-chosen, acknowledgement-none}
 use Rattle.standing.proofs.FoundLaws.{claimed-kept, none-there, settled-found, settled-part, settled-true}

@@ -2,7 +2,7 @@ use Rattle.std.proofs.Common.{◌≡◌, IfOk, Some, rules, subst, sym}
 use Rattle.mw_types.specs.declared.identity.RecordId.{RecordId}
 use Rattle.row_parts.specs.Contents.{found_delivery}
 use Rattle.run_history.specs.Runs.{run_of}
-use Rattle.standing.specs.declared.choice.Choice.TheVariants as choices
+use Rattle.trace_lines.specs.declared.choice.Choice.TheVariants as choices
 use Rattle.standing.specs.Choices.{IsChosen}
 use Rattle.standing.specs.Keeping.{waiting_in}
 use Rattle.standing.proofs.FoundLaws.{waits-kept}

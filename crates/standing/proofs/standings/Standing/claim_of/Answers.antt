@@ -1,5 +1,5 @@
 use Rattle.std.proofs.Common.{subst}
-use Rattle.standing.specs.declared.choice.Choice.TheVariants as choices
+use Rattle.trace_lines.specs.declared.choice.Choice.TheVariants as choices
 use Rattle.standing.specs.Choices.{IsChosen}
 use Rattle.standing.specs.Standings.{StandingView}
 use Rattle.standing.proofs.standings.Standing.claim_of.Goals as goal
