@@ -28,7 +28,7 @@ __attribute__((destructor)) static void end(void) {
 }
 
 static int hits(int kind) {
-    unsigned long number = ++calls[kind];
+    unsigned long number = __atomic_add_fetch(&calls[kind], 1, __ATOMIC_RELAXED); // several threads call
     return first[kind] <= number && number <= last[kind];
 }
 static long fails(int why) { *__errno_location() = why; return -1; }

@@ -15,6 +15,9 @@ HERE = os.path.dirname(os.path.abspath(__file__))
 EXAMPLES = os.path.join(os.path.dirname(HERE), "examples")
 # The entries that write a row; the others are claims.
 INJECT, STATED = "inject", ("handle", "fire")
+# The words of a run of two workers, before its files, and its options. A program without the mode says how it is used.
+ROUNDS = ["run", "--workers", "2", "--rounds", "4"]
+USAGE, ENDLESS = 2, 124
 
 
 class Ended(NamedTuple):
@@ -37,10 +40,18 @@ def before_libc(room: str) -> str:
 
 
 def run(words: list[str], library: str = "", **faults: str) -> Ended:
-    """One run in the folder of the examples, with these faults."""
+    """One run in the folder of the examples, with these faults; one that doesn't end in two minutes has a status of its own."""
     environment = {**os.environ, **faults, **({"LD_PRELOAD": library} if library else {})}
-    ran = subprocess.run(words, cwd=EXAMPLES, env=environment, stdin=subprocess.DEVNULL, capture_output=True, timeout=120)
+    try:
+        ran = subprocess.run(words, cwd=EXAMPLES, env=environment, stdin=subprocess.DEVNULL, capture_output=True, timeout=120)
+    except subprocess.TimeoutExpired:
+        return Ended(ENDLESS, b"", b"")
     return Ended(ran.returncode, ran.stdout, ran.stderr)
+
+
+def has_rounds(program: str) -> bool:
+    """Whether a program has the mode `run`."""
+    return run([program, *ROUNDS, "t.json", "e"]).status != USAGE
 
 
 def calls(words: list[str], library: str) -> dict[str, int]:
@@ -51,6 +62,25 @@ def calls(words: list[str], library: str) -> dict[str, int]:
     os.close(writer)
     with open(reader) as told:
         return {name: int(number) for name, number in (line.split() for line in told)}
+
+
+def lines_of(seed: int, count: int) -> str:
+    """The lines that the mode `load` makes of a seed."""
+    lines, state = [], seed % 65537
+    for at in range(count):
+        state = (75 * state + 74) % 65537
+        lines.append('{"key":"%s","ts":%d}\n' % (chr(ord("a") + state % 26), 10 * at + state % 100))
+        if (at + 1) % 50 == 0:
+            lines.append('{"watermark":%d}\n' % (10 * (at + 1) + 20))
+    return "".join(lines)
+
+
+def cut_topology(cuts: list[str]) -> str:
+    """The topology of the first example, its count cut at these keys."""
+    with open(os.path.join(EXAMPLES, "t.json")) as file:
+        topology = json.load(file)
+    topology["computations"][0]["cuts"] = cuts
+    return json.dumps(topology)
 
 
 Rows = dict[tuple[int, str], bytes]

@@ -4,14 +4,15 @@
 Each run has to end as docs/ERRORS.md says: with status 0 and the whole text, or with the status of what failed and no
 more than a beginning of the text. A file of `--keep` has to open afterwards, and to hold the rows of a beginning of the
 run. It prints a table of how the runs ended, and ends with status 1 where one did not end so. It is no part of the gate;
-any build of the program serves, since nothing is compiled into it.
+any build of the program serves, since nothing is compiled into it. Where the program has the mode `run` a run of two
+workers is tried too: its calls come in another order each time, so that a number is one of a thread's calls by chance.
 """
 import os
 import sys
 import tempfile
 from collections import Counter
 
-from faults import Ended, before_libc, calls, held_wrong, history_of, run
+from faults import ROUNDS, Ended, before_libc, calls, cut_topology, has_rounds, held_wrong, history_of, lines_of, run
 
 WORDS = {
     "the first example": ["solo", "t.json", "e"],
@@ -82,6 +83,15 @@ def forget(store: str) -> None:
             os.remove(name)
 
 
+def rounds_of(room: str) -> list[str]:
+    """The words of rounds over fifty lines, and a count in three intervals."""
+    topology, events = os.path.join(room, "topology"), os.path.join(room, "events")
+    for name, text in ((topology, cut_topology(["h", "q"])), (events, lines_of(7, 50))):
+        with open(name, "w") as out:
+            out.write(text)
+    return [*ROUNDS, topology, events]
+
+
 def main() -> None:
     if len(sys.argv) != 2:
         sys.exit(__doc__)
@@ -89,7 +99,8 @@ def main() -> None:
     print("| Run | Fault | Calls | Runs | Ended with |\n|---|---|---|---|---|")
     with tempfile.TemporaryDirectory(prefix="faults-") as room:
         library, store = before_libc(room), os.path.join(room, "rows.db")
-        tries = [(name, words, ["FAIL_ALLOC", "FAIL_IO", "SHORT_IO"], "") for name, words in WORDS.items()]
+        runs = {**WORDS, **({"rounds of two workers": rounds_of(room)} if has_rounds(program) else {})}
+        tries = [(name, words, ["FAIL_ALLOC", "FAIL_IO", "SHORT_IO"], "") for name, words in runs.items()]
         tries.append(("the first example, `--keep`", WORDS["the first example"], list(MAY_END), store))
         for name, words, kinds, kept in tries:
             for kind, many, ends, wrong in sweep(program, words, kinds, library, kept):

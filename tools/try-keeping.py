@@ -18,7 +18,7 @@ import tempfile
 import time
 from typing import Callable
 
-from faults import EXAMPLES, entries_held, held_wrong, history_of, rows_in, run
+from faults import EXAMPLES, ROUNDS, USAGE, entries_held, has_rounds, held_wrong, history_of, rows_in, run
 
 LINES, KEYS = 3_000, 50
 TIMES = 20
@@ -26,6 +26,7 @@ SIZES = [1 << n for n in (16, 18, 19, 20, 21, 22, 23)]
 NOBODY = 65534
 TOPOLOGY = os.path.join(EXAMPLES, "t.json")
 FAILED = "the keeper failed"
+USED = "usage: millwheel MODE ARGS"
 # Holds a file until its standard input ends. It is a process of its own, since one that closes a file lets its locks go.
 HOLD = """import sqlite3, sys
 store = sqlite3.connect(sys.argv[1], isolation_level=None)
@@ -69,10 +70,15 @@ class Room:
         print("| %s | %d | %s | %s |" % (what, len(ended), statuses, after), flush=True)
 
 
+def told(said: bytes) -> str:
+    """What a run said behind the program's name."""
+    return said.decode().removesuffix("\n").removeprefix("millwheel: ")
+
+
 def end_of(started: subprocess.Popen) -> tuple[int, str]:
     """The status of a run, and what it said behind the program's name."""
-    said = started.communicate()[1].decode().removesuffix("\n")
-    return started.returncode, said.removeprefix("millwheel: ")
+    said = started.communicate()[1]
+    return started.returncode, told(said)
 
 
 def kills(room: Room) -> None:
@@ -166,6 +172,18 @@ def others(room: Room) -> None:
     room.tell("a file with another table", {(0, "")}, [ended], [] if is_whole else ["other rows"], "all rows, beside it")
 
 
+def rounds(room: Room) -> None:
+    """Rounds of several workers keep no file: the words are refused, and none is made. Without `--keep` they write the text."""
+    words = [room.words[0], *ROUNDS, *room.words[2:]]
+    kept = run([words[0], *ROUNDS, "--keep", room.path("rounds"), *room.words[2:]])
+    made = "a file was made" if os.path.exists(room.path("rounds")) else ""
+    room.tell("`run` with `--keep`", {(USAGE, USED)}, [(kept.status, told(kept.said))], [made], "")
+    if has_rounds(room.words[0]):
+        ended = run(words)
+        wrong = "" if ended.text == run(room.words).text else "another text"
+        room.tell("`run` without it", {(0, "")}, [(ended.status, told(ended.said))], [wrong], "")
+
+
 def on_disk(room: Room, name: str, size: int) -> tuple[int, str]:
     """A run on a disk of so many bytes."""
     subprocess.run(["mount", "-o", "remount,size=%d" % size, room.path("disk")], check=True)
@@ -191,6 +209,7 @@ def main() -> None:
                 subprocess.run(["umount", room.path("disk")], check=True)
         held_by_another(room)
         others(room)
+        rounds(room)
         sys.exit(1 if room.failed else 0)
 
 

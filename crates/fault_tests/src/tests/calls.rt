@@ -1,0 +1,126 @@
+//! The program's call over files in memory.
+use millwheel_cli::{Done, Status, millwheel_alone};
+use mw_ports::{FileList, MemShelf, MemSink, NamedFile};
+use mw_types::{Bytes, CallList, Name, NoMemory, Seq};
+use row_keeper::{Keeper, MemKeeper};
+use std::alloc::Global;
+
+/// Files in memory: the name of each, and what it holds.
+pub type Files<'a> = &'a [(&'a str, &'a str)];
+
+// The bytes of a text.
+fn bytes_of(alloc: Global, text: &[u8]) -> Result<Bytes, NoMemory> {
+    Ok(Bytes::from_vec(text.to_vec(alloc)?))
+}
+
+// A file of this name and content.
+fn file(alloc: Global, name: &str, content: &str) -> Result<NamedFile, NoMemory> {
+    let bytes = bytes_of(alloc, content.as_bytes())?;
+    Ok(NamedFile {
+        name: Name::of(alloc, name)?,
+        bytes,
+    })
+}
+
+// A list of these files.
+fn listed(alloc: Global, files: Files<'_>) -> Result<FileList, NoMemory> {
+    let mut list = FileList::new(alloc);
+    for (name, content) in files {
+        list.push(file(alloc, name, content)?)?;
+    }
+    Ok(list)
+}
+
+/// The calls of these numbers.
+pub(super) fn numbers(alloc: Global, of: &[u64]) -> Result<CallList, NoMemory> {
+    let mut calls = CallList::new(alloc);
+    for number in of {
+        calls.push(*number)?;
+    }
+    Ok(calls)
+}
+
+/// A shelf with these files, whose reads of these numbers fail.
+pub(super) fn shelf(
+    alloc: Global,
+    files: Files<'_>,
+    failing: &[u64],
+) -> Result<MemShelf, NoMemory> {
+    let files = listed(alloc, files)?;
+    Ok(MemShelf::of(files, numbers(alloc, failing)?))
+}
+
+/// A sink that takes so many bytes a call, whose calls of these numbers fail, and of those that take nothing.
+pub(super) fn sink(
+    alloc: Global,
+    most: usize,
+    failing: &[u64],
+    empty: &[u64],
+) -> Result<MemSink, NoMemory> {
+    let most = most.max(1);
+    let failing = numbers(alloc, failing)?;
+    Ok(MemSink::of(alloc, most, failing, numbers(alloc, empty)?))
+}
+
+/// An ample sink.
+pub(super) fn ample(alloc: Global) -> MemSink {
+    MemSink::of(alloc, 65536, CallList::new(alloc), CallList::new(alloc))
+}
+
+/// A keeper without rows, whose calls of these numbers fail.
+pub(super) fn keeper(alloc: Global, failing: &[u64]) -> Result<MemKeeper, NoMemory> {
+    Ok(MemKeeper::new(alloc, numbers(alloc, failing)?))
+}
+
+// The words of a line, which stand with one blank between them.
+fn words(alloc: Global, line: &str) -> Result<Seq<Name>, NoMemory> {
+    let mut words = Seq::new(alloc);
+    for word in line.split(' ') {
+        words.push(Name::of(alloc, word)?)?;
+    }
+    Ok(words)
+}
+
+/// What a call with this line answers, and writes to a sink. No other function calls the program, since each that does
+/// carries what its clauses tell.
+pub(super) fn called<K: Keeper>(
+    alloc: Global,
+    line: &str,
+    shelf: &mut MemShelf,
+    keeper: K,
+    out: &mut MemSink,
+) -> Result<Done<K>, NoMemory> {
+    let words = words(alloc, line)?;
+    Ok(millwheel_alone(alloc, words.as_slice(), shelf, keeper, out))
+}
+
+/// The same over these files, whose reads don't fail.
+pub(super) fn answer<K: Keeper>(
+    alloc: Global,
+    line: &str,
+    files: Files<'_>,
+    keeper: K,
+    out: &mut MemSink,
+) -> Result<Done<K>, NoMemory> {
+    let mut shelf = shelf(alloc, files, &[])?;
+    called(alloc, line, &mut shelf, keeper, out)
+}
+
+/// Whether this is what the program says of a status.
+pub(super) fn is_said(alloc: Global, status: &Status, message: &str) -> Result<bool, NoMemory> {
+    let said = format!(in alloc; "{status}")?;
+    Ok(said.as_str() == message)
+}
+
+/// Whether a call with this line over these files says this, and writes this text.
+pub(super) fn says(
+    alloc: Global,
+    line: &str,
+    files: Files<'_>,
+    message: &str,
+    text: &str,
+) -> Result<bool, NoMemory> {
+    let mut out = ample(alloc);
+    let done = answer(alloc, line, files, keeper(alloc, &[])?, &mut out)?;
+    Ok(is_said(alloc, &done.status, message)? && out.text() == text.as_bytes())
+}
