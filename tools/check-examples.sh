@@ -21,6 +21,8 @@ expect expected.jsonl solo t.json e
 expect expected.jsonl plain t.json e
 expect expected.jsonl replay --plan old_owner.plan t.json e
 expect expected.jsonl replay --plan crash.plan t.json e
+expect expected.jsonl run --workers 2 --rounds 4 t.json e
+expect expected.jsonl run --workers 2 --rounds 4 --plan rounds.plan t.json e
 for mode in solo plain; do
     expect $stored/stdout $mode $stored/data/{topology.json,front1.jsonl,front2.jsonl}
 done

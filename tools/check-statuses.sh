@@ -44,6 +44,10 @@ expect 4 'millwheel: topology refused: UnknownStream' solo later.json e
 expect 5 'millwheel: events refused: file 0 line 2: NotJson' solo t.json cut
 expect 5 'millwheel: events refused: file 1 line 2: NotJson' solo taps.json e cut
 expect 6 'millwheel: plan refused: line 1' replay --plan e t.json e
+expect 6 'millwheel: plan refused: line 2' run --workers 1 --rounds 4 --plan "$root/examples/rounds.plan" t.json e
+expect 2 'millwheel: usage: millwheel MODE ARGS' run --workers 17 --rounds 4 t.json e
+expect 2 'millwheel: usage: millwheel MODE ARGS' run --workers 2 --rounds 4 --keep rows.db t.json e
+expect 0 '' run --workers 16 --rounds 2 t.json e
 expect 7 'millwheel: the keeper failed' solo --keep folder t.json e
 expect 10 'millwheel: the keeper is not empty: part 0 key ' solo --keep rows.db t.json e
 out=/dev/full expect 8 'millwheel: the output failed' solo t.json e

@@ -1,6 +1,7 @@
 #!/usr/bin/env bash
 # Shows a run of the small example, or with the word `requests` of the event lines of two web logs (docs/EXAMPLE.md):
 #     tools/run-example.sh [requests] [--history] [--plan old_owner.plan]
+#     tools/run-example.sh [requests] [--history] --workers=2 --rounds=4 [--plan=rounds.plan]
 # The program is built first, once, without a proof, so this shows a run and proves nothing: tools/build.sh does.
 cd "$(dirname "$0")/.." || exit 1
 program="$PWD/target/unproved/millwheel_in_memory"
@@ -13,7 +14,8 @@ mode=solo folder=examples files=(t.json e) options=()
 for word in "$@"; do
     case "$word" in
     requests) folder=crates/millwheel_in_memory/data files=(topology.json front1.jsonl front2.jsonl) ;;
-    --plan | --plan=*) mode=replay options+=("$word") ;;
+    --workers=* | --rounds=*) mode=run options+=("$word") ;;
+    --plan | --plan=*) [ "$mode" = run ] || mode=replay; options+=("$word") ;;
     *) options+=("$word") ;;
     esac
 done

@@ -1,5 +1,5 @@
 -- Which command the words of a command line are. Own.
-use Rattle.std.specs.Prelude.{ℕ, ◌^◌, ◌-◌, ◌+◌, ◌||◌, Bool, false, if◌then◌else◌, List, [], ◌∷◌, codes, Option, Some, None, is_some}
+use Rattle.std.specs.Prelude.{ℕ, ⊤, ◌≤◌, ◌^◌, ◌-◌, ◌+◌, ◌||◌, Bool, false, if◌then◌else◌, List, [], ◌∷◌, codes, Option, Some, None, is_some}
 use Rattle.std.specs.Option.{option_map, option_and_then}
 use Rattle.text_lines.specs.Words.{both, is_word}
 use Rattle.text_lines.specs.Numbers.{between}
@@ -7,7 +7,7 @@ use Rattle.text_lines.specs.declared.TheConstants.{LINES_MAX}
 use Rattle.command_line.specs.Words.{line_of}
 use Rattle.command_line.specs.declared.command.Inputs.{Inputs}
 use Rattle.command_line.specs.declared.command.Call.{Call}
-use Rattle.command_line.specs.declared.command.Call.TheVariants.{Solo, Replay, Plain, Load}
+use Rattle.command_line.specs.declared.command.Call.TheVariants.{Solo, Replay, Run, Plain, Load}
 use Rattle.command_line.specs.declared.command.Command.{Command}
 use Rattle.command_line.specs.declared.line.Line.{Line}
 
@@ -25,7 +25,7 @@ inputs_of (topology ∷ (event ∷ events)) history =
     Some (record { topology = topology; events = event ∷ events; history = history })
 inputs_of _ history = None
 
--- whether there are workers or rounds, which no command takes
+-- whether there are workers or rounds, which the mode run alone takes
 abbrev pub has_rounds : Line → Bool
 has_rounds line = is_some line.workers || is_some line.rounds
 
@@ -37,6 +37,40 @@ solo_of args line = if has_rounds line || is_some line.plan then None
 -- `replay --plan FILE TOPOLOGY EVENTS..`, with `--history` and `--keep FILE` or without
 abbrev pub replay_of : List (List ℕ) → Line → Option Call
 replay_of args line = if has_rounds line then None else both Replay line.plan (inputs_of args line.history)
+
+-- how many workers a run may have, which has one or more
+abbrev pub workers_limit : ℕ
+workers_limit = 16
+
+-- how many rounds a run may have
+abbrev pub rounds_limit : ℕ
+rounds_limit = 1000
+
+-- so many workers and rounds are within the limits
+pub record AreSizes (workers rounds : ℕ) : Type 0 where
+  pub some : 1 ≤ workers
+  pub few : workers ≤ workers_limit
+  pub short : rounds ≤ rounds_limit
+
+-- where a call is a run, its numbers are within the limits
+abbrev pub HasSizes : Call → Type 0
+HasSizes (Run workers rounds plan inputs) = AreSizes workers rounds
+HasSizes _ = ⊤
+
+-- the number that an option asks for, from the one on and up to the other
+abbrev pub number_asked : ℕ → ℕ → Option (List ℕ) → Option ℕ
+number_asked least most value = option_and_then (number_in least most) value
+
+-- how many workers and rounds a line asks for
+abbrev pub run_numbers : Line → Option (ℕ × ℕ)
+run_numbers line = both (λ workers rounds. (workers, rounds)) (number_asked 1 workers_limit line.workers)
+    (number_asked 0 rounds_limit line.rounds)
+
+-- `run --workers N --rounds R TOPOLOGY EVENTS..`, with `--plan FILE` and `--history` or without
+abbrev pub run_of : List (List ℕ) → Line → Option Call
+run_of args line = if is_some line.keep then None
+    else both (λ (numbers : ℕ × ℕ) inputs. Run numbers.0 numbers.1 line.plan inputs) (run_numbers line)
+    (inputs_of args line.history)
 
 -- whether there is an option or the flag
 abbrev pub has_options : Line → Bool
@@ -56,6 +90,7 @@ load_of _ line = None
 abbrev pub call_with : List ℕ → List (List ℕ) → Line → Option Call
 call_with mode args line = if is_word mode (codes "solo") then solo_of args line
     else if is_word mode (codes "replay") then replay_of args line
+    else if is_word mode (codes "run") then run_of args line
     else if is_word mode (codes "plain") then plain_of args line
     else if is_word mode (codes "load") then load_of args line
     else None

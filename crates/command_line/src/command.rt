@@ -28,6 +28,17 @@ pub enum Call {
         /// What it reads.
         inputs: Inputs,
     },
+    /// Workers that are threads share the work in rounds, and then one works off what is left.
+    Run {
+        /// How many workers there are: 1 to 16.
+        workers: u32,
+        /// How many rounds they do: 0 to 1,000.
+        rounds: u32,
+        /// The name of the plan's file, where there is one.
+        plan: Option<Name>,
+        /// What it reads.
+        inputs: Inputs,
+    },
     /// The files are counted at once, without a run.
     Plain {
         /// What it reads. It has no history, so none of its lines are wanted.

@@ -1,6 +1,6 @@
 //! The command that the words are.
-ghost use Rattle.std.specs.Prelude.{◌≡◌, ◌∷◌, [], Err, IfOk, MatchOption, None, Some};
-ghost use Rattle.command_line.specs.Grammar.{call_of, call_with, command_from, command_of, has_options, has_rounds, inputs_of, load_of, plain_of, replay_of, solo_of};
+ghost use Rattle.std.specs.Prelude.{◌≡◌, ◌≤◌, ◌∷◌, [], Err, IfOk, IfSome, MatchOption, None, Some};
+ghost use Rattle.command_line.specs.Grammar.{AreSizes, HasSizes, call_of, call_with, command_from, command_of, has_options, has_rounds, inputs_of, load_of, number_asked, plain_of, replay_of, run_numbers, run_of, solo_of};
 
 use crate::command::{Call, Command, Inputs};
 use crate::line::{Line, line_of};
@@ -13,6 +13,12 @@ use text_lines::LINES_MAX;
 
 // The greatest seed.
 const SEED_LIMIT: u32 = u32::MAX;
+
+// How many workers a run may have.
+const WORKERS_MAX: u32 = 16;
+
+// How many rounds a run may have.
+const ROUNDS_MAX: u32 = 1000;
 
 // Takes the first element of a list away.
 fn first_of(words: &mut Seq<Name>) -> Option<Name>
@@ -40,6 +46,17 @@ fn inputs_of(mut args: Seq<Name>, history: bool) -> Option<Inputs>
     })
 }
 
+// The number that an option asks for, from the one on and up to the other.
+fn number_asked(least: u32, most: u32, value: &Option<Name>) -> Option<u32>
+    ensures number { result ≡ number_asked least most value.now }
+    ensures range { IfSome result (λ n. (least ≤ n) × (n ≤ most)) }
+{
+    match value {
+        Some(word) => number_in(least, most, word.text()),
+        None => None,
+    }
+}
+
 impl Line {
     // Whether there are workers or rounds.
     fn has_rounds(&self) -> bool
@@ -58,6 +75,7 @@ impl Line {
     // The call of mode solo.
     fn solo(&self, args: Seq<Name>) -> Option<Call>
         ensures call { result ≡ solo_of args self.now }
+        ensures sizes { IfSome result HasSizes }
     {
         if self.has_rounds() || self.plan.is_some() {
             return None;
@@ -69,6 +87,7 @@ impl Line {
     // The call of mode replay, which takes the plan's name out of the line.
     fn replay(&mut self, args: Seq<Name>) -> Option<Call>
         ensures call { result ≡ replay_of args self.old }
+        ensures sizes { IfSome result HasSizes }
         ensures keep { self.new.keep ≡ self.old.keep }
     {
         if self.has_rounds() {
@@ -79,9 +98,40 @@ impl Line {
         Some(Call::Replay { plan, inputs })
     }
 
+    // How many workers and rounds are asked for.
+    fn numbers(&self) -> Option<(u32, u32)>
+        ensures numbers { result ≡ run_numbers self.now }
+        ensures sizes { IfSome result (λ numbers. AreSizes numbers.0 numbers.1) }
+    {
+        let workers = number_asked(1, WORKERS_MAX, &self.workers)?;
+        let rounds = number_asked(0, ROUNDS_MAX, &self.rounds)?;
+        Some((workers, rounds))
+    }
+
+    // The call of mode run, which takes the plan's name out of the line.
+    fn run(&mut self, args: Seq<Name>) -> Option<Call>
+        ensures call { result ≡ run_of args self.old }
+        ensures sizes { IfSome result HasSizes }
+        ensures keep { self.new.keep ≡ self.old.keep }
+    {
+        if self.keep.is_some() {
+            return None;
+        }
+        let (workers, rounds) = self.numbers()?;
+        let inputs = inputs_of(args, self.history)?;
+        let plan = self.plan.take();
+        Some(Call::Run {
+            workers,
+            rounds,
+            plan,
+            inputs,
+        })
+    }
+
     // The call of mode plain.
     fn plain(&self, args: Seq<Name>) -> Option<Call>
         ensures call { result ≡ plain_of args self.now }
+        ensures sizes { IfSome result HasSizes }
     {
         match inputs_of(args, false) {
             Some(inputs) if !self.has_options() => Some(Call::Plain { inputs }),
@@ -92,6 +142,7 @@ impl Line {
     // The call of mode load.
     fn load(&self, args: &[Name]) -> Option<Call>
         ensures call { result ≡ load_of args.now self.now }
+        ensures sizes { IfSome result HasSizes }
     {
         let [seed, lines] = args else {
             return None;
@@ -107,12 +158,15 @@ impl Line {
     // The call of a mode with these arguments.
     fn with(&mut self, mode: &str, args: Seq<Name>) -> Option<Call>
         ensures call { result ≡ call_with mode.now args self.old }
+        ensures sizes { IfSome result HasSizes }
         ensures keep { self.new.keep ≡ self.old.keep }
     {
         if mode == "solo" {
             self.solo(args)
         } else if mode == "replay" {
             self.replay(args)
+        } else if mode == "run" {
+            self.run(args)
         } else if mode == "plain" {
             self.plain(args)
         } else if mode == "load" {
@@ -125,6 +179,7 @@ impl Line {
     // The call of the positionals, which have been taken out of the line.
     fn call(&mut self, mut positionals: Seq<Name>) -> Option<Call>
         ensures call { result ≡ call_of positionals self.old }
+        ensures sizes { IfSome result HasSizes }
         ensures keep { self.new.keep ≡ self.old.keep }
     {
         let mode = first_of(&mut positionals)?;
@@ -135,6 +190,7 @@ impl Line {
 // The command that a line is, out of which it takes the words.
 fn command_from(alloc: Global, line: &mut Line) -> Option<Command>
     ensures command { result ≡ command_from line.old }
+    ensures sizes { IfSome result (λ command. HasSizes command.call) }
 {
     let positionals = mem::replace(&mut line.positionals, Seq::new(alloc));
     let call = line.call(positionals)?;
@@ -150,6 +206,9 @@ fn command_from(alloc: Global, line: &mut Line) -> Option<Command>
 pub fn read_words(alloc: Global, words: &[Name]) -> Result<Command, WordsRefusal>
     ensures command { IfOk result (λ command. command_of words.now ≡ Some command) }
     ensures usage { result ≡ Err WordsRefusal.Usage → command_of words.now ≡ None }
+
+    // The numbers of a run are within their limits.
+    ensures sizes { IfOk result (λ command. HasSizes command.call) }
 {
     let mut line = line_of(alloc, words)?;
     command_from(alloc, &mut line).ok_or(WordsRefusal::Usage)

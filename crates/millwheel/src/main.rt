@@ -1,50 +1,59 @@
 //! The program `millwheel`: the command line, the files and the output of its process.
 //!
-//! All that it does is `millwheel_alone` of `millwheel_cli`, with the words of `words_of`, over the files and
-//! the standard output of the runtime and over a keeper in memory, or in a database where `keep_name` answers
-//! its name, with `after_closing` once that is closed; and then `tell`, over its standard error, whose number
-//! is the exit status. `unheard` says the status of words that were not read, and `unopened` that of a
-//! database that was not opened.
+//! All that it does is `millwheel` of `millwheel_cli`, with the words of `words_of`, over the files and the
+//! standard output of the runtime, a keeper in memory and a gate that holds nobody; or `millwheel_alone`, over a
+//! keeper in a database where `keep_name` answers its name, with `after_closing` once that is closed; and then
+//! `tell`, over its standard error, whose number is the exit status. `unheard` says the status of words that were
+//! not read, and `unopened` that of a database that was not opened.
 #![tactic(auto)]
 
 use millwheel_cli::{
-    Done, Status, after_closing, keep_name, millwheel_alone, tell, unheard, unopened,
+    Done, Status, after_closing, keep_name, millwheel, millwheel_alone, tell, unheard, unopened,
 };
-use mw_ports::{FileShelf, OutSink, words_of};
+use mw_ports::{FileShelf, OpenGate, OutSink, words_of};
 use mw_types::{CallList, Name, NoMemory};
-use row_keeper::{Keeper, MemKeeper};
+use row_keeper::MemKeeper;
 use sqlite_keeper::SqliteKeeper;
 use std::process::ExitCode;
+use std::sync::Wait;
+use std::thread::Threads;
 use std::{env, mem};
 
 fn main(rt: HostRuntime) -> ExitCode {
-    let status = status(&rt);
+    let status = status(&rt, &rt);
     let err = rt.stderr();
     ExitCode::from(tell(rt.alloc(), &status, &mut OutSink::new(&err)))
 }
 
-// Does what the words of the command line say.
-fn status(rt: &HostRuntime) -> Status {
+// Does what the words of the command line say. The runtime comes a second time as what may have threads.
+fn status<R: Threads + Wait + Sync>(rt: &HostRuntime, threads: &R) -> Status {
     match words_of(rt.alloc(), env::args(rt)) {
-        Ok(words) => run(rt, words.as_slice()),
+        Ok(words) => run(rt, threads, words.as_slice()),
         Err(fault) => unheard(fault),
     }
 }
 
 // Runs these words over a keeper in memory, or over a database where they name one.
-fn run(rt: &HostRuntime, words: &[Name]) -> Status {
+fn run<R: Threads + Wait + Sync>(rt: &HostRuntime, threads: &R, words: &[Name]) -> Status {
     match keep_name(rt.alloc(), words) {
         Ok(Some(name)) => run_kept(rt, words, &name),
-        Ok(None) => run_in_memory(rt, words),
+        Ok(None) => run_in_memory(rt, threads, words),
         Err(NoMemory) => Status::NoMemory,
     }
 }
 
 // Runs these words over a keeper in memory.
-fn run_in_memory(rt: &HostRuntime, words: &[Name]) -> Status {
+fn run_in_memory<R: Threads + Wait + Sync>(
+    rt: &HostRuntime,
+    threads: &R,
+    words: &[Name],
+) -> Status {
     let alloc = rt.alloc();
     let kept = MemKeeper::new(alloc, CallList::new(alloc));
-    let done = run_over(rt, words, kept);
+    let mut shelf = FileShelf::new(rt);
+    let mut out = OutSink::new(rt);
+    let gate = OpenGate;
+    let done = millwheel(threads, alloc, words, &mut shelf, kept, &mut out, &gate);
     let Done {
         status,
         keeper,
@@ -56,7 +65,8 @@ fn run_in_memory(rt: &HostRuntime, words: &[Name]) -> Status {
     status
 }
 
-// Runs these words over the database of that name, which is opened before any file is read.
+// Runs these words over the database of that name, which is opened before any file is read. None of them has
+// threads.
 fn run_kept(rt: &HostRuntime, words: &[Name], name: &Name) -> Status {
     match SqliteKeeper::at(rt, name.text()) {
         Ok(kept) => {
@@ -67,8 +77,8 @@ fn run_kept(rt: &HostRuntime, words: &[Name], name: &Name) -> Status {
     }
 }
 
-// Runs these words over the process's files, its standard output and a keeper.
-fn run_over<K: Keeper>(rt: &HostRuntime, words: &[Name], kept: K) -> Done<K> {
+// Runs these words over the process's files, its standard output and a database.
+fn run_over(rt: &HostRuntime, words: &[Name], kept: SqliteKeeper) -> Done<SqliteKeeper> {
     let mut shelf = FileShelf::new(rt);
     let mut out = OutSink::new(rt);
     millwheel_alone(rt.alloc(), words, &mut shelf, kept, &mut out)

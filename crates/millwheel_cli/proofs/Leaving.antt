@@ -4,7 +4,7 @@ use Rattle.std.proofs.Common.{◌≡◌, ◌≤◌, ◌^◌, ℕ, List, length, 
 use Rattle.mw_types.specs.declared.identity.RowName.{RowName}
 use Rattle.mw_types.specs.declared.entry.Entry.{Entry}
 use Rattle.command_line.specs.declared.command.Call.{Call}
-use Rattle.command_line.specs.declared.command.Call.TheVariants.{Solo, Replay, Plain, Load}
+use Rattle.command_line.specs.declared.command.Call.TheVariants.{Solo, Replay, Run, Plain, Load}
 use Rattle.command_line.specs.declared.command.Command.{Command}
 use Rattle.command_line.specs.declared.refusal.WordsRefusal.{WordsRefusal}
 use Rattle.command_line.specs.declared.refusal.WordsRefusal.TheVariants as refusals
@@ -18,7 +18,6 @@ use Rattle.run_history.specs.Texts.{IsResultText}
 use Rattle.plain_answer.specs.Plain.{IsPlainText}
 use Rattle.plain_answer.specs.Ends.{IsFinishedRun}
 use Rattle.book.specs.Answers.{IsNotEmpty}
-use Rattle.world.specs.Replays.{IsWholeReplay}
 use Rattle.book.specs.Claims.{IsDamagedRow}
 use Rattle.book.specs.declared.refusals.StartWhy.{StartWhy}
 use Rattle.book.specs.declared.refusals.StartWhy.TheVariants as starts
@@ -32,23 +31,23 @@ use Rattle.millwheel_cli.specs.declared.task.Wanted.TheVariants.{ResultAlone, Hi
 use Rattle.millwheel_cli.specs.declared.refusal.Refusal.{Refusal}
 use Rattle.millwheel_cli.specs.declared.refusal.Refusal.TheVariants.{NoFile, TopologyRefused, EventsRefused, PlanRefused, NoMemory, ReadFault, TooLong, FileCount}
 use Rattle.millwheel_cli.specs.Limits.{history_limit}
-use Rattle.command_line.specs.Grammar.{command_of}
-use Rattle.millwheel_cli.specs.Tasks.{IsTask}
 use Rattle.millwheel_cli.specs.Reasons.{ShelfSeen, HasReason}
-use Rattle.millwheel_cli.specs.Answers.{Left, IsUnbegun, IsUnrun, IsRun, IsKeptRun, IsShortOf, IsWholeRun, IsWholeText, IsPlainWhole, RunLeaves, CountLeaves, CallLeaves, HasRun, HasLeft}
-use Rattle.millwheel_cli.specs.Inside.{HasText, HasPlain, status_of, of_words, of_start, of_drain}
+use Rattle.millwheel_cli.specs.Histories.{IsReadAfter, IsShortOf}
+use Rattle.millwheel_cli.specs.Answers.{Left, IsUnbegun, IsUnrun, IsRun, IsKeptRun, IsWholeRun, IsWholeText, IsPlainWhole, RunLeaves, CountLeaves, CallLeaves, HasRun, HasLeft}
+use Rattle.millwheel_cli.specs.Inside.{HasText, HasPlain, IsCallEnd, status_of, of_words, of_start, of_drain}
+use Rattle.millwheel_cli.proofs.Reasons.{call_reason}
 
 -- where no run was begun, nothing is left with a refusal of the files
-pub left_of_refusal : (files : Option Files) (words : List (List ℕ)) (left : Left) (refusal : Refusal) → IsUnbegun left
-    → HasLeft files words left (status_of refusal)
-left_of_refusal files words left (NoFile name) is = is
-left_of_refusal files words left (TopologyRefused why) is = is
-left_of_refusal files words left (EventsRefused file line why) is = is
-left_of_refusal files words left (PlanRefused line) is = is
-left_of_refusal files words left NoMemory is = inr is
-left_of_refusal files words left (ReadFault name) is = is
-left_of_refusal files words left (TooLong name) is = is
-left_of_refusal files words left (FileCount n m) is = is
+pub left_of_refusal : (files : Option Files) (asked : Option Command) (left : Left) (refusal : Refusal) → IsUnbegun left
+    → HasLeft files asked left (status_of refusal)
+left_of_refusal files asked left (NoFile name) is = is
+left_of_refusal files asked left (TopologyRefused why) is = is
+left_of_refusal files asked left (EventsRefused file line why) is = is
+left_of_refusal files asked left (PlanRefused line) is = is
+left_of_refusal files asked left NoMemory is = inr is
+left_of_refusal files asked left (ReadFault name) is = is
+left_of_refusal files asked left (TooLong name) is = is
+left_of_refusal files asked left (FileCount n m) is = is
 
 -- a status that may come once the files are read
 abbrev pub MayEnd : Status → Type 0
@@ -101,40 +100,44 @@ count_ends case left (status.FileCount n m) leaves = absurd leaves
 pub call_ends : (call : Call) (task : Task) (left : Left) (s : Status) → CallLeaves call task left s → MayEnd s
 call_ends (Solo inputs) task left s leaves = run_ends task left s leaves
 call_ends (Replay plan inputs) task left s leaves = run_ends task left s leaves
+call_ends (Run workers rounds plan inputs) task left s leaves = run_ends task left s leaves
 call_ends (Plain inputs) task left s leaves = count_ends task.case left s leaves
 call_ends (Load seed lines) task left s leaves = run_ends task left s leaves
 
--- what the words' task leaves is what a status leaves that may come then
-left_of_run : (files : Option Files) (words : List (List ℕ)) (left : Left) (s : Status) → HasRun files words left s → MayEnd s
-    → HasLeft files words left s
-left_of_run files words left status.Ok run ends = run
-left_of_run files words left status.Usage run ends = absurd ends
-left_of_run files words left (status.NoFile n) run ends = absurd ends
-left_of_run files words left (status.TopologyRefused why) run ends = absurd ends
-left_of_run files words left (status.EventsRefused file line why) run ends = absurd ends
-left_of_run files words left (status.PlanRefused line) run ends = absurd ends
-left_of_run files words left status.KeeperFault run ends = run
-left_of_run files words left status.SinkFault run ends = run
-left_of_run files words left status.NoMemory run ends = inl run
-left_of_run files words left (status.NotEmpty name bytes) run ends = run
-left_of_run files words left status.HistoryFull run ends = run
-left_of_run files words left (status.RowDamaged name bytes) run ends = run
-left_of_run files words left (status.ReadFault n) run ends = absurd ends
-left_of_run files words left (status.TooLong n) run ends = absurd ends
-left_of_run files words left (status.FileCount n m) run ends = absurd ends
+-- what a command's task leaves is what a status leaves that may come then
+left_of_run : (files : Option Files) (asked : Option Command) (left : Left) (s : Status) → HasRun files asked left s → MayEnd s
+    → HasLeft files asked left s
+left_of_run files asked left status.Ok run ends = run
+left_of_run files asked left status.Usage run ends = absurd ends
+left_of_run files asked left (status.NoFile n) run ends = absurd ends
+left_of_run files asked left (status.TopologyRefused why) run ends = absurd ends
+left_of_run files asked left (status.EventsRefused file line why) run ends = absurd ends
+left_of_run files asked left (status.PlanRefused line) run ends = absurd ends
+left_of_run files asked left status.KeeperFault run ends = run
+left_of_run files asked left status.SinkFault run ends = run
+left_of_run files asked left status.NoMemory run ends = inl run
+left_of_run files asked left (status.NotEmpty name bytes) run ends = run
+left_of_run files asked left status.HistoryFull run ends = run
+left_of_run files asked left (status.RowDamaged name bytes) run ends = run
+left_of_run files asked left (status.ReadFault n) run ends = absurd ends
+left_of_run files asked left (status.TooLong n) run ends = absurd ends
+left_of_run files asked left (status.FileCount n m) run ends = absurd ends
 
--- so it is of what a call's task leaves
-pub left_of_call : (files : Option Files) (words : List (List ℕ)) (command : Command) (task : Task) (left : Left) (s : Status)
-    → command_of words ≡ Some command → IsTask files command.call task → CallLeaves command.call task left s
-    → HasLeft files words left s
-left_of_call files words command task left s named asked leaves = left_of_run files words left s
-    (record { command = command; named = named; task = task; asked = asked; leaves = leaves })
-    (call_ends command.call task left s leaves)
+-- how a call ends is what its status leaves
+pub left_of_call : (seen : ShelfSeen) (asked : Option Command) (command : Command) (left : Left) (s : Status)
+    → asked ≡ Some command → IsCallEnd seen command.call left s → HasLeft seen.files asked left s
+left_of_call seen asked command left s named end = elim end [
+  | inl is ↦ left_of_run seen.files asked left s
+      (record { command = command; named = named; task = is.task; is_task = is.is_task; leaves = is.leaves })
+      (call_ends command.call is.task left s is.leaves)
+  | inr is ↦ subst (λ t. HasLeft seen.files asked left t) (sym is.same)
+      (left_of_refusal seen.files asked left is.refusal is.unbegun)
+]
 
 -- with Ok that is the whole
-pub ok_of_left : (files : Option Files) (words : List (List ℕ)) (left : Left) (s : Status) → HasLeft files words left s → s ≡ status.Ok
-    → HasRun files words left status.Ok
-ok_of_left files words left s is ok = subst (λ t. HasLeft files words left t) ok is
+pub ok_of_left : (files : Option Files) (asked : Option Command) (left : Left) (s : Status) → HasLeft files asked left s → s ≡ status.Ok
+    → HasRun files asked left status.Ok
+ok_of_left files asked left s is ok = subst (λ t. HasLeft files asked left t) ok is
 
 -- each whole text of a run is told plainly, where a contract can see the rows
 abbrev pub IsPlainlyTold : Task → Left → Type 0
@@ -202,18 +205,17 @@ wrote_as task left history s told run plain is = wrote task left s run plain
 -- what a drain that stopped leaves is what its status leaves
 pub stopped : (task : Task) (left : Left) (fault : NodeFault) → IsRun task left → left.text.1 ≡ left.text.0
     → (fault ≡ faults.HistoryFull → length left.history ≡ history_limit)
-    → (fault ≡ faults.HistoryFull → IfSome left.rows.1 (λ _. IsWholeReplay task.case task.steps left.history → ⊥))
-    → (IfSome left.rows.1 (λ _. IsWholeReplay task.case task.steps left.history → ⊥)
-    → IfSome left.rows.1 (λ _. IsShortOf task left.history))
+    → (fault ≡ faults.HistoryFull → IfSome left.rows.1 (λ _. IsShortOf task.case task.before left.history))
     → ((name : RowName) (bytes : List ℕ) → fault ≡ faults.RowDamaged name bytes
-    → IsDamagedRow task.case left.rows.1 (length left.history) name bytes)
+    → (count : ℕ) × IsReadAfter task.before count left.history × IsDamagedRow task.case left.rows.1 count name bytes)
     → RunLeaves task left (of_drain fault)
-stopped task left faults.HistoryFull run same full more short damaged =
-    record { stopped = record { run = run; unwritten = same }; full = full refl; more = more refl; longer = short (more refl) }
-stopped task left faults.KeeperFault run same full more short damaged = inl (record { run = run; unwritten = same })
-stopped task left (faults.RowDamaged name bytes) run same full more short damaged =
-    record { stopped = record { run = run; unwritten = same }; damaged = damaged name bytes refl }
-stopped task left faults.NoMemory run same full more short damaged = inr (inl (record { run = run; unwritten = same }))
+stopped task left faults.HistoryFull run same full more damaged =
+    record { stopped = record { run = run; unwritten = same }; full = full refl; more = more refl }
+stopped task left faults.KeeperFault run same full more damaged = inl (record { run = run; unwritten = same })
+stopped task left (faults.RowDamaged name bytes) run same full more damaged =
+    let is = damaged name bytes refl in
+    record { stopped = record { run = run; unwritten = same }; count = is.0; read = is.1; damaged = is.2 }
+stopped task left faults.NoMemory run same full more damaged = inr (inl (record { run = run; unwritten = same }))
 
 -- what is left where no book was begun is what its status leaves
 pub unstarted : (task : Task) (left : Left) (why : StartWhy) → IsUnbegun left → IsNotEmpty left.rows.0 why
@@ -223,22 +225,40 @@ unstarted task left starts.KeeperFault is first = inr is
 unstarted task left starts.NoMemory is first = inr (inr is)
 
 -- a status that may come once the files are read has its reason elsewhere
-pub end_reason : (seen : ShelfSeen) (words : List (List ℕ)) (s : Status) → MayEnd s → HasReason seen words s
-end_reason seen words status.Ok ends = tt
-end_reason seen words status.Usage ends = absurd ends
-end_reason seen words (status.NoFile n) ends = absurd ends
-end_reason seen words (status.TopologyRefused why) ends = absurd ends
-end_reason seen words (status.EventsRefused file line why) ends = absurd ends
-end_reason seen words (status.PlanRefused line) ends = absurd ends
-end_reason seen words status.KeeperFault ends = tt
-end_reason seen words status.SinkFault ends = tt
-end_reason seen words status.NoMemory ends = tt
-end_reason seen words (status.NotEmpty name bytes) ends = tt
-end_reason seen words status.HistoryFull ends = tt
-end_reason seen words (status.RowDamaged name bytes) ends = tt
-end_reason seen words (status.ReadFault n) ends = absurd ends
-end_reason seen words (status.TooLong n) ends = absurd ends
-end_reason seen words (status.FileCount n m) ends = absurd ends
+pub end_reason : (seen : ShelfSeen) (asked : Option Command) (s : Status) → MayEnd s → HasReason seen asked s
+end_reason seen asked status.Ok ends = tt
+end_reason seen asked status.Usage ends = absurd ends
+end_reason seen asked (status.NoFile n) ends = absurd ends
+end_reason seen asked (status.TopologyRefused why) ends = absurd ends
+end_reason seen asked (status.EventsRefused file line why) ends = absurd ends
+end_reason seen asked (status.PlanRefused line) ends = absurd ends
+end_reason seen asked status.KeeperFault ends = tt
+end_reason seen asked status.SinkFault ends = tt
+end_reason seen asked status.NoMemory ends = tt
+end_reason seen asked (status.NotEmpty name bytes) ends = tt
+end_reason seen asked status.HistoryFull ends = tt
+end_reason seen asked (status.RowDamaged name bytes) ends = tt
+end_reason seen asked (status.ReadFault n) ends = absurd ends
+end_reason seen asked (status.TooLong n) ends = absurd ends
+end_reason seen asked (status.FileCount n m) ends = absurd ends
+
+-- where a command is asked for it is not that none is
+pub not_none : (found : Option Command) (call : Command) → found ≡ Some call → found ≡ None → ⊥
+not_none found call named none = grind (arith, named, none)
+
+-- how a call ends has its reason
+pub reason_of_call : (seen : ShelfSeen) (asked : Option Command) (command : Command) (left : Left) (s : Status)
+    → asked ≡ Some command → IsCallEnd seen command.call left s → HasReason seen asked s
+reason_of_call seen asked command left s named end = elim end [
+  | inl is ↦ end_reason seen asked s (call_ends command.call is.task left s is.leaves)
+  | inr is ↦ subst (λ t. HasReason seen asked t) (sym is.same) (call_reason seen asked command is.refusal named is.why)
+]
+
+-- a call that was read does not end with Usage
+pub no_usage : (seen : ShelfSeen) (asked : Option Command) (command : Command) (s : Status) → asked ≡ Some command
+    → HasReason seen asked s → s ≡ status.Usage → ⊥
+no_usage seen asked command s named why is =
+    not_none asked command named (subst (λ t. HasReason seen asked t) is why)
 
 -- no run ends with Usage
 pub run_usage : (task : Task) (left : Left) (s : Status) → RunLeaves task left s → s ≡ status.Usage → ⊥
@@ -266,21 +286,17 @@ pub unwanted : (task : Task) (left : Left) (s : Status) → s ≡ status.NoMemor
     → RunLeaves task left s
 unwanted task left s is unbegun = subst (λ t. RunLeaves task left t) (sym is) (inr (inr unbegun))
 
--- where words ask for something they do not ask for nothing
-pub not_none : (found : Option Command) (call : Command) → found ≡ Some call → found ≡ None → ⊥
-not_none found call named none = grind (arith, named, none)
-
 -- where the words are not read, that is what is left
-pub left_of_words : (files : Option Files) (words : List (List ℕ)) (left : Left) (refusal : WordsRefusal) → IsUnbegun left
-    → HasLeft files words left (of_words refusal)
-left_of_words files words left refusals.Usage is = is
-left_of_words files words left refusals.NoMemory is = inr is
+pub left_of_words : (files : Option Files) (asked : Option Command) (left : Left) (refusal : WordsRefusal) → IsUnbegun left
+    → HasLeft files asked left (of_words refusal)
+left_of_words files asked left refusals.Usage is = is
+left_of_words files asked left refusals.NoMemory is = inr is
 
 -- and its reason
-pub words_reason : (seen : ShelfSeen) (words : List (List ℕ)) (refusal : WordsRefusal)
-    → (refusal ≡ refusals.Usage → command_of words ≡ None) → HasReason seen words (of_words refusal)
-words_reason seen words refusals.Usage none = none refl
-words_reason seen words refusals.NoMemory none = tt
+pub words_reason : (seen : ShelfSeen) (asked : Option Command) (refusal : WordsRefusal)
+    → (refusal ≡ refusals.Usage → asked ≡ None) → HasReason seen asked (of_words refusal)
+words_reason seen asked refusals.Usage none = none refl
+words_reason seen asked refusals.NoMemory none = tt
 
 -- what is written of a plain count is what its status leaves, where no run was begun
 pub counted : (case : CaseShape) (left : Left) (s : Status) → IsUnrun left → HasPlain case left.text.0 left.text.1 s

@@ -8,6 +8,7 @@ pub mod LoadTaken
 pub mod Statuses
 pub mod Replaying
 pub mod Running
+pub mod RoundLaws
 pub mod Leaving
 pub mod Telling
 pub mod Said

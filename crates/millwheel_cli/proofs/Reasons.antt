@@ -1,23 +1,24 @@
 -- Why a file was refused is why the call was.
-use Rattle.std.proofs.Common.{◌≡◌, ◌∙◌, ◌≤◌, ◌+◌, ◌-◌, ℕ, List, [], ◌∷◌, length, Option, Some, Result, sym, ap, subst, inl, inr}
+use Rattle.std.proofs.Common.{◌≡◌, ◌≤◌, ◌+◌, ◌-◌, ℕ, List, [], ◌∷◌, length, Option, None, Some, Result, sym, subst, inl, inr}
 use Rattle.mw_types.proofs.CauseLaws.{Rose-before}
 use Rattle.command_line.specs.declared.command.Inputs.{Inputs}
+use Rattle.command_line.specs.declared.command.Call.{Call}
+use Rattle.command_line.specs.declared.command.Call.TheVariants.{Solo, Replay, Run, Plain, Load}
 use Rattle.command_line.specs.declared.command.Command.{Command}
 use Rattle.mw_ports.specs.Shelves.{Files}
 use Rattle.topology.specs.Shapes.{Shape}
 use Rattle.injector.specs.Sources.{Source}
 use Rattle.run_history.specs.Cases.{CaseShape}
-use Rattle.scripts.specs.declared.step.Step.{Step}
+use Rattle.millwheel_cli.specs.declared.task.Before.{Before}
 use Rattle.millwheel_cli.specs.declared.task.Task.{Task}
 use Rattle.millwheel_cli.specs.declared.status.Status.{Status}
 use Rattle.millwheel_cli.specs.declared.status.Status.TheVariants as status
 use Rattle.millwheel_cli.specs.declared.refusal.Refusal.{Refusal}
 use Rattle.millwheel_cli.specs.declared.refusal.Refusal.TheVariants.{NoFile, TopologyRefused, EventsRefused, PlanRefused, NoMemory, ReadFault, TooLong, FileCount}
 use Rattle.millwheel_cli.specs.Limits.{plan_limit, events_limit, lines_limit}
-use Rattle.command_line.specs.Grammar.{command_of}
 use Rattle.millwheel_cli.specs.Files.{HoldsTopology, HoldsSources, source_taken}
-use Rattle.millwheel_cli.specs.Tasks.{wanted_of, plan_taken, HoldsPlan, IsInputsTask}
-use Rattle.millwheel_cli.specs.Reasons.{ShelfSeen, IsUnread, IsFileRefused, IsTopologyRefused, IsPlanRefused, IsSourceRefused, IsRefused, IsCallRefused, IsCommandRefused, HasReason}
+use Rattle.millwheel_cli.specs.Tasks.{wanted_of, rounds_taken, steps_taken, HoldsBefore, IsInputsTask}
+use Rattle.millwheel_cli.specs.Reasons.{ShelfSeen, IsUnread, IsFileRefused, IsTopologyRefused, IsPlanRefused, IsSourceRefused, IsRefusedFirst, IsRefused, IsCallRefused, IsCommandRefused, HasReason}
 use Rattle.millwheel_cli.specs.Inside.{status_of, UnlessWant}
 use Rattle.millwheel_cli.proofs.Refusals.{unless_map}
 
@@ -66,89 +67,104 @@ source_over files f0 f1 f2 l0 l1 l2 file room (name ∷ names) s f l is = elim i
   )
 ]
 
--- why the topology's file was refused is why one of the files was
-pub topology_refused : (seen : ShelfSeen) (plan : Option (List ℕ)) (inputs : Inputs) (names : List (List ℕ)) (count : ℕ)
-    (refusal : Refusal)
-    → names ≡ inputs.events → count ≡ length names → UnlessWant (IsTopologyRefused seen count inputs.topology) refusal
-    → UnlessWant (IsRefused seen plan inputs) refusal
-topology_refused seen plan inputs names count refusal same counted is =
-    unless_map (IsTopologyRefused seen count inputs.topology) (IsRefused seen plan inputs) refusal
-    (λ s why. inl (subst (λ n. IsTopologyRefused seen n inputs.topology s) (counted ∙ ap length same) why)) is
+-- and of a plan
+plan_over : (files : Option Files) (f0 f1 f2 l0 l1 l2 : ℕ) (call : Call) (shape : Shape) (s : Status) → f0 ≤ f1 → l0 ≤ l1
+    → IsPlanRefused (seen_of files f1 f2 l1 l2) call shape s → IsPlanRefused (seen_of files f0 f2 l0 l2) call shape s
+plan_over files f0 f1 f2 l0 l1 l2 (Solo inputs) shape s f l is = absurd is
+plan_over files f0 f1 f2 l0 l1 l2 (Replay plan inputs) shape s f l is =
+    file_over files f0 f1 f2 l0 l1 l2 plan plan_limit (steps_taken shape) s f l is
+plan_over files f0 f1 f2 l0 l1 l2 (Run workers rounds None inputs) shape s f l is = absurd is
+plan_over files f0 f1 f2 l0 l1 l2 (Run workers rounds (Some plan) inputs) shape s f l is =
+    file_over files f0 f1 f2 l0 l1 l2 plan plan_limit (rounds_taken shape workers rounds) s f l is
+plan_over files f0 f1 f2 l0 l1 l2 (Plain inputs) shape s f l is = absurd is
+plan_over files f0 f1 f2 l0 l1 l2 (Load seed lines) shape s f l is = absurd is
 
--- why the plan was refused is why one of the files was, where the topology was taken before and the shelf's files
--- stayed as they were
-pub plan_refused : (files later : Option Files) (f0 f1 f2 l0 l1 l2 : ℕ) (name : List ℕ) (inputs : Inputs) (names : List (List ℕ))
-    (count : ℕ) (shape : Shape) (refusal : Refusal)
-    → names ≡ inputs.events → count ≡ length names → later ≡ files → HoldsTopology files inputs.topology count shape
-    → f0 ≤ f1 → l0 ≤ l1
-    → UnlessWant (IsPlanRefused (seen_of later f1 f2 l1 l2) (Some name) shape) refusal
-    → UnlessWant (IsRefused (seen_of files f0 f2 l0 l2) (Some name) inputs) refusal
-plan_refused files later f0 f1 f2 l0 l1 l2 name inputs names count shape refusal same counted unchanged taken f l is =
-    unless_map (IsPlanRefused (seen_of later f1 f2 l1 l2) (Some name) shape) (IsRefused (seen_of files f0 f2 l0 l2) (Some name) inputs)
-    refusal (λ s why. inr (inl (record {
+-- why the topology's file was refused is why one of the first files was
+pub topology_refused : (seen : ShelfSeen) (call : Call) (inputs : Inputs) (refusal : Refusal)
+    → UnlessWant (IsTopologyRefused seen (length inputs.events) inputs.topology) refusal
+    → UnlessWant (IsRefusedFirst seen call inputs) refusal
+topology_refused seen call inputs refusal is =
+    unless_map (IsTopologyRefused seen (length inputs.events) inputs.topology) (IsRefusedFirst seen call inputs) refusal
+    (λ s why. inl why) is
+
+-- so it is of the plan, where the topology was taken before and the shelf's files stayed as they were
+pub plan_refused : (files later : Option Files) (f0 f1 f2 l0 l1 l2 : ℕ) (call : Call) (inputs : Inputs) (shape : Shape)
+    (refusal : Refusal)
+    → later ≡ files → HoldsTopology files inputs.topology (length inputs.events) shape → f0 ≤ f1 → l0 ≤ l1
+    → UnlessWant (IsPlanRefused (seen_of later f1 f2 l1 l2) call shape) refusal
+    → UnlessWant (IsRefusedFirst (seen_of files f0 f2 l0 l2) call inputs) refusal
+plan_refused files later f0 f1 f2 l0 l1 l2 call inputs shape refusal unchanged taken f l is =
+    unless_map (IsPlanRefused (seen_of later f1 f2 l1 l2) call shape) (IsRefusedFirst (seen_of files f0 f2 l0 l2) call inputs)
+    refusal (λ s why. inr (record {
       shape = shape;
-      topology_read = subst (λ n. HoldsTopology files inputs.topology n shape) (counted ∙ ap length same) taken;
-      refused = file_over files f0 f1 f2 l0 l1 l2 name plan_limit (plan_taken shape) s f l
-          (subst (λ (fs : Option Files). IsFileRefused (seen_of fs f1 f2 l1 l2) name plan_limit (plan_taken shape) s) unchanged why);
-    }))) is
+      topology_read = taken;
+      refused = plan_over files f0 f1 f2 l0 l1 l2 call shape s f l
+          (subst (λ (fs : Option Files). IsPlanRefused (seen_of fs f1 f2 l1 l2) call shape s) unchanged why);
+    })) is
+
+-- why one of the first files was refused is why one of the files was
+pub first_refused : (seen : ShelfSeen) (call : Call) (inputs : Inputs) (refusal : Refusal)
+    → UnlessWant (IsRefusedFirst seen call inputs) refusal → UnlessWant (IsRefused seen call inputs) refusal
+first_refused seen call inputs refusal is =
+    unless_map (IsRefusedFirst seen call inputs) (IsRefused seen call inputs) refusal (λ s why. inl why) is
 
 -- why an event file was refused is why one of the files was, where the topology and the plan were taken before and
 -- the shelf's files stayed as they were
-pub events_refused : (files later : Option Files) (f0 f1 f2 l0 l1 l2 : ℕ) (plan : Option (List ℕ)) (inputs : Inputs)
-    (names : List (List ℕ)) (count : ℕ) (shape : Shape) (steps : List Step) (refusal : Refusal)
-    → names ≡ inputs.events → count ≡ length names → later ≡ files → HoldsTopology files inputs.topology count shape
-    → HoldsPlan files plan shape steps → f0 ≤ f1 → l0 ≤ l1
+pub events_refused : (files later : Option Files) (f0 f1 f2 l0 l1 l2 : ℕ) (call : Call) (inputs : Inputs)
+    (names : List (List ℕ)) (shape : Shape) (before : Before) (refusal : Refusal)
+    → names ≡ inputs.events → later ≡ files → HoldsTopology files inputs.topology (length inputs.events) shape
+    → HoldsBefore files call shape before → f0 ≤ f1 → l0 ≤ l1
     → UnlessWant (IsSourceRefused (seen_of later f1 f2 l1 l2) 0 lines_limit names) refusal
-    → UnlessWant (IsRefused (seen_of files f0 f2 l0 l2) plan inputs) refusal
-events_refused files later f0 f1 f2 l0 l1 l2 plan inputs names count shape steps refusal same counted unchanged taken planned f l is =
-    unless_map (IsSourceRefused (seen_of later f1 f2 l1 l2) 0 lines_limit names) (IsRefused (seen_of files f0 f2 l0 l2) plan inputs)
-    refusal (λ s why. inr (inr (record {
+    → UnlessWant (IsRefused (seen_of files f0 f2 l0 l2) call inputs) refusal
+events_refused files later f0 f1 f2 l0 l1 l2 call inputs names shape before refusal same unchanged taken planned f l is =
+    unless_map (IsSourceRefused (seen_of later f1 f2 l1 l2) 0 lines_limit names) (IsRefused (seen_of files f0 f2 l0 l2) call inputs)
+    refusal (λ s why. inr (record {
       shape = shape;
-      topology_read = subst (λ n. HoldsTopology files inputs.topology n shape) (counted ∙ ap length same) taken;
-      steps = steps;
+      topology_read = taken;
+      before = before;
       plan_read = planned;
       refused = source_over files f0 f1 f2 l0 l1 l2 0 lines_limit inputs.events s f l
           (subst (λ (fs : Option Files). IsSourceRefused (seen_of fs f1 f2 l1 l2) 0 lines_limit inputs.events s) unchanged
           (subst (λ (ns : List (List ℕ)). IsSourceRefused (seen_of later f1 f2 l1 l2) 0 lines_limit ns s) same why));
-    }))) is
+    })) is
 
 -- a plan that was held is held by the same files
-pub plan_same : (files later : Option Files) (plan : Option (List ℕ)) (shape : Shape) (steps : List Step) → later ≡ files
-    → HoldsPlan later plan shape steps → HoldsPlan files plan shape steps
-plan_same files later plan shape steps same is = subst (λ (fs : Option Files). HoldsPlan fs plan shape steps) same is
+pub before_same : (files later : Option Files) (call : Call) (shape : Shape) (before : Before) → later ≡ files
+    → HoldsBefore later call shape before → HoldsBefore files call shape before
+before_same files later call shape before same is = subst (λ (fs : Option Files). HoldsBefore fs call shape before) same is
 
 -- what files were read make a task
-pub inputs_task : (files later : Option Files) (plan : Option (List ℕ)) (inputs : Inputs) (names : List (List ℕ)) (count : ℕ)
-    (shape : Shape) (sources : List Source) (task : Task)
-    → names ≡ inputs.events → count ≡ length names → later ≡ files
-    → task.case ≡ record { topology = shape; sources = sources } → task.wanted ≡ wanted_of inputs.history
-    → HoldsTopology files inputs.topology count shape → HoldsPlan files plan shape task.steps
+pub inputs_task : (files later : Option Files) (call : Call) (inputs : Inputs) (names : List (List ℕ)) (shape : Shape)
+    (sources : List Source) (before : Before) (task : Task)
+    → names ≡ inputs.events → later ≡ files
+    → task.case ≡ record { topology = shape; sources = sources } → task.before ≡ before → task.wanted ≡ wanted_of inputs.history
+    → HoldsTopology files inputs.topology (length inputs.events) shape → HoldsBefore files call shape before
     → HoldsSources later 0 lines_limit names sources
-    → IsInputsTask files plan inputs task
-inputs_task files later plan inputs names count shape sources task same counted unchanged made text topology planned events = record {
-  topology_read = subst (λ (k : CaseShape). HoldsTopology files inputs.topology (length inputs.events) k.topology) (sym made)
-      (subst (λ n. HoldsTopology files inputs.topology n shape) (counted ∙ ap length same) topology);
-  plan_read = subst (λ (k : CaseShape). HoldsPlan files plan k.topology task.steps) (sym made) planned;
+    → IsInputsTask files call inputs task
+inputs_task files later call inputs names shape sources before task same unchanged made is text topology planned events = record {
+  topology_read = subst (λ (k : CaseShape). HoldsTopology files inputs.topology (length inputs.events) k.topology) (sym made) topology;
+  plan_read = subst (λ (k : CaseShape). HoldsBefore files call k.topology task.before) (sym made)
+      (subst (λ (b : Before). HoldsBefore files call shape b) (sym is) planned);
   events_read = subst (λ (k : CaseShape). HoldsSources files 0 lines_limit inputs.events k.sources) (sym made)
       (subst (λ (ns : List (List ℕ)). HoldsSources files 0 lines_limit ns sources) same
       (subst (λ (fs : Option Files). HoldsSources fs 0 lines_limit names sources) unchanged events));
   text = text;
 }
 
--- the words are a command whose call is refused
-called : (seen : ShelfSeen) (words : List (List ℕ)) (command : Command) (s : Status) → command_of words ≡ Some command
-    → IsCallRefused seen command.call s → IsCommandRefused seen words s
-called seen words command s named is = record { command = command; named = named; why = is }
+-- a command is asked for whose call is refused
+refused_call : (seen : ShelfSeen) (asked : Option Command) (command : Command) (s : Status) → asked ≡ Some command
+    → IsCallRefused seen command.call s → IsCommandRefused seen asked s
+refused_call seen asked command s named is = record { command = command; named = named; why = is }
 
 -- why one of the files was refused is why the call was
-pub call_reason : (seen : ShelfSeen) (words : List (List ℕ)) (command : Command) (refusal : Refusal)
-    → command_of words ≡ Some command → UnlessWant (IsCallRefused seen command.call) refusal
-    → HasReason seen words (status_of refusal)
-call_reason seen words command (NoFile name) named is = called seen words command _ named is
-call_reason seen words command (TopologyRefused why) named is = called seen words command _ named is
-call_reason seen words command (EventsRefused file line why) named is = called seen words command _ named is
-call_reason seen words command (PlanRefused line) named is = called seen words command _ named is
-call_reason seen words command NoMemory named is = tt
-call_reason seen words command (ReadFault name) named is = called seen words command _ named is
-call_reason seen words command (TooLong name) named is = called seen words command _ named is
-call_reason seen words command (FileCount files injectors) named is = called seen words command _ named is
+pub call_reason : (seen : ShelfSeen) (asked : Option Command) (command : Command) (refusal : Refusal)
+    → asked ≡ Some command → UnlessWant (IsCallRefused seen command.call) refusal
+    → HasReason seen asked (status_of refusal)
+call_reason seen asked command (NoFile name) named is = refused_call seen asked command _ named is
+call_reason seen asked command (TopologyRefused why) named is = refused_call seen asked command _ named is
+call_reason seen asked command (EventsRefused file line why) named is = refused_call seen asked command _ named is
+call_reason seen asked command (PlanRefused line) named is = refused_call seen asked command _ named is
+call_reason seen asked command NoMemory named is = tt
+call_reason seen asked command (ReadFault name) named is = refused_call seen asked command _ named is
+call_reason seen asked command (TooLong name) named is = refused_call seen asked command _ named is
+call_reason seen asked command (FileCount files injectors) named is = refused_call seen asked command _ named is

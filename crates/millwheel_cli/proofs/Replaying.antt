@@ -1,5 +1,5 @@
 -- What the steps of a script and the drain behind them write in a world.
-use Rattle.std.proofs.Common.{◌≡◌, ◌∙◌, ◌≤◌, ◌<◌, ◌+◌, ◌++◌, List, length, Option, Some, None, IfSome, sym, ap, subst, inl, inr, true≢false, arith}
+use Rattle.std.proofs.Common.{◌≡◌, ◌∙◌, ◌≤◌, ◌+◌, List, length, Option, Some, None, IfSome, sym, ap, subst, inl, inr, true≢false, arith}
 use Rattle.std.specs.Option.{is_some}
 use Rattle.mw_types.specs.declared.entry.Entry.{Entry}
 use Rattle.std.proofs.lemmas.List.{length-append}

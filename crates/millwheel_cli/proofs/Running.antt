@@ -1,5 +1,5 @@
 -- What a book that was worked off leaves, as a run.
-use Rattle.std.proofs.Common.{◌≡◌, ◌∙◌, ◌⊎◌, ◌≤◌, ◌<◌, ◌+◌, ◌++◌, ℕ, true, false, List, [], ◌∷◌, length, Option, Some, None, IfSome, refl, sym, ap, subst, inl, inr, true≢false, arith}
+use Rattle.std.proofs.Common.{◌≡◌, ◌∙◌, ◌≤◌, ◌<◌, ◌+◌, ◌++◌, ℕ, List, [], ◌∷◌, length, Option, Some, None, IfSome, refl, sym, ap, subst, inl, inr, true≢false, arith}
 use Rattle.std.specs.Option.{is_some}
 use Rattle.std.proofs.lemmas.List.{append-nil, length-append}
 use Rattle.mw_types.specs.declared.entry.Entry.{Entry}
@@ -19,6 +19,7 @@ use Rattle.book.specs.OwnDesks.{own_view, telling}
 use Rattle.node.specs.Answers.{refusal_of}
 use Rattle.node.specs.declared.outcome.NodeFault.{NodeFault}
 use Rattle.node.specs.declared.outcome.NodeFault.TheVariants as faults
+use Rattle.scripts.specs.declared.step.Step.{Step}
 use Rattle.drains.specs.Drains.{HasInjected, IsDrained, IsDraining}
 use Rattle.world.specs.Replays.{GoesOn, IsReplayed, IsWholeReplay}
 use Rattle.scripts.specs.Acts.{scripted_history}
@@ -26,7 +27,10 @@ use Rattle.history_laws.specs.Writes.{IsLegalAndFenced}
 use Rattle.run_history.specs.Fences.{Begins}
 use Rattle.topology.specs.Rules.{IsTopology, interval_count}
 use Rattle.millwheel_cli.specs.declared.task.Task.{Task}
-use Rattle.millwheel_cli.specs.Answers.{Left, IsKeptRun, IsRun, IsShortOf, IsWholeRun}
+use Rattle.millwheel_cli.specs.declared.task.Before.{Before}
+use Rattle.millwheel_cli.specs.declared.task.Before.TheVariants.{Steps, Rounds}
+use Rattle.millwheel_cli.specs.Histories.{GoesAs, IsAllOf, IsReadAfter, IsShortOf, IsShortOfReplay}
+use Rattle.millwheel_cli.specs.Answers.{Left, IsKeptRun, IsRun, IsWholeRun}
 
 -- the rows of an empty history are none
 none_stored : (case : CaseShape) (history : List Entry) (rows : Rows) → history ≡ [] → HoldsRowsOf case history rows → rows ≡ []
@@ -55,42 +59,62 @@ seen_again None (Some rows) tells f a p = absurd (true≢false tells)
 seen_again (Some held) (Some rows) tells f a p = f rows a p
 
 -- rows that a book has are those of a run
-kept_run : (task : Task) (history : List Entry) (rows : Rows) → IsReplayed task.case task.steps history
+kept_run : (task : Task) (history : List Entry) (rows : Rows) → GoesAs task.case task.before history
     → HoldsRowsOf task.case history rows → IsKeptRun task history rows
-kept_run task history rows replayed held = record { legal = held.legal; replayed = replayed; stored = held.stored }
+kept_run task history rows goes held = record { legal = held.legal; goes = goes; stored = held.stored }
+
+-- what is so where rows were seen is so where they are seen
+pub seen_on : (A : Type 0) (old new : Option Rows) → is_some new ≡ is_some old → IfSome old (λ _. A) → IfSome new (λ _. A)
+seen_on A old None tells is = tt
+seen_on A None (Some rows) tells is = absurd (true≢false tells)
+seen_on A (Some held) (Some rows) tells is = is
+
+-- a book that goes as its task does has a run, where the keeper had no rows before
+pub run_of_history : (task : Task) (began : Option Rows) (new : BookView) (text : Option (List ℕ) × Option (List ℕ))
+    → IfSome began (λ rows. rows ≡ []) → new.case ≡ task.case → IsLawful new.case (core_of new)
+    → IfSome new.rows (λ _. GoesAs task.case task.before new.history)
+    → IsRun task (record { rows = (began, new.rows); text = text; history = new.history })
+run_of_history task began new text empty same after goes =
+    let lawful : IsLawful task.case (core_of new) = subst (λ c. IsLawful c (core_of new)) same after in
+    record {
+      began_empty = empty;
+      fenced = lawful.fenced;
+      kept = seen_again new.rows new.rows refl (λ rows g h. kept_run task new.history rows g h) goes lawful.held;
+    }
 
 -- a book that began with nothing and went on as the steps and a drain do has a run
 pub run_of_book : (task : Task) (old new : BookView) (text : Option (List ℕ) × Option (List ℕ))
     → old.case ≡ task.case → new.case ≡ old.case → IsLawful old.case (core_of old) → IsLawful new.case (core_of new) → old.history ≡ []
-    → is_some new.rows ≡ is_some old.rows → IfSome old.rows (λ _. IsReplayed task.case task.steps new.history)
+    → is_some new.rows ≡ is_some old.rows → IfSome old.rows (λ _. GoesAs task.case task.before new.history)
     → IsRun task (record { rows = (old.rows, new.rows); text = text; history = new.history })
-run_of_book task old new text mine same before after empty tells replayed =
-    let lawful : IsLawful task.case (core_of new) = subst (λ c. IsLawful c (core_of new)) (same ∙ mine) after in
-    record {
-      began_empty = none_kept old.case old.history old.rows empty before.held;
-      fenced = lawful.fenced;
-      kept = seen_again old.rows new.rows tells (λ rows r h. kept_run task new.history rows r h) replayed lawful.held;
-    }
+run_of_book task old new text mine same before after empty tells goes =
+    run_of_history task old.rows new text (none_kept old.case old.history old.rows empty before.held) (same ∙ mine) after
+    (seen_on (GoesAs task.case task.before new.history) old.rows new.rows tells goes)
+
+-- a whole history has come to the end of its drain
+whole_injected : (case : CaseShape) (before : Before) (history : List Entry) → IsAllOf case before history
+    → (from : ℕ) × HasInjected case from history
+whole_injected case (Steps steps) history whole = (length (scripted_history case steps), whole.drained.ended.earlier)
+whole_injected case (Rounds workers rounds actions) history whole = (length whole.front, whole.drained.ended.earlier)
 
 -- a run that went to the drain's end is a whole one
 pub whole_run : (task : Task) (old : Option Rows) (left : Left) → IsRun task left → IsRunnable task.case
     → ((c : CaseShape) (n : ℕ) (h : List Entry) → IsRunnable c → IsLegal c h → HasInjected c n h → IsFinished c (run_of c.topology h))
-    → is_some left.rows.1 ≡ is_some old → IfSome old (λ _. IsWholeReplay task.case task.steps left.history) → IsWholeRun task left
+    → is_some left.rows.1 ≡ is_some old → IfSome old (λ _. IsAllOf task.case task.before left.history) → IsWholeRun task left
 whole_run task old left run runnable law tells whole = record {
   run = run;
   whole = seen_again old left.rows.1 tells (λ rows w k. w) whole run.kept;
   finished = seen_again old left.rows.1 tells
-      (λ rows w k. law task.case _ left.history runnable k.legal w.drained.ended.earlier) whole run.kept;
+      (λ rows w k. let at = whole_injected task.case task.before left.history w in
+      law task.case at.0 left.history runnable k.legal at.1) whole run.kept;
 }
 
 -- a run that is not the whole is not, where rows are seen after
 pub more_seen : (A : Type 0) (old new : Option Rows) → is_some new ≡ is_some old → IfSome old (λ _. A → ⊥) → IfSome new (λ _. A → ⊥)
-more_seen A old None tells more = tt
-more_seen A None (Some rows) tells more = absurd (true≢false tells)
-more_seen A (Some held) (Some rows) tells more = more
+more_seen A old new tells more = seen_on (A → ⊥) old new tells more
 
 -- a history that is drained so far, and is not the whole, is shorter than the whole
-shorter : (case : CaseShape) (front history whole : List Entry)
+pub shorter : (case : CaseShape) (front history whole : List Entry)
     → ((c : CaseShape) (f one all : List Entry) → IsDraining c (length f) (f ++ one) → IsLegalAndFenced c (f ++ one)
     → IsDrained c (length f) (f ++ all) → IsLegalAndFenced c (f ++ all) → Begins (f ++ one) (f ++ all))
     → GoesOn case front history → IsLegalAndFenced case history → Begins front whole → IsDrained case (length front) whole
@@ -106,41 +130,47 @@ shorter case front history whole law goes mine begins drained other apart =
     by_rest [] is = absurd (apart (is ∙ append-nil history))
     by_rest (e ∷ es) is = omega (arith, ap length is, length-append history (e ∷ es))
 
--- a replay that is not the whole is shorter than each whole
-pub short_of : (task : Task) (history : List Entry) → IsTopology task.case.topology
+-- a replay that is not the whole has more to come
+pub short_of : (case : CaseShape) (steps : List Step) (history : List Entry) → IsTopology case.topology
     → ((c : CaseShape) (f one all : List Entry) → IsDraining c (length f) (f ++ one) → IsLegalAndFenced c (f ++ one)
     → IsDrained c (length f) (f ++ all) → IsLegalAndFenced c (f ++ all) → Begins (f ++ one) (f ++ all))
-    → IsReplayed task.case task.steps history → IsLegalAndFenced task.case history
-    → (IsWholeReplay task.case task.steps history → ⊥) → IsShortOf task history
-short_of task history rules law replayed mine more = λ whole is other. elim replayed [
-  | inl begins ↦ let claimed : length (scripted_history task.case task.steps) + interval_count task.case.topology ≤ length whole =
-      is.drained.ended.earlier.earlier.earlier.claimed in
-      omega (arith, ap length begins.1, length-append history begins.0, claimed, rules.some_injector)
-  | inr goes ↦ shorter task.case (scripted_history task.case task.steps) history whole law goes mine is.begins is.drained other
-      (λ same. more (subst (IsWholeReplay task.case task.steps) same is))
-]
+    → IsReplayed case steps history → IsLegalAndFenced case history
+    → (IsWholeReplay case steps history → ⊥) → IsShortOfReplay case steps history
+short_of case steps history rules law replayed mine more = record {
+  more = more;
+  longer = λ whole is other. elim replayed [
+    | inl begins ↦ let claimed : length (scripted_history case steps) + interval_count case.topology ≤ length whole =
+        is.drained.ended.earlier.earlier.earlier.claimed in
+        omega (arith, ap length begins.1, length-append history begins.0, claimed, rules.some_injector)
+    | inr goes ↦ shorter case (scripted_history case steps) history whole law goes mine is.begins is.drained other
+        (λ same. more (subst (IsWholeReplay case steps) same is))
+  ];
+}
 
 -- so it is of a run, where rows are seen
-pub run_short : (task : Task) (left : Left) → IsRun task left → IsTopology task.case.topology
+pub run_short : (task : Task) (left : Left) (steps : List Step) → task.before ≡ Steps steps → IsRun task left
+    → IsTopology task.case.topology
     → ((c : CaseShape) (f one all : List Entry) → IsDraining c (length f) (f ++ one) → IsLegalAndFenced c (f ++ one)
     → IsDrained c (length f) (f ++ all) → IsLegalAndFenced c (f ++ all) → Begins (f ++ one) (f ++ all))
-    → IfSome left.rows.1 (λ _. IsWholeReplay task.case task.steps left.history → ⊥)
-    → IfSome left.rows.1 (λ _. IsShortOf task left.history)
-run_short task left run rules law more = by_rows left.rows.1 run.kept more
+    → IfSome left.rows.1 (λ _. IsWholeReplay task.case steps left.history → ⊥)
+    → IfSome left.rows.1 (λ _. IsShortOf task.case task.before left.history)
+run_short task left steps same run rules law more = by_rows left.rows.1 run.kept more
   where
     by_rows : (rows : Option Rows) → IfSome rows (IsKeptRun task left.history)
-        → IfSome rows (λ _. IsWholeReplay task.case task.steps left.history → ⊥) → IfSome rows (λ _. IsShortOf task left.history)
+        → IfSome rows (λ _. IsWholeReplay task.case steps left.history → ⊥)
+        → IfSome rows (λ _. IsShortOf task.case task.before left.history)
     by_rows None kept unended = tt
-    by_rows (Some rows) kept unended =
-        short_of task left.history rules law kept.replayed (record { legal = kept.legal; fenced = run.fenced }) unended
+    by_rows (Some rows) kept unended = subst (λ (b : Before). IsShortOf task.case b left.history) (sym same)
+        (short_of task.case steps left.history rules law (subst (λ (b : Before). GoesAs task.case b left.history) same kept.goes)
+        (record { legal = kept.legal; fenced = run.fenced }) unended)
 
 -- what a desk does not tell a contract does not see
-untold_of : {X : Type 0} (told : Option X) → IfSome (telling told) (λ _. ⊥) → IfSome told (λ _. ⊥)
+pub untold_of : {X : Type 0} (told : Option X) → IfSome (telling told) (λ _. ⊥) → IfSome told (λ _. ⊥)
 untold_of None is = tt
 untold_of (Some x) is = is
 
 -- a row at which a drain stopped is damaged
-pub damaged_of : (book : BookView) (case : CaseShape) (fault : NodeFault) (name : RowName) (bytes : List ℕ) → book.case ≡ case
+damaged_of : (book : BookView) (case : CaseShape) (fault : NodeFault) (name : RowName) (bytes : List ℕ) → book.case ≡ case
     → IsDamageOf (own_view book) (refusal_of fault) → fault ≡ faults.RowDamaged name bytes
     → IsDamagedRow case book.rows (length book.history) name bytes
 damaged_of book case fault name bytes same is named =
@@ -148,3 +178,15 @@ damaged_of book case fault name bytes same is named =
     subst (λ f. IsDamageOf (own_view book) (refusal_of f)) named is in
     subst (λ c. IsDamagedRow c book.rows (length book.history) name bytes) same
     (record { no_row = at.no_row; untold = untold_of book.rows at.untold })
+
+-- a row that was read when the history had all its entries
+read_last : (before : Before) (history : List Entry) → IsReadAfter before (length history) history
+read_last (Steps steps) history = refl
+read_last (Rounds workers rounds actions) history = omega (arith)
+
+-- so it is said of the history that is left
+pub damaged_at : (task : Task) (book : BookView) (fault : NodeFault) (name : RowName) (bytes : List ℕ) → book.case ≡ task.case
+    → IsDamageOf (own_view book) (refusal_of fault) → fault ≡ faults.RowDamaged name bytes
+    → (count : ℕ) × IsReadAfter task.before count book.history × IsDamagedRow task.case book.rows count name bytes
+damaged_at task book fault name bytes same is named =
+    (length book.history, read_last task.before book.history, damaged_of book task.case fault name bytes same is named)

@@ -6,24 +6,23 @@ use Rattle.mw_types.specs.Causes.{Rose}
 use Rattle.mw_types.specs.declared.identity.RowName.{RowName}
 use Rattle.command_line.specs.declared.command.Inputs.{Inputs}
 use Rattle.command_line.specs.declared.command.Call.{Call}
-use Rattle.command_line.specs.declared.command.Call.TheVariants.{Solo, Replay, Plain, Load}
+use Rattle.command_line.specs.declared.command.Call.TheVariants.{Solo, Replay, Run, Plain, Load}
 use Rattle.command_line.specs.declared.command.Command.{Command}
 use Rattle.mw_ports.specs.Shelves.{Files}
 use Rattle.row_keeper.specs.Rows.{Rows}
 use Rattle.injector.specs.Sources.{Source}
 use Rattle.topology.specs.Shapes.{Shape}
-use Rattle.scripts.specs.declared.step.Step.{Step}
 use Rattle.json_reading.specs.Refusals.{and_then}
+use Rattle.millwheel_cli.specs.declared.task.Before.{Before}
 use Rattle.millwheel_cli.specs.declared.task.Task.{Task}
 use Rattle.millwheel_cli.specs.declared.status.Status.{Status}
 use Rattle.millwheel_cli.specs.declared.status.Status.TheVariants.{Usage, NoFile, TopologyRefused, EventsRefused, PlanRefused, KeeperFault, SinkFault, NoMemory, NotEmpty, HistoryFull, RowDamaged, ReadFault, TooLong, FileCount}
 use Rattle.millwheel_cli.specs.declared.status.Status.TheVariants as status
 use Rattle.millwheel_cli.specs.Limits.{topology_limit, plan_limit, events_limit, lines_limit}
-use Rattle.command_line.specs.Grammar.{command_of}
 use Rattle.millwheel_cli.specs.Files.{HoldsAs, HoldsSources, topology_taken, source_taken}
 use Rattle.millwheel_cli.specs.Loads.{load_text}
-use Rattle.millwheel_cli.specs.Tasks.{plan_taken, HoldsPlan, IsInputsTask, IsLoadTask, IsTask}
-use Rattle.millwheel_cli.specs.Reasons.{ShelfSeen, IsUnread, IsFileRefused, IsPlanRefused, IsSourceRefused, IsRefused, IsCallRefused, IsCommandRefused, HasReason, file_within, file_as, source_before, sources_taken, steps_taken, inputs_taken, load_taken, ended, ran_over, answer_for, answer_of, plain_for, IsAnswer, AsksPlain, IsPlainAnswer}
+use Rattle.millwheel_cli.specs.Tasks.{rounds_taken, steps_taken, HoldsBefore, IsInputsTask, IsLoadTask, IsTask}
+use Rattle.millwheel_cli.specs.Reasons.{ShelfSeen, IsUnread, IsFileRefused, IsPlanRefused, IsSourceRefused, IsRefused, IsCallRefused, IsCommandRefused, HasReason, file_within, file_as, source_before, sources_taken, before_taken, inputs_taken, load_taken, ended, ran_over, answer_for, answer_of, plain_for, IsAnswer, AsksPlain, IsPlainAnswer}
 use Rattle.millwheel_cli.specs.Answers.{Left, IsFull, IsDamagedAt, RunLeaves, CountLeaves, CallLeaves, HasRun, HasLeft}
 
 -- what is said of something where it is told is said of it
@@ -128,53 +127,65 @@ source_refused_as seen held file room (name ∷ names) s told well is = elim is 
 ]
 
 -- what comes behind the topology, and behind the plan
-abbrev behind_topology : Files → Option (List ℕ) → Inputs → Result Shape Status → Result (List Source) Status
-behind_topology held plan inputs found = and_then found (λ shape.
-    and_then (steps_taken held plan shape) (λ steps. sources_taken held 0 lines_limit inputs.events))
+abbrev behind_topology : Files → Call → Inputs → Result Shape Status → Result (List Source) Status
+behind_topology held call inputs found = and_then found (λ shape.
+    and_then (before_taken held call shape) (λ before. sources_taken held 0 lines_limit inputs.events))
 
 -- so behind the plan
-abbrev behind_plan : Files → Inputs → Result (List Step) Status → Result (List Source) Status
-behind_plan held inputs found = and_then found (λ steps. sources_taken held 0 lines_limit inputs.events)
+abbrev behind_plan : Files → Inputs → Result Before Status → Result (List Source) Status
+behind_plan held inputs found = and_then found (λ before. sources_taken held 0 lines_limit inputs.events)
 
 -- a plan that was read is taken so
-steps_read : (files : Option Files) (held : Files) (plan : Option (List ℕ)) (shape : Shape) (steps : List Step) → files ≡ Some held
-    → HoldsPlan files plan shape steps → steps_taken held plan shape ≡ Ok steps
-steps_read files held None shape steps told is = ap Ok (sym is)
-steps_read files held (Some name) shape steps told is = held_as files held name plan_limit (plan_taken shape) (Ok steps) told is
+before_read : (files : Option Files) (held : Files) (call : Call) (shape : Shape) (before : Before) → files ≡ Some held
+    → HoldsBefore files call shape before → before_taken held call shape ≡ Ok before
+before_read files held (Solo inputs) shape before told is = ap Ok (sym is)
+before_read files held (Replay plan inputs) shape before told is =
+    held_as files held plan plan_limit (steps_taken shape) (Ok before) told is
+before_read files held (Run workers rounds None inputs) shape before told is = ap Ok (sym is)
+before_read files held (Run workers rounds (Some plan) inputs) shape before told is =
+    held_as files held plan plan_limit (rounds_taken shape workers rounds) (Ok before) told is
+before_read files held (Plain inputs) shape before told is = ap Ok (sym is)
+before_read files held (Load seed lines) shape before told is = ap Ok (sym is)
 
 -- a plan that is refused is refused so
-steps_refused : (seen : ShelfSeen) (held : Files) (plan : Option (List ℕ)) (shape : Shape) (s : Status) → seen.files ≡ Some held
-    → (Rose seen.faults.0 seen.faults.1 → ⊥) → IsPlanRefused seen plan shape s → steps_taken held plan shape ≡ Err s
-steps_refused seen held None shape s told well is = absurd is
-steps_refused seen held (Some name) shape s told well is = refused_as seen held name plan_limit (plan_taken shape) s told well is
+before_refused : (seen : ShelfSeen) (held : Files) (call : Call) (shape : Shape) (s : Status) → seen.files ≡ Some held
+    → (Rose seen.faults.0 seen.faults.1 → ⊥) → IsPlanRefused seen call shape s → before_taken held call shape ≡ Err s
+before_refused seen held (Solo inputs) shape s told well is = absurd is
+before_refused seen held (Replay plan inputs) shape s told well is =
+    refused_as seen held plan plan_limit (steps_taken shape) s told well is
+before_refused seen held (Run workers rounds None inputs) shape s told well is = absurd is
+before_refused seen held (Run workers rounds (Some plan) inputs) shape s told well is =
+    refused_as seen held plan plan_limit (rounds_taken shape workers rounds) s told well is
+before_refused seen held (Plain inputs) shape s told well is = absurd is
+before_refused seen held (Load seed lines) shape s told well is = absurd is
 
 -- files of which one is refused are refused so
-inputs_refused : (seen : ShelfSeen) (held : Files) (plan : Option (List ℕ)) (inputs : Inputs) (s : Status)
-    → seen.files ≡ Some held → (Rose seen.faults.0 seen.faults.1 → ⊥) → IsRefused seen plan inputs s
-    → inputs_taken held plan inputs ≡ Err s
-inputs_refused seen held plan inputs s told well is =
+inputs_refused : (seen : ShelfSeen) (held : Files) (call : Call) (inputs : Inputs) (s : Status)
+    → seen.files ≡ Some held → (Rose seen.faults.0 seen.faults.1 → ⊥) → IsRefused seen call inputs s
+    → inputs_taken held call inputs ≡ Err s
+inputs_refused seen held call inputs s told well is =
     let count = length inputs.events in
     elim is [
-      | inl topology ↦ ap (behind_topology held plan inputs)
-          (refused_as seen held inputs.topology topology_limit (topology_taken count) s told well topology)
-      | inr later ↦ elim later [
-        | inl planned ↦ ap (behind_topology held plan inputs)
+      | inl first ↦ elim first [
+        | inl topology ↦ ap (behind_topology held call inputs)
+            (refused_as seen held inputs.topology topology_limit (topology_taken count) s told well topology)
+        | inr planned ↦ ap (behind_topology held call inputs)
             (held_as seen.files held inputs.topology topology_limit (topology_taken count) _ told planned.topology_read)
-            ∙ ap (behind_plan held inputs) (steps_refused seen held plan planned.shape s told well planned.refused)
-        | inr events ↦ ap (behind_topology held plan inputs)
-            (held_as seen.files held inputs.topology topology_limit (topology_taken count) _ told events.topology_read)
-            ∙ ap (behind_plan held inputs) (steps_read seen.files held plan events.shape events.steps told events.plan_read)
-            ∙ source_refused_as seen held 0 lines_limit inputs.events s told well events.refused
+            ∙ ap (behind_plan held inputs) (before_refused seen held call planned.shape s told well planned.refused)
       ]
+      | inr events ↦ ap (behind_topology held call inputs)
+          (held_as seen.files held inputs.topology topology_limit (topology_taken count) _ told events.topology_read)
+          ∙ ap (behind_plan held inputs) (before_read seen.files held call events.shape events.before told events.plan_read)
+          ∙ source_refused_as seen held 0 lines_limit inputs.events s told well events.refused
     ]
 
 -- files that were read are taken so
-inputs_read : (files : Option Files) (held : Files) (plan : Option (List ℕ)) (inputs : Inputs) (task : Task) → files ≡ Some held
-    → IsInputsTask files plan inputs task → inputs_taken held plan inputs ≡ Ok task.case.sources
-inputs_read files held plan inputs task told is =
-    ap (behind_topology held plan inputs)
+inputs_read : (files : Option Files) (held : Files) (call : Call) (inputs : Inputs) (task : Task) → files ≡ Some held
+    → IsInputsTask files call inputs task → inputs_taken held call inputs ≡ Ok task.case.sources
+inputs_read files held call inputs task told is =
+    ap (behind_topology held call inputs)
     (held_as files held inputs.topology topology_limit (topology_taken (length inputs.events)) _ told is.topology_read)
-    ∙ ap (behind_plan held inputs) (steps_read files held plan task.case.topology task.steps told is.plan_read)
+    ∙ ap (behind_plan held inputs) (before_read files held call task.case.topology task.before told is.plan_read)
     ∙ sources_as files held 0 lines_limit inputs.events task.case.sources told is.events_read
 
 -- what load runs is taken so
@@ -183,29 +194,32 @@ load_read seed lines task is =
     ap (λ (found : Result Shape Status). and_then found (λ shape. source_taken 0 lines_limit (load_text seed lines)))
     is.made.topology_read ∙ is.made.events_read
 
--- the answer to words that are a command is that for its call
-answer_of-named : (held : Files) (rows : Rows) (words : List (List ℕ)) (command : Command) → command_of words ≡ Some command
-    → answer_of held rows words ≡ answer_for held rows command.call
-answer_of-named held rows words command named =
+-- the answer to a command is that for its call
+answer_of-named : (held : Files) (rows : Rows) (asked : Option Command) (command : Command) → asked ≡ Some command
+    → answer_of held rows asked ≡ answer_for held rows command.call
+answer_of-named held rows asked command named =
     ap (λ (c : Option Command). option_map_or (λ (k : Command). answer_for held rows k.call) c Usage) named
 
 -- a refused call is answered so
 call_refused : (seen : ShelfSeen) (held : Files) (rows : Rows) (call : Call) (s : Status)
     → seen.files ≡ Some held → (Rose seen.faults.0 seen.faults.1 → ⊥) → IsCallRefused seen call s → answer_for held rows call ≡ s
 call_refused seen held rows (Solo inputs) s told well is =
-    ap (λ (found : Result (List Source) Status). ended found (ran_over rows)) (inputs_refused seen held None inputs s told well is)
+    ap (λ (found : Result (List Source) Status). ended found (ran_over rows)) (inputs_refused seen held (Solo inputs) inputs s told well is)
 call_refused seen held rows (Replay plan inputs) s told well is =
-    ap (λ (found : Result (List Source) Status). ended found (ran_over rows)) (inputs_refused seen held (Some plan) inputs s told well is)
+    ap (λ (found : Result (List Source) Status). ended found (ran_over rows)) (inputs_refused seen held (Replay plan inputs) inputs s told well is)
+call_refused seen held rows (Run workers rounds plan inputs) s told well is =
+    ap (λ (found : Result (List Source) Status). ended found (ran_over rows))
+    (inputs_refused seen held (Run workers rounds plan inputs) inputs s told well is)
 call_refused seen held rows (Plain inputs) s told well is =
-    ap (λ (found : Result (List Source) Status). ended found status.Ok) (inputs_refused seen held None inputs s told well is)
+    ap (λ (found : Result (List Source) Status). ended found status.Ok) (inputs_refused seen held (Plain inputs) inputs s told well is)
 call_refused seen held rows (Load seed lines) s told well is =
     ap (λ (found : Result Source Status). ended found (ran_over rows)) is
 
--- so are the words
-answer_refused : (seen : ShelfSeen) (words : List (List ℕ)) (held : Files) (rows : Rows) (s : Status)
-    → seen.files ≡ Some held → (Rose seen.faults.0 seen.faults.1 → ⊥) → IsCommandRefused seen words s → s ≡ answer_of held rows words
-answer_refused seen words held rows s told well is =
-    sym (answer_of-named held rows words is.command is.named ∙ call_refused seen held rows is.command.call s told well is.why)
+-- so is the command
+answer_refused : (seen : ShelfSeen) (asked : Option Command) (held : Files) (rows : Rows) (s : Status)
+    → seen.files ≡ Some held → (Rose seen.faults.0 seen.faults.1 → ⊥) → IsCommandRefused seen asked s → s ≡ answer_of held rows asked
+answer_refused seen asked held rows s told well is =
+    sym (answer_of-named held rows asked is.command is.named ∙ call_refused seen held rows is.command.call s told well is.why)
 
 -- a run comes to its end over a keeper without rows
 ran_over-empty : (found : Option Rows) (rows : Rows) → found ≡ Some rows → IfSome found (λ rs. rs ≡ []) → ran_over rows ≡ status.Ok
@@ -227,26 +241,29 @@ call_read : (files : Option Files) (held : Files) (rows : Rows) (call : Call) (t
     → files ≡ Some held → IsTask files call task → (RunLeaves task left s → ran_over rows ≡ s) → (CountLeaves task.case left s → status.Ok ≡ s)
     → CallLeaves call task left s → answer_for held rows call ≡ s
 call_read files held rows (Solo inputs) task left s told is ran counted leaves =
-    ended_read _ _ (ran_over rows) (inputs_read files held None inputs task told is) ∙ ran leaves
+    ended_read _ _ (ran_over rows) (inputs_read files held (Solo inputs) inputs task told is) ∙ ran leaves
 call_read files held rows (Replay plan inputs) task left s told is ran counted leaves =
-    ended_read _ _ (ran_over rows) (inputs_read files held (Some plan) inputs task told is) ∙ ran leaves
+    ended_read _ _ (ran_over rows) (inputs_read files held (Replay plan inputs) inputs task told is) ∙ ran leaves
+call_read files held rows (Run workers rounds plan inputs) task left s told is ran counted leaves =
+    ended_read _ _ (ran_over rows) (inputs_read files held (Run workers rounds plan inputs) inputs task told is) ∙ ran leaves
 call_read files held rows (Plain inputs) task left s told is ran counted leaves =
-    ended_read _ _ status.Ok (inputs_read files held None inputs task told is) ∙ counted leaves
+    ended_read _ _ status.Ok (inputs_read files held (Plain inputs) inputs task told is) ∙ counted leaves
 call_read files held rows (Load seed lines) task left s told is ran counted leaves =
     ended_read _ _ (ran_over rows) (load_read seed lines task is) ∙ ran leaves
 
--- so it is of the words
-answer_read : (files : Option Files) (words : List (List ℕ)) (held : Files) (rows : Rows) (left : Left) (s : Status)
-    → files ≡ Some held → (is : HasRun files words left s) → (RunLeaves is.task left s → ran_over rows ≡ s)
-    → (CountLeaves is.task.case left s → status.Ok ≡ s) → answer_of held rows words ≡ s
-answer_read files words held rows left s told is ran counted =
-    answer_of-named held rows words is.command is.named
-    ∙ call_read files held rows is.command.call is.task left s told is.asked ran counted is.leaves
+-- so it is of the command
+answer_read : (files : Option Files) (asked : Option Command) (held : Files) (rows : Rows) (left : Left) (s : Status)
+    → files ≡ Some held → (is : HasRun files asked left s) → (RunLeaves is.task left s → ran_over rows ≡ s)
+    → (CountLeaves is.task.case left s → status.Ok ≡ s) → answer_of held rows asked ≡ s
+answer_read files asked held rows left s told is ran counted =
+    answer_of-named held rows asked is.command is.named
+    ∙ call_read files held rows is.command.call is.task left s told is.is_task ran counted is.leaves
 
 -- what only a run leaves is left by one, and the history is as full as one may be
 full_left : (call : Call) (task : Task) (left : Left) → CallLeaves call task left HistoryFull → IsFull task left
 full_left (Solo inputs) task left leaves = leaves
 full_left (Replay plan inputs) task left leaves = leaves
+full_left (Run workers rounds plan inputs) task left leaves = leaves
 full_left (Plain inputs) task left leaves = absurd leaves
 full_left (Load seed lines) task left leaves = leaves
 
@@ -255,139 +272,142 @@ damaged_left : (call : Call) (task : Task) (left : Left) (name : RowName) (bytes
     → CallLeaves call task left (RowDamaged name bytes) → IsDamagedAt task left name bytes
 damaged_left (Solo inputs) task left name bytes leaves = leaves
 damaged_left (Replay plan inputs) task left name bytes leaves = leaves
+damaged_left (Run workers rounds plan inputs) task left name bytes leaves = leaves
 damaged_left (Plain inputs) task left name bytes leaves = absurd leaves
 damaged_left (Load seed lines) task left name bytes leaves = leaves
 
 -- a full history is one of files that were read, over a keeper without rows
-full_answer : (files : Option Files) (words : List (List ℕ)) (held : Files) (rows : Rows) (left : Left) → files ≡ Some held
-    → left.rows.0 ≡ Some rows → HasRun files words left HistoryFull → answer_of held rows words ≡ status.Ok
-full_answer files words held rows left told seen_rows is =
-    answer_of-named held rows words is.command is.named
-    ∙ by_call is.command.call is.asked is.leaves
+full_answer : (files : Option Files) (asked : Option Command) (held : Files) (rows : Rows) (left : Left) → files ≡ Some held
+    → left.rows.0 ≡ Some rows → HasRun files asked left HistoryFull → answer_of held rows asked ≡ status.Ok
+full_answer files asked held rows left told seen_rows is =
+    answer_of-named held rows asked is.command is.named
+    ∙ by_call is.command.call is.is_task is.leaves
   where
     empty : IsFull is.task left → ran_over rows ≡ status.Ok
     empty leaves = ran_over-empty left.rows.0 rows seen_rows leaves.stopped.run.began_empty
 
     by_call : (call : Call) → IsTask files call is.task → CallLeaves call is.task left HistoryFull → answer_for held rows call ≡ status.Ok
-    by_call (Solo inputs) asked leaves =
-        ended_read _ _ (ran_over rows) (inputs_read files held None inputs is.task told asked) ∙ empty leaves
-    by_call (Replay plan inputs) asked leaves =
-        ended_read _ _ (ran_over rows) (inputs_read files held (Some plan) inputs is.task told asked) ∙ empty leaves
-    by_call (Plain inputs) asked leaves = absurd leaves
-    by_call (Load seed lines) asked leaves =
-        ended_read _ _ (ran_over rows) (load_read seed lines is.task asked) ∙ empty leaves
+    by_call (Solo inputs) made leaves =
+        ended_read _ _ (ran_over rows) (inputs_read files held (Solo inputs) inputs is.task told made) ∙ empty leaves
+    by_call (Replay plan inputs) made leaves =
+        ended_read _ _ (ran_over rows) (inputs_read files held (Replay plan inputs) inputs is.task told made) ∙ empty leaves
+    by_call (Run workers rounds plan inputs) made leaves =
+        ended_read _ _ (ran_over rows) (inputs_read files held (Run workers rounds plan inputs) inputs is.task told made) ∙ empty leaves
+    by_call (Plain inputs) made leaves = absurd leaves
+    by_call (Load seed lines) made leaves =
+        ended_read _ _ (ran_over rows) (load_read seed lines is.task made) ∙ empty leaves
 
 -- where the keeper's rows were seen before they are seen after
 still_told : (old new : Option Rows) (rows : Rows) → old ≡ Some rows → is_some new ≡ is_some old → IfSome new (λ _. ⊥) → ⊥
 still_told old None rows told tells untold = true≢false (sym (tells ∙ ap is_some told))
 still_told old (Some held) rows told tells untold = untold
 
--- words that ask for nothing are answered with Usage
-pub answer_usage : (words : List (List ℕ)) (held : Files) (rows : Rows) → command_of words ≡ None → Usage ≡ answer_of held rows words
-answer_usage words held rows none = sym (ap (λ (c : Option Command). option_map_or (λ (k : Command). answer_for held rows k.call) c Usage) none)
+-- where no command is asked for the answer is Usage
+pub answer_usage : (asked : Option Command) (held : Files) (rows : Rows) → asked ≡ None → Usage ≡ answer_of held rows asked
+answer_usage asked held rows none = sym (ap (λ (c : Option Command). option_map_or (λ (k : Command). answer_for held rows k.call) c Usage) none)
 
 -- over files and rows that a contract can see, where nothing failed, the answer is theirs, or memory ran out, or the history is full
-pub told_answer : (seen : ShelfSeen) (words : List (List ℕ)) (left : Left) (k0 k1 f0 f1 : ℕ) (held : Files) (rows : Rows) (s : Status)
-    → HasReason seen words s → HasLeft seen.files words left s → (s ≡ KeeperFault → Rose k0 k1) → (s ≡ SinkFault → Rose f0 f1)
+pub told_answer : (seen : ShelfSeen) (asked : Option Command) (left : Left) (k0 k1 f0 f1 : ℕ) (held : Files) (rows : Rows) (s : Status)
+    → HasReason seen asked s → HasLeft seen.files asked left s → (s ≡ KeeperFault → Rose k0 k1) → (s ≡ SinkFault → Rose f0 f1)
     → is_some left.rows.1 ≡ is_some left.rows.0 → seen.files ≡ Some held → left.rows.0 ≡ Some rows
-    → (Rose seen.faults.0 seen.faults.1 → ⊥) → (Rose k0 k1 → ⊥) → (Rose f0 f1 → ⊥) → IsAnswer held rows words left.history s
-told_answer seen words left k0 k1 f0 f1 held rows status.Ok why is keeper sink tells told seen_rows well kept written =
-    sym (answer_read seen.files words held rows left _ told is
+    → (Rose seen.faults.0 seen.faults.1 → ⊥) → (Rose k0 k1 → ⊥) → (Rose f0 f1 → ⊥) → IsAnswer held rows asked left.history s
+told_answer seen asked left k0 k1 f0 f1 held rows status.Ok why is keeper sink tells told seen_rows well kept written =
+    sym (answer_read seen.files asked held rows left _ told is
     (λ leaves. ran_over-empty left.rows.0 rows seen_rows leaves.run.run.began_empty) (λ leaves. refl))
-told_answer seen words left k0 k1 f0 f1 held rows Usage why is keeper sink tells told seen_rows well kept written = answer_usage
-    words held rows why
-told_answer seen words left k0 k1 f0 f1 held rows (NoFile name) why is keeper sink tells told seen_rows well kept written =
-    answer_refused seen words held rows _ told well why
-told_answer seen words left k0 k1 f0 f1 held rows (TopologyRefused r) why is keeper sink tells told seen_rows well kept written =
-    answer_refused seen words held rows _ told well why
-told_answer seen words left k0 k1 f0 f1 held rows (EventsRefused file line r) why is keeper sink tells told seen_rows well kept written =
-    answer_refused seen words held rows _ told well why
-told_answer seen words left k0 k1 f0 f1 held rows (PlanRefused line) why is keeper sink tells told seen_rows well kept written =
-    answer_refused seen words held rows _ told well why
-told_answer seen words left k0 k1 f0 f1 held rows KeeperFault why is keeper sink tells told seen_rows well kept written = absurd
+told_answer seen asked left k0 k1 f0 f1 held rows Usage why is keeper sink tells told seen_rows well kept written = answer_usage
+    asked held rows why
+told_answer seen asked left k0 k1 f0 f1 held rows (NoFile name) why is keeper sink tells told seen_rows well kept written =
+    answer_refused seen asked held rows _ told well why
+told_answer seen asked left k0 k1 f0 f1 held rows (TopologyRefused r) why is keeper sink tells told seen_rows well kept written =
+    answer_refused seen asked held rows _ told well why
+told_answer seen asked left k0 k1 f0 f1 held rows (EventsRefused file line r) why is keeper sink tells told seen_rows well kept written =
+    answer_refused seen asked held rows _ told well why
+told_answer seen asked left k0 k1 f0 f1 held rows (PlanRefused line) why is keeper sink tells told seen_rows well kept written =
+    answer_refused seen asked held rows _ told well why
+told_answer seen asked left k0 k1 f0 f1 held rows KeeperFault why is keeper sink tells told seen_rows well kept written = absurd
     (kept (keeper refl))
-told_answer seen words left k0 k1 f0 f1 held rows SinkFault why is keeper sink tells told seen_rows well kept written = absurd
+told_answer seen asked left k0 k1 f0 f1 held rows SinkFault why is keeper sink tells told seen_rows well kept written = absurd
     (written (sink refl))
-told_answer seen words left k0 k1 f0 f1 held rows NoMemory why is keeper sink tells told seen_rows well kept written = tt
-told_answer seen words left k0 k1 f0 f1 held rows (NotEmpty name bytes) why is keeper sink tells told seen_rows well kept written =
-    sym (answer_read seen.files words held rows left _ told is
+told_answer seen asked left k0 k1 f0 f1 held rows NoMemory why is keeper sink tells told seen_rows well kept written = tt
+told_answer seen asked left k0 k1 f0 f1 held rows (NotEmpty name bytes) why is keeper sink tells told seen_rows well kept written =
+    sym (answer_read seen.files asked held rows left _ told is
     (λ leaves. ran_over-first rows name bytes (told_of left.rows.0 rows (λ rs. slice_get rs 0 ≡ Some (name, bytes)) seen_rows leaves.first))
     (λ leaves. absurd leaves))
-told_answer seen words left k0 k1 f0 f1 held rows HistoryFull why is keeper sink tells told seen_rows well kept written = (
-  full_answer seen.files words held rows left told seen_rows is,
+told_answer seen asked left k0 k1 f0 f1 held rows HistoryFull why is keeper sink tells told seen_rows well kept written = (
+  full_answer seen.files asked held rows left told seen_rows is,
   (full_left is.command.call is.task left is.leaves).full,
 )
-told_answer seen words left k0 k1 f0 f1 held rows (RowDamaged name bytes) why is keeper sink tells told seen_rows well kept written =
+told_answer seen asked left k0 k1 f0 f1 held rows (RowDamaged name bytes) why is keeper sink tells told seen_rows well kept written =
     absurd (still_told left.rows.0 left.rows.1 rows seen_rows tells
     (damaged_left is.command.call is.task left name bytes is.leaves).damaged.untold)
-told_answer seen words left k0 k1 f0 f1 held rows (ReadFault name) why is keeper sink tells told seen_rows well kept written =
-    answer_refused seen words held rows _ told well why
-told_answer seen words left k0 k1 f0 f1 held rows (TooLong name) why is keeper sink tells told seen_rows well kept written =
-    answer_refused seen words held rows _ told well why
-told_answer seen words left k0 k1 f0 f1 held rows (FileCount files injectors) why is keeper sink tells told seen_rows well kept written =
-    answer_refused seen words held rows _ told well why
+told_answer seen asked left k0 k1 f0 f1 held rows (ReadFault name) why is keeper sink tells told seen_rows well kept written =
+    answer_refused seen asked held rows _ told well why
+told_answer seen asked left k0 k1 f0 f1 held rows (TooLong name) why is keeper sink tells told seen_rows well kept written =
+    answer_refused seen asked held rows _ told well why
+told_answer seen asked left k0 k1 f0 f1 held rows (FileCount files injectors) why is keeper sink tells told seen_rows well kept written =
+    answer_refused seen asked held rows _ told well why
 
--- a call of the words is the one that they ask for
-pub same_call : (words : List (List ℕ)) (inputs : Inputs) (command : Command) → AsksPlain words inputs → command_of words ≡ Some command
+-- where the plain count is asked for it is the call
+pub same_call : (asked : Option Command) (inputs : Inputs) (command : Command) → AsksPlain asked inputs → asked ≡ Some command
     → command.call ≡ Plain inputs
-same_call words inputs command asks named =
+same_call asked inputs command asks named =
     ap (λ (c : Command). c.call) (same_Some command (record { call = Plain inputs; keep = None }) (sym named ∙ asks))
 
 -- what is left of a run is left of no plain count
-no_count : (files : Option Files) (words : List (List ℕ)) (left : Left) (inputs : Inputs) (s : Status) → AsksPlain words inputs
-    → (is : HasRun files words left s) → (CountLeaves is.task.case left s → ⊥) → ⊥
-no_count files words left inputs s asks is none =
-    none (subst (λ (call : Call). CallLeaves call is.task left s) (same_call words inputs is.command asks is.named) is.leaves)
+no_count : (files : Option Files) (asked : Option Command) (left : Left) (inputs : Inputs) (s : Status) → AsksPlain asked inputs
+    → (is : HasRun files asked left s) → (CountLeaves is.task.case left s → ⊥) → ⊥
+no_count files asked left inputs s asks is none =
+    none (subst (λ (call : Call). CallLeaves call is.task left s) (same_call asked inputs is.command asks is.named) is.leaves)
 
--- the answer to words that ask for the plain count is that of the files, whatever rows there may be
-plain_named : (held : Files) (words : List (List ℕ)) (inputs : Inputs) → AsksPlain words inputs
-    → answer_of held [] words ≡ plain_for held inputs
-plain_named held words inputs asks = answer_of-named held [] words (record { call = Plain inputs; keep = None }) asks
+-- the answer where the plain count is asked for is that of the files, whatever rows there may be
+plain_named : (held : Files) (asked : Option Command) (inputs : Inputs) → AsksPlain asked inputs
+    → answer_of held [] asked ≡ plain_for held inputs
+plain_named held asked inputs asks = answer_of-named held [] asked (record { call = Plain inputs; keep = None }) asks
 
 -- a refusal of the files is that answer
-plain_refused : (seen : ShelfSeen) (words : List (List ℕ)) (held : Files) (inputs : Inputs) (s : Status)
-    → seen.files ≡ Some held → (Rose seen.faults.0 seen.faults.1 → ⊥) → AsksPlain words inputs → IsCommandRefused seen words s
+plain_refused : (seen : ShelfSeen) (asked : Option Command) (held : Files) (inputs : Inputs) (s : Status)
+    → seen.files ≡ Some held → (Rose seen.faults.0 seen.faults.1 → ⊥) → AsksPlain asked inputs → IsCommandRefused seen asked s
     → s ≡ plain_for held inputs
-plain_refused seen words held inputs s told well asks why =
-    answer_refused seen words held [] s told well why ∙ plain_named held words inputs asks
+plain_refused seen asked held inputs s told well asks why =
+    answer_refused seen asked held [] s told well why ∙ plain_named held asked inputs asks
 
 -- a plain count that was written whole is that answer
-plain_read : (files : Option Files) (words : List (List ℕ)) (held : Files) (left : Left) (inputs : Inputs)
-    → files ≡ Some held → AsksPlain words inputs → HasRun files words left status.Ok → status.Ok ≡ plain_for held inputs
-plain_read files words held left inputs told asks is =
-    let asked = subst (λ (call : Call). IsTask files call is.task) (same_call words inputs is.command asks is.named) is.asked in
-    sym (ended_read _ _ status.Ok (inputs_read files held None inputs is.task told asked))
+plain_read : (files : Option Files) (asked : Option Command) (held : Files) (left : Left) (inputs : Inputs)
+    → files ≡ Some held → AsksPlain asked inputs → HasRun files asked left status.Ok → status.Ok ≡ plain_for held inputs
+plain_read files asked held left inputs told asks is =
+    let made = subst (λ (call : Call). IsTask files call is.task) (same_call asked inputs is.command asks is.named) is.is_task in
+    sym (ended_read _ _ status.Ok (inputs_read files held (Plain inputs) inputs is.task told made))
 
 -- over files that a contract can see, where nothing failed, the answer of the plain count is theirs, or memory ran out
-pub told_plain : (seen : ShelfSeen) (words : List (List ℕ)) (left : Left) (f0 f1 : ℕ) (held : Files) (inputs : Inputs) (s : Status)
-    → HasReason seen words s → HasLeft seen.files words left s → (s ≡ SinkFault → Rose f0 f1)
-    → seen.files ≡ Some held → AsksPlain words inputs
+pub told_plain : (seen : ShelfSeen) (asked : Option Command) (left : Left) (f0 f1 : ℕ) (held : Files) (inputs : Inputs) (s : Status)
+    → HasReason seen asked s → HasLeft seen.files asked left s → (s ≡ SinkFault → Rose f0 f1)
+    → seen.files ≡ Some held → AsksPlain asked inputs
     → (Rose seen.faults.0 seen.faults.1 → ⊥) → (Rose f0 f1 → ⊥) → IsPlainAnswer held inputs s
-told_plain seen words left f0 f1 held inputs status.Ok why is sink told asks well written =
-    plain_read seen.files words held left inputs told asks is
-told_plain seen words left f0 f1 held inputs Usage why is sink told asks well written =
-    answer_usage words held [] why ∙ plain_named held words inputs asks
-told_plain seen words left f0 f1 held inputs (NoFile name) why is sink told asks well written =
-    plain_refused seen words held inputs _ told well asks why
-told_plain seen words left f0 f1 held inputs (TopologyRefused r) why is sink told asks well written =
-    plain_refused seen words held inputs _ told well asks why
-told_plain seen words left f0 f1 held inputs (EventsRefused file line r) why is sink told asks well written =
-    plain_refused seen words held inputs _ told well asks why
-told_plain seen words left f0 f1 held inputs (PlanRefused line) why is sink told asks well written =
-    plain_refused seen words held inputs _ told well asks why
-told_plain seen words left f0 f1 held inputs KeeperFault why is sink told asks well written =
-    absurd (no_count seen.files words left inputs KeeperFault asks is (λ none. none))
-told_plain seen words left f0 f1 held inputs SinkFault why is sink told asks well written = absurd (written (sink refl))
-told_plain seen words left f0 f1 held inputs NoMemory why is sink told asks well written = tt
-told_plain seen words left f0 f1 held inputs (NotEmpty name bytes) why is sink told asks well written =
-    absurd (no_count seen.files words left inputs (NotEmpty name bytes) asks is (λ none. none))
-told_plain seen words left f0 f1 held inputs HistoryFull why is sink told asks well written =
-    absurd (no_count seen.files words left inputs HistoryFull asks is (λ none. none))
-told_plain seen words left f0 f1 held inputs (RowDamaged name bytes) why is sink told asks well written =
-    absurd (no_count seen.files words left inputs (RowDamaged name bytes) asks is (λ none. none))
-told_plain seen words left f0 f1 held inputs (ReadFault name) why is sink told asks well written =
-    plain_refused seen words held inputs _ told well asks why
-told_plain seen words left f0 f1 held inputs (TooLong name) why is sink told asks well written =
-    plain_refused seen words held inputs _ told well asks why
-told_plain seen words left f0 f1 held inputs (FileCount files injectors) why is sink told asks well written =
-    plain_refused seen words held inputs _ told well asks why
+told_plain seen asked left f0 f1 held inputs status.Ok why is sink told asks well written =
+    plain_read seen.files asked held left inputs told asks is
+told_plain seen asked left f0 f1 held inputs Usage why is sink told asks well written =
+    answer_usage asked held [] why ∙ plain_named held asked inputs asks
+told_plain seen asked left f0 f1 held inputs (NoFile name) why is sink told asks well written =
+    plain_refused seen asked held inputs _ told well asks why
+told_plain seen asked left f0 f1 held inputs (TopologyRefused r) why is sink told asks well written =
+    plain_refused seen asked held inputs _ told well asks why
+told_plain seen asked left f0 f1 held inputs (EventsRefused file line r) why is sink told asks well written =
+    plain_refused seen asked held inputs _ told well asks why
+told_plain seen asked left f0 f1 held inputs (PlanRefused line) why is sink told asks well written =
+    plain_refused seen asked held inputs _ told well asks why
+told_plain seen asked left f0 f1 held inputs KeeperFault why is sink told asks well written =
+    absurd (no_count seen.files asked left inputs KeeperFault asks is (λ none. none))
+told_plain seen asked left f0 f1 held inputs SinkFault why is sink told asks well written = absurd (written (sink refl))
+told_plain seen asked left f0 f1 held inputs NoMemory why is sink told asks well written = tt
+told_plain seen asked left f0 f1 held inputs (NotEmpty name bytes) why is sink told asks well written =
+    absurd (no_count seen.files asked left inputs (NotEmpty name bytes) asks is (λ none. none))
+told_plain seen asked left f0 f1 held inputs HistoryFull why is sink told asks well written =
+    absurd (no_count seen.files asked left inputs HistoryFull asks is (λ none. none))
+told_plain seen asked left f0 f1 held inputs (RowDamaged name bytes) why is sink told asks well written =
+    absurd (no_count seen.files asked left inputs (RowDamaged name bytes) asks is (λ none. none))
+told_plain seen asked left f0 f1 held inputs (ReadFault name) why is sink told asks well written =
+    plain_refused seen asked held inputs _ told well asks why
+told_plain seen asked left f0 f1 held inputs (TooLong name) why is sink told asks well written =
+    plain_refused seen asked held inputs _ told well asks why
+told_plain seen asked left f0 f1 held inputs (FileCount files injectors) why is sink told asks well written =
+    plain_refused seen asked held inputs _ told well asks why

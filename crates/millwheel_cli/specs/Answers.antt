@@ -1,12 +1,11 @@
 -- What each status leaves of the history, of the keeper's rows and of the text. Own.
-use Rattle.std.specs.Prelude.{◌≡◌, ◌<◌, ◌⊎◌, ◌++◌, ℕ, ⊤, List, [], length, Option, Some, IfSome, slice_get}
+use Rattle.std.specs.Prelude.{◌≡◌, ◌⊎◌, ◌++◌, ℕ, ⊤, List, [], length, Option, Some, IfSome, slice_get}
 use Rattle.std.specs.Io.KnownBytes.{append_known}
 use Rattle.mw_types.specs.declared.identity.RowName.{RowName}
 use Rattle.mw_types.specs.declared.entry.Entry.{Entry}
 use Rattle.command_line.specs.declared.command.Call.{Call}
-use Rattle.command_line.specs.declared.command.Call.TheVariants.{Solo, Replay, Plain, Load}
+use Rattle.command_line.specs.declared.command.Call.TheVariants.{Solo, Replay, Run, Plain, Load}
 use Rattle.command_line.specs.declared.command.Command.{Command}
-use Rattle.command_line.specs.Grammar.{command_of}
 use Rattle.mw_ports.specs.Shelves.{Files}
 use Rattle.mw_ports.specs.Sinks.{AppendsPrefix}
 use Rattle.topology.specs.Shapes.{Shape}
@@ -19,10 +18,8 @@ use Rattle.run_history.specs.Finished.{IsFinished}
 use Rattle.run_history.specs.Stored.{stored_rows}
 use Rattle.run_history.specs.HistoryLines.{lines_of_history}
 use Rattle.run_history.specs.Texts.{IsResultText, as_line, summary_data}
-use Rattle.history_laws.specs.Writes.{IsLegalAndFenced}
 use Rattle.plain_answer.specs.Plain.{IsPlainText}
 use Rattle.book.specs.Claims.{IsDamagedRow}
-use Rattle.world.specs.Replays.{IsReplayed, IsWholeReplay}
 use Rattle.millwheel_cli.specs.declared.status.Status.{Status}
 use Rattle.millwheel_cli.specs.declared.status.Status.TheVariants.{KeeperFault, SinkFault, NoMemory, NotEmpty, HistoryFull, RowDamaged}
 use Rattle.millwheel_cli.specs.declared.status.Status.TheVariants as status
@@ -30,6 +27,7 @@ use Rattle.millwheel_cli.specs.declared.task.Task.{Task}
 use Rattle.millwheel_cli.specs.declared.task.Wanted.{Wanted}
 use Rattle.millwheel_cli.specs.declared.task.Wanted.TheVariants.{ResultAlone, HistoryFirst, SummaryAlone}
 use Rattle.millwheel_cli.specs.Limits.{history_limit}
+use Rattle.millwheel_cli.specs.Histories.{GoesAs, IsAllOf, IsReadAfter, IsShortOf}
 use Rattle.millwheel_cli.specs.Tasks.{IsTask}
 
 -- what a call leaves: the keeper's rows and the sink's text, before and after, where a contract can see
@@ -47,11 +45,11 @@ pub record IsUnbegun (left : Left) : Type 0 where
   pub same_rows : left.rows.1 ≡ left.rows.0
   pub unwritten : left.text.1 ≡ left.text.0
 
--- rows that a contract can see are those of the history, which is a legal one, and goes as the steps of the
--- task do and as a drain does behind them
+-- rows that a contract can see are those of the history, which is a legal one, and goes as what the task has
+-- before its drain does, and as a drain does behind that
 pub record IsKeptRun (task : Task) (history : List Entry) (rows : Rows) : Type 0 where
   pub legal : IsLegal task.case history
-  pub replayed : IsReplayed task.case task.steps history
+  pub goes : GoesAs task.case task.before history
   pub stored : rows ≡ stored_rows (run_of task.case.topology history)
 
 -- a run of the task, as far as it came: it was begun over a keeper without rows
@@ -60,11 +58,11 @@ pub record IsRun (task : Task) (left : Left) : Type 0 where
   pub fenced : IsFenced task.case.topology left.history
   pub kept : IfSome left.rows.1 (IsKeptRun task left.history)
 
--- a run that came to its end: it is all that the steps write, and the whole drain behind them, and no work
--- is left
+-- a run that came to its end: it is all of what comes before the drain, and the whole drain behind that, and
+-- no work is left
 pub record IsWholeRun (task : Task) (left : Left) : Type 0 where
   pub run : IsRun task left
-  pub whole : IfSome left.rows.1 (λ _. IsWholeReplay task.case task.steps left.history)
+  pub whole : IfSome left.rows.1 (λ _. IsAllOf task.case task.before left.history)
   pub finished : IfSome left.rows.1 (λ _. IsFinished task.case (run_of task.case.topology left.history))
 
 -- ---- the text
@@ -118,25 +116,20 @@ pub record IsStopped (task : Task) (left : Left) : Type 0 where
   pub run : IsRun task left
   pub unwritten : left.text.1 ≡ left.text.0
 
--- each whole run of a task has more entries than this history: each legal and fenced one that the steps
--- write, with the whole drain behind them
-abbrev pub IsShortOf : Task → List Entry → Type 0
-IsShortOf task history = (whole : List Entry) → IsWholeReplay task.case task.steps whole →
-    IsLegalAndFenced task.case whole → length history < length whole
-
 -- the run stopped since its history has as many entries as one may have, and has more to come: each whole
 -- run has more than that
 pub record IsFull (task : Task) (left : Left) : Type 0 where
   pub stopped : IsStopped task left
   pub full : length left.history ≡ history_limit
-  pub more : IfSome left.rows.1 (λ _. IsWholeReplay task.case task.steps left.history → ⊥)
-  pub longer : IfSome left.rows.1 (λ _. IsShortOf task left.history)
+  pub more : IfSome left.rows.1 (λ _. IsShortOf task.case task.before left.history)
 
 -- the run stopped at bytes that the keeper gave, which are those of no row that fits the name; of a keeper
 -- whose rows a contract can see none are
 pub record IsDamagedAt (task : Task) (left : Left) (name : RowName) (bytes : List ℕ) : Type 0 where
   pub stopped : IsStopped task left
-  pub damaged : IsDamagedRow task.case left.rows.1 (length left.history) name bytes
+  pub count : ℕ
+  pub read : IsReadAfter task.before count left.history
+  pub damaged : IsDamagedRow task.case left.rows.1 count name bytes
 
 -- no run was begun, since the keeper has rows; this is the first where a contract can see them
 pub record IsHeldBefore (left : Left) (name : RowName) (bytes : List ℕ) : Type 0 where
@@ -188,25 +181,26 @@ CountLeaves case left _ = ⊥
 abbrev pub CallLeaves : Call → Task → Left → Status → Type 0
 CallLeaves (Solo inputs) task left status = RunLeaves task left status
 CallLeaves (Replay plan inputs) task left status = RunLeaves task left status
+CallLeaves (Run workers rounds plan inputs) task left status = RunLeaves task left status
 CallLeaves (Plain inputs) task left status = CountLeaves task.case left status
 CallLeaves (Load seed lines) task left status = RunLeaves task left status
 
--- the words are a command that asks for a task, and of that the status leaves this
-pub record HasRun (files : Option Files) (words : List (List ℕ)) (left : Left)
+-- a command is asked for, which asks for a task, and of that the status leaves this
+pub record HasRun (files : Option Files) (asked : Option Command) (left : Left)
     (status : Status) : Type 0 where
   pub command : Command
-  pub named : command_of words ≡ Some command
+  pub named : asked ≡ Some command
   pub task : Task
-  pub asked : IsTask files command.call task
+  pub is_task : IsTask files command.call task
   pub leaves : CallLeaves command.call task left status
 
 -- what each status leaves
-abbrev pub HasLeft : Option Files → List (List ℕ) → Left → Status → Type 0
-HasLeft files words left status.Ok = HasRun files words left status.Ok
-HasLeft files words left SinkFault = HasRun files words left SinkFault
-HasLeft files words left KeeperFault = HasRun files words left KeeperFault
-HasLeft files words left NoMemory = HasRun files words left NoMemory ⊎ IsUnbegun left
-HasLeft files words left HistoryFull = HasRun files words left HistoryFull
-HasLeft files words left (RowDamaged name bytes) = HasRun files words left (RowDamaged name bytes)
-HasLeft files words left (NotEmpty name bytes) = HasRun files words left (NotEmpty name bytes)
-HasLeft files words left _ = IsUnbegun left
+abbrev pub HasLeft : Option Files → Option Command → Left → Status → Type 0
+HasLeft files asked left status.Ok = HasRun files asked left status.Ok
+HasLeft files asked left SinkFault = HasRun files asked left SinkFault
+HasLeft files asked left KeeperFault = HasRun files asked left KeeperFault
+HasLeft files asked left NoMemory = HasRun files asked left NoMemory ⊎ IsUnbegun left
+HasLeft files asked left HistoryFull = HasRun files asked left HistoryFull
+HasLeft files asked left (RowDamaged name bytes) = HasRun files asked left (RowDamaged name bytes)
+HasLeft files asked left (NotEmpty name bytes) = HasRun files asked left (NotEmpty name bytes)
+HasLeft files asked left _ = IsUnbegun left

@@ -1,5 +1,5 @@
 -- How the functions behind the public call answer. No public clause cites this module.
-use Rattle.std.specs.Prelude.{◌≡◌, ◌⊎◌, ℕ, ⊤, List, Option}
+use Rattle.std.specs.Prelude.{◌≡◌, ◌≤◌, ◌⊎◌, [], ℕ, ⊤, List, length, Option, IfNone, IfSome}
 use Rattle.std.specs.Io.KnownBytes.{append_known}
 use Rattle.mw_types.specs.declared.entry.Entry.{Entry}
 use Rattle.mw_types.specs.declared.refusal.PlanRefusal.{PlanRefusal}
@@ -18,13 +18,26 @@ use Rattle.injector.specs.declared.refusal.LinesRefusal.{LinesRefusal}
 use Rattle.injector.specs.declared.refusal.LinesRefusal.TheVariants.{Line}
 use Rattle.injector.specs.declared.refusal.LinesRefusal.TheVariants as lines
 use Rattle.run_history.specs.Cases.{CaseShape}
+use Rattle.run_history.specs.Fences.{Begins}
 use Rattle.plain_answer.specs.Plain.{IsPlainText}
+use Rattle.row_keeper.specs.Rows.{Rows}
+use Rattle.command_line.specs.declared.command.Call.{Call}
+use Rattle.mw_ports.specs.Shelves.{Files}
+use Rattle.book.specs.OwnDesks.{telling}
+use Rattle.node.specs.Answers.{refusal_of}
+use Rattle.crews.specs.Rounds.{IsDamageAt, first_claims, rounds_room}
 use Rattle.book.specs.declared.refusals.StartWhy.{StartWhy}
 use Rattle.book.specs.declared.refusals.StartWhy.TheVariants as starts
 use Rattle.node.specs.declared.outcome.NodeFault.{NodeFault}
 use Rattle.node.specs.declared.outcome.NodeFault.TheVariants as faults
 use Rattle.millwheel_cli.specs.declared.task.Wanted.{Wanted}
-use Rattle.millwheel_cli.specs.Answers.{IsWholeText}
+use Rattle.millwheel_cli.specs.declared.task.Before.{Before}
+use Rattle.millwheel_cli.specs.declared.task.Before.TheVariants.{Steps, Rounds}
+use Rattle.millwheel_cli.specs.declared.task.Task.{Task}
+use Rattle.millwheel_cli.specs.Tasks.{IsTask}
+use Rattle.millwheel_cli.specs.Reasons.{ShelfSeen, IsCallRefused}
+use Rattle.millwheel_cli.specs.Histories.{IsFirstClaimed, IsPlainFront}
+use Rattle.millwheel_cli.specs.Answers.{CallLeaves, IsUnbegun, IsWholeText, Left, RunLeaves}
 use Rattle.millwheel_cli.specs.declared.status.Status.{Status}
 use Rattle.millwheel_cli.specs.declared.status.Status.TheVariants as status
 use Rattle.millwheel_cli.specs.declared.refusal.Refusal.{Refusal}
@@ -130,3 +143,50 @@ HasPlain case old new status.Ok = WritesPlain case old new
 HasPlain case old new status.SinkFault = WritesPlainPart case old new
 HasPlain case old new status.NoMemory = WritesPlainPart case old new ⊎ (new ≡ old)
 HasPlain case old new _ = ⊥
+
+-- ---- how a call ends
+
+-- there is a task of a call, and of that the status leaves this
+pub record HasTask (files : Option Files) (call : Call) (left : Left) (status : Status) : Type 0 where
+  pub task : Task
+  pub is_task : IsTask files call task
+  pub leaves : CallLeaves call task left status
+
+-- a call is refused with the status, and no run was begun
+pub record IsRefusedCall (seen : ShelfSeen) (call : Call) (left : Left) (status : Status) : Type 0 where
+  pub refusal : Refusal
+  pub same : status ≡ status_of refusal
+  pub why : UnlessWant (IsCallRefused seen call) refusal
+  pub unbegun : IsUnbegun left
+
+-- a call ends with what its task leaves, or is refused
+abbrev pub IsCallEnd : ShelfSeen → Call → Left → Status → Type 0
+IsCallEnd seen call left status = HasTask seen.files call left status ⊎ IsRefusedCall seen call left status
+
+-- ---- what rounds leave
+
+-- rounds of a new book have left this history: it has so many entries at most, and begins as rounds do; where
+-- no fault ended them all first claims were made, and without an action no other, and each injector has its
+-- lines
+pub record AreRounds (case : CaseShape) (workers rounds actions : ℕ) (told : Option Rows)
+    (fault : Option NodeFault) (history : List Entry) : Type 0 where
+  pub room : length history ≤ rounds_room workers rounds actions
+  pub first : IsFirstClaimed case workers history
+  pub claimed : IfNone fault (Begins (first_claims case workers) history)
+  pub plain : IfSome told (λ _. actions ≡ 0 → IfNone fault (IsPlainFront case workers rounds history))
+
+-- they are the rounds that a task has before its drain
+abbrev pub AreRoundsOf : CaseShape → Before → Option Rows → Option NodeFault → List Entry → Type 0
+AreRoundsOf case (Steps steps) told fault history = ⊥
+AreRoundsOf case (Rounds workers rounds actions) told fault history =
+    AreRounds case workers rounds (length actions) told fault history
+
+-- what a run leaves that was begun over a keeper without rows, whatever a contract saw of them then
+abbrev pub LeavesBegun : Task → Option Rows → Option (List ℕ) × Option (List ℕ) → List Entry → Status → Type 0
+LeavesBegun task rows text history status = (began : Option Rows) → IfSome began (λ held. held ≡ []) →
+    RunLeaves task (record { rows = (began, rows); text = text; history = history }) status
+
+-- where a fault says that a row is damaged, it is, after some of the entries of a history or all
+abbrev pub IsDamageIn : CaseShape → Option Rows → List Entry → NodeFault → Type 0
+IsDamageIn case told history why = (count : ℕ) × (count ≤ length history)
+    × IsDamageAt case (telling told) count (refusal_of why)

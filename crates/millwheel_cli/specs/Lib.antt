@@ -4,6 +4,7 @@ pub mod Files
 pub mod Loads
 pub mod Tasks
 pub mod Reasons
+pub mod Histories
 pub mod Answers
 pub mod Numbers
 pub mod Messages

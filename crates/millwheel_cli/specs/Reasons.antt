@@ -6,14 +6,12 @@ use Rattle.mw_types.specs.Causes.{Rose}
 use Rattle.mw_types.specs.declared.entry.Entry.{Entry}
 use Rattle.command_line.specs.declared.command.Inputs.{Inputs}
 use Rattle.command_line.specs.declared.command.Call.{Call}
-use Rattle.command_line.specs.declared.command.Call.TheVariants.{Solo, Replay, Plain, Load}
+use Rattle.command_line.specs.declared.command.Call.TheVariants.{Solo, Replay, Run, Plain, Load}
 use Rattle.command_line.specs.declared.command.Command.{Command}
-use Rattle.command_line.specs.Grammar.{command_of}
 use Rattle.mw_ports.specs.Shelves.{Files}
 use Rattle.json_reading.specs.Refusals.{and_then}
 use Rattle.topology.specs.Shapes.{Shape}
 use Rattle.injector.specs.Sources.{Source}
-use Rattle.scripts.specs.declared.step.Step.{Step}
 use Rattle.row_keeper.specs.Rows.{Rows}
 use Rattle.millwheel_cli.specs.declared.status.Status.{Status}
 use Rattle.millwheel_cli.specs.declared.status.Status.TheVariants.{Usage, NoFile, KeeperFault, SinkFault, NoMemory, NotEmpty, HistoryFull, RowDamaged, ReadFault, TooLong}
@@ -21,7 +19,9 @@ use Rattle.millwheel_cli.specs.declared.status.Status.TheVariants as status
 use Rattle.millwheel_cli.specs.Limits.{topology_limit, plan_limit, events_limit, lines_limit, history_limit}
 use Rattle.millwheel_cli.specs.Files.{topology_taken, source_taken, HoldsAs, HoldsTopology, HoldsSource}
 use Rattle.millwheel_cli.specs.Loads.{load_topology, load_text}
-use Rattle.millwheel_cli.specs.Tasks.{plan_taken, HoldsPlan}
+use Rattle.millwheel_cli.specs.declared.task.Before.{Before}
+use Rattle.millwheel_cli.specs.declared.task.Before.TheVariants.{Steps, Rounds}
+use Rattle.millwheel_cli.specs.Tasks.{steps_taken, rounds_taken, HoldsBefore}
 
 -- ---- what the shelf gave
 
@@ -63,32 +63,40 @@ IsSourceRefused seen file room (name ∷ names) status =
     ⊎ ((source : Source) × HoldsSource seen.files file room name source
     × IsSourceRefused seen (file + 1) (room - length source) names status)
 
--- why the plan's file is refused, where there is one
-abbrev pub IsPlanRefused : ShelfSeen → Option (List ℕ) → Shape → Status → Type 0
-IsPlanRefused seen None shape status = ⊥
-IsPlanRefused seen (Some name) shape status = IsFileRefused seen name plan_limit (plan_taken shape) status
+-- why the plan's file of a call is refused, where the call names one
+abbrev pub IsPlanRefused : ShelfSeen → Call → Shape → Status → Type 0
+IsPlanRefused seen (Replay plan inputs) shape status =
+    IsFileRefused seen plan plan_limit (steps_taken shape) status
+IsPlanRefused seen (Run workers rounds (Some plan) inputs) shape status =
+    IsFileRefused seen plan plan_limit (rounds_taken shape workers rounds) status
+IsPlanRefused seen _ shape status = ⊥
 
 -- why the plan is refused, which is not read before the topology is taken
-pub record IsPlanRefusedBehind (seen : ShelfSeen) (plan : Option (List ℕ)) (inputs : Inputs)
+pub record IsPlanRefusedBehind (seen : ShelfSeen) (call : Call) (inputs : Inputs)
     (status : Status) : Type 0 where
   pub shape : Shape
   pub topology_read : HoldsTopology seen.files inputs.topology (length inputs.events) shape
-  pub refused : IsPlanRefused seen plan shape status
+  pub refused : IsPlanRefused seen call shape status
+
+-- a file that is read before the event files is refused: the topology's, or the plan's
+abbrev pub IsRefusedFirst : ShelfSeen → Call → Inputs → Status → Type 0
+IsRefusedFirst seen call inputs status =
+    IsTopologyRefused seen (length inputs.events) inputs.topology status
+    ⊎ IsPlanRefusedBehind seen call inputs status
 
 -- why an event file is refused, of which none is read before the topology and the plan are taken
-pub record IsEventsRefusedBehind (seen : ShelfSeen) (plan : Option (List ℕ)) (inputs : Inputs)
+pub record IsEventsRefusedBehind (seen : ShelfSeen) (call : Call) (inputs : Inputs)
     (status : Status) : Type 0 where
   pub shape : Shape
   pub topology_read : HoldsTopology seen.files inputs.topology (length inputs.events) shape
-  pub steps : List Step
-  pub plan_read : HoldsPlan seen.files plan shape steps
+  pub before : Before
+  pub plan_read : HoldsBefore seen.files call shape before
   pub refused : IsSourceRefused seen 0 lines_limit inputs.events status
 
--- one of the files is refused with the status: the topology's, the plan's, or an event file
-abbrev pub IsRefused : ShelfSeen → Option (List ℕ) → Inputs → Status → Type 0
-IsRefused seen plan inputs status =
-    IsTopologyRefused seen (length inputs.events) inputs.topology status
-    ⊎ (IsPlanRefusedBehind seen plan inputs status ⊎ IsEventsRefusedBehind seen plan inputs status)
+-- one of the files of a call is refused with the status
+abbrev pub IsRefused : ShelfSeen → Call → Inputs → Status → Type 0
+IsRefused seen call inputs status =
+    IsRefusedFirst seen call inputs status ⊎ IsEventsRefusedBehind seen call inputs status
 
 -- what load runs, or why that is refused: it has a topology and event lines of its own
 abbrev pub load_taken : ℕ → ℕ → Result Source Status
@@ -97,29 +105,31 @@ load_taken seed lines =
 
 -- why a call is refused
 abbrev pub IsCallRefused : ShelfSeen → Call → Status → Type 0
-IsCallRefused seen (Solo inputs) status = IsRefused seen None inputs status
-IsCallRefused seen (Replay plan inputs) status = IsRefused seen (Some plan) inputs status
-IsCallRefused seen (Plain inputs) status = IsRefused seen None inputs status
+IsCallRefused seen (Solo inputs) status = IsRefused seen (Solo inputs) inputs status
+IsCallRefused seen (Replay plan inputs) status = IsRefused seen (Replay plan inputs) inputs status
+IsCallRefused seen (Run workers rounds plan inputs) status =
+    IsRefused seen (Run workers rounds plan inputs) inputs status
+IsCallRefused seen (Plain inputs) status = IsRefused seen (Plain inputs) inputs status
 IsCallRefused seen (Load seed lines) status = load_taken seed lines ≡ Err status
 
--- the words are a command whose call is refused with the status
-pub record IsCommandRefused (seen : ShelfSeen) (words : List (List ℕ)) (status : Status) : Type 0 where
+-- a command is asked for, and its call is refused with the status
+pub record IsCommandRefused (seen : ShelfSeen) (asked : Option Command) (status : Status) : Type 0 where
   pub command : Command
-  pub named : command_of words ≡ Some command
+  pub named : asked ≡ Some command
   pub why : IsCallRefused seen command.call status
 
--- why a status came that comes before a run: the words are no command, or a file is refused. What is said of
+-- why a status came that comes before a run: no command is asked for, or a file is refused. What is said of
 -- the other statuses stands in clauses of their own
-abbrev pub HasReason : ShelfSeen → List (List ℕ) → Status → Type 0
-HasReason seen words status.Ok = ⊤
-HasReason seen words KeeperFault = ⊤
-HasReason seen words SinkFault = ⊤
-HasReason seen words NoMemory = ⊤
-HasReason seen words (NotEmpty name bytes) = ⊤
-HasReason seen words HistoryFull = ⊤
-HasReason seen words (RowDamaged name bytes) = ⊤
-HasReason seen words Usage = command_of words ≡ None
-HasReason seen words status = IsCommandRefused seen words status
+abbrev pub HasReason : ShelfSeen → Option Command → Status → Type 0
+HasReason seen asked status.Ok = ⊤
+HasReason seen asked KeeperFault = ⊤
+HasReason seen asked SinkFault = ⊤
+HasReason seen asked NoMemory = ⊤
+HasReason seen asked (NotEmpty name bytes) = ⊤
+HasReason seen asked HistoryFull = ⊤
+HasReason seen asked (RowDamaged name bytes) = ⊤
+HasReason seen asked Usage = asked ≡ None
+HasReason seen asked status = IsCommandRefused seen asked status
 
 -- ---- where a contract can see the files and the rows
 
@@ -156,45 +166,51 @@ abbrev pub ended : {T : Type 0} → Result T Status → Status → Status
 ended (Ok x) run = run
 ended (Err status) run = status
 
--- what the plan's file is taken for, where there is one
-abbrev pub steps_taken : Files → Option (List ℕ) → Shape → Result (List Step) Status
-steps_taken held None shape = Ok []
-steps_taken held (Some name) shape = file_as held name plan_limit (plan_taken shape)
+-- what comes before the drain of a call: what the plan's file is taken for, where the call names one
+abbrev pub before_taken : Files → Call → Shape → Result Before Status
+before_taken held (Replay plan inputs) shape = file_as held plan plan_limit (steps_taken shape)
+before_taken held (Run workers rounds None inputs) shape = Ok (Rounds workers rounds [])
+before_taken held (Run workers rounds (Some plan) inputs) shape =
+    file_as held plan plan_limit (rounds_taken shape workers rounds)
+before_taken held _ shape = Ok (Steps [])
 
--- what files of a shelf are taken for: the topology is tried first, then the plan, and then the event files
--- in their order
-abbrev pub inputs_taken : Files → Option (List ℕ) → Inputs → Result (List Source) Status
-inputs_taken held plan inputs =
+-- what files of a shelf are taken for, as those of a call: the topology is tried first, then the plan, and
+-- then the event files in their order
+abbrev pub inputs_taken : Files → Call → Inputs → Result (List Source) Status
+inputs_taken held call inputs =
     and_then (file_as held inputs.topology topology_limit (topology_taken (length inputs.events))) (λ shape.
-    and_then (steps_taken held plan shape) (λ steps. sources_taken held 0 lines_limit inputs.events))
+    and_then (before_taken held call shape) (λ before. sources_taken held 0 lines_limit inputs.events))
 
 -- how the plain count ends, by files of a shelf: no keeper has a part in it
 abbrev pub plain_for : Files → Inputs → Status
-plain_for held inputs = ended (inputs_taken held None inputs) status.Ok
+plain_for held inputs = ended (inputs_taken held (Plain inputs) inputs) status.Ok
 
 -- how a call ends, by files of a shelf and, last, by the rows of a keeper
 abbrev pub answer_for : Files → Rows → Call → Status
-answer_for held rows (Solo inputs) = ended (inputs_taken held None inputs) (ran_over rows)
-answer_for held rows (Replay plan inputs) = ended (inputs_taken held (Some plan) inputs) (ran_over rows)
+answer_for held rows (Solo inputs) = ended (inputs_taken held (Solo inputs) inputs) (ran_over rows)
+answer_for held rows (Replay plan inputs) =
+    ended (inputs_taken held (Replay plan inputs) inputs) (ran_over rows)
+answer_for held rows (Run workers rounds plan inputs) =
+    ended (inputs_taken held (Run workers rounds plan inputs) inputs) (ran_over rows)
 answer_for held rows (Plain inputs) = plain_for held inputs
 answer_for held rows (Load seed lines) = ended (load_taken seed lines) (ran_over rows)
 
--- the answer to these words over a shelf that holds these files and a keeper that holds these rows, where
--- nothing fails, memory does not run out, and the history has room
-abbrev pub answer_of : Files → Rows → List (List ℕ) → Status
-answer_of held rows words =
-    option_map_or (λ (command : Command). answer_for held rows command.call) (command_of words) Usage
+-- the answer to a command over a shelf that holds these files and a keeper that holds these rows, where
+-- nothing fails, memory does not run out, and the history has room; where none is asked for it is Usage
+abbrev pub answer_of : Files → Rows → Option Command → Status
+answer_of held rows asked =
+    option_map_or (λ (command : Command). answer_for held rows command.call) asked Usage
 
 -- the status is that answer; only memory may run out in its place, or a run fill the history
-abbrev pub IsAnswer : Files → Rows → List (List ℕ) → List Entry → Status → Type 0
-IsAnswer held rows words history NoMemory = ⊤
-IsAnswer held rows words history HistoryFull =
-    (answer_of held rows words ≡ status.Ok) × (length history ≡ history_limit)
-IsAnswer held rows words history status = status ≡ answer_of held rows words
+abbrev pub IsAnswer : Files → Rows → Option Command → List Entry → Status → Type 0
+IsAnswer held rows asked history NoMemory = ⊤
+IsAnswer held rows asked history HistoryFull =
+    (answer_of held rows asked ≡ status.Ok) × (length history ≡ history_limit)
+IsAnswer held rows asked history status = status ≡ answer_of held rows asked
 
--- the words ask for the plain count of these files
-abbrev pub AsksPlain : List (List ℕ) → Inputs → Type 0
-AsksPlain words inputs = command_of words ≡ Some (record { call = Plain inputs; keep = None })
+-- the plain count of these files is asked for
+abbrev pub AsksPlain : Option Command → Inputs → Type 0
+AsksPlain asked inputs = asked ≡ Some (record { call = Plain inputs; keep = None })
 
 -- the status is the answer of the plain count; only memory may run out in its place
 abbrev pub IsPlainAnswer : Files → Inputs → Status → Type 0

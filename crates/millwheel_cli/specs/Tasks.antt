@@ -1,19 +1,23 @@
--- What a command is to do, once its files are read: the case of a run, the steps that come before its drain,
--- and what is to be written of it. Own.
-use Rattle.std.specs.Prelude.{◌≡◌, ℕ, Bool, List, [], ◌∷◌, length, if◌then◌else◌, Option, Some, None, Result, Ok, Err}
+-- What a command is to do, once its files are read: the case of a run, what comes before its drain, and what
+-- is to be written of it. Own.
+use Rattle.std.specs.Prelude.{◌≡◌, ℕ, Bool, true, false, List, [], ◌∷◌, length, if◌then◌else◌, All, Option, Some, None, Result, Ok, Err}
 use Rattle.mw_types.specs.declared.refusal.PlanRefusal.{PlanRefusal}
 use Rattle.mw_types.specs.declared.refusal.PlanRefusal.TheVariants as plans
 use Rattle.command_line.specs.declared.command.Inputs.{Inputs}
 use Rattle.command_line.specs.declared.command.Call.{Call}
-use Rattle.command_line.specs.declared.command.Call.TheVariants.{Solo, Replay, Plain, Load}
+use Rattle.command_line.specs.declared.command.Call.TheVariants.{Solo, Replay, Run, Plain, Load}
+use Rattle.command_line.specs.Grammar.{AreSizes}
 use Rattle.mw_ports.specs.Shelves.{Files}
 use Rattle.topology.specs.Shapes.{Shape}
 use Rattle.injector.specs.Sources.{Source}
 use Rattle.run_history.specs.Cases.{CaseShape}
-use Rattle.scripts.specs.declared.step.Step.{Step}
+use Rattle.scripts.specs.Steps.{IsStep}
 use Rattle.schedules.specs.Schedules.{schedule_of}
+use Rattle.plans.specs.Plans.{IsAction, actions_of}
 use Rattle.millwheel_cli.specs.declared.status.Status.{Status}
 use Rattle.millwheel_cli.specs.declared.status.Status.TheVariants.{PlanRefused, NoMemory}
+use Rattle.millwheel_cli.specs.declared.task.Before.{Before}
+use Rattle.millwheel_cli.specs.declared.task.Before.TheVariants.{Steps, Rounds}
 use Rattle.millwheel_cli.specs.declared.task.Task.{Task}
 use Rattle.millwheel_cli.specs.declared.task.Wanted.{Wanted}
 use Rattle.millwheel_cli.specs.declared.task.Wanted.TheVariants as wanted
@@ -21,23 +25,46 @@ use Rattle.millwheel_cli.specs.Limits.{plan_limit, lines_limit}
 use Rattle.millwheel_cli.specs.Files.{HoldsAs, HoldsTopology, HoldsSources, topology_taken, source_taken}
 use Rattle.millwheel_cli.specs.Loads.{load_topology, load_text}
 
--- ---- a plan
+-- ---- what comes before the drain
 
--- a schedule that is read is taken
-abbrev pub planned_of : Result (List Step) PlanRefusal → Result (List Step) Status
-planned_of (Err (plans.Line line)) = Err (PlanRefused line)
-planned_of (Err plans.NoMemory) = Err NoMemory
-planned_of (Ok steps) = Ok steps
+-- a plan that is read is taken, as what comes before the drain
+abbrev pub planned_of : {T : Type 0} → (T → Before) → Result T PlanRefusal → Result Before Status
+planned_of before (Err (plans.Line line)) = Err (PlanRefused line)
+planned_of before (Err plans.NoMemory) = Err NoMemory
+planned_of before (Ok plan) = Ok (before plan)
 
 -- the steps that the bytes of a plan are taken for, over a topology, or the status with which they are
 -- refused
-abbrev pub plan_taken : Shape → List ℕ → Result (List Step) Status
-plan_taken shape bytes = planned_of (schedule_of shape bytes)
+abbrev pub steps_taken : Shape → List ℕ → Result Before Status
+steps_taken shape bytes = planned_of Steps (schedule_of shape bytes)
 
--- the plan's file of that name held these steps; without a plan there are none
-abbrev pub HoldsPlan : Option Files → Option (List ℕ) → Shape → List Step → Type 0
-HoldsPlan files None shape steps = steps ≡ []
-HoldsPlan files (Some name) shape steps = HoldsAs files name plan_limit (plan_taken shape) (Ok steps)
+-- the rounds that the bytes of a plan are taken for, over a topology and of so many workers, or the status
+-- with which they are refused
+abbrev pub rounds_taken : Shape → ℕ → ℕ → List ℕ → Result Before Status
+rounds_taken shape workers rounds bytes =
+    planned_of (Rounds workers rounds) (actions_of shape workers rounds bytes)
+
+-- what comes before the drain of a call, over a topology, as the plan's file held it where there is one: of a
+-- run its rounds, and of each other call steps
+abbrev pub HoldsBefore : Option Files → Call → Shape → Before → Type 0
+HoldsBefore files (Replay plan inputs) shape before =
+    HoldsAs files plan plan_limit (steps_taken shape) (Ok before)
+HoldsBefore files (Run workers rounds None inputs) shape before = before ≡ Rounds workers rounds []
+HoldsBefore files (Run workers rounds (Some plan) inputs) shape before =
+    HoldsAs files plan plan_limit (rounds_taken shape workers rounds) (Ok before)
+HoldsBefore files _ shape before = before ≡ Steps []
+
+-- what comes before the drain names parts, intervals and workers that are there, and its numbers are within
+-- their limits
+abbrev pub AreThere : Shape → Before → Type 0
+AreThere shape (Steps steps) = All (IsStep shape) steps
+AreThere shape (Rounds workers rounds actions) =
+    AreSizes workers rounds × All (IsAction shape workers rounds) actions
+
+-- whether it is rounds of workers
+abbrev pub is_rounds : Before → Bool
+is_rounds (Steps steps) = false
+is_rounds (Rounds workers rounds actions) = true
 
 -- ---- what is to be done
 
@@ -45,11 +72,11 @@ HoldsPlan files (Some name) shape steps = HoldsAs files name plan_limit (plan_ta
 abbrev pub wanted_of : Bool → Wanted
 wanted_of history = if history then wanted.HistoryFirst else wanted.ResultAlone
 
--- the task is that of a topology, of event files, one an injector, and of a plan, where there is one
-pub record IsInputsTask (files : Option Files) (plan : Option (List ℕ)) (inputs : Inputs)
-    (task : Task) : Type 0 where
+-- the task is that of a call with these files: a topology, event files, one an injector, and a plan, where
+-- the call names one
+pub record IsInputsTask (files : Option Files) (call : Call) (inputs : Inputs) (task : Task) : Type 0 where
   pub topology_read : HoldsTopology files inputs.topology (length inputs.events) task.case.topology
-  pub plan_read : HoldsPlan files plan task.case.topology task.steps
+  pub plan_read : HoldsBefore files call task.case.topology task.before
   pub events_read : HoldsSources files 0 lines_limit inputs.events task.case.sources
   pub text : task.wanted ≡ wanted_of inputs.history
 
@@ -64,12 +91,14 @@ pub record IsLoadCase (seed lines : ℕ) (case : CaseShape) : Type 0 where
 -- the task is that of load: its case without a step, and the summary line alone
 pub record IsLoadTask (seed lines : ℕ) (task : Task) : Type 0 where
   pub made : IsLoadCase seed lines task.case
-  pub no_steps : task.steps ≡ []
+  pub no_steps : task.before ≡ Steps []
   pub text : task.wanted ≡ wanted.SummaryAlone
 
 -- the task is what the call asks for, with these files where a contract can see the shelf's
 abbrev pub IsTask : Option Files → Call → Task → Type 0
-IsTask files (Solo inputs) task = IsInputsTask files None inputs task
-IsTask files (Replay plan inputs) task = IsInputsTask files (Some plan) inputs task
-IsTask files (Plain inputs) task = IsInputsTask files None inputs task
+IsTask files (Solo inputs) task = IsInputsTask files (Solo inputs) inputs task
+IsTask files (Replay plan inputs) task = IsInputsTask files (Replay plan inputs) inputs task
+IsTask files (Run workers rounds plan inputs) task =
+    IsInputsTask files (Run workers rounds plan inputs) inputs task
+IsTask files (Plain inputs) task = IsInputsTask files (Plain inputs) inputs task
 IsTask files (Load seed lines) task = IsLoadTask seed lines task

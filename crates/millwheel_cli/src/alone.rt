@@ -1,43 +1,27 @@
-//! The call behind the program.
-ghost use Rattle.std.specs.Prelude.{◌≡◌, ◌⊎◌, ◌≤◌, ℕ, List, [], None, Some};
+//! The call behind a program that has no threads.
+ghost use Rattle.std.specs.Prelude.{◌≡◌, ◌⊎◌, ◌≤◌, List, [], None, Some};
 ghost use Rattle.std.specs.Option.{is_some};
 ghost use Rattle.mw_types.specs.Causes.{Rose};
 ghost use Rattle.mw_ports.specs.Shelves.{Files};
 ghost use Rattle.row_keeper.specs.Rows.{Rows};
-ghost use Rattle.command_line.specs.Grammar.{command_of};
 ghost use Rattle.command_line.specs.declared.command.Inputs.{Inputs};
+ghost use Rattle.millwheel_cli.specs.Asked.{alone_of};
 ghost use Rattle.millwheel_cli.specs.Reasons.{ShelfSeen, HasReason, IsAnswer, AsksPlain, IsPlainAnswer};
-ghost use Rattle.millwheel_cli.specs.Answers.{Left, IsUnbegun, HasRun, HasLeft};
+ghost use Rattle.millwheel_cli.specs.Answers.{Left, HasRun, HasLeft};
 
-use crate::call::read_task;
-use crate::refusal::{status_of, status_of_words};
+use crate::asked::read_alone;
+use crate::called::called_alone;
+use crate::done::{Done, unbegun};
+use crate::refusal::status_of_words;
 use crate::status::Status;
-use crate::work::work;
-use command_line::read_words;
 use mw_ports::{Shelf, Sink};
 use mw_types::Name;
 use row_keeper::Keeper;
-use run_history::History;
 use std::alloc::Global;
 
-/// How a call ended, and what it leaves.
-#[derive(Drop)]
-pub struct Done<K> {
-    /// How it ended.
-    pub status: Status,
-    /// The keeper that was handed in.
-    pub keeper: K,
-    /// What happened in the run; nothing, where none was begun.
-    pub history: History,
-}
-
-/// Does what the words of the command line say, the program's name left out.
-///
-/// The topology, then the plan, where there is one, and then the event files, one an injector, are
-/// read and tried one after the other. Then the steps of the plan are done over the keeper, which must
-/// have no rows, all that is left is worked off, and then the text is written. In the mode plain the
-/// files are counted at once, and the keeper is handed back as it was. A refusal comes at the first step
-/// that fails.
+/// Does what the words of the command line say, the program's name left out, for a caller that has no
+/// threads: words that ask for a run are Usage. For every other call it does what `millwheel` does, and says
+/// the same of it.
 pub fn millwheel_alone<S: Shelf, K: Keeper, O: Sink>(
     alloc: Global,
     words: &[Name],
@@ -51,17 +35,18 @@ pub fn millwheel_alone<S: Shelf, K: Keeper, O: Sink>(
       rows = (K.rows keeper, K.rows result.keeper);
       text = (O.text out.old, O.text out.new);
       history = result.history;
-    } in result.status ≡ Status.Ok → HasRun (S.files shelf.old) words.now left Status.Ok }
+    } in result.status ≡ Status.Ok →
+        HasRun (S.files shelf.old) (alone_of words.now) left Status.Ok }
 
     // Each other status has its reason.
-    ensures usage { result.status ≡ Status.Usage → command_of words.now ≡ None }
-    ensures no_command { command_of words.now ≡ None →
+    ensures usage { result.status ≡ Status.Usage → alone_of words.now ≡ None }
+    ensures no_command { alone_of words.now ≡ None →
         (result.status ≡ Status.Usage) ⊎ (result.status ≡ Status.NoMemory) }
     ensures reason { let seen : ShelfSeen = record {
       files = S.files shelf.old;
       faults = (S.faults shelf.old, S.faults shelf.new);
       lacks = (S.lacks shelf.old, S.lacks shelf.new);
-    } in HasReason seen words.now result.status }
+    } in HasReason seen (alone_of words.now) result.status }
     ensures keeper_fault { result.status ≡ Status.KeeperFault →
         Rose (K.faults keeper) (K.faults result.keeper) }
     ensures sink_fault { result.status ≡ Status.SinkFault →
@@ -73,15 +58,15 @@ pub fn millwheel_alone<S: Shelf, K: Keeper, O: Sink>(
         → (Rose (S.faults shelf.old) (S.faults shelf.new) → ⊥)
         → (Rose (K.faults keeper) (K.faults result.keeper) → ⊥)
         → (Rose (O.faults out.old) (O.faults out.new) → ⊥)
-        → IsAnswer held rows words.now result.history result.status }
+        → IsAnswer held rows (alone_of words.now) result.history result.status }
 
     // The plain count needs no keeper: the files alone decide its status, and the keeper is not called.
     ensures plain_answer { (held : Files) (inputs : Inputs) → S.files shelf.old ≡ Some held
-        → AsksPlain words.now inputs
+        → AsksPlain (alone_of words.now) inputs
         → (Rose (S.faults shelf.old) (S.faults shelf.new) → ⊥)
         → (Rose (O.faults out.old) (O.faults out.new) → ⊥)
         → IsPlainAnswer held inputs result.status }
-    ensures uncalled { (inputs : Inputs) → AsksPlain words.now inputs →
+    ensures uncalled { (inputs : Inputs) → AsksPlain (alone_of words.now) inputs →
         (result.keeper ≡ keeper) × (result.history ≡ []) }
 
     // Each status leaves what is said of it, which for HistoryFull, RowDamaged and NotEmpty is also
@@ -90,7 +75,7 @@ pub fn millwheel_alone<S: Shelf, K: Keeper, O: Sink>(
       rows = (K.rows keeper, K.rows result.keeper);
       text = (O.text out.old, O.text out.new);
       history = result.history;
-    } in HasLeft (S.files shelf.old) words.now left result.status }
+    } in HasLeft (S.files shelf.old) (alone_of words.now) left result.status }
     ensures untouched { result.history ≡ [] → K.rows result.keeper ≡ K.rows keeper }
     ensures tells { is_some (K.rows result.keeper) ≡ is_some (K.rows keeper) }
 
@@ -101,24 +86,8 @@ pub fn millwheel_alone<S: Shelf, K: Keeper, O: Sink>(
     ensures keeper_later { K.faults keeper ≤ K.faults result.keeper }
     ensures out_later { O.faults out.old ≤ O.faults out.new }
 {
-    match read_words(alloc, words) {
-        Ok(command) => match read_task(alloc, shelf, &command.call) {
-            Ok(task) => work(alloc, &command.call, &task, keeper, out),
-            Err(refusal) => unbegun(alloc, status_of(refusal), keeper),
-        },
+    match read_alone(alloc, words) {
+        Ok(command) => called_alone(alloc, &command.call, shelf, keeper, out),
         Err(refusal) => unbegun(alloc, status_of_words(refusal), keeper),
-    }
-}
-
-/// What a call leaves that began no run.
-pub(crate) fn unbegun<K>(alloc: Global, status: Status, keeper: K) -> Done<K>
-    ensures status { result.status ≡ status }
-    ensures keeper { result.keeper ≡ keeper }
-    ensures history { result.history ≡ [] }
-{
-    Done {
-        status,
-        keeper,
-        history: History::new(alloc),
     }
 }

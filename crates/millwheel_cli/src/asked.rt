@@ -1,8 +1,9 @@
-//! Where the words of the command line ask for the rows to be kept.
-ghost use Rattle.std.specs.Prelude.{◌≡◌, IfOk};
-ghost use Rattle.millwheel_cli.specs.Asked.{keep_of};
+//! What the words of the command line ask for: of a caller that has no threads, and of the rows that are kept.
+ghost use Rattle.std.specs.Prelude.{◌≡◌, Err, IfOk, None, Some, false, true};
+ghost use Rattle.command_line.specs.Grammar.{HasSizes};
+ghost use Rattle.millwheel_cli.specs.Asked.{alone_of, is_run, keep_of};
 
-use command_line::{WordsRefusal, read_words};
+use command_line::{Call, Command, WordsRefusal, read_words};
 use mw_types::{Name, NoMemory};
 use std::alloc::Global;
 
@@ -15,5 +16,29 @@ pub fn keep_name(alloc: Global, words: &[Name]) -> Result<Option<Name>, NoMemory
         Ok(command) => Ok(command.keep),
         Err(WordsRefusal::Usage) => Ok(None),
         Err(WordsRefusal::NoMemory) => Err(NoMemory),
+    }
+}
+
+/// The command that the words are to a caller that has no threads.
+pub fn read_alone(alloc: Global, words: &[Name]) -> Result<Command, WordsRefusal>
+    ensures command { IfOk result (λ command. alone_of words.now ≡ Some command) }
+    ensures usage { result ≡ Err WordsRefusal.Usage → alone_of words.now ≡ None }
+    ensures sizes { IfOk result (λ command. HasSizes command.call) }
+    ensures alone { IfOk result (λ command. is_run command.call ≡ false) }
+{
+    let command = read_words(alloc, words)?;
+    if is_run(&command.call) {
+        return Err(WordsRefusal::Usage);
+    }
+    Ok(command)
+}
+
+// Whether a call asks for workers that are threads.
+fn is_run(call: &Call) -> bool
+    ensures { result ≡ is_run call.now }
+{
+    match call {
+        Call::Run { .. } => true,
+        Call::Solo { .. } | Call::Replay { .. } | Call::Plain { .. } | Call::Load { .. } => false,
     }
 }

@@ -1,17 +1,21 @@
 //! What a call asks for, with its files.
-ghost use Rattle.std.specs.Prelude.{◌≡◌, ◌≤◌, All, length, Err, None, Some, IfErr, IfOk};
+ghost use Rattle.std.specs.Prelude.{◌≡◌, ◌≤◌, ◌<◌, ◌^◌, [], length, Err, IfErr, IfOk, IsOk};
 ghost use Rattle.mw_ports.specs.Shelves.{Files};
-ghost use Rattle.scripts.specs.Steps.{IsStep};
-ghost use Rattle.millwheel_cli.specs.Tasks.{IsInputsTask, IsLoadTask, IsTask};
-ghost use Rattle.millwheel_cli.specs.Reasons.{ShelfSeen, IsRefused, IsCallRefused, load_taken};
+ghost use Rattle.topology.specs.Shapes.{injectors_of};
+ghost use Rattle.command_line.specs.Grammar.{HasSizes};
+ghost use Rattle.millwheel_cli.specs.Asked.{is_run};
+ghost use Rattle.millwheel_cli.specs.Files.{HoldsTopology};
+ghost use Rattle.millwheel_cli.specs.Tasks.{AreThere, HoldsBefore, IsInputsTask, IsLoadTask, IsTask, is_rounds};
+ghost use Rattle.millwheel_cli.specs.Reasons.{ShelfSeen, IsRefused, IsRefusedFirst, IsCallRefused, IsPlanRefused, IsTopologyRefused, load_taken};
 ghost use Rattle.millwheel_cli.specs.Inside.{UnlessWant};
 
-use crate::form::no_steps;
+use crate::form::{bare_case, no_actions, no_steps};
 use crate::load::load_case;
-use crate::reading::{read_plan, read_sources, read_topology};
+use crate::reading::{read_rounds, read_sources, read_steps, read_topology};
 use crate::refusal::Refusal;
-use crate::task::{Task, Wanted, wanted_of};
+use crate::task::{Before, Task, Wanted, wanted_of};
 use command_line::{Call, Inputs};
+use injector::ItemsList;
 use mw_ports::Shelf;
 use mw_types::{Name, NoMemory};
 use run_history::Case;
@@ -19,11 +23,14 @@ use std::alloc::Global;
 
 /// Reads the files that a call names, one after the other, up to the first that is refused.
 pub fn read_task<S: Shelf>(alloc: Global, shelf: &mut S, call: &Call) -> Result<Task, Refusal>
+    requires sizes { HasSizes call.now }
+
     ensures files { S.files shelf.new ≡ S.files shelf.old }
     ensures faults_later { S.faults shelf.old ≤ S.faults shelf.new }
     ensures lacks_later { S.lacks shelf.old ≤ S.lacks shelf.new }
     ensures asked { IfOk result (IsTask (S.files shelf.old) call.now) }
-    ensures steps { IfOk result (λ task. All (IsStep task.case.topology) task.steps) }
+    ensures there { IfOk result (λ task. AreThere task.case.topology task.before) }
+    ensures rounds { IfOk result (λ task. is_rounds task.before ≡ is_run call.now) }
     ensures refused { let seen : ShelfSeen = record {
       files = S.files shelf.old;
       faults = (S.faults shelf.old, S.faults shelf.new);
@@ -31,81 +38,166 @@ pub fn read_task<S: Shelf>(alloc: Global, shelf: &mut S, call: &Call) -> Result<
     } in IfErr result (UnlessWant (IsCallRefused seen call.now)) }
 {
     match call {
-        Call::Solo { inputs } => read_solo(alloc, shelf, inputs),
-        Call::Replay { plan, inputs } => read_replay(alloc, shelf, plan, inputs),
-        Call::Plain { inputs } => read_solo(alloc, shelf, inputs),
+        Call::Solo { inputs } => read_inputs(alloc, shelf, call, inputs),
+        Call::Replay { plan: _, inputs } => read_inputs(alloc, shelf, call, inputs),
+        Call::Run {
+            workers: _,
+            rounds: _,
+            plan: _,
+            inputs,
+        } => read_inputs(alloc, shelf, call, inputs),
+        Call::Plain { inputs } => read_inputs(alloc, shelf, call, inputs),
         Call::Load { seed, lines } => load_task(alloc, *seed, *lines),
     }
 }
 
-// The task of files without a plan.
-fn read_solo<S: Shelf>(alloc: Global, shelf: &mut S, inputs: &Inputs) -> Result<Task, Refusal>
-    ensures files { S.files shelf.new ≡ S.files shelf.old }
-    ensures faults_later { S.faults shelf.old ≤ S.faults shelf.new }
-    ensures lacks_later { S.lacks shelf.old ≤ S.lacks shelf.new }
-    ensures asked { IfOk result (IsInputsTask (S.files shelf.old) None inputs.now) }
-    ensures steps { IfOk result (λ task. All (IsStep task.case.topology) task.steps) }
-    ensures refused { let seen : ShelfSeen = record {
-      files = S.files shelf.old;
-      faults = (S.faults shelf.old, S.faults shelf.new);
-      lacks = (S.lacks shelf.old, S.lacks shelf.new);
-    } in IfErr result (UnlessWant (IsRefused seen None inputs.now)) }
-{
-    let events = inputs.events.as_slice();
-    let count = count_of(events)?;
-    let topology = read_topology(alloc, shelf, count, &inputs.topology)?;
-    let sources = match read_sources(alloc, shelf, events) {
-        Ok(sources) => sources,
-        Err(refusal) => {
-            drop(topology);
-            return Err(refusal);
-        }
-    };
-    let case = Case::of(alloc, topology, sources)?;
-    let steps = no_steps(alloc, &case)?;
-    let wanted = wanted_of(inputs.history);
-    Ok(Task {
-        case,
-        steps,
-        wanted,
-    })
-}
-
-// The task of files with a plan, which is read before the event files.
-fn read_replay<S: Shelf>(
+// The task of a call with these files.
+fn read_inputs<S: Shelf>(
     alloc: Global,
     shelf: &mut S,
-    plan: &Name,
+    call: &Call,
     inputs: &Inputs,
 ) -> Result<Task, Refusal>
+    requires sizes { HasSizes call.now }
+
     ensures files { S.files shelf.new ≡ S.files shelf.old }
     ensures faults_later { S.faults shelf.old ≤ S.faults shelf.new }
     ensures lacks_later { S.lacks shelf.old ≤ S.lacks shelf.new }
-    ensures asked { IfOk result (IsInputsTask (S.files shelf.old) (Some plan.now) inputs.now) }
-    ensures steps { IfOk result (λ task. All (IsStep task.case.topology) task.steps) }
+    ensures asked { IfOk result (IsInputsTask (S.files shelf.old) call.now inputs.now) }
+    ensures there { IfOk result (λ task. AreThere task.case.topology task.before) }
+    ensures rounds { IfOk result (λ task. is_rounds task.before ≡ is_run call.now) }
     ensures refused { let seen : ShelfSeen = record {
       files = S.files shelf.old;
       faults = (S.faults shelf.old, S.faults shelf.new);
       lacks = (S.lacks shelf.old, S.lacks shelf.new);
-    } in IfErr result (UnlessWant (IsRefused seen (Some plan.now) inputs.now)) }
+    } in IfErr result (UnlessWant (IsRefused seen call.now inputs.now)) }
 {
-    let events = inputs.events.as_slice();
-    let count = count_of(events)?;
-    let topology = read_topology(alloc, shelf, count, &inputs.topology)?;
-    let (topology, steps) = read_plan(alloc, shelf, topology, plan)?;
-    let sources = match read_sources(alloc, shelf, events) {
-        Ok(sources) => sources,
-        Err(refusal) => {
-            drop(topology);
-            drop(steps);
-            return Err(refusal);
+    let (bare, before) = read_first(alloc, shelf, call, inputs)?;
+    match read_sources(alloc, shelf, inputs.events.as_slice()) {
+        Ok(sources) => {
+            let wanted = wanted_of(inputs.history);
+            Ok(task_of(alloc, bare, before, sources, wanted)?)
         }
-    };
-    let case = Case::of(alloc, topology, sources)?;
-    let wanted = wanted_of(inputs.history);
+        Err(refusal) => {
+            drop(bare);
+            drop(before);
+            Err(refusal)
+        }
+    }
+}
+
+// What is read before the event files: the case of the topology, without a line, and what comes before the
+// drain.
+fn read_first<S: Shelf>(
+    alloc: Global,
+    shelf: &mut S,
+    call: &Call,
+    inputs: &Inputs,
+) -> Result<(Case, Before), Refusal>
+    requires sizes { HasSizes call.now }
+
+    ensures files { S.files shelf.new ≡ S.files shelf.old }
+    ensures faults_later { S.faults shelf.old ≤ S.faults shelf.new }
+    ensures lacks_later { S.lacks shelf.old ≤ S.lacks shelf.new }
+    ensures few { IsOk result → length inputs.now.events < 2 ^ 32 }
+    ensures topology { IfOk result (λ read. HoldsTopology (S.files shelf.old) inputs.now.topology
+        (length inputs.now.events) read.0.topology) }
+    ensures injectors { IfOk result
+        (λ read. injectors_of read.0.topology ≡ length inputs.now.events) }
+    ensures before { IfOk result
+        (λ read. HoldsBefore (S.files shelf.old) call.now read.0.topology read.1) }
+    ensures there { IfOk result (λ read. AreThere read.0.topology read.1) }
+    ensures rounds { IfOk result (λ read. is_rounds read.1 ≡ is_run call.now) }
+    ensures refused { let seen : ShelfSeen = record {
+      files = S.files shelf.old;
+      faults = (S.faults shelf.old, S.faults shelf.new);
+      lacks = (S.lacks shelf.old, S.lacks shelf.new);
+    } in IfErr result (UnlessWant (IsRefusedFirst seen call.now inputs.now)) }
+{
+    let bare = read_bare(alloc, shelf, inputs)?;
+    let before = read_before(alloc, shelf, &bare, call)?;
+    Ok((bare, before))
+}
+
+// The case of the topology, without a line.
+fn read_bare<S: Shelf>(alloc: Global, shelf: &mut S, inputs: &Inputs) -> Result<Case, Refusal>
+    ensures files { S.files shelf.new ≡ S.files shelf.old }
+    ensures faults_later { S.faults shelf.old ≤ S.faults shelf.new }
+    ensures lacks_later { S.lacks shelf.old ≤ S.lacks shelf.new }
+    ensures few { IsOk result → length inputs.now.events < 2 ^ 32 }
+    ensures topology { IfOk result (λ bare. HoldsTopology (S.files shelf.old) inputs.now.topology
+        (length inputs.now.events) bare.topology) }
+    ensures injectors { IfOk result
+        (λ bare. injectors_of bare.topology ≡ length inputs.now.events) }
+    ensures refused { let seen : ShelfSeen = record {
+      files = S.files shelf.old;
+      faults = (S.faults shelf.old, S.faults shelf.new);
+      lacks = (S.lacks shelf.old, S.lacks shelf.new);
+    } in IfErr result (UnlessWant (IsTopologyRefused seen
+        (length inputs.now.events) inputs.now.topology)) }
+{
+    let count = count_of(inputs.events.as_slice())?;
+    let topology = read_topology(alloc, shelf, count, &inputs.topology)?;
+    Ok(bare_case(alloc, topology)?)
+}
+
+// What comes before the drain of a call, over the topology of a case.
+fn read_before<S: Shelf>(
+    alloc: Global,
+    shelf: &mut S,
+    case: &Case,
+    call: &Call,
+) -> Result<Before, Refusal>
+    requires sizes { HasSizes call.now }
+
+    ensures files { S.files shelf.new ≡ S.files shelf.old }
+    ensures faults_later { S.faults shelf.old ≤ S.faults shelf.new }
+    ensures lacks_later { S.lacks shelf.old ≤ S.lacks shelf.new }
+    ensures before { IfOk result (HoldsBefore (S.files shelf.old) call.now case.now.topology) }
+    ensures there { IfOk result (AreThere case.now.topology) }
+    ensures rounds { IfOk result (λ before. is_rounds before ≡ is_run call.now) }
+    ensures refused { let seen : ShelfSeen = record {
+      files = S.files shelf.old;
+      faults = (S.faults shelf.old, S.faults shelf.new);
+      lacks = (S.lacks shelf.old, S.lacks shelf.new);
+    } in IfErr result (UnlessWant (IsPlanRefused seen call.now case.now.topology)) }
+{
+    match call {
+        Call::Replay { plan, inputs: _ } => read_steps(alloc, shelf, case, plan),
+        Call::Run {
+            workers,
+            rounds,
+            plan: Some(plan),
+            inputs: _,
+        } => read_rounds(alloc, shelf, case, *workers, *rounds, plan),
+        Call::Run {
+            workers,
+            rounds,
+            plan: None,
+            inputs: _,
+        } => Ok(no_actions(alloc, case, *workers, *rounds)?),
+        Call::Solo { .. } | Call::Plain { .. } | Call::Load { .. } => Ok(no_steps(alloc, case)?),
+    }
+}
+
+// The task of a topology, of what comes before its drain, and of what its injectors have.
+fn task_of(
+    alloc: Global,
+    bare: Case,
+    before: Before,
+    sources: ItemsList,
+    wanted: Wanted,
+) -> Result<Task, NoMemory>
+    requires { length sources ≡ injectors_of bare.topology }
+    ensures case { IfOk result
+        (λ task. task.case ≡ record { topology = bare.topology; sources = sources }) }
+    ensures before { IfOk result (λ task. task.before ≡ before) }
+    ensures wanted { IfOk result (λ task. task.wanted ≡ wanted) }
+{
+    let case = Case::of(alloc, bare.topology, sources)?;
     Ok(Task {
         case,
-        steps,
+        before,
         wanted,
     })
 }
@@ -124,15 +216,14 @@ fn count_of(events: &[Name]) -> Result<u32, NoMemory>
 // The task of load, by a seed and with so many lines.
 fn load_task(alloc: Global, seed: u32, lines: u32) -> Result<Task, Refusal>
     ensures asked { IfOk result (IsLoadTask seed lines) }
-    ensures steps { IfOk result (λ task. All (IsStep task.case.topology) task.steps) }
     ensures refused { IfErr result (UnlessWant (λ status. load_taken seed lines ≡ Err status)) }
 {
     let case = load_case(alloc, seed, lines)?;
-    let steps = no_steps(alloc, &case)?;
+    let before = no_steps(alloc, &case)?;
     let wanted = Wanted::SummaryAlone;
     Ok(Task {
         case,
-        steps,
+        before,
         wanted,
     })
 }

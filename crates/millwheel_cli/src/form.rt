@@ -1,14 +1,16 @@
 //! What the bytes of files are taken for.
-ghost use Rattle.std.specs.Prelude.{◌≡◌, ◌<◌, ◌^◌, [], All, length, map, replicate, Err, IfErr, IfOk, Ok};
+ghost use Rattle.std.specs.Prelude.{◌≡◌, ◌<◌, ◌^◌, [], false, length, true, Err, IfErr, IfOk, Ok};
 ghost use Rattle.topology.specs.Shapes.{injectors_of};
-ghost use Rattle.scripts.specs.Steps.{IsStep};
+ghost use Rattle.command_line.specs.Grammar.{AreSizes};
 ghost use Rattle.millwheel_cli.specs.Files.{topology_taken, source_taken};
-ghost use Rattle.millwheel_cli.specs.Tasks.{plan_taken};
+ghost use Rattle.millwheel_cli.specs.Tasks.{AreThere, is_rounds, rounds_taken, steps_taken};
 ghost use Rattle.millwheel_cli.specs.Inside.{of_lines, UnlessWant};
 
 use crate::refusal::Refusal;
+use crate::task::Before;
 use injector::{Items, ItemsList, LinesRefusal, read_lines};
 use mw_types::{NoMemory, Seq};
+use plans::{Actions, read_actions};
 use run_history::Case;
 use schedules::{Schedule, read_schedule};
 use std::alloc::Global;
@@ -30,26 +32,8 @@ pub fn topology_of(alloc: Global, count: u32, bytes: &[u8]) -> Result<Topology, 
     Ok(topology)
 }
 
-/// The steps that the bytes of a plan are taken for, over a topology, which is handed back.
-pub fn steps_of(
-    alloc: Global,
-    topology: Topology,
-    bytes: &[u8],
-) -> Result<(Topology, Schedule), Refusal>
-    requires { length bytes.now < 2 ^ 32 }
-    ensures topology { IfOk result (λ read. read.0 ≡ topology) }
-    ensures taken { IfOk result (λ read. plan_taken topology bytes.now ≡ Ok read.1) }
-    ensures steps { IfOk result (λ read. All (IsStep topology) read.1) }
-    ensures refused { IfErr result
-        (UnlessWant (λ status. plan_taken topology bytes.now ≡ Err status)) }
-{
-    let bare = bare_case(alloc, topology)?;
-    let steps = read_schedule(alloc, bytes, &bare)?;
-    Ok((bare.topology, steps))
-}
-
-// The case of a topology whose injectors have no line: a plan speaks of the topology alone.
-fn bare_case(alloc: Global, topology: Topology) -> Result<Case, NoMemory>
+/// The case of a topology whose injectors have no line: a plan speaks of the topology alone.
+pub fn bare_case(alloc: Global, topology: Topology) -> Result<Case, NoMemory>
     ensures { IfOk result (λ case. case.topology ≡ topology) }
 {
     let sources = no_lines(alloc, topology.injectors())?;
@@ -67,12 +51,81 @@ fn no_lines(alloc: Global, count: u32) -> Result<ItemsList, NoMemory>
     Ok(sources)
 }
 
+/// The steps that the bytes of a plan are taken for, over the topology of a case.
+pub fn steps_of(alloc: Global, case: &Case, bytes: &[u8]) -> Result<Before, Refusal>
+    requires { length bytes.now < 2 ^ 32 }
+    ensures taken { IfOk result (λ before. steps_taken case.now.topology bytes.now ≡ Ok before) }
+    ensures there { IfOk result (AreThere case.now.topology) }
+    ensures steps { IfOk result (λ before. is_rounds before ≡ false) }
+    ensures refused { IfErr result
+        (UnlessWant (λ status. steps_taken case.now.topology bytes.now ≡ Err status)) }
+{
+    let steps = read_schedule(alloc, bytes, case)?;
+    Ok(Before::Steps { steps })
+}
+
+/// The rounds that the bytes of a plan are taken for, over the topology of a case and of so many workers.
+pub fn rounds_of(
+    alloc: Global,
+    case: &Case,
+    workers: u32,
+    rounds: u32,
+    bytes: &[u8],
+) -> Result<Before, Refusal>
+    requires few { length bytes.now < 2 ^ 32 }
+    requires sizes { AreSizes workers rounds }
+
+    ensures taken { IfOk result
+        (λ before. rounds_taken case.now.topology workers rounds bytes.now ≡ Ok before) }
+    ensures there { IfOk result (AreThere case.now.topology) }
+    ensures rounds { IfOk result (λ before. is_rounds before ≡ true) }
+    ensures refused { IfErr result (UnlessWant
+        (λ status. rounds_taken case.now.topology workers rounds bytes.now ≡ Err status)) }
+{
+    let actions = read_actions(alloc, bytes, case, workers, rounds)?;
+    Ok(Before::Rounds {
+        workers,
+        rounds,
+        actions,
+    })
+}
+
 /// The steps where there is no plan: none.
-pub fn no_steps(alloc: Global, case: &Case) -> Result<Schedule, NoMemory>
+pub fn no_steps(alloc: Global, case: &Case) -> Result<Before, NoMemory>
+    ensures { IfOk result (λ before. before ≡ Before.Steps []) }
+{
+    let steps = no_schedule(alloc, case)?;
+    Ok(Before::Steps { steps })
+}
+
+// A script without a step.
+fn no_schedule(alloc: Global, case: &Case) -> Result<Schedule, NoMemory>
     ensures { IfOk result (λ steps. steps ≡ []) }
 {
     match read_schedule(alloc, &[], case) {
         Ok(steps) => Ok(steps),
+        Err(_) => Err(NoMemory),
+    }
+}
+
+/// The rounds of so many workers where there is no plan: nothing happens in them.
+pub fn no_actions(alloc: Global, case: &Case, workers: u32, rounds: u32) -> Result<Before, NoMemory>
+    ensures { IfOk result (λ before. before ≡ Before.Rounds workers rounds []) }
+{
+    let actions = no_plan(alloc, case, workers, rounds)?;
+    Ok(Before::Rounds {
+        workers,
+        rounds,
+        actions,
+    })
+}
+
+// A plan without an action.
+fn no_plan(alloc: Global, case: &Case, workers: u32, rounds: u32) -> Result<Actions, NoMemory>
+    ensures { IfOk result (λ actions. actions ≡ []) }
+{
+    match read_actions(alloc, &[], case, workers, rounds) {
+        Ok(actions) => Ok(actions),
         Err(_) => Err(NoMemory),
     }
 }

@@ -4,7 +4,7 @@ ghost use Rattle.mw_types.specs.Causes.{Rose};
 ghost use Rattle.millwheel_cli.specs.Answers.{CountLeaves, Left};
 ghost use Rattle.millwheel_cli.specs.Inside.{HasPlain};
 
-use crate::alone::{Done, unbegun};
+use crate::done::{Done, unbegun};
 use crate::status::Status;
 use crate::text::status_of_sink;
 use mw_ports::{Sink, write_all};

@@ -1,20 +1,21 @@
 //! The reading of files: a topology, a plan, event files.
-ghost use Rattle.std.specs.Prelude.{◌≡◌, ◌≤◌, ◌<◌, ◌^◌, All, length, Some, IfErr, IfOk};
+ghost use Rattle.std.specs.Prelude.{◌≡◌, ◌≤◌, ◌<◌, ◌^◌, false, length, true, IfErr, IfOk, Ok};
 ghost use Rattle.mw_ports.specs.Shelves.{Files};
 ghost use Rattle.topology.specs.Shapes.{injectors_of};
-ghost use Rattle.scripts.specs.Steps.{IsStep};
-ghost use Rattle.millwheel_cli.specs.Limits.{events_limit, lines_limit};
-ghost use Rattle.millwheel_cli.specs.Files.{source_taken, IsContent, HoldsTopology, HoldsSource, HoldsSources};
-ghost use Rattle.millwheel_cli.specs.Tasks.{HoldsPlan};
-ghost use Rattle.millwheel_cli.specs.Reasons.{ShelfSeen, IsUnread, IsFileRefused, IsTopologyRefused, IsPlanRefused, IsSourceRefused};
+ghost use Rattle.command_line.specs.Grammar.{AreSizes};
+ghost use Rattle.millwheel_cli.specs.Limits.{events_limit, lines_limit, plan_limit};
+ghost use Rattle.millwheel_cli.specs.Files.{source_taken, IsContent, HoldsAs, HoldsTopology, HoldsSource, HoldsSources};
+ghost use Rattle.millwheel_cli.specs.Tasks.{AreThere, is_rounds, rounds_taken, steps_taken};
+ghost use Rattle.millwheel_cli.specs.Reasons.{ShelfSeen, IsUnread, IsFileRefused, IsTopologyRefused, IsSourceRefused};
 ghost use Rattle.millwheel_cli.specs.Inside.{of_shelf, UnlessWant};
 
-use crate::form::{items_of, steps_of, topology_of};
+use crate::form::{items_of, rounds_of, steps_of, topology_of};
 use crate::refusal::Refusal;
+use crate::task::Before;
 use injector::{Items, ItemsList};
 use mw_ports::{Shelf, ShelfFault};
 use mw_types::{Bytes, Duplicate, Name, NoMemory, Seq};
-use schedules::Schedule;
+use run_history::Case;
 use std::alloc::Global;
 use text_lines::LINES_MAX;
 use topology::Topology;
@@ -51,29 +52,60 @@ pub fn read_topology<S: Shelf>(
     Ok(topology)
 }
 
-/// The steps in the plan's file of that name, over a topology, which is handed back.
-pub fn read_plan<S: Shelf>(
+/// The steps in the plan's file of that name, over the topology of a case.
+pub fn read_steps<S: Shelf>(
     alloc: Global,
     shelf: &mut S,
-    topology: Topology,
+    case: &Case,
     name: &Name,
-) -> Result<(Topology, Schedule), Refusal>
+) -> Result<Before, Refusal>
     ensures files { S.files shelf.new ≡ S.files shelf.old }
     ensures faults_later { S.faults shelf.old ≤ S.faults shelf.new }
     ensures lacks_later { S.lacks shelf.old ≤ S.lacks shelf.new }
-    ensures topology { IfOk result (λ read. read.0 ≡ topology) }
-    ensures plan { IfOk result (λ read.
-        HoldsPlan (S.files shelf.old) (Some name.now) topology read.1) }
-    ensures steps { IfOk result (λ read. All (IsStep topology) read.1) }
+    ensures plan { IfOk result
+        (λ before. HoldsAs (S.files shelf.old) name.now plan_limit
+        (steps_taken case.now.topology) (Ok before)) }
+    ensures there { IfOk result (AreThere case.now.topology) }
+    ensures steps { IfOk result (λ before. is_rounds before ≡ false) }
     ensures refused { let seen : ShelfSeen = record {
       files = S.files shelf.old;
       faults = (S.faults shelf.old, S.faults shelf.new);
       lacks = (S.lacks shelf.old, S.lacks shelf.new);
-    } in IfErr result (UnlessWant (IsPlanRefused seen (Some name.now) topology)) }
+    } in IfErr result (UnlessWant (IsFileRefused seen name.now plan_limit
+        (steps_taken case.now.topology))) }
 {
     let bytes = read_file(alloc, shelf, name, PLAN_MAX)?;
-    let read = steps_of(alloc, topology, bytes.as_slice())?;
-    Ok(read)
+    steps_of(alloc, case, bytes.as_slice())
+}
+
+/// The rounds in the plan's file of that name, over the topology of a case and of so many workers.
+pub fn read_rounds<S: Shelf>(
+    alloc: Global,
+    shelf: &mut S,
+    case: &Case,
+    workers: u32,
+    rounds: u32,
+    name: &Name,
+) -> Result<Before, Refusal>
+    requires sizes { AreSizes workers rounds }
+
+    ensures files { S.files shelf.new ≡ S.files shelf.old }
+    ensures faults_later { S.faults shelf.old ≤ S.faults shelf.new }
+    ensures lacks_later { S.lacks shelf.old ≤ S.lacks shelf.new }
+    ensures plan { IfOk result
+        (λ before. HoldsAs (S.files shelf.old) name.now plan_limit
+        (rounds_taken case.now.topology workers rounds) (Ok before)) }
+    ensures there { IfOk result (AreThere case.now.topology) }
+    ensures rounds { IfOk result (λ before. is_rounds before ≡ true) }
+    ensures refused { let seen : ShelfSeen = record {
+      files = S.files shelf.old;
+      faults = (S.faults shelf.old, S.faults shelf.new);
+      lacks = (S.lacks shelf.old, S.lacks shelf.new);
+    } in IfErr result (UnlessWant (IsFileRefused seen name.now plan_limit
+        (rounds_taken case.now.topology workers rounds))) }
+{
+    let bytes = read_file(alloc, shelf, name, PLAN_MAX)?;
+    rounds_of(alloc, case, workers, rounds, bytes.as_slice())
 }
 
 /// What the event files of these names hold, each with the room for record lines that those before it

@@ -1,5 +1,5 @@
 //! The run of a task over a keeper, and the writing of its text.
-ghost use Rattle.std.specs.Prelude.{◌≡◌, ◌≤◌, [], All, Err, IfErr, IfSome, OnOk, length, replicate};
+ghost use Rattle.std.specs.Prelude.{◌≡◌, ◌≤◌, [], All, Err, IfErr, IfSome, OnOk, false, length, replicate};
 ghost use Rattle.std.specs.Option.{is_some};
 ghost use Rattle.mw_types.specs.Causes.{Rose};
 ghost use Rattle.run_history.specs.Cases.{intervals_of};
@@ -15,11 +15,12 @@ ghost use Rattle.scripts.specs.Steps.{IsStep};
 ghost use Rattle.world.specs.WorldStates.{world_of};
 ghost use Rattle.millwheel_cli.specs.Limits.{history_limit};
 ghost use Rattle.millwheel_cli.specs.Answers.{Left, RunLeaves};
+ghost use Rattle.millwheel_cli.specs.Tasks.{AreThere, is_rounds};
 ghost use Rattle.millwheel_cli.specs.Inside.{of_start, of_drain};
 
-use crate::alone::{Done, unbegun};
+use crate::done::{Done, unbegun};
 use crate::status::Status;
-use crate::task::Task;
+use crate::task::{Before, Task};
 use crate::text::write;
 use book::{Book, StartRefusal, StartWhy};
 use computations::{Computation, Kinds};
@@ -32,12 +33,44 @@ use row_keeper::Keeper;
 use std::alloc::Global;
 use world::{Step, World, WorldRefusal, run_script};
 
-// How many entries a history may have.
-const HISTORY_MAX: u64 = 1 << 32;
+/// How many entries a history may have.
+pub(crate) const HISTORY_MAX: u64 = 1 << 32;
 
-/// Runs a task over a keeper to its end, and writes its text.
+/// Runs a task that has no rounds over a keeper to its end, and writes its text.
 pub fn run<K: Keeper, O: Sink>(alloc: Global, task: &Task, keeper: K, out: &mut O) -> Done<K>
-    requires steps { All (IsStep task.now.case.topology) task.now.steps }
+    requires there { AreThere task.now.case.topology task.now.before }
+    requires alone { is_rounds task.now.before ≡ false }
+
+    ensures keeper_later { K.faults keeper ≤ K.faults result.keeper }
+    ensures out_later { O.faults out.old ≤ O.faults out.new }
+    ensures keeper_fault { result.status ≡ Status.KeeperFault →
+        Rose (K.faults keeper) (K.faults result.keeper) }
+    ensures sink_fault { result.status ≡ Status.SinkFault →
+        Rose (O.faults out.old) (O.faults out.new) }
+    ensures left { let left : Left = record {
+      rows = (K.rows keeper, K.rows result.keeper);
+      text = (O.text out.old, O.text out.new);
+      history = result.history;
+    } in RunLeaves task.now left result.status }
+    ensures untouched { result.history ≡ [] → K.rows result.keeper ≡ K.rows keeper }
+    ensures tells { is_some (K.rows result.keeper) ≡ is_some (K.rows keeper) }
+{
+    match &task.before {
+        Before::Steps { steps } => run_steps(alloc, task, steps.steps(), keeper, out),
+        Before::Rounds { .. } => unreachable!(),
+    }
+}
+
+// Runs a task with these steps over a keeper to its end, and writes its text.
+fn run_steps<K: Keeper, O: Sink>(
+    alloc: Global,
+    task: &Task,
+    steps: &[Step],
+    keeper: K,
+    out: &mut O,
+) -> Done<K>
+    requires before { task.now.before ≡ Before.Steps steps.now }
+    requires steps { All (IsStep task.now.case.topology) steps.now }
 
     ensures keeper_later { K.faults keeper ≤ K.faults result.keeper }
     ensures out_later { O.faults out.old ≤ O.faults out.new }
@@ -54,7 +87,7 @@ pub fn run<K: Keeper, O: Sink>(alloc: Global, task: &Task, keeper: K, out: &mut 
     ensures tells { is_some (K.rows result.keeper) ≡ is_some (K.rows keeper) }
 {
     match Kinds::of(alloc, &task.case.topology) {
-        Ok(work) => run_work(alloc, task, work, keeper, out),
+        Ok(work) => run_work(alloc, task, steps, work, keeper, out),
         Err(NoMemory) => unbegun(alloc, Status::NoMemory, keeper),
     }
 }
@@ -63,13 +96,15 @@ pub fn run<K: Keeper, O: Sink>(alloc: Global, task: &Task, keeper: K, out: &mut 
 fn run_work<K: Keeper, C: Computation + Drop, O: Sink>(
     alloc: Global,
     task: &Task,
+    steps: &[Step],
     work: C,
     keeper: K,
     out: &mut O,
 ) -> Done<K>
     requires work { IsWorkOf task.now.case.topology (C.has work)
         (C.gives_record work) (C.gives_timer work) }
-    requires steps { All (IsStep task.now.case.topology) task.now.steps }
+    requires before { task.now.before ≡ Before.Steps steps.now }
+    requires steps { All (IsStep task.now.case.topology) steps.now }
 
     ensures keeper_later { K.faults keeper ≤ K.faults result.keeper }
     ensures out_later { O.faults out.old ≤ O.faults out.new }
@@ -86,13 +121,13 @@ fn run_work<K: Keeper, C: Computation + Drop, O: Sink>(
     ensures tells { is_some (K.rows result.keeper) ≡ is_some (K.rows keeper) }
 {
     match Book::start(alloc, &task.case, keeper, HISTORY_MAX) {
-        Ok(book) => run_book(alloc, book, work, task, out),
+        Ok(book) => run_book(alloc, book, work, task, steps, out),
         Err(refusal) => unstarted(alloc, refusal),
     }
 }
 
-// What a call leaves that began no book.
-fn unstarted<K: Keeper>(alloc: Global, refusal: StartRefusal<K>) -> Done<K>
+/// What a call leaves that began no book.
+pub(crate) fn unstarted<K: Keeper>(alloc: Global, refusal: StartRefusal<K>) -> Done<K>
     ensures status { result.status ≡ of_start refusal.why }
     ensures keeper { result.keeper ≡ refusal.keeper }
     ensures history { result.history ≡ [] }
@@ -107,12 +142,14 @@ fn run_book<'a, K: Keeper, C: Computation + Drop, O: Sink>(
     book: Book<'a, K>,
     work: C,
     task: &Task,
+    steps: &[Step],
     out: &mut O,
 ) -> Done<K>
     requires work { IsWorkOf book.case.topology (C.has work)
         (C.gives_record work) (C.gives_timer work) }
     requires case { book.case ≡ task.now.case }
-    requires steps { All (IsStep task.now.case.topology) task.now.steps }
+    requires before { task.now.before ≡ Before.Steps steps.now }
+    requires steps { All (IsStep task.now.case.topology) steps.now }
     requires empty { book.history ≡ [] }
     requires marks { let shape = book.case.topology in
         book.marks ≡ replicate (length (intervals_of shape)) 0 }
@@ -133,7 +170,7 @@ fn run_book<'a, K: Keeper, C: Computation + Drop, O: Sink>(
     ensures tells { is_some (K.rows result.keeper) ≡ is_some book.entry.rows }
 {
     match World::start(alloc, book, work) {
-        Ok(world) => run_world(alloc, world, task, out),
+        Ok(world) => run_world(alloc, world, task, steps, out),
         Err(refusal) => unworlded(refusal),
     }
 }
@@ -160,10 +197,12 @@ fn run_world<'a, K: Keeper, C: Computation + Drop, O: Sink>(
     alloc: Global,
     world: World<'a, K, C>,
     task: &Task,
+    steps: &[Step],
     out: &mut O,
 ) -> Done<K>
     requires case { world.book.case ≡ task.now.case }
-    requires steps { All (IsStep task.now.case.topology) task.now.steps }
+    requires before { task.now.before ≡ Before.Steps steps.now }
+    requires steps { All (IsStep task.now.case.topology) steps.now }
     requires begun { world_of world ≡ empty_world task.now.case.topology }
     requires limit { world.book.limit ≡ history_limit }
 
@@ -182,7 +221,7 @@ fn run_world<'a, K: Keeper, C: Computation + Drop, O: Sink>(
     ensures tells { is_some (K.rows result.keeper) ≡ is_some world.entry.book.rows }
 {
     let mut world = world;
-    let status = finish(alloc, &mut world, task, out);
+    let status = finish(alloc, &mut world, task, steps, out);
     let (keeper, history) = world.into_book().into_parts();
     Done {
         status,
@@ -196,10 +235,12 @@ fn finish<'a, K: Keeper, C: Computation + Drop, O: Sink>(
     alloc: Global,
     world: &mut World<'a, K, C>,
     task: &Task,
+    steps: &[Step],
     out: &mut O,
 ) -> Status
     requires case { world.old.book.case ≡ task.now.case }
-    requires steps { All (IsStep task.now.case.topology) task.now.steps }
+    requires before { task.now.before ≡ Before.Steps steps.now }
+    requires steps { All (IsStep task.now.case.topology) steps.now }
     requires begun { world_of world.old ≡ empty_world task.now.case.topology }
     requires limit { world.old.book.limit ≡ history_limit }
 
@@ -217,7 +258,7 @@ fn finish<'a, K: Keeper, C: Computation + Drop, O: Sink>(
     ensures tells { is_some world.new.book.rows ≡ is_some world.old.book.rows }
 {
     look(world);
-    let replayed = replay(alloc, world, task.steps.steps());
+    let replayed = replay(alloc, world, steps);
     look(world);
     let history = world.book().history();
     drains_leave_no_work();
@@ -278,8 +319,8 @@ fn status_of_start(why: StartWhy) -> Status
     }
 }
 
-// The status where a drain did not come to its end.
-fn status_of_drain(fault: NodeFault) -> Status
+/// The status where a drain did not come to its end.
+pub(crate) fn status_of_drain(fault: NodeFault) -> Status
     ensures { result ≡ of_drain fault }
 {
     match fault {

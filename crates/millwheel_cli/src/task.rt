@@ -2,6 +2,7 @@
 ghost use Rattle.std.specs.Prelude.{◌≡◌};
 ghost use Rattle.millwheel_cli.specs.Tasks.{wanted_of};
 
+use plans::Actions;
 use run_history::Case;
 use schedules::Schedule;
 
@@ -16,13 +17,32 @@ pub enum Wanted {
     SummaryAlone,
 }
 
-/// The case of a run, the steps that come before its drain, and what is to be written of it.
+/// What comes before the drain of a run.
+#[derive(Drop)]
+pub enum Before {
+    /// The steps of a plan, which one thread does. Without a plan there are none.
+    Steps {
+        /// The steps.
+        steps: Schedule,
+    },
+    /// Rounds of work, which workers that are threads do.
+    Rounds {
+        /// How many workers there are: 1 to 16.
+        workers: u32,
+        /// How many rounds they do: 0 to 1,000.
+        rounds: u32,
+        /// What a plan has happen to them. Without a plan there is nothing.
+        actions: Actions,
+    },
+}
+
+/// The case of a run, what comes before its drain, and what is to be written of it.
 #[derive(Drop)]
 pub struct Task {
     /// What is run.
     pub case: Case,
-    /// The steps of a plan. Without one there are none.
-    pub steps: Schedule,
+    /// What comes before the drain.
+    pub before: Before,
     /// What is to be written.
     pub wanted: Wanted,
 }

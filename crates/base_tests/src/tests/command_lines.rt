@@ -44,6 +44,22 @@ fn say_load(alloc: Global, said: &mut String, seed: u32, lines: u32) -> Result<(
     Ok(())
 }
 
+// Appends how many workers and rounds are asked for, and the plan's name.
+fn say_run(
+    alloc: Global,
+    said: &mut String,
+    workers: u32,
+    rounds: u32,
+    plan: Option<&Name>,
+) -> Result<(), Fail> {
+    said.push_str(format!(in alloc; "run {workers} {rounds}")?.as_str())?;
+    if let Some(name) = plan {
+        said.push_str(" plan")?;
+        say_name(said, name)?;
+    }
+    Ok(())
+}
+
 // Appends what a call asks for.
 fn say_call(alloc: Global, said: &mut String, call: &Call) -> Result<(), Fail> {
     match call {
@@ -54,6 +70,15 @@ fn say_call(alloc: Global, said: &mut String, call: &Call) -> Result<(), Fail> {
         Call::Replay { plan, inputs } => {
             said.push_str("replay")?;
             say_name(said, plan)?;
+            Ok(say_inputs(said, inputs)?)
+        }
+        Call::Run {
+            workers,
+            rounds,
+            plan,
+            inputs,
+        } => {
+            say_run(alloc, said, *workers, *rounds, plan.as_ref())?;
             Ok(say_inputs(said, inputs)?)
         }
         Call::Plain { inputs } => {

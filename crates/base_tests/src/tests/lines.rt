@@ -2,7 +2,7 @@
 
 /// A line's words stand with one blank between them, and `""` is the empty word. The command has each name
 /// in brackets.
-pub(super) const LINES: [(&str, &str); 86] = [
+pub(super) const LINES: [(&str, &str); 99] = [
     ("", "usage"),
     ("solo t e", "solo [t] [e]"),
     ("solo t e f g", "solo [t] [e] [f] [g]"),
@@ -56,7 +56,23 @@ pub(super) const LINES: [(&str, &str); 86] = [
     ("solo t e -h", "usage"),
     ("--help", "usage"),
     ("--version", "usage"),
-    ("run --workers 2 --rounds 3 t e", "usage"),
+    ("run --workers 2 --rounds 3 t e", "run 2 3 [t] [e]"),
+    (
+        "run t e f --rounds=0 --workers 16 --history --plan p",
+        "run 16 0 plan [p] [t] [e] [f] history",
+    ),
+    ("--workers 01 run --rounds 1000 t e", "run 1 1000 [t] [e]"),
+    ("run --workers 0 --rounds 3 t e", "usage"),
+    ("run --workers 17 --rounds 3 t e", "usage"),
+    ("run --workers 2 --rounds 1001 t e", "usage"),
+    ("run --workers 2 --rounds -1 t e", "usage"),
+    ("run --workers two --rounds 3 t e", "usage"),
+    ("run --workers 2 t e", "usage"),
+    ("run --rounds 3 t e", "usage"),
+    ("run t e", "usage"),
+    ("run --workers 2 --rounds 3 t", "usage"),
+    ("run --workers 2 --rounds 3 t e --keep k", "usage"),
+    ("run --workers 2 --workers 2 --rounds 3 t e", "usage"),
     ("replay --plan p t e", "replay [p] [t] [e]"),
     ("replay t e --plan=p", "replay [p] [t] [e]"),
     ("replay --plan=-p t e", "replay [-p] [t] [e]"),

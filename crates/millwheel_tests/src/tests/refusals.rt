@@ -18,6 +18,7 @@ fn words_that_are_no_command_are_refused(rt: HostRuntime) -> Result<(), Fail> {
         "sing t.json e",
         "replay t.json e",
         "run t.json e",
+        "run --workers 2 --rounds 3 t.json e",
         "load 7 0",
         "load 7 3 --history",
         "solo --history t.json",

@@ -7,10 +7,11 @@ use Rattle.run_history.specs.Printing.{IsPrintable}
 use Rattle.run_history.specs.HistoryLines.{HasLine}
 use Rattle.run_history.specs.Inputs.{IsRunnable}
 use Rattle.scripts.specs.Worlds.{World}
-use Rattle.scripts.specs.declared.step.Step.{Step}
 use Rattle.world.specs.Replays.{IsReplayed, IsWholeReplay}
+use Rattle.millwheel_cli.specs.declared.task.Before.{Before}
+use Rattle.millwheel_cli.specs.Histories.{GoesAs, IsAllOf}
 use Rattle.millwheel_cli.specs.Answers.{RunLeaves}
-use Rattle.millwheel_cli.proofs.Running.{run_of_book, run_short, whole_run, same_where_empty, damaged_of, more_seen}
+use Rattle.millwheel_cli.proofs.Running.{run_of_book, run_short, whole_run, same_where_empty, damaged_at, more_seen}
 use Rattle.millwheel_cli.proofs.Statuses.{drain_fault, drain_sink, text_keeper}
 use Rattle.millwheel_cli.proofs.Leaving.{wrote_as, told_plainly, stopped}
 use Rattle.millwheel_cli.proofs.run.finish.Goals as goal
@@ -22,13 +23,14 @@ returns-in-Ok-clause-left g c =
     let new = c.replay-replayed.new.world.book in
     let after = c.replay-replayed.ensures in
     let empty = ap (λ (w : World). w.history) c.requires.begun in
-    let replayed = subst (λ (k : CaseShape). IfSome old.rows (λ _. IsReplayed k task.steps new.history)) c.requires.case
-    (subst (λ (ss : List Step). IfSome old.rows (λ _. IsReplayed old.case ss new.history)) c.steps.ensures.steps after.replayed) in
-    let all = subst (λ (k : CaseShape). IfSome old.rows (λ _. IsWholeReplay k task.steps new.history)) c.requires.case
-    (subst (λ (ss : List Step). IfSome old.rows (λ _. IsWholeReplay old.case ss new.history)) c.steps.ensures.steps
+    let steps = c.args.steps.now in
+    let goes = subst (λ (b : Before). IfSome old.rows (λ _. GoesAs task.case b new.history)) (sym c.requires.before)
+    (subst (λ (k : CaseShape). IfSome old.rows (λ _. IsReplayed k steps new.history)) c.requires.case after.replayed) in
+    let all = subst (λ (b : Before). IfSome old.rows (λ _. IsAllOf task.case b new.history)) (sym c.requires.before)
+    (subst (λ (k : CaseShape). IfSome old.rows (λ _. IsWholeReplay k steps new.history)) c.requires.case
     c.in-Ok.ensures.whole) in
     let run = run_of_book task old new (g.O.Sink.text c.args.out.now, g.O.Sink.text c.write.new.out) c.requires.case after.case
-    c.look.ensures.lawful c.look-2.ensures.lawful empty after.tells replayed in
+    c.look.ensures.lawful c.look-2.ensures.lawful empty after.tells goes in
     let whole = whole_run task old.rows _ run (subst IsRunnable c.requires.case c.look.ensures.lawful.runnable)
     c.drains_leave_no_work.ensures.finished after.tells all in
     let told = c.history-history.ensures.history ∙ ap (λ (b : BookView). b.history) c.book.ensures.book in
@@ -45,19 +47,18 @@ returns-in-Err-clause-left g c =
     let after = c.replay-replayed.ensures in
     let text = g.O.Sink.text c.args.out.now in
     let empty = ap (λ (w : World). w.history) c.requires.begun in
-    let replayed = subst (λ (k : CaseShape). IfSome old.rows (λ _. IsReplayed k task.steps new.history)) c.requires.case
-    (subst (λ (ss : List Step). IfSome old.rows (λ _. IsReplayed old.case ss new.history)) c.steps.ensures.steps after.replayed) in
+    let steps = c.args.steps.now in
+    let goes = subst (λ (b : Before). IfSome old.rows (λ _. GoesAs task.case b new.history)) (sym c.requires.before)
+    (subst (λ (k : CaseShape). IfSome old.rows (λ _. IsReplayed k steps new.history)) c.requires.case after.replayed) in
     let run = run_of_book task old new (text, text) c.requires.case after.case
-    c.look.ensures.lawful c.look-2.ensures.lawful empty after.tells replayed in
+    c.look.ensures.lawful c.look-2.ensures.lawful empty after.tells goes in
     let status = stopped task _ c.in-Err.fault run refl
     (λ e. c.in-Err.ensures.full (ap Err e) ∙ after.limit ∙ c.requires.limit)
-    (λ e. more_seen _ old.rows new.rows after.tells
-    (subst (λ (k : CaseShape). IfSome old.rows (λ _. IsWholeReplay k task.steps new.history → ⊥)) c.requires.case
-    (subst (λ (ss : List Step). IfSome old.rows (λ _. IsWholeReplay old.case ss new.history → ⊥)) c.steps.ensures.steps
+    (λ e. run_short task _ steps c.requires.before run (subst IsRunnable c.requires.case c.look.ensures.lawful.runnable).topology
+    c.drains_begin_the_drained_history.ensures.begins (more_seen _ old.rows new.rows after.tells
+    (subst (λ (k : CaseShape). IfSome old.rows (λ _. IsWholeReplay k steps new.history → ⊥)) c.requires.case
     (c.in-Err.ensures.more (ap Err e)))))
-    (run_short task _ run (subst IsRunnable c.requires.case c.look.ensures.lawful.runnable).topology
-    c.drains_begin_the_drained_history.ensures.begins)
-    (λ name bytes e. damaged_of new task.case _ name bytes (after.case ∙ c.requires.case) c.in-Err.ensures.damaged e) in
+    (λ name bytes e. damaged_at task new _ name bytes (after.case ∙ c.requires.case) c.in-Err.ensures.damaged e) in
     subst (RunLeaves task _) (sym c.status_of_drain.ensures) status
 
 pub returns-in-Ok-clause-untouched : goal.returns-in-Ok-clause-untouched

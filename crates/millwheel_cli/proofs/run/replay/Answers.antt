@@ -1,6 +1,5 @@
-use Rattle.std.proofs.Common.{◌≡◌, ◌∙◌, Err, refl, sym, ap, inr}
+use Rattle.std.proofs.Common.{◌∙◌, refl}
 use Rattle.list_lemmas.proofs.Told.{on_ok-map}
-use Rattle.run_history.specs.Cases.{CaseShape}
 use Rattle.mw_types.proofs.CauseLaws.{Rose-before}
 use Rattle.millwheel_cli.proofs.Replaying.{script_stopped, script_unended, drained_behind, whole_behind, unended_behind, replayed_of}
 use Rattle.millwheel_cli.proofs.run.replay.Goals as goal

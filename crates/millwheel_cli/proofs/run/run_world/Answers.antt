@@ -1,4 +1,4 @@
-use Rattle.std.proofs.Common.{◌≡◌, ◌∙◌, sym, ap, subst}
+use Rattle.std.proofs.Common.{◌∙◌, sym, ap, subst}
 use Rattle.std.specs.Option.{is_some}
 use Rattle.mw_types.specs.Causes.{Rose}
 use Rattle.book.specs.Books.{BookView}

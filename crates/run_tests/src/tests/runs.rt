@@ -1,0 +1,121 @@
+//! Runs, each with its plan: their claims, and the text that one thread writes too.
+use super::calls::{COUNT, CUTS, Files};
+use super::looks::{Claims, has_claims, keeper_fails, write_the_same, writes_its_history};
+use std::test::Fail;
+
+// A stall, a crash, a move, and the three that change what is sent.
+const PLAN: &str = "at 2 stall 1
+at 4 crash 2
+at 6 move 3 0
+at 7 repeat 0
+at 8 lose 0
+at 9 hold 0
+";
+
+// The line of the call that one thread works off.
+const SOLO: &str = "solo t.json e";
+
+// The line of the worked plan's call.
+const PLANNED: &str = "run --workers 4 --rounds 12 --plan p t.json e";
+
+// The claims of the first rounds and of the plan, and then the drain's.
+const PLANNED_CLAIMS: Claims<'static> = &[
+    (0, 0),
+    (1, 1),
+    (2, 2),
+    (3, 3),
+    (2, 1),
+    (3, 1),
+    (3, 2),
+    (0, 3),
+    (0, 0),
+    (0, 1),
+    (0, 2),
+    (0, 3),
+];
+
+// The claims of three workers that no plan moves, and then the drain's.
+const PLAIN_CLAIMS: Claims<'static> = &[
+    (0, 0),
+    (1, 1),
+    (2, 2),
+    (0, 3),
+    (0, 0),
+    (0, 1),
+    (0, 2),
+    (0, 3),
+];
+
+// Those of one worker for two intervals, and of one for each.
+const ALONE_CLAIMS: Claims<'static> = &[(0, 0), (0, 1), (0, 0), (0, 1)];
+
+const MANY_CLAIMS: Claims<'static> = &[(0, 0), (1, 1), (0, 0), (0, 1)];
+
+// Runs: of each the line, the files, and the claims.
+const RUNS: [(&str, Files<'static>, Claims<'static>); 6] = [
+    (PLANNED, (CUTS, PLAN), PLANNED_CLAIMS),
+    (
+        "run --workers 3 --rounds 4 t.json e",
+        (CUTS, ""),
+        PLAIN_CLAIMS,
+    ),
+    (
+        "run --workers 3 --rounds 0 t.json e",
+        (CUTS, ""),
+        PLAIN_CLAIMS,
+    ),
+    (
+        "run --workers 3 --rounds 0 --plan p t.json e",
+        (CUTS, "# nothing\n"),
+        PLAIN_CLAIMS,
+    ),
+    (
+        "run --workers 1 --rounds 5 t.json e",
+        (COUNT, ""),
+        ALONE_CLAIMS,
+    ),
+    (
+        "run --workers 16 --rounds 2 t.json e",
+        (COUNT, ""),
+        MANY_CLAIMS,
+    ),
+];
+
+#[test]
+fn each_run_has_its_claims(rt: HostRuntime) -> Result<(), Fail> {
+    for (line, files, claims) in RUNS {
+        assert!(rt; has_claims(&rt, rt.alloc(), line, files, claims)?, "{line}");
+    }
+    Ok(())
+}
+
+#[test]
+fn each_run_writes_what_one_thread_writes(rt: HostRuntime) -> Result<(), Fail> {
+    for (line, files, _) in RUNS {
+        assert!(rt;
+            write_the_same(&rt, rt.alloc(), line, SOLO, files)?,
+            "{line}"
+        );
+    }
+    Ok(())
+}
+
+#[test]
+fn the_history_of_the_worked_plan_stands_before_its_result(rt: HostRuntime) -> Result<(), Fail> {
+    let line = "run --workers 4 --rounds 12 --plan p --history t.json e";
+    assert!(rt; writes_its_history(&rt, rt.alloc(), line, SOLO, (CUTS, PLAN))?);
+    Ok(())
+}
+
+// The first call of the keeper asks for a row, and each claim for the rows of its interval.
+#[test]
+fn a_keeper_that_fails_at_a_first_claim_ends_the_run(rt: HostRuntime) -> Result<(), Fail> {
+    for (call, entries) in [(0, 0), (1, 0), (2, 1), (3, 2), (4, 3)] {
+        let line = "run --workers 3 --rounds 4 t.json e";
+        assert!(rt;
+            keeper_fails(&rt, rt.alloc(), line, (CUTS, ""), call, entries)?,
+            "{call}"
+        );
+    }
+    Ok(())
+}
