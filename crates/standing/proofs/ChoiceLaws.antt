@@ -30,7 +30,7 @@ use Rattle.standing.specs.Choices.{IsChosen, MayCome}
 use Rattle.standing.specs.Keeping.{sequencer_for}
 
 -- an entry that carries the sequencer of its row is under the last claim
-under-from : (shape : Shape) (history : List Entry) (entry : Entry) (name : RowName) (seq : ℕ) → row_written entry ≡ Some name
+pub under-from : (shape : Shape) (history : List Entry) (entry : Entry) (name : RowName) (seq : ℕ) → row_written entry ≡ Some name
     → sequencer_of entry ≡ Some seq → sequencer_for shape history name ≡ Some seq → IsUnderLastClaim shape history entry
 under-from shape history entry name seq on carries is other written =
     subst (λ (n : RowName). sequencer_for shape history n ≡ sequencer_of entry) (some_same name other (sym on ∙ written)) (is
@@ -162,7 +162,7 @@ handling-none case history id never (Purge seq row floor) same may = absurd cc
 -- ---- acknowledgements
 
 -- the row of a choice
-abbrev row_in_choice : Choice → RowName
+abbrev pub row_in_choice : Choice → RowName
 row_in_choice (choices.Fire row mark) = row
 row_in_choice (choices.Ack row id) = row
 row_in_choice (choices.Purge row floor) = row
@@ -206,88 +206,8 @@ acknowledgement-none case history name id never (Handle seq row i effects) same 
 acknowledgement-none case history name id never (Fire seq row timer mark effects) same may = absurd cc
 acknowledgement-none case history name id never (Purge seq row floor) same may = absurd cc
 
--- ---- one entry a choice
-
 -- the number of a choice
-abbrev number_in : Choice → ℕ
+abbrev pub number_in : Choice → ℕ
 number_in (choices.Fire row mark) = mark
 number_in (choices.Purge row floor) = floor
 number_in _ = 0
-
--- lawful entries of one choice are the same
-pub one-chosen : (case : CaseShape) (history : List Entry) (a b : Entry) → MayCome case history a → MayCome case history b
-    → choice_of a ≡ choice_of b → a ≡ b
-one-chosen case history (Claim worker_a id_a) (Claim worker_b id_b) one other same = λ j. Claim (ap worker_in same j)
-    (ap interval_in same j)
-one-chosen case history (Claim worker_a id_a) (Inject seq_b part_b line_b it_b) one other same = absurd cc
-one-chosen case history (Claim worker_a id_a) (Handle seq_b row_b id_b left_b) one other same = absurd cc
-one-chosen case history (Claim worker_a id_a) (Fire seq_b row_b it_b mark_b left_b) one other same = absurd cc
-one-chosen case history (Claim worker_a id_a) (Ack seq_b row_b id_b) one other same = absurd cc
-one-chosen case history (Claim worker_a id_a) (Purge seq_b row_b floor_b) one other same = absurd cc
-one-chosen case history (Inject seq_a part_a line_a it_a) (Claim worker_b id_b) one other same = absurd cc
-one-chosen case history (Inject seq_a part_a line_a it_a) (Inject seq_b part_b line_b it_b) one other same =
-    let part = ap part_in same in
-    let line = one.may.next_line ∙ ap (cursor_of case (run_of case.topology history)) part ∙ sym other.may.next_line in
-    let item = some_same it_a it_b (sym one.may.of_line ∙ (λ j. option_map record_of (item_at (source_of case (part j))
-    (line j))) ∙ other.may.of_line) in
-    let seq = some_same seq_a seq_b (sym (one.under (row_of_injector part_a) refl) ∙ ap (λ q. sequencer_for case.topology history
-    (row_of_injector q)) part
-    ∙ other.under (row_of_injector part_b) refl) in
-    λ j. Inject (seq j) (part j) (line j) (item j)
-one-chosen case history (Inject seq_a part_a line_a it_a) (Handle seq_b row_b id_b left_b) one other same = absurd cc
-one-chosen case history (Inject seq_a part_a line_a it_a) (Fire seq_b row_b it_b mark_b left_b) one other same = absurd cc
-one-chosen case history (Inject seq_a part_a line_a it_a) (Ack seq_b row_b id_b) one other same = absurd cc
-one-chosen case history (Inject seq_a part_a line_a it_a) (Purge seq_b row_b floor_b) one other same = absurd cc
-one-chosen case history (Handle seq_a row_a id_a left_a) (Claim worker_b id_b) one other same = absurd cc
-one-chosen case history (Handle seq_a row_a id_a left_a) (Inject seq_b part_b line_b it_b) one other same = absurd cc
-one-chosen case history (Handle seq_a row_a id_a left_a) (Handle seq_b row_b id_b left_b) one other same =
-    let run = run_of case.topology history in
-    let id = ap id_in same in
-    let delivery = some_same one.may.delivery other.may.delivery
-    (sym one.may.waits ∙ ap (λ i. found_delivery i run.unhandled) id ∙ other.may.waits) in
-    let row = sym one.may.to_row ∙ ap (λ (d : Delivery). d.to) delivery ∙ other.may.to_row in
-    let effects = some_same left_a left_b (sym one.may.does ∙ (λ j. record_outcome case (row j) (row_of case.topology run (row j))
-    (delivery j).item)
-    ∙ other.may.does) in
-    let seq = some_same seq_a seq_b (sym (one.under row_a refl) ∙ ap (sequencer_for case.topology history) row
-    ∙ other.under row_b refl) in
-    λ j. Handle (seq j) (row j) (id j) (effects j)
-one-chosen case history (Handle seq_a row_a id_a left_a) (Fire seq_b row_b it_b mark_b left_b) one other same = absurd cc
-one-chosen case history (Handle seq_a row_a id_a left_a) (Ack seq_b row_b id_b) one other same = absurd cc
-one-chosen case history (Handle seq_a row_a id_a left_a) (Purge seq_b row_b floor_b) one other same = absurd cc
-one-chosen case history (Fire seq_a row_a it_a mark_a left_a) (Claim worker_b id_b) one other same = absurd cc
-one-chosen case history (Fire seq_a row_a it_a mark_a left_a) (Inject seq_b part_b line_b it_b) one other same = absurd cc
-one-chosen case history (Fire seq_a row_a it_a mark_a left_a) (Handle seq_b row_b id_b left_b) one other same = absurd cc
-one-chosen case history (Fire seq_a row_a it_a mark_a left_a) (Fire seq_b row_b it_b mark_b left_b) one other same =
-    let run = run_of case.topology history in
-    let row = ap row_in_choice same in
-    let timer = some_same it_a it_b (sym one.may.least_timer ∙ ap (λ (n : RowName). slice_get (row_of case.topology run n).timers 0) row
-    ∙ other.may.least_timer) in
-    let effects = some_same left_a left_b (sym one.may.does ∙ (λ j. timer_outcome case (row j) (row_of case.topology run (row j))
-    (timer j))
-    ∙ other.may.does) in
-    let seq = some_same seq_a seq_b (sym (one.under row_a refl) ∙ ap (sequencer_for case.topology history) row
-    ∙ other.under row_b refl) in
-    λ j. Fire (seq j) (row j) (timer j) (ap number_in same j) (effects j)
-one-chosen case history (Fire seq_a row_a it_a mark_a left_a) (Ack seq_b row_b id_b) one other same = absurd cc
-one-chosen case history (Fire seq_a row_a it_a mark_a left_a) (Purge seq_b row_b floor_b) one other same = absurd cc
-one-chosen case history (Ack seq_a row_a id_a) (Claim worker_b id_b) one other same = absurd cc
-one-chosen case history (Ack seq_a row_a id_a) (Inject seq_b part_b line_b it_b) one other same = absurd cc
-one-chosen case history (Ack seq_a row_a id_a) (Handle seq_b row_b id_b left_b) one other same = absurd cc
-one-chosen case history (Ack seq_a row_a id_a) (Fire seq_b row_b it_b mark_b left_b) one other same = absurd cc
-one-chosen case history (Ack seq_a row_a id_a) (Ack seq_b row_b id_b) one other same =
-    let row = ap row_in_choice same in
-    let seq = some_same seq_a seq_b (sym (one.under row_a refl) ∙ ap (sequencer_for case.topology history) row
-    ∙ other.under row_b refl) in
-    λ j. Ack (seq j) (row j) (ap id_in same j)
-one-chosen case history (Ack seq_a row_a id_a) (Purge seq_b row_b floor_b) one other same = absurd cc
-one-chosen case history (Purge seq_a row_a floor_a) (Claim worker_b id_b) one other same = absurd cc
-one-chosen case history (Purge seq_a row_a floor_a) (Inject seq_b part_b line_b it_b) one other same = absurd cc
-one-chosen case history (Purge seq_a row_a floor_a) (Handle seq_b row_b id_b left_b) one other same = absurd cc
-one-chosen case history (Purge seq_a row_a floor_a) (Fire seq_b row_b it_b mark_b left_b) one other same = absurd cc
-one-chosen case history (Purge seq_a row_a floor_a) (Ack seq_b row_b id_b) one other same = absurd cc
-one-chosen case history (Purge seq_a row_a floor_a) (Purge seq_b row_b floor_b) one other same =
-    let row = ap row_in_choice same in
-    let seq = some_same seq_a seq_b (sym (one.under row_a refl) ∙ ap (sequencer_for case.topology history) row
-    ∙ other.under row_b refl) in
-    λ j. Purge (seq j) (row j) (ap number_in same j)

@@ -37,7 +37,8 @@ use Rattle.book.specs.Proposals.{IsHandling}
 use Rattle.node.specs.Works.{IsStateThere}
 use Rattle.standing.specs.declared.kept.Kept.{Kept}
 use Rattle.standing.specs.Choices.{MayCome}
-use Rattle.standing.specs.Keeping.{IsFollowed, IsKept, pending_in, sequencer_for, waiting_in}
+use Rattle.standing.specs.Keeping.{IsFollowed, IsKept, pending_in, sequencer_for}
+use Rattle.standing.specs.Waits.{waiting_in}
 use Rattle.standing.proofs.ChoiceLaws.{MaySettleNext}
 use Rattle.standing.proofs.KeepingLaws.{pending-of, row-kept, there-kept}
 

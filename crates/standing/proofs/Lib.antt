@@ -4,3 +4,6 @@ pub mod FoundLaws
 pub mod LeavingLaws
 pub mod KeepingLaws
 pub mod LowLaws
+pub mod FiringLaws
+pub mod WorkLaws
+pub mod WorkSteps

@@ -86,3 +86,8 @@ module _ (case : CaseShape) (run : Run) (topology : IsTopology case.topology) wh
   pub low-table : (part : ℕ) → part < parts_of case.topology
       → get_or (lows_of case run (parts_of case.topology)) part END ≡ low_watermark case run part
   low-table part lt = at-own (parts_of case.topology) part lt ∙ own-near (parts_of case.topology) part lt
+
+-- the same, for a function that makes the table
+pub low_own : (case : CaseShape) (run : Run) → IsTopology case.topology → (part : ℕ) → part < parts_of case.topology
+    → get_or (lows_of case run (parts_of case.topology)) part END ≡ low_watermark case run part
+low_own case run topology part there = low-table case run topology part there

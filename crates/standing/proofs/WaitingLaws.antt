@@ -6,6 +6,7 @@ use Rattle.std.specs.List.Sorted.{IsStrictlySortedBy}
 use Rattle.std.specs.Ordering.{nat_cmp, is_eq}
 use Rattle.std.specs.BTreeMap.{insert_entry, is_at}
 use Rattle.std.specs.Cmp.{tied_itself}
+use Rattle.std.specs.declared.cmp.Ordering.{Ordering}
 use Rattle.std.specs.declared.cmp.Ordering.TheVariants.{Less}
 use Rattle.std.proofs.lemmas.Bool.{both_ways}
 use Rattle.std.proofs.lemmas.Map.Lookups.{exact_unsigned}
@@ -23,7 +24,8 @@ use Rattle.run_history.specs.Runs.{still_unhandled}
 use Rattle.run_history.proofs.Lookups.{lookup-insert_entry}
 use Rattle.history_laws.proofs.IdLaws.{passes_once, same_id-itself, same_id-true}
 use Rattle.history_laws.proofs.RowSteps.{both_Equal}
-use Rattle.standing.specs.Keeping.{AreWaiting, HasChanged, HasTaken, found_then, waiting_in}
+use Rattle.standing.specs.Keeping.{HasChanged, HasNoted, HasTaken, found_then}
+use Rattle.standing.specs.Waits.{AreWaiting, waiting_in}
 
 -- tests of which each follows from the other are the same
 same_test : (a b : Bool) → (a ≡ true → b ≡ true) → (b ≡ true → a ≡ true) → a ≡ b

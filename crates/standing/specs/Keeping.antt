@@ -28,6 +28,8 @@ use Rattle.book.specs.declared.entries.Step.{Step}
 use Rattle.mw_types.specs.declared.memory.NoMemory.{NoMemory}
 use Rattle.book.specs.Proposals.{IsEntryOf, left_by}
 use Rattle.standing.specs.declared.kept.Kept.{Kept}
+use Rattle.standing.specs.Waits.{AreWaiting, waiting_in}
+use Rattle.standing.specs.Works.{AreWorks}
 
 -- the name of an injector's row
 abbrev pub injector_name : ℕ → RowName
@@ -38,14 +40,6 @@ abbrev pub sequencer_for : Shape → List Entry → RowName → Option ℕ
 sequencer_for shape history name =
     option_and_then (λ (interval : ℕ). last_claim interval history) (interval_of shape name)
 
--- the delivery of an id, of deliveries that are kept by their ids
-abbrev pub waiting_in : List (RecordId × Delivery) → RecordId → Option Delivery
-waiting_in waiting id = lookup (is_at (id_cmp id)) waiting
-
--- each delivery that waits is found under its id, and no other
-abbrev pub AreWaiting : List Delivery → List (RecordId × Delivery) → Type 0
-AreWaiting unhandled waiting = (id : RecordId) → waiting_in waiting id ≡ found_delivery id unhandled
-
 -- what is kept is what stands after the history: its rows, what waits, the last claim of each interval, what
 -- is pending in which row, and how much work is left
 pub record IsKept (case : CaseShape) (history : List Entry) (kept : Kept) : Type 0 where
@@ -54,6 +48,8 @@ pub record IsKept (case : CaseShape) (history : List Entry) (kept : Kept) : Type
   pub ids : AllByRecursion (λ (d : Delivery). IsId d.id) (run_of case.topology history).unhandled
   pub claims : (interval : ℕ) → get nat_cmp kept.claims interval ≡ last_claim interval history
   pub senders : AreSenders case.topology (run_of case.topology history) kept.pending.entries
+  pub works : AreWorks case.topology (run_of case.topology history).unhandled
+      (run_of case.topology history).rows kept.works.items
   pub left : kept.work ≡ unfinished case (run_of case.topology history)
 
 -- a history that is followed is legal and fenced, of a case that may be run

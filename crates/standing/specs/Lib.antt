@@ -1,4 +1,6 @@
 pub mod Choices
 pub mod Standings
+pub mod Waits
+pub mod Works
 pub mod Keeping
 pub mod Lows

@@ -3,7 +3,8 @@ ghost use Rattle.std.specs.Prelude.{◌≡◌, ◌&&◌, IfOk, is_none, is_some}
 ghost use Rattle.row_parts.specs.Contents.{found_delivery};
 ghost use Rattle.trace_lines.specs.declared.choice.Choice.TheVariants as choices;
 ghost use Rattle.standing.specs.Choices.{IsChosen};
-ghost use Rattle.standing.specs.Keeping.{IsFollowed, IsKept, pending_in, waiting_in};
+ghost use Rattle.standing.specs.Keeping.{IsFollowed, IsKept, pending_in};
+ghost use Rattle.standing.specs.Waits.{waiting_in};
 
 use crate::finding::sequencer;
 use crate::kept::Kept;

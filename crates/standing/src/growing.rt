@@ -1,5 +1,5 @@
 //! What is kept, as entries come.
-ghost use Rattle.std.specs.Prelude.{◌≡◌, ◌<◌, ◌^◌, ◌++◌, ◌∷◌, [], List, OnOk, drop, length};
+ghost use Rattle.std.specs.Prelude.{◌≡◌, ◌<◌, ◌^◌, ◌++◌, ◌∷◌, [], IfOk, List, OnOk, drop, length};
 ghost use Rattle.std.specs.BTreeMap.{get, insert_entry};
 ghost use Rattle.std.specs.Ordering.{nat_cmp};
 ghost use Rattle.mw_types.specs.Orders.{row_cmp};
@@ -12,6 +12,7 @@ use crate::leaving::left_of;
 use crate::senders::note_entry;
 use crate::waiting::{note_sent, take_handled};
 use crate::work_left::{first_work, work_left};
+use crate::works::{no_works, note_entry_work};
 use book::NamedRow;
 use mw_types::{Delivery, Entry, NoMemory, RowName};
 use row_parts::Row;
@@ -21,16 +22,18 @@ use std::collections::BTreeMap;
 
 impl Kept {
     // What is kept of a history in which nothing has happened.
-    pub(crate) fn new(alloc: Global, case: &Case) -> Kept
-        ensures { IsKept case.now [] result }
+    pub(crate) fn new(alloc: Global, case: &Case) -> Result<Kept, NoMemory>
+        ensures { IfOk result (IsKept case.now []) }
     {
-        Kept {
+        let works = no_works(alloc, case.topology.parts())?;
+        Ok(Kept {
             rows: BTreeMap::new(alloc),
             waiting: BTreeMap::new(alloc),
             claims: BTreeMap::new(alloc),
             pending: BTreeMap::new(alloc),
+            works,
             work: first_work(case),
-        }
+        })
     }
 
     // Keeps what one more entry changes, which may come next.
@@ -48,7 +51,10 @@ impl Kept {
         ensures { OnOk result (IsKept case.now (history.now ++ entry.now ∷ []) self.new) }
     {
         match left_of(alloc, case, history, self, entry)? {
-            Some(left) => self.put(alloc, case, history.len() as u64, entry, left),
+            Some(left) => {
+                note_entry_work(case, history, self, entry, &left)?;
+                self.put(alloc, case, history.len() as u64, entry, left)
+            }
             None => note_claim(&mut self.claims, entry, history.len() as u64),
         }
     }
@@ -73,6 +79,7 @@ impl Kept {
         ensures work { OnOk result (HasWorkLeft case.now self.old.rows.entries left
             self.old.work self.new.work) }
         ensures claims { self.new.claims ≡ self.old.claims }
+        ensures works { self.new.works ≡ self.old.works }
     {
         self.work = work_left(alloc, case, &self.rows, &left, self.work)?;
         let count = count_new(&self.rows, &left);
@@ -103,7 +110,7 @@ fn count_new(rows: &Rows, left: &NamedRow) -> u32
 }
 
 // What a row has pending that was not pending in it before.
-fn new_pending<'r>(rows: &Rows, left: &'r NamedRow) -> &'r [Delivery]
+pub(crate) fn new_pending<'r>(rows: &Rows, left: &'r NamedRow) -> &'r [Delivery]
     ensures { result.now ≡ newly_pending rows.now.entries left.now }
 {
     let before = pending_before(rows, &left.name);

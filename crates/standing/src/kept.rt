@@ -2,6 +2,7 @@
 use mw_types::{Delivery, RecordId, RowName};
 use row_parts::Row;
 use std::collections::BTreeMap;
+use watermark::Oldest;
 
 // The rows that an entry is on, by their names.
 pub(crate) type Rows = BTreeMap<RowName, Row>;
@@ -22,6 +23,9 @@ pub struct Kept {
     pub(crate) waiting: Waiting,
     pub(crate) claims: Claims,
     pub(crate) pending: Senders,
+    // Of each part, the timestamps of what waits for it and of its rows the first times of timers,
+    // those that are late left out.
+    pub(crate) works: Vec<Oldest>,
     // The deliveries that are not acknowledged, the timers that are set, and the injectors with
     // lines left.
     pub(crate) work: u64,

@@ -7,7 +7,8 @@ ghost use Rattle.run_history.specs.Runs.{cached, row_in, row_of};
 ghost use Rattle.book.specs.Proposals.{IsProposable};
 ghost use Rattle.book.specs.declared.proposal.Proposal.TheVariants as proposals;
 ghost use Rattle.standing.specs.Choices.{MayCome};
-ghost use Rattle.standing.specs.Keeping.{IsFollowed, IsKept, IsLeftBy, IsLeftOf, IsRowOfStep, injector_name, waiting_in};
+ghost use Rattle.standing.specs.Keeping.{IsFollowed, IsKept, IsLeftBy, IsLeftOf, IsRowOfStep, injector_name};
+ghost use Rattle.standing.specs.Waits.{waiting_in};
 
 use crate::injecting::injector_row;
 use crate::kept::{Kept, Rows};

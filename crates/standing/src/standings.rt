@@ -4,20 +4,21 @@ ghost use Rattle.run_history.specs.Finished.{IsFinished};
 ghost use Rattle.run_history.specs.Runs.{run_of};
 ghost use Rattle.history_laws.specs.Writes.{IsLegalAndFenced};
 ghost use Rattle.standing.specs.Choices.{IsChosen, MayCome};
-ghost use Rattle.trace_lines.specs.declared.choice.Choice.TheVariants as choices;
 
 use crate::acknowledging::acknowledgement_of;
 use crate::claiming::claim_of;
+use crate::firing::firing_of;
 use crate::handling::handling_of;
 use crate::injecting::injection_of;
 use crate::kept::Kept;
 use crate::purging::purge_of;
 use computations::Kinds;
 use history_laws::case_is_runnable;
-use mw_types::{Entry, NoMemory, RecordId, RowName};
+use mw_types::{Entry, NoMemory};
 use run_history::{Case, History};
 use std::alloc::Global;
 use std::marker::Model;
+use trace_lines::Choice;
 
 /// A history that is followed entry by entry, and what stands after it.
 #[derive(Drop)]
@@ -47,11 +48,12 @@ impl<'a> Standing<'a> {
     {
         case_is_runnable(case);
         let work = Kinds::of(alloc, &case.topology)?;
+        let kept = Kept::new(alloc, case)?;
         Ok(Standing {
             case,
             work,
             history: History::new(alloc),
-            kept: Kept::new(alloc, case),
+            kept,
         })
     }
 
@@ -63,56 +65,23 @@ impl<'a> Standing<'a> {
         &self.history
     }
 
-    /// The claim of an interval by a worker, or none where one of both is not there.
-    pub fn claim_of(&self, worker: u32, interval: u32) -> Option<Entry>
-        ensures chosen { IsChosen self.now.case self.now.history
-            (choices.Claim worker interval) result }
+    /// The lawful entry of a choice, or none exactly where no lawful entry has it.
+    pub fn entry_of(&self, alloc: Global, choice: &Choice) -> Result<Option<Entry>, NoMemory>
+        ensures chosen { IfOk result (IsChosen self.now.case self.now.history choice.now) }
     {
-        claim_of(self.case, worker, interval)
-    }
-
-    /// The lawful entry of an injector's next line, or none exactly where there is none.
-    pub fn injection_of(&self, alloc: Global, part: u32) -> Result<Option<Entry>, NoMemory>
-        ensures chosen { IfOk result
-            (IsChosen self.now.case self.now.history (choices.Inject part)) }
-    {
-        injection_of(alloc, self.case, &self.history, &self.kept, part)
-    }
-
-    /// The lawful entry of the record of this id, or none exactly where there is none.
-    pub fn handling_of(&self, alloc: Global, id: RecordId) -> Result<Option<Entry>, NoMemory>
-        ensures chosen { IfOk result
-            (IsChosen self.now.case self.now.history (choices.Handle id)) }
-    {
-        handling_of(alloc, self.case, &self.work, &self.history, &self.kept, id)
-    }
-
-    /// The lawful entry by which a row learns that the record of this id was handled, or none
-    /// exactly where there is none.
-    pub fn acknowledgement_of(
-        &self,
-        alloc: Global,
-        row: &RowName,
-        id: RecordId,
-    ) -> Result<Option<Entry>, NoMemory>
-        ensures chosen { IfOk result
-            (IsChosen self.now.case self.now.history (choices.Ack row.now id)) }
-    {
-        acknowledgement_of(alloc, self.case, &self.history, &self.kept, row, id)
-    }
-
-    /// The lawful entry by which a row forgets the ids below a floor, or none exactly where there
-    /// is none.
-    pub fn purge_of(
-        &self,
-        alloc: Global,
-        row: &RowName,
-        floor: u64,
-    ) -> Result<Option<Entry>, NoMemory>
-        ensures chosen { IfOk result
-            (IsChosen self.now.case self.now.history (choices.Purge row.now floor)) }
-    {
-        purge_of(alloc, self.case, &self.history, &self.kept, row, floor)
+        let case = self.case;
+        let history = &self.history;
+        let kept = &self.kept;
+        match choice {
+            Choice::Claim { worker, interval } => Ok(claim_of(case, *worker, *interval)),
+            Choice::Inject { part } => injection_of(alloc, case, history, kept, *part),
+            Choice::Handle { id } => handling_of(alloc, case, &self.work, history, kept, *id),
+            Choice::Fire { row, mark } => {
+                firing_of(alloc, case, &self.work, history, kept, row, *mark)
+            }
+            Choice::Ack { row, id } => acknowledgement_of(alloc, case, history, kept, row, *id),
+            Choice::Purge { row, floor } => purge_of(alloc, case, history, kept, row, *floor),
+        }
     }
 
     /// Whether no work is left.
@@ -137,8 +106,8 @@ impl<'a> Standing<'a> {
         history
     }
 
-    /// The same with this entry too, which may come next. Where there is no memory nothing is left
-    /// of it, so that no step has to be taken back.
+    /// The same with this entry too, which may come next. Where there is no memory nothing is left of
+    /// it, so that no step has to be taken back.
     pub fn push(self, alloc: Global, entry: Entry) -> Result<Standing<'a>, NoMemory>
         requires next { MayCome self.case self.history entry }
         requires few { length self.history < 2 ^ 32 }

@@ -16,18 +16,18 @@ use Rattle.trace_lines.specs.Choices.{choice_of, short_of, row_with, choice_in, 
 use Rattle.trace_lines.proofs.Writing.{entry-json}
 
 -- a number of 32 bits is one
-short-own : (n : ℕ) → n < 2 ^ 32 → short_of n ≡ Some n
+pub short-own : (n : ℕ) → n < 2 ^ 32 → short_of n ≡ Some n
 short-own n small = rw (lt-ltb n (2 ^ 32) small) refl
 
 -- a key is one
-key-own : (key : List ℕ) → IsKey key → key_of key ≡ Some key
+pub key-own : (key : List ℕ) → IsKey key → key_of key ≡ Some key
 key-own key is = by_length (length key) is.short
   where
     by_length : (n : ℕ) → n ≤ 256 → cond (nat_lt 256 n) None (Some key) ≡ Some key
     by_length n at_most = let none : nat_lt 256 n ≡ false = grind (arith, nat_tests) in rw none refl
 
 -- a row's name is one
-row-own : (row : RowName) → IsRowName row
+pub row-own : (row : RowName) → IsRowName row
     → option_and_then (λ part. option_map (row_with part) (key_of row.key)) (short_of row.part) ≡ Some row
 row-own row is =
     ap (option_and_then (λ part. option_map (row_with part) (key_of row.key))) (short-own row.part is.part)

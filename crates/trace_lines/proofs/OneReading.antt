@@ -102,12 +102,12 @@ choice_of-fixes case history one other may_one under_one may_other under_other s
 -- ---- the history of some lines
 
 -- what comes next in a lawful history
-record ComesNext (case : CaseShape) (front : List Entry) (e : Entry) : Type 0 where
-  is : IsEntry e
-  may : MayFollow case (run_of case.topology front) e
-  under : IsUnderLastClaim case.topology front e
+pub record ComesNext (case : CaseShape) (front : List Entry) (e : Entry) : Type 0 where
+  pub is : IsEntry e
+  pub may : MayFollow case (run_of case.topology front) e
+  pub under : IsUnderLastClaim case.topology front e
 
-comes-next : (case : CaseShape) (front : List Entry) (e : Entry) (es : List Entry) → IsRunnable case → AreKeyed case → AreValued case
+pub comes-next : (case : CaseShape) (front : List Entry) (e : Entry) (es : List Entry) → IsRunnable case → AreKeyed case → AreValued case
     → IsLegalAndFenced case (front ++ e ∷ es) → length (front ++ e ∷ es) < 2 ^ 32 → ComesNext case front e
 comes-next case front e es runs keyed valued lawful short =
     let parts = AreLegal-apart case front (e ∷ es) empty_run lawful.legal in
@@ -147,7 +147,7 @@ behind-same case front (x ∷ xs) (y ∷ ys) runs keyed valued lawful_one short_
     (subst (λ m. texts_from m xs ≡ texts_from m ys) (sym count) lines))
 
 -- a history is as long as its lines are many
-reading-long : (case : CaseShape) (lines : List (List ℕ)) (history : List Entry) → IsReading case history lines
+pub reading-long : (case : CaseShape) (lines : List (List ℕ)) (history : List Entry) → IsReading case history lines
     → length history ≡ length lines
 reading-long case lines history is =
     sym (length-numbered (λ (e : ℕ × Entry). text_of_entry e.0 e.1) 0 history) ∙ ap length is.printed

@@ -48,10 +48,10 @@ lines_in-from n (e ∷ es) text each few =
 
 -- ---- which of them begin as lines of entries
 
-take_while-passed : {X : Type 0} (p : X → Bool) (x : X) (xs : List X) → p x ≡ true → take_while p (x ∷ xs) ≡ x ∷ take_while p xs
+pub take_while-passed : {X : Type 0} (p : X → Bool) (x : X) (xs : List X) → p x ≡ true → take_while p (x ∷ xs) ≡ x ∷ take_while p xs
 take_while-passed p x xs passes = take_while-cons p x xs ∙ ap (λ b. cond b (x ∷ take_while p xs) []) passes
 
-take_while-failed : {X : Type 0} (p : X → Bool) (x : X) (xs : List X) → p x ≡ false → take_while p (x ∷ xs) ≡ []
+pub take_while-failed : {X : Type 0} (p : X → Bool) (x : X) (xs : List X) → p x ≡ false → take_while p (x ∷ xs) ≡ []
 take_while-failed p x xs fails = take_while-cons p x xs ∙ ap (λ b. cond b (x ∷ take_while p xs) []) fails
 
 -- the line of an entry does
@@ -65,7 +65,7 @@ entry-begins n (Ack seq row id) = refl
 entry-begins n (Purge seq row floor) = refl
 
 -- so the lines of entries stand before those behind them that begin so
-begin-from : (n : ℕ) (history : List Entry) (lines : List (List ℕ))
+pub begin-from : (n : ℕ) (history : List Entry) (lines : List (List ℕ))
     → take_while begins_entry (texts_from n history ++ lines) ≡ texts_from n history ++ take_while begins_entry lines
 begin-from n [] lines = refl
 begin-from n (e ∷ es) lines =

@@ -4,7 +4,7 @@ use Rattle.row_parts.specs.Contents.{found_delivery}
 use Rattle.run_history.specs.Runs.{run_of}
 use Rattle.trace_lines.specs.declared.choice.Choice.TheVariants as choices
 use Rattle.standing.specs.Choices.{IsChosen}
-use Rattle.standing.specs.Keeping.{waiting_in}
+use Rattle.standing.specs.Waits.{waiting_in}
 use Rattle.standing.proofs.FoundLaws.{waits-kept}
 use Rattle.standing.proofs.handling.handling_of.Goals as goal
 

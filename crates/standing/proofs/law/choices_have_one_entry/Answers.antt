@@ -1,5 +1,7 @@
-use Rattle.standing.proofs.ChoiceLaws.{one-chosen}
+use Rattle.trace_lines.proofs.OneReading.{choice_of-fixes}
 use Rattle.standing.proofs.law.choices_have_one_entry.Goals as goal
 
 pub returns : goal.returns
-returns c = record { one = one-chosen }
+returns c = record {
+  one = λ case history a b one other same. choice_of-fixes case history a b one.may one.under other.may other.under same;
+}

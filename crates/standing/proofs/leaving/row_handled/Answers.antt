@@ -4,7 +4,7 @@ use Rattle.run_history.specs.Runs.{cached, row_of}
 use Rattle.book.specs.Proposals.{IsProposable}
 use Rattle.book.specs.declared.proposal.Proposal.{Proposal}
 use Rattle.book.specs.declared.proposal.Proposal.TheVariants as proposals
-use Rattle.standing.specs.Keeping.{waiting_in}
+use Rattle.standing.specs.Waits.{waiting_in}
 use Rattle.standing.proofs.leaving.row_handled.Goals as goal
 
 -- the proposal is that the delivery which waits was handled

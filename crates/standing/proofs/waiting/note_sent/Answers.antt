@@ -2,7 +2,8 @@ use Rattle.std.proofs.Common.{◌≡◌, ◌∙◌, ◌∷◌, ◌+◌, ap, drop
 use Rattle.std.proofs.lemmas.List.{drop_more}
 use Rattle.mw_types.specs.declared.delivery.Delivery.{Delivery}
 use Rattle.std.proofs.Common.{List}
-use Rattle.standing.specs.Keeping.{found_then, waiting_in}
+use Rattle.standing.specs.Keeping.{found_then}
+use Rattle.standing.specs.Waits.{waiting_in}
 use Rattle.standing.proofs.WaitingLaws.{noted-one}
 use Rattle.standing.proofs.waiting.note_sent.Goals as goal
 

@@ -1,6 +1,7 @@
 use Rattle.std.proofs.Common.{◌≡◌, drop}
 use Rattle.mw_types.specs.declared.identity.RecordId.{RecordId}
-use Rattle.standing.specs.Keeping.{found_then, waiting_in}
+use Rattle.standing.specs.Keeping.{found_then}
+use Rattle.standing.specs.Waits.{waiting_in}
 use Rattle.standing.proofs.waiting.note_sent.Given as goal
 
 -- what is noted, with those that are left, leads to the same as with all

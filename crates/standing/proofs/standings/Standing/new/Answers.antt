@@ -11,6 +11,6 @@ invariant_of-result c =
     let made = c.in_ok-work.ensures in record {
       work = kinds_work c.args.case.now.topology c.in_ok-work.work (made.injectors ∙ search (rules, c.case.view_is))
           (made.kinds ∙ search (rules, c.case.view_is)) made.within;
-      followed = followed-empty c.args.case.now c.new.result c.new.ensures.empty c.case_is_runnable.ensures.runnable;
-      keeps = subst (λ (h : List Entry). IsKept c.args.case.now h c.new-2.result) (sym c.new.ensures.empty) c.new-2.ensures;
+      followed = followed-empty c.args.case.now c.new-2.result c.new-2.ensures.empty c.case_is_runnable.ensures.runnable;
+      keeps = subst (λ (h : List Entry). IsKept c.args.case.now h c.in_ok-kept.kept) (sym c.new-2.ensures.empty) c.in_ok-kept.ensures;
     }

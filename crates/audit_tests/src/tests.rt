@@ -1,0 +1,5 @@
+//! Texts that are accepted, and texts that are refused.
+mod accepted;
+mod cases;
+mod refused;
+mod traces;
