@@ -209,7 +209,7 @@ pub given-line : (n : ℕ) (line : List ℕ) (given : Entry) → n < 2 ^ 64 → 
 given-line n line given small is guessed b both = (
   λ passes. (given, is, both.0 passes),
   λ of. both.1 (ap (text_of_entry n) (some_same given (as_printed of.0) (sym guessed ∙ guessed-own n of.0 line small of.1 of.2))
-  ∙ line-print n of.0 ∙ of.2),
+      ∙ line-print n of.0 ∙ of.2),
 )
 
 -- so where an answer says that

@@ -65,8 +65,8 @@ read-more bytes rest line after history longer is head one =
         ∙ ap (λ l. l ++ after) (sym (lines-push history one.entry)))
     by (inl whole) (inr last) = inr (
       ap (λ b. b ++ 10 ∷ []) (whole ∙ ap (λ r. lines_of_history history ++ r) (last.0 ∙ sym one.printed))
-      ∙ append_assoc (lines_of_history history) text (10 ∷ [])
-      ∙ sym (lines-push history one.entry),
+          ∙ append_assoc (lines_of_history history) text (10 ∷ [])
+          ∙ sym (lines-push history one.entry),
       last.1,
     )
     by (inr ended) cut = absurd (omega (arith, head.some, ap length ended.1))

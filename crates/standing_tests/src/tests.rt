@@ -133,11 +133,7 @@ fn case(alloc: Global) -> Result<Case, NoMemory> {
 }
 
 // What stands after these choices, each of which is a lawful entry's.
-fn followed<'a>(
-    alloc: Global,
-    case: &'a Case,
-    all: &[Chosen],
-) -> Result<Standing<'a>, NoMemory> {
+fn followed<'a>(alloc: Global, case: &'a Case, all: &[Chosen]) -> Result<Standing<'a>, NoMemory> {
     let mut standing = Standing::new(alloc, case)?;
     for chosen in all {
         let choice = choice(alloc, chosen)?;
@@ -156,7 +152,10 @@ fn followed<'a>(
 fn each_choice_of_the_example_has_its_entry(rt: HostRuntime) -> Result<(), NoMemory> {
     let case = case(rt.alloc())?;
     let standing = followed(rt.alloc(), &case, &DRAINED)?;
-    assert_eq!(rt; (standing.history().len(), standing.is_finished()), (14, true));
+    assert_eq!(rt;
+        (standing.history().len(), standing.is_finished()),
+        (14, true)
+    );
     Ok(())
 }
 
@@ -182,7 +181,11 @@ fn a_lawless_choice_is_refused(rt: HostRuntime) -> Result<(), NoMemory> {
 #[test]
 fn a_later_claim_is_the_one_that_counts(rt: HostRuntime) -> Result<(), NoMemory> {
     let case = case(rt.alloc())?;
-    let claims = [Chosen::Claim(0, 0), Chosen::Claim(0, 1), Chosen::Claim(1, 0)];
+    let claims = [
+        Chosen::Claim(0, 0),
+        Chosen::Claim(0, 1),
+        Chosen::Claim(1, 0),
+    ];
     let standing = followed(rt.alloc(), &case, &claims)?;
     let entry = standing.entry_of(rt.alloc(), &Choice::Inject { part: 0 })?;
     assert!(rt; matches!(&entry, Some(Entry::Inject { seq: 2, .. })));
