@@ -1,17 +1,17 @@
 -- The first claims, told from worker to worker.
-use Rattle.std.proofs.Common.{inl, inr, ◌≡◌, ◌≢◌, ◌⊎◌, ◌∙◌, ◌<◌, ◌≤◌, ◌+◌, ◌++◌, ◌∷◌, ℕ, zero, suc, Bool, true, false, List, [], length, refl, sym, ap, subst, ⊎_elim, arith, length-append}
-use Rattle.std.specs.Prelude.{IsFalse, IsTrue, ◌%◌, All, Some, slice_get, slice_index_or}
+use Rattle.std.proofs.Common.{inl, inr, ◌≡◌, ◌∙◌, ◌<◌, ◌+◌, ◌++◌, ◌∷◌, ℕ, suc, Bool, true, false, List, [], length, refl, sym, ap, subst, ⊎_elim, arith, length-append}
+use Rattle.std.specs.Prelude.{IsFalse, IsTrue, ◌%◌, Some, slice_get, slice_index_or}
 use Rattle.std.proofs.lemmas.Bool.{cases_eq}
 use Rattle.std.proofs.lemmas.List.{get_or_default}
 use Rattle.row_keeper.specs.declared.keeper.Keeper.{Ghosts}
 use Rattle.mw_types.specs.declared.entry.Entry.{Entry}
 use Rattle.mw_types.specs.declared.entry.Entry.TheVariants as entries
-use Rattle.run_history.specs.Cases.{CaseShape, intervals_of}
+use Rattle.run_history.specs.Cases.{CaseShape}
 use Rattle.run_history.specs.Fences.{Begins}
 use Rattle.run_history.proofs.Beginnings.{Begins-length, Begins-trans}
-use Rattle.shared_book.specs.Lists.{Ascends, IsIn}
+use Rattle.shared_book.specs.Lists.{IsIn}
 use Rattle.shared_book.proofs.Lists.{ascends_push, in_append, in_left, in_right}
-use Rattle.crews.specs.Claims.{AreClaimedAt, HasBegun, HasClaimedTo, HaveBegun, IsClaimedTo, claimed_by}
+use Rattle.crews.specs.Claims.{HasBegun, HasClaimedTo, HaveBegun, IsClaimedTo, claimed_by}
 use Rattle.crews.specs.Crews.{AreFresh, ClaimsOne, HasClaimedOne, HasDone, HasGoneOn, HasTold, KeepsOwn, OthersStay, desk_of}
 use Rattle.crews.specs.Rounds.{first_claim}
 use Rattle.crews.specs.declared.crew.Worker.{Worker}

@@ -1,5 +1,5 @@
 -- What rounds hand back, by what the seat knew that closed the book.
-use Rattle.std.proofs.Common.{inl, inr, ◌≡◌, ◌⊎◌, ◌∙◌, ◌<◌, ◌≤◌, ◌+◌, ◌*◌, ◌∷◌, ℕ, List, [], length, refl, sym, ap, subst, ⊎_elim, arith, true}
+use Rattle.std.proofs.Common.{inl, inr, ◌≡◌, ◌⊎◌, ◌∙◌, ◌≤◌, ◌+◌, ℕ, List, [], length, refl, sym, ap, subst, ⊎_elim, arith, true}
 use Rattle.std.specs.Prelude.{IfNone, IfSome, IsSome, None, Option, Some}
 use Rattle.std.specs.Option.{is_some}
 use Rattle.mw_types.specs.Causes.{Rose}
@@ -17,7 +17,7 @@ use Rattle.shared_book.specs.Turns.{IsClosed}
 use Rattle.shared_book.specs.declared.views.Basis.{Basis}
 use Rattle.shared_book.specs.declared.views.View.{View}
 use Rattle.crews.specs.Rounds.{HasInjectedAll, IsDamageAt, claims_in, first_claims}
-use Rattle.crews.specs.Runs.{HasEndCause, HasRun, HasRunFirst, HasRunPlain, HasRunSome}
+use Rattle.crews.specs.Runs.{HasEndCause, HasRun, HasRunFirst, HasRunPlain}
 use Rattle.crews.proofs.Ending.{closed-length, first-all, first-some, tells-same}
 use Rattle.crews.proofs.Faults.{none-some}
 use Rattle.crews.proofs.Silence.{quiet-claims, quiet-injected}

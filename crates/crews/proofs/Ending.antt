@@ -1,23 +1,21 @@
 -- What a book has that workers shared, by what the seat knows that took in those of all.
-use Rattle.std.proofs.Common.{inl, inr, ◌≡◌, ◌⊎◌, ◌∙◌, ◌<◌, ◌≤◌, ◌+◌, ◌-◌, ◌++◌, ◌∷◌, ℕ, zero, suc, List, [], length, map, refl, sym, ap, subst, ⊎_elim, arith, append_assoc, length-append, append-nil}
+use Rattle.std.proofs.Common.{◌≡◌, ◌∙◌, ◌<◌, ◌≤◌, ◌+◌, ◌-◌, ◌∷◌, ℕ, zero, suc, List, [], length, map, refl, sym, ap, subst, ⊎_elim, arith, length-append, append-nil}
 use Rattle.std.proofs.lemmas.List.{length-map}
-use Rattle.std.specs.Prelude.{Option, Some, None, IfSome, IfNone, IsSome}
+use Rattle.std.specs.Prelude.{Option, Some, None}
 use Rattle.std.specs.Option.{is_some}
-use Rattle.mw_types.specs.Causes.{Rose}
 use Rattle.mw_types.specs.declared.entry.Entry.{Entry}
 use Rattle.run_history.specs.Cases.{CaseShape, intervals_of}
 use Rattle.run_history.specs.Fences.{Begins}
 use Rattle.run_history.proofs.Beginnings.{Begins-length, Begins-trans}
 use Rattle.book.specs.Books.{CoreView}
 use Rattle.book.specs.OwnDesks.{telling}
-use Rattle.node.specs.declared.outcome.NodeFault.{NodeFault}
-use Rattle.shared_book.specs.Lists.{Ascends, IsIn}
+use Rattle.shared_book.specs.Lists.{IsIn}
 use Rattle.shared_book.specs.Opening.{span}
 use Rattle.shared_book.specs.Turns.{IsClosed}
 use Rattle.shared_book.specs.declared.views.View.{View}
 use Rattle.crews.specs.Claims.{AreClaimedAt, IsClaimedTo}
 use Rattle.crews.specs.Rounds.{first_claim, first_claims}
-use Rattle.crews.specs.Runs.{HasRun, HasRunFirst, HasRunSome}
+use Rattle.crews.specs.Runs.{HasRunFirst, HasRunSome}
 use Rattle.crews.proofs.Exact.{claimed-below, claims-first, exact-many, exact-same, span-length}
 
 -- ---- how much was appended

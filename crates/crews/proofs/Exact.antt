@@ -1,12 +1,10 @@
 -- Numbers that are all there, and the claims that have them.
-use Rattle.std.proofs.Common.{inl, inr, ◌≡◌, ◌⊎◌, ◌∙◌, ◌<◌, ◌≤◌, ◌+◌, ◌++◌, ◌∷◌, ℕ, zero, suc, Bool, true, false, List, [], length, map, refl, sym, ap, subst, ⊎_elim, arith, append_assoc, length-append, if◌then◌else◌, filter}
-use Rattle.std.specs.Prelude.{Option, Some, None, nat_le, slice_get}
-use Rattle.std.proofs.lemmas.List.{append-nil}
+use Rattle.std.proofs.Common.{inl, inr, ◌≡◌, ◌∙◌, ◌<◌, ◌≤◌, ◌+◌, ◌++◌, ◌∷◌, ℕ, zero, suc, Bool, true, false, List, [], length, map, refl, sym, ap, subst, ⊎_elim, arith, append_assoc, length-append, if◌then◌else◌}
+use Rattle.std.specs.Prelude.{Some, nat_le, slice_get}
 use Rattle.std.proofs.lemmas.Option.{slice_get_within}
 use Rattle.mw_types.specs.declared.entry.Entry.{Entry}
-use Rattle.mw_types.specs.declared.entry.Entry.TheVariants as entries
 use Rattle.run_history.specs.Fences.{Begins}
-use Rattle.run_history.proofs.Beginnings.{Begins-at, slice_get-last}
+use Rattle.run_history.proofs.Beginnings.{Begins-at}
 use Rattle.shared_book.specs.Joins.{merged, placed}
 use Rattle.shared_book.specs.Lists.{Ascends, IsIn}
 use Rattle.shared_book.specs.Opening.{span}

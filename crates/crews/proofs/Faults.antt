@@ -1,5 +1,5 @@
 -- The fault of the first worker that has one.
-use Rattle.std.proofs.Common.{inl, inr, ◌≡◌, ◌⊎◌, ◌∙◌, ◌<◌, ◌∷◌, ℕ, zero, suc, List, [], length, refl, sym, ap, subst, ⊎_elim, arith}
+use Rattle.std.proofs.Common.{inl, inr, ◌≡◌, ◌∷◌, zero, suc, List, [], refl, sym, subst, ⊎_elim, arith}
 use Rattle.std.specs.Prelude.{All, IsSome, None, Option, Some, slice_index_or}
 use Rattle.row_keeper.specs.declared.keeper.Keeper.{Ghosts}
 use Rattle.node.specs.declared.outcome.NodeFault.{NodeFault}

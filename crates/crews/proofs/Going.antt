@@ -1,6 +1,6 @@
 -- Desks that go on: what they append is added up.
-use Rattle.std.proofs.Common.{◌≡◌, ◌∙◌, ◌<◌, ◌≤◌, ◌+◌, ◌++◌, ◌∷◌, ℕ, zero, suc, List, [], length, refl, sym, ap, subst, arith, append-nil, append_assoc, length-append, inl, inr, ⊎_elim}
-use Rattle.std.specs.Prelude.{Contains, drop}
+use Rattle.std.proofs.Common.{◌≡◌, ◌∙◌, ◌≤◌, ◌+◌, ◌++◌, ◌∷◌, ℕ, suc, List, [], length, refl, sym, ap, subst, arith, append-nil, append_assoc, length-append, ⊎_elim}
+use Rattle.std.specs.Prelude.{Contains}
 use Rattle.mw_types.specs.declared.entry.Entry.{Entry}
 use Rattle.book.specs.Desks.{DeskView, HasLooked}
 use Rattle.book.proofs.Numbers.{numbers_from-none}

@@ -1,5 +1,5 @@
 -- Workers that are taken in, from the last one on.
-use Rattle.std.proofs.Common.{◌≡◌, ◌∙◌, ◌<◌, ◌+◌, ◌++◌, ◌∷◌, ℕ, zero, suc, List, [], length, refl, sym, ap, subst, arith, append-nil, append_assoc, length-append}
+use Rattle.std.proofs.Common.{◌≡◌, ◌∙◌, ◌<◌, ◌++◌, ◌∷◌, ℕ, suc, List, [], length, refl, sym, ap, subst, arith, append-nil, append_assoc, length-append}
 use Rattle.std.specs.Prelude.{IsSome, None, Option, slice_index_or}
 use Rattle.std.proofs.lemmas.List.{get_or_at}
 use Rattle.row_keeper.specs.declared.keeper.Keeper.{Ghosts}

@@ -1,18 +1,17 @@
 -- Each injector's row lies in an interval.
-use Rattle.std.proofs.Common.{inl, inr, ◌≡◌, ◌∙◌, ◌<◌, ◌≤◌, ◌+◌, ℕ, true, List, [], length, refl, sym, ap, subst, arith, get_or, Any}
-use Rattle.std.specs.Prelude.{MatchOption, Option, None, Some, slice_get}
+use Rattle.std.proofs.Common.{inl, inr, ◌≡◌, ◌∙◌, ◌<◌, ◌+◌, ℕ, true, List, [], length, refl, sym, ap, subst, arith, get_or, Any}
+use Rattle.std.specs.Prelude.{MatchOption, Option, None, Some}
 use Rattle.std.specs.Ordering.{is_le, is_lt}
 use Rattle.std.specs.declared.cmp.Ordering.TheVariants.{Less}
 use Rattle.std.proofs.lemmas.Bool.{cases_lt}
 use Rattle.std.proofs.lemmas.Option.{slice_get-get_or}
 use Rattle.mw_types.specs.Orders.{key_cmp}
-use Rattle.mw_types.specs.declared.identity.RowName.{RowName}
 use Rattle.key_intervals.specs.declared.bounds.Bounds.{Bounds}
 use Rattle.key_intervals.specs.Intervals.{AreIntervals, HasRow, ends_after}
 use Rattle.key_intervals.proofs.Beginnings.{empty_first}
 use Rattle.key_intervals.proofs.Lookup.{first_of_part, has_row}
 use Rattle.topology.specs.Rules.{IsTopology}
-use Rattle.topology.specs.Shapes.{Shape, injectors_of, parts_of}
+use Rattle.topology.specs.Shapes.{Shape, injectors_of}
 use Rattle.run_history.specs.Cases.{intervals_of}
 use Rattle.run_history.specs.Fences.{interval_of}
 use Rattle.run_history.proofs.IntervalLaws.{are-intervals, has-interval_of, part-has_interval}

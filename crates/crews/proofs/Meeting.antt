@@ -1,5 +1,4 @@
 -- A worker whose desk met a note.
-use Rattle.std.proofs.Common.{◌≡◌, sym, ap, arith}
 use Rattle.run_history.specs.Cases.{CaseShape}
 use Rattle.book.specs.Desks.{DeskView, HasLooked}
 use Rattle.holdings.specs.Holding.{HasSeenOthers}

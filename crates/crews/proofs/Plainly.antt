@@ -1,6 +1,6 @@
 -- Rounds without a plan: who holds the first claims, and what was injected under them.
-use Rattle.std.proofs.Common.{inl, inr, ◌≡◌, ◌⊎◌, ◌∙◌, ◌<◌, ◌≤◌, ◌+◌, ◌++◌, ◌∷◌, ℕ, zero, suc, List, [], length, refl, sym, ap, subst, ⊎_elim, arith}
-use Rattle.std.specs.Prelude.{IfSome, None, Option, Some, false, min, slice_get, slice_index_or}
+use Rattle.std.proofs.Common.{inl, inr, ◌≡◌, ◌⊎◌, ◌<◌, ◌≤◌, ◌+◌, ℕ, List, [], length, sym, subst, ⊎_elim, arith}
+use Rattle.std.specs.Prelude.{IfSome, None, Option, Some, false, min, slice_index_or}
 use Rattle.row_keeper.specs.declared.keeper.Keeper.{Ghosts}
 use Rattle.atomic_table.specs.Seated.{TableId}
 use Rattle.mw_types.specs.declared.entry.Entry.{Entry}
@@ -17,10 +17,9 @@ use Rattle.shared_book.specs.declared.seats.Note.{Note}
 use Rattle.shared_book.proofs.Lists.{in_append}
 use Rattle.workers.specs.Slices.{HasLines, IsOvertaken, injected}
 use Rattle.workers.specs.declared.orders.Orders.{Orders}
-use Rattle.workers.proofs.InjectedLaws.{injected-more}
 use Rattle.workers.proofs.PassLaws.{interval-below}
 use Rattle.workers.proofs.Serving.{overtaken-more}
-use Rattle.crews.specs.Claims.{AreQuiet, HasBegun, HasLinesBy, HaveBegun, HaveClaimedOnly, HaveLines, HoldFirst, HoldsSince, IsNoClaim}
+use Rattle.crews.specs.Claims.{AreQuiet, HaveClaimedOnly, HaveLines, HoldFirst, HoldsSince, IsNoClaim}
 use Rattle.crews.specs.Crews.{AreCalm, AreHealthy, HasWorkedOnce, HaveWorked, KeepsOrders, KeepsWork, desk_of}
 use Rattle.crews.specs.declared.crew.Worker.{Worker}
 use Rattle.crews.proofs.Beginning.{begun-gone}

@@ -1,13 +1,13 @@
 -- What a run of workers leaves at the seat that took in those of all.
 use Rattle.std.proofs.Common.{inl, inr, ◌≡◌, ◌⊎◌, ◌∙◌, ◌<◌, ◌≤◌, ◌+◌, ◌∷◌, ℕ, zero, suc, List, [], length, refl, sym, ap, subst, ⊎_elim, arith}
-use Rattle.std.specs.Prelude.{All, IfSome, IsSome, None, Option, Some, slice_index_or}
+use Rattle.std.specs.Prelude.{All, IfSome, None, Option, Some, slice_index_or}
 use Rattle.std.proofs.lemmas.Bool.{cases_eq}
 use Rattle.row_keeper.specs.declared.keeper.Keeper.{Ghosts}
 use Rattle.atomic_table.specs.Seated.{TableId}
 use Rattle.mw_types.specs.declared.entry.Entry.{Entry}
 use Rattle.run_history.specs.Cases.{CaseShape}
 use Rattle.run_history.specs.Fences.{Begins}
-use Rattle.run_history.proofs.Beginnings.{Begins-itself, Begins-length, Begins-trans}
+use Rattle.run_history.proofs.Beginnings.{Begins-itself, Begins-length}
 use Rattle.node.specs.Answers.{refusal_of}
 use Rattle.node.specs.declared.outcome.NodeFault.{NodeFault}
 use Rattle.node.specs.declared.outcome.NodeFault.TheVariants as faults
@@ -16,9 +16,9 @@ use Rattle.shared_book.specs.Opening.{span}
 use Rattle.shared_book.specs.declared.views.Basis.{Basis}
 use Rattle.shared_book.specs.declared.views.View.{View}
 use Rattle.crews.specs.Claims.{HaveBegun, HaveClaimedSome}
-use Rattle.crews.specs.Crews.{AreFresh, AreHealthy, AreWorkers, HasDone, HasFaultCause, IsFaulty, IsWorker, desk_of, own_total, spent, spent_by}
+use Rattle.crews.specs.Crews.{AreWorkers, HasDone, HasFaultCause, IsFaulty, IsWorker, desk_of, own_total, spent, spent_by}
 use Rattle.crews.specs.Rounds.{IsDamageAt, rounds_room}
-use Rattle.crews.specs.Runs.{HasDealt, HasEndCause, HasRun, HasRunFirst, HasRunSome, HasTakenIn, IsFirstFault, IsHired}
+use Rattle.crews.specs.Runs.{HasDealt, HasEndCause, HasRun, HasTakenIn, IsFirstFault, IsHired}
 use Rattle.crews.specs.declared.crew.Worker.{Worker}
 use Rattle.crews.proofs.Faults.{all-later, first-faulty, first-has}
 use Rattle.crews.proofs.Taken.{run-first, run-some}

@@ -62,6 +62,16 @@ pub captures_sync : (name : Sym) (A B C D E F G : RattleType)
     → IsSync A → IsSync B → IsSync C → IsSync D → IsSync E → IsSync F → IsSync G
     → IsSync (TupleAt name (A ∷ B ∷ C ∷ D ∷ E ∷ F ∷ G ∷ []))
 captures_sync name A B C D E F G a b c d e f g =
-    declared_sync (type_at name (A ∷ B ∷ C ∷ D ∷ E ∷ F ∷ G ∷ []))
-    (as_row_sync (row_field A) a, (as_row_sync (row_field B) b, (as_row_sync (row_field C) c, (as_row_sync (row_field D) d,
-    (as_row_sync (row_field E) e, (as_row_sync (row_field F) f, (as_row_sync (row_field G) g, tt)))))))
+    declared_sync (type_at name (A ∷ B ∷ C ∷ D ∷ E ∷ F ∷ G ∷ [])) (
+      as_row_sync (row_field A) a,
+      (
+        as_row_sync (row_field B) b,
+        (
+          as_row_sync (row_field C) c,
+          (
+            as_row_sync (row_field D) d,
+            (as_row_sync (row_field E) e, (as_row_sync (row_field F) f, (as_row_sync (row_field G) g, tt))),
+          ),
+        ),
+      ),
+    )

@@ -1,5 +1,5 @@
 -- Rounds without a plan, by what the seat knows that took in those of all workers.
-use Rattle.std.proofs.Common.{inl, inr, ◌≡◌, ◌⊎◌, ◌∙◌, ◌<◌, ◌≤◌, ◌+◌, ◌*◌, ◌++◌, ◌∷◌, ℕ, zero, suc, List, [], length, map, refl, sym, ap, subst, ⊎_elim, arith, length-append, append-nil, filter}
+use Rattle.std.proofs.Common.{inl, inr, ◌≡◌, ◌⊎◌, ◌∙◌, ◌<◌, ◌≤◌, ◌+◌, ◌*◌, ◌++◌, ◌∷◌, ℕ, zero, suc, List, [], length, map, refl, sym, ap, subst, ⊎_elim, arith, append-nil}
 use Rattle.std.specs.Prelude.{All, IfNone, IfSome, IsSome, None, Option, Some, min, slice_get, slice_index_or}
 use Rattle.std.proofs.lemmas.Bool.{cases_lt}
 use Rattle.std.proofs.lemmas.List.{length-map}
@@ -22,7 +22,7 @@ use Rattle.shared_book.specs.declared.views.Basis.{Basis}
 use Rattle.shared_book.specs.declared.views.View.{View}
 use Rattle.workers.specs.Slices.{IsOvertaken, injected}
 use Rattle.workers.proofs.InjectedLaws.{injected-more}
-use Rattle.crews.specs.Claims.{AreClaimedAt, AreQuiet, IsNoClaim}
+use Rattle.crews.specs.Claims.{AreQuiet, IsNoClaim}
 use Rattle.crews.specs.Crews.{AreHealthy, HasDone, desk_of}
 use Rattle.crews.specs.Rounds.{HasInjectedAll, claims_in, first_claim, first_claims, is_claim}
 use Rattle.crews.specs.Runs.{HasDealt, HasLinesIn, HasRunPlain, HasTakenIn, IsFirstFault, IsHired}

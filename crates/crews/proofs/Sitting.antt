@@ -1,6 +1,6 @@
 -- A worker at its seat: what it is after each of its calls.
-use Rattle.std.proofs.Common.{◌≡◌, ◌∙◌, ◌≤◌, ◌+◌, ◌++◌, ◌∷◌, ℕ, Bool, true, false, List, [], length, refl, sym, ap, subst, arith, length-append}
-use Rattle.std.specs.Prelude.{Option, Some, None, IfSome, Result, Ok, Err, IfErr, OnOk}
+use Rattle.std.proofs.Common.{◌≡◌, ◌∙◌, ◌≤◌, ◌+◌, ◌∷◌, ℕ, true, false, List, [], length, sym, ap, subst, arith, length-append}
+use Rattle.std.specs.Prelude.{Option, None, IfSome, Result, Ok, Err, IfErr, OnOk}
 use Rattle.std.specs.Result.{result_err}
 use Rattle.row_keeper.specs.declared.keeper.Keeper.{Ghosts}
 use Rattle.atomic_table.specs.Seated.{TableId}
@@ -16,13 +16,13 @@ use Rattle.shared_book.specs.Steps.{SeatView}
 use Rattle.shared_book.specs.declared.seats.Seat.{Seat}
 use Rattle.shared_book.specs.declared.views.View.{View}
 use Rattle.shared_book.proofs.DeskFacts.{one-table}
-use Rattle.workers.specs.Slices.{HasInjected, HasWorked, IsSliceFault}
+use Rattle.workers.specs.Slices.{IsSliceFault}
 use Rattle.workers.specs.declared.orders.Orders.{Orders}
 use Rattle.crews.specs.Crews.{HasFaultCause, HasGoneOn, HasStepped, IsWorker, desk_of, spent_by, stall_of}
 use Rattle.crews.specs.Seats.{IsSeated}
 use Rattle.crews.specs.declared.crew.Worker.{Worker}
 use Rattle.crews.proofs.Going.{gone-same}
-use Rattle.crews.proofs.Trying.{cause-kept, cause-slice}
+use Rattle.crews.proofs.Trying.{cause-slice}
 
 -- ---- a worker whose seat stays
 

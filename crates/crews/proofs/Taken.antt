@@ -1,19 +1,17 @@
 -- A seat that takes in those of all workers.
-use Rattle.std.proofs.Common.{inl, inr, ◌≡◌, ◌⊎◌, ◌∙◌, ◌<◌, ◌≤◌, ◌+◌, ◌-◌, ◌++◌, ◌∷◌, ℕ, zero, suc, List, [], length, refl, sym, ap, subst, ⊎_elim, arith}
-use Rattle.std.specs.Prelude.{Option, Some, None, IfSome, IsSome, slice_index_or}
+use Rattle.std.proofs.Common.{inl, inr, ◌≡◌, ◌⊎◌, ◌∙◌, ◌<◌, ◌≤◌, ◌+◌, ◌-◌, ◌∷◌, ℕ, zero, suc, List, [], length, refl, sym, ap, subst, ⊎_elim, arith}
+use Rattle.std.specs.Prelude.{slice_index_or}
 use Rattle.std.proofs.lemmas.Bool.{cases_eq}
 use Rattle.row_keeper.specs.declared.keeper.Keeper.{Ghosts}
-use Rattle.mw_types.specs.declared.entry.Entry.{Entry}
-use Rattle.run_history.specs.Cases.{CaseShape, intervals_of}
+use Rattle.run_history.specs.Cases.{CaseShape}
 use Rattle.run_history.specs.Fences.{Begins}
-use Rattle.run_history.proofs.Beginnings.{Begins-at, Begins-itself, Begins-trans}
+use Rattle.run_history.proofs.Beginnings.{Begins-itself, Begins-trans}
 use Rattle.shared_book.specs.Joins.{joined, merged}
 use Rattle.shared_book.specs.Lists.{IsIn}
-use Rattle.shared_book.specs.declared.views.Basis.{Basis}
 use Rattle.shared_book.specs.declared.views.View.{View}
 use Rattle.shared_book.proofs.Merging.{in_merged, merged_left, merged_right}
-use Rattle.crews.specs.Claims.{AreClaimedAt, HasBegun, HasClaimedTo, HaveBegun, HaveClaimedSome, IsClaimedTo}
-use Rattle.crews.specs.Crews.{desk_of, own_total}
+use Rattle.crews.specs.Claims.{HaveBegun, HaveClaimedSome}
+use Rattle.crews.specs.Crews.{desk_of}
 use Rattle.crews.specs.Runs.{HasRunFirst, HasRunSome, HasTakenIn, IsOwnOf}
 use Rattle.crews.specs.declared.crew.Worker.{Worker}
 use Rattle.crews.proofs.Exact.{claimed-more, merged-length}

@@ -1,6 +1,6 @@
 -- A claim that is tried until nobody else has the turn.
-use Rattle.std.proofs.Common.{◌≡◌, ◌∙◌, ◌<◌, ◌≤◌, ◌+◌, ◌++◌, ◌∷◌, ℕ, cond, List, [], length, refl, sym, ap, subst, arith, append-nil, append_assoc, length-append, inl, inr, ⊎_elim}
-use Rattle.std.specs.Prelude.{Option, Some, None, IfSome, ⊤, slice_get, drop}
+use Rattle.std.proofs.Common.{◌≡◌, ◌∙◌, ◌<◌, ◌≤◌, ◌++◌, ◌∷◌, ℕ, cond, List, [], length, refl, sym, ap, subst, arith, append_assoc, length-append, ⊎_elim}
+use Rattle.std.specs.Prelude.{Option, Some, None, IfSome, slice_get}
 use Rattle.std.proofs.lemmas.Bool.{eq-eqb, ne_eqb}
 use Rattle.mw_types.specs.Causes.{Rose}
 use Rattle.mw_types.specs.declared.entry.Entry.{Entry}
@@ -8,7 +8,7 @@ use Rattle.mw_types.specs.declared.entry.Entry.TheVariants as entries
 use Rattle.topology.specs.Shapes.{Shape}
 use Rattle.run_history.specs.Cases.{CaseShape}
 use Rattle.run_history.proofs.Beginnings.{slice_get-last}
-use Rattle.book.specs.Desks.{DeskView, HasLooked, HasMoved, numbers_from}
+use Rattle.book.specs.Desks.{DeskView, HasLooked, HasMoved}
 use Rattle.book.specs.DeskReasons.{HasClaimReason, IsDamageOf, IsDecided}
 use Rattle.book.proofs.Numbers.{numbers_from-one, own-stays}
 use Rattle.node.specs.Answers.{AnswersClaim, HasKept, IsTaken, refusal_of}
@@ -18,7 +18,6 @@ use Rattle.node.specs.declared.outcome.NodeFault.TheVariants as faults
 use Rattle.node.specs.declared.outcome.Outcome.{Outcome}
 use Rattle.node.specs.declared.outcome.Outcome.TheVariants as outcomes
 use Rattle.node.proofs.FitLaws.{looked-moved, looked_twice}
-use Rattle.shared_book.specs.Lists.{IsIn}
 use Rattle.workers.specs.Slices.{IsSliceFault}
 use Rattle.crews.specs.Claims.{HasLeased}
 use Rattle.crews.specs.Crews.{HasClaimedOne, HasFaultCause, HasGoneOn}

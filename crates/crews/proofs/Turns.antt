@@ -1,5 +1,5 @@
 -- What a round appends, by what each worker does in its turn of work.
-use Rattle.std.proofs.Common.{◌≡◌, ◌∙◌, ◌<◌, ◌≤◌, ◌+◌, ◌*◌, ◌∷◌, ℕ, zero, suc, List, [], length, refl, sym, ap, subst, arith, length-append}
+use Rattle.std.proofs.Common.{◌≡◌, ◌∙◌, ◌<◌, ◌≤◌, ◌+◌, ◌*◌, ◌∷◌, ℕ, suc, List, [], length, ap, arith, length-append}
 use Rattle.std.specs.Prelude.{slice_index_or}
 use Rattle.row_keeper.specs.declared.keeper.Keeper.{Ghosts}
 use Rattle.atomic_table.specs.Seated.{TableId}
@@ -7,7 +7,7 @@ use Rattle.run_history.specs.Cases.{CaseShape}
 use Rattle.mailboxes.specs.declared.mailbox.Mailbox.{Mailbox}
 use Rattle.shared_book.specs.declared.seats.Note.{Note}
 use Rattle.workers.specs.declared.orders.Orders.{Orders}
-use Rattle.crews.specs.Crews.{AllHavePasses, AreWorkers, HasDone, HasWorkedOnce, HaveWorked, KeepsOrders, desk_of, spent, spent_by, stall_of}
+use Rattle.crews.specs.Crews.{AllHavePasses, AreWorkers, HasDone, HasWorkedOnce, HaveWorked, desk_of, spent, spent_by, stall_of}
 use Rattle.crews.specs.declared.crew.Worker.{Worker}
 use Rattle.crews.proofs.Going.{gone-worked}
 

@@ -2,7 +2,7 @@
 use Rattle.std.proofs.Common.{◌≡◌, ◌<◌, ℕ, false, List, length, refl}
 use Rattle.std.specs.Prelude.{slice_index_or, slice_set}
 use Rattle.row_keeper.specs.declared.keeper.Keeper.{Ghosts}
-use Rattle.crews.specs.Crews.{AreCalm, KeepsWork, StayCalm, desk_of}
+use Rattle.crews.specs.Crews.{AreCalm, StayCalm, desk_of}
 use Rattle.crews.specs.declared.crew.Worker.{Worker}
 use Rattle.crews.proofs.Doing.{all-set, keeps-set, keeps-then}
 use Rattle.crews.proofs.Sitting.{desk-same}

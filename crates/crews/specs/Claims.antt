@@ -1,5 +1,5 @@
 -- How the first claims of a run stand in what its workers have seen. No public clause cites this module.
-use Rattle.std.specs.Prelude.{◌≢◌, Bool, true, false, ◌≡◌, ◌⊎◌, ◌<◌, ◌≤◌, ◌∷◌, ◌++◌, [], ℕ, suc, List, IfSome, Some, ⊤, length, min, slice_get, slice_index_or}
+use Rattle.std.specs.Prelude.{◌≢◌, Bool, true, false, ◌≡◌, ◌⊎◌, ◌<◌, ◌≤◌, ◌∷◌, [], ℕ, suc, List, IfSome, Some, ⊤, length, min, slice_get, slice_index_or}
 use Rattle.row_keeper.specs.declared.keeper.Keeper.{Ghosts}
 use Rattle.mw_types.specs.declared.entry.Entry.{Entry}
 use Rattle.mw_types.specs.declared.entry.Entry.TheVariants as entries

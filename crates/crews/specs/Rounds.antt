@@ -1,7 +1,7 @@
 -- What rounds of workers that share a book leave in its history.
 -- Akidau et al., VLDB 2013, section 6.2 for a claim, which makes each earlier lease of its interval stale. Own:
 -- which worker claims which interval first, and how much rounds append.
-use Rattle.std.specs.Prelude.{◌≡◌, ◌<◌, ◌≤◌, ◌+◌, ◌*◌, ◌%◌, ℕ, Bool, true, false, List, Option, ⊤, filter, length, map, min}
+use Rattle.std.specs.Prelude.{◌<◌, ◌≤◌, ◌+◌, ◌*◌, ◌%◌, ℕ, Bool, true, false, List, Option, ⊤, filter, length, map, min}
 use Rattle.mw_types.specs.declared.entry.Entry.{Entry}
 use Rattle.mw_types.specs.declared.entry.Entry.TheVariants as entries
 use Rattle.topology.specs.Shapes.{injectors_of}

@@ -1,5 +1,5 @@
 -- What a run leaves at the seat that takes in those of all workers. No public clause cites this module.
-use Rattle.std.specs.Prelude.{◌≡◌, ◌⊎◌, ◌<◌, ◌≤◌, ◌+◌, ◌*◌, ◌∷◌, ◌++◌, [], ℕ, List, Option, None, All, IfSome, IsSome, Some, length, min, slice_index_or}
+use Rattle.std.specs.Prelude.{◌≡◌, ◌⊎◌, ◌<◌, ◌≤◌, ◌+◌, ◌*◌, ◌∷◌, ◌++◌, [], ℕ, List, Option, None, All, IfSome, IsSome, length, min, slice_index_or}
 use Rattle.row_keeper.specs.declared.keeper.Keeper.{Ghosts}
 use Rattle.mw_types.specs.declared.entry.Entry.{Entry}
 use Rattle.topology.specs.Shapes.{injectors_of}

@@ -1,4 +1,4 @@
-use Rattle.std.proofs.Common.{◌∙◌, arith, refl}
+use Rattle.std.proofs.Common.{◌∙◌, refl}
 use Rattle.crews.proofs.Doing.{done-not, keeps-then}
 use Rattle.crews.proofs.ActLaws.{act-all, act-more, act-none}
 use Rattle.crews.proofs.acting.act_all.Goals as goal

@@ -1,5 +1,5 @@
 use Rattle.std.proofs.Common.{◌+◌, arith, refl}
-use Rattle.crews.proofs.Doing.{done-less, done-not, done-then, keeps-then}
+use Rattle.crews.proofs.Doing.{done-not, done-then, keeps-then}
 use Rattle.crews.proofs.acting.claim_these.Goals as goal
 
 pub loop-interval-init : goal.loop-interval-init

@@ -1,9 +1,8 @@
 use Rattle.std.specs.Prelude.{slice_index_or}
 use Rattle.std.proofs.Common.{◌∙◌, ap, arith, length}
 use Rattle.book.specs.Desks.{DeskView}
-use Rattle.node.specs.Fits.{Fits}
 use Rattle.workers.specs.declared.orders.Orders.{Orders}
-use Rattle.crews.specs.Crews.{IsWorker, desk_of, stall_of}
+use Rattle.crews.specs.Crews.{IsWorker, stall_of}
 use Rattle.crews.proofs.Doing.{is-itself, all-there, done-set, healthy-set, healthy-there, keeps-set, workers-set}
 use Rattle.crews.proofs.Sitting.{desk-same, stepped-same, worker-same}
 use Rattle.crews.proofs.acting.crash_one.Goals as goal

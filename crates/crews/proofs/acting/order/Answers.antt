@@ -1,4 +1,4 @@
-use Rattle.std.proofs.Common.{◌≡◌, ap, arith}
+use Rattle.std.proofs.Common.{ap, arith}
 use Rattle.crews.specs.Crews.{stall_of}
 use Rattle.crews.proofs.Doing.{done-settled, keeps-then}
 use Rattle.crews.proofs.acting.order.Goals as goal

@@ -1,5 +1,5 @@
 use Rattle.std.proofs.Common.{refl}
-use Rattle.crews.proofs.Handing.{handed-more, handed-not}
+use Rattle.crews.proofs.Handing.{handed-not}
 use Rattle.crews.proofs.boxes.hand_out.Goals as goal
 
 pub loop-pass-init : goal.loop-pass-init

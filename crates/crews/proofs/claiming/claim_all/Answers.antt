@@ -1,4 +1,4 @@
-use Rattle.std.proofs.Common.{◌≡◌, ◌<◌, ◌≤◌, ◌+◌, ℕ, arith, length, refl, subst}
+use Rattle.std.proofs.Common.{◌≡◌, ◌+◌, ℕ, arith, length, refl, subst}
 use Rattle.run_history.specs.Cases.{intervals_of}
 use Rattle.crews.specs.Claims.{HasClaimedTo, HoldFirst}
 use Rattle.crews.proofs.Beginning.{claimed-none, claimed-turn}

@@ -2,7 +2,7 @@ use mir.Syntax.{named}
 use denote.Exit.{no}
 use denote.Param.{param}
 use denote.Param.Send.{arg_sync, param_sync, sendable, shr_slice_sync, shr_sync}
-use Rattle.std.proofs.Crossing.{crosses, send, sync}
+use Rattle.std.proofs.Crossing.{sync}
 use Rattle.run_history.proofs.case.Case.TheSendSync as cases
 use Rattle.shared_book.specs.contracts.seats.Note as Note
 use Rattle.shared_book.specs.contracts.shared_desk.NoteSeen.TheImpl as seen

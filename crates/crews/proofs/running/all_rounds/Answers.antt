@@ -1,4 +1,4 @@
-use Rattle.std.proofs.Common.{◌≡◌, ◌+◌, ◌*◌, ◌∙◌, ◌≤◌, ℕ, List, [], length, arith, inl, inr, refl, sym, ap, subst, suc}
+use Rattle.std.proofs.Common.{◌≡◌, ◌+◌, ◌*◌, ◌∙◌, ◌≤◌, ℕ, List, length, arith, inl, inr, ap, subst, suc}
 use Rattle.row_keeper.specs.declared.keeper.Keeper.{Ghosts}
 use Rattle.plans.specs.declared.action.Action.{Action}
 use Rattle.run_history.specs.Cases.{intervals_of}
@@ -7,7 +7,7 @@ use Rattle.crews.specs.Actions.{acted, acted_to}
 use Rattle.crews.specs.Claims.{AreQuiet}
 use Rattle.crews.specs.Crews.{HasDone}
 use Rattle.crews.specs.declared.crew.Worker.{Worker}
-use Rattle.crews.proofs.Acted.{acted-empty, acted-few, acted-next, acted-none, room-first, room-next, room-within}
+use Rattle.crews.proofs.Acted.{acted-empty, acted-few, acted-next, room-first, room-next, room-within}
 use Rattle.crews.proofs.Beginning.{begun-done}
 use Rattle.crews.proofs.Doing.{done-less, done-then, keeps-all}
 use Rattle.crews.proofs.Faults.{faulty-healthy}

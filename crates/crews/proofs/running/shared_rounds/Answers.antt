@@ -1,4 +1,4 @@
-use Rattle.std.proofs.Common.{◌≡◌, ◌∙◌, ◌+◌, ◌∷◌, ◌++◌, [], ℕ, zero, suc, List, length, take, refl, sym, ap, subst, arith}
+use Rattle.std.proofs.Common.{◌≡◌, ◌∙◌, ◌∷◌, ◌++◌, [], ℕ, zero, suc, List, length, take, refl, sym, ap, subst, arith}
 use Rattle.std.specs.Prelude.{All}
 use Rattle.mailboxes.specs.declared.mailbox.Mailbox.{Mailbox}
 use Rattle.run_history.specs.Cases.{intervals_of}
@@ -32,8 +32,8 @@ pub all_rounds-requires-clause-passes : goal.all_rounds-requires-clause-passes
 all_rounds-requires-clause-passes g c κs within =
     let n = length (intervals_of c.args.case.now.topology) in
     let have : HavePasses n c.in-Ok.boxes.items c.in-Ok.passes.items =
-        subst (λ (k : ℕ). HavePasses k c.in-Ok.boxes.items c.in-Ok.passes.items) c.intervals_in-intervals.ensures.all
-        c.in-Ok.ensures.passes in
+    subst (λ (k : ℕ). HavePasses k c.in-Ok.boxes.items c.in-Ok.passes.items) c.intervals_in-intervals.ensures.all
+    c.in-Ok.ensures.passes in
     subst (λ (b : List (Mailbox (Note g.row.K.Denot g.K.Keeper) g.row.J.Denot)).
     All (λ (w : Worker g.row.K.Denot g.row.J.Denot g.K.Keeper). ArePasses n b w.passes) c.as_mut_slice-all.result.now)
     (sym c.as_slice-boxes.ensures.value)

@@ -1,4 +1,4 @@
-use Rattle.std.proofs.Common.{◌≡◌, ◌<◌, ℕ, arith, inl, inr, length, refl, subst}
+use Rattle.std.proofs.Common.{◌≡◌, ℕ, arith, inl, inr, refl, subst}
 use Rattle.std.proofs.lemmas.Bool.{cases_lt}
 use Rattle.crews.specs.Crews.{HasTold, desk_of}
 use Rattle.crews.proofs.Doing.{done-not, done-then, keeps-then}

@@ -1,4 +1,4 @@
-use Rattle.std.proofs.Common.{◌∙◌, arith, refl, ap, sym, subst, rules}
+use Rattle.std.proofs.Common.{◌∙◌, arith, refl, subst, rules}
 use Rattle.node.proofs.FitLaws.{looked_not, looked_twice}
 use Rattle.workers.proofs.Serving.{on_err-anyway}
 use Rattle.crews.specs.Crews.{HasClaimedOne}
