@@ -6,5 +6,5 @@ mod former_owners;
 mod kept;
 mod lies;
 mod long_files;
-mod scripts;
+mod overtaken;
 mod worlds;

@@ -1,7 +1,7 @@
 //! What owners that were overtaken may still do, and a keeper that fails and is asked again.
 use super::calls::{keeper, says};
 use super::files::{COUNT, EVENTS, TEXT};
-use super::scripts::{SCRIPTS, sides};
+use super::overtaken::{SCRIPTS, sides};
 use super::worlds::wrong_over;
 use mw_types::NoMemory;
 use std::alloc::Global;

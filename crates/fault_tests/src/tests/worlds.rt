@@ -6,7 +6,7 @@ ghost use Rattle.computations.specs.Parts.{HasState, part_record, part_timer};
 ghost use Rattle.scripts.specs.Steps.{IsStep};
 
 use super::files::{COUNT, EVENTS};
-use super::scripts::sides;
+use super::overtaken::sides;
 use book::Book;
 use computations::Kinds;
 use injector::{Items, ItemsList, read_lines};
