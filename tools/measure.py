@@ -12,6 +12,11 @@ at most. Another build comes from an older commit:
     tools/measure.py crates/millwheel/out/millwheel ../older/crates/millwheel/out/millwheel
 
 `tools/build-unproved.py` makes a program in minutes that is compiled alike and not proved, for a change before its proof.
+
+    tools/measure.py --rounds PROGRAM
+
+prints processor and wall seconds and memory of `PROGRAM run` with one, two and four workers beside `PROGRAM solo`, over
+16,000 lines: as many as 1,000 rounds inject at 16 a round.
 """
 import hashlib
 import os
@@ -19,6 +24,7 @@ import resource
 import subprocess
 import sys
 import tempfile
+import time
 
 RUNS = 3
 MODES = ("solo", "plain")
@@ -34,6 +40,11 @@ INPUTS = [
     ("262,144 lines, 26 keys, timestamps below 600", 262_144, 26, 60, lambda n: n * 7919 % 600),
     ("262,144 lines, 100,000 keys, timestamps below 600", 262_144, 100_000, 60, lambda n: n * 7919 % 600),
 ]
+
+
+# The same, over which rounds are measured, and how often a run has how many workers and rounds.
+ROUNDED = ("16,000 lines, 26 keys, timestamps below 600", 16_000, 26, 60, lambda n: n * 7919 % 600)
+CREWS = [(1, 0), (1, 10), (1, 100), (1, 1000), (2, 1000), (4, 1000)]
 
 
 def key(number, keys):
@@ -62,7 +73,7 @@ def make(room, entry):
 def run(program, mode, topology, events):
     """One run: processor seconds, peak memory in MiB, exit status, and a sum of the text."""
     child = subprocess.Popen(
-        [program, mode, topology, events],
+        [program, *mode.split(), topology, events],
         stdout=subprocess.PIPE,
         stderr=subprocess.DEVNULL,
         preexec_fn=lambda: resource.setrlimit(resource.RLIMIT_AS, (MEMORY, MEMORY)),
@@ -72,7 +83,27 @@ def run(program, mode, topology, events):
     return used.ru_utime + used.ru_stime, used.ru_maxrss / 1024, os.waitstatus_to_exitcode(status), text
 
 
+def rounds(program):
+    """Prints what rounds cost beside one thread, and whether all wrote the same text."""
+    with tempfile.TemporaryDirectory() as room:
+        topology, events = make(room, ROUNDED)
+        modes = ["solo"] + ["run --workers=%d --rounds=%d" % crew for crew in CREWS]
+        texts = set()
+        print(ROUNDED[0])
+        for mode in modes:
+            seen = []
+            for _ in range(RUNS):
+                begun = time.time()
+                seen.append((*run(program, mode, topology, events), time.time() - begun))
+            texts.update(one[3] for one in seen)
+            seconds, memory, status, _, wall = min(seen)
+            print("  %-32s %6.2f s, %6.2f s by the clock, %4.0f MiB, status %d" % (mode, seconds, wall, memory, status))
+        print("  the same text" if len(texts) == 1 else "  TEXTS DIFFER")
+
+
 def main():
+    if sys.argv[1:2] == ["--rounds"] and len(sys.argv) == 3:
+        return rounds(os.path.abspath(sys.argv[2]))
     words = [(os.path.abspath(program), mode) for program in sys.argv[1:] for mode in MODES]
     if not words:
         sys.exit(__doc__)

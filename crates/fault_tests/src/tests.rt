@@ -7,4 +7,5 @@ mod kept;
 mod lies;
 mod long_files;
 mod overtaken;
+mod rounds;
 mod worlds;

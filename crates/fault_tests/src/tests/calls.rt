@@ -1,9 +1,11 @@
 //! The program's call over files in memory.
-use millwheel_cli::{Done, Status, millwheel_alone};
-use mw_ports::{FileList, MemShelf, MemSink, NamedFile};
+use millwheel_cli::{Done, Status, load_lines, millwheel, millwheel_alone};
+use mw_ports::{FileList, MemShelf, MemSink, NamedFile, OpenGate};
 use mw_types::{Bytes, CallList, Name, NoMemory, Seq};
 use row_keeper::{Keeper, MemKeeper};
 use std::alloc::Global;
+use std::sync::Wait;
+use std::thread::Threads;
 
 /// Files in memory: the name of each, and what it holds.
 pub type Files<'a> = &'a [(&'a str, &'a str)];
@@ -104,6 +106,36 @@ pub(super) fn answer<K: Keeper>(
 ) -> Result<Done<K>, NoMemory> {
     let mut shelf = shelf(alloc, files, &[])?;
     called(alloc, line, &mut shelf, keeper, out)
+}
+
+// One count over windows of 60, whose keys are cut in three intervals.
+const CUT: &str =
+    r#"{"injectors":[{"name":"clicks","stream":"raw"}],"computations":[{"name":"per_minute","kind":"count","size":60,"reads":[{"stream":"raw","by":"key"}],"stream":"windows","cuts":["h","q"]}]}
+"#;
+
+// A shelf with that count and the fifty lines of the seed 7.
+fn shelf_of_fifty(alloc: Global) -> Result<MemShelf, NoMemory> {
+    let mut files = FileList::new(alloc);
+    files.push(file(alloc, "t.json", CUT)?)?;
+    files.push(NamedFile {
+        name: Name::of(alloc, "e")?,
+        bytes: load_lines(alloc, 7, 50)?,
+    })?;
+    Ok(MemShelf::of(files, CallList::new(alloc)))
+}
+
+/// What a call with this line answers over that count and those lines, on several threads.
+pub(super) fn rounds<R: Threads + Wait + Sync>(
+    rt: &R,
+    alloc: Global,
+    line: &str,
+    keeper: MemKeeper,
+    out: &mut MemSink,
+) -> Result<Done<MemKeeper>, NoMemory> {
+    let words = words(alloc, line)?;
+    let mut shelf = shelf_of_fifty(alloc)?;
+    let gate = OpenGate;
+    Ok(millwheel(rt, alloc, words.as_slice(), &mut shelf, keeper, out, &gate))
 }
 
 /// Whether this is what the program says of a status.
