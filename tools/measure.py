@@ -16,7 +16,7 @@ at most. Another build comes from an older commit:
     tools/measure.py --rounds PROGRAM
 
 prints processor and wall seconds and memory of `PROGRAM run` with one, two and four workers beside `PROGRAM solo`, over
-16,000 lines: as many as 1,000 rounds inject at 16 a round.
+16,000 lines, which 1,000 rounds inject at 16 a round, and over 262,144, most of which is left to the drain.
 """
 import hashlib
 import os
@@ -43,7 +43,10 @@ INPUTS = [
 
 
 # The same, over which rounds are measured, and how often a run has how many workers and rounds.
-ROUNDED = ("16,000 lines, 26 keys, timestamps below 600", 16_000, 26, 60, lambda n: n * 7919 % 600)
+ROUNDED = [
+    ("16,000 lines, 26 keys, timestamps below 600", 16_000, 26, 60, lambda n: n * 7919 % 600),
+    ("262,144 lines, 26 keys, timestamps below 600", 262_144, 26, 60, lambda n: n * 7919 % 600),
+]
 CREWS = [(1, 0), (1, 10), (1, 100), (1, 1000), (2, 1000), (4, 1000)]
 
 
@@ -83,13 +86,13 @@ def run(program, mode, topology, events):
     return used.ru_utime + used.ru_stime, used.ru_maxrss / 1024, os.waitstatus_to_exitcode(status), text
 
 
-def rounds(program):
-    """Prints what rounds cost beside one thread, and whether all wrote the same text."""
+def rounds(program, entry):
+    """Prints what rounds cost beside one thread over an input, and whether all wrote the same text."""
+    modes = ["solo"] + ["run --workers=%d --rounds=%d" % crew for crew in CREWS]
+    texts = set()
+    print(entry[0])
     with tempfile.TemporaryDirectory() as room:
-        topology, events = make(room, ROUNDED)
-        modes = ["solo"] + ["run --workers=%d --rounds=%d" % crew for crew in CREWS]
-        texts = set()
-        print(ROUNDED[0])
+        topology, events = make(room, entry)
         for mode in modes:
             seen = []
             for _ in range(RUNS):
@@ -98,12 +101,14 @@ def rounds(program):
             texts.update(one[3] for one in seen)
             seconds, memory, status, _, wall = min(seen)
             print("  %-32s %6.2f s, %6.2f s by the clock, %4.0f MiB, status %d" % (mode, seconds, wall, memory, status))
-        print("  the same text" if len(texts) == 1 else "  TEXTS DIFFER")
+    print("  the same text" if len(texts) == 1 else "  TEXTS DIFFER", flush=True)
 
 
 def main():
     if sys.argv[1:2] == ["--rounds"] and len(sys.argv) == 3:
-        return rounds(os.path.abspath(sys.argv[2]))
+        for entry in ROUNDED:
+            rounds(os.path.abspath(sys.argv[2]), entry)
+        return
     words = [(os.path.abspath(program), mode) for program in sys.argv[1:] for mode in MODES]
     if not words:
         sys.exit(__doc__)
