@@ -9,7 +9,7 @@ extern int dprintf(int, const char *, ...), getpid(void), *__errno_location(void
 enum { FAIL_ALLOC, FAIL_IO, SHORT_IO, KILL_IO, FULL_DISK, TORN_WRITE, KINDS };
 static const char *const NAMES[KINDS] = {"FAIL_ALLOC", "FAIL_IO", "SHORT_IO", "KILL_IO", "FULL_DISK", "TORN_WRITE"};
 static unsigned long calls[KINDS], first[KINDS], last[KINDS];
-enum { READ = 0, WRITE = 1, PREAD = 17, PWRITE = 18, KILL = 62, FSYNC = 74, FDATASYNC = 75, FTRUNCATE = 77 };
+enum { READ = 0, WRITE = 1, PREAD = 17, PWRITE = 18, KILL = 62, FSYNC = 74, FDATASYNC = 75, FTRUNCATE = 77, EXIT_GROUP = 231 };
 enum { EIO = 5, ENOMEM = 12, ENOSPC = 28 };
 
 __attribute__((constructor)) static void begin(void) {
@@ -26,6 +26,13 @@ __attribute__((destructor)) static void end(void) {
     char *to = getenv("CALLS_TO");
     for (int kind = 0; to && kind < KINDS; kind++) dprintf(strtoul(to, 0, 10), "%s %lu\n", NAMES[kind], calls[kind]);
 }
+
+// A program that may start threads ends here, and runs no destructor.
+__attribute__((noreturn)) void _exit(int status) {
+    end();
+    for (;;) syscall(EXIT_GROUP, status);
+}
+__attribute__((noreturn)) void _Exit(int status) { _exit(status); }
 
 static int hits(int kind) {
     unsigned long number = __atomic_add_fetch(&calls[kind], 1, __ATOMIC_RELAXED); // several threads call
