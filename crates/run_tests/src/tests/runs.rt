@@ -12,6 +12,15 @@ at 8 lose 0
 at 9 hold 0
 ";
 
+// Each of them in a round of its own, at two workers.
+const EACH: &str = "at 1 crash 0
+at 2 stall 1
+at 4 move 2 1
+at 5 repeat 1
+at 6 lose 0
+at 7 hold 1
+";
+
 // The line of the call that one thread works off.
 const SOLO: &str = "solo t.json e";
 
@@ -28,6 +37,25 @@ const PLANNED_CLAIMS: Claims<'static> = &[
     (3, 1),
     (3, 2),
     (0, 3),
+    (0, 0),
+    (0, 1),
+    (0, 2),
+    (0, 3),
+];
+
+// Those of the plan with each in a round of its own, and then the drain's.
+const EACH_CLAIMS: Claims<'static> = &[
+    (0, 0),
+    (1, 1),
+    (0, 2),
+    (1, 3),
+    (1, 0),
+    (1, 2),
+    (0, 0),
+    (0, 1),
+    (0, 2),
+    (0, 3),
+    (1, 2),
     (0, 0),
     (0, 1),
     (0, 2),
@@ -52,8 +80,13 @@ const ALONE_CLAIMS: Claims<'static> = &[(0, 0), (0, 1), (0, 0), (0, 1)];
 const MANY_CLAIMS: Claims<'static> = &[(0, 0), (1, 1), (0, 0), (0, 1)];
 
 // Runs: of each the line, the files, and the claims.
-const RUNS: [(&str, Files<'static>, Claims<'static>); 6] = [
+const RUNS: [(&str, Files<'static>, Claims<'static>); 7] = [
     (PLANNED, (CUTS, PLAN), PLANNED_CLAIMS),
+    (
+        "run --workers 2 --rounds 12 --plan p t.json e",
+        (CUTS, EACH),
+        EACH_CLAIMS,
+    ),
     (
         "run --workers 3 --rounds 4 t.json e",
         (CUTS, ""),
@@ -95,6 +128,17 @@ fn each_run_writes_what_one_thread_writes(rt: HostRuntime) -> Result<(), Fail> {
         assert!(rt;
             write_the_same(&rt, rt.alloc(), line, SOLO, files)?,
             "{line}"
+        );
+    }
+    Ok(())
+}
+
+#[test]
+fn four_threads_end_twenty_times_as_one_does(rt: HostRuntime) -> Result<(), Fail> {
+    for time in 0..20 {
+        assert!(rt;
+            write_the_same(&rt, rt.alloc(), PLANNED, SOLO, (CUTS, PLAN))?,
+            "{time}"
         );
     }
     Ok(())

@@ -1,8 +1,0 @@
-//! The tests, a module for what each is about.
-mod example;
-mod faults;
-mod held;
-mod histories;
-mod holding;
-mod one_run;
-mod runs;
