@@ -3,7 +3,6 @@ use super::calls::{Files, called, ended, failing, sink};
 use millwheel_cli::Status;
 use mw_ports::OpenGate;
 use mw_types::{Bytes, Entry, NoMemory};
-use run_history::history_lines;
 use std::alloc::Global;
 use std::sync::Wait;
 use std::thread::Threads;
@@ -80,30 +79,6 @@ fn injected(entries: &[Entry]) -> u64 {
         }
     }
     count
-}
-
-/// Whether a call ends with Ok, and has written the lines of its history and then what another call writes.
-pub(super) fn writes_its_history<R: Threads + Wait + Sync>(
-    rt: &R,
-    alloc: Global,
-    line: &str,
-    other: &str,
-    files: Files<'_>,
-) -> Result<bool, NoMemory> {
-    let mut out = sink(alloc);
-    let done = ended(rt, alloc, line, files, &mut out)?;
-    let lines = history_lines(alloc, &done.history)?;
-    match text_of(rt, alloc, other, files)? {
-        Some(result) => is_joined(out.text(), lines, result.as_slice()),
-        None => Ok(false),
-    }
-}
-
-// Whether a text is the one and then the other.
-fn is_joined(text: &[u8], one: Bytes, other: &[u8]) -> Result<bool, NoMemory> {
-    let mut all = one.into_vec();
-    all.extend_from_slice(other)?;
-    Ok(text == all.as_slice())
 }
 
 /// Whether a call is refused with this message before a run begins.

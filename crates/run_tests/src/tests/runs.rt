@@ -1,6 +1,6 @@
 //! Runs, each with its plan: their claims, and the text that one thread writes too.
 use super::calls::{COUNT, CUTS, Files};
-use super::looks::{Claims, has_claims, keeper_fails, write_the_same, writes_its_history};
+use super::looks::{Claims, has_claims, keeper_fails, write_the_same};
 use std::test::Fail;
 
 // A stall, a crash, a move, and the three that change what is sent.
@@ -141,13 +141,6 @@ fn four_threads_end_twenty_times_as_one_does(rt: HostRuntime) -> Result<(), Fail
             "{time}"
         );
     }
-    Ok(())
-}
-
-#[test]
-fn the_history_of_the_worked_plan_stands_before_its_result(rt: HostRuntime) -> Result<(), Fail> {
-    let line = "run --workers 4 --rounds 12 --plan p --history t.json e";
-    assert!(rt; writes_its_history(&rt, rt.alloc(), line, SOLO, (CUTS, PLAN))?);
     Ok(())
 }
 
