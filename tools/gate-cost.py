@@ -2,9 +2,11 @@
 """Runs the gate, and prints what each crate cost: processor minutes of its check, its tests and its edits.
 
     tools/gate-cost.py [rt ci's words]
+    tools/gate-cost.py --of PID
 
-looks once a second at the processes that `rt ci` started, and prints a table for docs/ when it has ended. A kit whose
-`rt ci` keeps what an earlier run proved measures from nothing by `tools/gate-cost.py --anew`.
+looks once a second at the processes that `rt ci` started, and prints a table for docs/ when it has ended; with `--of`,
+at those of a gate that runs already, as `.ci/run` does. A kit whose `rt ci` keeps what an earlier run proved measures
+from nothing by `tools/gate-cost.py --anew`.
 """
 import collections
 import os
@@ -56,24 +58,41 @@ def below(root):
     return found
 
 
-def main():
-    gate = subprocess.Popen(["rt", "ci"] + sys.argv[1:])
+def is_running(pid):
+    """Whether a process that need not be ours has not ended."""
+    try:
+        with open("/proc/%s/stat" % pid, errors="replace") as text:
+            return text.read().rsplit(")", 1)[1].split()[0] != "Z"
+    except OSError:
+        return False
+
+
+def watch(pid, goes_on):
+    """Adds up what the processes below one spend while it goes on, and prints the table."""
     kinds, spent = {}, {}
     begun = time.time()
-    while gate.poll() is None:
-        for pid, seconds in below(gate.pid).items():
-            kinds[pid] = kind(pid) or kinds.get(pid)
-            spent[pid] = max(seconds, spent.get(pid, 0))
+    while goes_on():
+        for one, seconds in below(pid).items():
+            kinds[one] = kind(one) or kinds.get(one)
+            spent[one] = max(seconds, spent.get(one, 0))
         time.sleep(1)
     costs = collections.defaultdict(float)
-    for pid, seconds in spent.items():
-        costs[kinds[pid] or ("the rest", "check")] += seconds / 60
+    for one, seconds in spent.items():
+        costs[kinds[one] or ("the rest", "check")] += seconds / 60
     print("\n| Crate | Check | Tests | Edits | Sum |\n|---|---|---|---|---|")
     crates = sorted({crate for crate, _ in costs})
     for crate in crates:
         parts = [costs[crate, one] for one in ("check", "tests", "edits")]
         print("| `%s` | %s | %.1f |" % (crate, " | ".join("%.1f" % part for part in parts), sum(parts)))
     print("\n%.0f processor minutes in %.0f minutes" % (sum(costs.values()), (time.time() - begun) / 60))
+
+
+def main():
+    if sys.argv[1:2] == ["--of"]:
+        pid = int(sys.argv[2])
+        return watch(pid, lambda: is_running(pid))
+    gate = subprocess.Popen(["rt", "ci"] + sys.argv[1:])
+    watch(gate.pid, lambda: gate.poll() is None)
     sys.exit(gate.returncode)
 
 
