@@ -1,2 +1,4 @@
 pub mod Within
 pub mod Answered
+pub mod Shown
+pub mod Overwritten

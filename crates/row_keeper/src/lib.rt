@@ -1,4 +1,4 @@
-//! The keeper of rows: what stores a row's bytes under its name, and a keeper in memory.
+//! The keeper of rows: what stores a row's bytes under its name, one in memory, and two that tell nothing.
 //!
 //! Stands on `key_intervals` and `mw_types`. Public contract: where a contract can see a keeper's
 //! rows, `put` sets one row, `scan` answers the rows of an interval and `first` the least row; a keeper
@@ -10,8 +10,10 @@
 mod blind_keeper;
 mod calls;
 mod keeper;
+mod lying_keeper;
 mod mem_keeper;
 
 pub use blind_keeper::BlindKeeper;
 pub use keeper::{Keeper, KeeperFault, KeptRow, KeptRowList};
+pub use lying_keeper::LyingKeeper;
 pub use mem_keeper::MemKeeper;

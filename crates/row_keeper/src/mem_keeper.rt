@@ -15,7 +15,7 @@ use std::collections::BTreeMap;
 use std::marker::Model;
 use std::mem::replace;
 
-// How much more than twice what is needed spare memory may have.
+// How much more than twice what is needed the memory of a row's bytes may have.
 const SLACK: usize = 64;
 
 // Rows by their names, each with its bytes.
@@ -26,8 +26,6 @@ type RowMap = BTreeMap<RowName, Bytes>;
 pub struct MemKeeper {
     rows: RowMap,
     calls: Calls,
-    // The memory of the bytes that the last put replaced, for the bytes of the next.
-    spare: Vec<u8>,
 }
 
 impl Model for MemKeeper {
@@ -58,7 +56,6 @@ impl MemKeeper {
                 count: 0,
                 faults: 0,
             },
-            spare: Vec::new(alloc),
         }
     }
 
@@ -88,12 +85,7 @@ impl Keeper for MemKeeper {
         ensures counts { CountsCall self.old self.new result }
     {
         self.calls.begin()?;
-        let own_bytes = bytes_over(alloc, &mut self.spare, bytes)?;
-        let replaced = hold(alloc, &mut self.rows, name, own_bytes)?;
-        if let Some(old) = replaced {
-            self.spare = old.into_vec();
-        }
-        Ok(())
+        Ok(keep(alloc, &mut self.rows, name, bytes)?)
     }
 
     #[tactic(auto, using(crate::proofs::Answered::found_covered, crate::proofs::Answered::found_ascending))]
@@ -145,35 +137,54 @@ fn push_copied(
     found.push(copied(alloc, name, bytes)?)
 }
 
-// Holds these bytes under this name, and answers what was held under it before.
-fn hold(
-    alloc: Global,
-    rows: &mut RowMap,
-    name: &RowName,
-    bytes: Bytes,
-) -> Result<Option<Bytes>, NoMemory>
-    ensures held { OnOk result (rows.new.entries ≡ with_row name.now bytes rows.old.entries) }
+// Holds these bytes under this name, in the place of those that are held under it.
+fn keep(alloc: Global, rows: &mut RowMap, name: &RowName, bytes: &[u8]) -> Result<(), NoMemory>
+    ensures held { OnOk result (rows.new.entries ≡ with_row name.now bytes.now rows.old.entries) }
     ensures unchanged { OnErr result (rows.new.entries ≡ rows.old.entries) }
     ensures ordered { AreInOrder rows.old.entries → AreInOrder rows.new.entries }
 {
-    let own_name = name.copy(alloc)?;
-    let replaced = rows.insert(own_name, bytes)?;
-    Ok(replaced)
+    if let Some(held) = rows.get_mut(name) {
+        return put_over(alloc, held, bytes);
+    }
+    hold(alloc, rows, name, bytes)
 }
 
-// These bytes as a list of their own, in spare memory where that has room for them and for not much
-// more than twice as many.
-fn bytes_over(alloc: Global, spare: &mut Vec<u8>, bytes: &[u8]) -> Result<Bytes, NoMemory>
-    ensures { IfOk result (λ list. list ≡ bytes.now) }
+// Holds these bytes under a name that is new.
+fn hold(alloc: Global, rows: &mut RowMap, name: &RowName, bytes: &[u8]) -> Result<(), NoMemory>
+    ensures held { OnOk result (rows.new.entries ≡ with_row name.now bytes.now rows.old.entries) }
+    ensures unchanged { OnErr result (rows.new.entries ≡ rows.old.entries) }
+    ensures ordered { AreInOrder rows.old.entries → AreInOrder rows.new.entries }
 {
-    let room = spare.capacity();
-    if room < bytes.len() || room / 2 > bytes.len() + SLACK {
-        return list_of(alloc, bytes);
+    let own_bytes = list_of(alloc, bytes)?;
+    let own_name = name.copy(alloc)?;
+    rows.insert(own_name, own_bytes)?;
+    Ok(())
+}
+
+// Puts these bytes in the place of those that are held, which stay where memory runs out.
+fn put_over(alloc: Global, held: &mut Bytes, bytes: &[u8]) -> Result<(), NoMemory>
+    ensures put { OnOk result (held.new ≡ bytes.now) }
+    ensures unchanged { OnErr result (held.new ≡ held.old) }
+{
+    let mut list = replace(held, Bytes::new(alloc)).into_vec();
+    let done = overwrite(alloc, &mut list, bytes);
+    *held = Bytes::from_vec(list);
+    done
+}
+
+// Has room for these bytes before it lets the old ones go, and not for much more than twice as many.
+fn overwrite(alloc: Global, list: &mut Vec<u8>, bytes: &[u8]) -> Result<(), NoMemory>
+    ensures put { OnOk result (list.new.items ≡ bytes.now) }
+    ensures unchanged { OnErr result (list.new.items ≡ list.old.items) }
+{
+    if list.capacity() / 2 > bytes.len() + SLACK {
+        *list = list_of(alloc, bytes)?.into_vec();
+        return Ok(());
     }
-    let mut list = replace(spare, Vec::new(alloc));
+    list.reserve(bytes.len().saturating_sub(list.len()))?;
     list.clear();
     list.extend_from_slice(bytes)?;
-    Ok(Bytes::from_vec(list))
+    Ok(())
 }
 
 // These bytes as a list of their own.

@@ -4,9 +4,9 @@ ghost use Rattle.key_intervals.specs.Intervals.{covers};
 ghost use Rattle.row_keeper.specs.Rows.{AreInOrder, entry_of};
 ghost use Rattle.row_keeper.specs.declared.keeper.KeptRow.{KeptRow};
 
+use crate::keeper::{Keeper, KeeperFault, KeptRow, KeptRowList};
 use key_intervals::Bounds;
 use mw_types::{Duplicate, NoMemory, RowName};
-use row_keeper::{Keeper, KeeperFault, KeptRow, KeptRowList};
 use std::alloc::Global;
 use std::marker::Model;
 

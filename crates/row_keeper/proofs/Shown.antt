@@ -16,11 +16,11 @@ shown_within b rows found e =
     ap (map entry_of) e ∙ sym (filter-map (λ (row : RowName × List ℕ). covers b row.0) entry_of rows)
 
 -- they lie in the interval
-pub shown_covered : (b : Bounds) (rows found : List KeptRow) → found ≡ filter (λ (row : KeptRow). covers b row.name) rows
+pub lying_covered : (b : Bounds) (rows found : List KeptRow) → found ≡ filter (λ (row : KeptRow). covers b row.name) rows
     → All (λ (row : KeptRow). covers b row.name ≡ true) found
-shown_covered b rows found e = found_covered b found (map entry_of rows) (shown_within b rows found e)
+lying_covered b rows found e = found_covered b found (map entry_of rows) (shown_within b rows found e)
 
 -- they stand in order, as all that the keeper has do
-pub shown_ascending : (b : Bounds) (rows found : List KeptRow) → AreInOrder (map entry_of rows)
+pub lying_ascending : (b : Bounds) (rows found : List KeptRow) → AreInOrder (map entry_of rows)
     → found ≡ filter (λ (row : KeptRow). covers b row.name) rows → AreInOrder (map entry_of found)
-shown_ascending b rows found o e = found_ascending b found (map entry_of rows) o (shown_within b rows found e)
+lying_ascending b rows found o e = found_ascending b found (map entry_of rows) o (shown_within b rows found e)
