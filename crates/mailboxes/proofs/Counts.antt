@@ -5,7 +5,7 @@ use lib.ListN.{get_elem?}
 use Rattle.crossbeam_queue.specs.Fifo.{Pushes, Pops, Forks, Learns}
 use Rattle.crossbeam_queue.proofs.Lists.{at_set, at_snoc}
 use Rattle.mailboxes.specs.declared.hand.Hand.{Hand}
-use Rattle.mailboxes.specs.Mailboxes.{AreCounted, IsLeft, IsOnly, all_puts, all_takes, beside, first_hand, new_hand, with_put, with_take}
+use Rattle.mailboxes.specs.Mailboxes.{AreCounted, HasHeld, IsLeft, IsOnly, all_puts, all_takes, beside, first_hand, new_hand, with_put, with_take}
 
 -- ---- sums over passes
 
@@ -102,10 +102,15 @@ deals pass v items views is at =
     other (a ∷ []) (suc i) j v u at at' apart one = some-ne-none v (sym at)
     other (a ∷ []) zero (suc j) v u at at' apart one = some-ne-none u (sym at')
 
-pub learns : {T : Type 0} (pass : ℕ) (v : Hand) → Learns {T = T} AreCounted pass v (λ items. IsLeft v (length items))
-learns pass v items views is at alone = lone views pass at (is.only pass v at alone) is.counted
+pub learns : {T : Type 0} (pass : ℕ) (v : Hand) → Learns {T = T} AreCounted pass v (λ items. HasHeld v (length items))
+learns pass v items views is at = record { views = views; place = pass; this = at; counted = is.counted; only = is.only }
+
+-- what was there at that moment, a pass that is alone has put there
+pub left_of_held : (v : Hand) (count : ℕ) → HasHeld v count → IsLeft v count
+left_of_held v count h alone = lone h.views h.place h.this (h.only h.place v h.this alone) h.counted
   where
-    lone : (us : List Hand) (i : ℕ) → get_elem? us i ≡ some v → length us ≡ 1 → all_puts us ≡ all_takes us + length items → v.puts ≡ v.takes + length items
+    lone : (us : List Hand) (i : ℕ) → get_elem? us i ≡ some v → length us ≡ 1 → all_puts us ≡ all_takes us + count
+        → v.puts ≡ v.takes + count
     lone [] i here single counted = absurd (some-ne-none v (sym here))
     lone (u ∷ []) zero here single counted =
         let a = ap (λ (h : Hand). h.puts) (some-injective _ _ here) in

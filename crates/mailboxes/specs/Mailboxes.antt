@@ -62,3 +62,14 @@ IsOnly views = (i : ℕ) (v : Hand) → get_elem? views i ≡ some v → v.alone
 pub record AreCounted {T : Type 0} (items : List T) (views : List Hand) : Type 0 where
   pub counted : all_puts views ≡ all_takes views + length items
   pub only : IsOnly views
+
+-- ---- what a refusal teaches
+
+-- at a moment at which a pass knew v, its mailbox held so many messages: those that all its passes
+-- had put by then and not taken
+pub record HasHeld (v : Hand) (count : ℕ) : Type 0 where
+  pub views : List Hand
+  pub place : ℕ
+  pub this : get_elem? views place ≡ some v
+  pub counted : all_puts views ≡ all_takes views + count
+  pub only : IsOnly views

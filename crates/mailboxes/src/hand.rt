@@ -22,7 +22,7 @@ impl<T> Protocol<T, Hand> for Counted {
     ghost first = { first_hand };
 }
 
-/// A message is put. Where there is no room, the pass learns how many are left.
+/// A message is put. Where there is no room, the pass learns how many there were, of all passes.
 pub struct Put;
 
 impl<T> Outcome<T, Hand> for Put {
@@ -34,12 +34,12 @@ impl<T> Outcome<T, Hand> for Put {
 
 impl<T> Lesson<T, Hand> for Put {
     ghost use Rattle.std.specs.Prelude.{length};
-    ghost use Rattle.mailboxes.specs.Mailboxes.{IsLeft};
+    ghost use Rattle.mailboxes.specs.Mailboxes.{HasHeld};
 
-    ghost fact = { λ v items. IsLeft v (length items) };
+    ghost fact = { λ v items. HasHeld v (length items) };
 }
 
-/// A message is taken. Where there is none, the pass learns that none is left.
+/// A message is taken. Where there is none, the pass learns that all that was put was taken.
 pub struct Taken;
 
 impl<T> Outcome<T, Hand> for Taken {
@@ -51,9 +51,9 @@ impl<T> Outcome<T, Hand> for Taken {
 
 impl<T> Lesson<T, Hand> for Taken {
     ghost use Rattle.std.specs.Prelude.{length};
-    ghost use Rattle.mailboxes.specs.Mailboxes.{IsLeft};
+    ghost use Rattle.mailboxes.specs.Mailboxes.{HasHeld};
 
-    ghost fact = { λ v items. IsLeft v (length items) };
+    ghost fact = { λ v items. HasHeld v (length items) };
 }
 
 /// One more pass is made.

@@ -3,7 +3,7 @@ ghost use Rattle.std.specs.Prelude.{◌≡◌, ◌<◌, ◌≤◌, length, All, 
 ghost use Rattle.crossbeam_queue.specs.Passes.{IsPassOf, ruled_capacity, view};
 ghost use Rattle.node.specs.Messages.{IsAddressed};
 ghost use Rattle.node.specs.Received.{note_of, outgoing_of};
-ghost use Rattle.mailboxes.specs.Mailboxes.{IsLeft, with_put, with_take};
+ghost use Rattle.mailboxes.specs.Mailboxes.{HasHeld, IsLeft, with_put, with_take};
 ghost use Rattle.mailboxes.specs.PassLists.{AllFrom, IsLonePass, IsNewPass};
 
 use crate::hand::{Put, Taken};
@@ -70,9 +70,12 @@ impl<N: Seen, J: Office> Mailbox<N, J> {
         ensures place { pass.new.place ≡ pass.old.place }
         ensures put { OnOk result (view pass.new.pass ≡ with_put (view pass.old.pass)) }
 
-        // The message comes back, and a pass that is alone has filled the mailbox itself.
+        // The message comes back. At a moment of the call there was no room, over all passes, and a pass
+        // that is alone has filled the mailbox itself.
         ensures same { IfErr result (λ full. full.message ≡ message) }
         ensures unchanged { OnErr result (view pass.new.pass ≡ view pass.old.pass) }
+        ensures was_full { OnErr result
+            (HasHeld (view pass.old.pass) (ruled_capacity self.now.line)) }
         ensures full { OnErr result (IsLeft (view pass.old.pass) (ruled_capacity self.now.line)) }
     {
         let letter = Letter {
@@ -100,8 +103,10 @@ impl<N: Seen, J: Office> Mailbox<N, J> {
         ensures taken { IfSome result (λ message.
             view pass.new.pass ≡ with_take (view pass.old.pass)) }
 
-        // A pass that is alone has taken all that it put.
+        // At a moment of the call none was there, over all passes, and a pass that is alone has taken all
+        // that it put.
         ensures unchanged { IfNone result (view pass.new.pass ≡ view pass.old.pass) }
+        ensures was_empty { IfNone result (HasHeld (view pass.old.pass) 0) }
         ensures empty { IfNone result (IsLeft (view pass.old.pass) 0) }
     {
         match self.line.pop_as::<Taken, R>(rt, &mut pass.pass) {
