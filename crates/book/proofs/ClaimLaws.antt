@@ -21,7 +21,7 @@ use Rattle.book.specs.declared.refusals.WriteRefusal.TheVariants as refusals
 use Rattle.book.specs.Appending.{KnowsClaims, later_than}
 
 -- an entry on a row is no claim
-row-no_claim : (interval : ℕ) (entry : Entry) (name : RowName) → row_written entry ≡ Some name → is_claim interval entry ≡ false
+pub row-no_claim : (interval : ℕ) (entry : Entry) (name : RowName) → row_written entry ≡ Some name → is_claim interval entry ≡ false
 row-no_claim interval (Claim worker claimed) name written = absurd (none_some name written)
 row-no_claim interval (Inject seq part line item) name written = refl
 row-no_claim interval (Handle seq row id effects) name written = refl

@@ -20,3 +20,4 @@ pub mod OwnLaws
 pub mod OwnReasons
 pub mod FirstLaws
 pub mod PutMarks
+pub mod Sending

@@ -70,7 +70,7 @@ is_claimed-more history more lease is =
     (claimed.0, slice_get-more history lease.seq (Claim claimed.0 lease.interval) more claimed.1)
 
 -- no entry carries a sequencer among none
-none-carried : (seq : ℕ) → CarryNot seq []
+pub none-carried : (seq : ℕ) → CarryNot seq []
 none-carried seq = All-nil (λ (e : Entry). sequencer_of e ≢ Some seq)
 
 -- ---- what a caller of the book knows, who has seen all of it

@@ -1,4 +1,4 @@
--- How what is known of senders changes as entries come. No public clause cites this module.
+-- How what is known of senders changes as entries come, in a book or in whatever keeps it as a book does.
 use Rattle.std.specs.Prelude.{◌≡◌, ◌≤◌, ℕ, Bool, false, List, Option, Some, None, IsSome, if◌then◌else◌, ◌&&◌, ◌==◌, nat_lt}
 use Rattle.std.specs.Ordering.{is_eq, is_gt}
 use Rattle.mw_types.specs.Orders.{id_cmp, row_cmp}

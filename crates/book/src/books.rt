@@ -224,8 +224,8 @@ impl<'a, K: Keeper> Book<'a, K> {
     }
 }
 
-// How much work a case begins with: each injector that has a line.
-fn first_work(case: &Case) -> u64
+/// How much work a case begins with: each injector that has a line.
+pub fn first_work(case: &Case) -> u64
     ensures { result ≡ unfinished case.now empty_run }
 {
     let mut work = 0;

@@ -103,8 +103,8 @@ fn injected(
     Ok(Step { entry, left })
 }
 
-// What an injector produces of a record.
-fn production_of(item: Record) -> Production
+/// What an injector produces of a record, which is used up.
+pub fn production_of(item: Record) -> Production
     ensures { result ≡ record { key = item.key; stamp = item.stamp; value = item.value } }
 {
     let Record {

@@ -32,12 +32,14 @@ mod writes;
 
 pub use answers::{Claimed, NamedRow, NamedRowList, Written};
 pub use book_core::Core;
-pub use books::Book;
+pub use books::{Book, first_work};
 pub use desk::{Desk, Seen};
 pub use desk_refusal::DeskRefusal;
-pub use entries::{Step, step_of};
+pub use entries::{Step, production_of, step_of};
 pub use lease::Lease;
 pub use own_desk::{NoNote, OwnDesk};
 pub use proposal::Proposal;
 pub use refusals::{ClaimRefusal, Stale, StartRefusal, StartWhy, WriteRefusal};
 pub use rows::{purged, settled};
+pub use sender_map::{settle, settled_by};
+pub use work_left::work_after;

@@ -13,8 +13,8 @@ use std::collections::BTreeMap;
 // Each id that is pending, with its sender's row.
 pub(crate) type Senders = BTreeMap<RecordId, RowName>;
 
-// The id that an entry acknowledges.
-pub(crate) fn settled_by(entry: &Entry) -> Option<RecordId>
+/// The id that an entry acknowledges.
+pub fn settled_by(entry: &Entry) -> Option<RecordId>
     ensures { result ≡ settled_by entry.now }
 {
     match entry {
@@ -69,8 +69,8 @@ pub(crate) fn forget_sent(senders: &mut Senders, commit: u64, sent: u32)
     }
 }
 
-// The id is acknowledged, where this row sent it.
-pub(crate) fn settle(senders: &mut Senders, id: Option<RecordId>, name: &RowName)
+/// An id is acknowledged and forgotten, where there is one and this row sent it.
+pub fn settle(senders: &mut BTreeMap<RecordId, RowName>, id: Option<RecordId>, name: &RowName)
     ensures { HasSettled id name.now senders.old.entries senders.new.entries }
 {
     if let Some(id) = id {

@@ -7,8 +7,9 @@ use mw_types::{NoMemory, RowName};
 use row_parts::Row;
 use run_history::Case;
 
-// How much work is left of so much, once one row stands in the place of another.
-pub(crate) fn work_after(
+/// How much work is left of so much, once one row stands in the place of another. Where it cannot be
+/// counted there is no memory.
+pub fn work_after(
     case: &Case,
     name: &RowName,
     before: &Row,

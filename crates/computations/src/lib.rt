@@ -18,3 +18,4 @@ mod tally;
 pub use computation::Computation;
 pub use context::Context;
 pub use kinds::Kinds;
+pub use spike::is_spike;

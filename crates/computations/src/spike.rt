@@ -90,7 +90,7 @@ pub(crate) fn on_timer(
     let Some(total) = take_due(held, timer.time)? else {
         return Ok(());
     };
-    let stands_out = is_spike(last, times, known, total.value);
+    let stands_out = is_spike(last, times, known.as_slice(), total.value);
     learn(known, last, total.value)?;
     if stands_out {
         return context.produce_for_row(alloc, timer.time, total.value);
@@ -164,8 +164,8 @@ fn take_due(held: &mut HeldList, time: u64) -> Result<Option<HeldTotal>, NoMemor
     }
 }
 
-// Whether a value is above so many times the mean of the known totals, of which there are enough.
-fn is_spike(last: u32, times: u32, known: &ValueList, value: i64) -> bool
+/// Whether a value is above so many times the mean of the known ones, of which there are enough.
+pub fn is_spike(last: u32, times: u32, known: &[i64], value: i64) -> bool
     requires last { last ≤ 64 }
     requires times { times ≤ 1000 }
     ensures { result ≡ is_spike last times known.now value }
@@ -197,15 +197,15 @@ fn scaled(number: i128, by: u32) -> i128
     number * (by as i128)
 }
 
-// The sum of the known totals.
-fn sum_of(known: &ValueList) -> i128
+// The sum of the known values.
+fn sum_of(known: &[i64]) -> i128
     requires few { length known.now ≤ 64 }
     ensures sum { result ≡ fold (λ sum x. sum +ℤ x) (pos 0) known.now }
     ensures above { neg_ℤ (pos (2 ^ 69)) ≤ℤ result }
     ensures below { result ≤ℤ pos (2 ^ 69) }
 {
     let mut sum: i128 = 0;
-    for value in known.as_slice() {
+    for value in known {
         sum = with_value(sum, *value);
     }
     sum

@@ -35,7 +35,7 @@ or_cases true b e f = cc
 or_cases false b e f = e
 
 -- ids that tie are the same
-same_from_tie : (a b : RecordId) → id_cmp a b ≡ Equal → a ≡ b
+pub same_from_tie : (a b : RecordId) → id_cmp a b ≡ Equal → a ≡ b
 same_from_tie a b e =
     let k = both_Equal _ _ e in
     let p = exact_unsigned a.commit b.commit k.0 in

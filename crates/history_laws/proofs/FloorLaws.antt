@@ -22,7 +22,7 @@ use Rattle.list_lemmas.proofs.Lists.{each-append, each-filter, each-flat_map, fl
 use Rattle.history_laws.proofs.Made.{each_of_commit}
 
 -- the least of some numbers and a bound is at most the bound
-fold_min-bound : (n : ℕ) (ms : List ℕ) → fold min n ms ≤ n
+pub fold_min-bound : (n : ℕ) (ms : List ℕ) → fold min n ms ≤ n
 fold_min-bound n [] = omega arith
 fold_min-bound n (m ∷ ms) = omega (arith, fold_min-bound (min n m) ms)
 

@@ -108,7 +108,7 @@ found_number number n (x ∷ xs) =
     ] refl
 
 -- the window that is due ends at the timer's time
-window_due-time : (windows : List Window) (timer : Timer) → IfSome (window_due windows timer) (λ w. w.end ≡ timer.time)
+pub window_due-time : (windows : List Window) (timer : Timer) → IfSome (window_due windows timer) (λ w. w.end ≡ timer.time)
 window_due-time windows timer =
     elim (timer.tag == 0) as (λ b. IfSome (cond b (find (λ w. w.end == timer.time) windows) None) (λ w. w.end ≡ timer.time)) [
       | true ↦ found_number (λ w. w.end) timer.time windows
@@ -116,7 +116,7 @@ window_due-time windows timer =
     ]
 
 -- the total that is due is due at the timer's time
-total_due-time : (held : List HeldTotal) (timer : Timer) → IfSome (total_due held timer) (λ h. due_time h.stamp ≡ timer.time)
+pub total_due-time : (held : List HeldTotal) (timer : Timer) → IfSome (total_due held timer) (λ h. due_time h.stamp ≡ timer.time)
 total_due-time held timer =
     elim (timer.tag == 0) as (λ b. IfSome (cond b (find (λ h. due_time h.stamp == timer.time) held) None)
     (λ h. due_time h.stamp ≡ timer.time)) [

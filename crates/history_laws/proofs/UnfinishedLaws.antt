@@ -41,7 +41,7 @@ pub record AreCursorsWithin (case : CaseShape) (run : Run) : Type 0 where
       → cursor_in (row_of case.topology run name).state ≤ length (source_of case name.part)
 
 -- a state that is one line further is at most one line further
-advanced-within : (s : State) → cursor_in (advanced s) ≤ cursor_in s + 1
+pub advanced-within : (s : State) → cursor_in (advanced s) ≤ cursor_in s + 1
 advanced-within (states.Injector cursor) = omega arith
 advanced-within (states.Count late windows) = omega arith
 advanced-within (states.Spike late held known) = omega arith

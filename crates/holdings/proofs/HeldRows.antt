@@ -12,20 +12,20 @@ use Rattle.list_lemmas.proofs.Told.{if-same}
 use Rattle.mw_types.specs.Orders.{row_cmp}
 use Rattle.mw_types.specs.declared.identity.RowName.{RowName}
 use Rattle.mw_types.specs.declared.entry.Entry.{Entry}
-use Rattle.mw_types.specs.declared.entry.Entry.TheVariants.{Claim, Inject, Handle, Fire, Ack, Purge}
+use Rattle.mw_types.specs.declared.entry.Entry.TheVariants.{Claim, Inject, Handle, Fire}
 use Rattle.mw_types.proofs.OrderLaws.{row_cmp-total}
 use Rattle.topology.specs.Shapes.{Shape, parts_of}
 use Rattle.row_parts.specs.Contents.{Contents, fresh}
 use Rattle.run_history.specs.Cases.{CaseShape, fresh_of}
 use Rattle.run_history.specs.Made.{row_written}
 use Rattle.run_history.specs.Runs.{Run, cached, row_in, row_of, run_of}
-use Rattle.run_history.specs.Fences.{CarryNot, IsClaimed, IsFenced, interval_of, is_claim, known, last_claim, sequencer_of}
+use Rattle.run_history.specs.Fences.{CarryNot, IsClaimed, IsFenced, interval_of, known, last_claim, sequencer_of}
 use Rattle.run_history.specs.Fits.{fits}
 use Rattle.run_history.proofs.Claims.{last_claim-push}
 use Rattle.run_history.proofs.Fenced.{IsFenced-begins}
 use Rattle.run_history.proofs.Fitting.{fits-more}
 use Rattle.run_history.proofs.Known.{known-last}
-use Rattle.list_lemmas.proofs.Lists.{none_some, some_same}
+use Rattle.list_lemmas.proofs.Lists.{some_same}
 use Rattle.run_history.proofs.Lookups.{lookup-insert_entry, same_entries, sorted-insert_entry}
 use Rattle.run_history.proofs.RunLaws.{run_of-push}
 use Rattle.history_laws.proofs.FenceLaws.{row_in-known}
@@ -38,6 +38,7 @@ use Rattle.book.specs.Proposals.{IsEntryOf, IsProposable}
 use Rattle.book.specs.declared.answers.Written.{Written}
 use Rattle.book.specs.declared.proposal.Proposal.{Proposal}
 use Rattle.book.specs.declared.proposal.Proposal.TheVariants as proposals
+use Rattle.book.proofs.ClaimLaws.{row-no_claim}
 use Rattle.holdings.specs.Holding.{AreRowsHeld, HeldView, row_held, with_row}
 use Rattle.holdings.proofs.CacheLaws.{apart-tied, tied_row}
 
@@ -186,15 +187,6 @@ pub record HasEntered (old new : DeskView) (lease : LeaseView) (name : RowName) 
   pub on_row : row_written entry ≡ Some name
   pub carries : sequencer_of entry ≡ Some lease.seq
   pub written : IsWritten old.case old.told before new.seen lease name entry left answer
-
--- an entry on a row is no claim
-row-no_claim : (interval : ℕ) (entry : Entry) (name : RowName) → row_written entry ≡ Some name → is_claim interval entry ≡ false
-row-no_claim interval (Claim worker claimed) name written = absurd (none_some name written)
-row-no_claim interval (Inject seq part line item) name written = refl
-row-no_claim interval (Handle seq row id effects) name written = refl
-row-no_claim interval (Fire seq row timer mark effects) name written = refl
-row-no_claim interval (Ack seq row id) name written = refl
-row-no_claim interval (Purge seq row floor) name written = refl
 
 -- the entry of a proposal is on its row, and carries its sequencer
 entry-on : (case : CaseShape) (seq : ℕ) (name : RowName) (row : Contents) (proposal : Proposal) (entry : Entry)

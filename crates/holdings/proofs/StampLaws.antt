@@ -56,7 +56,7 @@ least-bound mark (x ∷ xs) end none =
     omega (arith, rest, whole, none)
 
 -- lists of which all sums are the same, where the end counts nothing, have the same least
-least-sums : (xs ys : List ℕ) → ((weigh : ℕ → ℕ) → weigh END ≡ 0 → sum_by weigh xs ≡ sum_by weigh ys) → least xs ≡ least ys
+pub least-sums : (xs ys : List ℕ) → ((weigh : ℕ → ℕ) → weigh END ≡ 0 → sum_by weigh xs ≡ sum_by weigh ys) → least xs ≡ least ys
 least-sums xs ys same =
     let end_one : least xs - END ≡ 0 = let e = least-end xs in omega (arith, e) in
     let end_two : least ys - END ≡ 0 = let e = least-end ys in omega (arith, e) in

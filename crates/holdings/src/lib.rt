@@ -32,3 +32,4 @@ pub use first_timer::RowTimer;
 pub use held::Held;
 pub use holdings::Holdings;
 pub use pending::{Sent, SentList};
+pub use row_work::oldest_timer;

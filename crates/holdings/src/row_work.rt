@@ -15,8 +15,8 @@ pub(crate) fn row_work(row: &Row) -> u64
     oldest_pending(row.pending.as_slice(), oldest_timer(row.timers.as_slice()))
 }
 
-// The least time of timers that are not late, or the end where there is none.
-fn oldest_timer(timers: &[Timer]) -> u64
+/// The least time of timers that are not late, or the end where there is none.
+pub fn oldest_timer(timers: &[Timer]) -> u64
     ensures { result ≡ least (map (λ (t : Timer). t.time)
         (filter (λ (t : Timer). not t.late) timers.now)) }
 {

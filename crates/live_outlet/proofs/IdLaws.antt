@@ -45,7 +45,8 @@ byte-small : (i n : ℕ) → byte_at i n < 256
 byte-small zero n = omega arith
 byte-small (suc i) n = omega arith
 
-bytes-small : (k n : ℕ) → AllByRecursion (λ b. b < 256) (bytes_high_first k n)
+-- so are those of a number of so many bytes
+pub bytes-small : (k n : ℕ) → AllByRecursion (λ b. b < 256) (bytes_high_first k n)
 bytes-small zero n = tt
 bytes-small (suc k) n = (byte-small k n, bytes-small k n)
 

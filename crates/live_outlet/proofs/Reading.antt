@@ -67,11 +67,13 @@ name-utf8 (b ∷ bs) is =
 
 -- ---- values
 
-value-whole : (v : ℤ) → SFits w64 v → IsWhole (of_integer v)
+-- a number of 64 bits is a whole number
+pub value-whole : (v : ℤ) → SFits w64 v → IsWhole (of_integer v)
 value-whole (pos n) fits = grind arith
 value-whole (negsuc n) fits = grind arith
 
-value-own : (v : ℤ) → SFits w64 v → as_i64 (of_integer v) ≡ Some v
+-- and is read as itself
+pub value-own : (v : ℤ) → SFits w64 v → as_i64 (of_integer v) ≡ Some v
 value-own (pos n) fits = rw (lt-ltb n (2 ^ 63) (grind arith)) refl
 value-own (negsuc n) fits = refl
 

@@ -1,8 +1,7 @@
 //! Of which emission a line may tell.
 ghost use Rattle.std.specs.Prelude.{◌≡◌, IfOk, IfSome, IsTrue, Some, codes};
 ghost use Rattle.std.specs.Option.{option_map};
-ghost use Rattle.std.specs.List.{list_all};
-ghost use Rattle.topology.specs.Rules.{is_name_byte, is_name};
+ghost use Rattle.topology.specs.Rules.{is_name};
 ghost use Rattle.serde_json.specs.View.{view};
 ghost use Rattle.row_parts.specs.Contents.{IsId, IsKey};
 ghost use Rattle.live_outlet.specs.LiveLines.{IsLive};
@@ -13,6 +12,7 @@ use json_reading::json_of;
 use mw_types::{NoMemory, RecordId, Text};
 use serde_json::Value;
 use std::alloc::Global;
+use topology::is_name;
 use uuid::Uuid;
 
 // The version of a UUID whose content is its maker's own, in its upper half.
@@ -76,8 +76,8 @@ fn line_with(
     Ok(Some(told(id, key, stream, stamp, value)))
 }
 
-// A member that is an id.
-fn id_at(value: &Value, name: &str) -> Option<RecordId>
+/// A member that is the print of an id.
+pub fn id_at(value: &Value, name: &str) -> Option<RecordId>
     ensures id { result ≡ id_at name.now (view value.now) }
     ensures is_id { IfSome result IsId }
 {
@@ -106,29 +106,29 @@ fn name_at<'v>(value: &'v Value, name: &str) -> Option<&'v str>
     }
 }
 
-// A member that is an unsigned number.
-fn stamp_at(value: &Value, name: &str) -> Option<u64>
+/// A member that is an unsigned number of 64 bits.
+pub fn stamp_at(value: &Value, name: &str) -> Option<u64>
     ensures { result ≡ stamp_at name.now (view value.now) }
 {
     value.get(name).and_then(Value::as_u64)
 }
 
-// A member that is a signed number.
-fn value_at(value: &Value, name: &str) -> Option<i64>
+/// A member that is a signed number of 64 bits.
+pub fn value_at(value: &Value, name: &str) -> Option<i64>
     ensures { result ≡ value_at name.now (view value.now) }
 {
     value.get(name).and_then(Value::as_i64)
 }
 
-// A member that is a text.
-fn text_at<'v>(value: &'v Value, name: &str) -> Option<&'v str>
+/// A member that is a text.
+pub fn text_at<'v>(value: &'v Value, name: &str) -> Option<&'v str>
     ensures { option_map (λ text. text.now) result ≡ text_at name.now (view value.now) }
 {
     value.get(name).and_then(Value::as_str)
 }
 
-// The id of which a text may be the print.
-fn id_in(text: &str) -> Option<RecordId>
+/// The id of which a text may be the print: the text of a UUID that is numbered as ids are.
+pub fn id_in(text: &str) -> Option<RecordId>
     ensures id { result ≡ id_in text.now }
     ensures is_id { IfSome result IsId }
 {
@@ -151,30 +151,4 @@ fn id_of(uuid: Uuid) -> Option<RecordId>
         commit: low - VARIANT,
         index: (high - VERSION_8) as u32,
     })
-}
-
-// Whether a text is a name.
-fn is_name(text: &[u8]) -> bool
-    ensures { result ≡ is_name text.now }
-{
-    match text.split_first() {
-        Some((first, rest)) => {
-            first.is_ascii_lowercase() && are_name_bytes(rest) && rest.len() <= 63
-        }
-        None => false,
-    }
-}
-
-// Whether a name may have these bytes.
-fn are_name_bytes(bytes: &[u8]) -> bool
-    ensures { result ≡ list_all is_name_byte bytes.now }
-{
-    bytes.iter().all(|b| is_name_byte(*b))
-}
-
-// Whether a name may have this byte.
-fn is_name_byte(b: u8) -> bool
-    ensures { result ≡ is_name_byte b }
-{
-    b.is_ascii_lowercase() || b.is_ascii_digit() || b == b'_'
 }

@@ -16,6 +16,7 @@ mod outlet;
 mod refusal;
 
 pub use collecting::{Collected, collect};
+pub use guess::{id_at, id_in, stamp_at, text_at, value_at};
 pub use held::Held;
 pub use laws::{
     covering_texts_collect_once, exactly_live_lines_are_told, no_live_line_begins_another,

@@ -43,6 +43,7 @@ use Rattle.node.specs.declared.outgoing.Outgoing.TheVariants as outgoing
 use Rattle.node.proofs.FitLaws.{HasMore, more-appended, outbox-more}
 use Rattle.node.proofs.SendLaws.{made-late, made-outgoing}
 use Rattle.node.proofs.StateLaws.{few-handled, state-held}
+use Rattle.node.proofs.PurgeLaws.{held-at-on, held-on-at}
 
 -- ---- an entry that stands
 
@@ -177,11 +178,6 @@ leases-written shape interval name commit IsEntry before after h = fun_ext (λ i
   | inr other ↦ ap (option_map (λ (held : HeldView). held.lease.seq)) (h.others i other)
 ])
 
--- what is held of the interval of a row
-pub held-on-at : (shape : Shape) (all : List (Option HeldView)) (name : RowName) (interval : ℕ) (held : HeldView)
-    → interval_of shape name ≡ Some interval → held_at all interval ≡ Some held → held_on shape all name ≡ Some held
-held-on-at shape all name interval held covers at = ap (option_and_then (held_at all)) covers ∙ at
-
 -- a node that has written its work answers so
 pub answers-written : (case : CaseShape) (old new : DeskView) (node : NodeView) (held : List (Option HeldView)) (work : WorkView)
     (delivery : Delivery) (effects : EffectsView) (interval commit : ℕ) → node.prepared ≡ Some work
@@ -228,11 +224,6 @@ pub work-of : (case : CaseShape) (desk : DeskView) (node : NodeView) (work : Wor
     → IsHandled case desk node.held work.sender delivery effects
 work-of case desk node work delivery effects fits prepared is = subst (IsPrepared case desk node.held work.sender) is
     (subst (λ (o : Option WorkView). IfSome o (IsWork case desk node.held)) prepared fits.work)
-
--- what is held of an interval, by a row of it
-pub held-at-on : (shape : Shape) (all : List (Option HeldView)) (name : RowName) (interval : ℕ) (held : HeldView)
-    → held_on shape all name ≡ Some held → interval_of shape name ≡ Some interval → held_at all interval ≡ Some held
-held-at-on shape all name interval held there covers = sym (ap (option_and_then (held_at all)) covers) ∙ there
 
 -- the work may be proposed
 pub work-proposable : (case : CaseShape) (desk : DeskView) (all : List (Option HeldView)) (sender : RowName) (delivery : Delivery)

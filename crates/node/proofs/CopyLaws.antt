@@ -1,25 +1,22 @@
 -- What a row that is held tells of a record: it is finished there only where it was handled.
-use Rattle.std.proofs.Common.{◌≡◌, ◌∙◌, ◌≤◌, ◌+◌, ℕ, true, List, [], ◌∷◌, ◌++◌, append_assoc, fold, refl, sym, ap, subst, arith}
+use Rattle.std.proofs.Common.{◌≡◌, ◌∙◌, ◌≤◌, ◌+◌, ℕ, true, List, [], ◌++◌, fold, refl, sym, ap, subst, arith}
 use Rattle.std.specs.Prelude.{IfSome, Option, Some, None}
 use Rattle.std.specs.List.{AllByRecursion}
-use Rattle.std.proofs.lemmas.List.{append-nil}
 use Rattle.mw_types.specs.declared.delivery.Delivery.{Delivery}
 use Rattle.mw_types.specs.declared.entry.Entry.{Entry}
 use Rattle.mw_types.specs.declared.identity.RowName.{RowName}
-use Rattle.topology.specs.Shapes.{Shape}
 use Rattle.row_parts.specs.Contents.{is_finished, same_id, found_delivery}
 use Rattle.run_history.specs.Cases.{CaseShape}
 use Rattle.run_history.specs.Fences.{Begins, interval_of, known}
 use Rattle.run_history.specs.Finished.{is_handled}
 use Rattle.run_history.specs.Legal.{IsLegal}
-use Rattle.run_history.specs.Made.{deliveries_of}
 use Rattle.run_history.specs.Runs.{Run, empty_run, followed, row_of, run_of}
 use Rattle.run_history.proofs.Known.{known-begins}
-use Rattle.list_lemmas.proofs.Lists.{each-append, each-weaker, find-behind, find-each}
+use Rattle.list_lemmas.proofs.Lists.{find-behind, find-each}
 use Rattle.history_laws.proofs.Along.{AreLegal-apart, run_of-append}
 use Rattle.history_laws.proofs.FinishedLaws.{finished-handled, is_handled-more, unmade-unfinished}
 use Rattle.history_laws.proofs.FloorLaws.{floor_of-below}
-use Rattle.history_laws.proofs.Made.{each_of_commit}
+use Rattle.history_laws.proofs.Made.{made-rest}
 use Rattle.history_laws.proofs.SeenLaws.{found-more}
 use Rattle.book.specs.Desks.{DeskView, IsSound}
 use Rattle.book.proofs.SeenRows.{told-both, told-then}
@@ -27,22 +24,6 @@ use Rattle.holdings.specs.Holding.{AreAllHeld, HeldView, held_on, row_held}
 use Rattle.node.specs.Messages.{IsOutgoing, IsSentFrom}
 use Rattle.node.specs.declared.outgoing.Outgoing.TheVariants as outgoing
 use Rattle.node.proofs.FitLaws.{held-interval}
-
--- what entries make has their numbers
-made-rest : (shape : Shape) (rest : List Entry) (run : Run) → (more : List Delivery)
-    × ((fold (followed shape) run rest).made ≡ run.made ++ more) × AllByRecursion (λ (d : Delivery). run.next ≤ d.id.commit) more
-made-rest shape [] run = ([], sym (append-nil run.made), tt)
-made-rest shape (e ∷ es) run =
-    let sent = deliveries_of shape run.made run.next e in
-    let later = made-rest shape es (followed shape run e) in
-    let at_least : Delivery → Type 0 = λ d. run.next ≤ d.id.commit in (
-      sent ++ later.0,
-      later.1 ∙ append_assoc run.made sent later.0,
-      each-append at_least sent later.0
-          (each-weaker (λ (d : Delivery). d.id.commit ≡ run.next) at_least (λ d same. omega (arith, same)) sent
-          (each_of_commit shape run.made run.next e))
-          (each-weaker (λ (d : Delivery). run.next + 1 ≤ d.id.commit) at_least (λ d above. omega (arith, above)) later.0 later.2),
-    )
 
 -- a record that is finished in its row as it is known was handled
 pub finished-known : (case : CaseShape) (history : List Entry) (interval seq : ℕ) (d : Delivery) → IsLegal case history

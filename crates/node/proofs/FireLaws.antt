@@ -28,7 +28,7 @@ use Rattle.node.specs.Asking.{IsTimerHeld}
 use Rattle.node.specs.FireSteps.{AreAllWithin, IsFirstIn, IsLeastTimerBelow, IsLeastTimer, IsTimerIn, IsTimerOf, IsTimerToFire, due_under, earlier_timer}
 use Rattle.node.specs.PurgeSteps.{AreRowsWithin}
 use Rattle.node.specs.Workers.{NodeView}
-use Rattle.node.proofs.FirstLaws.{not_less}
+use Rattle.node.proofs.FirstLaws.{not_less, there-some}
 use Rattle.node.proofs.FitLaws.{held-interval}
 use Rattle.node.proofs.PurgeLaws.{held-on-at}
 
@@ -183,10 +183,6 @@ below : (all : List Bounds) (k : ℕ) (b : Bounds) → slice_get all k ≡ Some 
 below [] k b at = absurd cc
 below (c ∷ cs) zero b at = omega arith
 below (c ∷ cs) (suc k) b at = let less_from_test = below cs k b at in omega (arith, less_from_test)
-
--- a row that is there
-there-some : (o : Option Contents) (row : Contents) → o ≡ Some row → IsSome o
-there-some o row is = subst IsSome (sym is) refl
 
 -- a timer of one of the part's intervals is held
 timer-held : (shape : Shape) (node : NodeView) (part count : ℕ) (name : RowName) (timer : Timer) → AreAllWithin shape node.held

@@ -115,7 +115,7 @@ not_less Equal never = refl
 not_less Greater never = refl
 
 -- a row that is there
-there-some : (o : Option Contents) (row : Contents) → o ≡ Some row → IsSome o
+pub there-some : (o : Option Contents) (row : Contents) → o ≡ Some row → IsSome o
 there-some o row is = subst IsSome (sym is) refl
 
 -- the first row of what is held that has ids to forget

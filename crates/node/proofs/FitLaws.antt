@@ -28,8 +28,8 @@ use Rattle.book.specs.declared.desk_refusal.DeskRefusal.{DeskRefusal}
 use Rattle.book.specs.declared.desk_refusal.DeskRefusal.TheVariants as refusals
 use Rattle.book.specs.declared.proposal.Proposal.{Proposal}
 use Rattle.book.specs.declared.proposal.Proposal.TheVariants as proposals
-use Rattle.holdings.specs.Holding.{AreAllHeld, HasSeenOthers, HeldView, HoldsClaim, IsHeld, KeepsHeld, KeepsOthers, held_at, held_on}
-use Rattle.holdings.proofs.HeldSteps.{AreAllHeld-beside, unasked}
+use Rattle.holdings.specs.Holding.{AreAllHeld, HasSeenOthers, HeldView, HoldsClaim, KeepsHeld, KeepsOthers, held_at, held_on}
+use Rattle.holdings.proofs.HeldSteps.{AreAllHeld-beside, unasked, AreAllHeld-fewer}
 use Rattle.node.specs.Answers.{AnswersClaim, AnswersWrite, FailsAsked, HasGrown, HasKept, IsRefused, refusal_of}
 use Rattle.node.specs.Asking.{Request}
 use Rattle.node.specs.Fits.{Fits, IsHandled, IsPrepared, IsWork}
@@ -271,17 +271,6 @@ keeps-refused shape interval was mid node refusals.KeeperFault kept left = ap wo
 keeps-refused shape interval was mid node (refusals.RowDamaged name bytes) kept left = ap worker_at left ∙ kept
 keeps-refused shape interval was mid node refusals.NoMemory kept left = ap worker_at left ∙ kept
 
--- what is held fits where one interval was let go
-AreAllHeld-let_go : (case : CaseShape) (desk : DeskView) (before after : List (Option HeldView)) (interval : ℕ)
-    → held_at after interval ≡ None → KeepsOthers interval before after → AreAllHeld case desk before → AreAllHeld case desk after
-AreAllHeld-let_go case desk before after interval gone others held = record { each = each }
-  where
-    each : (i : ℕ) (h : HeldView) → held_at after i ≡ Some h → IsHeld case desk i h
-    each i h at = elim (cases_eq i interval) [
-      | inl same ↦ absurd (let none : held_at after i ≡ None = ap (held_at after) same ∙ gone in cc)
-      | inr other ↦ held.each i h (sym (others i other) ∙ at)
-    ]
-
 -- a record that goes elsewhere stays right
 handled-beside : (case : CaseShape) (desk : DeskView) (before after : List (Option HeldView)) (interval : ℕ) (sender : RowName)
     (delivery : Delivery) (effects : EffectsView) → KeepsOthers interval before after
@@ -324,7 +313,7 @@ pub Fits-let_go : (case : CaseShape) (desk : DeskView) (interval : ℕ) (old new
     → Fits case desk old → Fits case desk new
 Fits-let_go case desk interval old new gone fits = record {
   of_case = fits.of_case;
-  held = AreAllHeld-let_go case desk old.held new.held interval gone.gone gone.others fits.held;
+  held = AreAllHeld-fewer case desk old.held new.held interval gone.gone gone.others fits.held;
   work = subst (λ (o : Option WorkView). IfSome o (IsWork case desk new.held)) (sym gone.prepared)
       (works-beside case desk old.held new.held interval old.prepared gone.others fits.work);
   outbox = subst (All (IsOutgoing case desk)) (sym gone.outbox) fits.outbox;

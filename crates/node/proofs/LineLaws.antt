@@ -36,10 +36,10 @@ use Rattle.node.specs.Steps.{HasYielded, answered}
 use Rattle.node.specs.Workers.{NodeView, WorkView, messages_from, with_outgoing, worker_at}
 use Rattle.node.specs.declared.outcome.Outcome.TheVariants as outcomes
 use Rattle.node.specs.declared.outgoing.Outgoing.TheVariants as outgoing
-use Rattle.node.proofs.CommitLaws.{IsAppended, committed, grown-by, held-at-on, leases-written, more-by}
+use Rattle.node.proofs.CommitLaws.{IsAppended, committed, grown-by, leases-written, more-by}
 use Rattle.node.proofs.FiringLaws.{small-number}
 use Rattle.node.proofs.FitLaws.{HasMore, fails-refused, held-interval, outbox-more, outgoing-more}
-use Rattle.node.proofs.PurgeLaws.{ok-answers}
+use Rattle.node.proofs.PurgeLaws.{ok-answers, held-at-on}
 use Rattle.node.proofs.RefusedLaws.{reason-at, refused-held}
 use Rattle.node.proofs.SendLaws.{made-outgoing}
 use Rattle.node.proofs.SettleLaws.{fails-asked}

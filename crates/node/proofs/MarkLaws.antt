@@ -10,6 +10,7 @@ use Rattle.run_history.specs.Watermarks.{least}
 use Rattle.list_lemmas.proofs.Lists.{some_same}
 use Rattle.history_laws.proofs.LowLaws.{bound-each, least-bound, least-end}
 use Rattle.watermark.specs.Marks.{mark_of, marks_in, marks_of}
+use Rattle.watermark.proofs.SafeMarks.{part-bound}
 use Rattle.book.specs.Desks.{DeskView}
 use Rattle.node.specs.Answers.{IsLeastKnown}
 use Rattle.node.specs.MarkSteps.{IsLeastSoFar, IsLesser}
@@ -29,30 +30,14 @@ marks-more part b m bs ms t is = elim t as (λ t. (b.part == part) ≡ t → mar
   | false ↦ λ is. rw is refl
 ] is
 
--- a bound of the marks of a part is one of the mark of each of its intervals
-bound-part : (x part : ℕ) (all : List Bounds) (marks : List ℕ) (k : ℕ) (b : Bounds) → length marks ≡ length all
-    → AllByRecursion (λ m. x ≤ m) (marks_in all part marks) → slice_get all k ≡ Some b → b.part ≡ part → x ≤ mark_of marks k
-bound-part x part [] marks k b long each at of = absurd cc
-bound-part x part (c ∷ cs) [] k b long each at of = absurd (omega (arith, long))
-bound-part x part (c ∷ cs) (m ∷ ms) zero b long each at of =
-    let same : c.part ≡ part = ap (λ (d : Bounds). d.part) (some_same c b at) ∙ of in
-    (subst (AllByRecursion (λ n. x ≤ n)) (marks-more part c m cs ms true (eq-eqb c.part part same)) each).0
-bound-part x part (c ∷ cs) (m ∷ ms) (suc k) b long each at of =
-    bound-part x part cs ms k b (omega (arith, long))
-    (later (c.part == part) (subst (AllByRecursion (λ n. x ≤ n)) (marks-more part c m cs ms (c.part == part) refl) each)) at of
-  where
-    later : (t : Bool) → AllByRecursion (λ n. x ≤ n) (taken t m (marks_in cs part ms)) → AllByRecursion (λ n. x ≤ n) (marks_in cs part ms)
-    later true each = each.1
-    later false each = each
-
--- and the other way
-part-bound : (x part : ℕ) (all : List Bounds) (marks : List ℕ) → length marks ≡ length all
+-- what is at most the mark of each interval of a part is a bound of the marks of the part
+part-bounded : (x part : ℕ) (all : List Bounds) (marks : List ℕ) → length marks ≡ length all
     → ((k : ℕ) (b : Bounds) → slice_get all k ≡ Some b → b.part ≡ part → x ≤ mark_of marks k)
     → AllByRecursion (λ m. x ≤ m) (marks_in all part marks)
-part-bound x part [] marks long each = tt
-part-bound x part (c ∷ cs) [] long each = absurd (omega (arith, long))
-part-bound x part (c ∷ cs) (m ∷ ms) long each = subst (AllByRecursion (λ n. x ≤ n)) (sym (marks-more part c m cs ms (c.part == part) refl))
-    (by_test (c.part == part) refl (part-bound x part cs ms (omega (arith, long)) (λ k b at of. each (suc k) b at of)))
+part-bounded x part [] marks long each = tt
+part-bounded x part (c ∷ cs) [] long each = absurd (omega (arith, long))
+part-bounded x part (c ∷ cs) (m ∷ ms) long each = subst (AllByRecursion (λ n. x ≤ n)) (sym (marks-more part c m cs ms (c.part == part) refl))
+    (by_test (c.part == part) refl (part-bounded x part cs ms (omega (arith, long)) (λ k b at of. each (suc k) b at of)))
   where
     by_test : (t : Bool) → (c.part == part) ≡ t → AllByRecursion (λ n. x ≤ n) (marks_in cs part ms)
         → AllByRecursion (λ n. x ≤ n) (taken t m (marks_in cs part ms))
@@ -65,9 +50,9 @@ pub least-all : (shape : Shape) (part : ℕ) (old new : DeskView) (mark : ℕ) �
     → IsLeastSoFar (intervals_of shape) part old.marks new.marks mark (length (intervals_of shape)) → IsLeastKnown shape part old new mark
 least-all shape part old new mark long longer so_far = record {
   at_least = so_far.at_least (least (marks_of shape part old.marks)) (least-end (marks_of shape part old.marks))
-      (λ j b at of. bound-part (least (marks_of shape part old.marks)) part (intervals_of shape) old.marks j b long
+      (λ j b at of. part-bound (least (marks_of shape part old.marks)) part (intervals_of shape) old.marks j b long
       (bound-each (least (marks_of shape part old.marks)) (marks_of shape part old.marks) (omega arith)) at of);
-  at_most = least-bound mark (marks_of shape part new.marks) so_far.end (part-bound mark part (intervals_of shape) new.marks longer
+  at_most = least-bound mark (marks_of shape part new.marks) so_far.end (part-bounded mark part (intervals_of shape) new.marks longer
       (λ k b at of. so_far.at_most k b (below (intervals_of shape) k b at) at of));
 }
   where
@@ -85,8 +70,8 @@ known-later shape part old mid new mark long longer rise is =
     let end = least-end (marks_of shape part mid.marks) in record {
       at_least = is.at_least;
       at_most = least-bound mark (marks_of shape part new.marks) (omega (arith, most, end))
-          (part-bound mark part (intervals_of shape) new.marks longer (λ k b at of.
-          let was = bound-part mark part (intervals_of shape) mid.marks k b long
+          (part-bounded mark part (intervals_of shape) new.marks longer (λ k b at of.
+          let was = part-bound mark part (intervals_of shape) mid.marks k b long
           (bound-each mark (marks_of shape part mid.marks) is.at_most) at of in
           let more = rise k in omega (arith, was, more)));
     }

@@ -4,11 +4,9 @@ use Rattle.std.specs.Prelude.{All, IfSome, IsSome, Option, Some, None, option_to
 use Rattle.std.specs.Option.{option_and_then}
 use Rattle.std.proofs.lemmas.List.Elements.{All-head, All-tail}
 use Rattle.mw_types.specs.declared.entry.Entry.{Entry}
-use Rattle.topology.specs.Shapes.{Shape}
 use Rattle.run_history.specs.Cases.{CaseShape}
 use Rattle.list_lemmas.proofs.Lists.{none_some, some_same}
 use Rattle.book.specs.Desks.{DeskView, HasLooked, IsNoteOf, IsSound, Sight}
-use Rattle.holdings.specs.Holding.{HeldView, KeepsHeld}
 use Rattle.holdings.proofs.HeldSteps.{AreAllHeld-looked}
 use Rattle.node.specs.Fits.{Fits}
 use Rattle.node.specs.Messages.{IsOutgoing, IsSoBy, IsSoIn, IsVouchedFor}
@@ -16,13 +14,9 @@ use Rattle.node.specs.Received.{where_record}
 use Rattle.node.specs.Workers.{NodeView}
 use Rattle.node.specs.declared.outgoing.Outgoing.{Outgoing}
 use Rattle.node.specs.declared.outgoing.Outgoing.TheVariants as outgoing
-use Rattle.node.proofs.FitLaws.{Fits-kept, more-looked}
+use Rattle.node.proofs.FitLaws.{Fits-kept, more-looked, keeps-same}
 
 -- ---- a desk that looked
-
--- the same is held where nothing changed
-held-same : (shape : Shape) (all : List (Option HeldView)) → KeepsHeld shape all all
-held-same shape all = record { there = λ i held at. (held, at, refl, λ name. refl); none = λ i none. none }
 
 -- a node fits a desk that has looked
 pub Fits-looked : (case : CaseShape) (old new : DeskView) (node : NodeView) → IsSound old → IsSound new → HasLooked old new
@@ -30,7 +24,7 @@ pub Fits-looked : (case : CaseShape) (old new : DeskView) (node : NodeView) → 
 Fits-looked case old new node was is looked fits =
     Fits-kept case old new node node (more-looked old new looked)
     (AreAllHeld-looked case old new node.held node.held fits.of_case was is looked (λ i. refl) fits.held)
-    (held-same case.topology node.held) refl refl fits
+    (keeps-same case.topology node.held) refl refl fits
 
 -- a node fits with less to send
 pub Fits-less : (case : CaseShape) (desk : DeskView) (node : NodeView) (first : Option Outgoing) (rest : List Outgoing)

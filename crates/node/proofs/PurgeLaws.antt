@@ -1,5 +1,5 @@
 -- What a node leaves when a row that it holds forgets ids.
-use Rattle.std.proofs.Common.{◌≡◌, ◌∙◌, ◌≤◌, ℕ, fold, List, [], ◌∷◌, ◌++◌, length, refl, sym, ap, subst, arith, inl, inr}
+use Rattle.std.proofs.Common.{◌≡◌, ◌∙◌, ◌≤◌, ℕ, List, [], ◌++◌, length, refl, sym, ap, subst, arith, inr}
 use Rattle.std.specs.Prelude.{IfErr, IfOk, IfSome, IsSome, Option, Some, None, Result, Ok, Err, unwrap_or}
 use Rattle.std.specs.Option.{option_and_then}
 use Rattle.std.proofs.lemmas.List.{append-nil}
@@ -11,10 +11,9 @@ use Rattle.row_parts.specs.Contents.{Contents, fresh}
 use Rattle.run_history.specs.Cases.{CaseShape, fresh_of}
 use Rattle.run_history.specs.Fences.{interval_of, known}
 use Rattle.run_history.specs.Legal.{floor_of}
-use Rattle.run_history.specs.Runs.{Run, followed, row_in, row_of, run_of, written_row}
+use Rattle.run_history.specs.Runs.{row_in, row_of, run_of, written_row}
 use Rattle.run_history.proofs.Known.{known-begins}
-use Rattle.history_laws.proofs.Along.{run_of-append}
-use Rattle.history_laws.proofs.RowSteps.{row_step}
+use Rattle.history_laws.proofs.StayLaws.{row-stays}
 use Rattle.book.specs.Books.{LeaseView}
 use Rattle.book.specs.Desking.{HasStored, IsPurgeKnown}
 use Rattle.book.specs.Desks.{DeskView, HasLooked, IsSound}
@@ -44,27 +43,6 @@ pub held-on-at : (shape : Shape) (all : List (Option HeldView)) (name : RowName)
     → interval_of shape name ≡ Some interval → held_at all interval ≡ Some held → held_on shape all name ≡ Some held
 held-on-at shape all name interval held covers at = ap (option_and_then (held_at all)) covers ∙ at
 
--- a row stays there after one more entry
-stays-next : (shape : Shape) (run : Run) (entry : Entry) (name : RowName) → IsSome (row_in run name)
-    → IsSome (row_in (followed shape run entry) name)
-stays-next shape run entry name there = elim (row_step shape run entry name) [
-  | inl here ↦ subst IsSome (sym here.1) refl
-  | inr same ↦ subst IsSome (sym same) there
-]
-
--- and after more
-stays-fold : (shape : Shape) (rest : List Entry) (run : Run) (name : RowName) → IsSome (row_in run name)
-    → IsSome (row_in (fold (followed shape) run rest) name)
-stays-fold shape [] run name there = there
-stays-fold shape (e ∷ es) run name there = stays-fold shape es (followed shape run e) name (stays-next shape run e name there)
-
--- a row of a beginning is there in the whole
-pub row-stays : (shape : Shape) (front rest whole : List Entry) (name : RowName) → front ++ rest ≡ whole
-    → IsSome (row_in (run_of shape front) name) → IsSome (row_in (run_of shape whole) name)
-row-stays shape front rest whole name is there = subst (λ (h : List Entry). IsSome (row_in (run_of shape h) name)) is
-    (subst (λ (run : Run). IsSome (row_in run name)) (sym (run_of-append shape front rest))
-    (stays-fold shape rest (run_of shape front) name there))
-
 -- a row that has an id is there
 has-row : (row : Option Contents) (new : Contents) → length new.seen ≡ 0 → 1 ≤ length (unwrap_or row new).seen → IsSome row
 has-row None new none some = absurd (omega (arith, none, some))
@@ -89,7 +67,8 @@ held-there case desk all interval held name fit same at covers some =
     let in_front = has-row (row_in (run_of shape front) name) (fresh (fresh_of shape name.part)) refl
     (subst (λ (r : Contents). 1 ≤ length r.seen) row some) in
     subst (λ (c : CaseShape). IsSome (row_in (run_of c.topology desk.seen) name)) (sym same)
-    (row-stays shape front begins.0 desk.seen name begins.1 in_front))
+    (subst (λ (h : List Entry). IsSome (row_in (run_of shape h) name)) begins.1
+    (row-stays shape front begins.0 name in_front)))
 
 -- a row that has ids to forget may be purged
 pub may-purge : (case : CaseShape) (desk : DeskView) (all : List (Option HeldView)) (interval : ℕ) (held : HeldView) (name : RowName)

@@ -12,7 +12,7 @@ use Rattle.topology.specs.Shapes.{Shape}
 use Rattle.row_parts.specs.Contents.{is_finished}
 use Rattle.run_history.specs.Cases.{CaseShape}
 use Rattle.run_history.specs.Legal.{record_outcome}
-use Rattle.book.specs.Desks.{DeskView, HasLooked, HasMet, IsSound, Sight, TellsUnlessAlone}
+use Rattle.book.specs.Desks.{DeskView, HasLooked, HasMet, Sight, TellsUnlessAlone}
 use Rattle.book.specs.declared.proposal.Proposal.TheVariants as proposals
 use Rattle.holdings.specs.Holding.{HeldView, held_on, row_held}
 use Rattle.node.specs.Answers.{received, taken_in}
@@ -23,8 +23,7 @@ use Rattle.node.specs.declared.outcome.Outcome.{Outcome}
 use Rattle.node.specs.declared.outcome.Outcome.TheVariants as outcomes
 use Rattle.node.specs.declared.outgoing.Outgoing.{Outgoing}
 use Rattle.node.specs.declared.outgoing.Outgoing.TheVariants as outgoing
-use Rattle.holdings.proofs.HeldSteps.{AreAllHeld-looked}
-use Rattle.node.proofs.FitLaws.{Fits-kept, keeps-same, more-looked, so-more}
+use Rattle.node.proofs.FitLaws.{so-more}
 
 -- ---- what a message says, once its note was met
 
@@ -130,10 +129,3 @@ Fits-again case desk node d sender ack fits = record {
   outbox = All-append (IsOutgoing case desk) node.outbox (outgoing.Ack sender d.id ∷ []) fits.outbox
       (All-from_recursion (IsOutgoing case desk) (outgoing.Ack sender d.id ∷ []) (ack, tt));
 }
-
--- a node whose desk has looked fits
-pub Fits-looked : (case : CaseShape) (old new : DeskView) (node : NodeView) → IsSound old → IsSound new → HasLooked old new
-    → Fits case old node → Fits case new node
-Fits-looked case old new node was is looked fits = Fits-kept case old new node node (more-looked old new looked)
-    (AreAllHeld-looked case old new node.held node.held fits.of_case was is looked (λ i. refl) fits.held)
-    (keeps-same case.topology node.held) refl refl fits

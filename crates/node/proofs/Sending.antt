@@ -6,27 +6,15 @@ use Rattle.book.specs.declared.desk.Seen.{Ghosts}
 use Rattle.mw_types.proofs.delivery.Delivery.TheSendSync as deliveries
 use Rattle.mw_types.proofs.identity.RecordId.TheSendSync as ids
 use Rattle.mw_types.proofs.identity.RowName.TheSendSync as names
-use Rattle.mw_types.proofs.record.Production.TheSendSync as productions
-use Rattle.mw_types.proofs.seq.Seq.TheSendSync as lists
 use Rattle.mw_types.proofs.timer.Timer.TheSendSync as timers
-use Rattle.mw_types.specs.contracts.effects.Effects as Effects
-use Rattle.mw_types.specs.contracts.record.Production as Production
-use Rattle.mw_types.specs.contracts.seq.Seq as Seq
 use Rattle.book.specs.contracts.proposal.Proposal as Proposal
-use Rattle.holdings.proofs.Sending.{holdings_send, state_field_send, timers_send}
+use Rattle.book.proofs.Sending.{effects_send}
+use Rattle.holdings.proofs.Sending.{holdings_send}
 use Rattle.node.specs.contracts.message.Message as Message
 use Rattle.node.specs.contracts.node.Node as Node
 use Rattle.node.specs.contracts.outbox.Outbox as Outbox
 use Rattle.node.specs.contracts.outgoing.Outgoing as Outgoing
 use Rattle.node.specs.contracts.work.Work as Work
-
--- a list of productions
-productions_send : IsSend (Seq.the_row Production.the_row)
-productions_send = search (lists.the_send, productions.the_send) depth 30
-
--- what a handler left
-effects_send : IsSend Effects.the_row
-effects_send = search (sendable, state_field_send, timers_send, productions_send) depth 30
 
 -- what is proposed, as a field
 proposal_field_send : IsSend (Proposal.the_field).row

@@ -36,9 +36,9 @@ use Rattle.node.specs.declared.outcome.Outcome.{Outcome}
 use Rattle.node.specs.declared.outcome.Outcome.TheVariants as outcomes
 use Rattle.node.specs.declared.outgoing.Outgoing.{Outgoing}
 use Rattle.node.specs.declared.outgoing.Outgoing.TheVariants as outgoing
-use Rattle.node.proofs.CommitLaws.{IsAppended, committed, grown-by, held-on-at, leases-written, more-by}
+use Rattle.node.proofs.CommitLaws.{IsAppended, committed, grown-by, leases-written, more-by}
 use Rattle.node.proofs.FitLaws.{HasMore, fails-refused, held-interval, outbox-more, outgoing-more}
-use Rattle.node.proofs.PurgeLaws.{holding, ok-answers}
+use Rattle.node.proofs.PurgeLaws.{holding, ok-answers, held-on-at}
 use Rattle.node.proofs.RefusedLaws.{reason-at, refused-held}
 
 -- ---- what is asked

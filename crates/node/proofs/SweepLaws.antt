@@ -12,7 +12,6 @@ use Rattle.std.proofs.lemmas.List.{append-nil}
 use Rattle.std.proofs.lemmas.List.Elements.{All-append, All-contains, All-contains_itself, All-from_recursion, All-map, All-weaker, Contains-append_left, Contains-append_right, recursion_from_All}
 use Rattle.std.proofs.lemmas.List.Sorted.{Contains-permutation, IsPermutation-sym}
 use Rattle.std.proofs.lemmas.List.Sums.{AllPass-from_list_all}
-use Rattle.std.proofs.lemmas.Map.Lookups.{exact_unsigned}
 use Rattle.std.proofs.lemmas.Option.{slice_get_within}
 use Rattle.list_lemmas.proofs.Tests.{equal_from_test, both_true}
 use Rattle.mw_types.specs.Orders.{id_cmp, row_cmp}
@@ -37,6 +36,7 @@ use Rattle.history_laws.proofs.RowSteps.{both_Equal, same_row}
 use Rattle.history_laws.proofs.SeenLaws.{found-more}
 use Rattle.history_laws.proofs.SenderLaws.{IsMadeOn-more, pending-on}
 use Rattle.history_laws.proofs.SentLaws.{pending-made, row_of-made}
+use Rattle.history_laws.proofs.FinishedLaws.{same_from_tie}
 use Rattle.watermark.proofs.Parts.{part_within}
 use Rattle.book.specs.Desks.{DeskView}
 use Rattle.book.proofs.SeenRows.{told-then}
@@ -107,14 +107,6 @@ found-next all count before after below more = subst (AreFoundBelow all (count +
 pub again_cmp-total : IsTotalOrder again_cmp
 again_cmp-total = then_total (on_total (λ (s : Sent). s.delivery.id) id_cmp-total) (on_total (λ (s : Sent). s.sender) row_cmp-total)
 
--- ids that tie are the same
-tied-ids : (a b : RecordId) → id_cmp a b ≡ Equal → a ≡ b
-tied-ids a b tie =
-    let k = both_Equal _ _ tie in
-    let p = exact_unsigned a.commit b.commit k.0 in
-    let q = exact_unsigned a.index b.index k.1 in
-    λ i. record { commit = p i; index = q i }
-
 -- of deliveries that stand by their ids one has an id
 one-pending : (ds : List Delivery) (d e : Delivery) → IsStrictlySortedBy delivery_cmp ds → Contains ds d → Contains ds e → d.id ≡ e.id
     → d ≡ e
@@ -137,7 +129,7 @@ tied-same : (shape : Shape) (all : List (Option HeldView)) (i j : ℕ) (s t : Se
     → IsFoundAt all j t → is_eq (again_cmp s t) ≡ true → s ≡ t
 tied-same shape all i j s t within one other tie =
     let k = both_Equal _ _ (equal_from_test (again_cmp s t) tie) in
-    let ids = tied-ids s.delivery.id t.delivery.id k.0 in
+    let ids = same_from_tie s.delivery.id t.delivery.id k.0 in
     let senders = same_row s.sender t.sender (ap is_eq k.1) in
     let intervals : i ≡ j = some_same i j (sym (lies-at shape all i s within one.at) ∙ ap (interval_of shape) senders
     ∙ lies-at shape all j t within other.at) in
@@ -279,7 +271,7 @@ below-one seen s t on also less = by_order (id_cmp s.delivery.id t.delivery.id) 
     by_order Greater is =
         absurd (let e : Greater ≡ Less = sym (ap (λ o. ordering_then o (row_cmp s.sender t.sender)) is) ∙ less in cc)
     by_order Equal is =
-        let ids = tied-ids s.delivery.id t.delivery.id is in
+        let ids = same_from_tie s.delivery.id t.delivery.id is in
         let entries : on.entry ≡ also.entry = some_same on.entry also.entry (sym on.numbered
         ∙ ap (λ (i : RecordId). slice_get seen i.commit) ids ∙ also.numbered) in
         let senders : s.sender ≡ t.sender = some_same s.sender t.sender (sym on.on_row ∙ ap row_written entries ∙ also.on_row) in

@@ -28,9 +28,9 @@ use Rattle.node.specs.WorkSteps.{HoldsWork}
 use Rattle.node.specs.Workers.{NodeView, Worker, WorkView, messages_from}
 use Rattle.node.specs.declared.outgoing.Outgoing.{Outgoing}
 use Rattle.node.specs.declared.outgoing.Outgoing.TheVariants as outgoing
-use Rattle.node.proofs.CommitLaws.{Fits-written, IsAppended, appended-handled, grown-by, held-at-on, work-asked, work-of, written_by}
+use Rattle.node.proofs.CommitLaws.{Fits-written, IsAppended, appended-handled, grown-by, work-asked, work-of, written_by}
 use Rattle.node.proofs.FitLaws.{answers-refused, fails-refused}
-use Rattle.node.proofs.PurgeLaws.{ok-answers}
+use Rattle.node.proofs.PurgeLaws.{ok-answers, held-at-on}
 use Rattle.node.proofs.RefusedLaws.{reason-at}
 use Rattle.node.proofs.SettleLaws.{fails-asked}
 

@@ -22,9 +22,9 @@ use crate::outcome::{NodeFault, Outcome};
 use crate::outgoing::Outgoing;
 use crate::sends::made;
 use crate::writes::write_made;
-use book::{Desk, DeskRefusal, Proposal, Seen};
+use book::{Desk, DeskRefusal, Proposal, Seen, production_of};
 use holdings::{Held, Holdings};
-use mw_types::{Key, NoMemory, Production, Record, RowName};
+use mw_types::{Key, NoMemory, Record, RowName};
 use run_history::Case;
 use std::alloc::Global;
 use topology::Topology;
@@ -237,17 +237,4 @@ fn made_of(
     let late = item.late;
     let production = production_of(item);
     made(alloc, topology, name, &[production], late)
-}
-
-// The record of a line, as it is produced.
-fn production_of(item: Record) -> Production
-    ensures { result ≡ production_of item }
-{
-    let Record {
-        key,
-        stamp,
-        value,
-        late: _,
-    } = item;
-    Production { key, stamp, value }
 }

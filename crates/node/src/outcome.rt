@@ -3,7 +3,7 @@ ghost use Rattle.std.specs.Prelude.{◌≡◌};
 
 use mw_types::{Bytes, NoMemory, RowName};
 
-/// What a step of a script came to.
+/// What a call of a node came to.
 #[derive(Drop)]
 pub enum Outcome {
     /// The interval was claimed.

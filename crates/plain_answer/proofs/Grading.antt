@@ -1,5 +1,5 @@
 -- A stamp grows by at most a step with each part.
-use Rattle.std.proofs.Common.{◌≡◌, ℕ, ◌+◌, ◌^◌, ◌<◌, ◌≤◌, ◌==◌, Bool, true, false, cond, find, filter, not, List, [], ◌∷◌, Option, Some, None, IfSome, ℤ, sym, subst, arith}
+use Rattle.std.proofs.Common.{◌≡◌, ℕ, ◌+◌, ◌^◌, ◌<◌, ◌≤◌, ◌==◌, Bool, true, false, cond, filter, not, List, [], ◌∷◌, Option, Some, None, IfSome, ℤ, sym, subst, arith}
 use Rattle.std.specs.Prelude.{Contains}
 use Rattle.std.specs.List.{AllByRecursion}
 use Rattle.std.proofs.lemmas.Bool.{ltb-true}
@@ -24,7 +24,6 @@ use Rattle.topology.specs.Shapes.{Shape, parts_of, injectors_of, consumers_of, f
 use Rattle.topology.specs.Rules.{IsTopology}
 use Rattle.row_parts.specs.Contents.{Contents, same_id, is_timer}
 use Rattle.computations.specs.Handlers.{unchanged, outcome_with_timer, outcome_with_record, one_more, window_end, due_time, counted, held_with, count_timer, window_due, spike_timer, total_due, is_spike, known_with, effects_of_record, effects_of_timer}
-use Rattle.computations.specs.HandlerLaws.{find-passes}
 use Rattle.run_history.specs.Cases.{CaseShape, source_of}
 use Rattle.run_history.specs.Made.{row_written, deliveries_of, deliveries_made}
 use Rattle.run_history.specs.Runs.{Run, run_of, row_of, followed, changed, still_unhandled}
@@ -40,6 +39,7 @@ use Rattle.history_laws.proofs.Made.{deliveries_made-each}
 use Rattle.history_laws.proofs.PendingLaws.{was_some, kind-there}
 use Rattle.history_laws.proofs.RowSteps.{row_of-step}
 use Rattle.history_laws.proofs.StampLaws.{with_timers-each, injected-in_time, source_of-source}
+use Rattle.history_laws.proofs.HandlerBounds.{window_due-time, total_due-time}
 use Rattle.plain_answer.specs.Grades.{grade}
 
 -- ---- what handlers leave
@@ -101,31 +101,15 @@ spike-by last times key late time held known (Some due) ends =
       | false ↦ tt
     ]
 
--- a window that is due ends at the time of its timer
-window-ends : (windows : List Window) (timer : Timer) → IfSome (window_due windows timer) (λ w. w.end ≡ timer.time)
-window-ends windows timer = elim (timer.tag == 0) as (λ b. IfSome (cond b (find (λ (w : Window). w.end == timer.time) windows) None)
-    (λ w. w.end ≡ timer.time)) [
-      | true ↦ find-passes (λ (w : Window). w.end) timer.time windows
-      | false ↦ tt
-    ]
-
--- a total that is due is due at the time of its timer
-total-ends : (held : List HeldTotal) (timer : Timer) → IfSome (total_due held timer) (λ h. due_time h.stamp ≡ timer.time)
-total-ends held timer = elim (timer.tag == 0) as (λ b. IfSome
-    (cond b (find (λ (h : HeldTotal). due_time h.stamp == timer.time) held) None) (λ h. due_time h.stamp ≡ timer.time)) [
-      | true ↦ find-passes (λ (h : HeldTotal). due_time h.stamp) timer.time held
-      | false ↦ tt
-    ]
-
 -- of a timer, whatever the kind
 timer-by : (kind : Kind) (key : List ℕ) (state : State) (timer : Timer) → AreBy timer.time (effects_of_timer kind key state timer)
 timer-by (kinds.Count size) key (states.Count late windows) timer = count-by key late timer.time windows (window_due windows timer)
-    (window-ends windows timer)
+    (window_due-time windows timer)
 timer-by (kinds.Count size) key (states.Injector cursor) timer = tt
 timer-by (kinds.Count size) key (states.Spike late held known) timer = tt
 timer-by (kinds.Count size) key (states.Pass late) timer = tt
 timer-by (kinds.Spike last times) key (states.Spike late held known) timer =
-    spike-by last times key late timer.time held known (total_due held timer) (total-ends held timer)
+    spike-by last times key late timer.time held known (total_due held timer) (total_due-time held timer)
 timer-by (kinds.Spike last times) key (states.Injector cursor) timer = tt
 timer-by (kinds.Spike last times) key (states.Count late windows) timer = tt
 timer-by (kinds.Spike last times) key (states.Pass late) timer = tt

@@ -13,12 +13,13 @@ use Rattle.run_history.specs.Cases.{CaseShape}
 use Rattle.run_history.specs.Made.{deliveries_of}
 use Rattle.run_history.specs.Runs.{Run, run_of, still_unhandled}
 use Rattle.run_history.specs.Legal.{MayFollow, IsLegal}
+use Rattle.run_history.proofs.RunLaws.{run_of-push}
 use Rattle.history_laws.specs.Ids.{is_left}
 use Rattle.history_laws.proofs.IdLaws.{passes_once, legal-ids}
 use Rattle.list_lemmas.proofs.Lists.{none_some, some_same, each-weaker, filter-all}
 use Rattle.list_lemmas.proofs.Totals.{total, total-append}
 use Rattle.plain_answer.specs.Stories.{handled_by, done_of}
-use Rattle.plain_answer.proofs.Stories.{run-push, done-push, along_legal}
+use Rattle.plain_answer.proofs.Stories.{done-push, along_legal}
 
 -- what is found under its id, and the others
 taken-out : (id : RecordId) (f : Delivery → ℕ) (xs : List Delivery) (d : Delivery) → IsStrictlySortedBy delivery_cmp xs
@@ -73,6 +74,6 @@ handled-total case f = along_legal case
       total-append f (done_of case.topology h) (handled_by run entry),
       total-append f (still_unhandled entry run.unhandled) sent,
     ) in
-    ap (λ (r : Run). total f r.made) (run-push case.topology h entry) ∙ core
-    ∙ sym (λ i. total f (done-push case.topology h entry i) + total f (run-push case.topology h entry i).unhandled))
+    ap (λ (r : Run). total f r.made) (run_of-push case.topology h entry) ∙ core
+    ∙ sym (λ i. total f (done-push case.topology h entry i) + total f (run_of-push case.topology h entry i).unhandled))
     refl

@@ -19,12 +19,13 @@ use Rattle.run_history.specs.Cases.{CaseShape, is_injector, source_of, record_of
 use Rattle.run_history.specs.Made.{row_written}
 use Rattle.run_history.specs.Runs.{Run, run_of, row_of, followed, advanced}
 use Rattle.run_history.specs.Legal.{MayInject, MayFollow, IsLegal}
+use Rattle.run_history.proofs.RunLaws.{run_of-push}
 use Rattle.history_laws.proofs.PendingLaws.{was_some}
 use Rattle.history_laws.proofs.RowSteps.{row_of-step, row_of-here, row_of-elsewhere}
 use Rattle.history_laws.proofs.StampLaws.{line_of}
 use Rattle.list_lemmas.proofs.Lists.{none_some, some_same}
 use Rattle.plain_answer.specs.Stories.{added_by, out_of}
-use Rattle.plain_answer.proofs.Stories.{run-push, out-push, along_legal}
+use Rattle.plain_answer.proofs.Stories.{out-push, along_legal}
 use Rattle.plain_answer.proofs.Members.{out_at, out_at-append, added-here, added-other, injector-apart}
 
 module _ (case : CaseShape) (part : ℕ) (is : is_injector case.topology part ≡ true) where
@@ -51,7 +52,7 @@ module _ (case : CaseShape) (part : ℕ) (is : is_injector case.topology part �
       → (row_of shape (followed shape (run_of shape h) entry) name).state ≡ states.Injector n) → Injected (h ++ entry ∷ [])
   stays h entry was none state = record {
     cursor = was.cursor;
-    state = ap (λ (r : Run). (row_of shape r name).state) (run-push shape h entry) ∙ state was.cursor was.state;
+    state = ap (λ (r : Run). (row_of shape r name).state) (run_of-push shape h entry) ∙ state was.cursor was.state;
     members = ap (out_at part) (out-push shape h entry) ∙ out_at-append part (out_of shape h) (added_by (run_of shape h) entry)
         ∙ ap (λ l. out_at part (out_of shape h) ++ l) none ∙ append-nil (out_at part (out_of shape h)) ∙ was.members;
   }
@@ -93,7 +94,7 @@ module _ (case : CaseShape) (part : ℕ) (is : is_injector case.topology part �
       let here : slice_get (source_of case part) was.cursor ≡ Some l.0 = ap (slice_get (source_of case part)) (sym at) ∙ l.1 in
       let same : (part == part) ≡ true = grind (arith, nat_tests) in record {
         cursor = was.cursor + 1;
-        state = ap (λ (r : Run). (row_of shape r name).state) (run-push shape h entry)
+        state = ap (λ (r : Run). (row_of shape r name).state) (run_of-push shape h entry)
             ∙ ap (λ (c : Contents). c.state) (row_of-here shape run entry name refl) ∙ ap advanced was.state;
         members = ap (out_at part) (out-push shape h entry) ∙ out_at-append part (out_of shape h) (added_by run entry)
             ∙ (λ i. was.members i ++ (added-here part run entry name refl same ∙ ap (λ r. r ∷ []) (sym l.2)) i)

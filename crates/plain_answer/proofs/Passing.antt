@@ -23,6 +23,7 @@ use Rattle.run_history.specs.Cases.{CaseShape}
 use Rattle.run_history.specs.Made.{row_written, produced}
 use Rattle.run_history.specs.Runs.{Run, run_of, row_of, followed, changed}
 use Rattle.run_history.specs.Legal.{MayHandle, MayFire, MayFollow, IsLegal}
+use Rattle.run_history.proofs.RunLaws.{run_of-push}
 use Rattle.history_laws.proofs.FitLaws.{legal-of_kind, of_kind}
 use Rattle.history_laws.proofs.IdLaws.{legal-ids}
 use Rattle.history_laws.proofs.RowSteps.{row_of-step}
@@ -30,7 +31,7 @@ use Rattle.history_laws.proofs.WorkLaws.{handled-late}
 use Rattle.list_lemmas.proofs.Lists.{none_some, some_same}
 use Rattle.list_lemmas.proofs.Totals.{total, total-push}
 use Rattle.plain_answer.specs.Stories.{handled_by, added_by, done_of, out_of, fires_on}
-use Rattle.plain_answer.proofs.Stories.{run-push, done-push, out-push, along_legal}
+use Rattle.plain_answer.proofs.Stories.{done-push, out-push, along_legal}
 use Rattle.plain_answer.proofs.Members.{out_at, out_at-append, added-here, added-other, computation-apart}
 
 -- what rows of a part handled
@@ -151,7 +152,7 @@ module _ (case : CaseShape) (part : ℕ) (kind : kind_of case.topology part ≡ 
       → (row_of shape (run_of shape h) name).timers ≡ []
   no-timers name here = along_legal case (λ h. (row_of shape (run_of shape h) name).timers ≡ [])
       (λ h entry legal may was.
-      ap (λ (r : Run). (row_of shape r name).timers) (run-push shape h entry)
+      ap (λ (r : Run). (row_of shape r name).timers) (run_of-push shape h entry)
       ∙ row_of-step shape (run_of shape h) entry name (λ c. c.timers ≡ []) was (λ written. after h entry may was written _))
       refl
     where

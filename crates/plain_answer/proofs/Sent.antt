@@ -14,9 +14,10 @@ use Rattle.run_history.specs.Cases.{CaseShape}
 use Rattle.run_history.specs.Made.{row_written, productions_of, late_cause, produced, sends_of, delivery_at, emission_at, emissions_to, deliveries_made, emissions_made, deliveries_of, emissions_of}
 use Rattle.run_history.specs.Runs.{Run, run_of}
 use Rattle.run_history.specs.Legal.{IsLegal}
+use Rattle.run_history.proofs.RunLaws.{run_of-push}
 use Rattle.list_lemmas.proofs.Totals.{total, when, total-append, total-map, total-flat_map, total-zero}
 use Rattle.plain_answer.specs.Stories.{Member, member_of, added_by, out_of}
-use Rattle.plain_answer.proofs.Stories.{run-push, out-push, along_legal}
+use Rattle.plain_answer.proofs.Stories.{out-push, along_legal}
 
 -- the row and the record of a delivery
 abbrev pub send_of : Delivery → RowName × Record
@@ -75,7 +76,7 @@ sent-total case g = along_legal case
       total-append (λ (d : Delivery). g (send_of d)) run.made sent,
       total-append (λ o. total g (sends case.topology o)) (out_of case.topology h) (added_by run entry),
     ) in
-    ap (λ (r : Run). total (λ (d : Delivery). g (send_of d)) r.made) (run-push case.topology h entry) ∙ core
+    ap (λ (r : Run). total (λ (d : Delivery). g (send_of d)) r.made) (run_of-push case.topology h entry) ∙ core
     ∙ ap (total (λ o. total g (sends case.topology o))) (sym (out-push case.topology h entry)))
     refl
 
@@ -144,6 +145,6 @@ emitted-total case g = along_legal case
       total-append (λ (e : Emission). g (emitted e)) run.emissions new,
       total-append read (out_of case.topology h) (added_by run entry),
     ) in
-    ap (λ (r : Run). total (λ (e : Emission). g (emitted e)) r.emissions) (run-push case.topology h entry) ∙ core
+    ap (λ (r : Run). total (λ (e : Emission). g (emitted e)) r.emissions) (run_of-push case.topology h entry) ∙ core
     ∙ ap (total read) (sym (out-push case.topology h entry)))
     refl

@@ -22,6 +22,7 @@ use Rattle.run_history.specs.Cases.{CaseShape}
 use Rattle.run_history.specs.Made.{row_written}
 use Rattle.run_history.specs.Runs.{Run, run_of, row_of, followed, with_timers}
 use Rattle.run_history.specs.Legal.{MayHandle, MayFire, MayFollow, IsLegal}
+use Rattle.run_history.proofs.RunLaws.{run_of-push}
 use Rattle.history_laws.proofs.FeedLaws.{injector-no_kind}
 use Rattle.history_laws.proofs.RowSteps.{on_row_or_not, row_of-here, row_of-elsewhere}
 use Rattle.history_laws.proofs.StampLaws.{with_timers-each}
@@ -30,7 +31,7 @@ use Rattle.list_lemmas.proofs.Places.{each-at}
 use Rattle.plain_answer.specs.Deeds.{Deed, took, fired, after_deed, windows_after, taken, deeds_in, deeds_of}
 use Rattle.plain_answer.proofs.Counting.{count-windows, tie, deeds-apart}
 use Rattle.plain_answer.proofs.Passing.{record-left}
-use Rattle.plain_answer.proofs.Stories.{run-push, deeds-push, along_legal}
+use Rattle.plain_answer.proofs.Stories.{deeds-push, along_legal}
 use Rattle.plain_answer.proofs.Timing.{or-either}
 
 -- a window that ends there is open
@@ -151,7 +152,7 @@ module _ (case : CaseShape) (name : RowName) (size : ℕ) (kind : kind_of case.t
       (subst (λ ws. AllByRecursion (IsSet ws) (row_of shape (run_of shape (h ++ entry ∷ [])) name).timers)
       (sym (fold-append (after_deed size) [] (deeds_of shape name h) ds))
       (subst (AllByRecursion (IsSet (fold (after_deed size) (windows_after size (deeds_of shape name h)) ds)))
-      (sym (ap (λ (r : Run). (row_of shape r name).timers) (run-push shape h entry) ∙ timers)) set))
+      (sym (ap (λ (r : Run). (row_of shape r name).timers) (run_of-push shape h entry) ∙ timers)) set))
 
   -- a record is handled
   handles : (h : List Entry) (seq : ℕ) (id : RecordId) (effects : EffectsView) → IsLegal case h

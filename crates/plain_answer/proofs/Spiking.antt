@@ -33,6 +33,7 @@ use Rattle.run_history.specs.Made.{row_written, produced, late_cause}
 use Rattle.run_history.specs.Runs.{Run, run_of, row_of, followed, with_timers}
 use Rattle.run_history.specs.Watermarks.{low_watermark}
 use Rattle.run_history.specs.Legal.{MayHandle, MayFire, MayFollow, IsLegal}
+use Rattle.run_history.proofs.RunLaws.{run_of-push}
 use Rattle.history_laws.proofs.FeedLaws.{injector-no_kind}
 use Rattle.history_laws.proofs.IdLaws.{legal-ids}
 use Rattle.history_laws.proofs.LowLaws.{LowFrom, low-from, LowFrom-any_depth, LowFrom-followed}
@@ -52,7 +53,7 @@ use Rattle.plain_answer.proofs.Members.{out_at, out_at-append, added-here, added
 use Rattle.plain_answer.proofs.Passing.{kind-at, record-left, timer-left}
 use Rattle.plain_answer.proofs.Places.{held_place, held_timer, places-held, place-behind, Climb, AreLow, Climb-held, AreLow-held, timers-held, first-timer, lastly, spikes-push}
 use Rattle.plain_answer.proofs.SpikeSteps.{spike_record_at, spike-nothing, spike-key, fires-first, HoldsMore, holds-more, holds-late, pair_of, pairs_of, placed, placed-push}
-use Rattle.plain_answer.proofs.Stories.{run-push, done-push, out-push, along_legal}
+use Rattle.plain_answer.proofs.Stories.{done-push, out-push, along_legal}
 
 module _ (case : CaseShape) (name : RowName) (last times : ℕ) (runs : IsRunnable case)
     (kind : kind_of case.topology name.part ≡ Some (kinds.Spike last times)) where
@@ -97,7 +98,7 @@ module _ (case : CaseShape) (name : RowName) (last times : ℕ) (runs : IsRunnab
   passed-next : (h : List Entry) (entry : Entry) (ps : List (ℕ × ℤ)) → IsLegal case h → MayFollow case (run_of shape h) entry
       → AllByRecursion (IsPassed (run_of shape h)) ps → AllByRecursion (IsPassed (run_of shape (h ++ entry ∷ []))) ps
   passed-next h entry ps legal may passed =
-      subst (λ (r : Run). AllByRecursion (IsPassed r) ps) (sym (run-push shape h entry))
+      subst (λ (r : Run). AllByRecursion (IsPassed r) ps) (sym (run_of-push shape h entry))
       (each-weaker (IsPassed (run_of shape h)) (IsPassed (followed shape (run_of shape h) entry))
       (λ p was depth. LowFrom-followed case h (run_of shape h) entry (due_time p.0) runs (legal-ids case h legal)
       (legal-in_time case h runs legal) may depth name.part was) ps passed)
@@ -135,8 +136,8 @@ module _ (case : CaseShape) (name : RowName) (last times : ℕ) (runs : IsRunnab
     late = late;
     over = was.over;
     held = was.held;
-    state = ap (λ (r : Run). (row_of shape r name).state) (run-push shape h entry) ∙ state;
-    timers = ap (λ (r : Run). (row_of shape r name).timers) (run-push shape h entry) ∙ timers ∙ was.timers;
+    state = ap (λ (r : Run). (row_of shape r name).state) (run_of-push shape h entry) ∙ state;
+    timers = ap (λ (r : Run). (row_of shape r name).timers) (run_of-push shape h entry) ∙ timers ∙ was.timers;
     places = was.places ∙ sym (ap (placed name) (done-push shape h entry)
         ∙ placed-push name (done_of shape h) (handled_by (run_of shape h) entry)
         ∙ ap (fold with_place (placed name (done_of shape h))) pairs);
@@ -227,9 +228,9 @@ module _ (case : CaseShape) (name : RowName) (last times : ℕ) (runs : IsRunnab
             late = was.late;
             over = was.over;
             held = held_with was.held d.item.stamp d.item.value;
-            state = ap (λ (r : Run). (row_of shape r name).state) (run-push shape h entry)
+            state = ap (λ (r : Run). (row_of shape r name).state) (run_of-push shape h entry)
                 ∙ ap (λ (c : Contents). c.state) here ∙ more.state;
-            timers = ap (λ (r : Run). (row_of shape r name).timers) (run-push shape h entry)
+            timers = ap (λ (r : Run). (row_of shape r name).timers) (run_of-push shape h entry)
                 ∙ ap (λ (c : Contents). c.timers) here
                 ∙ (λ i. with_timers (more.timers i) (was.timers i))
                 ∙ timers-held was.held d.item.stamp d.item.value low was.low;
@@ -294,10 +295,10 @@ module _ (case : CaseShape) (name : RowName) (last times : ℕ) (runs : IsRunnab
             late = was.late;
             over = was.over ++ held_place t ∷ [];
             held = hs;
-            state = ap (λ (r : Run). (row_of shape r name).state) (run-push shape h entry)
+            state = ap (λ (r : Run). (row_of shape r name).state) (run_of-push shape h entry)
                 ∙ ap (λ (c : Contents). c.state) here ∙ left_state
                 ∙ ap (λ l. states.Spike was.late hs (lastly last l)) (sym (values-push was.over (held_place t)));
-            timers = ap (λ (r : Run). (row_of shape r name).timers) (run-push shape h entry)
+            timers = ap (λ (r : Run). (row_of shape r name).timers) (run_of-push shape h entry)
                 ∙ ap (λ (c : Contents). c.timers) here
                 ∙ (λ i. without_timer (sym is i).tag (sym is i).time (timers i))
                 ∙ first-timer t hs climb low;

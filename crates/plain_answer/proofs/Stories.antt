@@ -6,6 +6,7 @@ use Rattle.topology.specs.Shapes.{Shape}
 use Rattle.run_history.specs.Cases.{CaseShape}
 use Rattle.run_history.specs.Runs.{Run, run_of, followed, empty_run}
 use Rattle.run_history.specs.Legal.{MayFollow, AreLegal, IsLegal}
+use Rattle.run_history.proofs.RunLaws.{run_of-push}
 use Rattle.history_laws.proofs.Along.{along_history}
 use Rattle.plain_answer.specs.Stories.{handled_by, added_by, Story, story_with, story_of, done_of, out_of}
 use Rattle.plain_answer.specs.Deeds.{Told, told, deeds_of, deeds_in}
@@ -14,10 +15,6 @@ use Rattle.mw_types.specs.declared.identity.RowName.{RowName}
 -- before any entry
 abbrev first_story : Story
 first_story = record { run = empty_run; done = []; out = [] }
-
--- the run with one more entry
-pub run-push : (shape : Shape) (h : List Entry) (entry : Entry) → run_of shape (h ++ entry ∷ []) ≡ followed shape (run_of shape h) entry
-run-push shape h entry = fold-append (followed shape) empty_run h (entry ∷ [])
 
 -- the run of a story is that of the history
 story-run : (shape : Shape) (h : List Entry) (s : Story) → (fold (story_with shape) s h).run ≡ fold (followed shape) s.run h
@@ -76,7 +73,7 @@ module _ (case : CaseShape) (P : List Entry → Type 0) where
       → Holds (h ++ entry ∷ []) (followed case.topology run entry)
   next step h run entry holds may =
       let follows : MayFollow case (run_of case.topology h) entry = subst (λ (r : Run). MayFollow case r entry) holds.0 may in (
-        ap (λ (r : Run). followed case.topology r entry) holds.0 ∙ sym (run-push case.topology h entry),
+        ap (λ (r : Run). followed case.topology r entry) holds.0 ∙ sym (run_of-push case.topology h entry),
         legal-push case h entry empty_run holds.1 follows,
         step h entry holds.1 follows holds.2,
       )

@@ -1,14 +1,15 @@
 //! What a spike gives of all that it reads.
-ghost use Rattle.std.specs.Prelude.{◌≡◌, ◌≤◌, ◌≤ℤ◌, ◌+ℤ◌, ◌*ℤ◌, ◌^◌, ◌++◌, ◌∷◌, [], pos, neg_ℤ, int_lt, fold, length, IfOk, OnOk};
+ghost use Rattle.std.specs.Prelude.{◌≡◌, ◌≤◌, ◌++◌, [], IfOk, OnOk};
 ghost use Rattle.std.specs.BTreeMap.{insert_entry};
 ghost use Rattle.std.specs.List.Sorted.{IsPermutation};
 ghost use Rattle.mw_types.specs.declared.kind.Kind.TheVariants.{Spike};
-ghost use Rattle.computations.specs.Handlers.{is_spike, known_with};
+ghost use Rattle.computations.specs.Handlers.{known_with};
 ghost use Rattle.plain_answer.specs.Plain.{fires_of, plain_of};
 ghost use Rattle.plain_answer.specs.Spiked.{greater_at, known_of, noted_of, noted_with, spike_given, spike_of, spikes_along};
 ghost use Rattle.plain_answer.specs.Tallies.{window_cmp};
 
 use crate::given::Given;
+use computations::is_spike;
 use mw_types::{Duplicate, Key, NoMemory, Record, Seq};
 use std::alloc::Global;
 use std::collections::BTreeMap;
@@ -175,62 +176,6 @@ fn spike_record(alloc: Global, place: &(Key, u64), value: i64) -> Result<Record,
         value,
         late: false,
     })
-}
-
-// Whether a value is above so many times the mean of the last ones, of which there are enough.
-fn is_spike(last: u32, times: u32, known: &[i64], value: i64) -> bool
-    requires last { last ≤ 64 }
-    requires times { times ≤ 1000 }
-    ensures { result ≡ is_spike last times known.now value }
-{
-    if known.len() != last as usize {
-        return false;
-    }
-    is_above(last, times, sum_of(known), value)
-}
-
-// Whether a value is above so many times the mean of so many values with this sum.
-fn is_above(last: u32, times: u32, sum: i128, value: i64) -> bool
-    requires last { last ≤ 64 }
-    requires times { times ≤ 1000 }
-    requires above { neg_ℤ (pos (2 ^ 69)) ≤ℤ sum }
-    requires below { sum ≤ℤ pos (2 ^ 69) }
-    ensures { result ≡ int_lt (pos times *ℤ sum) (value *ℤ pos last) }
-{
-    scaled(sum, times) < scaled(value as i128, last)
-}
-
-// A number so many times.
-fn scaled(number: i128, by: u32) -> i128
-    requires by { by ≤ 1000 }
-    requires above { neg_ℤ (pos (2 ^ 69)) ≤ℤ number }
-    requires below { number ≤ℤ pos (2 ^ 69) }
-    ensures { result ≡ number *ℤ pos by }
-{
-    number * (by as i128)
-}
-
-// The sum of the last values.
-fn sum_of(known: &[i64]) -> i128
-    requires few { length known.now ≤ 64 }
-    ensures sum { result ≡ fold (λ sum x. sum +ℤ x) (pos 0) known.now }
-    ensures above { neg_ℤ (pos (2 ^ 69)) ≤ℤ result }
-    ensures below { result ≤ℤ pos (2 ^ 69) }
-{
-    let mut sum: i128 = 0;
-    for value in known {
-        sum = with_value(sum, *value);
-    }
-    sum
-}
-
-// A sum with one value more.
-fn with_value(sum: i128, value: i64) -> i128
-    requires above { neg_ℤ (pos (2 ^ 69)) ≤ℤ sum }
-    requires below { sum ≤ℤ pos (2 ^ 69) }
-    ensures { result ≡ sum +ℤ value }
-{
-    sum + (value as i128)
 }
 
 // Appends a value to the last ones, of which so many stay.

@@ -1,18 +1,17 @@
 //! The numbers of the plain text's last line.
-ghost use Rattle.std.specs.Prelude.{◌≡◌, ◌+◌, ◌<◌, [], length, count_by, take, false, string_bytes, IfOk, OnOk};
+ghost use Rattle.std.specs.Prelude.{◌≡◌, ◌+◌, ◌<◌, [], length, count_by, take, string_bytes, IfOk, OnOk};
 ghost use Rattle.injector.specs.Sources.{SourceLine};
 ghost use Rattle.run_history.specs.Texts.{as_line};
 ghost use Rattle.plain_answer.specs.Plain.{fired_of, handled_of, injected_count, late_count, plain_summary};
 ghost use Rattle.plain_answer.specs.Sends.{ArePlain, AreRead};
 ghost use Rattle.serde_json.specs.Data.{number, object, put, unsigned};
 ghost use Rattle.serde_json.specs.View.{members_view, view};
-ghost use Rattle.serde_json.specs.Written.{has_float};
 
 use crate::given::added;
 use crate::streams::Sent;
 use injector::Items;
 use mw_types::NoMemory;
-use run_history::Case;
+use run_history::{Case, value_line};
 use serde_json::{Map, Value};
 use std::alloc::Global;
 
@@ -25,16 +24,6 @@ pub(crate) fn summary_line(alloc: Global, case: &Case, all: &Sent) -> Result<Str
 {
     let value = summary(alloc, case, all)?;
     value_line(alloc, &value)
-}
-
-// A value as a line, with its LF.
-fn value_line(alloc: Global, value: &Value) -> Result<String, NoMemory>
-    requires { has_float (view value.now) ≡ false }
-    ensures { IfOk result (λ text. string_bytes text ≡ as_line (view value.now)) }
-{
-    let mut text = value.to_string(alloc)?;
-    text.push('\n')?;
-    Ok(text)
 }
 
 // The numbers of the line, as an object.

@@ -1,22 +1,18 @@
 //! The plain text of a case.
 ghost use Rattle.std.specs.Prelude.{◌≡◌, ◌++◌, ◌<◌, [], length, map, IfOk, OnOk};
-ghost use Rattle.std.specs.List.{flat_map};
 ghost use Rattle.std.specs.List.Sorted.{IsPermutation, IsSorted};
 ghost use Rattle.topology.specs.declared.subscription.Subscription.{Subscription};
 ghost use Rattle.topology.specs.Shapes.{consumers_of, parts_of, stream_of};
-ghost use Rattle.run_history.specs.Texts.{line_cmp, line_data, as_line};
+ghost use Rattle.run_history.specs.Texts.{line_cmp, as_line};
 ghost use Rattle.plain_answer.specs.Plain.{fired_of, lines_unread, plain_line, plain_lines, plain_summary, IsPlainText};
 ghost use Rattle.plain_answer.specs.Sends.{lines_in, ArePlain, AreRead};
 
 use crate::streams::{Sent, all_streams};
 use crate::summary::summary_line;
 use mw_types::{Bytes, Duplicate, Name, NoMemory, Record, Seq};
-use run_history::{Case, ResultLine};
+use run_history::{Case, ResultLine, lines_text};
 use std::alloc::Global;
 use topology::Topology;
-
-// Room for a line of the usual length. A text that begins with it grows to powers of two.
-const LINE_ROOM: usize = 128;
 
 /// The plain text of a case: the lines of the streams that nothing reads, sorted, and the summary
 /// line, worked out from the records of its files alone. Where a timestamp in whole microseconds,
@@ -128,40 +124,4 @@ fn line(alloc: Global, stream: &str, item: &Record) -> Result<ResultLine, NoMemo
         key: item.key.copy(alloc)?,
         value: item.value,
     })
-}
-
-// The texts of lines.
-fn lines_text(alloc: Global, lines: &[ResultLine]) -> Result<Vec<u8>, NoMemory>
-    ensures { IfOk result (λ text.
-        text.items ≡ flat_map (λ line. as_line (line_data line)) lines.now) }
-{
-    let mut text = Vec::with_capacity(alloc, LINE_ROOM)?;
-    write_lines(alloc, &mut text, lines)?;
-    Ok(text)
-}
-
-// Appends the texts of lines.
-fn write_lines(alloc: Global, text: &mut Vec<u8>, lines: &[ResultLine]) -> Result<(), NoMemory>
-    ensures { OnOk result (text.new.items
-        ≡ text.old.items ++ flat_map (λ line. as_line (line_data line)) lines.now) }
-{
-    // One buffer serves all lines: a writer clears the room ahead of it.
-    let mut buffer = Vec::with_capacity(alloc, LINE_ROOM)?;
-    for line in lines {
-        buffer = write_line(text, line, buffer)?;
-    }
-    Ok(())
-}
-
-// Appends the text of a line, and gives the buffer back, which holds nothing.
-fn write_line(text: &mut Vec<u8>, line: &ResultLine, buffer: Vec<u8>) -> Result<Vec<u8>, NoMemory>
-    requires { buffer.items ≡ [] }
-    ensures written { OnOk result
-        (text.new.items ≡ text.old.items ++ as_line (line_data line.now)) }
-    ensures empty { IfOk result (λ buffer. buffer.items ≡ []) }
-{
-    let mut written = line.text(buffer)?;
-    text.extend_from_slice(&written)?;
-    written.clear();
-    Ok(written)
 }

@@ -1,8 +1,9 @@
 //! Histories: which are legal, what stands after one, and what is written of it.
 //!
 //! Stands on `topology`, `injector`, `computations` and `row_parts`. Public contract: `make`,
-//! `emissions`, `first_row`, `result_text`, `summary_line`, `entry_line` and `history_lines` answer
-//! what the definitions say, and an `Emitter` tells entry by entry what a history emits.
+//! `emissions`, `first_row`, `result_text`, `lines_text`, `summary_line`, `entry_line` and
+//! `history_lines` answer what the definitions say, and an `Emitter` tells entry by entry what a
+//! history emits.
 //! Definitions: `specs/Lib.antt` names them in the order of reading;
 //! `specs/Legal.antt` says which histories are legal, and `specs/Printing.antt` which can be printed.
 #![tactic(auto)]
@@ -29,4 +30,4 @@ pub use history::History;
 pub use line::ResultLine;
 pub use made::{Made, make, production};
 pub use summary::summary_line;
-pub use text::result_text;
+pub use text::{lines_text, result_text, value_line};

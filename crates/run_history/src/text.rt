@@ -76,8 +76,8 @@ fn line(alloc: Global, topology: &Topology, emission: &Emission) -> Result<Resul
     })
 }
 
-// The texts of lines.
-fn lines_text(alloc: Global, lines: &[ResultLine]) -> Result<Vec<u8>, NoMemory>
+/// The texts of result lines, one after the other.
+pub fn lines_text(alloc: Global, lines: &[ResultLine]) -> Result<Vec<u8>, NoMemory>
     ensures { IfOk result (λ text.
         text.items ≡ flat_map (λ line. as_line (line_data line)) lines.now) }
 {
@@ -121,8 +121,8 @@ fn write_summary(alloc: Global, text: &mut Vec<u8>, history: &History) -> Result
     Ok(())
 }
 
-// A value as a line, with its LF.
-pub(crate) fn value_line(alloc: Global, value: &Value) -> Result<String, NoMemory>
+/// A value as a line, with its LF.
+pub fn value_line(alloc: Global, value: &Value) -> Result<String, NoMemory>
     requires { has_float (view value.now) ≡ false }
     ensures { IfOk result (λ text. string_bytes text ≡ as_line (view value.now)) }
 {

@@ -1,8 +1,7 @@
 -- What a copy of a record meets that comes at any time.
-use Rattle.std.proofs.Common.{◌≡◌, ◌≢◌, ◌∙◌, ◌<◌, ◌≤◌, ◌+◌, ℕ, Bool, true, false, List, [], ◌∷◌, ◌++◌, append_assoc, fold, length, refl, sym, ap, subst, arith, inl, inr}
+use Rattle.std.proofs.Common.{◌≡◌, ◌≢◌, ◌∙◌, ◌<◌, ◌≤◌, ◌+◌, ℕ, Bool, true, false, List, [], ◌++◌, fold, length, refl, sym, ap, subst, arith, inl, inr}
 use Rattle.std.specs.Prelude.{if◌then◌else◌, ◌⊎◌, Option, None, Some, IsSome}
 use Rattle.std.specs.List.{AllByRecursion}
-use Rattle.std.proofs.lemmas.List.{append-nil}
 use Rattle.mw_types.specs.declared.delivery.Delivery.{Delivery}
 use Rattle.mw_types.specs.declared.entry.Entry.{Entry}
 use Rattle.mw_types.specs.declared.identity.RowName.{RowName}
@@ -12,37 +11,20 @@ use Rattle.run_history.specs.Cases.{CaseShape}
 use Rattle.run_history.specs.Fences.{Begins, known, last_claim}
 use Rattle.run_history.specs.Finished.{is_handled}
 use Rattle.run_history.specs.Legal.{IsLegal}
-use Rattle.run_history.specs.Made.{deliveries_of}
 use Rattle.run_history.specs.Runs.{Run, empty_run, followed, run_of}
 use Rattle.run_history.proofs.Known.{known-begins, known-last}
-use Rattle.list_lemmas.proofs.Lists.{each-append, each-weaker, find-behind, find-each}
+use Rattle.list_lemmas.proofs.Lists.{find-behind, find-each}
 use Rattle.history_laws.proofs.Along.{AreLegal-apart, run_of-append}
 use Rattle.history_laws.proofs.FinishedLaws.{finished-handled, unmade-unfinished, waits-unless_finished}
 use Rattle.history_laws.proofs.FloorLaws.{floor_of-below}
 use Rattle.history_laws.proofs.IdLaws.{legal-tells, made-in_order, next-length}
-use Rattle.history_laws.proofs.Made.{each_of_commit}
+use Rattle.history_laws.proofs.Made.{made-rest}
 use Rattle.history_laws.proofs.SeenLaws.{found-more}
 use Rattle.book.specs.Books.{LeaseView}
 use Rattle.node.specs.declared.outgoing.Outgoing.TheVariants as outgoing
 use Rattle.scripts.specs.Acts.{take_again, take_in, take_new}
 use Rattle.scripts.specs.Copies.{IsCopyKnown, answer_to_copy}
 use Rattle.scripts.specs.Worlds.{World, row_known}
-
--- what entries make has their numbers
-made-rest : (shape : Shape) (rest : List Entry) (run : Run) → (more : List Delivery)
-    × ((fold (followed shape) run rest).made ≡ run.made ++ more) × AllByRecursion (λ (d : Delivery). run.next ≤ d.id.commit) more
-made-rest shape [] run = ([], sym (append-nil run.made), tt)
-made-rest shape (e ∷ es) run =
-    let sent = deliveries_of shape run.made run.next e in
-    let later = made-rest shape es (followed shape run e) in
-    let at_least : Delivery → Type 0 = λ d. run.next ≤ d.id.commit in (
-      sent ++ later.0,
-      later.1 ∙ append_assoc run.made sent later.0,
-      each-append at_least sent later.0
-          (each-weaker (λ (d : Delivery). d.id.commit ≡ run.next) at_least (λ d same. omega (arith, same)) sent
-          (each_of_commit shape run.made run.next e))
-          (each-weaker (λ (d : Delivery). run.next + 1 ≤ d.id.commit) at_least (λ d above. omega (arith, above)) later.0 later.2),
-    )
 
 -- a record that was made was made in a beginning, or has a number past it
 early-or-late : (shape : Shape) (front rest : List Entry) (d : Delivery) → found_delivery d.id (run_of shape (front ++ rest)).made ≡ Some d

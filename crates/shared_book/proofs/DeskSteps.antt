@@ -1,8 +1,7 @@
 -- What the calls of a desk leave, by what they did in a turn.
 use Rattle.std.proofs.Common.{inl, inr, ◌≡◌, ◌≢◌, ◌⊎◌, ◌∙◌, ◌≤◌, ◌++◌, ◌∷◌, ℕ, suc, Bool, true, false, List, [], length, drop, take, refl, sym, ap, subst, ⊎_elim, arith}
-use Rattle.std.specs.Prelude.{◌↔◌, Err, IfErr, IfOk, IfSome, IsErrOf, None, Ok, OnOk, Option, Result, Some}
+use Rattle.std.specs.Prelude.{◌↔◌, Err, IfErr, IfOk, IfSome, IsErrOf, None, Ok, OnOk, Option, Result}
 use Rattle.std.proofs.lemmas.List.{append-nil}
-use Rattle.std.proofs.lemmas.List.Elements.{All-nil}
 use Rattle.mw_types.specs.Causes.{HasCause, Rose}
 use Rattle.mw_types.specs.declared.entry.Entry.{Entry}
 use Rattle.mw_types.specs.declared.entry.Entry.TheVariants.{Claim}
@@ -10,7 +9,7 @@ use Rattle.mw_types.specs.declared.identity.RowName.{RowName}
 use Rattle.row_keeper.specs.Rows.{Rows}
 use Rattle.row_parts.specs.Contents.{Contents}
 use Rattle.run_history.specs.Cases.{CaseShape, intervals_of}
-use Rattle.run_history.specs.Fences.{Begins, CarryNot, sequencer_of}
+use Rattle.run_history.specs.Fences.{Begins}
 use Rattle.run_history.specs.Legal.{floor_of}
 use Rattle.run_history.specs.Runs.{run_of, written_row}
 use Rattle.run_history.proofs.Beginnings.{Begins-itself, Begins-trans}
@@ -35,6 +34,7 @@ use Rattle.book.specs.declared.refusals.WriteRefusal.TheVariants as writes
 use Rattle.book.proofs.ClaimLaws.{err-is}
 use Rattle.book.proofs.Numbers.{numbers_from-one, own-stays}
 use Rattle.book.proofs.OwnReasons.{claim-reason, reason}
+use Rattle.book.proofs.OwnLaws.{none-carried}
 use Rattle.shared_book.specs.declared.views.Basis.{Basis}
 use Rattle.shared_book.specs.declared.views.View.{View}
 use Rattle.shared_book.specs.Lists.{IsIn}
@@ -48,10 +48,6 @@ use Rattle.shared_book.proofs.Moves.{off}
 use Rattle.shared_book.proofs.Taking.{basis-taken, leases-taken}
 
 -- ---- another has the turn
-
--- no entry carries a sequencer among none
-none-carried : (seq : ℕ) → CarryNot seq []
-none-carried seq = All-nil (λ (e : Entry). sequencer_of e ≢ Some seq)
 
 -- a desk that noted what it found has seen no more
 looked-busy : (v : View) (found : ℕ) → HasLooked (shared_view v) (shared_view (missing v found))

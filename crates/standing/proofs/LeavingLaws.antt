@@ -1,5 +1,5 @@
 -- The row that an entry leaves which may come next.
-use Rattle.std.proofs.Common.{◌≡◌, ◌∙◌, ◌<◌, ◌≤◌, ◌^◌, ℕ, true, false, List, [], ◌∷◌, fold, length, map, min, refl, sym, ap, subst, arith}
+use Rattle.std.proofs.Common.{◌≡◌, ◌∙◌, ◌<◌, ◌≤◌, ◌^◌, ℕ, true, false, List, [], length, map, refl, sym, ap, subst, arith}
 use Rattle.std.specs.Prelude.{Option, Some, unwrap_or}
 use Rattle.std.specs.Option.{option_map_or}
 use Rattle.list_lemmas.proofs.Lists.{some_same, find-passes}
@@ -20,6 +20,7 @@ use Rattle.run_history.specs.Runs.{cached, row_in, row_of, run_of, written_row}
 use Rattle.run_history.proofs.RunLaws.{next-length}
 use Rattle.history_laws.proofs.FitLaws.{legal-fits}
 use Rattle.history_laws.proofs.IdLaws.{legal-ids, waits_as_made, same_id-true}
+use Rattle.history_laws.proofs.FloorLaws.{fold_min-bound}
 use Rattle.book.specs.Proposals.{is_cause_late, left_by}
 use Rattle.book.specs.declared.proposal.Proposal.{Proposal}
 use Rattle.book.specs.declared.proposal.Proposal.TheVariants as proposals
@@ -146,11 +147,6 @@ left-purged case history kept seq name floor commit row left keeps number there 
       λ i. record (same i) { floor = floor; seen = ids_from floor (same i).seen; last = next i },
     )
 
--- the least of a number and some others is at most the number
-fold-min : (n : ℕ) (ms : List ℕ) → fold min n ms ≤ n
-fold-min n [] = omega arith
-fold-min n (m ∷ ms) = let rest = fold-min (min n m) ms in omega (arith, rest)
-
 -- a floor that may be set is at most the number of the next entry
 pub floor-few : (case : CaseShape) (history : List Entry) (seq : ℕ) (name : RowName) (floor : ℕ) → MayCome case history
     (Purge seq name floor)
@@ -159,5 +155,5 @@ floor-few case history seq name floor may few =
     let run = run_of case.topology history in
     let next = next-length case.topology history in
     let bound = may.may.finished in
-    let least = fold-min run.next (map (λ (d : Delivery). d.id.commit) (all_pending run)) in
+    let least = fold_min-bound run.next (map (λ (d : Delivery). d.id.commit) (all_pending run)) in
     omega (arith, next, bound, least, few)

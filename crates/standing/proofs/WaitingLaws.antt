@@ -26,12 +26,7 @@ use Rattle.history_laws.proofs.IdLaws.{passes_once, same_id-itself, same_id-true
 use Rattle.history_laws.proofs.RowSteps.{both_Equal}
 use Rattle.standing.specs.Keeping.{HasChanged, HasNoted, HasTaken, found_then}
 use Rattle.standing.specs.Waits.{AreWaiting, waiting_in}
-
--- tests of which each follows from the other are the same
-same_test : (a b : Bool) → (a ≡ true → b ≡ true) → (b ≡ true → a ≡ true) → a ≡ b
-same_test true b forth back = sym (forth refl)
-same_test false true forth back = back refl
-same_test false false forth back = refl
+use Rattle.book.proofs.SenderMaps.{same_test}
 
 -- ids tie in their order exactly where they are the same, whichever comes first
 tie-same : (a b : RecordId) → is_eq (id_cmp a b) ≡ same_id b a

@@ -1,5 +1,5 @@
 -- The oldest work of each part stays what stands after the history, as entries come.
-use Rattle.std.proofs.Common.{◌≡◌, ◌≢◌, ◌∙◌, ◌<◌, ◌≤◌, ◌+◌, ◌-◌, ◌&&◌, ℕ, zero, suc, Bool, true, false, cond, List, [], ◌∷◌, ◌++◌, length, map, get_or, min, refl, sym, ap, subst, arith, sum_by}
+use Rattle.std.proofs.Common.{◌≡◌, ◌≢◌, ◌∙◌, ◌<◌, ◌+◌, ◌-◌, ◌&&◌, ℕ, zero, suc, Bool, true, false, cond, List, [], ◌∷◌, ◌++◌, length, map, get_or, min, refl, sym, ap, subst, arith, sum_by}
 use Rattle.std.specs.Prelude.{Contains, None, Option, Some, filter, not, slice_set, unwrap_or, ◌==◌}
 use Rattle.std.specs.Option.{option_map_or}
 use Rattle.std.specs.List.{AllByRecursion, flat_map}
@@ -34,6 +34,7 @@ use Rattle.history_laws.proofs.IdLaws.{passes_once}
 use Rattle.history_laws.proofs.LowLaws.{least-end}
 use Rattle.history_laws.proofs.RowSteps.{same_row}
 use Rattle.holdings.proofs.WorkLaws.{least-append, least-flat_map}
+use Rattle.holdings.proofs.StampLaws.{least-sums}
 use Rattle.standing.specs.Works.{AreWorks, HasStampLess, HasStampMore, HasWorked, sum_at, taken_by, time_of, wait_of}
 use Rattle.standing.specs.Waits.{AreWaiting, waiting_in}
 
@@ -94,33 +95,6 @@ sum-taken f id (x ∷ xs) d sorted found =
         let two = sum_by-cons f x (without_delivery id xs) in omega (arith, later, one, two)
 
 -- ---- the oldest work
-
--- how far each is below a mark, added up, is nothing where the mark is at most the least
-none-below : (mark : ℕ) (xs : List ℕ) → mark ≤ least xs → sum_by (λ x. mark - x) xs ≡ 0
-none-below mark [] under = refl
-none-below mark (x ∷ xs) under =
-    let rest = none-below mark xs (omega (arith, under)) in
-    let whole = sum_by-cons (λ y. mark - y) x xs in
-    omega (arith, rest, whole, under)
-
--- and where it is nothing, the mark is at most the least
-least-bound : (mark : ℕ) (xs : List ℕ) → mark ≤ END → sum_by (λ x. mark - x) xs ≡ 0 → mark ≤ least xs
-least-bound mark [] end none = end
-least-bound mark (x ∷ xs) end none =
-    let whole = sum_by-cons (λ y. mark - y) x xs in
-    let rest = least-bound mark xs end (omega (arith, whole, none)) in
-    omega (arith, rest, whole, none)
-
--- lists of which all sums are the same, where the end counts nothing, have the same least
-least-sums : (xs ys : List ℕ) → ((weigh : ℕ → ℕ) → weigh END ≡ 0 → sum_by weigh xs ≡ sum_by weigh ys) → least xs ≡ least ys
-least-sums xs ys same =
-    let end_one : least xs - END ≡ 0 = let e = least-end xs in omega (arith, e) in
-    let end_two : least ys - END ≡ 0 = let e = least-end ys in omega (arith, e) in
-    let one = least-bound (least xs) ys (least-end xs)
-    (sym (same (λ x. least xs - x) end_one) ∙ none-below (least xs) xs (omega arith)) in
-    let two = least-bound (least ys) xs (least-end ys)
-    (same (λ x. least ys - x) end_two ∙ none-below (least ys) ys (omega arith)) in
-    omega (arith, one, two)
 
 -- a sum over a list that was mapped
 sum-map : {X : Type 0} (f : X → ℕ) (weigh : ℕ → ℕ) (xs : List X) → sum_by weigh (map f xs) ≡ sum_by (λ x. weigh (f x)) xs

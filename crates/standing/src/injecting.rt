@@ -57,7 +57,7 @@ pub(crate) fn injector_row(alloc: Global, part: u32) -> RowName
 }
 
 // How many lines an injector has.
-pub(crate) fn lines_of(case: &Case, part: u32) -> u32
+fn lines_of(case: &Case, part: u32) -> u32
     requires { part < injectors_of case.now.topology }
     ensures { result ≡ length (source_of case.now part) }
 {

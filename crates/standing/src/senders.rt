@@ -1,14 +1,14 @@
 //! Which row sent each id that is unacknowledged, as entries come.
-ghost use Rattle.std.specs.Prelude.{◌≡◌, ◌≤◌, ◌↔◌, [], IfSome, None, OnOk, Some};
+ghost use Rattle.std.specs.Prelude.{◌≡◌, ◌↔◌, [], IfSome, None, OnOk, Some};
 ghost use Rattle.std.specs.BTreeMap.{insert_entry};
 ghost use Rattle.mw_types.specs.Orders.{id_cmp};
 ghost use Rattle.book.specs.Senders.{sender_of};
-ghost use Rattle.book.specs.Sending.{HasSent, HasSettled, IsAfterEntry, IsLeastKnown, is_sender, settled_by};
+ghost use Rattle.book.specs.Sending.{HasSent, IsAfterEntry, IsLeastKnown};
 
 use crate::kept::Senders;
+use book::{settle, settled_by};
 use mw_types::{Duplicate, Entry, NoMemory, RecordId, RowName};
 use std::alloc::Global;
-use std::cmp::Ordering;
 
 // Notes what an entry of a row sent, under its number, and what it acknowledged.
 pub(crate) fn note_entry(
@@ -25,16 +25,6 @@ pub(crate) fn note_entry(
     note_sent(alloc, senders, commit, sent, name)?;
     settle(senders, settled_by(entry), name);
     Ok(())
-}
-
-// The id that an entry acknowledges.
-fn settled_by(entry: &Entry) -> Option<RecordId>
-    ensures { result ≡ settled_by entry.now }
-{
-    match entry {
-        Entry::Ack { id, .. } => Some(*id),
-        _ => None,
-    }
 }
 
 // Notes that a row sent so many, under the number of its entry.
@@ -66,34 +56,6 @@ fn note_one(
 {
     senders.insert(id, name.copy(alloc)?)?;
     Ok(())
-}
-
-// An id is acknowledged, where there is one and this row sent it.
-fn settle(senders: &mut Senders, id: Option<RecordId>, name: &RowName)
-    ensures { HasSettled id name.now senders.old.entries senders.new.entries }
-{
-    if let Some(id) = id {
-        settle_one(senders, id, name);
-    }
-}
-
-// This id is acknowledged, where this row sent it.
-fn settle_one(senders: &mut Senders, id: RecordId, name: &RowName)
-    ensures { HasSettled (Some id) name.now senders.old.entries senders.new.entries }
-{
-    if is_sender(senders, id, name) {
-        senders.remove(&id);
-    }
-}
-
-// Whether this row sent the id.
-fn is_sender(senders: &Senders, id: RecordId, name: &RowName) -> bool
-    ensures { result ≡ is_sender name.now (sender_of senders.now.entries id) }
-{
-    match senders.get(&id) {
-        Some(sender) => name.cmp(sender) == Ordering::Equal,
-        None => false,
-    }
 }
 
 // The least id that is unacknowledged, and its sender's row.

@@ -1,6 +1,5 @@
 //! The oldest work of each part, as entries come.
-ghost use Rattle.std.specs.Prelude.{◌≡◌, ◌≢◌, ◌<◌, ℕ, [], All, Contains, IfOk, IfSome, OnOk, Some, cond, filter, get_or, length, map, min, not};
-ghost use Rattle.mw_types.specs.declared.timer.Timer.{Timer};
+ghost use Rattle.std.specs.Prelude.{◌≡◌, ◌≢◌, ◌<◌, ℕ, [], All, Contains, IfOk, IfSome, OnOk, Some, get_or, length};
 ghost use Rattle.mw_types.specs.declared.delivery.Delivery.{Delivery};
 ghost use Rattle.topology.specs.Shapes.{Shape};
 ghost use Rattle.run_history.specs.Runs.{cached, row_of};
@@ -12,7 +11,8 @@ ghost use Rattle.standing.specs.Works.{HasRestampedAt, HasStampLess, HasStampMor
 use crate::growing::new_pending;
 use crate::kept::{Kept, Rows, Waiting};
 use book::NamedRow;
-use mw_types::{Delivery, END, Entry, NoMemory, RowName, Timer};
+use holdings::oldest_timer;
+use mw_types::{Delivery, END, Entry, NoMemory, RowName};
 use row_parts::Row;
 use run_history::{Case, History};
 use std::alloc::Global;
@@ -92,7 +92,8 @@ fn time_before(rows: &Rows, name: &RowName) -> u64
 fn restamp(works: &mut Vec<Oldest>, part: u32, before: u64, after: u64) -> Result<(), NoMemory>
     requires there { part < length works.old.items }
     requires held { before ≢ END → Contains (get_or works.old.items part []) before }
-    ensures changed { OnOk result (HasRestampedAt part before after works.old.items works.new.items) }
+    ensures changed { OnOk result
+        (HasRestampedAt part before after works.old.items works.new.items) }
     ensures many { length works.new.items ≡ length works.old.items }
 {
     remove_from(works, part, before);
@@ -164,23 +165,4 @@ fn first_time(row: &Row) -> u64
     ensures { result ≡ least (times_set row.now) }
 {
     oldest_timer(row.timers.as_slice())
-}
-
-// The least time of timers that are not late, or the end.
-fn oldest_timer(timers: &[Timer]) -> u64
-    ensures { result ≡ least (map (λ (t : Timer). t.time)
-        (filter (λ (t : Timer). not t.late) timers.now)) }
-{
-    let mut oldest = END;
-    for timer in timers {
-        oldest = lesser(timer.late, timer.time, oldest);
-    }
-    oldest
-}
-
-// The lesser of a mark and a time, unless that is late.
-fn lesser(late: bool, time: u64, mark: u64) -> u64
-    ensures { result ≡ cond late mark (min mark time) }
-{
-    if late { mark } else { mark.min(time) }
 }

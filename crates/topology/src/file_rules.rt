@@ -74,8 +74,8 @@ fn are_name_bytes(bytes: &[u8]) -> bool
     bytes.iter().all(|b| is_name_byte(*b))
 }
 
-// Whether a text is a name.
-fn is_name(text: &[u8]) -> bool
+/// Whether a text is a name, as one of a part or of a stream has to be.
+pub fn is_name(text: &[u8]) -> bool
     ensures { result ≡ is_name text.now }
 {
     match text.split_first() {

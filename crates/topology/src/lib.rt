@@ -21,6 +21,7 @@ mod topology;
 mod wiring;
 
 pub use extraction::extract;
+pub use file_rules::is_name;
 pub use reader::read;
 pub use refusal::TopologyRefusal;
 pub use subscription::{By, Subscription};

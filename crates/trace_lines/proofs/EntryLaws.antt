@@ -1,5 +1,5 @@
 -- Each entry of a lawful history is within the bounds of its types.
-use Rattle.std.proofs.Common.{◌≡◌, ℕ, ◌+◌, ◌<◌, ◌≤◌, ◌^◌, min, Bool, true, cond, List, [], ◌∷◌, ◌++◌, length, length-append, map, fold, refl, sym, ap, ◌∙◌, subst, arith, append_assoc}
+use Rattle.std.proofs.Common.{◌≡◌, ℕ, ◌+◌, ◌<◌, ◌≤◌, ◌^◌, Bool, true, cond, List, [], ◌∷◌, ◌++◌, length, length-append, map, refl, sym, ap, ◌∙◌, subst, arith, append_assoc}
 use Rattle.std.specs.Prelude.{Option, Some, None, IsSome, IfSome, slice_get}
 use Rattle.std.specs.Option.{option_map_or, option_and_then}
 use Rattle.std.specs.List.{AllByRecursion, flat_map}
@@ -55,6 +55,7 @@ use Rattle.history_laws.proofs.PrintLaws.{legal-on_parts}
 use Rattle.history_laws.proofs.RowSteps.{made_row, row_of-here}
 use Rattle.history_laws.proofs.StampLaws.{fire-after, fire-in_time, handle-after, injected-in_time, legal-in_time, source_of-source}
 use Rattle.history_laws.proofs.StateLaws.{legal-bounded}
+use Rattle.history_laws.proofs.FloorLaws.{fold_min-bound}
 use Rattle.trace_lines.specs.Entries.{IsRowName, IsRecord, IsProduction, IsOutcome, IsEntry}
 use Rattle.trace_lines.specs.Choices.{choice_of, choice_at}
 use Rattle.trace_lines.specs.Lines.{text_of_entry}
@@ -242,10 +243,6 @@ inject-line case history seq part line item next =
     )
 
 -- ---- floors
-
-fold_min-bound : (n : ℕ) (ms : List ℕ) → fold min n ms ≤ n
-fold_min-bound n [] = omega arith
-fold_min-bound n (m ∷ ms) = let rest = fold_min-bound (min n m) ms in omega (arith, rest)
 
 -- a floor is at most the next commit number
 floor-small : (run : Run) → floor_of run ≤ run.next

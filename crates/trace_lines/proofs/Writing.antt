@@ -1,5 +1,5 @@
 -- Each entry can be written, and is read as it was.
-use Rattle.std.proofs.Common.{◌≡◌, ℕ, ℤ, pos, negsuc, ◌<◌, ◌≤◌, ◌^◌, List, [], ◌∷◌, map, Bool, cond, None, Some, true, codes, IsUtf8, SFits, w64, inl, refl, ap, ◌∙◌, arith}
+use Rattle.std.proofs.Common.{◌≡◌, ℕ, ◌<◌, ◌≤◌, ◌^◌, List, [], ◌∷◌, map, Bool, cond, None, Some, true, codes, IsUtf8, inl, refl, ap, ◌∙◌, arith}
 use Rattle.std.specs.Int.{to_be_bytes, w128}
 use Rattle.std.specs.List.{AllByRecursion}
 use Rattle.std.proofs.lemmas.List.Elements.{recursion_from_All}
@@ -22,23 +22,19 @@ use Rattle.mw_types.specs.declared.state.State.{State}
 use Rattle.mw_types.specs.declared.entry.Entry.{Entry}
 use Rattle.mw_types.specs.declared.entry.Entry.TheVariants.{Claim, Inject, Handle, Fire, Ack, Purge}
 use Rattle.serde_json.specs.Data.{Data, depth, items_depth}
-use Rattle.serde_json.specs.Find.{of_integer}
 use Rattle.serde_json.specs.Read.{read, max_depth}
 use Rattle.serde_json.specs.View.{items_of}
 use Rattle.json_reading.specs.Texts.{json_of}
-use Rattle.read_back.specs.Writable.{IsWhole, IsWritable, AreWritable}
+use Rattle.read_back.specs.Writable.{IsWritable, AreWritable}
 use Rattle.read_back.proofs.Utf8.{compact_text-utf8}
 use Rattle.read_back.proofs.Reading.{read-compact_text}
 use Rattle.row_parts.specs.Spelling.{state_spelling}
 use Rattle.run_history.specs.HistoryLines.{production_data, timer_data, entry_data}
 use Rattle.trace_lines.specs.Lines.{text_of_entry}
 use Rattle.trace_lines.specs.Entries.{IsProduction, IsOutcome, IsEntry}
+use Rattle.live_outlet.proofs.Reading.{value-whole}
 
 -- ---- the parts of an entry
-
-value-whole : (v : ℤ) → SFits w64 v → IsWhole (of_integer v)
-value-whole (pos n) fits = grind arith
-value-whole (negsuc n) fits = grind arith
 
 id-utf8 : (id : RecordId) → IsUtf8 (printed_id id)
 id-utf8 id = IsUtf8-from_ascii (printed_id id) (hyphenated_ascii lower (to_be_bytes w128 (id_number id)) (inl refl))

@@ -26,5 +26,5 @@ pub use laws::{
     printed_histories_are_parted,
 };
 pub use lines::{begins_entry, next_line};
-pub use reading::choice_at;
+pub use reading::{choice_at, key_of};
 pub use refusal::{AuditRefusal, AuditWhy};

@@ -1,22 +1,15 @@
 //! What a line tells of the choice of its entry.
-ghost use Rattle.std.specs.Prelude.{◌≡◌, IfOk, IfSome, codes};
-ghost use Rattle.std.specs.Option.{option_map};
+ghost use Rattle.std.specs.Prelude.{◌≡◌, IfOk, IfSome};
 ghost use Rattle.serde_json.specs.View.{view};
-ghost use Rattle.live_outlet.specs.Guesses.{id_of, id_in, id_at, text_at, key_of, key_at, stamp_at};
+ghost use Rattle.live_outlet.specs.Guesses.{key_of, key_at};
 ghost use Rattle.trace_lines.specs.Choices.{short_of, short_at, row_in, claim_in, inject_in, handle_in, fire_in, ack_in, purge_in, choice_named, choice_in, choice_at};
 
 use crate::choice::Choice;
 use json_reading::json_of;
-use mw_types::{Key, KeyRefusal, NoMemory, RecordId, RowName};
+use live_outlet::{id_at, stamp_at, text_at};
+use mw_types::{Key, KeyRefusal, NoMemory, RowName};
 use serde_json::Value;
 use std::alloc::Global;
-use uuid::Uuid;
-
-// The version of a UUID whose content is its maker's own, in its upper half.
-const VERSION_8: u64 = 0x8000;
-
-// The variant of the UUIDs of RFC 9562, in the lower half.
-const VARIANT: u64 = 1 << 63;
 
 /// The choice that a line tells, which is that of its entry where it is the line of one. Of other
 /// lines it tells one too, or none; whether the line is that of the entry is not looked at.
@@ -141,8 +134,8 @@ fn key_at(alloc: Global, value: &Value, name: &str) -> Result<Option<Key>, NoMem
     }
 }
 
-// A text as a key, which may be empty.
-fn key_of(alloc: Global, text: &str) -> Result<Option<Key>, NoMemory>
+/// A text as a key, which may be empty; none where it is longer than keys are.
+pub fn key_of(alloc: Global, text: &str) -> Result<Option<Key>, NoMemory>
     ensures { IfOk result (λ key. key ≡ key_of text.now) }
 {
     if text.is_empty() {
@@ -161,49 +154,4 @@ fn short_at(value: &Value, name: &str) -> Option<u32>
 {
     let number = stamp_at(value, name)?;
     u32::try_from(number).ok()
-}
-
-// A member that is an unsigned number.
-fn stamp_at(value: &Value, name: &str) -> Option<u64>
-    ensures { result ≡ stamp_at name.now (view value.now) }
-{
-    value.get(name).and_then(Value::as_u64)
-}
-
-// A member that is a text.
-fn text_at<'v>(value: &'v Value, name: &str) -> Option<&'v str>
-    ensures { option_map (λ text. text.now) result ≡ text_at name.now (view value.now) }
-{
-    value.get(name).and_then(Value::as_str)
-}
-
-// A member that is an id.
-fn id_at(value: &Value, name: &str) -> Option<RecordId>
-    ensures { result ≡ id_at name.now (view value.now) }
-{
-    id_in(text_at(value, name)?)
-}
-
-// The id of which a text may be the print.
-fn id_in(text: &str) -> Option<RecordId>
-    ensures { result ≡ id_in text.now }
-{
-    match Uuid::parse_str(text) {
-        Ok(uuid) => id_of(uuid),
-        Err(_) => None,
-    }
-}
-
-// The id of a UUID.
-fn id_of(uuid: Uuid) -> Option<RecordId>
-    ensures { result ≡ id_of uuid }
-{
-    let (high, low) = uuid.as_u64_pair();
-    if high < VERSION_8 || high >= VERSION_8 + 512 || low < VARIANT || low >= VARIANT + (1 << 32) {
-        return None;
-    }
-    Some(RecordId {
-        commit: low - VARIANT,
-        index: (high - VERSION_8) as u32,
-    })
 }

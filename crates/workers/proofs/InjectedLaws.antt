@@ -12,7 +12,6 @@ use Rattle.mw_types.specs.declared.entry.Entry.TheVariants as entries
 use Rattle.mw_types.specs.declared.identity.RowName.{RowName}
 use Rattle.mw_types.specs.declared.kind.Kind.{Kind}
 use Rattle.mw_types.specs.declared.record.Record.{Record}
-use Rattle.mw_types.specs.declared.state.State.{State}
 use Rattle.mw_types.specs.declared.state.State.TheVariants as states
 use Rattle.injector.specs.Sources.{Source, SourceLine, item_at}
 use Rattle.computations.specs.Handlers.{effects_of_record, effects_of_timer, fresh_state}
@@ -21,13 +20,14 @@ use Rattle.run_history.specs.Cases.{CaseShape, is_injector}
 use Rattle.run_history.specs.Fences.{known}
 use Rattle.run_history.specs.Legal.{IsLegal, MayFollow}
 use Rattle.run_history.specs.Made.{deliveries_of, row_written}
-use Rattle.run_history.specs.Runs.{Run, advanced, changed, empty_run, followed, row_of, run_of}
+use Rattle.run_history.specs.Runs.{Run, changed, empty_run, followed, row_of, run_of}
 use Rattle.run_history.specs.Watermarks.{cursor_of}
 use Rattle.run_history.proofs.Known.{known-begins}
 use Rattle.history_laws.proofs.Along.{AreLegal-apart, along_history}
 use Rattle.history_laws.proofs.FeedLaws.{injector-no_kind}
 use Rattle.history_laws.proofs.PendingLaws.{was_some}
 use Rattle.history_laws.proofs.RowSteps.{row_of-step}
+use Rattle.history_laws.proofs.UnfinishedLaws.{advanced-within}
 use Rattle.topology.specs.Shapes.{kind_of}
 use Rattle.workers.specs.Slices.{injected, is_line}
 
@@ -49,13 +49,6 @@ injected-line part seq line item = ap (λ b. length (cond b (entries.Inject seq 
 
 -- ---- the cursor of an injector
 
--- a state has no cursor beyond the next
-advanced-few : (state : State) → cursor_in (advanced state) ≤ cursor_in state + 1
-advanced-few (states.Injector cursor) = omega arith
-advanced-few (states.Count late windows) = omega arith
-advanced-few (states.Spike late held known) = omega arith
-advanced-few (states.Pass late) = omega arith
-
 -- an entry moves the cursor of an injector's row by no more than the lines that it injects
 changed-few : (case : CaseShape) (run : Run) (entry : Entry) (sent : List Delivery) (part : ℕ) → is_injector case.topology part ≡ true
     → MayFollow case run entry → row_written entry ≡ Some (record { part = part; key = [] })
@@ -64,7 +57,7 @@ changed-few : (case : CaseShape) (run : Run) (entry : Entry) (sent : List Delive
 changed-few case run (entries.Inject seq other line item) sent part is may written =
     let same : other ≡ part = ap (λ (n : RowName). n.part) (some_same _ _ written) in
     let one = subst (λ p. injected part (entries.Inject seq p line item ∷ []) ≡ 1) (sym same) (injected-line part seq line item) in
-    let few = advanced-few (row_of case.topology run (record { part = part; key = [] })).state in
+    let few = advanced-within (row_of case.topology run (record { part = part; key = [] })).state in
     omega (arith, one, few)
 changed-few case run (entries.Handle seq row id effects) sent part is may written =
     let kind = was_some (λ (kind : Kind). effects_of_record kind row.key (row_of case.topology run row).state may.delivery.item)

@@ -3,7 +3,8 @@ use Rattle.node.specs.Messages.{IsAddressed, IsOutgoing, IsVouchedFor}
 use Rattle.node.specs.Received.{note_of, outgoing_of}
 use Rattle.node.specs.declared.message.Message.{Message}
 use Rattle.node.specs.declared.outgoing.Outgoing.TheVariants as outgoing
-use Rattle.node.proofs.ReceiveLaws.{Fits-looked, so_met}
+use Rattle.node.proofs.OutLaws.{Fits-looked}
+use Rattle.node.proofs.ReceiveLaws.{so_met}
 use Rattle.node.proofs.StateLaws.{state-held}
 use Rattle.node.proofs.node.Node.prepare.Goals as goal
 

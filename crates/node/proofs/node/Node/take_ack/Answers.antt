@@ -5,7 +5,8 @@ use Rattle.node.specs.Messages.{IsVouchedFor}
 use Rattle.node.specs.Received.{note_of, outgoing_of}
 use Rattle.node.specs.declared.outgoing.Outgoing.TheVariants as outgoing
 use Rattle.node.proofs.LookLaws.{ack-later, grown-later, looked-later}
-use Rattle.node.proofs.ReceiveLaws.{Fits-looked, so_met}
+use Rattle.node.proofs.OutLaws.{Fits-looked}
+use Rattle.node.proofs.ReceiveLaws.{so_met}
 use Rattle.node.proofs.node.Node.take_ack.Goals as goal
 
 -- the node fits once the note was met
