@@ -1,7 +1,7 @@
 -- The line of an entry gives that entry, but for what is not printed of it.
-use Rattle.std.proofs.Common.{◌≡◌, ℕ, ℤ, pos, negsuc, zero, suc, ◌+◌, ◌<◌, ◌≤◌, ◌^◌, ◌/◌, ◌%◌, List, [], ◌∷◌, ◌++◌, length, map, Option, Some, None, codes, SFits, w64, refl, sym, ap, ap₂, ◌∙◌, arith, lt-ltb, IsTrue, Bool}
+use Rattle.std.proofs.Common.{◌≡◌, ℕ, ℤ, zero, suc, ◌+◌, ◌<◌, ◌≤◌, ◌^◌, ◌/◌, ◌%◌, List, [], ◌∷◌, ◌++◌, length, map, Option, Some, None, codes, w64, refl, sym, ap, ap₂, ◌∙◌, arith, IsTrue, Bool}
 use Rattle.std.specs.Prelude.{◌↔◌, Err, IfOk, Ok, Result}
-use Rattle.std.specs.Int.{byte_at, bytes_high_first, cast_unsigned, to_be_bytes, w32}
+use Rattle.std.specs.Int.{cast_unsigned, to_be_bytes, w32}
 use Rattle.std.specs.List.{AllByRecursion, flat_map}
 use Rattle.std.proofs.lemmas.Bool.{le-leb}
 use Rattle.std.proofs.lemmas.List.{map-id}
@@ -23,7 +23,6 @@ use Rattle.mw_types.specs.declared.entry.Entry.TheVariants.{Claim, Inject, Handl
 use Rattle.mw_types.specs.declared.memory.NoMemory.{NoMemory}
 use Rattle.mw_types.specs.Outcomes.{EffectsView}
 use Rattle.serde_json.specs.Data.{Data, array}
-use Rattle.serde_json.specs.Find.{as_i64, of_integer}
 use Rattle.serde_json.specs.View.{items_of}
 use Rattle.serde_json.specs.Written.{compact_text}
 use Rattle.topology.specs.Grammar.{and_then, each_of}
@@ -31,7 +30,8 @@ use Rattle.row_parts.specs.Reading.{state_at, whole_state}
 use Rattle.row_parts.specs.Spelling.{IsSpelledState, held_spelling, list_spelling, signed_spelling, state_spelling, window_spelling}
 use Rattle.row_parts.proofs.StateLaws.{state_reads, whole_again, whole_takes}
 use Rattle.run_history.specs.HistoryLines.{array_data, entry_data, handled_data, id_data, production_data, state_data, timer_data}
-use Rattle.live_outlet.proofs.IdLaws.{print-own}
+use Rattle.live_outlet.proofs.IdLaws.{print-own, bytes-small}
+use Rattle.live_outlet.proofs.Reading.{value-own}
 use Rattle.trace_lines.specs.Entries.{IsEntry, IsEntryLine, IsOutcome, IsProduction, IsRecord}
 use Rattle.trace_lines.specs.Lines.{text_of_entry}
 use Rattle.trace_lines.proofs.Choosing.{key-own, row-own, short-own}
@@ -44,14 +44,6 @@ use Rattle.audit.specs.Guesses.{as_printed, entry_guessed, entry_in, found_in, i
 abbrev AreBytes : List ℕ → Type 0
 AreBytes = AllByRecursion (λ b. b < 256)
 
-byte-small : (i n : ℕ) → byte_at i n < 256
-byte-small zero n = omega arith
-byte-small (suc i) n = omega arith
-
-word-bytes : (k n : ℕ) → AreBytes (bytes_high_first k n)
-word-bytes zero n = tt
-word-bytes (suc k) n = (byte-small k n, word-bytes k n)
-
 -- one list of bytes behind another
 then-bytes : (xs ys : List ℕ) → AreBytes xs → AreBytes ys → AreBytes (xs ++ ys)
 then-bytes = each-append (λ b. b < 256)
@@ -62,11 +54,11 @@ each-bytes spelling are (x ∷ xs) = then-bytes (spelling x) (flat_map spelling 
 
 list-bytes : {X : Type 0} (spelling : X → List ℕ) → ((x : X) → AreBytes (spelling x)) → (xs : List X) → AreBytes (list_spelling spelling xs)
 list-bytes spelling are xs =
-    then-bytes (to_be_bytes w32 (length xs)) (flat_map spelling xs ++ []) (word-bytes 4 (length xs))
+    then-bytes (to_be_bytes w32 (length xs)) (flat_map spelling xs ++ []) (bytes-small 4 (length xs))
     (then-bytes (flat_map spelling xs) [] (each-bytes spelling are xs) tt)
 
 long-bytes : (n : ℕ) (rest : List ℕ) → AreBytes rest → AreBytes (to_be_bytes w64 n ++ rest)
-long-bytes n rest are = then-bytes (to_be_bytes w64 n) rest (word-bytes 8 n) are
+long-bytes n rest are = then-bytes (to_be_bytes w64 n) rest (bytes-small 8 n) are
 
 window-bytes : (w : Window) → AreBytes (window_spelling w)
 window-bytes w = long-bytes w.end (to_be_bytes w64 w.count ++ []) (long-bytes w.count [] tt)
@@ -75,11 +67,11 @@ held-bytes : (h : HeldTotal) → AreBytes (held_spelling h)
 held-bytes h = long-bytes h.stamp (signed_spelling h.value ++ []) (long-bytes (cast_unsigned w64 h.value) [] tt)
 
 signed-bytes : (v : ℤ) → AreBytes (signed_spelling v)
-signed-bytes v = word-bytes 8 (cast_unsigned w64 v)
+signed-bytes v = bytes-small 8 (cast_unsigned w64 v)
 
 state-bytes : (s : State) → AreBytes (state_spelling s)
 state-bytes (states.Injector cursor) =
-    (omega arith, then-bytes (to_be_bytes w32 cursor) [] (word-bytes 4 cursor) tt)
+    (omega arith, then-bytes (to_be_bytes w32 cursor) [] (bytes-small 4 cursor) tt)
 state-bytes (states.Count late windows) = (
   omega arith,
   long-bytes late (list_spelling window_spelling windows ++ [])
@@ -123,10 +115,6 @@ unfolding whole_state
 state-own s is =
     ap (λ r. and_then (found_in r) whole_state) (decode_of-encode_lower (state_spelling s) (bytes-at (state_spelling s) (state-bytes s)))
     ∙ whole_again state_at state_reads s is
-
-value-own : (v : ℤ) → SFits w64 v → as_i64 (of_integer v) ≡ Some v
-value-own (pos n) fits = rw (lt-ltb n (2 ^ 63) (grind arith)) refl
-value-own (negsuc n) fits = refl
 
 time-own : (n : ℕ) → n ≤ MAX_STAMP → in_time n ≡ Some n
 time-own n at_most = rw (le-leb n MAX_STAMP at_most) refl

@@ -6,10 +6,8 @@ use Rattle.mw_types.specs.declared.entry.Entry.{Entry}
 use Rattle.run_history.specs.Cases.{CaseShape}
 use Rattle.run_history.specs.Fences.{IsFenced}
 use Rattle.run_history.specs.HistoryLines.{lines_of_history}
-use Rattle.run_history.specs.Runs.{empty_run}
-use Rattle.run_history.proofs.Fenced.{IsFenced-begins}
 use Rattle.history_laws.specs.Writes.{IsLegalAndFenced}
-use Rattle.history_laws.proofs.Along.{AreLegal-apart}
+use Rattle.history_laws.proofs.SeenLaws.{IsLegalAndFenced-front}
 use Rattle.trace_lines.specs.Lines.{IsCut, begins_entry, entry_lines_in, lines_in, text_of_entry}
 use Rattle.trace_lines.specs.Readings.{texts_from, IsReading, IsFirstUnread}
 use Rattle.trace_lines.proofs.OneReading.{comes-next, reading-long, reading-one}
@@ -73,13 +71,6 @@ read-more bytes rest line after history longer is head one =
 
 -- ---- the first line of which no entry is read
 
--- a beginning of a lawful history is lawful
-pub lawful-front : (case : CaseShape) (front rest : List Entry) → IsLegalAndFenced case (front ++ rest) → IsLegalAndFenced case front
-lawful-front case front rest lawful = record {
-  legal = (AreLegal-apart case front rest empty_run lawful.legal).0;
-  fenced = IsFenced-begins case.topology front (front ++ rest) (rest, refl) lawful.fenced;
-}
-
 -- the last entry of some
 record HasLast (xs : List Entry) : Type 0 where
   front : List Entry
@@ -120,7 +111,7 @@ never-read case history line real lawful few none other is =
     let lines = ended-same (texts_from 0 last.front) (texts_from 0 history) (text_of_entry (length last.front) last.last) line
     (sym (ap (texts_from 0) last.is ∙ texts_from-append last.front (last.last ∷ [])) ∙ is.printed) in
     let same : last.front ≡ history = reading-one case (texts_from 0 history) last.front history real.runnable real.keyed real.valued
-    (omega (arith, many, few)) (record { lawful = lawful-front case last.front (last.last ∷ []) whole; printed = lines.0 })
+    (omega (arith, many, few)) (record { lawful = IsLegalAndFenced-front case last.front (last.last ∷ []) whole; printed = lines.0 })
     (record { lawful = lawful; printed = refl }) in
     let next = comes-next case last.front last.last [] real.runnable real.keyed real.valued whole
     (omega (arith, ap length last.is, long, few)) in

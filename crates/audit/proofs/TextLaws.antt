@@ -9,6 +9,7 @@ use Rattle.run_history.specs.Inputs.{IsRunnable}
 use Rattle.run_history.specs.Runs.{run_of}
 use Rattle.history_laws.specs.Keys.{AreKeyed}
 use Rattle.history_laws.specs.Writes.{IsLegalAndFenced}
+use Rattle.history_laws.proofs.SeenLaws.{IsLegalAndFenced-front}
 use Rattle.trace_lines.specs.declared.refusal.AuditWhy.{AuditWhy}
 use Rattle.trace_lines.specs.declared.refusal.AuditWhy.TheVariants.{NotALine, Unlawful, NotFinished, BadText}
 use Rattle.trace_lines.specs.Lines.{entry_lines_in}
@@ -17,7 +18,6 @@ use Rattle.trace_lines.specs.Refusals.{IsFirstWrong}
 use Rattle.trace_lines.specs.Values.{AreValued}
 use Rattle.trace_lines.proofs.OneReading.{reading-long, reading-one, run_text-read}
 use Rattle.audit.proofs.Printing.{texts_from-append, texts-many, lines-long}
-use Rattle.audit.proofs.Reading.{lawful-front}
 
 -- a history is not longer than its text
 run-short : (case : CaseShape) (history : List Entry) (bytes : List ℕ) → length bytes < 2 ^ 32 → IsRunText case history bytes
@@ -61,7 +61,7 @@ read-front case front rest history is =
     let texts : length (texts_from 0 mine) ≡ k = texts-many mine ∙ many in (
       mine,
       record {
-        lawful = lawful-front case mine (drop k history) (subst (IsLegalAndFenced case) (sym parts) is.lawful);
+        lawful = IsLegalAndFenced-front case mine (drop k history) (subst (IsLegalAndFenced case) (sym parts) is.lawful);
         printed = sym (take_all k (texts_from 0 mine) (omega (arith, texts)))
             ∙ sym (take-append-le k (texts_from 0 mine) (texts_from (length mine) (drop k history)) (omega (arith, texts)))
             ∙ ap (take k) lines ∙ take-append-le k front rest (omega arith) ∙ take_all k front (omega arith);

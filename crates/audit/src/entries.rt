@@ -4,9 +4,10 @@ ghost use Rattle.serde_json.specs.View.{view};
 ghost use Rattle.trace_lines.specs.Entries.{IsEntry};
 ghost use Rattle.audit.specs.Guesses.{Gives, entry_in, entry_named, claim_in, inject_in, handle_in, fire_in, ack_in, purge_in};
 
-use crate::members::{id_at, number_at, row_in, short_at, text_in};
+use crate::members::{id_at, number_at, row_in, short_at};
 use crate::parts::{effects_in, fired_in, item_in, outcome_in};
 use crate::unlike::Unlike;
+use live_outlet::text_at;
 use mw_types::{Entry, Seq};
 use serde_json::Value;
 use std::alloc::Global;
@@ -16,7 +17,7 @@ pub(crate) fn entry_in(alloc: Global, value: &Value) -> Result<Entry, Unlike>
     ensures told { Gives result (entry_in (view value.now)) }
     ensures is { IfOk result IsEntry }
 {
-    match text_in(value, "do") {
+    match text_at(value, "do") {
         Some(kind) => entry_named(alloc, kind, value),
         None => Err(Unlike::NoEntry),
     }

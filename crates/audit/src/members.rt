@@ -6,29 +6,16 @@ ghost use Rattle.serde_json.specs.View.{items_view, view};
 ghost use Rattle.mw_types.specs.declared.TheConstants.{MAX_STAMP};
 ghost use Rattle.topology.specs.Grammar.{array_in};
 ghost use Rattle.row_parts.specs.Contents.{IsId, IsKey};
-ghost use Rattle.live_outlet.specs.Guesses.{id_at, id_in, id_of, key_at, key_of, stamp_at, text_at, value_at};
+ghost use Rattle.live_outlet.specs.Guesses.{id_at, key_at, key_of, stamp_at, value_at};
 ghost use Rattle.trace_lines.specs.Choices.{row_in, short_at};
 ghost use Rattle.trace_lines.specs.Entries.{IsRowName};
 ghost use Rattle.audit.specs.Guesses.{Gives, flag_at, time_at};
 
 use crate::unlike::Unlike;
+use live_outlet::{stamp_at, text_at};
 use mw_types::{Key, KeyRefusal, MAX_STAMP, RecordId, RowName};
 use serde_json::Value;
 use std::alloc::Global;
-use uuid::Uuid;
-
-// The version of a UUID whose content is its maker's own, in its upper half.
-const VERSION_8: u64 = 0x8000;
-
-// The variant of the UUIDs of RFC 9562, in the lower half.
-const VARIANT: u64 = 1 << 63;
-
-// A member that is a text.
-pub(crate) fn text_in<'v>(value: &'v Value, name: &str) -> Option<&'v str>
-    ensures { option_map (λ text. text.now) result ≡ text_at name.now (view value.now) }
-{
-    value.get(name).and_then(Value::as_str)
-}
 
 // The items of the array that a member is.
 pub(crate) fn array_in<'v>(value: &'v Value, name: &str) -> Option<&'v [Value]>
@@ -44,7 +31,7 @@ pub(crate) fn array_in<'v>(value: &'v Value, name: &str) -> Option<&'v [Value]>
 pub(crate) fn number_at(value: &Value, name: &str) -> Result<u64, Unlike>
     ensures { Gives result (stamp_at name.now (view value.now)) }
 {
-    match value.get(name).and_then(Value::as_u64) {
+    match stamp_at(value, name) {
         Some(number) => Ok(number),
         None => Err(Unlike::NoEntry),
     }
@@ -79,7 +66,7 @@ pub(crate) fn time_at(value: &Value, name: &str) -> Result<u64, Unlike>
 pub(crate) fn value_at(value: &Value, name: &str) -> Result<i64, Unlike>
     ensures { Gives result (value_at name.now (view value.now)) }
 {
-    match value.get(name).and_then(Value::as_i64) {
+    match live_outlet::value_at(value, name) {
         Some(number) => Ok(number),
         None => Err(Unlike::NoEntry),
     }
@@ -110,7 +97,7 @@ pub(crate) fn key_at(alloc: Global, value: &Value, name: &str) -> Result<Key, Un
     ensures told { Gives result (key_at name.now (view value.now)) }
     ensures is { IfOk result IsKey }
 {
-    match text_in(value, name) {
+    match text_at(value, name) {
         Some(text) => key_of(alloc, text),
         None => Err(Unlike::NoEntry),
     }
@@ -136,34 +123,8 @@ pub(crate) fn id_at(value: &Value, name: &str) -> Result<RecordId, Unlike>
     ensures told { Gives result (id_at name.now (view value.now)) }
     ensures is { IfOk result IsId }
 {
-    match text_in(value, name) {
-        Some(text) => id_in(text),
+    match live_outlet::id_at(value, name) {
+        Some(id) => Ok(id),
         None => Err(Unlike::NoEntry),
     }
-}
-
-// The id of which a text may be the print.
-fn id_in(text: &str) -> Result<RecordId, Unlike>
-    ensures told { Gives result (id_in text.now) }
-    ensures is { IfOk result IsId }
-{
-    match Uuid::parse_str(text) {
-        Ok(uuid) => id_of(uuid),
-        Err(_) => Err(Unlike::NoEntry),
-    }
-}
-
-// The id of a UUID.
-fn id_of(uuid: Uuid) -> Result<RecordId, Unlike>
-    ensures told { Gives result (id_of uuid) }
-    ensures is { IfOk result IsId }
-{
-    let (high, low) = uuid.as_u64_pair();
-    if high < VERSION_8 || high >= VERSION_8 + 512 || low < VARIANT || low >= VARIANT + (1 << 32) {
-        return Err(Unlike::NoEntry);
-    }
-    Ok(RecordId {
-        commit: low - VARIANT,
-        index: (high - VERSION_8) as u32,
-    })
 }

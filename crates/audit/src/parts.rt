@@ -11,9 +11,10 @@ ghost use Rattle.hex.specs.Hex.{decode_of};
 ghost use Rattle.trace_lines.specs.Entries.{IsOutcome, IsProduction, IsRecord};
 ghost use Rattle.audit.specs.Guesses.{Gives, effects_in, fired_in, found_in, item_in, outcome_in, production_in, state_in, timer_in};
 
-use crate::members::{array_in, flag_at, key_at, number_at, text_in, time_at, value_at};
+use crate::members::{array_in, flag_at, key_at, number_at, time_at, value_at};
 use crate::unlike::Unlike;
 use hex::FromHexError;
+use live_outlet::text_at;
 use mw_types::{Bytes, Effects, Production, ProductionList, Record, Seq, State, Timer, TimerList};
 use row_parts::{StateRefusal, read_state};
 use serde_json::Value;
@@ -156,7 +157,7 @@ fn state_in(alloc: Global, value: &Value) -> Result<State, Unlike>
     ensures told { Gives result (state_in (view value.now)) }
     ensures is { IfOk result IsSpelledState }
 {
-    match text_in(value, "state") {
+    match text_at(value, "state") {
         Some(text) => state_of(alloc, bytes_of(alloc, text)?.as_slice()),
         None => Err(Unlike::NoEntry),
     }

@@ -1,7 +1,7 @@
 use Rattle.std.proofs.Common.{◌≡◌, None, rules}
 use Rattle.trace_lines.specs.Choices.{choice_at}
 use Rattle.audit.proofs.Choosing.{none-told}
-use Rattle.audit.proofs.chosen.entry_read.Goals as goal
+use Rattle.audit.proofs.chosen.entry_told.Goals as goal
 
 pub returns-in-None : goal.returns-in-None
 returns-in-None c =
