@@ -12,7 +12,7 @@ use Rattle.text_lines.specs.Words.{is_word}
 use Rattle.command_line.specs.Words.{after_word, assigned, first_value, is_dashed, is_end, line_after, with_option, with_positionals}
 use Rattle.command_line.specs.Clap.{is_short}
 use Rattle.command_line.specs.declared.line.Line.{Line}
-use Rattle.command_line.proofs.Rules.{Asked, plan, workers, rounds, keep, plan_id, workers_id, rounds_id, keep_id, history, name_of, rule_of, rules}
+use Rattle.command_line.proofs.Rules.{Asked, plan, workers, rounds, keep, trace, plan_id, workers_id, rounds_id, keep_id, trace_id, history, name_of, rule_of, rules}
 use Rattle.command_line.proofs.Lines.{value_of, with_value}
 use Rattle.command_line.proofs.Steps.{IsPlain, end_word}
 
@@ -143,25 +143,27 @@ pub data Named (name : Text) : Type 0 where
 abbrev Apart : Text → Text → Type 0
 Apart xs ys = (bytes_eq xs ys ≡ false) × (bytes_eq ys xs ≡ false)
 
-abbrev found_by : Bool → Bool → Bool → Bool → Bool → Option Rule
-found_by a b c d e = cond (a || false) (Some (rule_of plan_id)) (cond (b || false) (Some (rule_of workers_id))
+abbrev found_by : Bool → Bool → Bool → Bool → Bool → Bool → Option Rule
+found_by a b c d e f = cond (a || false) (Some (rule_of plan_id)) (cond (b || false) (Some (rule_of workers_id))
     (cond (c || false) (Some (rule_of rounds_id))
-    (cond (d || false) (Some (rule_of keep_id)) (cond (e || false) (Some (rule_of history)) None))))
+    (cond (d || false) (Some (rule_of keep_id))
+    (cond (e || false) (Some (rule_of trace_id)) (cond (f || false) (Some (rule_of history)) None)))))
 
-abbrev pub set_by : Bool → Bool → Bool → Bool → Text → Line → Option Line
-set_by a b c d v line = cond a (option_map (λ u. record line { plan = u }) (first_value v line.plan))
+abbrev pub set_by : Bool → Bool → Bool → Bool → Bool → Text → Line → Option Line
+set_by a b c d e v line = cond a (option_map (λ u. record line { plan = u }) (first_value v line.plan))
     (cond b (option_map (λ u. record line { workers = u }) (first_value v line.workers))
     (cond c (option_map (λ u. record line { rounds = u }) (first_value v line.rounds))
-    (cond d (option_map (λ u. record line { keep = u }) (first_value v line.keep)) None)))
+    (cond d (option_map (λ u. record line { keep = u }) (first_value v line.keep))
+    (cond e (option_map (λ u. record line { trace = u }) (first_value v line.trace)) None))))
 
 unknown_is : (name : Text) → Apart name (codes "plan") → Apart name (codes "workers") → Apart name (codes "rounds")
-    → Apart name (codes "keep") → Apart name (codes "history")
+    → Apart name (codes "keep") → Apart name (codes "trace") → Apart name (codes "history")
     → IsUnknown name
 unfolding rules
-unknown_is name a b c d e = record {
-  not_found = λ i. found_by (a.1 i) (b.1 i) (c.1 i) (d.1 i) (e.1 i);
-  no_option = λ v line i. set_by (a.0 i) (b.0 i) (c.0 i) (d.0 i) v line;
-  no_flag = e.0;
+unknown_is name a b c d e f = record {
+  not_found = λ i. found_by (a.1 i) (b.1 i) (c.1 i) (d.1 i) (e.1 i) (f.1 i);
+  no_option = λ v line i. set_by (a.0 i) (b.0 i) (c.0 i) (d.0 i) (e.0 i) v line;
+  no_flag = f.0;
 }
 
 pub named : (name : Text) → Named name
@@ -173,9 +175,12 @@ named name = elim (text_tells name (codes "plan")) [
       | inl e ↦ asks rounds e
       | inr c ↦ elim (text_tells name (codes "keep")) [
         | inl e ↦ asks keep e
-        | inr d ↦ elim (text_tells name (codes "history")) [
-          | inl e ↦ a_flag e
-          | inr e ↦ unknown (unknown_is name a b c d e)
+        | inr d ↦ elim (text_tells name (codes "trace")) [
+          | inl e ↦ asks trace e
+          | inr e ↦ elim (text_tells name (codes "history")) [
+            | inl f ↦ a_flag f
+            | inr f ↦ unknown (unknown_is name a b c d e f)
+          ]
         ]
       ]
     ]
@@ -190,12 +195,14 @@ option_first plan v line absent = ap (λ o. option_map (λ u. record line { plan
 option_first workers v line absent = ap (λ o. option_map (λ u. record line { workers = u }) (first_value v o)) absent
 option_first rounds v line absent = ap (λ o. option_map (λ u. record line { rounds = u }) (first_value v o)) absent
 option_first keep v line absent = ap (λ o. option_map (λ u. record line { keep = u }) (first_value v o)) absent
+option_first trace v line absent = ap (λ o. option_map (λ u. record line { trace = u }) (first_value v o)) absent
 
 pub option_again : (x : Asked) (v had : Text) (line : Line) → value_of x line ≡ Some had → with_option (dashed (name_of x)) v line ≡ None
 option_again plan v had line given = ap (λ o. option_map (λ u. record line { plan = u }) (first_value v o)) given
 option_again workers v had line given = ap (λ o. option_map (λ u. record line { workers = u }) (first_value v o)) given
 option_again rounds v had line given = ap (λ o. option_map (λ u. record line { rounds = u }) (first_value v o)) given
 option_again keep v had line given = ap (λ o. option_map (λ u. record line { keep = u }) (first_value v o)) given
+option_again trace v had line given = ap (λ o. option_map (λ u. record line { trace = u }) (first_value v o)) given
 
 pub next_word : (word : Text) (words : List Text) (waiting : Option Text) (line : Line) (next : Line × Option Text)
     → is_end word waiting ≡ false

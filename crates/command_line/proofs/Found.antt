@@ -40,8 +40,9 @@ lines_are_one rows a b p q =
     ap (λ (names : List Text). record a { positionals = names }) (sym p.positionals ∙ q.positionals)
     ∙ ap (λ (o : Option Text). record a { positionals = b.positionals; plan = o }) (sym p.plan ∙ q.plan)
     ∙ ap (λ (o : Option Text). record a { positionals = b.positionals; plan = b.plan; workers = o }) (sym p.workers ∙ q.workers)
-    ∙ ap (λ (o : Option Text). record b { rounds = o; keep = a.keep; history = a.history }) (sym p.rounds ∙ q.rounds)
-    ∙ ap (λ (o : Option Text). record b { keep = o; history = a.history }) (sym p.keep ∙ q.keep)
+    ∙ ap (λ (o : Option Text). record b { rounds = o; keep = a.keep; trace = a.trace; history = a.history }) (sym p.rounds ∙ q.rounds)
+    ∙ ap (λ (o : Option Text). record b { keep = o; trace = a.trace; history = a.history }) (sym p.keep ∙ q.keep)
+    ∙ ap (λ (o : Option Text). record b { trace = o; history = a.history }) (sym p.trace ∙ q.trace)
     ∙ ap (λ (flag : Bool). record b { history = flag })
     (flags_are_one (one_of (codes "history") rows) a.history b.history p.history q.history)
 

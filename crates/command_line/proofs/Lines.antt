@@ -9,7 +9,7 @@ use Rattle.clap.specs.declared.builder.value_parser.Reading.TheVariants as readi
 use Rattle.clap.specs.declared.parser.matches.ValueSource.{ValueSource}
 use Rattle.command_line.specs.Clap.{IsLineIn, values_in}
 use Rattle.command_line.specs.declared.line.Line.{Line}
-use Rattle.command_line.proofs.Rules.{Asked, plan, workers, rounds, keep, Id, mode, args, plan_id, workers_id, rounds_id, keep_id, history, name_of, option, text_of, same_or_other}
+use Rattle.command_line.proofs.Rules.{Asked, plan, workers, rounds, keep, trace, Id, mode, args, plan_id, workers_id, rounds_id, keep_id, trace_id, history, name_of, option, text_of, same_or_other}
 use Rattle.command_line.proofs.Rows.{Values, all_of-seen, first_of-seen, more, one_of-seen, seen, seen-more, seen-other, without-absent}
 
 -- ---- what the rows have, by the line
@@ -38,6 +38,7 @@ wanted line plan_id = single line.plan
 wanted line workers_id = single line.workers
 wanted line rounds_id = single line.rounds
 wanted line keep_id = single line.keep
+wanted line trace_id = single line.trace
 wanted line history = flag_values line.history
 
 abbrev as_written : List Text → Values
@@ -99,24 +100,28 @@ value_of plan line = line.plan
 value_of workers line = line.workers
 value_of rounds line = line.rounds
 value_of keep line = line.keep
+value_of trace line = line.trace
 
 abbrev pub with_value : Asked → Text → Line → Line
 with_value plan v line = record line { plan = Some v }
 with_value workers v line = record line { workers = Some v }
 with_value rounds v line = record line { rounds = Some v }
 with_value keep v line = record line { keep = Some v }
+with_value trace v line = record line { trace = Some v }
 
 pub wanted_option : (x : Asked) (line : Line) → wanted line (option x) ≡ single (value_of x line)
 wanted_option plan line = refl
 wanted_option workers line = refl
 wanted_option rounds line = refl
 wanted_option keep line = refl
+wanted_option trace line = refl
 
 wanted_with : (x : Asked) (v : Text) (line : Line) → Some (v ∷ []) ≡ wanted (with_value x v line) (option x)
 wanted_with plan v line = refl
 wanted_with workers v line = refl
 wanted_with rounds v line = refl
 wanted_with keep v line = refl
+wanted_with trace v line = refl
 
 others_with : (x : Asked) (v : Text) (line : Line) (j : Id) → bytes_eq (name_of x) (text_of j) ≡ false
     → wanted line j ≡ wanted (with_value x v line) j
@@ -128,6 +133,8 @@ others_with rounds v line rounds_id apart = absurd (true≢false apart)
 others_with rounds v line _ apart = refl
 others_with keep v line keep_id apart = absurd (true≢false apart)
 others_with keep v line _ apart = refl
+others_with trace v line trace_id apart = absurd (true≢false apart)
+others_with trace v line _ apart = refl
 
 -- an option that had no value gets one
 pub option_held : (rows : List Row) (line : Line) (x : Asked) (v : Text) (source : ValueSource) → Holds rows line → value_of x line ≡ None
@@ -222,6 +229,7 @@ line_found rows line finds = record {
   workers = value_found rows line finds workers_id line.workers refl refl;
   rounds = value_found rows line finds rounds_id line.rounds refl refl;
   keep = value_found rows line finds keep_id line.keep refl refl;
+  trace = value_found rows line finds trace_id line.trace refl refl;
   history = one_of-seen (codes "history") rows
       ∙ ap (option_and_then (λ (p : Values). option_map (read_as p.1) (slice_get p.0 0))) finds.1;
 }

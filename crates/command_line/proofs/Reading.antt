@@ -12,7 +12,7 @@ use Rattle.text_lines.specs.Words.{is_word}
 use Rattle.command_line.specs.Words.{after_word, assigned, is_dashed, line_after, line_of, no_words, with_dashed, with_flag, with_option, with_positionals}
 use Rattle.command_line.specs.Clap.{has_short, is_short, mill_app}
 use Rattle.command_line.specs.declared.line.Line.{Line}
-use Rattle.command_line.proofs.Rules.{Asked, Id, mode, args, plan, workers, rounds, keep, plan_id, workers_id, rounds_id, keep_id, history, built_is, by_long, by_long-history, name_of, rule_of, rules, shape, text_of}
+use Rattle.command_line.proofs.Rules.{Asked, Id, mode, args, plan, workers, rounds, keep, trace, plan_id, workers_id, rounds_id, keep_id, trace_id, history, built_is, by_long, by_long-history, name_of, rule_of, rules, shape, text_of}
 use Rattle.command_line.proofs.Rules as ours
 use Rattle.command_line.proofs.Lines.{Holds, flagged, value_of, with_ps, with_value}
 use Rattle.command_line.proofs.Steps.{Fails, IsPlain, Pending, Reads, ReadsAt, at, at_end, at_word, begun_turn, begun_walked, end_turn, end_walked, end_word, fails_first, fails_then, fault_from, flag_turn, flag_walked, given_turn, given_walked, held, id_next, is_free, long_fails, long_settles, past_word, place, plain_turn, plain_walked, trailing_turn, trailing_walked, value_fault, value_taken, value_turn, value_walked, wait_is_free, wait_next}
@@ -140,12 +140,14 @@ same_place plan v line = refl
 same_place workers v line = refl
 same_place rounds v line = refl
 same_place keep v line = refl
+same_place trace v line = refl
 
 no_flag_name : (x : Asked) → is_word (dashed (name_of x)) (codes "--history") ≡ false
 no_flag_name plan = refl
 no_flag_name workers = refl
 no_flag_name rounds = refl
 no_flag_name keep = refl
+no_flag_name trace = refl
 
 no_flag_parts : (text : Text) → has_byte 61 text ≡ true → is_word (dashed text) (codes "--history") ≡ false
 no_flag_parts text has = elim (text_tells text (codes "history")) [
@@ -475,6 +477,7 @@ no_rows plan_id = refl
 no_rows workers_id = refl
 no_rows rounds_id = refl
 no_rows keep_id = refl
+no_rows trace_id = refl
 no_rows history = refl
 
 -- where no short word stands before the first `--`, `clap` takes the words that are a line, and finds that line

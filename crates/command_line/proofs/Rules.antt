@@ -15,6 +15,7 @@ pub data Asked : Type 0 where
   workers : Asked
   rounds : Asked
   keep : Asked
+  trace : Asked
 
 -- one of the arguments
 pub data Id : Type 0 where
@@ -24,6 +25,7 @@ pub data Id : Type 0 where
   workers_id : Id
   rounds_id : Id
   keep_id : Id
+  trace_id : Id
   history : Id
 
 abbrev pub option : Asked → Id
@@ -31,6 +33,7 @@ option plan = plan_id
 option workers = workers_id
 option rounds = rounds_id
 option keep = keep_id
+option trace = trace_id
 
 abbrev pub text_of : Id → Text
 text_of mode = codes "mode"
@@ -39,6 +42,7 @@ text_of plan_id = codes "plan"
 text_of workers_id = codes "workers"
 text_of rounds_id = codes "rounds"
 text_of keep_id = codes "keep"
+text_of trace_id = codes "trace"
 text_of history = codes "history"
 
 abbrev pub name_of : Asked → Text
@@ -60,6 +64,7 @@ rule_of plan_id = option_with (codes "plan")
 rule_of workers_id = option_with (codes "workers")
 rule_of rounds_id = option_with (codes "rounds")
 rule_of keep_id = option_with (codes "keep")
+rule_of trace_id = option_with (codes "trace")
 rule_of history = record (new_rule (codes "history")) {
   long = Some (codes "history");
   action = Some SetTrue;
@@ -70,7 +75,9 @@ rule_of history = record (new_rule (codes "history")) {
 }
 
 unfoldable pub rules : List Rule
-rules = rule_of mode ∷ rule_of args ∷ rule_of plan_id ∷ rule_of workers_id ∷ rule_of rounds_id ∷ rule_of keep_id ∷ rule_of history ∷ []
+rules =
+    rule_of mode ∷ rule_of args ∷ rule_of plan_id ∷ rule_of workers_id ∷ rule_of rounds_id ∷ rule_of keep_id
+    ∷ rule_of trace_id ∷ rule_of history ∷ []
 
 abbrev pub shape : Shape
 shape = record (new_shape (codes "millwheel")) {
@@ -96,6 +103,7 @@ by_id plan_id = refl
 by_id workers_id = refl
 by_id rounds_id = refl
 by_id keep_id = refl
+by_id trace_id = refl
 by_id history = refl
 
 pub by_long : (x : Asked) → arg_by_long rules (name_of x) ≡ Some (rule_of (option x))
@@ -104,6 +112,7 @@ by_long plan = refl
 by_long workers = refl
 by_long rounds = refl
 by_long keep = refl
+by_long trace = refl
 
 pub by_long-history : arg_by_long rules (codes "history") ≡ Some (rule_of history)
 unfolding rules
@@ -125,5 +134,6 @@ same_or_other plan_id plan_id = inl refl
 same_or_other workers_id workers_id = inl refl
 same_or_other rounds_id rounds_id = inl refl
 same_or_other keep_id keep_id = inl refl
+same_or_other trace_id trace_id = inl refl
 same_or_other history history = inl refl
 same_or_other _ _ = inr refl

@@ -17,7 +17,7 @@ no_option [] no_dash v line = refl
 no_option (c ∷ cs) no_dash v line =
     λ i. set_by (no_dash i && bytes_eq cs (codes "plan")) (no_dash i && bytes_eq cs (codes "workers"))
     (no_dash i && bytes_eq cs (codes "rounds"))
-    (no_dash i && bytes_eq cs (codes "keep")) v line
+    (no_dash i && bytes_eq cs (codes "keep")) (no_dash i && bytes_eq cs (codes "trace")) v line
 
 no_flag : (name : Text) → is_dashed name ≡ false → is_word (45 ∷ name) (codes "--history") ≡ false
 no_flag [] no_dash = refl

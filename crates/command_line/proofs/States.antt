@@ -9,7 +9,7 @@ use Rattle.clap.specs.declared.builder.value_parser.Reading.TheVariants as readi
 use Rattle.clap.specs.declared.parser.matches.ValueSource.TheVariants as source
 use Rattle.clap.specs.declared.error.kind.ErrorKind.TheVariants as kind
 use Rattle.command_line.specs.declared.line.Line.{Line}
-use Rattle.command_line.proofs.Rules.{Asked, plan, workers, rounds, keep, Id, mode, args, plan_id, workers_id, rounds_id, keep_id, history, by_id, name_of, option, rule_of, rules, shape, text_of}
+use Rattle.command_line.proofs.Rules.{Asked, plan, workers, rounds, keep, trace, Id, mode, args, plan_id, workers_id, rounds_id, keep_id, trace_id, history, by_id, name_of, option, rule_of, rules, shape, text_of}
 use Rattle.command_line.proofs.Rows.{Values, has_row-seen, more, seen-other, seen-more}
 use Rattle.command_line.proofs.Lines.{Finds, Holds, args_held, flag_held, flag_text, flag_values, flagged, line_found, mode_held, option_held, shown, single, some_shown, value_of, wanted, wanted_option, with_ps, with_value}
 use Rattle.command_line.proofs.Steps.{Fails, Pending, Reads, at, fault_from, held, id_next, rows_from}
@@ -49,6 +49,7 @@ option_used plan v rows = refl
 option_used workers v rows = refl
 option_used rounds v rows = refl
 option_used keep v rows = refl
+option_used trace v rows = refl
 
 option_repeats : (x : Asked) (v : Text) (rows : List Row)
     → use_fault false (rule_of (option x)) (v ∷ []) rows ≡ or_else (repeat_fault false (name_of x) rows) []
@@ -56,6 +57,7 @@ option_repeats plan v rows = refl
 option_repeats workers v rows = refl
 option_repeats rounds v rows = refl
 option_repeats keep v rows = refl
+option_repeats trace v rows = refl
 
 module _ (rows : List Row) (line : Line) (x : Asked) (v : Text) (holds : Holds rows line) where
   pub option_says : value_of x line ≡ None → Holds (used (rule_of (option x)) (v ∷ []) rows) (with_value x v line)
@@ -91,6 +93,7 @@ waiting_fails rows x = subst Fails (sym (ap (λ o. option_map_or (λ a. use_faul
     empty workers = λ e. cc
     empty rounds = λ e. cc
     empty keep = λ e. cc
+    empty trace = λ e. cc
 
 -- ---- the flag
 
@@ -148,8 +151,11 @@ past_default a rows rest none = ap (λ r. fold with_default r rest) (no_default 
 abbrev from_history : List Rule
 from_history = rule_of history ∷ []
 
+abbrev from_trace : List Rule
+from_trace = rule_of trace_id ∷ from_history
+
 abbrev from_keep : List Rule
-from_keep = rule_of keep_id ∷ from_history
+from_keep = rule_of keep_id ∷ from_trace
 
 abbrev from_rounds : List Rule
 from_rounds = rule_of rounds_id ∷ from_keep
@@ -176,7 +182,8 @@ unfolding rules
 defaults_pass rows =
     no_default_fault (rule_of mode) rows from_args refl ∙ no_default_fault (rule_of args) rows from_plan refl
     ∙ no_default_fault (rule_of plan_id) rows from_workers refl ∙ no_default_fault (rule_of workers_id) rows from_rounds refl
-    ∙ no_default_fault (rule_of rounds_id) rows from_keep refl ∙ no_default_fault (rule_of keep_id) rows from_history refl
+    ∙ no_default_fault (rule_of rounds_id) rows from_keep refl ∙ no_default_fault (rule_of keep_id) rows from_trace refl
+    ∙ no_default_fault (rule_of trace_id) rows from_history refl
     ∙ flag_default rows
 
 defaults_are : (rows : List Row) → fold with_default rows rules ≡ with_default rows (rule_of history)
@@ -184,7 +191,8 @@ unfolding rules
 defaults_are rows =
     past_default (rule_of mode) rows from_args refl ∙ past_default (rule_of args) rows from_plan refl
     ∙ past_default (rule_of plan_id) rows from_workers refl ∙ past_default (rule_of workers_id) rows from_rounds refl
-    ∙ past_default (rule_of rounds_id) rows from_keep refl ∙ past_default (rule_of keep_id) rows from_history refl
+    ∙ past_default (rule_of rounds_id) rows from_keep refl ∙ past_default (rule_of keep_id) rows from_trace refl
+    ∙ past_default (rule_of trace_id) rows from_history refl
 
 none_required : (rows : List Row) → check_fault shape rows false ≡ []
 unfolding rules

@@ -237,6 +237,8 @@ option_is_met ours.rounds (Some v) h = refl
 option_is_met ours.rounds None h = refl
 option_is_met ours.keep (Some v) h = refl
 option_is_met ours.keep None h = refl
+option_is_met ours.trace (Some v) h = refl
+option_is_met ours.trace None h = refl
 
 abbrev pub option_fault_as : Asked → Option Text → Held → Kinds
 option_fault_as x (Some v) h =
@@ -253,6 +255,8 @@ option_fault_is ours.rounds (Some v) h = refl
 option_fault_is ours.rounds None h = refl
 option_fault_is ours.keep (Some v) h = refl
 option_fault_is ours.keep None h = refl
+option_fault_is ours.trace (Some v) h = refl
+option_fault_is ours.trace None h = refl
 
 module _ (word name : Text) (v : Option Text) (no_end : bytes_eq word end_word ≡ false) (is_long : long_of word ≡ Some (name, v)) where
   word_is_met : (h : Held) (waiting : Waiting) (p : ℕ) → word_met rules [] false waiting p word h ≡ long_word rules waiting word name v h
@@ -387,6 +391,7 @@ module _ (word : Text) (rows : List Row) (x : Asked) (p : ℕ) (plain : IsPlain 
       full ours.workers = refl
       full ours.rounds = refl
       full ours.keep = refl
+      full ours.trace = refl
 
   pub value_turn : turn_fault shape [] (at rows (Some (name_of x, [])) (option (name_of x)) p false) word ≡ []
   value_turn = ap₂ (λ k (met : Held × Step). or_else k (step_fault shape p met.0 met.1))

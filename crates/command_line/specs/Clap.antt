@@ -44,13 +44,13 @@ mill_top = on_top (λ top. record top { no_binary_name = true; disable_help_flag
 abbrev pub positional_app : App
 positional_app = with_rule (with_rule mill_top mode_rule) args_rule
 
--- four options with one value each beside them
+-- five options with one value each beside them
 abbrev pub option_app : App
-option_app = with_rule (with_rule (with_rule (with_rule positional_app
+option_app = with_rule (with_rule (with_rule (with_rule (with_rule positional_app
     (option_rule (codes "plan"))) (option_rule (codes "workers")))
-    (option_rule (codes "rounds"))) (option_rule (codes "keep"))
+    (option_rule (codes "rounds"))) (option_rule (codes "keep"))) (option_rule (codes "trace"))
 
--- what `clap` is told: a mode, its arguments, four options with one value each, and one flag
+-- what `clap` is told: a mode, its arguments, five options with one value each, and one flag
 abbrev pub mill_app : App
 mill_app = with_rule option_app history_rule
 
@@ -72,8 +72,11 @@ HasFlag rows = (flag : Bool) × IsFlagIn rows flag
 
 -- the line with the names of files that `clap` found as options
 abbrev pub with_files : List Row → Line → Line
-with_files rows line =
-    record line { plan = first_of (codes "plan") rows; keep = first_of (codes "keep") rows }
+with_files rows line = record line {
+  plan = first_of (codes "plan") rows;
+  keep = first_of (codes "keep") rows;
+  trace = first_of (codes "trace") rows;
+}
 
 -- the line with the numbers that `clap` found as options
 abbrev pub with_numbers : List Row → Line → Line
@@ -93,4 +96,5 @@ pub record IsLineIn (rows : List Row) (line : Line) : Type 0 where
   pub workers : first_of (codes "workers") rows ≡ line.workers
   pub rounds : first_of (codes "rounds") rows ≡ line.rounds
   pub keep : first_of (codes "keep") rows ≡ line.keep
+  pub trace : first_of (codes "trace") rows ≡ line.trace
   pub history : IsFlagIn rows line.history

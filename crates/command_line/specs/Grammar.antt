@@ -7,7 +7,7 @@ use Rattle.text_lines.specs.declared.TheConstants.{LINES_MAX}
 use Rattle.command_line.specs.Words.{line_of}
 use Rattle.command_line.specs.declared.command.Inputs.{Inputs}
 use Rattle.command_line.specs.declared.command.Call.{Call}
-use Rattle.command_line.specs.declared.command.Call.TheVariants.{Solo, Replay, Run, Plain, Load}
+use Rattle.command_line.specs.declared.command.Call.TheVariants.{Solo, Replay, Run, Plain, Load, Collect, Audit}
 use Rattle.command_line.specs.declared.command.Command.{Command}
 use Rattle.command_line.specs.declared.line.Line.{Line}
 
@@ -72,7 +72,7 @@ run_of args line = if is_some line.keep then None
     else both (λ (numbers : ℕ × ℕ) inputs. Run numbers.0 numbers.1 line.plan inputs) (run_numbers line)
     (inputs_of args line.history)
 
--- whether there is an option or the flag
+-- whether there is an option beside `--trace`, or the flag
 abbrev pub has_options : Line → Bool
 has_options line = has_rounds line || (is_some line.plan || (is_some line.keep || line.history))
 
@@ -86,14 +86,29 @@ load_of (seed ∷ (lines ∷ [])) line = if has_options line then None
     else both Load (number_in 0 seed_limit seed) (number_in 1 LINES_MAX lines)
 load_of _ line = None
 
--- what a mode with these arguments asks for
-abbrev pub call_with : List ℕ → List (List ℕ) → Line → Option Call
-call_with mode args line = if is_word mode (codes "solo") then solo_of args line
+-- `collect FILE`, which takes no option and no flag
+abbrev pub collect_of : List (List ℕ) → Line → Option Call
+collect_of (file ∷ []) line = if has_options line then None else Some (Collect file)
+collect_of _ line = None
+
+-- what a mode without a trace asks for with these arguments
+abbrev pub untraced_of : List ℕ → List (List ℕ) → Line → Option Call
+untraced_of mode args line = if is_word mode (codes "solo") then solo_of args line
     else if is_word mode (codes "replay") then replay_of args line
     else if is_word mode (codes "run") then run_of args line
     else if is_word mode (codes "plain") then plain_of args line
     else if is_word mode (codes "load") then load_of args line
+    else if is_word mode (codes "collect") then collect_of args line
     else None
+
+-- `audit --trace FILE TOPOLOGY EVENTS..`, which takes no other option and no flag
+abbrev pub audit_of : List (List ℕ) → Line → Option Call
+audit_of args line = if has_options line then None else both Audit (inputs_of args false) line.trace
+
+-- what a mode with these arguments asks for; audit alone takes the option `--trace`
+abbrev pub call_with : List ℕ → List (List ℕ) → Line → Option Call
+call_with mode args line = if is_word mode (codes "audit") then audit_of args line
+    else if is_some line.trace then None else untraced_of mode args line
 
 -- what the positionals ask for, of which the first is the mode
 abbrev pub call_of : List (List ℕ) → Line → Option Call

@@ -19,7 +19,15 @@ assigned word = cut_at is_equals word
 
 -- the line of no words
 abbrev pub no_words : Line
-no_words = record { positionals = []; plan = None; workers = None; rounds = None; keep = None; history = false }
+no_words = record {
+  positionals = [];
+  plan = None;
+  workers = None;
+  rounds = None;
+  keep = None;
+  trace = None;
+  history = false;
+}
 
 -- the line with these positionals behind its own
 abbrev pub with_positionals : List (List ℕ) → Line → Line
@@ -45,6 +53,8 @@ with_option name value line =
     then option_map (λ v. record line { rounds = v }) (first_value value line.rounds)
     else if is_word name (codes "--keep")
     then option_map (λ v. record line { keep = v }) (first_value value line.keep)
+    else if is_word name (codes "--trace")
+    then option_map (λ v. record line { trace = v }) (first_value value line.trace)
     else None
 
 -- the line with an option's word: one with `=` has its value, and the name of any other waits for the next word

@@ -51,6 +51,18 @@ pub enum Call {
         /// How many lines are made: 1 to 262,144.
         lines: u32,
     },
+    /// A printed history is tested: whether it is that of a lawful run of the files.
+    Audit {
+        /// What it reads. It has no history of its own, so none of its lines are wanted.
+        inputs: Inputs,
+        /// The name of the trace's file.
+        trace: Name,
+    },
+    /// The live lines of a file are written, each once.
+    Collect {
+        /// The name of the file.
+        file: Name,
+    },
 }
 
 /// A command.

@@ -21,6 +21,7 @@ pub(crate) struct Line {
     pub(crate) workers: Option<Name>,
     pub(crate) rounds: Option<Name>,
     pub(crate) keep: Option<Name>,
+    pub(crate) trace: Option<Name>,
     pub(crate) history: bool,
 }
 
@@ -76,6 +77,7 @@ fn add_files(alloc: Global, line: &mut Line, matches: &ArgMatches<'_>) -> Result
 {
     line.plan = value_of(alloc, matches, "plan")?;
     line.keep = value_of(alloc, matches, "keep")?;
+    line.trace = value_of(alloc, matches, "trace")?;
     Ok(())
 }
 
@@ -125,6 +127,7 @@ fn no_words(alloc: Global, history: bool) -> Line
         workers: None,
         rounds: None,
         keep: None,
+        trace: None,
         history,
     }
 }

@@ -34,10 +34,11 @@ fn options<'a>(alloc: Global) -> Result<Command<'a>, AllocError>
         .arg(valued(alloc, "plan"))?
         .arg(valued(alloc, "workers"))?
         .arg(valued(alloc, "rounds"))?
-        .arg(valued(alloc, "keep"))
+        .arg(valued(alloc, "keep"))?
+        .arg(valued(alloc, "trace"))
 }
 
-/// One simple command: a mode, its arguments, four options with one value each, and one flag.
+/// One simple command: a mode, its arguments, five options with one value each, and one flag.
 pub(crate) fn parser<'a>(alloc: Global) -> Result<Command<'a>, AllocError>
     ensures app { IfOk result (λ command. app_of command ≡ mill_app) }
 {

@@ -1,6 +1,6 @@
 //! The command that the words are.
 ghost use Rattle.std.specs.Prelude.{◌≡◌, ◌≤◌, ◌∷◌, [], Err, IfOk, IfSome, MatchOption, None, Some};
-ghost use Rattle.command_line.specs.Grammar.{AreSizes, HasSizes, call_of, call_with, command_from, command_of, has_options, has_rounds, inputs_of, load_of, number_asked, plain_of, replay_of, run_numbers, run_of, solo_of};
+ghost use Rattle.command_line.specs.Grammar.{AreSizes, HasSizes, audit_of, call_of, call_with, collect_of, command_from, command_of, has_options, has_rounds, inputs_of, load_of, number_asked, plain_of, replay_of, run_numbers, run_of, solo_of, untraced_of};
 
 use crate::command::{Call, Command, Inputs};
 use crate::line::{Line, line_of};
@@ -65,7 +65,7 @@ impl Line {
         self.workers.is_some() || self.rounds.is_some()
     }
 
-    // Whether there is an option or the flag.
+    // Whether there is an option beside `--trace`, or the flag.
     fn has_options(&self) -> bool
         ensures options { result ≡ has_options self.now }
     {
@@ -155,9 +155,35 @@ impl Line {
         Some(Call::Load { seed, lines })
     }
 
-    // The call of a mode with these arguments.
-    fn with(&mut self, mode: &str, args: Seq<Name>) -> Option<Call>
-        ensures call { result ≡ call_with mode.now args self.old }
+    // The call of mode collect.
+    fn collect(&self, mut args: Seq<Name>) -> Option<Call>
+        ensures call { result ≡ collect_of args self.now }
+        ensures sizes { IfSome result HasSizes }
+    {
+        let file = first_of(&mut args)?;
+        if !args.is_empty() || self.has_options() {
+            return None;
+        }
+        Some(Call::Collect { file })
+    }
+
+    // The call of mode audit, which takes the trace's name out of the line.
+    fn audit(&mut self, args: Seq<Name>) -> Option<Call>
+        ensures call { result ≡ audit_of args self.old }
+        ensures sizes { IfSome result HasSizes }
+        ensures keep { self.new.keep ≡ self.old.keep }
+    {
+        if self.has_options() {
+            return None;
+        }
+        let trace = self.trace.take()?;
+        let inputs = inputs_of(args, false)?;
+        Some(Call::Audit { inputs, trace })
+    }
+
+    // The call of a mode without a trace.
+    fn untraced(&mut self, mode: &str, args: Seq<Name>) -> Option<Call>
+        ensures call { result ≡ untraced_of mode.now args self.old }
         ensures sizes { IfSome result HasSizes }
         ensures keep { self.new.keep ≡ self.old.keep }
     {
@@ -171,8 +197,25 @@ impl Line {
             self.plain(args)
         } else if mode == "load" {
             self.load(args.as_slice())
+        } else if mode == "collect" {
+            self.collect(args)
         } else {
             None
+        }
+    }
+
+    // The call of a mode with these arguments.
+    fn with(&mut self, mode: &str, args: Seq<Name>) -> Option<Call>
+        ensures call { result ≡ call_with mode.now args self.old }
+        ensures sizes { IfSome result HasSizes }
+        ensures keep { self.new.keep ≡ self.old.keep }
+    {
+        if mode == "audit" {
+            self.audit(args)
+        } else if self.trace.is_some() {
+            None
+        } else {
+            self.untraced(mode, args)
         }
     }
 
