@@ -1,10 +1,10 @@
 -- What a run leaves, or where none was begun, is what the status leaves.
 use Rattle.std.specs.Prelude.{⊤}
-use Rattle.std.proofs.Common.{◌≡◌, ◌≤◌, ◌^◌, ℕ, List, length, Option, Some, None, IfSome, refl, inl, inr, sym, subst, arith}
+use Rattle.std.proofs.Common.{◌≡◌, ◌≤◌, ◌^◌, ◌∙◌, ℕ, List, length, Option, Some, None, IfSome, refl, inl, inr, sym, ap, subst, arith}
 use Rattle.mw_types.specs.declared.identity.RowName.{RowName}
 use Rattle.mw_types.specs.declared.entry.Entry.{Entry}
 use Rattle.command_line.specs.declared.command.Call.{Call}
-use Rattle.command_line.specs.declared.command.Call.TheVariants.{Solo, Replay, Run, Plain, Load}
+use Rattle.command_line.specs.declared.command.Call.TheVariants.{Solo, Replay, Run, Plain, Load, Collect, Audit}
 use Rattle.command_line.specs.declared.command.Command.{Command}
 use Rattle.command_line.specs.declared.refusal.WordsRefusal.{WordsRefusal}
 use Rattle.command_line.specs.declared.refusal.WordsRefusal.TheVariants as refusals
@@ -29,12 +29,12 @@ use Rattle.millwheel_cli.specs.declared.task.Task.{Task}
 use Rattle.millwheel_cli.specs.declared.task.Wanted.{Wanted}
 use Rattle.millwheel_cli.specs.declared.task.Wanted.TheVariants.{ResultAlone, HistoryFirst, SummaryAlone}
 use Rattle.millwheel_cli.specs.declared.refusal.Refusal.{Refusal}
-use Rattle.millwheel_cli.specs.declared.refusal.Refusal.TheVariants.{NoFile, TopologyRefused, EventsRefused, PlanRefused, NoMemory, ReadFault, TooLong, FileCount}
+use Rattle.millwheel_cli.specs.declared.refusal.Refusal.TheVariants.{NoFile, TopologyRefused, EventsRefused, PlanRefused, NoMemory, ReadFault, TooLong, FileCount, CollectRefused, AuditRefused}
 use Rattle.millwheel_cli.specs.Limits.{history_limit}
 use Rattle.millwheel_cli.specs.Reasons.{ShelfSeen, HasReason}
 use Rattle.millwheel_cli.specs.Histories.{IsReadAfter, IsShortOf}
-use Rattle.millwheel_cli.specs.Answers.{Left, IsUnbegun, IsUnrun, IsRun, IsKeptRun, IsWholeRun, IsWholeText, IsPlainWhole, RunLeaves, CountLeaves, CallLeaves, HasRun, HasLeft}
-use Rattle.millwheel_cli.specs.Inside.{HasText, HasPlain, IsCallEnd, status_of, of_words, of_start, of_drain}
+use Rattle.millwheel_cli.specs.Answers.{Left, IsUnbegun, IsUnrun, IsRun, IsKeptRun, IsWholeRun, IsWholeText, IsPlainWhole, IsTextOf, RunLeaves, TextLeaves, CallLeaves, HasRun, HasWritten, HasDone, HasLeft}
+use Rattle.millwheel_cli.specs.Inside.{HasText, HasPlain, IsCallEnd, IsWritten, status_of, of_words, of_start, of_drain}
 use Rattle.millwheel_cli.proofs.Reasons.{call_reason}
 
 -- where no run was begun, nothing is left with a refusal of the files
@@ -48,6 +48,8 @@ left_of_refusal files asked left NoMemory is = inr is
 left_of_refusal files asked left (ReadFault name) is = is
 left_of_refusal files asked left (TooLong name) is = is
 left_of_refusal files asked left (FileCount n m) is = is
+left_of_refusal files asked left (CollectRefused line first) is = is
+left_of_refusal files asked left (AuditRefused line r) is = is
 
 -- a status that may come once the files are read
 abbrev pub MayEnd : Status → Type 0
@@ -77,51 +79,80 @@ run_ends task left (status.RowDamaged name bytes) leaves = tt
 run_ends task left (status.ReadFault n) leaves = absurd leaves
 run_ends task left (status.TooLong n) leaves = absurd leaves
 run_ends task left (status.FileCount n m) leaves = absurd leaves
+run_ends task left (status.CollectRefused line first) leaves = absurd leaves
+run_ends task left (status.AuditRefused line r) leaves = absurd leaves
 
--- so is each of the plain count
-count_ends : (case : CaseShape) (left : Left) (s : Status) → CountLeaves case left s → MayEnd s
-count_ends case left status.Ok leaves = tt
-count_ends case left status.Usage leaves = absurd leaves
-count_ends case left (status.NoFile n) leaves = absurd leaves
-count_ends case left (status.TopologyRefused why) leaves = absurd leaves
-count_ends case left (status.EventsRefused file line why) leaves = absurd leaves
-count_ends case left (status.PlanRefused line) leaves = absurd leaves
-count_ends case left status.KeeperFault leaves = absurd leaves
-count_ends case left status.SinkFault leaves = tt
-count_ends case left status.NoMemory leaves = tt
-count_ends case left (status.NotEmpty name bytes) leaves = absurd leaves
-count_ends case left status.HistoryFull leaves = absurd leaves
-count_ends case left (status.RowDamaged name bytes) leaves = absurd leaves
-count_ends case left (status.ReadFault n) leaves = absurd leaves
-count_ends case left (status.TooLong n) leaves = absurd leaves
-count_ends case left (status.FileCount n m) leaves = absurd leaves
+-- so is each of a text that needs no keeper
+text_ends : (IsText : List ℕ → Type 0) (left : Left) (s : Status) → TextLeaves IsText left s → MayEnd s
+text_ends IsText left status.Ok leaves = tt
+text_ends IsText left status.Usage leaves = absurd leaves
+text_ends IsText left (status.NoFile n) leaves = absurd leaves
+text_ends IsText left (status.TopologyRefused why) leaves = absurd leaves
+text_ends IsText left (status.EventsRefused file line why) leaves = absurd leaves
+text_ends IsText left (status.PlanRefused line) leaves = absurd leaves
+text_ends IsText left status.KeeperFault leaves = absurd leaves
+text_ends IsText left status.SinkFault leaves = tt
+text_ends IsText left status.NoMemory leaves = tt
+text_ends IsText left (status.NotEmpty name bytes) leaves = absurd leaves
+text_ends IsText left status.HistoryFull leaves = absurd leaves
+text_ends IsText left (status.RowDamaged name bytes) leaves = absurd leaves
+text_ends IsText left (status.ReadFault n) leaves = absurd leaves
+text_ends IsText left (status.TooLong n) leaves = absurd leaves
+text_ends IsText left (status.FileCount n m) leaves = absurd leaves
+text_ends IsText left (status.CollectRefused line first) leaves = absurd leaves
+text_ends IsText left (status.AuditRefused line r) leaves = absurd leaves
 
 -- so is each of a call
 pub call_ends : (call : Call) (task : Task) (left : Left) (s : Status) → CallLeaves call task left s → MayEnd s
 call_ends (Solo inputs) task left s leaves = run_ends task left s leaves
 call_ends (Replay plan inputs) task left s leaves = run_ends task left s leaves
 call_ends (Run workers rounds plan inputs) task left s leaves = run_ends task left s leaves
-call_ends (Plain inputs) task left s leaves = count_ends task.case left s leaves
+call_ends (Plain inputs) task left s leaves = text_ends (IsPlainText task.case) left s leaves
 call_ends (Load seed lines) task left s leaves = run_ends task left s leaves
+call_ends (Collect file) task left s leaves = absurd leaves
+call_ends (Audit inputs trace) task left s leaves = absurd leaves
 
 -- what a command's task leaves is what a status leaves that may come then
 left_of_run : (files : Option Files) (asked : Option Command) (left : Left) (s : Status) → HasRun files asked left s → MayEnd s
     → HasLeft files asked left s
-left_of_run files asked left status.Ok run ends = run
+left_of_run files asked left status.Ok run ends = inl run
 left_of_run files asked left status.Usage run ends = absurd ends
 left_of_run files asked left (status.NoFile n) run ends = absurd ends
 left_of_run files asked left (status.TopologyRefused why) run ends = absurd ends
 left_of_run files asked left (status.EventsRefused file line why) run ends = absurd ends
 left_of_run files asked left (status.PlanRefused line) run ends = absurd ends
 left_of_run files asked left status.KeeperFault run ends = run
-left_of_run files asked left status.SinkFault run ends = run
-left_of_run files asked left status.NoMemory run ends = inl run
+left_of_run files asked left status.SinkFault run ends = inl run
+left_of_run files asked left status.NoMemory run ends = inl (inl run)
 left_of_run files asked left (status.NotEmpty name bytes) run ends = run
 left_of_run files asked left status.HistoryFull run ends = run
 left_of_run files asked left (status.RowDamaged name bytes) run ends = run
 left_of_run files asked left (status.ReadFault n) run ends = absurd ends
 left_of_run files asked left (status.TooLong n) run ends = absurd ends
 left_of_run files asked left (status.FileCount n m) run ends = absurd ends
+left_of_run files asked left (status.CollectRefused line first) run ends = absurd ends
+left_of_run files asked left (status.AuditRefused line r) run ends = absurd ends
+
+-- so is what a command's text leaves
+left_of_text : (files : Option Files) (asked : Option Command) (left : Left) (s : Status) → HasWritten files asked left s
+    → HasLeft files asked left s
+left_of_text files asked left status.Ok text = inr text
+left_of_text files asked left status.Usage text = absurd text.leaves
+left_of_text files asked left (status.NoFile n) text = absurd text.leaves
+left_of_text files asked left (status.TopologyRefused why) text = absurd text.leaves
+left_of_text files asked left (status.EventsRefused file line why) text = absurd text.leaves
+left_of_text files asked left (status.PlanRefused line) text = absurd text.leaves
+left_of_text files asked left status.KeeperFault text = absurd text.leaves
+left_of_text files asked left status.SinkFault text = inr text
+left_of_text files asked left status.NoMemory text = inl (inr text)
+left_of_text files asked left (status.NotEmpty name bytes) text = absurd text.leaves
+left_of_text files asked left status.HistoryFull text = absurd text.leaves
+left_of_text files asked left (status.RowDamaged name bytes) text = absurd text.leaves
+left_of_text files asked left (status.ReadFault n) text = absurd text.leaves
+left_of_text files asked left (status.TooLong n) text = absurd text.leaves
+left_of_text files asked left (status.FileCount n m) text = absurd text.leaves
+left_of_text files asked left (status.CollectRefused line first) text = absurd text.leaves
+left_of_text files asked left (status.AuditRefused line r) text = absurd text.leaves
 
 -- how a call ends is what its status leaves
 pub left_of_call : (seen : ShelfSeen) (asked : Option Command) (command : Command) (left : Left) (s : Status)
@@ -130,13 +161,16 @@ left_of_call seen asked command left s named end = elim end [
   | inl is ↦ left_of_run seen.files asked left s
       (record { command = command; named = named; task = is.task; is_task = is.is_task; leaves = is.leaves })
       (call_ends command.call is.task left s is.leaves)
-  | inr is ↦ subst (λ t. HasLeft seen.files asked left t) (sym is.same)
-      (left_of_refusal seen.files asked left is.refusal is.unbegun)
+  | inr text ↦ elim text [
+    | inl leaves ↦ left_of_text seen.files asked left s (record { command = command; named = named; leaves = leaves })
+    | inr is ↦ subst (λ t. HasLeft seen.files asked left t) (sym is.same)
+        (left_of_refusal seen.files asked left is.refusal is.unbegun)
+  ]
 ]
 
 -- with Ok that is the whole
 pub ok_of_left : (files : Option Files) (asked : Option Command) (left : Left) (s : Status) → HasLeft files asked left s → s ≡ status.Ok
-    → HasRun files asked left status.Ok
+    → HasDone files asked left status.Ok
 ok_of_left files asked left s is ok = subst (λ t. HasLeft files asked left t) ok is
 
 -- each whole text of a run is told plainly, where a contract can see the rows
@@ -194,6 +228,8 @@ wrote task left (status.RowDamaged name bytes) run plain is = absurd is
 wrote task left (status.ReadFault n) run plain is = absurd is
 wrote task left (status.TooLong n) run plain is = absurd is
 wrote task left (status.FileCount n m) run plain is = absurd is
+wrote task left (status.CollectRefused line first) run plain is = absurd is
+wrote task left (status.AuditRefused line r) run plain is = absurd is
 
 -- so it is where the history is said in other words
 pub wrote_as : (task : Task) (left : Left) (history : List Entry) (s : Status) → history ≡ left.history → IsWholeRun task left
@@ -241,6 +277,8 @@ end_reason seen asked (status.RowDamaged name bytes) ends = tt
 end_reason seen asked (status.ReadFault n) ends = absurd ends
 end_reason seen asked (status.TooLong n) ends = absurd ends
 end_reason seen asked (status.FileCount n m) ends = absurd ends
+end_reason seen asked (status.CollectRefused line first) ends = absurd ends
+end_reason seen asked (status.AuditRefused line r) ends = absurd ends
 
 -- where a command is asked for it is not that none is
 pub not_none : (found : Option Command) (call : Command) → found ≡ Some call → found ≡ None → ⊥
@@ -251,7 +289,10 @@ pub reason_of_call : (seen : ShelfSeen) (asked : Option Command) (command : Comm
     → asked ≡ Some command → IsCallEnd seen command.call left s → HasReason seen asked s
 reason_of_call seen asked command left s named end = elim end [
   | inl is ↦ end_reason seen asked s (call_ends command.call is.task left s is.leaves)
-  | inr is ↦ subst (λ t. HasReason seen asked t) (sym is.same) (call_reason seen asked command is.refusal named is.why)
+  | inr text ↦ elim text [
+    | inl leaves ↦ end_reason seen asked s (text_ends (IsTextOf seen.files command.call) left s leaves)
+    | inr is ↦ subst (λ t. HasReason seen asked t) (sym is.same) (call_reason seen asked command is.refusal named is.why)
+  ]
 ]
 
 -- a call that was read does not end with Usage
@@ -300,17 +341,17 @@ words_reason seen asked refusals.NoMemory none = tt
 
 -- what is written of a plain count is what its status leaves, where no run was begun
 pub counted : (case : CaseShape) (left : Left) (s : Status) → IsUnrun left → HasPlain case left.text.0 left.text.1 s
-    → CountLeaves case left s
-counted case left status.Ok unrun is = record { unrun = unrun; text = is.text; plain = is.plain; written = is.written }
+    → TextLeaves (IsPlainText case) left s
+counted case left status.Ok unrun is = record { unrun = unrun; text = is.text; is_text = is.plain; written = is.written }
 counted case left status.Usage unrun is = absurd is
 counted case left (status.NoFile n) unrun is = absurd is
 counted case left (status.TopologyRefused why) unrun is = absurd is
 counted case left (status.EventsRefused file line why) unrun is = absurd is
 counted case left (status.PlanRefused line) unrun is = absurd is
 counted case left status.KeeperFault unrun is = absurd is
-counted case left status.SinkFault unrun is = record { unrun = unrun; text = is.text; plain = is.plain; part = is.part }
+counted case left status.SinkFault unrun is = record { unrun = unrun; text = is.text; is_text = is.plain; part = is.part }
 counted case left status.NoMemory unrun is = elim is [
-  | inl part ↦ inl (record { unrun = unrun; text = part.text; plain = part.plain; part = part.part })
+  | inl part ↦ inl (record { unrun = unrun; text = part.text; is_text = part.plain; part = part.part })
   | inr same ↦ inr (record { empty = unrun.empty; same_rows = unrun.same_rows; unwritten = same })
 ]
 counted case left (status.NotEmpty name bytes) unrun is = absurd is
@@ -319,6 +360,42 @@ counted case left (status.RowDamaged name bytes) unrun is = absurd is
 counted case left (status.ReadFault n) unrun is = absurd is
 counted case left (status.TooLong n) unrun is = absurd is
 counted case left (status.FileCount n m) unrun is = absurd is
+counted case left (status.CollectRefused line first) unrun is = absurd is
+counted case left (status.AuditRefused line r) unrun is = absurd is
+
+-- so it is of a text of a call without a task
+pub text_written : (IsText : List ℕ → Type 0) (text : List ℕ) (left : Left) (old new : Option (List ℕ)) (s : Status) → IsText text
+    → IsUnrun left → left.text ≡ (old, new) → IsWritten text old new s → TextLeaves IsText left s
+text_written IsText text left old new s is_text unrun same is =
+    by_status s (subst (λ (t : Option (List ℕ) × Option (List ℕ)). IsWritten text t.0 t.1 s) (sym same) is)
+  where
+    by_status : (s : Status) → IsWritten text left.text.0 left.text.1 s → TextLeaves IsText left s
+    by_status status.Ok is = record { unrun = unrun; text = text; is_text = is_text; written = is }
+    by_status status.Usage is = absurd is
+    by_status (status.NoFile n) is = absurd is
+    by_status (status.TopologyRefused why) is = absurd is
+    by_status (status.EventsRefused file line why) is = absurd is
+    by_status (status.PlanRefused line) is = absurd is
+    by_status status.KeeperFault is = absurd is
+    by_status status.SinkFault is = record { unrun = unrun; text = text; is_text = is_text; part = is }
+    by_status status.NoMemory is = inl (record { unrun = unrun; text = text; is_text = is_text; part = is })
+    by_status (status.NotEmpty row bytes) is = absurd is
+    by_status status.HistoryFull is = absurd is
+    by_status (status.RowDamaged row bytes) is = absurd is
+    by_status (status.ReadFault n) is = absurd is
+    by_status (status.TooLong n) is = absurd is
+    by_status (status.FileCount n m) is = absurd is
+    by_status (status.CollectRefused line first) is = absurd is
+    by_status (status.AuditRefused line r) is = absurd is
+
+-- where nothing was written no run was begun
+pub unbegun_of : (left : Left) (old new : Option (List ℕ)) → IsUnrun left → left.text ≡ (old, new) → new ≡ old → IsUnbegun left
+unbegun_of left old new unrun text same = record {
+  empty = unrun.empty;
+  same_rows = unrun.same_rows;
+  unwritten = ap (λ (t : Option (List ℕ) × Option (List ℕ)). t.1) text ∙ same
+      ∙ sym (ap (λ (t : Option (List ℕ) × Option (List ℕ)). t.0) text);
+}
 
 -- no plain count fails by the keeper
 pub plain_keeper : (case : CaseShape) (old new : Option (List ℕ)) (s : Status) → HasPlain case old new s → s ≡ status.KeeperFault → ⊥

@@ -1,5 +1,6 @@
 pub mod Refusals
 pub mod Reasons
+pub mod Auditing
 pub mod Sources
 pub mod Loading
 pub mod LoadTopology
@@ -9,6 +10,7 @@ pub mod Statuses
 pub mod Replaying
 pub mod Running
 pub mod RoundLaws
+pub mod Gathering
 pub mod Leaving
 pub mod Telling
 pub mod Said

@@ -1,9 +1,9 @@
 -- Why a file was refused is why the call was.
-use Rattle.std.proofs.Common.{◌≡◌, ◌≤◌, ◌+◌, ◌-◌, ℕ, List, [], ◌∷◌, length, Option, None, Some, Result, sym, subst, inl, inr}
+use Rattle.std.proofs.Common.{◌≡◌, ◌≤◌, ◌+◌, ◌-◌, ◌⊎◌, ℕ, List, [], ◌∷◌, length, Option, None, Some, Result, sym, subst, inl, inr}
 use Rattle.mw_types.proofs.CauseLaws.{Rose-before}
 use Rattle.command_line.specs.declared.command.Inputs.{Inputs}
 use Rattle.command_line.specs.declared.command.Call.{Call}
-use Rattle.command_line.specs.declared.command.Call.TheVariants.{Solo, Replay, Run, Plain, Load}
+use Rattle.command_line.specs.declared.command.Call.TheVariants.{Solo, Replay, Run, Plain, Load, Collect, Audit}
 use Rattle.command_line.specs.declared.command.Command.{Command}
 use Rattle.mw_ports.specs.Shelves.{Files}
 use Rattle.topology.specs.Shapes.{Shape}
@@ -14,12 +14,13 @@ use Rattle.millwheel_cli.specs.declared.task.Task.{Task}
 use Rattle.millwheel_cli.specs.declared.status.Status.{Status}
 use Rattle.millwheel_cli.specs.declared.status.Status.TheVariants as status
 use Rattle.millwheel_cli.specs.declared.refusal.Refusal.{Refusal}
-use Rattle.millwheel_cli.specs.declared.refusal.Refusal.TheVariants.{NoFile, TopologyRefused, EventsRefused, PlanRefused, NoMemory, ReadFault, TooLong, FileCount}
-use Rattle.millwheel_cli.specs.Limits.{plan_limit, events_limit, lines_limit}
+use Rattle.millwheel_cli.specs.declared.refusal.Refusal.TheVariants.{NoFile, TopologyRefused, EventsRefused, PlanRefused, NoMemory, ReadFault, TooLong, FileCount, CollectRefused, AuditRefused}
+use Rattle.millwheel_cli.specs.Limits.{plan_limit, events_limit, lines_limit, trace_limit}
 use Rattle.millwheel_cli.specs.Files.{HoldsTopology, HoldsSources, source_taken}
 use Rattle.millwheel_cli.specs.Tasks.{wanted_of, rounds_taken, steps_taken, HoldsBefore, IsInputsTask}
-use Rattle.millwheel_cli.specs.Reasons.{ShelfSeen, IsUnread, IsFileRefused, IsTopologyRefused, IsPlanRefused, IsSourceRefused, IsRefusedFirst, IsRefused, IsCallRefused, IsCommandRefused, HasReason}
-use Rattle.millwheel_cli.specs.Inside.{status_of, UnlessWant}
+use Rattle.millwheel_cli.specs.Reasons.{ShelfSeen, IsAuditRefused, IsTraceRefusedBehind, IsUnread, IsFileRefused, IsTopologyRefused, IsPlanRefused, IsSourceRefused, IsRefusedFirst, IsRefused, IsCallRefused, IsCommandRefused, HasReason}
+use Rattle.millwheel_cli.specs.Audits.{CountsTrace, HoldsCase, HoldsRun, HoldsWrong, trace_taken}
+use Rattle.millwheel_cli.specs.Inside.{IsTraceRefused, status_of, UnlessWant}
 use Rattle.millwheel_cli.proofs.Refusals.{unless_map}
 
 -- what was seen of a shelf with these files, while its counts rose so
@@ -44,6 +45,8 @@ unread_over files f0 f1 f2 l0 l1 l2 name limit (status.RowDamaged row bytes) f l
 unread_over files f0 f1 f2 l0 l1 l2 name limit (status.ReadFault n) f l is = (is.0, Rose-before f0 f1 f2 f is.1)
 unread_over files f0 f1 f2 l0 l1 l2 name limit (status.TooLong n) f l is = (is.0, Rose-before l0 l1 l2 l is.1, is.2)
 unread_over files f0 f1 f2 l0 l1 l2 name limit (status.FileCount n m) f l is = absurd is
+unread_over files f0 f1 f2 l0 l1 l2 name limit (status.CollectRefused line first) f l is = absurd is
+unread_over files f0 f1 f2 l0 l1 l2 name limit (status.AuditRefused line r) f l is = absurd is
 
 -- so it is of a file that is refused
 pub file_over : {T : Type 0} (files : Option Files) (f0 f1 f2 l0 l1 l2 : ℕ) (name : List ℕ) (limit : ℕ)
@@ -78,6 +81,8 @@ plan_over files f0 f1 f2 l0 l1 l2 (Run workers rounds (Some plan) inputs) shape 
     file_over files f0 f1 f2 l0 l1 l2 plan plan_limit (rounds_taken shape workers rounds) s f l is
 plan_over files f0 f1 f2 l0 l1 l2 (Plain inputs) shape s f l is = absurd is
 plan_over files f0 f1 f2 l0 l1 l2 (Load seed lines) shape s f l is = absurd is
+plan_over files f0 f1 f2 l0 l1 l2 (Collect file) shape s f l is = absurd is
+plan_over files f0 f1 f2 l0 l1 l2 (Audit inputs trace) shape s f l is = absurd is
 
 -- why the topology's file was refused is why one of the first files was
 pub topology_refused : (seen : ShelfSeen) (call : Call) (inputs : Inputs) (refusal : Refusal)
@@ -151,6 +156,50 @@ inputs_task files later call inputs names shape sources before task same unchang
   text = text;
 }
 
+-- the files of the task of an audit's inputs are those of its case
+pub case_held : (files : Option Files) (call : Call) (inputs : Inputs) (task : Task) → IsInputsTask files call inputs task
+    → HoldsCase files inputs task.case
+case_held files call inputs task is = record { topology_read = is.topology_read; events_read = is.events_read }
+
+-- why a file of an audit's inputs was refused is why the audit was
+pub audit_inputs_refused : (seen : ShelfSeen) (call : Call) (inputs : Inputs) (trace : List ℕ) (refusal : Refusal)
+    → call ≡ Audit inputs trace → UnlessWant (IsRefused seen call inputs) refusal
+    → UnlessWant (IsAuditRefused seen inputs trace) refusal
+audit_inputs_refused seen call inputs trace refusal is why =
+    unless_map (IsRefused seen call inputs) (IsAuditRefused seen inputs trace) refusal
+    (λ s refused. inl (subst (λ (c : Call). IsRefused seen c inputs s) is refused)) why
+
+-- so it is of the trace, where the files of the inputs were taken before and the shelf's files stayed as they were
+pub audit_trace_refused : (files later : Option Files) (f0 f1 f2 l0 l1 l2 : ℕ) (call : Call) (inputs : Inputs) (trace : List ℕ)
+    (task : Task) (refusal : Refusal)
+    → later ≡ files → IsInputsTask files call inputs task → f0 ≤ f1 → l0 ≤ l1
+    → UnlessWant (IsTraceRefused (seen_of later f1 f2 l1 l2) trace task.case) refusal
+    → UnlessWant (IsAuditRefused (seen_of files f0 f2 l0 l2) inputs trace) refusal
+audit_trace_refused files later f0 f1 f2 l0 l1 l2 call inputs trace task refusal unchanged read f l refused =
+    unless_map (IsTraceRefused (seen_of later f1 f2 l1 l2) trace task.case) (IsAuditRefused (seen_of files f0 f2 l0 l2) inputs trace)
+    refusal (λ s why. inr (by_why s
+    (subst (λ (fs : Option Files). IsTraceRefused (seen_of fs f1 f2 l1 l2) trace task.case s) unchanged why))) refused
+  where
+    by_why : (s : Status) → IsTraceRefused (seen_of files f1 f2 l1 l2) trace task.case s
+        → IsTraceRefusedBehind (seen_of files f0 f2 l0 l2) inputs trace s ⊎ HoldsWrong files inputs trace s
+    by_why s why = elim why [
+      | inl file ↦ inl (record {
+        case = task.case;
+        case_read = case_held files call inputs task read;
+        refused = file_over files f0 f1 f2 l0 l1 l2 trace trace_limit trace_taken s f l file;
+      })
+      | inr wrong ↦ inr (record { case = task.case; case_read = case_held files call inputs task read; wrong = wrong })
+    ]
+
+-- the files of an audit, with what is written of its trace
+pub run_held : (files later : Option Files) (call : Call) (inputs : Inputs) (trace text : List ℕ) (task : Task)
+    → later ≡ files → IsInputsTask files call inputs task → CountsTrace later trace task.case text → HoldsRun files inputs trace text
+run_held files later call inputs trace text task unchanged read counts = record {
+  case = task.case;
+  case_read = case_held files call inputs task read;
+  counts = subst (λ (fs : Option Files). CountsTrace fs trace task.case text) unchanged counts;
+}
+
 -- a command is asked for whose call is refused
 refused_call : (seen : ShelfSeen) (asked : Option Command) (command : Command) (s : Status) → asked ≡ Some command
     → IsCallRefused seen command.call s → IsCommandRefused seen asked s
@@ -168,3 +217,5 @@ call_reason seen asked command NoMemory named is = tt
 call_reason seen asked command (ReadFault name) named is = refused_call seen asked command _ named is
 call_reason seen asked command (TooLong name) named is = refused_call seen asked command _ named is
 call_reason seen asked command (FileCount files injectors) named is = refused_call seen asked command _ named is
+call_reason seen asked command (CollectRefused line first) named is = refused_call seen asked command _ named is
+call_reason seen asked command (AuditRefused line r) named is = refused_call seen asked command _ named is

@@ -3,7 +3,7 @@ use Rattle.std.proofs.Common.{◌≡◌, ◌≤◌, ◌∙◌, ℕ, List, length
 use Rattle.mw_ports.specs.Shelves.{Files}
 use Rattle.millwheel_cli.specs.declared.status.Status.{Status}
 use Rattle.millwheel_cli.specs.declared.refusal.Refusal.{Refusal}
-use Rattle.millwheel_cli.specs.declared.refusal.Refusal.TheVariants.{NoFile, TopologyRefused, EventsRefused, PlanRefused, NoMemory, ReadFault, TooLong, FileCount}
+use Rattle.millwheel_cli.specs.declared.refusal.Refusal.TheVariants.{NoFile, TopologyRefused, EventsRefused, PlanRefused, NoMemory, ReadFault, TooLong, FileCount, CollectRefused, AuditRefused}
 use Rattle.millwheel_cli.specs.Files.{IsContent, HoldsAs}
 use Rattle.millwheel_cli.specs.Reasons.{ShelfSeen, IsUnread, IsFileRefused}
 use Rattle.millwheel_cli.specs.Inside.{UnlessWant}
@@ -18,6 +18,8 @@ unless_map P Q NoMemory f is = tt
 unless_map P Q (ReadFault name) f is = f _ is
 unless_map P Q (TooLong name) f is = f _ is
 unless_map P Q (FileCount files injectors) f is = f _ is
+unless_map P Q (CollectRefused line first) f is = f _ is
+unless_map P Q (AuditRefused line r) f is = f _ is
 
 -- a file that was not read is refused
 pub unread_refused : {T : Type 0} (seen : ShelfSeen) (name : List ℕ) (limit : ℕ) (taken : List ℕ → Result T Status) (refusal : Refusal)

@@ -44,4 +44,5 @@ refused_here files later f0 f1 f2 l0 l1 l2 file room names left more name refusa
     (IsSourceRefused (seen_of files f0 f2 l0 l2) 0 lines_limit names) refusal
     (λ s why. before s (subst (λ ns. IsSourceRefused (seen_of files f0 f2 l0 l2) file room ns s) (sym same)
     (inl (file_over files f0 f1 f2 l0 l1 l2 name events_limit (source_taken file room) s f l
-    (subst (λ (fs : Option Files). IsFileRefused (seen_of fs f1 f2 l1 l2) name events_limit (source_taken file room) s) unchanged why))))) is
+    (subst (λ (fs : Option Files). IsFileRefused (seen_of fs f1 f2 l1 l2) name events_limit (source_taken file room) s)
+    unchanged why))))) is

@@ -14,7 +14,7 @@ use Rattle.millwheel_cli.specs.declared.task.Wanted.{Wanted}
 use Rattle.millwheel_cli.specs.declared.status.Status.{Status}
 use Rattle.millwheel_cli.specs.declared.status.Status.TheVariants as status
 use Rattle.millwheel_cli.specs.declared.refusal.Refusal.{Refusal}
-use Rattle.millwheel_cli.specs.declared.refusal.Refusal.TheVariants.{NoFile, TopologyRefused, EventsRefused, PlanRefused, NoMemory, ReadFault, TooLong, FileCount}
+use Rattle.millwheel_cli.specs.declared.refusal.Refusal.TheVariants.{NoFile, TopologyRefused, EventsRefused, PlanRefused, NoMemory, ReadFault, TooLong, FileCount, CollectRefused, AuditRefused}
 use Rattle.millwheel_cli.specs.Inside.{HasText, status_of, of_words, of_start, of_drain, of_sink}
 
 -- a start that says so failed by its keeper
@@ -63,6 +63,8 @@ refusal_usage NoMemory is = grind (arith, is)
 refusal_usage (ReadFault name) is = grind (arith, is)
 refusal_usage (TooLong name) is = grind (arith, is)
 refusal_usage (FileCount files injectors) is = grind (arith, is)
+refusal_usage (CollectRefused line first) is = grind (arith, is)
+refusal_usage (AuditRefused line r) is = grind (arith, is)
 
 -- no refusal of the files is the keeper's
 pub refusal_keeper : (refusal : Refusal) → status_of refusal ≡ status.KeeperFault → ⊥
@@ -74,6 +76,8 @@ refusal_keeper NoMemory is = grind (arith, is)
 refusal_keeper (ReadFault name) is = grind (arith, is)
 refusal_keeper (TooLong name) is = grind (arith, is)
 refusal_keeper (FileCount files injectors) is = grind (arith, is)
+refusal_keeper (CollectRefused line first) is = grind (arith, is)
+refusal_keeper (AuditRefused line r) is = grind (arith, is)
 
 -- no refusal of the files is the sink's
 pub refusal_sink : (refusal : Refusal) → status_of refusal ≡ status.SinkFault → ⊥
@@ -85,6 +89,8 @@ refusal_sink NoMemory is = grind (arith, is)
 refusal_sink (ReadFault name) is = grind (arith, is)
 refusal_sink (TooLong name) is = grind (arith, is)
 refusal_sink (FileCount files injectors) is = grind (arith, is)
+refusal_sink (CollectRefused line first) is = grind (arith, is)
+refusal_sink (AuditRefused line r) is = grind (arith, is)
 
 -- no refusal of the files is Ok
 pub refusal_ok : (refusal : Refusal) → status_of refusal ≡ status.Ok → ⊥
@@ -96,6 +102,8 @@ refusal_ok NoMemory is = grind (arith, is)
 refusal_ok (ReadFault name) is = grind (arith, is)
 refusal_ok (TooLong name) is = grind (arith, is)
 refusal_ok (FileCount files injectors) is = grind (arith, is)
+refusal_ok (CollectRefused line first) is = grind (arith, is)
+refusal_ok (AuditRefused line r) is = grind (arith, is)
 
 -- no refusal of the words is the keeper's
 pub words_keeper : (refusal : WordsRefusal) → of_words refusal ≡ status.KeeperFault → ⊥

@@ -1,29 +1,35 @@
 -- A shelf whose files a contract can see, and a keeper whose rows it can see, decide the answer.
-use Rattle.std.proofs.Common.{◌≡◌, ◌≤◌, ◌<◌, ◌∙◌, ◌+◌, ◌-◌, ℕ, nat_le, true, false, cond, List, [], ◌∷◌, Option, Some, None, IfSome, IsSomeAnd, Result, Ok, Err, length, slice_get, refl, sym, ap, subst, inl, inr, true≢false, arith}
+use Rattle.std.proofs.Common.{◌≡◌, ◌⊎◌, ◌≤◌, ◌<◌, ◌∙◌, ◌+◌, ◌-◌, ℕ, nat_le, true, false, cond, List, [], ◌∷◌, Option, Some, None, IfSome, IsSomeAnd, Result, Ok, Err, length, slice_get, refl, sym, ap, subst, inl, inr, true≢false, arith}
+use Rattle.std.specs.Prelude.{⊤}
 use Rattle.std.specs.Option.{option_map_or, is_some}
 use Rattle.std.proofs.lemmas.Option.{same_Some}
 use Rattle.mw_types.specs.Causes.{Rose}
 use Rattle.mw_types.specs.declared.identity.RowName.{RowName}
 use Rattle.command_line.specs.declared.command.Inputs.{Inputs}
 use Rattle.command_line.specs.declared.command.Call.{Call}
-use Rattle.command_line.specs.declared.command.Call.TheVariants.{Solo, Replay, Run, Plain, Load}
+use Rattle.command_line.specs.declared.command.Call.TheVariants.{Solo, Replay, Run, Plain, Load, Collect, Audit}
 use Rattle.command_line.specs.declared.command.Command.{Command}
 use Rattle.mw_ports.specs.Shelves.{Files}
 use Rattle.row_keeper.specs.Rows.{Rows}
 use Rattle.injector.specs.Sources.{Source}
+use Rattle.plain_answer.specs.Plain.{IsPlainText}
 use Rattle.topology.specs.Shapes.{Shape}
+use Rattle.run_history.specs.Cases.{CaseShape}
 use Rattle.json_reading.specs.Refusals.{and_then}
 use Rattle.millwheel_cli.specs.declared.task.Before.{Before}
 use Rattle.millwheel_cli.specs.declared.task.Task.{Task}
 use Rattle.millwheel_cli.specs.declared.status.Status.{Status}
-use Rattle.millwheel_cli.specs.declared.status.Status.TheVariants.{Usage, NoFile, TopologyRefused, EventsRefused, PlanRefused, KeeperFault, SinkFault, NoMemory, NotEmpty, HistoryFull, RowDamaged, ReadFault, TooLong, FileCount}
+use Rattle.millwheel_cli.specs.declared.status.Status.TheVariants.{Usage, NoFile, TopologyRefused, EventsRefused, PlanRefused, KeeperFault, SinkFault, NoMemory, NotEmpty, HistoryFull, RowDamaged, ReadFault, TooLong, FileCount, CollectRefused, AuditRefused}
 use Rattle.millwheel_cli.specs.declared.status.Status.TheVariants as status
-use Rattle.millwheel_cli.specs.Limits.{topology_limit, plan_limit, events_limit, lines_limit}
+use Rattle.millwheel_cli.specs.Limits.{topology_limit, plan_limit, events_limit, lines_limit, collect_limit, trace_limit}
 use Rattle.millwheel_cli.specs.Files.{HoldsAs, HoldsSources, topology_taken, source_taken}
 use Rattle.millwheel_cli.specs.Loads.{load_text}
+use Rattle.millwheel_cli.specs.Audits.{HoldsCase, HoldsWrong, SaysWrong, trace_taken}
 use Rattle.millwheel_cli.specs.Tasks.{rounds_taken, steps_taken, HoldsBefore, IsInputsTask, IsLoadTask, IsTask}
-use Rattle.millwheel_cli.specs.Reasons.{ShelfSeen, IsUnread, IsFileRefused, IsPlanRefused, IsSourceRefused, IsRefused, IsCallRefused, IsCommandRefused, HasReason, file_within, file_as, source_before, sources_taken, before_taken, inputs_taken, load_taken, ended, ran_over, answer_for, answer_of, plain_for, IsAnswer, AsksPlain, IsPlainAnswer}
-use Rattle.millwheel_cli.specs.Answers.{Left, IsFull, IsDamagedAt, RunLeaves, CountLeaves, CallLeaves, HasRun, HasLeft}
+use Rattle.millwheel_cli.specs.Collects.{collect_taken}
+use Rattle.millwheel_cli.specs.Asked.{is_unkept}
+use Rattle.millwheel_cli.specs.Reasons.{ShelfSeen, IsCallWrong, IsCommandWrong, IsUnread, IsFileRefused, IsPlanRefused, IsSourceRefused, IsRefused, IsCallRefused, IsCommandRefused, HasReason, file_within, file_as, source_before, sources_taken, before_taken, inputs_taken, load_taken, ended, ran_over, answer_for, answer_of, IsAnswer, AsksUnkept, IsUnkeptAnswer}
+use Rattle.millwheel_cli.specs.Answers.{Left, IsFull, IsDamagedAt, IsTextOf, RunLeaves, TextLeaves, CallLeaves, HasRun, HasDone, HasLeft}
 
 -- what is said of something where it is told is said of it
 told_of : {T : Type 0} (found : Option T) (held : T) (P : T → Type 0) → found ≡ Some held → IfSome found P → P held
@@ -89,6 +95,8 @@ unread_as seen held name limit taken (TooLong n) told well is =
     ap (λ (found : Result (List ℕ) Status). and_then found taken) (long_of name limit (held name) long)
     ∙ ap (λ m. Err (TooLong m)) (sym is.0)
 unread_as seen held name limit taken (FileCount files injectors) told well is = absurd is
+unread_as seen held name limit taken (CollectRefused line first) told well is = absurd is
+unread_as seen held name limit taken (AuditRefused line r) told well is = absurd is
 
 -- a file that is refused is refused so
 refused_as : {T : Type 0} (seen : ShelfSeen) (held : Files) (name : List ℕ) (limit : ℕ) (taken : List ℕ → Result T Status) (s : Status)
@@ -146,6 +154,8 @@ before_read files held (Run workers rounds (Some plan) inputs) shape before told
     held_as files held plan plan_limit (rounds_taken shape workers rounds) (Ok before) told is
 before_read files held (Plain inputs) shape before told is = ap Ok (sym is)
 before_read files held (Load seed lines) shape before told is = ap Ok (sym is)
+before_read files held (Collect file) shape before told is = ap Ok (sym is)
+before_read files held (Audit inputs trace) shape before told is = ap Ok (sym is)
 
 -- a plan that is refused is refused so
 before_refused : (seen : ShelfSeen) (held : Files) (call : Call) (shape : Shape) (s : Status) → seen.files ≡ Some held
@@ -158,6 +168,8 @@ before_refused seen held (Run workers rounds (Some plan) inputs) shape s told we
     refused_as seen held plan plan_limit (rounds_taken shape workers rounds) s told well is
 before_refused seen held (Plain inputs) shape s told well is = absurd is
 before_refused seen held (Load seed lines) shape s told well is = absurd is
+before_refused seen held (Collect file) shape s told well is = absurd is
+before_refused seen held (Audit inputs trace) shape s told well is = absurd is
 
 -- files of which one is refused are refused so
 inputs_refused : (seen : ShelfSeen) (held : Files) (call : Call) (inputs : Inputs) (s : Status)
@@ -194,6 +206,19 @@ load_read seed lines task is =
     ap (λ (found : Result Shape Status). and_then found (λ shape. source_taken 0 lines_limit (load_text seed lines)))
     is.made.topology_read ∙ is.made.events_read
 
+-- what comes behind the files of an audit's inputs
+abbrev behind_inputs : Files → List ℕ → Result (List Source) Status → Result (List ℕ) Status
+behind_inputs held trace found = and_then found (λ sources. file_as held trace trace_limit trace_taken)
+
+-- files of a case that were read are taken so, and the trace's is next
+trace_behind : (files : Option Files) (held : Files) (inputs : Inputs) (trace : List ℕ) (case : CaseShape) → files ≡ Some held
+    → HoldsCase files inputs case
+    → behind_inputs held trace (inputs_taken held (Audit inputs trace) inputs) ≡ file_as held trace trace_limit trace_taken
+trace_behind files held inputs trace case told is =
+    ap (behind_inputs held trace) (ap (behind_topology held (Audit inputs trace) inputs)
+    (held_as files held inputs.topology topology_limit (topology_taken (length inputs.events)) _ told is.topology_read)
+    ∙ sources_as files held 0 lines_limit inputs.events case.sources told is.events_read)
+
 -- the answer to a command is that for its call
 answer_of-named : (held : Files) (rows : Rows) (asked : Option Command) (command : Command) → asked ≡ Some command
     → answer_of held rows asked ≡ answer_for held rows command.call
@@ -202,24 +227,89 @@ answer_of-named held rows asked command named =
 
 -- a refused call is answered so
 call_refused : (seen : ShelfSeen) (held : Files) (rows : Rows) (call : Call) (s : Status)
-    → seen.files ≡ Some held → (Rose seen.faults.0 seen.faults.1 → ⊥) → IsCallRefused seen call s → answer_for held rows call ≡ s
+    → seen.files ≡ Some held → (Rose seen.faults.0 seen.faults.1 → ⊥) → IsCallRefused seen call s
+    → (answer_for held rows call ≡ s) ⊎ IsCallWrong held call s
 call_refused seen held rows (Solo inputs) s told well is =
-    ap (λ (found : Result (List Source) Status). ended found (ran_over rows)) (inputs_refused seen held (Solo inputs) inputs s told well is)
+    inl (ap (λ (found : Result (List Source) Status). ended found (ran_over rows))
+    (inputs_refused seen held (Solo inputs) inputs s told well is))
 call_refused seen held rows (Replay plan inputs) s told well is =
-    ap (λ (found : Result (List Source) Status). ended found (ran_over rows)) (inputs_refused seen held (Replay plan inputs) inputs s told well is)
+    inl (ap (λ (found : Result (List Source) Status). ended found (ran_over rows))
+    (inputs_refused seen held (Replay plan inputs) inputs s told well is))
 call_refused seen held rows (Run workers rounds plan inputs) s told well is =
-    ap (λ (found : Result (List Source) Status). ended found (ran_over rows))
-    (inputs_refused seen held (Run workers rounds plan inputs) inputs s told well is)
+    inl (ap (λ (found : Result (List Source) Status). ended found (ran_over rows))
+    (inputs_refused seen held (Run workers rounds plan inputs) inputs s told well is))
 call_refused seen held rows (Plain inputs) s told well is =
-    ap (λ (found : Result (List Source) Status). ended found status.Ok) (inputs_refused seen held (Plain inputs) inputs s told well is)
+    inl (ap (λ (found : Result (List Source) Status). ended found status.Ok)
+    (inputs_refused seen held (Plain inputs) inputs s told well is))
 call_refused seen held rows (Load seed lines) s told well is =
-    ap (λ (found : Result Source Status). ended found (ran_over rows)) is
+    inl (ap (λ (found : Result Source Status). ended found (ran_over rows)) is)
+call_refused seen held rows (Collect file) s told well is =
+    inl (ap (λ (found : Result (List ℕ) Status). ended found status.Ok)
+    (refused_as seen held file collect_limit collect_taken s told well is))
+call_refused seen held rows (Audit inputs trace) s told well is = elim is [
+  | inl files ↦ inl (ap (λ found. ended found status.Ok) (ap (behind_inputs held trace)
+      (inputs_refused seen held (Audit inputs trace) inputs s told well files)))
+  | inr behind ↦ elim behind [
+    | inl file ↦ inl (ap (λ found. ended found status.Ok) (trace_behind seen.files held inputs trace file.case told file.case_read
+        ∙ refused_as seen held trace trace_limit trace_taken s told well file.refused))
+    | inr wrong ↦ inr (subst (λ (fs : Option Files). HoldsWrong fs inputs trace s) told wrong)
+  ]
+]
+
+-- a status that says of no trace that it is wrong
+abbrev IsOther : Status → Type 0
+IsOther (AuditRefused line why) = ⊥
+IsOther _ = ⊤
+
+-- such a status says so of no bytes
+not_wrong : (case : CaseShape) (bytes : List ℕ) (s : Status) → IsOther s → SaysWrong case bytes s → ⊥
+not_wrong case bytes status.Ok other says = says
+not_wrong case bytes Usage other says = says
+not_wrong case bytes (NoFile name) other says = says
+not_wrong case bytes (TopologyRefused why) other says = says
+not_wrong case bytes (EventsRefused file line why) other says = says
+not_wrong case bytes (PlanRefused line) other says = says
+not_wrong case bytes KeeperFault other says = says
+not_wrong case bytes SinkFault other says = says
+not_wrong case bytes NoMemory other says = says
+not_wrong case bytes (NotEmpty name row) other says = says
+not_wrong case bytes HistoryFull other says = says
+not_wrong case bytes (RowDamaged name row) other says = says
+not_wrong case bytes (ReadFault name) other says = says
+not_wrong case bytes (TooLong name) other says = says
+not_wrong case bytes (FileCount files injectors) other says = says
+not_wrong case bytes (CollectRefused line first) other says = says
+not_wrong case bytes (AuditRefused line why) other says = other
+
+-- nor of an audit's trace
+not_call_wrong : (held : Files) (call : Call) (s : Status) → IsOther s → IsCallWrong held call s → ⊥
+not_call_wrong held (Solo inputs) s other wrong = wrong
+not_call_wrong held (Replay plan inputs) s other wrong = wrong
+not_call_wrong held (Run workers rounds plan inputs) s other wrong = wrong
+not_call_wrong held (Plain inputs) s other wrong = wrong
+not_call_wrong held (Load seed lines) s other wrong = wrong
+not_call_wrong held (Collect file) s other wrong = wrong
+not_call_wrong held (Audit inputs trace) s other wrong = not_wrong wrong.case wrong.wrong.bytes s other wrong.wrong.wrong
 
 -- so is the command
 answer_refused : (seen : ShelfSeen) (asked : Option Command) (held : Files) (rows : Rows) (s : Status)
-    → seen.files ≡ Some held → (Rose seen.faults.0 seen.faults.1 → ⊥) → IsCommandRefused seen asked s → s ≡ answer_of held rows asked
-answer_refused seen asked held rows s told well is =
-    sym (answer_of-named held rows asked is.command is.named ∙ call_refused seen held rows is.command.call s told well is.why)
+    → seen.files ≡ Some held → (Rose seen.faults.0 seen.faults.1 → ⊥) → IsOther s → IsCommandRefused seen asked s
+    → s ≡ answer_of held rows asked
+answer_refused seen asked held rows s told well other is =
+    elim (call_refused seen held rows is.command.call s told well is.why) [
+      | inl same ↦ sym (answer_of-named held rows asked is.command is.named ∙ same)
+      | inr wrong ↦ absurd (not_call_wrong held is.command.call s other wrong)
+    ]
+
+-- or a trace is wrong
+wrong_or_refused : (seen : ShelfSeen) (asked : Option Command) (held : Files) (rows : Rows) (s : Status)
+    → seen.files ≡ Some held → (Rose seen.faults.0 seen.faults.1 → ⊥) → IsCommandRefused seen asked s
+    → IsCommandWrong held asked s ⊎ (s ≡ answer_of held rows asked)
+wrong_or_refused seen asked held rows s told well is =
+    elim (call_refused seen held rows is.command.call s told well is.why) [
+      | inl same ↦ inr (sym (answer_of-named held rows asked is.command is.named ∙ same))
+      | inr wrong ↦ inl (record { command = is.command; named = is.named; wrong = wrong })
+    ]
 
 -- a run comes to its end over a keeper without rows
 ran_over-empty : (found : Option Rows) (rows : Rows) → found ≡ Some rows → IfSome found (λ rs. rs ≡ []) → ran_over rows ≡ status.Ok
@@ -238,7 +328,8 @@ ended_read found x run is = ap (λ (r : Result _ Status). ended r run) is
 
 -- where all is read the keeper's rows decide how a run ends, and nothing how a plain count does
 call_read : (files : Option Files) (held : Files) (rows : Rows) (call : Call) (task : Task) (left : Left) (s : Status)
-    → files ≡ Some held → IsTask files call task → (RunLeaves task left s → ran_over rows ≡ s) → (CountLeaves task.case left s → status.Ok ≡ s)
+    → files ≡ Some held → IsTask files call task → (RunLeaves task left s → ran_over rows ≡ s)
+    → (TextLeaves (IsPlainText task.case) left s → status.Ok ≡ s)
     → CallLeaves call task left s → answer_for held rows call ≡ s
 call_read files held rows (Solo inputs) task left s told is ran counted leaves =
     ended_read _ _ (ran_over rows) (inputs_read files held (Solo inputs) inputs task told is) ∙ ran leaves
@@ -250,14 +341,41 @@ call_read files held rows (Plain inputs) task left s told is ran counted leaves 
     ended_read _ _ status.Ok (inputs_read files held (Plain inputs) inputs task told is) ∙ counted leaves
 call_read files held rows (Load seed lines) task left s told is ran counted leaves =
     ended_read _ _ (ran_over rows) (load_read seed lines task is) ∙ ran leaves
+call_read files held rows (Collect file) task left s told is ran counted leaves = absurd is
+call_read files held rows (Audit inputs trace) task left s told is ran counted leaves = absurd is
 
 -- so it is of the command
 answer_read : (files : Option Files) (asked : Option Command) (held : Files) (rows : Rows) (left : Left) (s : Status)
     → files ≡ Some held → (is : HasRun files asked left s) → (RunLeaves is.task left s → ran_over rows ≡ s)
-    → (CountLeaves is.task.case left s → status.Ok ≡ s) → answer_of held rows asked ≡ s
+    → (TextLeaves (IsPlainText is.task.case) left s → status.Ok ≡ s) → answer_of held rows asked ≡ s
 answer_read files asked held rows left s told is ran counted =
     answer_of-named held rows asked is.command is.named
     ∙ call_read files held rows is.command.call is.task left s told is.is_task ran counted is.leaves
+
+-- a text that was written whole is that of files that were read
+text_read : (files : Option Files) (held : Files) (rows : Rows) (call : Call) (left : Left) → files ≡ Some held
+    → TextLeaves (IsTextOf files call) left status.Ok → answer_for held rows call ≡ status.Ok
+text_read files held rows (Solo inputs) left told leaves = absurd leaves.is_text
+text_read files held rows (Replay plan inputs) left told leaves = absurd leaves.is_text
+text_read files held rows (Run workers rounds plan inputs) left told leaves = absurd leaves.is_text
+text_read files held rows (Plain inputs) left told leaves = absurd leaves.is_text
+text_read files held rows (Load seed lines) left told leaves = absurd leaves.is_text
+text_read files held rows (Collect file) left told leaves =
+    ended_read _ _ status.Ok (held_as files held file collect_limit collect_taken _ told leaves.is_text.1)
+text_read files held rows (Audit inputs trace) left told leaves =
+    let run = leaves.is_text in
+    ended_read _ _ status.Ok (trace_behind files held inputs trace run.case told run.case_read
+    ∙ held_as files held trace trace_limit trace_taken _ told run.counts.trace_read)
+
+-- with Ok all was read, and rows that were seen were none, or had no part in it
+done_answer : (files : Option Files) (asked : Option Command) (held : Files) (rows : Rows) (left : Left) → files ≡ Some held
+    → left.rows.0 ≡ Some rows → HasDone files asked left status.Ok → answer_of held rows asked ≡ status.Ok
+done_answer files asked held rows left told seen_rows is = elim is [
+  | inl run ↦ answer_read files asked held rows left status.Ok told run
+      (λ leaves. ran_over-empty left.rows.0 rows seen_rows leaves.run.run.began_empty) (λ leaves. refl)
+  | inr text ↦ answer_of-named held rows asked text.command text.named
+      ∙ text_read files held rows text.command.call left told text.leaves
+]
 
 -- what only a run leaves is left by one, and the history is as full as one may be
 full_left : (call : Call) (task : Task) (left : Left) → CallLeaves call task left HistoryFull → IsFull task left
@@ -266,6 +384,8 @@ full_left (Replay plan inputs) task left leaves = leaves
 full_left (Run workers rounds plan inputs) task left leaves = leaves
 full_left (Plain inputs) task left leaves = absurd leaves
 full_left (Load seed lines) task left leaves = leaves
+full_left (Collect file) task left leaves = absurd leaves
+full_left (Audit inputs trace) task left leaves = absurd leaves
 
 -- so it is of a damaged row
 damaged_left : (call : Call) (task : Task) (left : Left) (name : RowName) (bytes : List ℕ)
@@ -275,6 +395,8 @@ damaged_left (Replay plan inputs) task left name bytes leaves = leaves
 damaged_left (Run workers rounds plan inputs) task left name bytes leaves = leaves
 damaged_left (Plain inputs) task left name bytes leaves = absurd leaves
 damaged_left (Load seed lines) task left name bytes leaves = leaves
+damaged_left (Collect file) task left name bytes leaves = absurd leaves
+damaged_left (Audit inputs trace) task left name bytes leaves = absurd leaves
 
 -- a full history is one of files that were read, over a keeper without rows
 full_answer : (files : Option Files) (asked : Option Command) (held : Files) (rows : Rows) (left : Left) → files ≡ Some held
@@ -296,6 +418,8 @@ full_answer files asked held rows left told seen_rows is =
     by_call (Plain inputs) made leaves = absurd leaves
     by_call (Load seed lines) made leaves =
         ended_read _ _ (ran_over rows) (load_read seed lines is.task made) ∙ empty leaves
+    by_call (Collect file) made leaves = absurd leaves
+    by_call (Audit inputs trace) made leaves = absurd leaves
 
 -- where the keeper's rows were seen before they are seen after
 still_told : (old new : Option Rows) (rows : Rows) → old ≡ Some rows → is_some new ≡ is_some old → IfSome new (λ _. ⊥) → ⊥
@@ -304,7 +428,8 @@ still_told old (Some held) rows told tells untold = untold
 
 -- where no command is asked for the answer is Usage
 pub answer_usage : (asked : Option Command) (held : Files) (rows : Rows) → asked ≡ None → Usage ≡ answer_of held rows asked
-answer_usage asked held rows none = sym (ap (λ (c : Option Command). option_map_or (λ (k : Command). answer_for held rows k.call) c Usage) none)
+answer_usage asked held rows none =
+    sym (ap (λ (c : Option Command). option_map_or (λ (k : Command). answer_for held rows k.call) c Usage) none)
 
 -- over files and rows that a contract can see, where nothing failed, the answer is theirs, or memory ran out, or the history is full
 pub told_answer : (seen : ShelfSeen) (asked : Option Command) (left : Left) (k0 k1 f0 f1 : ℕ) (held : Files) (rows : Rows) (s : Status)
@@ -312,18 +437,17 @@ pub told_answer : (seen : ShelfSeen) (asked : Option Command) (left : Left) (k0 
     → is_some left.rows.1 ≡ is_some left.rows.0 → seen.files ≡ Some held → left.rows.0 ≡ Some rows
     → (Rose seen.faults.0 seen.faults.1 → ⊥) → (Rose k0 k1 → ⊥) → (Rose f0 f1 → ⊥) → IsAnswer held rows asked left.history s
 told_answer seen asked left k0 k1 f0 f1 held rows status.Ok why is keeper sink tells told seen_rows well kept written =
-    sym (answer_read seen.files asked held rows left _ told is
-    (λ leaves. ran_over-empty left.rows.0 rows seen_rows leaves.run.run.began_empty) (λ leaves. refl))
+    sym (done_answer seen.files asked held rows left told seen_rows is)
 told_answer seen asked left k0 k1 f0 f1 held rows Usage why is keeper sink tells told seen_rows well kept written = answer_usage
     asked held rows why
 told_answer seen asked left k0 k1 f0 f1 held rows (NoFile name) why is keeper sink tells told seen_rows well kept written =
-    answer_refused seen asked held rows _ told well why
+    answer_refused seen asked held rows _ told well tt why
 told_answer seen asked left k0 k1 f0 f1 held rows (TopologyRefused r) why is keeper sink tells told seen_rows well kept written =
-    answer_refused seen asked held rows _ told well why
+    answer_refused seen asked held rows _ told well tt why
 told_answer seen asked left k0 k1 f0 f1 held rows (EventsRefused file line r) why is keeper sink tells told seen_rows well kept written =
-    answer_refused seen asked held rows _ told well why
+    answer_refused seen asked held rows _ told well tt why
 told_answer seen asked left k0 k1 f0 f1 held rows (PlanRefused line) why is keeper sink tells told seen_rows well kept written =
-    answer_refused seen asked held rows _ told well why
+    answer_refused seen asked held rows _ told well tt why
 told_answer seen asked left k0 k1 f0 f1 held rows KeeperFault why is keeper sink tells told seen_rows well kept written = absurd
     (kept (keeper refl))
 told_answer seen asked left k0 k1 f0 f1 held rows SinkFault why is keeper sink tells told seen_rows well kept written = absurd
@@ -341,73 +465,120 @@ told_answer seen asked left k0 k1 f0 f1 held rows (RowDamaged name bytes) why is
     absurd (still_told left.rows.0 left.rows.1 rows seen_rows tells
     (damaged_left is.command.call is.task left name bytes is.leaves).damaged.untold)
 told_answer seen asked left k0 k1 f0 f1 held rows (ReadFault name) why is keeper sink tells told seen_rows well kept written =
-    answer_refused seen asked held rows _ told well why
+    answer_refused seen asked held rows _ told well tt why
 told_answer seen asked left k0 k1 f0 f1 held rows (TooLong name) why is keeper sink tells told seen_rows well kept written =
-    answer_refused seen asked held rows _ told well why
+    answer_refused seen asked held rows _ told well tt why
 told_answer seen asked left k0 k1 f0 f1 held rows (FileCount files injectors) why is keeper sink tells told seen_rows well kept written =
-    answer_refused seen asked held rows _ told well why
+    answer_refused seen asked held rows _ told well tt why
+told_answer seen asked left k0 k1 f0 f1 held rows (CollectRefused line first) why is keeper sink tells told seen_rows well kept written =
+    answer_refused seen asked held rows _ told well tt why
+told_answer seen asked left k0 k1 f0 f1 held rows (AuditRefused line r) why is keeper sink tells told seen_rows well kept written =
+    wrong_or_refused seen asked held rows _ told well why
 
--- where the plain count is asked for it is the call
-pub same_call : (asked : Option Command) (inputs : Inputs) (command : Command) → AsksPlain asked inputs → asked ≡ Some command
-    → command.call ≡ Plain inputs
-same_call asked inputs command asks named =
-    ap (λ (c : Command). c.call) (same_Some command (record { call = Plain inputs; keep = None }) (sym named ∙ asks))
+-- where a call is asked for in which no keeper has a part, none has in the call that is read
+pub unkept_call : (asked : Option Command) (call : Call) (command : Command) → AsksUnkept asked call → asked ≡ Some command
+    → is_unkept command.call ≡ true
+unkept_call asked call command asks named =
+    ap (λ (c : Command). is_unkept c.call)
+    (same_Some command (record { call = call; keep = None }) (sym named ∙ asks.0)) ∙ asks.1
 
--- what is left of a run is left of no plain count
-no_count : (files : Option Files) (asked : Option Command) (left : Left) (inputs : Inputs) (s : Status) → AsksPlain asked inputs
-    → (is : HasRun files asked left s) → (CountLeaves is.task.case left s → ⊥) → ⊥
-no_count files asked left inputs s asks is none =
-    none (subst (λ (call : Call). CallLeaves call is.task left s) (same_call asked inputs is.command asks is.named) is.leaves)
+-- what is left of a run is left of no such call
+no_run : (files : Option Files) (call : Call) (task : Task) (left : Left) (s : Status) → is_unkept call ≡ true
+    → IsTask files call task → CallLeaves call task left s → (TextLeaves (IsPlainText task.case) left s → ⊥) → ⊥
+no_run files (Solo inputs) task left s unkept is leaves none = true≢false (sym unkept)
+no_run files (Replay plan inputs) task left s unkept is leaves none = true≢false (sym unkept)
+no_run files (Run workers rounds plan inputs) task left s unkept is leaves none = true≢false (sym unkept)
+no_run files (Plain inputs) task left s unkept is leaves none = none leaves
+no_run files (Load seed lines) task left s unkept is leaves none = true≢false (sym unkept)
+no_run files (Collect file) task left s unkept is leaves none = absurd is
+no_run files (Audit inputs trace) task left s unkept is leaves none = absurd is
 
--- the answer where the plain count is asked for is that of the files, whatever rows there may be
-plain_named : (held : Files) (asked : Option Command) (inputs : Inputs) → AsksPlain asked inputs
-    → answer_of held [] asked ≡ plain_for held inputs
-plain_named held asked inputs asks = answer_of-named held [] asked (record { call = Plain inputs; keep = None }) asks
+-- so it is where such a call is asked for
+none_run : (files : Option Files) (asked : Option Command) (left : Left) (call : Call) (s : Status) → AsksUnkept asked call
+    → (is : HasRun files asked left s) → (TextLeaves (IsPlainText is.task.case) left s → ⊥) → ⊥
+none_run files asked left call s asks is none =
+    no_run files is.command.call is.task left s (unkept_call asked call is.command asks is.named) is.is_task is.leaves none
+
+-- the answer to such a call is that of the files, whatever rows there may be
+unkept_named : (held : Files) (asked : Option Command) (call : Call) → AsksUnkept asked call
+    → answer_of held [] asked ≡ answer_for held [] call
+unkept_named held asked call asks = answer_of-named held [] asked (record { call = call; keep = None }) asks.0
 
 -- a refusal of the files is that answer
-plain_refused : (seen : ShelfSeen) (asked : Option Command) (held : Files) (inputs : Inputs) (s : Status)
-    → seen.files ≡ Some held → (Rose seen.faults.0 seen.faults.1 → ⊥) → AsksPlain asked inputs → IsCommandRefused seen asked s
-    → s ≡ plain_for held inputs
-plain_refused seen asked held inputs s told well asks why =
-    answer_refused seen asked held [] s told well why ∙ plain_named held asked inputs asks
+unkept_refused : (seen : ShelfSeen) (asked : Option Command) (held : Files) (call : Call) (s : Status)
+    → seen.files ≡ Some held → (Rose seen.faults.0 seen.faults.1 → ⊥) → AsksUnkept asked call → IsOther s
+    → IsCommandRefused seen asked s → s ≡ answer_for held [] call
+unkept_refused seen asked held call s told well asks other why =
+    answer_refused seen asked held [] s told well other why ∙ unkept_named held asked call asks
 
--- a plain count that was written whole is that answer
-plain_read : (files : Option Files) (asked : Option Command) (held : Files) (left : Left) (inputs : Inputs)
-    → files ≡ Some held → AsksPlain asked inputs → HasRun files asked left status.Ok → status.Ok ≡ plain_for held inputs
-plain_read files asked held left inputs told asks is =
-    let made = subst (λ (call : Call). IsTask files call is.task) (same_call asked inputs is.command asks is.named) is.is_task in
-    sym (ended_read _ _ status.Ok (inputs_read files held (Plain inputs) inputs is.task told made))
+-- or its trace is wrong
+unkept_wrong : (seen : ShelfSeen) (asked : Option Command) (held : Files) (call : Call) (s : Status)
+    → seen.files ≡ Some held → (Rose seen.faults.0 seen.faults.1 → ⊥) → AsksUnkept asked call → IsCommandRefused seen asked s
+    → IsCallWrong held call s ⊎ (s ≡ answer_for held [] call)
+unkept_wrong seen asked held call s told well asks why = elim (wrong_or_refused seen asked held [] s told well why) [
+  | inl wrong ↦ inl (subst (λ (c : Call). IsCallWrong held c s)
+      (ap (λ (c : Command). c.call) (same_Some wrong.command (record { call = call; keep = None }) (sym wrong.named ∙ asks.0)))
+      wrong.wrong)
+  | inr same ↦ inr (same ∙ unkept_named held asked call asks)
+]
 
--- over files that a contract can see, where nothing failed, the answer of the plain count is theirs, or memory ran out
-pub told_plain : (seen : ShelfSeen) (asked : Option Command) (left : Left) (f0 f1 : ℕ) (held : Files) (inputs : Inputs) (s : Status)
+-- the task of such a call is that of files that were read
+task_read : (files : Option Files) (held : Files) (call : Call) (task : Task) → files ≡ Some held → is_unkept call ≡ true
+    → IsTask files call task → answer_for held [] call ≡ status.Ok
+task_read files held (Solo inputs) task told unkept is = absurd (true≢false (sym unkept))
+task_read files held (Replay plan inputs) task told unkept is = absurd (true≢false (sym unkept))
+task_read files held (Run workers rounds plan inputs) task told unkept is = absurd (true≢false (sym unkept))
+task_read files held (Plain inputs) task told unkept is =
+    ended_read _ _ status.Ok (inputs_read files held (Plain inputs) inputs task told is)
+task_read files held (Load seed lines) task told unkept is = absurd (true≢false (sym unkept))
+task_read files held (Collect file) task told unkept is = absurd is
+task_read files held (Audit inputs trace) task told unkept is = absurd is
+
+-- what was written whole is that answer
+unkept_done : (files : Option Files) (asked : Option Command) (held : Files) (left : Left) (call : Call)
+    → files ≡ Some held → AsksUnkept asked call → HasDone files asked left status.Ok → status.Ok ≡ answer_for held [] call
+unkept_done files asked held left call told asks is = sym (elim is [
+  | inl run ↦ answer_of-named held [] asked run.command run.named
+      ∙ task_read files held run.command.call run.task told (unkept_call asked call run.command asks run.named) run.is_task
+  | inr text ↦ answer_of-named held [] asked text.command text.named
+      ∙ text_read files held [] text.command.call left told text.leaves
+]) ∙ unkept_named held asked call asks
+
+-- over files that a contract can see, where nothing failed, the answer of a call in which no keeper has a part is
+-- theirs, or memory ran out
+pub told_unkept : (seen : ShelfSeen) (asked : Option Command) (left : Left) (f0 f1 : ℕ) (held : Files) (call : Call) (s : Status)
     → HasReason seen asked s → HasLeft seen.files asked left s → (s ≡ SinkFault → Rose f0 f1)
-    → seen.files ≡ Some held → AsksPlain asked inputs
-    → (Rose seen.faults.0 seen.faults.1 → ⊥) → (Rose f0 f1 → ⊥) → IsPlainAnswer held inputs s
-told_plain seen asked left f0 f1 held inputs status.Ok why is sink told asks well written =
-    plain_read seen.files asked held left inputs told asks is
-told_plain seen asked left f0 f1 held inputs Usage why is sink told asks well written =
-    answer_usage asked held [] why ∙ plain_named held asked inputs asks
-told_plain seen asked left f0 f1 held inputs (NoFile name) why is sink told asks well written =
-    plain_refused seen asked held inputs _ told well asks why
-told_plain seen asked left f0 f1 held inputs (TopologyRefused r) why is sink told asks well written =
-    plain_refused seen asked held inputs _ told well asks why
-told_plain seen asked left f0 f1 held inputs (EventsRefused file line r) why is sink told asks well written =
-    plain_refused seen asked held inputs _ told well asks why
-told_plain seen asked left f0 f1 held inputs (PlanRefused line) why is sink told asks well written =
-    plain_refused seen asked held inputs _ told well asks why
-told_plain seen asked left f0 f1 held inputs KeeperFault why is sink told asks well written =
-    absurd (no_count seen.files asked left inputs KeeperFault asks is (λ none. none))
-told_plain seen asked left f0 f1 held inputs SinkFault why is sink told asks well written = absurd (written (sink refl))
-told_plain seen asked left f0 f1 held inputs NoMemory why is sink told asks well written = tt
-told_plain seen asked left f0 f1 held inputs (NotEmpty name bytes) why is sink told asks well written =
-    absurd (no_count seen.files asked left inputs (NotEmpty name bytes) asks is (λ none. none))
-told_plain seen asked left f0 f1 held inputs HistoryFull why is sink told asks well written =
-    absurd (no_count seen.files asked left inputs HistoryFull asks is (λ none. none))
-told_plain seen asked left f0 f1 held inputs (RowDamaged name bytes) why is sink told asks well written =
-    absurd (no_count seen.files asked left inputs (RowDamaged name bytes) asks is (λ none. none))
-told_plain seen asked left f0 f1 held inputs (ReadFault name) why is sink told asks well written =
-    plain_refused seen asked held inputs _ told well asks why
-told_plain seen asked left f0 f1 held inputs (TooLong name) why is sink told asks well written =
-    plain_refused seen asked held inputs _ told well asks why
-told_plain seen asked left f0 f1 held inputs (FileCount files injectors) why is sink told asks well written =
-    plain_refused seen asked held inputs _ told well asks why
+    → seen.files ≡ Some held → AsksUnkept asked call
+    → (Rose seen.faults.0 seen.faults.1 → ⊥) → (Rose f0 f1 → ⊥) → IsUnkeptAnswer held call s
+told_unkept seen asked left f0 f1 held call status.Ok why is sink told asks well written =
+    unkept_done seen.files asked held left call told asks is
+told_unkept seen asked left f0 f1 held call Usage why is sink told asks well written =
+    answer_usage asked held [] why ∙ unkept_named held asked call asks
+told_unkept seen asked left f0 f1 held call (NoFile name) why is sink told asks well written =
+    unkept_refused seen asked held call _ told well asks tt why
+told_unkept seen asked left f0 f1 held call (TopologyRefused r) why is sink told asks well written =
+    unkept_refused seen asked held call _ told well asks tt why
+told_unkept seen asked left f0 f1 held call (EventsRefused file line r) why is sink told asks well written =
+    unkept_refused seen asked held call _ told well asks tt why
+told_unkept seen asked left f0 f1 held call (PlanRefused line) why is sink told asks well written =
+    unkept_refused seen asked held call _ told well asks tt why
+told_unkept seen asked left f0 f1 held call KeeperFault why is sink told asks well written =
+    absurd (none_run seen.files asked left call KeeperFault asks is (λ none. none))
+told_unkept seen asked left f0 f1 held call SinkFault why is sink told asks well written = absurd (written (sink refl))
+told_unkept seen asked left f0 f1 held call NoMemory why is sink told asks well written = tt
+told_unkept seen asked left f0 f1 held call (NotEmpty name bytes) why is sink told asks well written =
+    absurd (none_run seen.files asked left call (NotEmpty name bytes) asks is (λ none. none))
+told_unkept seen asked left f0 f1 held call HistoryFull why is sink told asks well written =
+    absurd (none_run seen.files asked left call HistoryFull asks is (λ none. none))
+told_unkept seen asked left f0 f1 held call (RowDamaged name bytes) why is sink told asks well written =
+    absurd (none_run seen.files asked left call (RowDamaged name bytes) asks is (λ none. none))
+told_unkept seen asked left f0 f1 held call (ReadFault name) why is sink told asks well written =
+    unkept_refused seen asked held call _ told well asks tt why
+told_unkept seen asked left f0 f1 held call (TooLong name) why is sink told asks well written =
+    unkept_refused seen asked held call _ told well asks tt why
+told_unkept seen asked left f0 f1 held call (FileCount files injectors) why is sink told asks well written =
+    unkept_refused seen asked held call _ told well asks tt why
+told_unkept seen asked left f0 f1 held call (CollectRefused line first) why is sink told asks well written =
+    unkept_refused seen asked held call _ told well asks tt why
+told_unkept seen asked left f0 f1 held call (AuditRefused line r) why is sink told asks well written =
+    unkept_wrong seen asked held call _ told well asks why

@@ -4,7 +4,7 @@ use Rattle.std.specs.Io.KnownBytes.{append_known}
 use Rattle.mw_types.specs.declared.identity.RowName.{RowName}
 use Rattle.mw_types.specs.declared.entry.Entry.{Entry}
 use Rattle.command_line.specs.declared.command.Call.{Call}
-use Rattle.command_line.specs.declared.command.Call.TheVariants.{Solo, Replay, Run, Plain, Load}
+use Rattle.command_line.specs.declared.command.Call.TheVariants.{Solo, Replay, Run, Plain, Load, Collect, Audit}
 use Rattle.command_line.specs.declared.command.Command.{Command}
 use Rattle.mw_ports.specs.Shelves.{Files}
 use Rattle.mw_ports.specs.Sinks.{AppendsPrefix}
@@ -29,6 +29,8 @@ use Rattle.millwheel_cli.specs.declared.task.Wanted.TheVariants.{ResultAlone, Hi
 use Rattle.millwheel_cli.specs.Limits.{history_limit}
 use Rattle.millwheel_cli.specs.Histories.{GoesAs, IsAllOf, IsReadAfter, IsShortOf}
 use Rattle.millwheel_cli.specs.Tasks.{IsTask}
+use Rattle.millwheel_cli.specs.Collects.{HoldsLines}
+use Rattle.millwheel_cli.specs.Audits.{HoldsRun}
 
 -- what a call leaves: the keeper's rows and the sink's text, before and after, where a contract can see
 -- them, and the history
@@ -147,33 +149,33 @@ RunLeaves task left (RowDamaged name bytes) = IsDamagedAt task left name bytes
 RunLeaves task left (NotEmpty name bytes) = IsHeldBefore left name bytes
 RunLeaves task left _ = ⊥
 
--- ---- what each status leaves of the plain count
+-- ---- what each status leaves of a text that needs no keeper
 
 -- no run is begun: there is no history, and the keeper's rows are those handed in
 pub record IsUnrun (left : Left) : Type 0 where
   pub empty : left.history ≡ []
   pub same_rows : left.rows.1 ≡ left.rows.0
 
--- the whole plain text of the case was written
-pub record IsCounted (case : CaseShape) (left : Left) : Type 0 where
+-- a text of which this is so was written whole
+pub record IsTextWritten (IsText : List ℕ → Type 0) (left : Left) : Type 0 where
   pub unrun : IsUnrun left
   pub text : List ℕ
-  pub plain : IsPlainText case text
+  pub is_text : IsText text
   pub written : left.text.1 ≡ append_known left.text.0 text
 
--- a beginning of the plain text of the case was written
-pub record IsCountedInPart (case : CaseShape) (left : Left) : Type 0 where
+-- a beginning of a text of which this is so was written
+pub record IsTextBegun (IsText : List ℕ → Type 0) (left : Left) : Type 0 where
   pub unrun : IsUnrun left
   pub text : List ℕ
-  pub plain : IsPlainText case text
+  pub is_text : IsText text
   pub part : AppendsPrefix text left.text.0 left.text.1
 
--- what each status leaves of the plain count once the files are read; the others come before that, or never
-abbrev pub CountLeaves : CaseShape → Left → Status → Type 0
-CountLeaves case left status.Ok = IsCounted case left
-CountLeaves case left SinkFault = IsCountedInPart case left
-CountLeaves case left NoMemory = IsCountedInPart case left ⊎ IsUnbegun left
-CountLeaves case left _ = ⊥
+-- what each status leaves of such a text once the files are read; the others come before that, or never
+abbrev pub TextLeaves : (List ℕ → Type 0) → Left → Status → Type 0
+TextLeaves IsText left status.Ok = IsTextWritten IsText left
+TextLeaves IsText left SinkFault = IsTextBegun IsText left
+TextLeaves IsText left NoMemory = IsTextBegun IsText left ⊎ IsUnbegun left
+TextLeaves IsText left _ = ⊥
 
 -- ---- what each status leaves of a call
 
@@ -182,8 +184,10 @@ abbrev pub CallLeaves : Call → Task → Left → Status → Type 0
 CallLeaves (Solo inputs) task left status = RunLeaves task left status
 CallLeaves (Replay plan inputs) task left status = RunLeaves task left status
 CallLeaves (Run workers rounds plan inputs) task left status = RunLeaves task left status
-CallLeaves (Plain inputs) task left status = CountLeaves task.case left status
+CallLeaves (Plain inputs) task left status = TextLeaves (IsPlainText task.case) left status
 CallLeaves (Load seed lines) task left status = RunLeaves task left status
+CallLeaves (Collect file) task left status = ⊥
+CallLeaves (Audit inputs trace) task left status = ⊥
 
 -- a command is asked for, which asks for a task, and of that the status leaves this
 pub record HasRun (files : Option Files) (asked : Option Command) (left : Left)
@@ -194,12 +198,29 @@ pub record HasRun (files : Option Files) (asked : Option Command) (left : Left)
   pub is_task : IsTask files command.call task
   pub leaves : CallLeaves command.call task left status
 
+-- the text is that of a call without a task, with these files where a contract can see the shelf's
+abbrev pub IsTextOf : Option Files → Call → List ℕ → Type 0
+IsTextOf files (Collect file) text = HoldsLines files file text
+IsTextOf files (Audit inputs trace) text = HoldsRun files inputs trace text
+IsTextOf files _ text = ⊥
+
+-- a command is asked for, which asks for a text and no task, and of that the status leaves this
+pub record HasWritten (files : Option Files) (asked : Option Command) (left : Left)
+    (status : Status) : Type 0 where
+  pub command : Command
+  pub named : asked ≡ Some command
+  pub leaves : TextLeaves (IsTextOf files command.call) left status
+
+-- one of the two
+abbrev pub HasDone : Option Files → Option Command → Left → Status → Type 0
+HasDone files asked left status = HasRun files asked left status ⊎ HasWritten files asked left status
+
 -- what each status leaves
 abbrev pub HasLeft : Option Files → Option Command → Left → Status → Type 0
-HasLeft files asked left status.Ok = HasRun files asked left status.Ok
-HasLeft files asked left SinkFault = HasRun files asked left SinkFault
+HasLeft files asked left status.Ok = HasDone files asked left status.Ok
+HasLeft files asked left SinkFault = HasDone files asked left SinkFault
 HasLeft files asked left KeeperFault = HasRun files asked left KeeperFault
-HasLeft files asked left NoMemory = HasRun files asked left NoMemory ⊎ IsUnbegun left
+HasLeft files asked left NoMemory = HasDone files asked left NoMemory ⊎ IsUnbegun left
 HasLeft files asked left HistoryFull = HasRun files asked left HistoryFull
 HasLeft files asked left (RowDamaged name bytes) = HasRun files asked left (RowDamaged name bytes)
 HasLeft files asked left (NotEmpty name bytes) = HasRun files asked left (NotEmpty name bytes)

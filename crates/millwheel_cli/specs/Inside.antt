@@ -17,6 +17,10 @@ use Rattle.topology.specs.declared.refusal.TopologyRefusal.TheVariants as topolo
 use Rattle.injector.specs.declared.refusal.LinesRefusal.{LinesRefusal}
 use Rattle.injector.specs.declared.refusal.LinesRefusal.TheVariants.{Line}
 use Rattle.injector.specs.declared.refusal.LinesRefusal.TheVariants as lines
+use Rattle.live_outlet.specs.declared.refusal.CollectRefusal.{CollectRefusal}
+use Rattle.live_outlet.specs.declared.refusal.CollectRefusal.TheVariants as collects
+use Rattle.trace_lines.specs.declared.refusal.AuditRefusal.{AuditRefusal}
+use Rattle.trace_lines.specs.declared.refusal.AuditRefusal.TheVariants as audits
 use Rattle.run_history.specs.Cases.{CaseShape}
 use Rattle.run_history.specs.Fences.{Begins}
 use Rattle.plain_answer.specs.Plain.{IsPlainText}
@@ -35,13 +39,15 @@ use Rattle.millwheel_cli.specs.declared.task.Before.{Before}
 use Rattle.millwheel_cli.specs.declared.task.Before.TheVariants.{Steps, Rounds}
 use Rattle.millwheel_cli.specs.declared.task.Task.{Task}
 use Rattle.millwheel_cli.specs.Tasks.{IsTask}
-use Rattle.millwheel_cli.specs.Reasons.{ShelfSeen, IsCallRefused}
+use Rattle.millwheel_cli.specs.Reasons.{ShelfSeen, IsCallRefused, IsFileRefused}
+use Rattle.millwheel_cli.specs.Limits.{trace_limit}
+use Rattle.millwheel_cli.specs.Audits.{IsTraceWrong, trace_taken}
 use Rattle.millwheel_cli.specs.Histories.{IsFirstClaimed, IsPlainFront}
-use Rattle.millwheel_cli.specs.Answers.{CallLeaves, IsUnbegun, IsWholeText, Left, RunLeaves}
+use Rattle.millwheel_cli.specs.Answers.{CallLeaves, IsTextOf, IsUnbegun, IsWholeText, Left, RunLeaves, TextLeaves}
 use Rattle.millwheel_cli.specs.declared.status.Status.{Status}
 use Rattle.millwheel_cli.specs.declared.status.Status.TheVariants as status
 use Rattle.millwheel_cli.specs.declared.refusal.Refusal.{Refusal}
-use Rattle.millwheel_cli.specs.declared.refusal.Refusal.TheVariants.{NoFile, TopologyRefused, EventsRefused, PlanRefused, NoMemory, ReadFault, TooLong, FileCount}
+use Rattle.millwheel_cli.specs.declared.refusal.Refusal.TheVariants.{NoFile, TopologyRefused, EventsRefused, PlanRefused, NoMemory, ReadFault, TooLong, FileCount, CollectRefused, AuditRefused}
 
 -- a refusal of the files as a status
 abbrev pub status_of : Refusal → Status
@@ -53,6 +59,8 @@ status_of NoMemory = status.NoMemory
 status_of (ReadFault name) = status.ReadFault name
 status_of (TooLong name) = status.TooLong name
 status_of (FileCount files injectors) = status.FileCount files injectors
+status_of (CollectRefused line first) = status.CollectRefused line first
+status_of (AuditRefused line why) = status.AuditRefused line why
 
 -- it is so of the refusal's status, unless memory ran out
 abbrev pub UnlessWant : (Status → Type 0) → Refusal → Type 0
@@ -73,6 +81,16 @@ of_lines file lines.NoMemory = NoMemory
 abbrev pub of_plan : PlanRefusal → Refusal
 of_plan (plans.Line line) = PlanRefused line
 of_plan plans.NoMemory = NoMemory
+
+-- the refusal of a text of live lines
+abbrev pub of_collect : CollectRefusal → Refusal
+of_collect (collects.Differs line first) = CollectRefused line first
+of_collect collects.NoMemory = NoMemory
+
+-- the refusal of a trace
+abbrev pub of_audit : AuditRefusal → Refusal
+of_audit (audits.Bad line why) = AuditRefused line why
+of_audit audits.NoMemory = NoMemory
 
 -- the refusal of a shelf for a file of that name
 abbrev pub of_shelf : List ℕ → ShelfFault → Refusal
@@ -144,6 +162,18 @@ HasPlain case old new status.SinkFault = WritesPlainPart case old new
 HasPlain case old new status.NoMemory = WritesPlainPart case old new ⊎ (new ≡ old)
 HasPlain case old new _ = ⊥
 
+-- how the writing of a text ended: it was written whole, or a beginning of it
+abbrev pub IsWritten : List ℕ → Option (List ℕ) → Option (List ℕ) → Status → Type 0
+IsWritten text old new status.Ok = new ≡ append_known old text
+IsWritten text old new status.SinkFault = AppendsPrefix text old new
+IsWritten text old new status.NoMemory = AppendsPrefix text old new
+IsWritten text old new _ = ⊥
+
+-- why a trace is refused, over a case: its file is, or it is wrong
+abbrev pub IsTraceRefused : ShelfSeen → List ℕ → CaseShape → Status → Type 0
+IsTraceRefused seen trace case status =
+    IsFileRefused seen trace trace_limit trace_taken status ⊎ IsTraceWrong seen.files trace case status
+
 -- ---- how a call ends
 
 -- there is a task of a call, and of that the status leaves this
@@ -159,9 +189,14 @@ pub record IsRefusedCall (seen : ShelfSeen) (call : Call) (left : Left) (status 
   pub why : UnlessWant (IsCallRefused seen call) refusal
   pub unbegun : IsUnbegun left
 
--- a call ends with what its task leaves, or is refused
+-- a call without a task ends with what its text leaves, or is refused
+abbrev pub IsTextEnd : ShelfSeen → Call → Left → Status → Type 0
+IsTextEnd seen call left status =
+    TextLeaves (IsTextOf seen.files call) left status ⊎ IsRefusedCall seen call left status
+
+-- a call ends with what its task leaves, or as one without a task does
 abbrev pub IsCallEnd : ShelfSeen → Call → Left → Status → Type 0
-IsCallEnd seen call left status = HasTask seen.files call left status ⊎ IsRefusedCall seen call left status
+IsCallEnd seen call left status = HasTask seen.files call left status ⊎ IsTextEnd seen call left status
 
 -- ---- what rounds leave
 

@@ -3,6 +3,8 @@ pub mod Limits
 pub mod Files
 pub mod Loads
 pub mod Tasks
+pub mod Collects
+pub mod Audits
 pub mod Reasons
 pub mod Histories
 pub mod Answers

@@ -4,8 +4,10 @@ use Rattle.topology.specs.declared.refusal.TopologyRefusal.{TopologyRefusal}
 use Rattle.topology.specs.declared.refusal.TopologyRefusal.TheVariants as topologies
 use Rattle.injector.specs.declared.refusal.LineWhy.{LineWhy}
 use Rattle.injector.specs.declared.refusal.LineWhy.TheVariants as lines
+use Rattle.trace_lines.specs.declared.refusal.AuditWhy.{AuditWhy}
+use Rattle.trace_lines.specs.declared.refusal.AuditWhy.TheVariants as audits
 use Rattle.millwheel_cli.specs.declared.status.Status.{Status}
-use Rattle.millwheel_cli.specs.declared.status.Status.TheVariants.{Ok, Usage, NoFile, TopologyRefused, EventsRefused, PlanRefused, KeeperFault, SinkFault, NoMemory, NotEmpty, HistoryFull, RowDamaged, ReadFault, TooLong, FileCount}
+use Rattle.millwheel_cli.specs.declared.status.Status.TheVariants.{Ok, Usage, NoFile, TopologyRefused, EventsRefused, PlanRefused, KeeperFault, SinkFault, NoMemory, NotEmpty, HistoryFull, RowDamaged, ReadFault, TooLong, FileCount, CollectRefused, AuditRefused}
 
 -- the name of a rule of topology files
 abbrev pub topology_rule : TopologyRefusal → List ℕ
@@ -29,6 +31,13 @@ line_rule lines.BadStamp = codes "BadStamp"
 line_rule lines.BadValue = codes "BadValue"
 line_rule lines.TooManyLines = codes "TooManyLines"
 
+-- what is wrong with a line of a printed history
+abbrev pub audit_rule : AuditWhy → List ℕ
+audit_rule audits.NotALine = codes "NotALine"
+audit_rule audits.Unlawful = codes "Unlawful"
+audit_rule audits.NotFinished = codes "NotFinished"
+audit_rule audits.BadText = codes "BadText"
+
 -- the text of a status, which names the file, the rule or the row that it is about; there is none with Ok
 abbrev pub message_of : Status → List ℕ
 message_of Ok = []
@@ -50,6 +59,10 @@ message_of (ReadFault name) = codes "can't read " ++ name
 message_of (TooLong name) = codes "too long: " ++ name
 message_of (FileCount files injectors) =
     decimal files ++ codes " event files for " ++ decimal injectors ++ codes " injectors"
+message_of (AuditRefused line why) =
+    codes "not a lawful run: line " ++ decimal line ++ codes ": " ++ audit_rule why
+message_of (CollectRefused line first) =
+    codes "line " ++ (decimal line ++ (codes " differs from line " ++ decimal first))
 
 -- whether the run came to its end
 abbrev pub is_ok : Status → Bool

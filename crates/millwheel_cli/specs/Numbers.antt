@@ -1,7 +1,7 @@
 -- The exit status of the program for each status. Own.
 use Rattle.std.specs.Prelude.{ℕ}
 use Rattle.millwheel_cli.specs.declared.status.Status.{Status}
-use Rattle.millwheel_cli.specs.declared.status.Status.TheVariants.{Ok, Usage, NoFile, TopologyRefused, EventsRefused, PlanRefused, KeeperFault, SinkFault, NoMemory, NotEmpty, HistoryFull, RowDamaged, ReadFault, TooLong, FileCount}
+use Rattle.millwheel_cli.specs.declared.status.Status.TheVariants.{Ok, Usage, NoFile, TopologyRefused, EventsRefused, PlanRefused, KeeperFault, SinkFault, NoMemory, NotEmpty, HistoryFull, RowDamaged, ReadFault, TooLong, FileCount, CollectRefused, AuditRefused}
 
 -- the number with which the program ends
 abbrev pub number_of : Status → ℕ
@@ -20,3 +20,5 @@ number_of (RowDamaged name bytes) = 12
 number_of (ReadFault name) = 13
 number_of (TooLong name) = 14
 number_of (FileCount files injectors) = 15
+number_of (AuditRefused line why) = 17
+number_of (CollectRefused line first) = 18

@@ -1,24 +1,28 @@
 -- Why each status comes: what the shelf gave or failed to give, and what files and rows make of a call where
 -- a contract can see them. Own.
-use Rattle.std.specs.Prelude.{◌≡◌, ◌<◌, ◌⊎◌, ℕ, ◌+◌, ◌-◌, ⊤, List, [], ◌∷◌, length, nat_le, if◌then◌else◌, Option, Some, None, IfSome, IsSomeAnd, Result, Ok, Err}
+use Rattle.std.specs.Prelude.{◌≡◌, ◌<◌, ◌⊎◌, ℕ, ◌+◌, ◌-◌, ⊤, true, List, [], ◌∷◌, length, nat_le, if◌then◌else◌, Option, Some, None, IfSome, IsSomeAnd, Result, Ok, Err}
 use Rattle.std.specs.Option.{option_map_or}
 use Rattle.mw_types.specs.Causes.{Rose}
 use Rattle.mw_types.specs.declared.entry.Entry.{Entry}
 use Rattle.command_line.specs.declared.command.Inputs.{Inputs}
 use Rattle.command_line.specs.declared.command.Call.{Call}
-use Rattle.command_line.specs.declared.command.Call.TheVariants.{Solo, Replay, Run, Plain, Load}
+use Rattle.command_line.specs.declared.command.Call.TheVariants.{Solo, Replay, Run, Plain, Load, Collect, Audit}
 use Rattle.command_line.specs.declared.command.Command.{Command}
 use Rattle.mw_ports.specs.Shelves.{Files}
 use Rattle.json_reading.specs.Refusals.{and_then}
 use Rattle.topology.specs.Shapes.{Shape}
 use Rattle.injector.specs.Sources.{Source}
+use Rattle.run_history.specs.Cases.{CaseShape}
 use Rattle.row_keeper.specs.Rows.{Rows}
 use Rattle.millwheel_cli.specs.declared.status.Status.{Status}
-use Rattle.millwheel_cli.specs.declared.status.Status.TheVariants.{Usage, NoFile, KeeperFault, SinkFault, NoMemory, NotEmpty, HistoryFull, RowDamaged, ReadFault, TooLong}
+use Rattle.millwheel_cli.specs.declared.status.Status.TheVariants.{Usage, NoFile, KeeperFault, SinkFault, NoMemory, NotEmpty, HistoryFull, RowDamaged, ReadFault, TooLong, AuditRefused}
 use Rattle.millwheel_cli.specs.declared.status.Status.TheVariants as status
-use Rattle.millwheel_cli.specs.Limits.{topology_limit, plan_limit, events_limit, lines_limit, history_limit}
+use Rattle.millwheel_cli.specs.Asked.{is_unkept}
+use Rattle.millwheel_cli.specs.Limits.{topology_limit, plan_limit, events_limit, lines_limit, history_limit, collect_limit, trace_limit}
 use Rattle.millwheel_cli.specs.Files.{topology_taken, source_taken, HoldsAs, HoldsTopology, HoldsSource}
 use Rattle.millwheel_cli.specs.Loads.{load_topology, load_text}
+use Rattle.millwheel_cli.specs.Collects.{collect_taken}
+use Rattle.millwheel_cli.specs.Audits.{HoldsCase, HoldsWrong, trace_taken}
 use Rattle.millwheel_cli.specs.declared.task.Before.{Before}
 use Rattle.millwheel_cli.specs.declared.task.Before.TheVariants.{Steps, Rounds}
 use Rattle.millwheel_cli.specs.Tasks.{steps_taken, rounds_taken, HoldsBefore}
@@ -98,6 +102,18 @@ abbrev pub IsRefused : ShelfSeen → Call → Inputs → Status → Type 0
 IsRefused seen call inputs status =
     IsRefusedFirst seen call inputs status ⊎ IsEventsRefusedBehind seen call inputs status
 
+-- why a trace is refused, which is not read before the files of its run are taken
+pub record IsTraceRefusedBehind (seen : ShelfSeen) (inputs : Inputs) (trace : List ℕ)
+    (status : Status) : Type 0 where
+  pub case : CaseShape
+  pub case_read : HoldsCase seen.files inputs case
+  pub refused : IsFileRefused seen trace trace_limit trace_taken status
+
+-- why an audit is refused: one of the files of a run is, or the trace's, or the trace is wrong
+abbrev pub IsAuditRefused : ShelfSeen → Inputs → List ℕ → Status → Type 0
+IsAuditRefused seen inputs trace status = IsRefused seen (Audit inputs trace) inputs status
+    ⊎ (IsTraceRefusedBehind seen inputs trace status ⊎ HoldsWrong seen.files inputs trace status)
+
 -- what load runs, or why that is refused: it has a topology and event lines of its own
 abbrev pub load_taken : ℕ → ℕ → Result Source Status
 load_taken seed lines =
@@ -111,6 +127,8 @@ IsCallRefused seen (Run workers rounds plan inputs) status =
     IsRefused seen (Run workers rounds plan inputs) inputs status
 IsCallRefused seen (Plain inputs) status = IsRefused seen (Plain inputs) inputs status
 IsCallRefused seen (Load seed lines) status = load_taken seed lines ≡ Err status
+IsCallRefused seen (Collect file) status = IsFileRefused seen file collect_limit collect_taken status
+IsCallRefused seen (Audit inputs trace) status = IsAuditRefused seen inputs trace status
 
 -- a command is asked for, and its call is refused with the status
 pub record IsCommandRefused (seen : ShelfSeen) (asked : Option Command) (status : Status) : Type 0 where
@@ -185,6 +203,15 @@ inputs_taken held call inputs =
 abbrev pub plain_for : Files → Inputs → Status
 plain_for held inputs = ended (inputs_taken held (Plain inputs) inputs) status.Ok
 
+-- how it ends that the live lines of a file of a shelf are written
+abbrev pub collect_for : Files → List ℕ → Status
+collect_for held file = ended (file_as held file collect_limit collect_taken) status.Ok
+
+-- how it ends that a trace which is not wrong is audited, by files of a shelf
+abbrev pub audit_for : Files → Inputs → List ℕ → Status
+audit_for held inputs trace = ended (and_then (inputs_taken held (Audit inputs trace) inputs) (λ sources.
+    file_as held trace trace_limit trace_taken)) status.Ok
+
 -- how a call ends, by files of a shelf and, last, by the rows of a keeper
 abbrev pub answer_for : Files → Rows → Call → Status
 answer_for held rows (Solo inputs) = ended (inputs_taken held (Solo inputs) inputs) (ran_over rows)
@@ -194,6 +221,8 @@ answer_for held rows (Run workers rounds plan inputs) =
     ended (inputs_taken held (Run workers rounds plan inputs) inputs) (ran_over rows)
 answer_for held rows (Plain inputs) = plain_for held inputs
 answer_for held rows (Load seed lines) = ended (load_taken seed lines) (ran_over rows)
+answer_for held rows (Collect file) = collect_for held file
+answer_for held rows (Audit inputs trace) = audit_for held inputs trace
 
 -- the answer to a command over a shelf that holds these files and a keeper that holds these rows, where
 -- nothing fails, memory does not run out, and the history has room; where none is asked for it is Usage
@@ -201,18 +230,36 @@ abbrev pub answer_of : Files → Rows → Option Command → Status
 answer_of held rows asked =
     option_map_or (λ (command : Command). answer_for held rows command.call) asked Usage
 
--- the status is that answer; only memory may run out in its place, or a run fill the history
+-- a call is an audit of files of a shelf, and the status says that its trace is wrong
+abbrev pub IsCallWrong : Files → Call → Status → Type 0
+IsCallWrong held (Audit inputs trace) status = HoldsWrong (Some held) inputs trace status
+IsCallWrong held _ status = ⊥
+
+-- so it is of the command that is asked for
+pub record IsCommandWrong (held : Files) (asked : Option Command) (status : Status) : Type 0 where
+  pub command : Command
+  pub named : asked ≡ Some command
+  pub wrong : IsCallWrong held command.call status
+
+-- the status is that answer; only memory may run out in its place, or a run fill the history, or a trace be
+-- wrong
 abbrev pub IsAnswer : Files → Rows → Option Command → List Entry → Status → Type 0
 IsAnswer held rows asked history NoMemory = ⊤
 IsAnswer held rows asked history HistoryFull =
     (answer_of held rows asked ≡ status.Ok) × (length history ≡ history_limit)
+IsAnswer held rows asked history (AuditRefused line why) =
+    IsCommandWrong held asked (AuditRefused line why)
+    ⊎ (AuditRefused line why ≡ answer_of held rows asked)
 IsAnswer held rows asked history status = status ≡ answer_of held rows asked
 
--- the plain count of these files is asked for
-abbrev pub AsksPlain : Option Command → Inputs → Type 0
-AsksPlain asked inputs = asked ≡ Some (record { call = Plain inputs; keep = None })
+-- a call is asked for in which no keeper has a part
+abbrev pub AsksUnkept : Option Command → Call → Type 0
+AsksUnkept asked call = (asked ≡ Some (record { call = call; keep = None })) × (is_unkept call ≡ true)
 
--- the status is the answer of the plain count; only memory may run out in its place
-abbrev pub IsPlainAnswer : Files → Inputs → Status → Type 0
-IsPlainAnswer held inputs NoMemory = ⊤
-IsPlainAnswer held inputs status = status ≡ plain_for held inputs
+-- the status is the answer to such a call, by the files of a shelf alone; only memory may run out in its
+-- place, or a trace be wrong
+abbrev pub IsUnkeptAnswer : Files → Call → Status → Type 0
+IsUnkeptAnswer held call NoMemory = ⊤
+IsUnkeptAnswer held call (AuditRefused line why) =
+    IsCallWrong held call (AuditRefused line why) ⊎ (AuditRefused line why ≡ answer_for held [] call)
+IsUnkeptAnswer held call status = status ≡ answer_for held [] call

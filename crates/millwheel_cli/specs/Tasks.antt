@@ -5,7 +5,7 @@ use Rattle.mw_types.specs.declared.refusal.PlanRefusal.{PlanRefusal}
 use Rattle.mw_types.specs.declared.refusal.PlanRefusal.TheVariants as plans
 use Rattle.command_line.specs.declared.command.Inputs.{Inputs}
 use Rattle.command_line.specs.declared.command.Call.{Call}
-use Rattle.command_line.specs.declared.command.Call.TheVariants.{Solo, Replay, Run, Plain, Load}
+use Rattle.command_line.specs.declared.command.Call.TheVariants.{Solo, Replay, Run, Plain, Load, Collect, Audit}
 use Rattle.command_line.specs.Grammar.{AreSizes}
 use Rattle.mw_ports.specs.Shelves.{Files}
 use Rattle.topology.specs.Shapes.{Shape}
@@ -102,3 +102,5 @@ IsTask files (Run workers rounds plan inputs) task =
     IsInputsTask files (Run workers rounds plan inputs) inputs task
 IsTask files (Plain inputs) task = IsInputsTask files (Plain inputs) inputs task
 IsTask files (Load seed lines) task = IsLoadTask seed lines task
+IsTask files (Collect file) task = ⊥
+IsTask files (Audit inputs trace) task = ⊥

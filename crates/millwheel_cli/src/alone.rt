@@ -4,10 +4,10 @@ ghost use Rattle.std.specs.Option.{is_some};
 ghost use Rattle.mw_types.specs.Causes.{Rose};
 ghost use Rattle.mw_ports.specs.Shelves.{Files};
 ghost use Rattle.row_keeper.specs.Rows.{Rows};
-ghost use Rattle.command_line.specs.declared.command.Inputs.{Inputs};
+ghost use Rattle.command_line.specs.declared.command.Call.{Call};
 ghost use Rattle.millwheel_cli.specs.Asked.{alone_of};
-ghost use Rattle.millwheel_cli.specs.Reasons.{ShelfSeen, HasReason, IsAnswer, AsksPlain, IsPlainAnswer};
-ghost use Rattle.millwheel_cli.specs.Answers.{Left, HasRun, HasLeft};
+ghost use Rattle.millwheel_cli.specs.Reasons.{ShelfSeen, HasReason, IsAnswer, AsksUnkept, IsUnkeptAnswer};
+ghost use Rattle.millwheel_cli.specs.Answers.{Left, HasDone, HasLeft};
 
 use crate::asked::read_alone;
 use crate::called::called_alone;
@@ -30,13 +30,14 @@ pub fn millwheel_alone<S: Shelf, K: Keeper, O: Sink>(
     out: &mut O,
 ) -> Done<K>
     // With Ok the files' case was run to its end, the keeper has its rows, and all of its text was
-    // written.
+    // written; or it was counted, or the live lines of a file were gathered, or a trace was
+    // found to be a lawful run's, and all of that was written.
     ensures ok { let left : Left = record {
       rows = (K.rows keeper, K.rows result.keeper);
       text = (O.text out.old, O.text out.new);
       history = result.history;
     } in result.status ≡ Status.Ok →
-        HasRun (S.files shelf.old) (alone_of words.now) left Status.Ok }
+        HasDone (S.files shelf.old) (alone_of words.now) left Status.Ok }
 
     // Each other status has its reason.
     ensures usage { result.status ≡ Status.Usage → alone_of words.now ≡ None }
@@ -60,13 +61,14 @@ pub fn millwheel_alone<S: Shelf, K: Keeper, O: Sink>(
         → (Rose (O.faults out.old) (O.faults out.new) → ⊥)
         → IsAnswer held rows (alone_of words.now) result.history result.status }
 
-    // The plain count needs no keeper: the files alone decide its status, and the keeper is not called.
-    ensures plain_answer { (held : Files) (inputs : Inputs) → S.files shelf.old ≡ Some held
-        → AsksPlain (alone_of words.now) inputs
+    // The plain count needs no keeper, nor do the live lines of a file or an audit: the files alone
+    // decide the status, and the keeper is not called.
+    ensures unkept_answer { (held : Files) (call : Call) → S.files shelf.old ≡ Some held
+        → AsksUnkept (alone_of words.now) call
         → (Rose (S.faults shelf.old) (S.faults shelf.new) → ⊥)
         → (Rose (O.faults out.old) (O.faults out.new) → ⊥)
-        → IsPlainAnswer held inputs result.status }
-    ensures uncalled { (inputs : Inputs) → AsksPlain (alone_of words.now) inputs →
+        → IsUnkeptAnswer held call result.status }
+    ensures uncalled { (call : Call) → AsksUnkept (alone_of words.now) call →
         (result.keeper ≡ keeper) × (result.history ≡ []) }
 
     // Each status leaves what is said of it, which for HistoryFull, RowDamaged and NotEmpty is also

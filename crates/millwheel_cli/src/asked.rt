@@ -1,7 +1,7 @@
 //! What the words of the command line ask for: of a caller that has no threads, and of the rows that are kept.
 ghost use Rattle.std.specs.Prelude.{◌≡◌, Err, IfOk, None, Some, false, true};
 ghost use Rattle.command_line.specs.Grammar.{HasSizes};
-ghost use Rattle.millwheel_cli.specs.Asked.{alone_of, is_run, keep_of};
+ghost use Rattle.millwheel_cli.specs.Asked.{alone_of, has_task, is_run, keep_of};
 
 use command_line::{Call, Command, WordsRefusal, read_words};
 use mw_types::{Name, NoMemory};
@@ -39,6 +39,25 @@ fn is_run(call: &Call) -> bool
 {
     match call {
         Call::Run { .. } => true,
-        Call::Solo { .. } | Call::Replay { .. } | Call::Plain { .. } | Call::Load { .. } => false,
+        Call::Solo { .. }
+        | Call::Replay { .. }
+        | Call::Plain { .. }
+        | Call::Load { .. }
+        | Call::Collect { .. }
+        | Call::Audit { .. } => false,
+    }
+}
+
+/// Whether a call has a task, which is run or counted.
+pub fn has_task(call: &Call) -> bool
+    ensures { result ≡ has_task call.now }
+{
+    match call {
+        Call::Solo { .. }
+        | Call::Replay { .. }
+        | Call::Run { .. }
+        | Call::Plain { .. }
+        | Call::Load { .. } => true,
+        Call::Collect { .. } | Call::Audit { .. } => false,
     }
 }

@@ -1,9 +1,9 @@
 //! What a call asks for, with its files.
-ghost use Rattle.std.specs.Prelude.{◌≡◌, ◌≤◌, ◌<◌, ◌^◌, [], length, Err, IfErr, IfOk, IsOk};
+ghost use Rattle.std.specs.Prelude.{◌≡◌, ◌≤◌, ◌<◌, ◌^◌, [], length, Err, IfErr, IfOk, IsOk, true};
 ghost use Rattle.mw_ports.specs.Shelves.{Files};
 ghost use Rattle.topology.specs.Shapes.{injectors_of};
 ghost use Rattle.command_line.specs.Grammar.{HasSizes};
-ghost use Rattle.millwheel_cli.specs.Asked.{is_run};
+ghost use Rattle.millwheel_cli.specs.Asked.{has_task, is_run};
 ghost use Rattle.millwheel_cli.specs.Files.{HoldsTopology};
 ghost use Rattle.millwheel_cli.specs.Tasks.{AreThere, HoldsBefore, IsInputsTask, IsLoadTask, IsTask, is_rounds};
 ghost use Rattle.millwheel_cli.specs.Reasons.{ShelfSeen, IsRefused, IsRefusedFirst, IsCallRefused, IsPlanRefused, IsTopologyRefused, load_taken};
@@ -24,6 +24,7 @@ use std::alloc::Global;
 /// Reads the files that a call names, one after the other, up to the first that is refused.
 pub fn read_task<S: Shelf>(alloc: Global, shelf: &mut S, call: &Call) -> Result<Task, Refusal>
     requires sizes { HasSizes call.now }
+    requires task { has_task call.now ≡ true }
 
     ensures files { S.files shelf.new ≡ S.files shelf.old }
     ensures faults_later { S.faults shelf.old ≤ S.faults shelf.new }
@@ -48,11 +49,12 @@ pub fn read_task<S: Shelf>(alloc: Global, shelf: &mut S, call: &Call) -> Result<
         } => read_inputs(alloc, shelf, call, inputs),
         Call::Plain { inputs } => read_inputs(alloc, shelf, call, inputs),
         Call::Load { seed, lines } => load_task(alloc, *seed, *lines),
+        Call::Collect { .. } | Call::Audit { .. } => unreachable!(),
     }
 }
 
-// The task of a call with these files.
-fn read_inputs<S: Shelf>(
+/// The task of a call with these files.
+pub(crate) fn read_inputs<S: Shelf>(
     alloc: Global,
     shelf: &mut S,
     call: &Call,
@@ -176,7 +178,11 @@ fn read_before<S: Shelf>(
             plan: None,
             inputs: _,
         } => Ok(no_actions(alloc, case, *workers, *rounds)?),
-        Call::Solo { .. } | Call::Plain { .. } | Call::Load { .. } => Ok(no_steps(alloc, case)?),
+        Call::Solo { .. }
+        | Call::Plain { .. }
+        | Call::Load { .. }
+        | Call::Collect { .. }
+        | Call::Audit { .. } => { Ok(no_steps(alloc, case)?) }
     }
 }
 

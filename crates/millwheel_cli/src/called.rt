@@ -1,19 +1,20 @@
 //! A call, from its files to its end.
-ghost use Rattle.std.specs.Prelude.{◌≡◌, ◌≤◌, [], false};
+ghost use Rattle.std.specs.Prelude.{◌≡◌, ◌≤◌, [], false, true};
 ghost use Rattle.std.specs.Option.{is_some};
 ghost use Rattle.mw_types.specs.Causes.{Rose};
 ghost use Rattle.mw_ports.specs.Shelves.{Files};
-ghost use Rattle.command_line.specs.declared.command.Inputs.{Inputs};
 ghost use Rattle.command_line.specs.Grammar.{HasSizes};
-ghost use Rattle.millwheel_cli.specs.Asked.{is_run};
+ghost use Rattle.millwheel_cli.specs.Asked.{is_run, is_unkept};
 ghost use Rattle.millwheel_cli.specs.Reasons.{ShelfSeen};
 ghost use Rattle.millwheel_cli.specs.Answers.{Left};
 ghost use Rattle.millwheel_cli.specs.Inside.{IsCallEnd};
 
+use crate::asked::has_task;
 use crate::call::read_task;
 use crate::done::{Done, unbegun};
 use crate::refusal::status_of;
 use crate::status::Status;
+use crate::unkept::write_files;
 use crate::work::{work, work_alone};
 use command_line::Call;
 use mw_ports::{Gate, Shelf, Sink};
@@ -53,9 +54,12 @@ pub fn called_alone<S: Shelf, K: Keeper, O: Sink>(
     } in IsCallEnd seen call.now left result.status }
     ensures untouched { result.history ≡ [] → K.rows result.keeper ≡ K.rows keeper }
     ensures tells { is_some (K.rows result.keeper) ≡ is_some (K.rows keeper) }
-    ensures plain { (inputs : Inputs) → call.now ≡ Call.Plain inputs →
+    ensures unkept { is_unkept call.now ≡ true →
         (result.keeper ≡ keeper) × (result.history ≡ []) }
 {
+    if !has_task(call) {
+        return write_files(alloc, call, shelf, keeper, out);
+    }
     match read_task(alloc, shelf, call) {
         Ok(task) => work_alone(alloc, call, &task, keeper, out),
         Err(refusal) => unbegun(alloc, status_of(refusal), keeper),
@@ -100,9 +104,12 @@ where
     } in IsCallEnd seen call.now left result.status }
     ensures untouched { result.history ≡ [] → K.rows result.keeper ≡ K.rows keeper }
     ensures tells { is_some (K.rows result.keeper) ≡ is_some (K.rows keeper) }
-    ensures plain { (inputs : Inputs) → call.now ≡ Call.Plain inputs →
+    ensures unkept { is_unkept call.now ≡ true →
         (result.keeper ≡ keeper) × (result.history ≡ []) }
 {
+    if !has_task(call) {
+        return write_files(alloc, call, shelf, keeper, out);
+    }
     match read_task(alloc, shelf, call) {
         Ok(task) => work(rt, alloc, call, &task, keeper, out, gate),
         Err(refusal) => unbegun(alloc, status_of(refusal), keeper),

@@ -1,7 +1,8 @@
 //! The plain count of a case, which no keeper has a part in.
 ghost use Rattle.std.specs.Prelude.{◌≡◌, ◌≤◌, []};
 ghost use Rattle.mw_types.specs.Causes.{Rose};
-ghost use Rattle.millwheel_cli.specs.Answers.{CountLeaves, Left};
+ghost use Rattle.plain_answer.specs.Plain.{IsPlainText};
+ghost use Rattle.millwheel_cli.specs.Answers.{Left, TextLeaves};
 ghost use Rattle.millwheel_cli.specs.Inside.{HasPlain};
 
 use crate::done::{Done, unbegun};
@@ -24,7 +25,7 @@ pub fn count<K: Keeper, O: Sink>(alloc: Global, case: &Case, keeper: K, out: &mu
       rows = (K.rows keeper, K.rows result.keeper);
       text = (O.text out.old, O.text out.new);
       history = result.history;
-    } in CountLeaves case.now left result.status }
+    } in TextLeaves (IsPlainText case.now) left result.status }
     ensures keeper { result.keeper ≡ keeper }
     ensures history { result.history ≡ [] }
 {

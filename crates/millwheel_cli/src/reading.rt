@@ -164,8 +164,8 @@ fn read_items<S: Shelf>(
     Ok(items)
 }
 
-// The bytes of the file of that name, which may have so many.
-fn read_file<S: Shelf>(
+/// The bytes of the file of that name, which may have so many.
+pub(crate) fn read_file<S: Shelf>(
     alloc: Global,
     shelf: &mut S,
     name: &Name,

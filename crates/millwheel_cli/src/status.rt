@@ -1,12 +1,13 @@
 //! How a call of the program ended.
 ghost use Rattle.std.specs.Prelude.{◌≡◌};
 ghost use Rattle.millwheel_cli.specs.Numbers.{number_of};
-ghost use Rattle.millwheel_cli.specs.Messages.{is_ok, topology_rule, line_rule};
+ghost use Rattle.millwheel_cli.specs.Messages.{is_ok, topology_rule, line_rule, audit_rule};
 
 use injector::LineWhy;
 use mw_types::{Bytes, Name, RowName};
 use std::fmt;
 use topology::TopologyRefusal;
+use trace_lines::AuditWhy;
 
 /// How a call of the program ended. Its number is the program's exit status.
 #[derive(Drop, PartialEq, Eq)]
@@ -78,6 +79,20 @@ pub enum Status {
         /// How many injectors the topology has.
         injectors: u32,
     },
+    /// The trace is not the text of a lawful run of the files.
+    AuditRefused {
+        /// The number of its first wrong line, from 1.
+        line: u32,
+        /// What is wrong with that line.
+        why: AuditWhy,
+    },
+    /// A live line has the id of an earlier one, and is not the same.
+    CollectRefused {
+        /// The number of the first such line, from 1.
+        line: u32,
+        /// The number of the first line with its id.
+        first: u32,
+    },
 }
 
 impl Status {
@@ -111,6 +126,8 @@ impl Status {
             Status::ReadFault { .. } => 13,
             Status::TooLong { .. } => 14,
             Status::FileCount { .. } => 15,
+            Status::AuditRefused { .. } => 17,
+            Status::CollectRefused { .. } => 18,
         }
     }
 }
@@ -152,6 +169,13 @@ impl fmt::Display for Status {
             Status::FileCount { files, injectors } => {
                 write!(f, "{files} event files for {injectors} injectors")
             }
+            Status::AuditRefused { line, why } => {
+                let rule = audit_rule(*why);
+                write!(f, "not a lawful run: line {line}: {rule}")
+            }
+            Status::CollectRefused { line, first } => {
+                write!(f, "line {line} differs from line {first}")
+            }
         }
     }
 }
@@ -185,5 +209,17 @@ fn line_rule(why: LineWhy) -> &'static str
         LineWhy::BadStamp => "BadStamp",
         LineWhy::BadValue => "BadValue",
         LineWhy::TooManyLines => "TooManyLines",
+    }
+}
+
+// What is wrong with a line of a printed history.
+fn audit_rule(why: AuditWhy) -> &'static str
+    ensures { result.now ≡ audit_rule why }
+{
+    match why {
+        AuditWhy::NotALine => "NotALine",
+        AuditWhy::Unlawful => "Unlawful",
+        AuditWhy::NotFinished => "NotFinished",
+        AuditWhy::BadText => "BadText",
     }
 }

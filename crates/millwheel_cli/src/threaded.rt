@@ -4,10 +4,10 @@ ghost use Rattle.std.specs.Option.{is_some};
 ghost use Rattle.mw_types.specs.Causes.{Rose};
 ghost use Rattle.mw_ports.specs.Shelves.{Files};
 ghost use Rattle.row_keeper.specs.Rows.{Rows};
-ghost use Rattle.command_line.specs.declared.command.Inputs.{Inputs};
+ghost use Rattle.command_line.specs.declared.command.Call.{Call};
 ghost use Rattle.command_line.specs.Grammar.{command_of};
-ghost use Rattle.millwheel_cli.specs.Reasons.{ShelfSeen, HasReason, IsAnswer, AsksPlain, IsPlainAnswer};
-ghost use Rattle.millwheel_cli.specs.Answers.{Left, HasRun, HasLeft};
+ghost use Rattle.millwheel_cli.specs.Reasons.{ShelfSeen, HasReason, IsAnswer, AsksUnkept, IsUnkeptAnswer};
+ghost use Rattle.millwheel_cli.specs.Answers.{Left, HasDone, HasLeft};
 
 use crate::called::called;
 use crate::done::{Done, unbegun};
@@ -27,8 +27,8 @@ use std::thread::Threads;
 /// read and tried one after the other. Then what comes before the drain is done over the keeper, which must
 /// have no rows: the steps of a plan, or in the mode run rounds of workers that are threads, which pass the
 /// gate. All that is left is worked off by the caller's own thread, and then the text is written. In the mode
-/// plain the files are counted at once, and the keeper is handed back as it was. A refusal comes at the first
-/// step that fails.
+/// plain the files are counted at once, and in the mode collect the live lines of one file are written, each
+/// once; both hand the keeper back as it was. A refusal comes at the first step that fails.
 ///
 /// In the mode run it may wait, and what is said of it holds where it returns.
 pub fn millwheel<R, S, K, O, G>(
@@ -47,13 +47,14 @@ where
     O: Sink,
     G: Gate + Sync,
     // With Ok the files' case was run to its end, the keeper has its rows, and all of its text was
-    // written.
+    // written; or it was counted, or the live lines of a file were gathered, or a trace was
+    // found to be a lawful run's, and all of that was written.
     ensures ok { let left : Left = record {
       rows = (K.rows keeper, K.rows result.keeper);
       text = (O.text out.old, O.text out.new);
       history = result.history;
     } in result.status ≡ Status.Ok →
-        HasRun (S.files shelf.old) (command_of words.now) left Status.Ok }
+        HasDone (S.files shelf.old) (command_of words.now) left Status.Ok }
 
     // Each other status has its reason.
     ensures usage { result.status ≡ Status.Usage → command_of words.now ≡ None }
@@ -77,13 +78,14 @@ where
         → (Rose (O.faults out.old) (O.faults out.new) → ⊥)
         → IsAnswer held rows (command_of words.now) result.history result.status }
 
-    // The plain count needs no keeper: the files alone decide its status, and the keeper is not called.
-    ensures plain_answer { (held : Files) (inputs : Inputs) → S.files shelf.old ≡ Some held
-        → AsksPlain (command_of words.now) inputs
+    // The plain count needs no keeper, nor do the live lines of a file or an audit: the files alone
+    // decide the status, and the keeper is not called.
+    ensures unkept_answer { (held : Files) (call : Call) → S.files shelf.old ≡ Some held
+        → AsksUnkept (command_of words.now) call
         → (Rose (S.faults shelf.old) (S.faults shelf.new) → ⊥)
         → (Rose (O.faults out.old) (O.faults out.new) → ⊥)
-        → IsPlainAnswer held inputs result.status }
-    ensures uncalled { (inputs : Inputs) → AsksPlain (command_of words.now) inputs →
+        → IsUnkeptAnswer held call result.status }
+    ensures uncalled { (call : Call) → AsksUnkept (command_of words.now) call →
         (result.keeper ≡ keeper) × (result.history ≡ []) }
 
     // Each status leaves what is said of it, which for HistoryFull, RowDamaged and NotEmpty is also

@@ -1,9 +1,8 @@
 //! What a call does with its task: it is run, or counted.
-ghost use Rattle.std.specs.Prelude.{◌≡◌, ◌≤◌, [], false};
+ghost use Rattle.std.specs.Prelude.{◌≡◌, ◌≤◌, [], false, true};
 ghost use Rattle.std.specs.Option.{is_some};
 ghost use Rattle.mw_types.specs.Causes.{Rose};
-ghost use Rattle.command_line.specs.declared.command.Inputs.{Inputs};
-ghost use Rattle.millwheel_cli.specs.Asked.{is_run};
+ghost use Rattle.millwheel_cli.specs.Asked.{has_task, is_run, is_unkept};
 ghost use Rattle.millwheel_cli.specs.Tasks.{AreThere, is_rounds};
 ghost use Rattle.millwheel_cli.specs.Answers.{CallLeaves, Left};
 
@@ -29,6 +28,7 @@ pub fn work_alone<K: Keeper, O: Sink>(
     keeper: K,
     out: &mut O,
 ) -> Done<K>
+    requires task { has_task call.now ≡ true }
     requires there { AreThere task.now.case.topology task.now.before }
     requires alone { is_rounds task.now.before ≡ false }
 
@@ -45,7 +45,7 @@ pub fn work_alone<K: Keeper, O: Sink>(
     } in CallLeaves call.now task.now left result.status }
     ensures untouched { result.history ≡ [] → K.rows result.keeper ≡ K.rows keeper }
     ensures tells { is_some (K.rows result.keeper) ≡ is_some (K.rows keeper) }
-    ensures plain { (inputs : Inputs) → call.now ≡ Call.Plain inputs →
+    ensures unkept { is_unkept call.now ≡ true →
         (result.keeper ≡ keeper) × (result.history ≡ []) }
 {
     match call {
@@ -53,6 +53,7 @@ pub fn work_alone<K: Keeper, O: Sink>(
         Call::Solo { .. } | Call::Replay { .. } | Call::Run { .. } | Call::Load { .. } => {
             run(alloc, task, keeper, out)
         }
+        Call::Collect { .. } | Call::Audit { .. } => unreachable!(),
     }
 }
 
@@ -71,6 +72,7 @@ where
     K: Keeper + Send,
     O: Sink,
     G: Gate + Sync,
+    requires task { has_task call.now ≡ true }
     requires there { AreThere task.now.case.topology task.now.before }
     requires rounds { is_rounds task.now.before ≡ is_run call.now }
 
@@ -87,7 +89,7 @@ where
     } in CallLeaves call.now task.now left result.status }
     ensures untouched { result.history ≡ [] → K.rows result.keeper ≡ K.rows keeper }
     ensures tells { is_some (K.rows result.keeper) ≡ is_some (K.rows keeper) }
-    ensures plain { (inputs : Inputs) → call.now ≡ Call.Plain inputs →
+    ensures unkept { is_unkept call.now ≡ true →
         (result.keeper ≡ keeper) × (result.history ≡ []) }
 {
     match call {
@@ -95,5 +97,6 @@ where
         Call::Solo { .. } | Call::Replay { .. } | Call::Plain { .. } | Call::Load { .. } => {
             work_alone(alloc, call, task, keeper, out)
         }
+        Call::Collect { .. } | Call::Audit { .. } => unreachable!(),
     }
 }

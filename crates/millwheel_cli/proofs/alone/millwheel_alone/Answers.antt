@@ -1,5 +1,5 @@
 use Rattle.millwheel_cli.proofs.Leaving.{left_of_call, no_usage, not_none, ok_of_left, reason_of_call}
-use Rattle.millwheel_cli.proofs.Telling.{told_answer, told_plain, same_call}
+use Rattle.millwheel_cli.proofs.Telling.{told_answer, told_unkept, unkept_call}
 use Rattle.millwheel_cli.proofs.alone.millwheel_alone.Goals as goal
 
 pub returns-in-Ok-clause-ok : goal.returns-in-Ok-clause-ok
@@ -26,17 +26,17 @@ returns-in-Ok-clause-answer g c held rows told seen_rows well kept written =
     (left_of_call _ _ c.in-Ok.command _ _ c.in-Ok.ensures.command end.ended)
     end.keeper_fault end.sink_fault end.tells told seen_rows well kept written
 
-pub returns-in-Ok-clause-plain_answer : goal.returns-in-Ok-clause-plain_answer
-returns-in-Ok-clause-plain_answer g c held inputs told asks well written =
+pub returns-in-Ok-clause-unkept_answer : goal.returns-in-Ok-clause-unkept_answer
+returns-in-Ok-clause-unkept_answer g c held call told asks well written =
     let end = c.called_alone.ensures in
-    told_plain _ _ _ _ _ held inputs _
+    told_unkept _ _ _ _ _ held call _
     (reason_of_call _ _ c.in-Ok.command _ _ c.in-Ok.ensures.command end.ended)
     (left_of_call _ _ c.in-Ok.command _ _ c.in-Ok.ensures.command end.ended)
     end.sink_fault told asks well written
 
 pub returns-in-Ok-clause-uncalled : goal.returns-in-Ok-clause-uncalled
-returns-in-Ok-clause-uncalled g c inputs asks =
-    c.called_alone.ensures.plain inputs (same_call _ inputs c.in-Ok.command asks c.in-Ok.ensures.command)
+returns-in-Ok-clause-uncalled g c call asks =
+    c.called_alone.ensures.unkept (unkept_call _ call c.in-Ok.command asks c.in-Ok.ensures.command)
 
 pub returns-in-Ok-clause-left : goal.returns-in-Ok-clause-left
 returns-in-Ok-clause-left g c =

@@ -82,11 +82,14 @@ returns-in-Err-clause-untouched g c empty =
 pub write-requires-clause-printable : goal.write-requires-clause-printable
 write-requires-clause-printable g c =
     subst (λ (k : CaseShape). IsPrintable k.topology c.history-history.result.now) (c.replay-replayed.ensures.case ∙ c.requires.case)
-    (subst (λ (h : List Entry). IsPrintable c.replay-replayed.new.world.book.case.topology h) (sym (c.history-history.ensures.history ∙ ap (λ (b : BookView). b.history) c.book.ensures.book))
+    (subst (λ (h : List Entry). IsPrintable c.replay-replayed.new.world.book.case.topology h)
+    (sym (c.history-history.ensures.history ∙ ap (λ (b : BookView). b.history) c.book.ensures.book))
     c.look-2.ensures.lawful.printable)
 
 pub write-requires-clause-lines : goal.write-requires-clause-lines
-write-requires-clause-lines g c = subst (All HasLine) (sym (c.history-history.ensures.history ∙ ap (λ (b : BookView). b.history) c.book.ensures.book)) c.look-2.ensures.lawful.lines
+write-requires-clause-lines g c =
+    subst (All HasLine) (sym (c.history-history.ensures.history ∙ ap (λ (b : BookView). b.history) c.book.ensures.book))
+    c.look-2.ensures.lawful.lines
 
 pub returns-in-Ok-clause-keeper_fault : goal.returns-in-Ok-clause-keeper_fault
 returns-in-Ok-clause-keeper_fault g c is = absurd (text_keeper _ _ _ _ _ _ c.write.ensures.written is)

@@ -33,7 +33,8 @@ returns-clause-replayed g c =
     let old = c.args.world.now.book in
     let mid = c.run_script.new.world.book in
     let script = c.in_ok-run_script.ensures in
-    replayed_of old.case old.rows c.args.steps.now _ (drained_behind old.case mid.case old.rows mid.rows _ _ c.args.steps.now mid.history _ script.case script.tells
+    replayed_of old.case old.rows c.args.steps.now _
+    (drained_behind old.case mid.case old.rows mid.rows _ _ c.args.steps.now mid.history _ script.case script.tells
     c.requires.begun script.done refl c.drain.ensures.grown c.drain.ensures.draining)
 
 pub returns-clause-keeper_fault : goal.returns-clause-keeper_fault
