@@ -1,5 +1,7 @@
 //! The program's own call, over files, text and rows in memory.
+mod audits;
 mod calls;
+mod collections;
 mod events;
 mod faults;
 mod histories;

@@ -1,24 +1,23 @@
 //! Texts that are accepted.
-use super::cases::{audited, is_same, marked, none, one, three};
+use super::cases::{Answer, ONE, RECORDS, TWO, answer_of, is_same};
 use super::traces::{MARKED, NONE, REPLAYED, THREE};
 use mw_types::NoMemory;
 
-#[test]
-fn audit_accepts(rt: HostRuntime) -> Result<(), NoMemory> {
-    let case = marked(rt.alloc())?;
-    assert!(rt; is_same(audited(rt.alloc(), &case, MARKED), (11, "Ok")));
-    Ok(())
-}
+// Event files, a text of each, and how many entries it has.
+static ACCEPTED: [(&str, &str, Answer); 4] = [
+    (TWO, MARKED, (11, "Ok")),
+    (RECORDS, THREE, (14, "Ok")),
+    ("", NONE, (2, "Ok")),
+    (ONE, REPLAYED, (11, "Ok")),
+];
 
 #[test]
-fn other_worked_rows_are_accepted(rt: HostRuntime) -> Result<(), NoMemory> {
-    let cases = [
-        (three(rt.alloc())?, THREE, (14, "Ok")),
-        (none(rt.alloc())?, NONE, (2, "Ok")),
-        (one(rt.alloc())?, REPLAYED, (11, "Ok")),
-    ];
-    for (case, text, answer) in &cases {
-        assert!(rt; is_same(audited(rt.alloc(), case, text), *answer));
+fn audit_accepts(rt: HostRuntime) -> Result<(), NoMemory> {
+    for (events, text, answer) in &ACCEPTED {
+        assert!(rt;
+            is_same(answer_of(rt.alloc(), events, text)?, *answer),
+            "{events}"
+        );
     }
     Ok(())
 }

@@ -1,10 +1,7 @@
 //! Cases, and what an audit answers.
-ghost use Rattle.std.specs.Prelude.{◌≡◌, IfOk, false};
-ghost use Rattle.topology.specs.Shapes.{injectors_of};
-
 use audit::audit;
-use injector::{Item, Items, ItemsList};
-use mw_types::{Key, NoMemory};
+use injector::{Items, ItemsList, read_lines};
+use mw_types::NoMemory;
 use run_history::{Case, History};
 use std::alloc::Global;
 use topology::Topology;
@@ -13,62 +10,41 @@ use trace_lines::{AuditRefusal, AuditWhy};
 // An answer: how many entries, or the line that is wrong, and what it says.
 pub(super) type Answer = (usize, &'static str);
 
-// A key, which is not empty.
-fn key(alloc: Global, text: &str) -> Result<Key, NoMemory> {
-    match Key::of(alloc, text) {
-        Ok(key) => Ok(key),
+// The lines of an event file.
+fn lines(alloc: Global, events: &str) -> Result<Items, NoMemory> {
+    let bytes = events.as_bytes();
+    if bytes.len() > 1 << 20 {
+        return Err(NoMemory);
+    }
+    match read_lines(alloc, bytes, 1 << 18) {
+        Ok(items) => Ok(items),
         Err(_) => Err(NoMemory),
     }
 }
 
-// A record line of the key a.
-fn item(alloc: Global, stamp: u64) -> Result<Item, NoMemory>
-    ensures { IfOk result (λ item. (item.stamp ≡ stamp) × (item.late ≡ false)) }
-{
-    Ok(Item {
-        record_key: key(alloc, "a")?,
-        stamp,
-        value: 1,
-        late: false,
-    })
-}
-
-// Windows of 60 over some lines.
-fn counted(alloc: Global, lines: Items) -> Result<Case, NoMemory> {
-    let topology = Topology::one_count(alloc, 60)?;
+// Windows of 60 over an event file.
+fn case_of(alloc: Global, events: &str) -> Result<Case, NoMemory> {
+    let lines = lines(alloc, events)?;
     let mut items = ItemsList::new(alloc);
     items.push(lines)?;
-    Case::of(alloc, topology, items)
+    Case::of(alloc, Topology::one_count(alloc, 60)?, items)
 }
 
-// A record at 10 and one at 70, with a watermark of 60 between them.
-pub(super) fn marked(alloc: Global) -> Result<Case, NoMemory> {
-    let mut lines = Items::new(alloc);
-    lines.push(item(alloc, 10)?, 0)?;
-    lines.push(item(alloc, 70)?, 60)?;
-    counted(alloc, lines)
-}
+/// A record at 10 and one at 70, with a watermark of 60 between them.
+pub(super) const TWO: &str = r#"{"key":"a","ts":10}
+{"watermark":60}
+{"key":"a","ts":70}
+"#;
 
-// Three records: at 10, 59 and 60.
-pub(super) fn three(alloc: Global) -> Result<Case, NoMemory> {
-    let mut lines = Items::new(alloc);
-    lines.push(item(alloc, 10)?, 0)?;
-    lines.push(item(alloc, 59)?, 0)?;
-    lines.push(item(alloc, 60)?, 0)?;
-    counted(alloc, lines)
-}
+/// Three records: at 10, 59 and 60.
+pub(super) const RECORDS: &str = r#"{"key":"a","ts":10}
+{"key":"a","ts":59}
+{"key":"a","ts":60}
+"#;
 
-// One record, at 10.
-pub(super) fn one(alloc: Global) -> Result<Case, NoMemory> {
-    let mut lines = Items::new(alloc);
-    lines.push(item(alloc, 10)?, 0)?;
-    counted(alloc, lines)
-}
-
-// No record.
-pub(super) fn none(alloc: Global) -> Result<Case, NoMemory> {
-    counted(alloc, Items::new(alloc))
-}
+/// One record, at 10.
+pub(super) const ONE: &str = r#"{"key":"a","ts":10}
+"#;
 
 // The name of a reason.
 fn name_of(why: AuditWhy) -> &'static str {
@@ -89,13 +65,24 @@ fn told_by(answered: &Result<History, AuditRefusal>) -> Answer {
     }
 }
 
-// What an audit of a text answers.
-pub(super) fn audited(alloc: Global, case: &Case, text: &str) -> Answer {
+/// What an audit of a text answers, over an event file.
+pub(super) fn answer_of(alloc: Global, events: &str, text: &str) -> Result<Answer, NoMemory> {
+    let case = case_of(alloc, events)?;
+    let answer = audited(alloc, &case, text);
+    drop(case);
+    Ok(answer)
+}
+
+// The same over a case.
+fn audited(alloc: Global, case: &Case, text: &str) -> Answer {
     let bytes = text.as_bytes();
     if bytes.len() >= 1 << 32 {
         return (0, "TooLong");
     }
-    told_by(&audit(alloc, case, bytes))
+    let answered = audit(alloc, case, bytes);
+    let told = told_by(&answered);
+    drop(answered);
+    told
 }
 
 // Whether two answers are the same.

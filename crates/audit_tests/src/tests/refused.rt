@@ -1,15 +1,14 @@
 //! Texts that are refused, each for its first wrong line.
-use super::cases::{Answer, audited, is_same, marked};
+use super::cases::{Answer, TWO, answer_of, is_same};
 use super::traces::MARKED;
 use mw_types::NoMemory;
-use run_history::Case;
 use std::alloc::Global;
 
 // What is written in the place of what, where it first stands, and what is answered then.
 type Changed = (&'static str, &'static str, Answer);
 
-// One line is another.
-static CHANGED: [Changed; 19] = [
+// One line is another; the last has two that are, of which the first is named.
+static CHANGED: [Changed; 20] = [
     ("\"mark\":60", "\"mark\":61", (6, "Unlawful")),
     ("\"mark\":60", "\"mark\":59", (6, "Unlawful")),
     (
@@ -61,6 +60,11 @@ static CHANGED: [Changed; 19] = [
         "",
         (12, "BadText"),
     ),
+    (
+        "\"mark\":60,\"n\":5",
+        "\"mark\":61,\"n\":4",
+        (6, "NotALine"),
+    ),
 ];
 
 // The text ends behind its first lines, and then this follows.
@@ -87,51 +91,39 @@ static CUT: [(&str, &str, Answer); 7] = [
 ];
 
 // The answer, once a text stands in the place of another.
-fn changed(alloc: Global, case: &Case, old: &str, new: &str) -> Result<Answer, NoMemory> {
+fn changed(alloc: Global, old: &str, new: &str) -> Result<Answer, NoMemory> {
     let Some((front, back)) = MARKED.split_once(old) else {
         return Ok((0, "not there"));
     };
     let text = format!(in alloc; "{front}{new}{back}")?;
-    Ok(audited(alloc, case, text.as_str()))
+    let answer = answer_of(alloc, TWO, text.as_str());
+    drop(text);
+    answer
 }
 
 // The answer, once the text ends before this and goes on with another.
-fn cut(alloc: Global, case: &Case, end: &str, more: &str) -> Result<Answer, NoMemory> {
+fn cut(alloc: Global, end: &str, more: &str) -> Result<Answer, NoMemory> {
     let Some((front, _)) = MARKED.split_once(end) else {
         return Ok((0, "not there"));
     };
     let text = format!(in alloc; "{front}{more}")?;
-    Ok(audited(alloc, case, text.as_str()))
+    let answer = answer_of(alloc, TWO, text.as_str());
+    drop(text);
+    answer
 }
 
 #[test]
 fn audit_refuses(rt: HostRuntime) -> Result<(), NoMemory> {
-    let case = marked(rt.alloc())?;
     for (old, new, answer) in &CHANGED {
-        assert!(rt;
-            is_same(changed(rt.alloc(), &case, old, new)?, *answer),
-            "{new}"
-        );
+        assert!(rt; is_same(changed(rt.alloc(), old, new)?, *answer), "{new}");
     }
     Ok(())
 }
 
 #[test]
 fn a_text_that_ends_is_refused(rt: HostRuntime) -> Result<(), NoMemory> {
-    let case = marked(rt.alloc())?;
     for (end, more, answer) in &CUT {
-        assert!(rt;
-            is_same(cut(rt.alloc(), &case, end, more)?, *answer),
-            "{end}"
-        );
+        assert!(rt; is_same(cut(rt.alloc(), end, more)?, *answer), "{end}");
     }
-    Ok(())
-}
-
-#[test]
-fn the_first_wrong_line_is_named(rt: HostRuntime) -> Result<(), NoMemory> {
-    let case = marked(rt.alloc())?;
-    let (old, new) = ("\"mark\":60,\"n\":5", "\"mark\":61,\"n\":4");
-    assert!(rt; is_same(changed(rt.alloc(), &case, old, new)?, (6, "NotALine")));
     Ok(())
 }

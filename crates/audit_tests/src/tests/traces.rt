@@ -1,7 +1,7 @@
 //! Traces, as they are worked out by hand.
 
 // A watermark fires a window before the next line is injected.
-pub(super) static MARKED: &str = r#"{"do":"claim","interval":0,"n":0,"worker":0}
+pub(super) const MARKED: &str = r#"{"do":"claim","interval":0,"n":0,"worker":0}
 {"do":"claim","interval":1,"n":1,"worker":0}
 {"do":"inject","key":"a","late":false,"line":0,"n":2,"part":0,"seq":0,"ts":10,"value":1}
 {"do":"handle","id":"00000000-0000-8000-8000-000000000002","n":3,"out":[],"part":1,"row":"a","seq":1,"state":"01000000000000000000000001000000000000003c0000000000000001","timers":[{"tag":0,"time":60}]}
@@ -18,7 +18,7 @@ pub(super) static MARKED: &str = r#"{"do":"claim","interval":0,"n":0,"worker":0}
 "#;
 
 // Three records, of which two are in one window.
-pub(super) static THREE: &str = r#"{"do":"claim","interval":0,"n":0,"worker":0}
+pub(super) const THREE: &str = r#"{"do":"claim","interval":0,"n":0,"worker":0}
 {"do":"claim","interval":1,"n":1,"worker":0}
 {"do":"inject","key":"a","late":false,"line":0,"n":2,"part":0,"seq":0,"ts":10,"value":1}
 {"do":"handle","id":"00000000-0000-8000-8000-000000000002","n":3,"out":[],"part":1,"row":"a","seq":1,"state":"01000000000000000000000001000000000000003c0000000000000001","timers":[{"tag":0,"time":60}]}
@@ -38,14 +38,14 @@ pub(super) static THREE: &str = r#"{"do":"claim","interval":0,"n":0,"worker":0}
 "#;
 
 // The claims alone, without a record.
-pub(super) static NONE: &str = r#"{"do":"claim","interval":0,"n":0,"worker":0}
+pub(super) const NONE: &str = r#"{"do":"claim","interval":0,"n":0,"worker":0}
 {"do":"claim","interval":1,"n":1,"worker":0}
 {"fired":0,"handled":0,"injected":0,"late":0}
 "#;
 
 // One record, with a worker that is overtaken before it is handled, as a script leaves it, and the
 // drain behind that.
-pub(super) static REPLAYED: &str = r#"{"do":"claim","interval":0,"n":0,"worker":0}
+pub(super) const REPLAYED: &str = r#"{"do":"claim","interval":0,"n":0,"worker":0}
 {"do":"claim","interval":1,"n":1,"worker":0}
 {"do":"inject","key":"a","late":false,"line":0,"n":2,"part":0,"seq":0,"ts":10,"value":1}
 {"do":"claim","interval":0,"n":3,"worker":1}

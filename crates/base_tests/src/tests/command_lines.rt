@@ -9,20 +9,25 @@ use std::test::Fail;
 // The words of a line, as names.
 fn words_in(alloc: Global, line: &str) -> Result<Seq<Name>, NoMemory> {
     let mut words = Seq::new(alloc);
-    if line.is_empty() {
-        return Ok(words);
-    }
-    for word in line.split(' ') {
-        words.push(Name::of(alloc, if word == "\"\"" { "" } else { word })?)?;
+    if !line.is_empty() {
+        push_words(alloc, &mut words, line)?;
     }
     Ok(words)
 }
 
+// Appends the words of a line that has some.
+fn push_words(alloc: Global, words: &mut Seq<Name>, line: &str) -> Result<(), NoMemory> {
+    for word in line.split(' ') {
+        words.push(Name::of(alloc, if word == "\"\"" { "" } else { word })?)?;
+    }
+    Ok(())
+}
+
 // Appends a name in brackets.
 fn say_name(said: &mut String, name: &Name) -> Result<(), NoMemory> {
-    for part in [" [", name.text(), "]"] {
-        said.push_str(part)?;
-    }
+    said.push_str(" [")?;
+    said.push_str(name.text())?;
+    said.push_str("]")?;
     Ok(())
 }
 
@@ -86,6 +91,15 @@ fn say_call(alloc: Global, said: &mut String, call: &Call) -> Result<(), Fail> {
             Ok(say_inputs(said, inputs)?)
         }
         Call::Load { seed, lines } => say_load(alloc, said, *seed, *lines),
+        Call::Audit { inputs, trace } => {
+            said.push_str("audit")?;
+            say_name(said, trace)?;
+            Ok(say_inputs(said, inputs)?)
+        }
+        Call::Collect { file } => {
+            said.push_str("collect")?;
+            Ok(say_name(said, file)?)
+        }
     }
 }
 
@@ -112,13 +126,18 @@ fn say_words(alloc: Global, said: &mut String, words: &[Name]) -> Result<(), Fai
 fn said_of(alloc: Global, line: &str) -> Result<String, Fail> {
     let words = words_in(alloc, line)?;
     let mut said = String::new(alloc);
-    say_words(alloc, &mut said, words.as_slice())?;
+    let done = say_words(alloc, &mut said, words.as_slice());
+    drop(words);
+    done?;
     Ok(said)
 }
 
 // Whether a line is read as this.
 fn is_said(alloc: Global, line: &str, wanted: &str) -> Result<bool, Fail> {
-    Ok(said_of(alloc, line)?.as_str() == wanted)
+    let said = said_of(alloc, line)?;
+    let is_so = said.as_str() == wanted;
+    drop(said);
+    Ok(is_so)
 }
 
 #[test]

@@ -175,7 +175,7 @@ fn thing_is_copied(alloc: Global, what: What) -> Result<bool, NoMemory> {
     }
 }
 
-const THINGS: [(&str, What); 10] = [
+static THINGS: [(&str, What); 10] = [
     ("bytes", What::Bytes),
     ("row", What::Row),
     ("record", What::Record),

@@ -64,7 +64,7 @@ type File = (&'static str, &'static [u8], &'static [Told], &'static [u64]);
 // One record that is spelt in many ways.
 const SPELT: [Told; 1] = [("é/a", 50, 1, false)];
 
-const FILES: [File; 8] = [
+static FILES: [File; 8] = [
     ("an empty file has ended", b"", &[], &[END]),
     (
         "a record at the watermark is in time",
@@ -151,7 +151,7 @@ fn is_refused(alloc: Global, text: &[u8], line: u32, why: LineWhy) -> bool {
 }
 
 // Lines of which one breaks a rule, the number of that line, and the first rule that it breaks.
-const BROKEN: [(&[u8], u32, LineWhy); 20] = [
+static BROKEN: [(&[u8], u32, LineWhy); 20] = [
     (b"{\"key\":\"\xff\",\"ts\":1}", 1, LineWhy::NotJson),
     (b"\r\r\n", 1, LineWhy::NotJson),
     (b"{\"key\":\"a\",\"ts\":05}", 1, LineWhy::NotJson),
@@ -215,12 +215,19 @@ fn the_first_rule_that_a_line_breaks_is_named(rt: HostRuntime) {
 
 // A record whose key has so many letters.
 fn long_key(alloc: Global, count: u32) -> Result<String, NoMemory> {
-    let mut text = String::from_str(alloc, "{\"key\":\"")?;
+    let mut text = String::new(alloc);
+    push_long_key(&mut text, count)?;
+    Ok(text)
+}
+
+// Appends it.
+fn push_long_key(text: &mut String, count: u32) -> Result<(), NoMemory> {
+    text.push_str("{\"key\":\"")?;
     for _ in 0..count {
         text.push_str("k")?;
     }
     text.push_str("\",\"ts\":1}")?;
-    Ok(text)
+    Ok(())
 }
 
 // Why it is refused, if it is.
@@ -231,11 +238,25 @@ fn long_key_refusal(alloc: Global, count: u32) -> Result<Option<LinesRefusal>, N
     Ok(refusal)
 }
 
+// Lengths of a key, and why each is refused, if it is.
+static LONG: [(u32, Option<LinesRefusal>); 2] = [
+    (256, None),
+    (
+        257,
+        Some(LinesRefusal::Line {
+            line: 1,
+            why: LineWhy::BadKey,
+        }),
+    ),
+];
+
 #[test]
 fn a_key_has_at_most_256_bytes(rt: HostRuntime) -> Result<(), NoMemory> {
-    let (line, why) = (1, LineWhy::BadKey);
-    for (count, refusal) in [(256, None), (257, Some(LinesRefusal::Line { line, why }))] {
-        assert!(rt; long_key_refusal(rt.alloc(), count)? == refusal, "{count}");
+    for (count, refusal) in &LONG {
+        assert!(rt;
+            long_key_refusal(rt.alloc(), *count)? == *refusal,
+            "{count}"
+        );
     }
     Ok(())
 }

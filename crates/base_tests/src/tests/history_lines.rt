@@ -243,8 +243,8 @@ fn example_printed(alloc: Global) -> Result<Bytes, NoMemory> {
 // Whether bytes are all lines, one after another.
 fn are_lines(bytes: &[u8]) -> bool {
     let mut rest = bytes;
-    for line in LINES {
-        if rest.len() < line.len() || &rest[..line.len()] != line {
+    for line in &LINES {
+        if rest.len() < line.len() || &rest[..line.len()] != *line {
             return false;
         }
         rest = &rest[line.len()..];

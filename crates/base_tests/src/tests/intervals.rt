@@ -62,7 +62,7 @@ fn finds(
 }
 
 // Keys of the part that is cut, and the interval of each.
-const CUT: [(&str, u32); 7] = [
+static CUT: [(&str, u32); 7] = [
     ("a", 1),
     ("gz", 1),
     ("h", 2),

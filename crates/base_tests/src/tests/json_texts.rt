@@ -8,24 +8,31 @@ use std::test::Fail;
 
 // Whether these bytes are the JSON number 7.
 fn is_seven(alloc: Global, bytes: &[u8]) -> Result<Option<bool>, NoMemory> {
-    match json_of(alloc, bytes)? {
-        Some(value) => Ok(Some(value.as_u64() == Some(7))),
-        None => Ok(None),
-    }
+    let value = json_of(alloc, bytes)?;
+    let is_seven = value.as_ref().map(is_number_seven);
+    drop(value);
+    Ok(is_seven)
 }
+
+// Whether a value is the number 7.
+fn is_number_seven(value: &Value) -> bool {
+    value.as_u64() == Some(7)
+}
+
+// Texts, and whether each is the number, where it has a value.
+static TEXTS: [(&[u8], Option<bool>); 6] = [
+    (b"7", Some(true)),
+    (b" 7\n", Some(true)),
+    (b"[7]", Some(false)),
+    (b"7 7", None),
+    (b"", None),
+    (b"\"\xff\"", None),
+];
 
 #[test]
 fn one_text_alone_has_a_value(rt: HostRuntime) -> Result<(), Fail> {
-    let alloc = rt.alloc();
-    for (bytes, want) in [
-        ("7", Some(true)),
-        (" 7\n", Some(true)),
-        ("[7]", Some(false)),
-        ("7 7", None),
-        ("", None),
-    ] {
-        assert!(rt; is_seven(alloc, bytes.as_bytes())? == want, "{bytes}");
+    for (at, (bytes, want)) in TEXTS.iter().enumerate() {
+        assert!(rt; is_seven(rt.alloc(), bytes)? == *want, "{at}");
     }
-    assert!(rt; is_seven(alloc, b"\"\xff\"")? == None);
     Ok(())
 }

@@ -38,7 +38,7 @@ fn put<K: Keeper>(
 }
 
 // The part, the key and the byte of seven rows, the last in the place of an earlier one.
-const ROWS: [(u32, &str, u8); 7] = [
+static ROWS: [(u32, &str, u8); 7] = [
     (2, "h", 1),
     (1, "q", 2),
     (1, "pz", 3),
@@ -50,8 +50,8 @@ const ROWS: [(u32, &str, u8); 7] = [
 
 // Puts them.
 fn fill<K: Keeper>(alloc: Global, keeper: &mut K) -> Result<(), KeeperFault> {
-    for (part, text, byte) in ROWS {
-        put(alloc, keeper, part, text, byte)?;
+    for (part, text, byte) in &ROWS {
+        put(alloc, keeper, *part, text, *byte)?;
     }
     Ok(())
 }
@@ -114,13 +114,20 @@ fn has_all(alloc: Global, keeper: &MemKeeper, bytes: &[u8]) -> Result<bool, Keep
 // Whether an interval has its rows in order once they are put.
 fn is_in_order(alloc: Global) -> Result<bool, KeeperFault> {
     let mut keeper = MemKeeper::new(alloc, CallList::new(alloc));
-    let was_empty = first(alloc, &mut keeper)? == 0;
-    fill(alloc, &mut keeper)?;
+    let is_so = orders(alloc, &mut keeper);
+    drop(keeper);
+    is_so
+}
+
+// The same of a keeper that has no row yet.
+fn orders(alloc: Global, keeper: &mut MemKeeper) -> Result<bool, KeeperFault> {
+    let was_empty = first(alloc, keeper)? == 0;
+    fill(alloc, keeper)?;
     Ok(
         was_empty
-            && scans(alloc, &mut keeper, &[7, 3])?
-            && first(alloc, &mut keeper)? == 6
-            && has_all(alloc, &keeper, &[6, 5, 7, 3, 2, 1])?,
+            && scans(alloc, keeper, &[7, 3])?
+            && first(alloc, keeper)? == 6
+            && has_all(alloc, keeper, &[6, 5, 7, 3, 2, 1])?,
     )
 }
 
@@ -147,25 +154,38 @@ fn scans_again(alloc: Global, keeper: &mut MemKeeper) -> bool {
 // Whether each named call fails.
 fn fails_as_named(alloc: Global) -> Result<bool, KeeperFault> {
     let mut keeper = failing(alloc, &[0, 2, 4])?;
-    Ok(
-        puts_again(alloc, &mut keeper)
-            && scans_again(alloc, &mut keeper)
-            && first(alloc, &mut keeper) == Err(KeeperFault::Failed)
-            && first(alloc, &mut keeper) == Ok(2),
-    )
+    let is_so = puts_again(alloc, &mut keeper)
+        && scans_again(alloc, &mut keeper)
+        && first_again(alloc, &mut keeper);
+    drop(keeper);
+    Ok(is_so)
+}
+
+// Whether a look for the first row fails once, and has it the next time.
+fn first_again(alloc: Global, keeper: &mut MemKeeper) -> bool {
+    first(alloc, keeper) == Err(KeeperFault::Failed) && first(alloc, keeper) == Ok(2)
 }
 
 // Whether a keeper that is blind shows its row, and no other.
 fn is_blind(alloc: Global) -> Result<bool, KeeperFault> {
     let mut keeper = BlindKeeper::new(row(alloc, 1, "p", 9)?);
-    fill(alloc, &mut keeper)?;
-    Ok(first(alloc, &mut keeper)? == 0 && scans(alloc, &mut keeper, &[9])?)
+    let is_so = hides_others(alloc, &mut keeper);
+    drop(keeper);
+    is_so
+}
+
+// Whether a keeper shows the row of the byte 9 alone, once others are put.
+fn hides_others(alloc: Global, keeper: &mut BlindKeeper) -> Result<bool, KeeperFault> {
+    fill(alloc, keeper)?;
+    Ok(first(alloc, keeper)? == 0 && scans(alloc, keeper, &[9])?)
 }
 
 // Whether it takes a put of the very row that it shows.
 fn takes_its_row(alloc: Global) -> Result<bool, KeeperFault> {
     let mut keeper = BlindKeeper::new(row(alloc, 1, "a", 255)?);
-    Ok(put(alloc, &mut keeper, 1, "a", 255) == Ok(()))
+    let is_taken = put(alloc, &mut keeper, 1, "a", 255) == Ok(());
+    drop(keeper);
+    Ok(is_taken)
 }
 
 // Whether one of these holds.

@@ -178,7 +178,7 @@ enum Of {
 }
 
 // The slowest interval holds its part, and the injector each interval of its count.
-const LEAST: [(Of, [u64; 4], u64); 7] = [
+static LEAST: [(Of, [u64; 4], u64); 7] = [
     (Of::Part(0), [9, 4, 7, 6], 9),
     (Of::Part(1), [9, 4, 7, 6], 4),
     (Of::Part(1), [0, END, END, END], END),

@@ -51,12 +51,33 @@ fn answers<S: Shelf>(
     }
 }
 
+// What is asked of a shelf: a name, a limit, and what is answered.
+type Asked = (&'static str, u64, Result<&'static str, ShelfFault>);
+
+// Whether a shelf gives that answer.
+fn is_answered<S: Shelf>(alloc: Global, shelf: &mut S, asked: &Asked) -> bool {
+    let (name, limit, wanted) = asked;
+    match wanted {
+        Ok(content) => answers(alloc, shelf, name, *limit, Ok(content.as_bytes())),
+        Err(fault) => answers(alloc, shelf, name, *limit, Err(*fault)),
+    }
+}
+
 // Three files, of which two have one name.
-fn files(alloc: Global) -> Result<FileList, NoMemory> {
-    let mut files = FileList::new(alloc);
-    for (name, content) in [("e.jsonl", "12345678"), ("t.json", "{}"), ("t.json", "[]")] {
+static FILES: [(&str, &str); 3] = [("e.jsonl", "12345678"), ("t.json", "{}"), ("t.json", "[]")];
+
+// Appends them.
+fn push_files(alloc: Global, files: &mut FileList) -> Result<(), NoMemory> {
+    for (name, content) in &FILES {
         files.push(file(alloc, name, content)?)?;
     }
+    Ok(())
+}
+
+// A list of them.
+fn files(alloc: Global) -> Result<FileList, NoMemory> {
+    let mut files = FileList::new(alloc);
+    push_files(alloc, &mut files)?;
     Ok(files)
 }
 
@@ -67,21 +88,37 @@ fn shelf(alloc: Global) -> Result<MemShelf, NoMemory> {
     Ok(MemShelf::of(files, failing))
 }
 
+// What such a shelf is asked, one after another.
+static ASKED: [Asked; 5] = [
+    ("t.json", 2, Ok("{}")),
+    ("t.json", 2, Err(ShelfFault::Failed)),
+    ("e.jsonl", 8, Ok("12345678")),
+    ("e.jsonl", 7, Err(ShelfFault::TooLong)),
+    ("e", 8, Err(ShelfFault::Missing)),
+];
+
+// The number of the first of these that a shelf does not answer so, or of all.
+fn answered<S: Shelf>(alloc: Global, shelf: &mut S, all: &[Asked]) -> usize {
+    for (at, asked) in all.iter().enumerate() {
+        if !is_answered(alloc, shelf, asked) {
+            return at;
+        }
+    }
+    all.len()
+}
+
+// The same of the shelf in memory.
+fn answered_in_memory(alloc: Global) -> Result<usize, NoMemory> {
+    let mut shelf = shelf(alloc)?;
+    let count = answered(alloc, &mut shelf, &ASKED);
+    drop(shelf);
+    Ok(count)
+}
+
 #[test]
 fn a_shelf_in_memory_answers_its_files(rt: HostRuntime) -> Result<(), NoMemory> {
-    let mut shelf = shelf(rt.alloc())?;
-    for (name, limit, wanted) in [
-        ("t.json", 2, Ok(b"{}".as_slice())),
-        ("t.json", 2, Err(ShelfFault::Failed)),
-        ("e.jsonl", 8, Ok(b"12345678".as_slice())),
-        ("e.jsonl", 7, Err(ShelfFault::TooLong)),
-        ("e", 8, Err(ShelfFault::Missing)),
-    ] {
-        assert!(rt;
-            answers(rt.alloc(), &mut shelf, name, limit, wanted),
-            "{name} {limit}"
-        );
-    }
+    let count = answered_in_memory(rt.alloc())?;
+    assert!(rt; count == ASKED.len(), "{count}");
     Ok(())
 }
 
@@ -92,24 +129,25 @@ const EIGHT: &[u8] = b"{\"key\":\"";
 
 // Whether a sink whose second call fails takes eight bytes of a line, and after them the whole line.
 fn fails_once(alloc: Global) -> Result<bool, NoMemory> {
-    let mut out = MemSink::of(alloc, 8, call(alloc, 1)?, CallList::new(alloc));
-    Ok(
-        write_all(&mut out, LINE) == Err(SinkFault::Failed)
-            && out.text() == EIGHT
-            && write_all(&mut out, LINE) == Ok(())
-            && out.text() == b"{\"key\":\"{\"key\":\"a\"}\n".as_slice(),
-    )
+    let calls = call(alloc, 1)?;
+    let mut out = MemSink::of(alloc, 8, calls, CallList::new(alloc));
+    let is_so = write_all(&mut out, LINE) == Err(SinkFault::Failed)
+        && out.text() == EIGHT
+        && write_all(&mut out, LINE) == Ok(())
+        && out.text() == b"{\"key\":\"{\"key\":\"a\"}\n".as_slice();
+    drop(out);
+    Ok(is_so)
 }
 
 // Whether a sink whose second call takes nothing fails then too, and takes the write of nothing.
 fn takes_nothing_once(alloc: Global) -> Result<bool, NoMemory> {
     let calls = call(alloc, 1)?;
     let mut out = MemSink::of(alloc, 8, CallList::new(alloc), calls);
-    Ok(
-        write_all(&mut out, LINE) == Err(SinkFault::Failed)
-            && out.text() == EIGHT
-            && out.write(b"") == Ok(0),
-    )
+    let is_so = write_all(&mut out, LINE) == Err(SinkFault::Failed)
+        && out.text() == EIGHT
+        && out.write(b"") == Ok(0);
+    drop(out);
+    Ok(is_so)
 }
 
 // Whether both do.
@@ -134,23 +172,27 @@ fn make_folder(rt: &HostRuntime) -> Result<(), Fail> {
 #[test]
 fn a_real_file_is_read_within_its_limit(rt: HostRuntime) -> Result<(), Fail> {
     make_folder(&rt)?;
-    let mut shelf = FileShelf::new(&rt);
-    for (name, limit, wanted) in [
-        ("files/e.jsonl", 8, Ok(b"12345678".as_slice())),
-        ("files/e.jsonl", 7, Err(ShelfFault::TooLong)),
-        ("files/e.jsonl", 0, Err(ShelfFault::TooLong)),
-        ("files/missing", 8, Err(ShelfFault::Missing)),
-        ("files/folder/missing", 8, Err(ShelfFault::Missing)),
-        ("files/folder", 8, Err(ShelfFault::Failed)),
-        ("files/e.jsonl/under", 8, Err(ShelfFault::Failed)),
-    ] {
-        assert!(rt;
-            answers(rt.alloc(), &mut shelf, name, limit, wanted),
-            "{name} {limit}"
-        );
-    }
+    let count = answered_by_files(&rt);
     fs::remove_dir_all(&rt, "files")?;
+    assert!(rt; count == REAL.len(), "{count}");
     Ok(())
+}
+
+// What a shelf over that folder is asked.
+static REAL: [Asked; 7] = [
+    ("files/e.jsonl", 8, Ok("12345678")),
+    ("files/e.jsonl", 7, Err(ShelfFault::TooLong)),
+    ("files/e.jsonl", 0, Err(ShelfFault::TooLong)),
+    ("files/missing", 8, Err(ShelfFault::Missing)),
+    ("files/folder/missing", 8, Err(ShelfFault::Missing)),
+    ("files/folder", 8, Err(ShelfFault::Failed)),
+    ("files/e.jsonl/under", 8, Err(ShelfFault::Failed)),
+];
+
+// The number of the first of these that is not answered so, or of all.
+fn answered_by_files(rt: &HostRuntime) -> usize {
+    let mut shelf = FileShelf::new(rt);
+    answered(rt.alloc(), &mut shelf, &REAL)
 }
 
 // Twenty thousand bytes.
@@ -175,11 +217,18 @@ fn is_read(rt: &HostRuntime, content: &[u8]) -> bool {
         )
 }
 
-// Whether a file of these bytes is read so.
+// Whether a file to which these bytes are written is read so.
+fn write_and_read(rt: &HostRuntime, content: &[u8]) -> Result<bool, Fail> {
+    fs::write(rt, "long", content)?;
+    Ok(is_read(rt, content))
+}
+
+// Whether a file of the twenty thousand bytes is.
 fn long_file_is_read(rt: &HostRuntime) -> Result<bool, Fail> {
     let content = long_content(rt.alloc())?;
-    fs::write(rt, "long", content.as_slice())?;
-    Ok(is_read(rt, &content))
+    let is_read = write_and_read(rt, content.as_slice());
+    drop(content);
+    is_read
 }
 
 #[test]
@@ -198,10 +247,16 @@ fn standard_output_takes_a_line(rt: HostRuntime) {
 // The words that a process is called with.
 fn args(alloc: Global) -> Result<Vec<String>, NoMemory> {
     let mut args = Vec::new(alloc);
-    for arg in ["millwheel", "solo", ""] {
+    push_args(alloc, &mut args)?;
+    Ok(args)
+}
+
+// Appends them.
+fn push_args(alloc: Global, args: &mut Vec<String>) -> Result<(), NoMemory> {
+    for arg in &["millwheel", "solo", ""] {
         args.push(String::from_str(alloc, arg)?)?;
     }
-    Ok(args)
+    Ok(())
 }
 
 // Whether there are these words and no more.
@@ -224,7 +279,10 @@ fn leaves_its_own_name(alloc: Global) -> Result<bool, WordsFault> {
 
 // Whether of no words none are read.
 fn leaves_nothing(alloc: Global) -> Result<bool, WordsFault> {
-    Ok(words_of(alloc, Ok(Vec::new(alloc).into_iter()))?.is_empty())
+    let words = words_of(alloc, Ok(Vec::new(alloc).into_iter()))?;
+    let is_empty = words.is_empty();
+    drop(words);
+    Ok(is_empty)
 }
 
 // Whether both hold.

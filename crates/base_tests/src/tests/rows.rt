@@ -208,7 +208,7 @@ fn is_spelt(alloc: Global, bytes: &[u8]) -> Result<bool, StateRefusal> {
 }
 
 // A state of each kind.
-const STATES: [(&str, &[u8]); 4] = [
+static STATES: [(&str, &[u8]); 4] = [
     ("injector", b"\0\0\0\0\x03"),
     ("count", b"\x01\0\0\0\0\0\0\0\0\0\0\0\0"),
     (
@@ -227,7 +227,7 @@ fn states_are_written_and_read(rt: HostRuntime) -> Result<(), StateRefusal> {
 }
 
 // More windows than there are bytes, no kind, and a byte too many.
-const DAMAGED: [&[u8]; 3] = [
+static DAMAGED: [&[u8]; 3] = [
     b"\x01\0\0\0\0\0\0\0\0\xff\xff\xff\xff",
     b"\x04\0\0\0\0\0\0\0\x02",
     b"\x03\0\0\0\0\0\0\0\x02\0",

@@ -69,6 +69,11 @@ pub(super) fn ample(alloc: Global) -> MemSink {
     MemSink::of(alloc, 65536, CallList::new(alloc), CallList::new(alloc))
 }
 
+/// A keeper without rows that does not fail.
+pub(super) fn steady(alloc: Global) -> MemKeeper {
+    MemKeeper::new(alloc, CallList::new(alloc))
+}
+
 /// A keeper without rows, whose calls of these numbers fail.
 pub(super) fn keeper(alloc: Global, failing: &[u64]) -> Result<MemKeeper, NoMemory> {
     Ok(MemKeeper::new(alloc, numbers(alloc, failing)?))
@@ -93,7 +98,9 @@ pub(super) fn called<K: Keeper>(
     out: &mut MemSink,
 ) -> Result<Done<K>, NoMemory> {
     let words = words(alloc, line)?;
-    Ok(millwheel_alone(alloc, words.as_slice(), shelf, keeper, out))
+    let done = millwheel_alone(alloc, words.as_slice(), shelf, keeper, out);
+    drop(words);
+    Ok(done)
 }
 
 /// The same over these files, whose reads don't fail.
@@ -105,7 +112,9 @@ pub(super) fn answer<K: Keeper>(
     out: &mut MemSink,
 ) -> Result<Done<K>, NoMemory> {
     let mut shelf = shelf(alloc, files, &[])?;
-    called(alloc, line, &mut shelf, keeper, out)
+    let done = called(alloc, line, &mut shelf, keeper, out);
+    drop(shelf);
+    done
 }
 
 // One count over windows of 60, whose keys are cut in three intervals.
@@ -113,15 +122,42 @@ const CUT: &str =
     r#"{"injectors":[{"name":"clicks","stream":"raw"}],"computations":[{"name":"per_minute","kind":"count","size":60,"reads":[{"stream":"raw","by":"key"}],"stream":"windows","cuts":["h","q"]}]}
 "#;
 
-// A shelf with that count and the fifty lines of the seed 7.
+// The fifty lines of the seed 7.
+fn fifty(alloc: Global) -> Result<NamedFile, NoMemory> {
+    let bytes = load_lines(alloc, 7, 50)?;
+    Ok(NamedFile {
+        name: Name::of(alloc, "e")?,
+        bytes,
+    })
+}
+
+// Appends that count and those lines.
+fn push_fifty(alloc: Global, files: &mut FileList) -> Result<(), NoMemory> {
+    files.push(file(alloc, "t.json", CUT)?)?;
+    files.push(fifty(alloc)?)?;
+    Ok(())
+}
+
+// A shelf with that count and those lines.
 fn shelf_of_fifty(alloc: Global) -> Result<MemShelf, NoMemory> {
     let mut files = FileList::new(alloc);
-    files.push(file(alloc, "t.json", CUT)?)?;
-    files.push(NamedFile {
-        name: Name::of(alloc, "e")?,
-        bytes: load_lines(alloc, 7, 50)?,
-    })?;
+    push_fifty(alloc, &mut files)?;
     Ok(MemShelf::of(files, CallList::new(alloc)))
+}
+
+// What a call with this line answers over these files, on several threads. No other function calls the program so.
+fn called_on_threads<R: Threads + Wait + Sync>(
+    rt: &R,
+    alloc: Global,
+    line: &str,
+    shelf: &mut MemShelf,
+    keeper: MemKeeper,
+    out: &mut MemSink,
+) -> Result<Done<MemKeeper>, NoMemory> {
+    let words = words(alloc, line)?;
+    let done = millwheel(rt, alloc, words.as_slice(), shelf, keeper, out, &OpenGate);
+    drop(words);
+    Ok(done)
 }
 
 /// What a call with this line answers over that count and those lines, on several threads.
@@ -132,10 +168,10 @@ pub(super) fn rounds<R: Threads + Wait + Sync>(
     keeper: MemKeeper,
     out: &mut MemSink,
 ) -> Result<Done<MemKeeper>, NoMemory> {
-    let words = words(alloc, line)?;
     let mut shelf = shelf_of_fifty(alloc)?;
-    let gate = OpenGate;
-    Ok(millwheel(rt, alloc, words.as_slice(), &mut shelf, keeper, out, &gate))
+    let done = called_on_threads(rt, alloc, line, &mut shelf, keeper, out);
+    drop(shelf);
+    done
 }
 
 /// Whether this is what the program says of a status.
@@ -153,6 +189,22 @@ pub(super) fn says(
     text: &str,
 ) -> Result<bool, NoMemory> {
     let mut out = ample(alloc);
-    let done = answer(alloc, line, files, keeper(alloc, &[])?, &mut out)?;
-    Ok(is_said(alloc, &done.status, message)? && out.text() == text.as_bytes())
+    let done = answer(alloc, line, files, steady(alloc), &mut out);
+    let is_so = is_answered(alloc, &done, message);
+    drop(done);
+    let is_written = out.text() == text.as_bytes();
+    drop(out);
+    Ok(is_so? && is_written)
+}
+
+// Whether this is what the program says of how a call ended.
+fn is_answered(
+    alloc: Global,
+    done: &Result<Done<MemKeeper>, NoMemory>,
+    message: &str,
+) -> Result<bool, NoMemory> {
+    match done {
+        Ok(done) => is_said(alloc, &done.status, message),
+        Err(NoMemory) => Err(NoMemory),
+    }
 }

@@ -1,5 +1,5 @@
 //! Each call of the keeper, of the files and of the output that fails in turn, in each mode.
-use super::calls::{ample, answer, called, is_said, keeper, shelf, sink};
+use super::calls::{ample, answer, called, is_said, keeper, shelf, sink, steady};
 use super::files::{FIRST, TEXT};
 use super::kept::are_kept;
 use millwheel_cli::{Done, Status};
@@ -103,7 +103,7 @@ const LOADED: [Told; 19] = [
 ];
 
 // The words of each mode that runs, and the entries of its history.
-const RUNS: [(&str, &[Told]); 3] = [
+static RUNS: [(&str, &[Told]); 3] = [
     ("solo t.json e", &WHOLE),
     ("replay --plan p t.json e", &REPLAYED),
     ("load 7 3", &LOADED),
@@ -120,10 +120,12 @@ fn has_ended(done: &Done<MemKeeper>, text: &[u8], want: &[Told], count: usize) -
     is_so && are_first(done.history.entries(), want, count)
 }
 
-// Whether the keeper has the rows of the history, and no others.
-fn has_its_rows(alloc: Global, done: &Done<MemKeeper>) -> Result<bool, NoMemory> {
+/// Whether the keeper has the rows of the history, and no others.
+pub(super) fn has_its_rows(alloc: Global, done: &Done<MemKeeper>) -> Result<bool, NoMemory> {
     let rows = done.keeper.rows(alloc)?;
-    are_kept(alloc, rows.as_slice(), done.history.entries())
+    let are_kept = are_kept(alloc, rows.as_slice(), done.history.entries());
+    drop(rows);
+    are_kept
 }
 
 // Whether a call whose keeper fails at this of its calls ends so, and leaves the rows of its history.
@@ -134,24 +136,41 @@ fn ends_after(
     want: &[Told],
     count: usize,
 ) -> Result<bool, NoMemory> {
+    let keeper = keeper(alloc, &[number])?;
     let mut out = ample(alloc);
-    let done = answer(alloc, line, FIRST, keeper(alloc, &[number])?, &mut out)?;
-    Ok(has_ended(&done, out.text(), want, count) && has_its_rows(alloc, &done)?)
+    let done = answer(alloc, line, FIRST, keeper, &mut out);
+    let is_so = ends_so(alloc, &done, out.text(), want, count);
+    drop(done);
+    drop(out);
+    is_so
+}
+
+// Whether such a call ended so, and left the rows of its history.
+fn ends_so(
+    alloc: Global,
+    done: &Result<Done<MemKeeper>, NoMemory>,
+    text: &[u8],
+    want: &[Told],
+    count: usize,
+) -> Result<bool, NoMemory> {
+    match done {
+        Ok(done) => Ok(has_ended(done, text, want, count) && has_its_rows(alloc, done)?),
+        Err(NoMemory) => Err(NoMemory),
+    }
 }
 
 // The keeper's first call is that of the book's start, and the others are one for each entry. With the one behind the
 // last failing the run ends well.
 #[test]
 fn each_keeper_call_fails(rt: HostRuntime) -> Result<(), Fail> {
-    for (line, want) in RUNS {
-        for count in 0..=want.len() {
-            let number = count as u64 + 1;
+    for (line, want) in &RUNS {
+        for number in 0..(want.len() as u64).saturating_add(2) {
+            let count = number.saturating_sub(1) as usize;
             assert!(rt;
                 ends_after(rt.alloc(), line, number, want, count)?,
                 "{line}: {number}"
             );
         }
-        assert!(rt; ends_after(rt.alloc(), line, 0, want, 0)?, "{line}: 0");
     }
     Ok(())
 }
@@ -160,28 +179,48 @@ fn each_keeper_call_fails(rt: HostRuntime) -> Result<(), Fail> {
 fn read_says(alloc: Global, line: &str, number: u64, message: &str) -> Result<bool, NoMemory> {
     let mut shelf = shelf(alloc, FIRST, &[number])?;
     let mut out = ample(alloc);
-    let done = called(alloc, line, &mut shelf, keeper(alloc, &[])?, &mut out)?;
-    let is_begun = !done.history.is_empty() || !out.text().is_empty();
+    let done = called(alloc, line, &mut shelf, steady(alloc), &mut out);
+    drop(shelf);
+    let is_so = read_said(alloc, &done, out.text(), message);
+    drop(done);
+    drop(out);
+    is_so
+}
+
+// Whether this is said of such a call, and it began only where nothing is said.
+fn read_said(
+    alloc: Global,
+    done: &Result<Done<MemKeeper>, NoMemory>,
+    text: &[u8],
+    message: &str,
+) -> Result<bool, NoMemory> {
+    let Ok(done) = done else {
+        return Err(NoMemory);
+    };
+    let is_begun = !done.history.is_empty() || !text.is_empty();
     Ok(is_said(alloc, &done.status, message)? && is_begun == message.is_empty())
 }
 
+// Calls: of each the line, the read that fails, and what is said.
+static READS: [(&str, u64, &str); 11] = [
+    ("solo t.json e", 0, "can't read t.json"),
+    ("solo t.json e", 1, "can't read e"),
+    ("solo t.json e", 2, ""),
+    ("replay --plan p t.json e", 0, "can't read t.json"),
+    ("replay --plan p t.json e", 1, "can't read p"),
+    ("replay --plan p t.json e", 2, "can't read e"),
+    ("replay --plan p t.json e", 3, ""),
+    ("plain t.json e", 0, "can't read t.json"),
+    ("plain t.json e", 1, "can't read e"),
+    ("plain t.json e", 2, ""),
+    ("load 7 3", 0, ""),
+];
+
 #[test]
 fn each_read_fails(rt: HostRuntime) -> Result<(), Fail> {
-    for (line, number, message) in [
-        ("solo t.json e", 0, "can't read t.json"),
-        ("solo t.json e", 1, "can't read e"),
-        ("solo t.json e", 2, ""),
-        ("replay --plan p t.json e", 0, "can't read t.json"),
-        ("replay --plan p t.json e", 1, "can't read p"),
-        ("replay --plan p t.json e", 2, "can't read e"),
-        ("replay --plan p t.json e", 3, ""),
-        ("plain t.json e", 0, "can't read t.json"),
-        ("plain t.json e", 1, "can't read e"),
-        ("plain t.json e", 2, ""),
-        ("load 7 3", 0, ""),
-    ] {
+    for (line, number, message) in &READS {
         assert!(rt;
-            read_says(rt.alloc(), line, number, message)?,
+            read_says(rt.alloc(), line, *number, message)?,
             "{line}: {number}"
         );
     }
@@ -192,7 +231,7 @@ fn each_read_fails(rt: HostRuntime) -> Result<(), Fail> {
 const SUMMARY: &str = "{\"fired\":3,\"handled\":3,\"injected\":3,\"late\":0}\n";
 
 // Each mode, and the text that it writes.
-const TEXTS: [(&str, &str); 4] = [
+static TEXTS: [(&str, &str); 4] = [
     ("solo t.json e", TEXT),
     ("replay --plan p t.json e", TEXT),
     ("plain t.json e", TEXT),
@@ -208,18 +247,33 @@ fn begins(text: &str, part: &[u8], length: usize) -> bool {
 // bytes as the calls before took; or writes the whole text where there is no such call.
 fn is_cut_at(alloc: Global, line: &str, text: &str, number: u64) -> Result<bool, NoMemory> {
     let mut out = sink(alloc, 8, &[number], &[])?;
-    let done = answer(alloc, line, FIRST, keeper(alloc, &[])?, &mut out)?;
-    let length = number.saturating_mul(8) as usize;
+    let done = answer(alloc, line, FIRST, steady(alloc), &mut out);
+    let is_cut = ends_cut(&done, out.text(), text, number.saturating_mul(8) as usize);
+    drop(done);
+    drop(out);
+    is_cut
+}
+
+// Whether a call that could write so many bytes of a text ended with that.
+fn ends_cut(
+    done: &Result<Done<MemKeeper>, NoMemory>,
+    written: &[u8],
+    text: &str,
+    length: usize,
+) -> Result<bool, NoMemory> {
+    let Ok(done) = done else {
+        return Err(NoMemory);
+    };
     Ok(match done.status {
-        Status::SinkFault => length < text.len() && begins(text, out.text(), length),
-        Status::Ok => length >= text.len() && out.text() == text.as_bytes(),
+        Status::SinkFault => length < text.len() && begins(text, written, length),
+        Status::Ok => length >= text.len() && written == text.as_bytes(),
         _ => false,
     })
 }
 
 #[test]
 fn each_write_fails(rt: HostRuntime) -> Result<(), Fail> {
-    for (line, text) in TEXTS {
+    for (line, text) in &TEXTS {
         for number in 0..=text.len().div_ceil(8) as u64 {
             assert!(rt;
                 is_cut_at(rt.alloc(), line, text, number)?,

@@ -1,6 +1,7 @@
 //! What owners that were overtaken may still do, and a keeper that fails and is asked again.
-use super::calls::{keeper, says};
-use super::files::{COUNT, EVENTS, TEXT};
+use super::calls::keeper;
+use super::files::TEXT;
+use super::long_files::planned;
 use super::overtaken::{SCRIPTS, sides};
 use super::worlds::wrong_over;
 use mw_types::NoMemory;
@@ -14,7 +15,7 @@ fn wrong_line(alloc: Global, failing: &[u64], script: &str) -> Result<u64, NoMem
 
 #[test]
 fn former_owners_are_stale_and_work_survives_a_keeper_fault(rt: HostRuntime) -> Result<(), Fail> {
-    for (name, failing, script) in SCRIPTS {
+    for (name, failing, script) in &SCRIPTS {
         let line = wrong_line(rt.alloc(), failing, script)?;
         assert!(rt; line == 0, "{name}: line {line}");
     }
@@ -24,6 +25,12 @@ fn former_owners_are_stale_and_work_survives_a_keeper_fault(rt: HostRuntime) -> 
 // The steps of a script, as a plan.
 fn plan(alloc: Global, script: &str) -> Result<String, NoMemory> {
     let mut plan = String::new(alloc);
+    push_steps(&mut plan, script)?;
+    Ok(plan)
+}
+
+// Appends the steps of a script, each on a line of its own.
+fn push_steps(plan: &mut String, script: &str) -> Result<(), NoMemory> {
     for line in script.split('\n') {
         let (asked, _) = sides(line);
         if asked != "drain" && asked != "last" {
@@ -31,19 +38,20 @@ fn plan(alloc: Global, script: &str) -> Result<String, NoMemory> {
             plan.push_str("\n")?;
         }
     }
-    Ok(plan)
+    Ok(())
 }
 
 // Whether a replay of the steps of a script, over a keeper that does not fail, writes the text of the first example.
 fn is_replayed(alloc: Global, script: &str) -> Result<bool, NoMemory> {
     let plan = plan(alloc, script)?;
-    let files = [("t.json", COUNT), ("p", plan.as_str()), ("e", EVENTS)];
-    says(alloc, "replay --plan p t.json e", &files, "", TEXT)
+    let is_replayed = planned(alloc, plan.as_str(), "", TEXT);
+    drop(plan);
+    is_replayed
 }
 
 #[test]
 fn former_owners_change_no_text(rt: HostRuntime) -> Result<(), Fail> {
-    for (name, _, script) in SCRIPTS {
+    for (name, _, script) in &SCRIPTS {
         assert!(rt; is_replayed(rt.alloc(), script)?, "{name}");
     }
     Ok(())

@@ -5,98 +5,138 @@ use mw_types::NoMemory;
 use std::alloc::Global;
 use std::test::Fail;
 
-// So many times the same text.
-fn repeated(alloc: Global, text: &str, times: u32) -> Result<String, NoMemory> {
-    let mut all = String::new(alloc);
+// Appends so many times the same text.
+fn push_times(all: &mut String, text: &str, times: u32) -> Result<(), NoMemory> {
     for _ in 0..times {
         all.push_str(text)?;
     }
+    Ok(())
+}
+
+// So many times the same text.
+fn repeated(alloc: Global, text: &str, times: u32) -> Result<String, NoMemory> {
+    let mut all = String::new(alloc);
+    push_times(&mut all, text, times)?;
     Ok(all)
 }
 
 // The letter so many times.
 fn long(alloc: Global, letter: &str, times: u32) -> Result<String, NoMemory> {
     let piece = repeated(alloc, letter, 1024)?;
-    let mut all = repeated(alloc, piece.as_str(), times / 1024)?;
-    let rest = repeated(alloc, letter, times % 1024)?;
-    all.push_str(rest.as_str())?;
+    let all = repeated(alloc, piece.as_str(), times / 1024);
+    drop(piece);
+    let mut all = all?;
+    push_times(&mut all, letter, times % 1024)?;
     Ok(all)
 }
 
 // Whether this is said and written where the plan has the letter so many times.
 fn plan_says(alloc: Global, times: u32, message: &str, text: &str) -> Result<bool, NoMemory> {
     let plan = long(alloc, "#", times)?;
-    planned(alloc, plan.as_str(), message, text)
+    let is_so = planned(alloc, plan.as_str(), message, text);
+    drop(plan);
+    is_so
 }
 
-// Whether this is said and written of a plan.
-fn planned(alloc: Global, plan: &str, message: &str, text: &str) -> Result<bool, NoMemory> {
+// The line of a call that has a plan.
+const REPLAY: &str = "replay --plan p t.json e";
+
+/// Whether this is said and written of a plan.
+pub(super) fn planned(
+    alloc: Global,
+    plan: &str,
+    message: &str,
+    text: &str,
+) -> Result<bool, NoMemory> {
     let files = [("t.json", COUNT), ("p", plan), ("e", EVENTS)];
-    says(alloc, "replay --plan p t.json e", &files, message, text)
+    says(alloc, REPLAY, &files, message, text)
 }
 
 // Whether this is said and written where the event file has so many blanks.
 fn events_say(alloc: Global, times: u32, message: &str, text: &str) -> Result<bool, NoMemory> {
     let events = long(alloc, " ", times)?;
     let files = [("t.json", COUNT), ("e", events.as_str())];
-    says(alloc, "solo t.json e", &files, message, text)
+    let is_so = says(alloc, "solo t.json e", &files, message, text);
+    drop(events);
+    is_so
 }
 
 // What is written where nothing is injected.
 const NOTHING: &str = "{\"fired\":0,\"handled\":0,\"injected\":0,\"late\":0}\n";
 
+// Whether this is said and written where that file has so many letters.
+fn file_says(
+    alloc: Global,
+    file: &str,
+    times: u32,
+    message: &str,
+    text: &str,
+) -> Result<bool, NoMemory> {
+    if file == "plan" {
+        plan_says(alloc, times, message, text)
+    } else {
+        events_say(alloc, times, message, text)
+    }
+}
+
+// Files at their greatest length and one letter longer, what is said of each, and what is written.
+static LONG: [(&str, u32, &str, &str); 4] = [
+    ("plan", 1048576, "", TEXT),
+    ("plan", 1048577, "too long: p", ""),
+    ("events", 33554432, "", NOTHING),
+    ("events", 33554433, "too long: e", ""),
+];
+
 // One line of blanks is no record, and one of `#` is no step.
 #[test]
 fn files_go_up_to_their_lengths(rt: HostRuntime) -> Result<(), Fail> {
-    let alloc = rt.alloc();
-    for (times, message, text) in [(1048576, "", TEXT), (1048577, "too long: p", "")] {
-        assert!(rt; plan_says(alloc, times, message, text)?, "plan: {times}");
-    }
-    for (times, message, text) in [(33554432, "", NOTHING), (33554433, "too long: e", "")] {
-        assert!(rt; events_say(alloc, times, message, text)?, "events: {times}");
+    for (file, times, message, text) in &LONG {
+        assert!(rt;
+            file_says(rt.alloc(), file, *times, message, text)?,
+            "{file}: {times}"
+        );
     }
     Ok(())
 }
 
-// Whether a plan is taken, or refused with this message.
-fn is_answered(alloc: Global, plan: &str, message: &str) -> Result<bool, NoMemory> {
+// Whether a call whose plan this is goes well, or says this.
+fn is_answered(alloc: Global, line: &str, plan: &str, message: &str) -> Result<bool, NoMemory> {
+    let files = [("t.json", COUNT), ("p", plan), ("e", EVENTS)];
     let text = if message.is_empty() { TEXT } else { "" };
-    planned(alloc, plan, message, text)
+    says(alloc, line, &files, message, text)
 }
 
-// Whether these words are none that the program takes.
-fn are_refused(alloc: Global, line: &str) -> Result<bool, NoMemory> {
-    let files = [("t.json", COUNT), ("e", EVENTS)];
-    says(alloc, line, &files, "usage: millwheel MODE ARGS", "")
-}
+// What is said of words that are no call.
+const USAGE: &str = "usage: millwheel MODE ARGS";
+
+// Calls with their plans, and what is said of each.
+static NUMBERED: [(&str, &str, &str); 17] = [
+    (REPLAY, "claim 15 0", ""),
+    (REPLAY, "claim 16 0", "plan refused: line 1"),
+    (REPLAY, "claim 0 1", ""),
+    (REPLAY, "claim 0 2", "plan refused: line 1"),
+    (REPLAY, "take 0 4294967295", ""),
+    (REPLAY, "take 0 4294967296", "plan refused: line 1"),
+    (REPLAY, "crash 0000000015", ""),
+    (REPLAY, "crash 00000000015", "plan refused: line 1"),
+    (REPLAY, "fire 0 1", ""),
+    (REPLAY, "fire 0 0", "plan refused: line 1"),
+    (REPLAY, "\n#\nclaim  0 0", "plan refused: line 3"),
+    ("run --workers 17 --rounds 4 t.json e", "", USAGE),
+    ("run --workers 0 --rounds 4 t.json e", "", USAGE),
+    ("run --workers 2 --rounds 1001 t.json e", "", USAGE),
+    ("load 4294967296 1", "", USAGE),
+    ("load 7 262145", "", USAGE),
+    ("load 7 0", "", USAGE),
+];
 
 #[test]
 fn plans_and_words_go_up_to_their_numbers(rt: HostRuntime) -> Result<(), Fail> {
-    let alloc = rt.alloc();
-    for (plan, message) in [
-        ("claim 15 0", ""),
-        ("claim 16 0", "plan refused: line 1"),
-        ("claim 0 1", ""),
-        ("claim 0 2", "plan refused: line 1"),
-        ("take 0 4294967295", ""),
-        ("take 0 4294967296", "plan refused: line 1"),
-        ("crash 0000000015", ""),
-        ("crash 00000000015", "plan refused: line 1"),
-        ("fire 0 1", ""),
-        ("fire 0 0", "plan refused: line 1"),
-        ("\n#\nclaim  0 0", "plan refused: line 3"),
-    ] {
-        assert!(rt; is_answered(alloc, plan, message)?, "{plan}");
-    }
-    for line in [
-        "run --workers 17 --rounds 4 t.json e",
-        "run --workers 0 --rounds 4 t.json e",
-        "run --workers 2 --rounds 1001 t.json e",
-        "load 4294967296 1",
-        "load 7 262145",
-        "load 7 0",
-    ] {
-        assert!(rt; are_refused(alloc, line)?, "{line}");
+    for (line, plan, message) in &NUMBERED {
+        assert!(rt;
+            is_answered(rt.alloc(), line, plan, message)?,
+            "{line}: {plan}"
+        );
     }
     Ok(())
 }

@@ -95,7 +95,7 @@ drain = Ok";
 pub type Script = (&'static str, &'static [u64], &'static str);
 
 /// The scripts. The first four are those of owners that were overtaken, and were worked out by hand, as the last.
-pub const SCRIPTS: [Script; 6] = [
+pub static SCRIPTS: [Script; 6] = [
     ("a line of a former owner", &[], LINE_OF_A_FORMER_OWNER),
     (
         "an acknowledgement to a former owner",

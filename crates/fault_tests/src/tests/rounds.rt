@@ -1,8 +1,9 @@
 //! Rounds of two workers over a keeper whose call of each number fails, and the rows that it holds then.
-use super::calls::{ample, keeper, rounds};
-use super::kept::are_kept;
-use millwheel_cli::Status;
+use super::calls::{ample, keeper, rounds, steady};
+use super::each_call::has_its_rows;
+use millwheel_cli::{Done, Status};
 use mw_types::NoMemory;
+use row_keeper::MemKeeper;
 use std::alloc::Global;
 use std::sync::Wait;
 use std::test::Fail;
@@ -15,12 +16,26 @@ fn leave_their_rows<R: Threads + Wait + Sync>(
     alloc: Global,
     number: u64,
 ) -> Result<bool, NoMemory> {
+    let keeper = keeper(alloc, &[number])?;
     let mut out = ample(alloc);
     let line = "run --workers 2 --rounds 4 t.json e";
-    let done = rounds(rt, alloc, line, keeper(alloc, &[number])?, &mut out)?;
-    let has_failed = matches!(done.status, Status::KeeperFault) && out.text().is_empty();
-    let rows = done.keeper.rows(alloc)?;
-    Ok(has_failed && are_kept(alloc, rows.as_slice(), done.history.entries())?)
+    let done = rounds(rt, alloc, line, keeper, &mut out);
+    let is_empty = out.text().is_empty();
+    drop(out);
+    let is_so = has_left_its_rows(alloc, &done);
+    drop(done);
+    Ok(is_empty && is_so?)
+}
+
+// Whether such rounds ended with that, and left those rows.
+fn has_left_its_rows(
+    alloc: Global,
+    done: &Result<Done<MemKeeper>, NoMemory>,
+) -> Result<bool, NoMemory> {
+    let Ok(done) = done else {
+        return Err(NoMemory);
+    };
+    Ok(matches!(done.status, Status::KeeperFault) && has_its_rows(alloc, done)?)
 }
 
 // The first call is that of the book's start; then there are four claims, and each other entry puts a row.
@@ -35,17 +50,26 @@ fn rounds_whose_keeper_fails_leave_the_rows_of_their_history(rt: HostRuntime) ->
 // Whether a run is taken, and comes to its end.
 fn is_taken<R: Threads + Wait + Sync>(rt: &R, alloc: Global, line: &str) -> Result<bool, NoMemory> {
     let mut out = ample(alloc);
-    let done = rounds(rt, alloc, line, keeper(alloc, &[])?, &mut out)?;
-    Ok(done.status.is_ok())
+    let done = rounds(rt, alloc, line, steady(alloc), &mut out);
+    drop(out);
+    let is_taken = match &done {
+        Ok(done) => Ok(done.status.is_ok()),
+        Err(NoMemory) => Err(NoMemory),
+    };
+    drop(done);
+    is_taken
 }
+
+// Runs at their greatest numbers.
+static RUNS: [&str; 3] = [
+    "run --workers 1 --rounds 1000 t.json e",
+    "run --workers 16 --rounds 0 t.json e",
+    "run --workers 16 --rounds 4 t.json e",
+];
 
 #[test]
 fn runs_have_up_to_sixteen_workers_and_a_thousand_rounds(rt: HostRuntime) -> Result<(), Fail> {
-    for line in [
-        "run --workers 1 --rounds 1000 t.json e",
-        "run --workers 16 --rounds 0 t.json e",
-        "run --workers 16 --rounds 4 t.json e",
-    ] {
+    for line in &RUNS {
         assert!(rt; is_taken(&rt, rt.alloc(), line)?, "{line}");
     }
     Ok(())

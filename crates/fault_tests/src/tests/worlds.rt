@@ -1,5 +1,5 @@
 //! A scripted world of the first example's case, and what its steps answer.
-ghost use Rattle.std.specs.Prelude.{◌≡◌, All, IfOk};
+ghost use Rattle.std.specs.Prelude.{◌≡◌, All, IfOk, length};
 ghost use Rattle.topology.specs.Shapes.{injectors_of};
 ghost use Rattle.node.specs.Works.{IsWorkOf};
 ghost use Rattle.computations.specs.Parts.{HasState, part_record, part_timer};
@@ -48,10 +48,19 @@ fn lines(alloc: Global) -> Result<Items, NoMemory> {
 
 // Its case.
 fn case(alloc: Global) -> Result<Case, NoMemory> {
+    let items = items(alloc)?;
     let topology = topology(alloc)?;
-    let mut items = ItemsList::new(alloc);
-    items.push(lines(alloc)?)?;
     Case::of(alloc, topology, items)
+}
+
+// Its lines, as those of the one injector.
+fn items(alloc: Global) -> Result<ItemsList, NoMemory>
+    ensures { IfOk result (λ items. length items ≡ 1) }
+{
+    let lines = lines(alloc)?;
+    let mut items = ItemsList::new(alloc);
+    items.push(lines)?;
+    Ok(items)
 }
 
 // The computations of a case.
@@ -193,7 +202,9 @@ fn is_written(alloc: Global, said: Said, want: &str) -> Result<bool, NoMemory> {
         (word, None) => Ok(word == want),
         (word, Some(number)) => {
             let text = format!(in alloc; "{word} {number}")?;
-            Ok(text.as_str() == want)
+            let is_so = text.as_str() == want;
+            drop(text);
+            Ok(is_so)
         }
     }
 }
@@ -229,6 +240,15 @@ fn first_wrong(
 /// keeper.
 pub(super) fn wrong_over(alloc: Global, keeper: MemKeeper, script: &str) -> Result<u64, NoMemory> {
     let case = case(alloc)?;
-    let mut world = world(alloc, &case, keeper)?;
-    first_wrong(alloc, &mut world, script)
+    let wrong = wrong_of(alloc, &case, keeper, script);
+    drop(case);
+    wrong
+}
+
+// The same over this case.
+fn wrong_of(alloc: Global, case: &Case, keeper: MemKeeper, script: &str) -> Result<u64, NoMemory> {
+    let mut world = world(alloc, case, keeper)?;
+    let wrong = first_wrong(alloc, &mut world, script);
+    drop(world);
+    wrong
 }

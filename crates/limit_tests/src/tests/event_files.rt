@@ -18,14 +18,22 @@ fn refusal(alloc: Global, bytes: &[u8], room: u32) -> Option<LinesRefusal> {
     refusal_of(read_lines(alloc, bytes, room))
 }
 
-// Why a file is refused, if it is.
-fn file_refusal(alloc: Global, file: File) -> Result<Option<LinesRefusal>, NoMemory> {
-    let ([head, opening, closing, tail], times, room) = file;
-    let mut text = String::from_str(alloc, head)?;
-    push_times(&mut text, opening, times)?;
-    push_times(&mut text, closing, times)?;
+// Appends the parts, those in the middle so many times.
+fn push_parts(text: &mut String, parts: &Parts, times: u32) -> Result<(), NoMemory> {
+    let [head, opening, closing, tail] = parts;
+    text.push_str(head)?;
+    push_times(text, opening, times)?;
+    push_times(text, closing, times)?;
     text.push_str(tail)?;
-    let why = refusal(alloc, text.as_str().as_bytes(), room);
+    Ok(())
+}
+
+// Why a file is refused, if it is.
+fn file_refusal(alloc: Global, file: &File) -> Result<Option<LinesRefusal>, NoMemory> {
+    let (parts, times, room) = file;
+    let mut text = String::new(alloc);
+    push_parts(&mut text, parts, *times)?;
+    let why = refusal(alloc, text.as_str().as_bytes(), *room);
     drop(text);
     Ok(why)
 }
@@ -60,7 +68,7 @@ const BEHIND: Parts = [
 ];
 
 // A key has 1 to 256 bytes, a text is nested at most 127 deep, and there are as many record lines as there is room for.
-const COUNTED: [(File, Option<(u32, LineWhy)>); 16] = [
+static COUNTED: [(File, Option<(u32, LineWhy)>); 16] = [
     ((KEY, 0, 1), Some((1, LineWhy::BadKey))),
     ((KEY, 1, 1), None),
     ((KEY, 256, 1), None),
@@ -82,13 +90,13 @@ const COUNTED: [(File, Option<(u32, LineWhy)>); 16] = [
 #[test]
 fn an_event_file_goes_up_to_its_lengths(rt: HostRuntime) -> Result<(), NoMemory> {
     for (at, (file, why)) in COUNTED.iter().enumerate() {
-        assert!(rt; file_refusal(rt.alloc(), *file)? == refused(*why), "{at}");
+        assert!(rt; file_refusal(rt.alloc(), file)? == refused(*why), "{at}");
     }
     Ok(())
 }
 
 // A line whose last part is a number at the end of its range, or beyond it.
-const NUMBERS: [(&str, Option<LineWhy>); 12] = [
+static NUMBERS: [(&str, Option<LineWhy>); 12] = [
     (r#"{"key":"k","ts":0}"#, None),
     (r#"{"key":"k","ts":4611686018427387904}"#, None),
     (
@@ -122,7 +130,7 @@ fn line_refusal(alloc: Global, line: &str) -> Option<LinesRefusal> {
 
 #[test]
 fn an_event_line_has_numbers_in_their_ranges(rt: HostRuntime) {
-    for (line, why) in NUMBERS {
+    for (line, why) in &NUMBERS {
         let at = why.map(|why| (1, why));
         assert!(rt; line_refusal(rt.alloc(), line) == refused(at), "{line}");
     }

@@ -44,7 +44,7 @@ fn is_read(alloc: Global, row: &str) -> Result<Option<bool>, NoMemory> {
 
 // A name, whether there is such a row, and its fields: version, last entry, floor, state, timers, pending deliveries and
 // handled ids.
-const ROWS: [(&str, bool, &str); 53] = [
+static ROWS: [(&str, bool, &str); 53] = [
     (
         "the row of the first example",
         true,
@@ -314,8 +314,8 @@ const ROWS: [(&str, bool, &str); 53] = [
 
 #[test]
 fn a_row_goes_up_to_its_numbers(rt: HostRuntime) -> Result<(), NoMemory> {
-    for (name, is_there, row) in ROWS {
-        assert!(rt; is_read(rt.alloc(), row)? == Some(is_there), "{name}");
+    for (name, is_there, row) in &ROWS {
+        assert!(rt; is_read(rt.alloc(), row)? == Some(*is_there), "{name}");
     }
     Ok(())
 }

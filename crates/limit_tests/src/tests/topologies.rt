@@ -65,17 +65,23 @@ fn push_count(
     Ok(())
 }
 
-// A file of this size.
-fn file(alloc: Global, size: Size) -> Result<String, NoMemory> {
-    let mut text = String::from_str(alloc, "{\"injectors\":[")?;
-    push_injectors(alloc, &mut text, size.injectors)?;
-    text.push_str("],\"computations\":[")?;
+// Appends the counts; the first has the cuts.
+fn push_counts(alloc: Global, text: &mut String, size: Size) -> Result<(), NoMemory> {
     for at in 0..size.counts {
         let cuts = if at == 0 { size.cuts } else { 0 };
-        push_count(alloc, &mut text, at, size.reads, cuts)?;
+        push_count(alloc, text, at, size.reads, cuts)?;
     }
+    Ok(())
+}
+
+// Appends a file of this size.
+fn push_file(alloc: Global, text: &mut String, size: Size) -> Result<(), NoMemory> {
+    text.push_str("{\"injectors\":[")?;
+    push_injectors(alloc, text, size.injectors)?;
+    text.push_str("],\"computations\":[")?;
+    push_counts(alloc, text, size)?;
     text.push_str("]}")?;
-    Ok(text)
+    Ok(())
 }
 
 // Why a text is refused, if it is.
@@ -83,44 +89,47 @@ fn refusal(alloc: Global, text: &str) -> Option<TopologyRefusal> {
     refusal_of(read(alloc, text.as_bytes()))
 }
 
+// The size of these numbers.
+fn sized(numbers: [u32; 4]) -> Size {
+    let [injectors, counts, reads, cuts] = numbers;
+    Size {
+        injectors,
+        counts,
+        reads,
+        cuts,
+    }
+}
+
 // Why a file of this size is refused, if it is.
-fn size_refusal(alloc: Global, size: Size) -> Result<Option<TopologyRefusal>, NoMemory> {
-    let text = file(alloc, size)?;
+fn size_refusal(alloc: Global, numbers: [u32; 4]) -> Result<Option<TopologyRefusal>, NoMemory> {
+    let mut text = String::new(alloc);
+    push_file(alloc, &mut text, sized(numbers))?;
     let why = refusal(alloc, text.as_str());
     drop(text);
     Ok(why)
 }
 
-// A row of the table: injectors, counts, readings of each count, cuts of the first, and the refusal.
-const SIZES: [(u32, u32, u32, u32, Option<TopologyRefusal>); 13] = [
-    (1, 1, 1, 59, None),
-    (1, 1, 1, 60, Some(TopologyRefusal::TooMany)),
-    (0, 1, 1, 0, Some(TopologyRefusal::BadShape)),
-    (16, 1, 1, 0, None),
-    (17, 1, 1, 0, Some(TopologyRefusal::TooMany)),
-    (1, 0, 1, 0, None),
-    (1, 32, 1, 0, None),
-    (1, 33, 1, 0, Some(TopologyRefusal::TooMany)),
-    (1, 32, 2, 0, None),
-    (1, 13, 5, 0, Some(TopologyRefusal::TooMany)),
-    (1, 1, 64, 0, None),
-    (16, 32, 1, 13, None),
-    (16, 32, 1, 14, Some(TopologyRefusal::TooMany)),
+// A row of the table: injectors, counts, readings of each count and cuts of the first, and the refusal.
+static SIZES: [([u32; 4], Option<TopologyRefusal>); 13] = [
+    ([1, 1, 1, 59], None),
+    ([1, 1, 1, 60], Some(TopologyRefusal::TooMany)),
+    ([0, 1, 1, 0], Some(TopologyRefusal::BadShape)),
+    ([16, 1, 1, 0], None),
+    ([17, 1, 1, 0], Some(TopologyRefusal::TooMany)),
+    ([1, 0, 1, 0], None),
+    ([1, 32, 1, 0], None),
+    ([1, 33, 1, 0], Some(TopologyRefusal::TooMany)),
+    ([1, 32, 2, 0], None),
+    ([1, 13, 5, 0], Some(TopologyRefusal::TooMany)),
+    ([1, 1, 64, 0], None),
+    ([16, 32, 1, 13], None),
+    ([16, 32, 1, 14], Some(TopologyRefusal::TooMany)),
 ];
 
 #[test]
 fn a_topology_goes_up_to_its_numbers_of_parts(rt: HostRuntime) -> Result<(), NoMemory> {
-    for (injectors, counts, reads, cuts, why) in SIZES {
-        let size = Size {
-            injectors,
-            counts,
-            reads,
-            cuts,
-        };
-        assert!(rt;
-            size_refusal(rt.alloc(), size)? == why,
-            "{injectors} {counts} {reads} {cuts}"
-        );
+    for (at, (numbers, why)) in SIZES.iter().enumerate() {
+        assert!(rt; size_refusal(rt.alloc(), *numbers)? == *why, "{at}");
     }
     Ok(())
 }
@@ -128,22 +137,20 @@ fn a_topology_goes_up_to_its_numbers_of_parts(rt: HostRuntime) -> Result<(), NoM
 // How many bytes follow the first of a computation's name, of its stream's name and of its cut.
 type Lengths = [u32; 3];
 
-// A file whose computation has these members beside its name, its stream, a reading and a cut.
-fn long_file(alloc: Global, members: &str, lengths: Lengths) -> Result<String, NoMemory> {
+// Appends a file whose computation has these members beside its name, its stream, a reading and a cut.
+fn push_long(text: &mut String, members: &str, lengths: Lengths) -> Result<(), NoMemory> {
     let [name, stream, cut] = lengths;
-    let mut text = String::from_str(alloc, "{\"injectors\":[{\"name\":\"i\",\"stream\":\"s\"}],")?;
+    text.push_str("{\"injectors\":[{\"name\":\"i\",\"stream\":\"s\"}],")?;
     text.push_str("\"computations\":[{\"reads\":[{\"stream\":\"s\",\"by\":\"key\"}],")?;
     text.push_str(members)?;
-    for (begin, letter, times) in [
-        (",\"name\":\"n", "n", name),
-        ("\",\"stream\":\"o", "o", stream),
-        ("\",\"cuts\":[\"c", "c", cut),
-    ] {
-        text.push_str(begin)?;
-        push_times(&mut text, letter, times)?;
-    }
+    text.push_str(",\"name\":\"n")?;
+    push_times(text, "n", name)?;
+    text.push_str("\",\"stream\":\"o")?;
+    push_times(text, "o", stream)?;
+    text.push_str("\",\"cuts\":[\"c")?;
+    push_times(text, "c", cut)?;
     text.push_str("\"]}]}")?;
-    Ok(text)
+    Ok(())
 }
 
 // Why such a file is refused, if it is.
@@ -152,7 +159,8 @@ fn long_refusal(
     members: &str,
     lengths: Lengths,
 ) -> Result<Option<TopologyRefusal>, NoMemory> {
-    let text = long_file(alloc, members, lengths)?;
+    let mut text = String::new(alloc);
+    push_long(&mut text, members, lengths)?;
     let why = refusal(alloc, text.as_str());
     drop(text);
     Ok(why)
@@ -162,7 +170,7 @@ fn long_refusal(
 const PASS: &str = r#""kind":"pass""#;
 
 // A name has at most 64 bytes, and a cut 256.
-const LENGTHS: [(Lengths, Option<TopologyRefusal>); 7] = [
+static LENGTHS: [(Lengths, Option<TopologyRefusal>); 7] = [
     ([0, 0, 0], None),
     ([63, 0, 0], None),
     ([64, 0, 0], Some(TopologyRefusal::BadName)),
@@ -173,7 +181,7 @@ const LENGTHS: [(Lengths, Option<TopologyRefusal>); 7] = [
 ];
 
 // A size is a whole number from 1 to 2^40, `last` one from 1 to 64, and `times` one from 1 to 1,000.
-const NUMBERS: [(&str, Option<TopologyRefusal>); 13] = [
+static NUMBERS: [(&str, Option<TopologyRefusal>); 13] = [
     (r#""kind":"count","size":1"#, None),
     (r#""kind":"count","size":1099511627776"#, None),
     (
@@ -218,21 +226,17 @@ const NUMBERS: [(&str, Option<TopologyRefusal>); 13] = [
 
 #[test]
 fn a_topology_goes_up_to_its_lengths(rt: HostRuntime) -> Result<(), NoMemory> {
-    for (lengths, why) in LENGTHS {
-        let [name, stream, cut] = lengths;
-        assert!(rt;
-            long_refusal(rt.alloc(), PASS, lengths)? == why,
-            "{name} {stream} {cut}"
-        );
+    for (at, (lengths, why)) in LENGTHS.iter().enumerate() {
+        assert!(rt; long_refusal(rt.alloc(), PASS, *lengths)? == *why, "{at}");
     }
     Ok(())
 }
 
 #[test]
 fn a_topology_has_numbers_in_their_ranges(rt: HostRuntime) -> Result<(), NoMemory> {
-    for (members, why) in NUMBERS {
+    for (members, why) in &NUMBERS {
         assert!(rt;
-            long_refusal(rt.alloc(), members, [0, 0, 0])? == why,
+            long_refusal(rt.alloc(), members, [0, 0, 0])? == *why,
             "{members}"
         );
     }

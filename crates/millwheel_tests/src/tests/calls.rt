@@ -33,10 +33,16 @@ fn file(alloc: Global, name: &str, content: &str) -> Result<NamedFile, NoMemory>
 // A list of these files.
 fn listed(alloc: Global, files: Files<'_>) -> Result<FileList, NoMemory> {
     let mut list = FileList::new(alloc);
+    push_files(alloc, &mut list, files)?;
+    Ok(list)
+}
+
+// Appends these files.
+fn push_files(alloc: Global, list: &mut FileList, files: Files<'_>) -> Result<(), NoMemory> {
     for (name, content) in files {
         list.push(file(alloc, name, content)?)?;
     }
-    Ok(list)
+    Ok(())
 }
 
 /// The calls of these numbers.
@@ -71,14 +77,19 @@ pub(super) fn keeper(alloc: Global) -> MemKeeper {
 /// The words of a line, which stand with one blank between them; `""` is the empty word.
 pub(super) fn words(alloc: Global, line: &str) -> Result<Seq<Name>, NoMemory> {
     let mut words = Seq::new(alloc);
-    if line.is_empty() {
-        return Ok(words);
+    if !line.is_empty() {
+        push_words(alloc, &mut words, line)?;
     }
+    Ok(words)
+}
+
+// Appends the words of a line that has some.
+fn push_words(alloc: Global, words: &mut Seq<Name>, line: &str) -> Result<(), NoMemory> {
     for word in line.split(' ') {
         let word = if word == "\"\"" { "" } else { word };
         words.push(Name::of(alloc, word)?)?;
     }
-    Ok(words)
+    Ok(())
 }
 
 /// What a call with this line answers, and writes to a sink. No other function calls the program, since
@@ -91,7 +102,9 @@ pub(super) fn called<K: Keeper>(
     out: &mut MemSink,
 ) -> Result<Done<K>, NoMemory> {
     let words = words(alloc, line)?;
-    Ok(millwheel_alone(alloc, words.as_slice(), shelf, keeper, out))
+    let done = millwheel_alone(alloc, words.as_slice(), shelf, keeper, out);
+    drop(words);
+    Ok(done)
 }
 
 /// The same over these files, whose reads don't fail.
@@ -103,15 +116,7 @@ pub(super) fn answer<K: Keeper>(
     out: &mut MemSink,
 ) -> Result<Done<K>, NoMemory> {
     let mut shelf = shelf(alloc, files, &[])?;
-    called(alloc, line, &mut shelf, keeper, out)
-}
-
-/// The same over a new keeper.
-pub(super) fn ended(
-    alloc: Global,
-    line: &str,
-    files: Files<'_>,
-    out: &mut MemSink,
-) -> Result<Done<MemKeeper>, NoMemory> {
-    answer(alloc, line, files, keeper(alloc), out)
+    let done = called(alloc, line, &mut shelf, keeper, out);
+    drop(shelf);
+    done
 }

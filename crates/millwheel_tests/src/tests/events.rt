@@ -8,46 +8,42 @@ pub const EVENTS: &str = r#"{"key":"a","ts":10}
 {"key":"a","ts":60}
 "#;
 
-/// One record of the key `a` at each of these timestamps.
-pub(super) fn stamped(alloc: Global, stamps: &[u64]) -> Result<String, NoMemory> {
-    let mut events = String::new(alloc);
-    for stamp in stamps {
-        push_stamped(alloc, &mut events, *stamp)?;
-    }
-    Ok(events)
-}
-
-// Appends a record of the key `a` at a timestamp.
-fn push_stamped(alloc: Global, events: &mut String, stamp: u64) -> Result<(), NoMemory> {
-    let line = format!(in alloc; "{{\"key\":\"a\",\"ts\":{stamp}}}\n")?;
-    events.push_str(line.as_str())?;
-    Ok(())
-}
-
 /// So many times the same text.
 pub(super) fn repeated(alloc: Global, text: &str, times: u32) -> Result<String, NoMemory> {
     let mut all = String::new(alloc);
+    push_times(&mut all, text, times)?;
+    Ok(all)
+}
+
+// Appends so many times the same text.
+fn push_times(all: &mut String, text: &str, times: u32) -> Result<(), NoMemory> {
     for _ in 0..times {
         all.push_str(text)?;
     }
-    Ok(all)
+    Ok(())
 }
 
 /// A thousand records of four heads and ten tails, with a watermark after each fifty and a blank line
 /// after each hundred.
 pub(super) fn heads(alloc: Global) -> Result<String, NoMemory> {
     let mut events = String::new(alloc);
+    push_heads(alloc, &mut events)?;
+    Ok(events)
+}
+
+// Appends them.
+fn push_heads(alloc: Global, events: &mut String) -> Result<(), NoMemory> {
     for line in 0..1000u32 {
-        push_headed(alloc, &mut events, line)?;
+        push_headed(alloc, events, line)?;
         let next = line + 1;
         if next % 50 == 0 {
-            push_mark(alloc, &mut events, next)?;
+            push_mark(alloc, events, next)?;
         }
         if next % 100 == 0 {
             events.push_str("\n")?;
         }
     }
-    Ok(events)
+    Ok(())
 }
 
 // Appends one of these records, which is at the timestamp of its number.

@@ -1,7 +1,7 @@
 //! The history of a run, line by line, and the rows that it leaves, by the values of the worked examples.
-use super::calls::{FIRST, SOLO};
-use super::events::{EVENTS, repeated};
-use super::looks::{entries, has_entry, leaves, writes};
+use super::calls::{FIRST, Files, SOLO};
+use super::events::repeated;
+use super::looks::{Case, Kind, Look, Rows, holds, seen};
 use super::topologies::{COUNT, CUTS, READERS};
 use mw_types::NoMemory;
 use std::alloc::Global;
@@ -33,8 +33,8 @@ const NO_EVENTS: &str = r#"{"do":"claim","interval":0,"n":0,"worker":0}
 {"fired":0,"handled":0,"injected":0,"late":0}
 "#;
 
-// A watermark fires a window before the next line is injected.
-const MARKED: &str = r#"{"do":"claim","interval":0,"n":0,"worker":0}
+/// A watermark fires a window before the next line is injected.
+pub const MARKED: &str = r#"{"do":"claim","interval":0,"n":0,"worker":0}
 {"do":"claim","interval":1,"n":1,"worker":0}
 {"do":"inject","key":"a","late":false,"line":0,"n":2,"part":0,"seq":0,"ts":10,"value":1}
 {"do":"handle","id":"00000000-0000-8000-8000-000000000002","n":3,"out":[],"part":1,"row":"a","seq":1,"state":"01000000000000000000000001000000000000003c0000000000000001","timers":[{"tag":0,"time":60}]}
@@ -87,85 +87,125 @@ const CUT: &str = r#"{"do":"claim","interval":0,"n":0,"worker":0}
 {"fired":2,"handled":2,"injected":2,"late":0}
 "#;
 
-// Whether the history of an event file has these lines, and this text follows.
-fn is_written(alloc: Global, topology: &str, events: &str, lines: &str) -> Result<bool, NoMemory> {
-    let files = [("t.json", topology), ("e", events)];
-    writes(alloc, "solo --history t.json e", &files, lines)
-}
+// The line that prints the history too.
+const PRINTED: &str = "solo --history t.json e";
 
-// What the first example's run has beside that: its entries, and the two rows that it leaves.
-fn leaves_two_rows(alloc: Global) -> Result<bool, NoMemory> {
-    let injector = "01000000000000000a00000000000000000000000003000000000000000000000000";
-    let counted =
-        "01000000000000000d000000000000000d01000000000000000000000000000000000000000000000000";
-    let rows = [(0, "", injector), (1, "a", counted)];
-    Ok(entries(alloc, SOLO, FIRST)? == 14 && leaves(alloc, SOLO, FIRST, &rows)?)
-}
+// The two rows that the first example leaves.
+const TWO_ROWS: Rows<'static> = &[
+    (
+        0,
+        "",
+        "01000000000000000a00000000000000000000000003000000000000000000000000",
+    ),
+    (
+        1,
+        "a",
+        "01000000000000000d000000000000000d01000000000000000000000000000000000000000000000000",
+    ),
+];
+
+// What is written of the first example, its entries, and its rows.
+static EXAMPLE: [Case; 3] = [
+    ("text", PRINTED, FIRST, Look::Writes(TWO_WINDOWS)),
+    ("entries", SOLO, FIRST, Look::Entries(14)),
+    ("rows", SOLO, FIRST, Look::Leaves(TWO_ROWS)),
+];
 
 #[test]
 fn two_windows_and_summary(rt: HostRuntime) -> Result<(), Fail> {
-    let alloc = rt.alloc();
-    let is_written = is_written(alloc, COUNT, EVENTS, TWO_WINDOWS)?;
-    assert!(rt;
-        is_written && leaves_two_rows(alloc)?,
-        "is written: {is_written}"
-    );
+    for case in &EXAMPLE {
+        assert!(rt; holds(rt.alloc(), case)?, "{}", case.0);
+    }
     Ok(())
 }
+
+// An event file of no line.
+const EMPTY: Files<'static> = &[("t.json", COUNT), ("e", "")];
+
+// What is written of it, and that it leaves no row.
+static NOTHING: [Case; 2] = [
+    ("text", PRINTED, EMPTY, Look::Writes(NO_EVENTS)),
+    ("rows", SOLO, EMPTY, Look::Leaves(&[])),
+];
 
 #[test]
 fn empty_event_file(rt: HostRuntime) -> Result<(), Fail> {
-    let alloc = rt.alloc();
-    let is_written = is_written(alloc, COUNT, "", NO_EVENTS)?;
-    let is_empty = leaves(alloc, SOLO, &[("t.json", COUNT), ("e", "")], &[])?;
-    assert!(rt; is_written && is_empty, "is written: {is_written}");
+    for case in &NOTHING {
+        assert!(rt; holds(rt.alloc(), case)?, "{}", case.0);
+    }
     Ok(())
 }
 
+// Histories and their lines.
+static HISTORIES: [Case; 3] = [
+    (
+        "watermark fires before next inject",
+        PRINTED,
+        &[
+            ("t.json", COUNT),
+            (
+                "e",
+                "{\"key\":\"a\",\"ts\":10}\n{\"watermark\":60}\n{\"key\":\"a\",\"ts\":70}\n",
+            ),
+        ],
+        Look::Writes(MARKED),
+    ),
+    (
+        "each reader has an id of its own",
+        PRINTED,
+        &[("t.json", READERS), ("e", "{\"key\":\"a\",\"ts\":10}\n")],
+        Look::Writes(READ_TWICE),
+    ),
+    (
+        "each key is handled in its interval",
+        PRINTED,
+        &[
+            ("t.json", CUTS),
+            (
+                "e",
+                "{\"key\":\"h\",\"ts\":10}\n{\"key\":\"a\",\"ts\":10}\n",
+            ),
+        ],
+        Look::Writes(CUT),
+    ),
+];
+
 #[test]
 fn each_history_has_its_lines(rt: HostRuntime) -> Result<(), Fail> {
-    let marked = "{\"key\":\"a\",\"ts\":10}\n{\"watermark\":60}\n{\"key\":\"a\",\"ts\":70}\n";
-    let one = "{\"key\":\"a\",\"ts\":10}\n";
-    let cut = "{\"key\":\"h\",\"ts\":10}\n{\"key\":\"a\",\"ts\":10}\n";
-    for (name, topology, events, lines) in [
-        ("watermark fires before next inject", COUNT, marked, MARKED),
-        ("each reader has an id of its own", READERS, one, READ_TWICE),
-        ("each key is handled in its interval", CUTS, cut, CUT),
-    ] {
-        assert!(rt; is_written(rt.alloc(), topology, events, lines)?, "{name}");
+    for case in &HISTORIES {
+        assert!(rt; holds(rt.alloc(), case)?, "{}", case.0);
     }
     Ok(())
 }
 
 // Whether this entry stands there in the history of so many records of one key.
-fn stands(
-    alloc: Global,
-    records: u32,
-    number: usize,
-    entry: (&str, u64),
-) -> Result<bool, NoMemory> {
+fn stands(alloc: Global, records: u32, number: usize, entry: Kind<'_>) -> Result<bool, NoMemory> {
     let events = repeated(alloc, "{\"key\":\"a\",\"ts\":1}\n", records)?;
     let files = [("t.json", COUNT), ("e", events.as_str())];
-    has_entry(alloc, SOLO, &files, number, entry)
+    let stands = seen(alloc, SOLO, &files, Look::Entry(number, entry));
+    drop(events);
+    stands
 }
+
+// Of so many records of one key, the entry of this number.
+static MANY: [(u32, usize, Kind<'static>); 7] = [
+    (64, 191, ("inject", 63)),
+    (64, 192, ("handle", 191)),
+    (64, 193, ("ack", 191)),
+    (65, 194, ("inject", 64)),
+    (65, 195, ("purge", 194)),
+    (65, 196, ("handle", 194)),
+    (65, 197, ("ack", 194)),
+];
 
 // Two claims, and three entries for each of 64 records, stand before entry 194. The row has seen 64 ids
 // then, which it forgets before it handles one more; with 63 it forgets none.
 #[test]
 fn a_row_of_64_ids_forgets_them_before_it_handles_one_more(rt: HostRuntime) -> Result<(), Fail> {
-    for (records, number, entry) in [
-        (64, 191, ("inject", 63)),
-        (64, 192, ("handle", 191)),
-        (64, 193, ("ack", 191)),
-        (65, 194, ("inject", 64)),
-        (65, 195, ("purge", 194)),
-        (65, 196, ("handle", 194)),
-        (65, 197, ("ack", 194)),
-    ] {
-        let kind = entry.0;
+    for (records, number, entry) in &MANY {
         assert!(rt;
-            stands(rt.alloc(), records, number, entry)?,
-            "{records}: {kind} {number}"
+            stands(rt.alloc(), *records, *number, *entry)?,
+            "{records}: {number}"
         );
     }
     Ok(())

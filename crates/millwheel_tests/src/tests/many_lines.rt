@@ -1,6 +1,6 @@
 //! A thousand record lines over a hundred keys and twenty windows, against a count by an array.
 use super::calls::SOLO;
-use super::looks::writes;
+use super::looks::{Look, seen};
 use super::topologies::COUNT;
 use mw_types::NoMemory;
 use std::alloc::Global;
@@ -14,10 +14,16 @@ fn line_at(line: u32) -> (u32, u32) {
 // The event file of so many lines.
 fn event_file(alloc: Global, lines: u32) -> Result<String, NoMemory> {
     let mut text = String::new(alloc);
-    for line in 0..lines {
-        push_event(alloc, &mut text, line)?;
-    }
+    push_events(alloc, &mut text, lines)?;
     Ok(text)
+}
+
+// Appends so many lines.
+fn push_events(alloc: Global, text: &mut String, lines: u32) -> Result<(), NoMemory> {
+    for line in 0..lines {
+        push_event(alloc, text, line)?;
+    }
+    Ok(())
 }
 
 // Appends the line of this number.
@@ -30,10 +36,7 @@ fn push_event(alloc: Global, text: &mut String, line: u32) -> Result<(), NoMemor
 
 // How many of these lines each window has of each key: the hundred keys of the first, and so on.
 fn counts(alloc: Global, lines: u32) -> Result<Vec<u32>, NoMemory> {
-    let mut counts = Vec::new(alloc);
-    for _ in 0..2000 {
-        counts.push(0u32)?;
-    }
+    let mut counts = vec![in alloc; 0u32; 2000]?;
     for line in 0..lines {
         count_line(&mut counts, line);
     }
@@ -52,16 +55,21 @@ fn count_line(counts: &mut [u32], line: u32) {
 // The text of these counts: a line for each that is not 0, and the summary.
 fn text_of(alloc: Global, counts: &[u32], lines: u32) -> Result<String, NoMemory> {
     let mut text = String::new(alloc);
+    push_text(alloc, &mut text, counts, lines)?;
+    Ok(text)
+}
+
+// Appends it.
+fn push_text(alloc: Global, text: &mut String, counts: &[u32], lines: u32) -> Result<(), NoMemory> {
     let mut fired: u32 = 0;
     for cell in 0..2000u32 {
         let count = counts.get(cell as usize).copied().unwrap_or(0);
         if count > 0 {
-            push_window(alloc, &mut text, cell, count)?;
+            push_window(alloc, text, cell, count)?;
             fired = fired.saturating_add(1);
         }
     }
-    push_summary(alloc, &mut text, fired, lines)?;
-    Ok(text)
+    push_summary(alloc, text, fired, lines)
 }
 
 // Appends the line of a window of a key.
@@ -89,15 +97,26 @@ fn push_summary(alloc: Global, text: &mut String, fired: u32, lines: u32) -> Res
 // The text that is wanted of so many lines.
 fn wanted(alloc: Global, lines: u32) -> Result<String, NoMemory> {
     let counts = counts(alloc, lines)?;
-    text_of(alloc, counts.as_slice(), lines)
+    let text = text_of(alloc, counts.as_slice(), lines);
+    drop(counts);
+    text
+}
+
+// Whether the text of these lines is as the array has it.
+fn are_as_wanted(alloc: Global, events: &str, lines: u32) -> Result<bool, NoMemory> {
+    let text = wanted(alloc, lines)?;
+    let files = [("t.json", COUNT), ("e", events)];
+    let is_so = seen(alloc, SOLO, &files, Look::Writes(text.as_str()));
+    drop(text);
+    is_so
 }
 
 // Whether the whole text of so many lines is as the array has it.
 fn are_counted(alloc: Global, lines: u32) -> Result<bool, NoMemory> {
     let events = event_file(alloc, lines)?;
-    let text = wanted(alloc, lines)?;
-    let files = [("t.json", COUNT), ("e", events.as_str())];
-    writes(alloc, SOLO, &files, text.as_str())
+    let is_so = are_as_wanted(alloc, events.as_str(), lines);
+    drop(events);
+    is_so
 }
 
 #[test]

@@ -1,8 +1,8 @@
 //! The mode `plain`: what it writes is what a run of the same files writes, in each order of its steps.
-use super::calls::{FIRST, Files, SOLO, answer, ended, sink};
+use super::calls::{FIRST, Files, SOLO, answer, keeper, sink};
 use super::events::EVENTS;
 use super::faults::with_a_row;
-use super::looks::{holds, is_refused, writes};
+use super::looks::{Look, ONE_ROW, seen, seen_by};
 use super::topologies::{CHAIN, COUNT, CUTS, SPIKE, TAILS, TWO, UNREAD};
 use millwheel_cli::load_lines;
 use mw_ports::MemSink;
@@ -32,7 +32,7 @@ struct Row {
 }
 
 // The files of the worked examples.
-const WORKED: [Row; 4] = [
+static WORKED: [Row; 4] = [
     Row {
         name: "a count",
         topology: COUNT,
@@ -78,7 +78,7 @@ const WORKED: [Row; 4] = [
 ];
 
 // A late line through each kind. The spike at 40 is one since the late 9 is at no place.
-const LATE: [Row; 3] = [
+static LATE: [Row; 3] = [
     Row {
         name: "late through a count",
         topology: COUNT,
@@ -116,7 +116,7 @@ const LATE: [Row; 3] = [
 ];
 
 // What one reads twice, and how keys are extracted.
-const READINGS: [Row; 4] = [
+static READINGS: [Row; 4] = [
     Row {
         name: "a double reading into one row",
         topology: TWICE,
@@ -161,7 +161,7 @@ const READINGS: [Row; 4] = [
 
 // The values of a spike: three times -9 is below two times -10, and three times -14 is not below two
 // times -30; three times 2 is not below two times 3; and of two values at 10 the 7 stands.
-const VALUES: [Row; 3] = [
+static VALUES: [Row; 3] = [
     Row {
         name: "negative values",
         topology: RAW_SPIKE,
@@ -205,10 +205,12 @@ inject 0 0
 // Whether the files of a row are counted and run to its text, by a drain alone and behind a plan.
 fn is_counted(alloc: Global, row: &Row) -> Result<bool, NoMemory> {
     let files = [("t.json", row.topology), ("p", PLAN), ("e", row.events)];
-    let plain = writes(alloc, "plain t.json e", &files, row.text)?;
-    let solo = writes(alloc, "solo t.json e", &files, row.text)?;
-    let replay = writes(alloc, "replay --plan p t.json e", &files, row.text)?;
-    Ok(plain && solo && replay)
+    let look = Look::Writes(row.text);
+    Ok(
+        seen(alloc, "plain t.json e", &files, look)?
+            && seen(alloc, SOLO, &files, look)?
+            && seen(alloc, "replay --plan p t.json e", &files, look)?,
+    )
 }
 
 #[test]
@@ -250,24 +252,45 @@ const BOTH: Files<'static> = &[
     ("r", "{\"key\":\"a\",\"ts\":70}"),
 ];
 
-#[test]
-fn two_injectors_are_counted(rt: HostRuntime) -> Result<(), Fail> {
-    let text = r#"{"key":"a","stream":"windows","ts":60,"value":1}
+// What is written of both.
+const TEXT: &str = r#"{"key":"a","stream":"windows","ts":60,"value":1}
 {"key":"a","stream":"windows","ts":120,"value":1}
 {"fired":2,"handled":2,"injected":2,"late":0}
 "#;
-    assert!(rt; writes(rt.alloc(), "plain t.json l r", BOTH, text)?);
+
+#[test]
+fn two_injectors_are_counted(rt: HostRuntime) -> Result<(), Fail> {
+    assert!(rt; seen(rt.alloc(), "plain t.json l r", BOTH, Look::Writes(TEXT))?);
     Ok(())
+}
+
+// Whether a call ended with Ok; what it wrote is in the sink.
+fn is_ended(
+    alloc: Global,
+    line: &str,
+    files: Files<'_>,
+    out: &mut MemSink,
+) -> Result<bool, NoMemory> {
+    let done = answer(alloc, line, files, keeper(alloc), out);
+    let is_ended = match &done {
+        Ok(done) => Ok(done.status.is_ok()),
+        Err(NoMemory) => Err(NoMemory),
+    };
+    drop(done);
+    is_ended
 }
 
 // Whether the text of these lines is solo's where they are counted.
 fn lines_are_counted(alloc: Global, events: &str) -> Result<bool, NoMemory> {
     let files = [("t.json", CUTS), ("e", events)];
     let mut solo = wide_sink(alloc);
+    let ran = is_ended(alloc, SOLO, &files, &mut solo);
     let mut plain = wide_sink(alloc);
-    let ran = ended(alloc, SOLO, &files, &mut solo)?;
-    let counted = ended(alloc, "plain t.json e", &files, &mut plain)?;
-    Ok(ran.status.is_ok() && counted.status.is_ok() && plain.text() == solo.text())
+    let counted = is_ended(alloc, "plain t.json e", &files, &mut plain);
+    let is_same = plain.text() == solo.text();
+    drop(plain);
+    drop(solo);
+    Ok(ran? && counted? && is_same)
 }
 
 // A sink with room for the text of two thousand lines.
@@ -278,10 +301,12 @@ fn wide_sink(alloc: Global) -> MemSink {
 // The same of two thousand lines of the mode load.
 fn load_is_counted(alloc: Global) -> Result<bool, NoMemory> {
     let bytes = load_lines(alloc, 7, 2000)?;
-    match str::from_utf8(bytes.as_slice()) {
+    let is_so = match str::from_utf8(bytes.as_slice()) {
         Ok(events) => lines_are_counted(alloc, events),
         Err(_) => Ok(false),
-    }
+    };
+    drop(bytes);
+    is_so
 }
 
 #[test]
@@ -292,34 +317,16 @@ fn two_thousand_lines_are_counted_as_solo_does(rt: HostRuntime) -> Result<(), Fa
 
 // Whether a keeper that has a row is handed back with it where the first example is counted.
 fn row_is_left(alloc: Global) -> Result<bool, NoMemory> {
+    let keeper = with_a_row(alloc)?;
     let mut out = sink(alloc);
-    let done = answer(alloc, "plain t.json e", FIRST, with_a_row(alloc)?, &mut out)?;
-    let counted = done.status.is_ok() && done.history.is_empty();
-    Ok(counted && holds(alloc, &done.keeper, &[(1, "h0", "00")])?)
+    let look = Look::Counted(ONE_ROW);
+    let is_so = seen_by(alloc, "plain t.json e", FIRST, keeper, &mut out, look);
+    drop(out);
+    is_so
 }
 
 #[test]
 fn a_keeper_that_has_a_row_is_not_called(rt: HostRuntime) -> Result<(), Fail> {
     assert!(rt; row_is_left(rt.alloc())?);
-    Ok(())
-}
-
-#[test]
-fn files_that_cannot_be_counted_are_refused(rt: HostRuntime) -> Result<(), Fail> {
-    for (line, message) in [
-        ("plain t.json", "usage: millwheel MODE ARGS"),
-        ("plain t.json e --history", "usage: millwheel MODE ARGS"),
-        ("plain t.json e --keep k", "usage: millwheel MODE ARGS"),
-        ("plain t e", "no file t"),
-        ("plain t.json f", "no file f"),
-        ("plain e e", "topology refused: NotJson"),
-        ("plain t.json e e", "2 event files for 1 injectors"),
-        (
-            "plain t.json t.json",
-            "events refused: file 0 line 1: BadKey",
-        ),
-    ] {
-        assert!(rt; is_refused(rt.alloc(), line, FIRST, message)?, "{line}");
-    }
     Ok(())
 }

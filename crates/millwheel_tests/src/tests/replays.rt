@@ -1,6 +1,6 @@
 //! Plans whose steps are done before the drain.
 use super::events::EVENTS;
-use super::looks::{entries, writes};
+use super::looks::{Look, seen};
 use super::topologies::COUNT;
 use mw_types::NoMemory;
 use std::alloc::Global;
@@ -58,28 +58,36 @@ take 0 0
 crash 0
 ";
 
-// Whether a replay of a plan over the first example has the first example's text and so many entries.
-fn is_replayed(alloc: Global, plan: &str, count: usize) -> Result<bool, NoMemory> {
-    let line = "replay --plan p t.json e";
-    let files = [("t.json", COUNT), ("p", plan), ("e", EVENTS)];
-    let text = r#"{"key":"a","stream":"windows","ts":60,"value":2}
+// What is written of the first example.
+const TEXT: &str = r#"{"key":"a","stream":"windows","ts":60,"value":2}
 {"key":"a","stream":"windows","ts":120,"value":1}
 {"fired":2,"handled":3,"injected":3,"late":0}
 "#;
-    Ok(writes(alloc, line, &files, text)? && entries(alloc, line, &files)? == count)
+
+// Whether a replay of a plan over the first example has the first example's text and so many entries.
+fn is_replayed(alloc: Global, plan: &str, count: usize) -> Result<bool, NoMemory> {
+    let files = [("t.json", COUNT), ("p", plan), ("e", EVENTS)];
+    seen(
+        alloc,
+        "replay --plan p t.json e",
+        &files,
+        Look::Runs(TEXT, count),
+    )
 }
 
 // After the old owner's plan, of six entries, the drain claims twice, writes three entries for each of two
 // records and one for each of two timers, and purges once.
+static REPLAYS: [(&str, &str, usize); 4] = [
+    ("old owner is stale", OLD_OWNER, 17),
+    ("late copy", LATE_COPY, 17),
+    ("crash between write and send", UNSENT, 18),
+    ("crash before write", UNWRITTEN, 16),
+];
+
 #[test]
 fn a_crash_or_an_old_owner_changes_no_text(rt: HostRuntime) -> Result<(), Fail> {
-    for (name, plan, count) in [
-        ("old owner is stale", OLD_OWNER, 17),
-        ("late copy", LATE_COPY, 17),
-        ("crash between write and send", UNSENT, 18),
-        ("crash before write", UNWRITTEN, 16),
-    ] {
-        assert!(rt; is_replayed(rt.alloc(), plan, count)?, "{name}");
+    for (name, plan, count) in &REPLAYS {
+        assert!(rt; is_replayed(rt.alloc(), plan, *count)?, "{name}");
     }
     Ok(())
 }

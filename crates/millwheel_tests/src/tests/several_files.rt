@@ -1,6 +1,6 @@
 //! Two event files, one for each of two injectors.
 use super::calls::Files;
-use super::looks::{entries, has_entry, writes};
+use super::looks::{Case, Look, holds};
 use super::topologies::TWO;
 use std::test::Fail;
 
@@ -14,25 +14,28 @@ const FILES: Files<'static> = &[
 // The line that works off both.
 const BOTH: &str = "solo t.json l r";
 
-#[test]
-fn two_injectors_hold_the_watermark(rt: HostRuntime) -> Result<(), Fail> {
-    let text = r#"{"key":"a","stream":"windows","ts":60,"value":1}
+// What is written of both.
+const TEXT: &str = r#"{"key":"a","stream":"windows","ts":60,"value":1}
 {"key":"a","stream":"windows","ts":120,"value":1}
 {"fired":2,"handled":2,"injected":2,"late":0}
 "#;
-    let alloc = rt.alloc();
-    assert!(rt; writes(alloc, BOTH, FILES, text)? && entries(alloc, BOTH, FILES)? == 12);
-    Ok(())
-}
 
-// Before the second injector injects its line it holds the watermark at 0.
+// Before the second injector injects its line it holds the watermark at 0, so a window fires after the lines of both.
+static LOOKS: [Case; 3] = [
+    ("text and entries", BOTH, FILES, Look::Runs(TEXT, 12)),
+    (
+        "line of the first",
+        BOTH,
+        FILES,
+        Look::Entry(6, ("inject", 0)),
+    ),
+    ("first window", BOTH, FILES, Look::Entry(9, ("fire", 60))),
+];
+
 #[test]
-fn a_window_fires_after_the_lines_of_both(rt: HostRuntime) -> Result<(), Fail> {
-    for (number, entry) in [(6, ("inject", 0)), (9, ("fire", 60))] {
-        assert!(rt;
-            has_entry(rt.alloc(), BOTH, FILES, number, entry)?,
-            "{number}"
-        );
+fn two_injectors_hold_the_watermark(rt: HostRuntime) -> Result<(), Fail> {
+    for case in &LOOKS {
+        assert!(rt; holds(rt.alloc(), case)?, "{}", case.0);
     }
     Ok(())
 }

@@ -7,12 +7,13 @@ use mw_types::{CallList, Key, KeyRefusal, Name, NoMemory, RowName};
 use std::alloc::Global;
 use std::test::Fail;
 use topology::TopologyRefusal;
+use trace_lines::AuditWhy;
 
 // The status of a number, as the table below has it.
 fn numbered(alloc: Global, number: u8) -> Result<Status, KeyRefusal> {
     match number {
         3 | 13 | 14 => Ok(of_file(alloc, number)?),
-        4 | 5 | 6 | 15 => Ok(of_rule(number)),
+        4 | 5 | 6 | 15 | 17 | 18 => Ok(of_rule(number)),
         10 => not_empty(alloc),
         12 => damaged(alloc),
         _ => Ok(alone(number)),
@@ -43,6 +44,11 @@ fn of_rule(number: u8) -> Status {
             why: LineWhy::NotJson,
         },
         6 => Status::PlanRefused { line: 2 },
+        17 => Status::AuditRefused {
+            line: 6,
+            why: AuditWhy::Unlawful,
+        },
+        18 => Status::CollectRefused { line: 4, first: 1 },
         _ => Status::FileCount {
             files: 1,
             injectors: 2,
@@ -79,35 +85,45 @@ fn damaged(alloc: Global) -> Result<Status, KeyRefusal> {
 // Whether the status of a number is told by this line and this number.
 fn is_told(alloc: Global, number: u8, line: &str) -> Result<bool, KeyRefusal> {
     let status = numbered(alloc, number)?;
-    Ok(tells(alloc, &status, number, line))
+    let is_told = tells(alloc, &status, number, line);
+    drop(status);
+    Ok(is_told)
 }
 
 // Whether a status is told by this line and this number.
 fn tells(alloc: Global, status: &Status, number: u8, line: &str) -> bool {
     let mut err = sink(alloc);
-    tell(alloc, status, &mut err) == number && err.text() == line.as_bytes()
+    let told = tell(alloc, status, &mut err);
+    let is_so = told == number && err.text() == line.as_bytes();
+    drop(err);
+    is_so
 }
+
+// Numbers, and the line that tells each status.
+static STATUSES: [(u8, &str); 17] = [
+    (0, ""),
+    (2, "millwheel: usage: millwheel MODE ARGS\n"),
+    (3, "millwheel: no file t.json\n"),
+    (4, "millwheel: topology refused: UnknownStream\n"),
+    (5, "millwheel: events refused: file 0 line 2: NotJson\n"),
+    (6, "millwheel: plan refused: line 2\n"),
+    (7, "millwheel: the keeper failed\n"),
+    (8, "millwheel: the output failed\n"),
+    (9, "millwheel: out of memory\n"),
+    (10, "millwheel: the keeper is not empty: part 1 key h0\n"),
+    (11, "millwheel: the history is full\n"),
+    (12, "millwheel: damaged row: part 0 key \n"),
+    (13, "millwheel: can't read e\n"),
+    (14, "millwheel: too long: e\n"),
+    (15, "millwheel: 1 event files for 2 injectors\n"),
+    (17, "millwheel: not a lawful run: line 6: Unlawful\n"),
+    (18, "millwheel: line 4 differs from line 1\n"),
+];
 
 #[test]
 fn each_status_is_told_with_its_number(rt: HostRuntime) -> Result<(), Fail> {
-    for (number, line) in [
-        (0, ""),
-        (2, "millwheel: usage: millwheel MODE ARGS\n"),
-        (3, "millwheel: no file t.json\n"),
-        (4, "millwheel: topology refused: UnknownStream\n"),
-        (5, "millwheel: events refused: file 0 line 2: NotJson\n"),
-        (6, "millwheel: plan refused: line 2\n"),
-        (7, "millwheel: the keeper failed\n"),
-        (8, "millwheel: the output failed\n"),
-        (9, "millwheel: out of memory\n"),
-        (10, "millwheel: the keeper is not empty: part 1 key h0\n"),
-        (11, "millwheel: the history is full\n"),
-        (12, "millwheel: damaged row: part 0 key \n"),
-        (13, "millwheel: can't read e\n"),
-        (14, "millwheel: too long: e\n"),
-        (15, "millwheel: 1 event files for 2 injectors\n"),
-    ] {
-        assert!(rt; is_told(rt.alloc(), number, line)?, "{number}");
+    for (number, line) in &STATUSES {
+        assert!(rt; is_told(rt.alloc(), *number, line)?, "{number}");
     }
     Ok(())
 }
@@ -117,7 +133,9 @@ fn is_told_in_part(alloc: Global) -> Result<bool, NoMemory> {
     let failing = numbers(alloc, &[1])?;
     let mut err = MemSink::of(alloc, 8, failing, CallList::new(alloc));
     let number = tell(alloc, &Status::HistoryFull, &mut err);
-    Ok(number == 11 && err.text() == b"millwhee".as_slice())
+    let is_so = number == 11 && err.text() == b"millwhee".as_slice();
+    drop(err);
+    Ok(is_so)
 }
 
 #[test]

@@ -1,16 +1,11 @@
 //! What is written of a run, by the values of the worked examples.
-use super::calls::SOLO;
-use super::events::{EVENTS, heads, stamped};
-use super::looks::{entries, has_last_row, writes};
+use super::calls::{Files, SOLO};
+use super::events::{EVENTS, heads};
+use super::looks::{Case, Look, holds, seen};
 use super::topologies::{CHAIN, COUNT, CUTS, HEADS, READERS, SPELLED, SPIKE, TAILS, UNREAD};
 use mw_types::NoMemory;
 use std::alloc::Global;
 use std::test::Fail;
-
-// Whether this is written of an event file.
-fn is_written(alloc: Global, topology: &str, events: &str, text: &str) -> Result<bool, NoMemory> {
-    writes(alloc, SOLO, &[("t.json", topology), ("e", events)], text)
-}
 
 // Three records of one hour.
 const HOUR: &str = r#"{"key":"a","stream":"hours","ts":3600,"value":2}
@@ -54,31 +49,53 @@ const GREATEST: &str = r#"{"key":"a","stream":"windows","ts":4611686018427387960
 {"fired":1,"handled":1,"injected":1,"late":0}
 "#;
 
+// Event files with watermarks, and what is written of each.
+static MARKED: [Case; 4] = [
+    (
+        "late record counts as late",
+        SOLO,
+        &[
+            ("t.json", COUNT),
+            ("e", "{\"watermark\":100}\n{\"key\":\"a\",\"ts\":50}\n"),
+        ],
+        Look::Writes(ONE_LATE),
+    ),
+    (
+        "record at watermark is in time",
+        SOLO,
+        &[
+            ("t.json", COUNT),
+            ("e", "{\"watermark\":100}\n{\"key\":\"a\",\"ts\":100}\n"),
+        ],
+        Look::Writes(ONE_IN_TIME),
+    ),
+    (
+        "lower watermark changes nothing",
+        SOLO,
+        &[
+            ("t.json", COUNT),
+            (
+                "e",
+                "{\"watermark\":100}\n{\"watermark\":20}\n{\"key\":\"a\",\"ts\":50}\n",
+            ),
+        ],
+        Look::Writes(ONE_LATE),
+    ),
+    (
+        "greatest timestamp",
+        SOLO,
+        &[
+            ("t.json", COUNT),
+            ("e", "{\"key\":\"a\",\"ts\":4611686018427387904}"),
+        ],
+        Look::Writes(GREATEST),
+    ),
+];
+
 #[test]
 fn the_watermark_says_what_is_late(rt: HostRuntime) -> Result<(), Fail> {
-    for (name, events, text) in [
-        (
-            "late record counts as late",
-            "{\"watermark\":100}\n{\"key\":\"a\",\"ts\":50}\n",
-            ONE_LATE,
-        ),
-        (
-            "record at watermark is in time",
-            "{\"watermark\":100}\n{\"key\":\"a\",\"ts\":100}\n",
-            ONE_IN_TIME,
-        ),
-        (
-            "lower watermark changes nothing",
-            "{\"watermark\":100}\n{\"watermark\":20}\n{\"key\":\"a\",\"ts\":50}\n",
-            ONE_LATE,
-        ),
-        (
-            "greatest timestamp",
-            "{\"key\":\"a\",\"ts\":4611686018427387904}",
-            GREATEST,
-        ),
-    ] {
-        assert!(rt; is_written(rt.alloc(), COUNT, events, text)?, "{name}");
+    for case in &MARKED {
+        assert!(rt; holds(rt.alloc(), case)?, "{}", case.0);
     }
     Ok(())
 }
@@ -102,83 +119,122 @@ const INJECTED: &str = r#"{"key":"b","stream":"raw","ts":7,"value":-3}
 {"fired":0,"handled":0,"injected":1,"late":0}
 "#;
 
-#[test]
-fn each_topology_has_its_text(rt: HostRuntime) -> Result<(), Fail> {
-    for (name, topology, events, text) in [
-        ("pass by tail", TAILS, VALUED, PASSED),
-        (
-            "two readers of one stream",
-            READERS,
-            "{\"key\":\"a\",\"ts\":10}\n",
-            BOTH,
-        ),
-        ("a count counts what a count makes", CHAIN, EVENTS, HOUR),
-        ("a count in three intervals", CUTS, FIVE_KEYS, FIVE_WINDOWS),
-        ("other names and spellings are taken", SPELLED, ODD, SUMMED),
-        (
-            "an unread stream is written",
-            UNREAD,
-            "{\"key\":\"b\",\"ts\":7,\"value\":-3}",
-            INJECTED,
-        ),
-    ] {
-        assert!(rt; is_written(rt.alloc(), topology, events, text)?, "{name}");
-    }
-    Ok(())
-}
+// Records of one key at nine timestamps, and the first five of them.
+const NINE: &str = r#"{"key":"a","ts":0}
+{"key":"a","ts":60}
+{"key":"a","ts":120}
+{"key":"a","ts":121}
+{"key":"a","ts":122}
+{"key":"a","ts":123}
+{"key":"a","ts":124}
+{"key":"a","ts":125}
+{"key":"a","ts":126}
+"#;
 
-#[test]
-fn a_row_is_named_by_the_tail(rt: HostRuntime) -> Result<(), Fail> {
-    let files = [("t.json", TAILS), ("e", VALUED)];
-    assert!(rt; has_last_row(rt.alloc(), SOLO, &files, 2, (1, "x"))?);
-    Ok(())
-}
+const FIVE: &str = r#"{"key":"a","ts":0}
+{"key":"a","ts":60}
+{"key":"a","ts":120}
+{"key":"a","ts":121}
+{"key":"a","ts":122}
+"#;
 
-#[test]
-fn two_readers_of_one_stream_make_eleven_entries(rt: HostRuntime) -> Result<(), Fail> {
-    let files = [("t.json", READERS), ("e", "{\"key\":\"a\",\"ts\":10}\n")];
-    assert!(rt; entries(rt.alloc(), SOLO, &files)? == 11);
-    Ok(())
-}
-
-// Whether this is written of a spike behind a count, over records at these timestamps.
-fn spike_writes(alloc: Global, stamps: &[u64], text: &str) -> Result<bool, NoMemory> {
-    let events = stamped(alloc, stamps)?;
-    is_written(alloc, SPIKE, events.as_str(), text)
-}
-
-#[test]
-fn a_spike_is_above_three_times(rt: HostRuntime) -> Result<(), Fail> {
-    let above = r#"{"key":"a","stream":"alerts","ts":181,"value":7}
+// What is written of each.
+const ABOVE: &str = r#"{"key":"a","stream":"alerts","ts":181,"value":7}
 {"fired":6,"handled":12,"injected":9,"late":0}
 "#;
-    let at = r#"{"fired":6,"handled":8,"injected":5,"late":0}
+
+const AT: &str = r#"{"fired":6,"handled":8,"injected":5,"late":0}
 "#;
-    let nine = [0, 60, 120, 121, 122, 123, 124, 125, 126];
-    let five = [0, 60, 120, 121, 122];
-    for (name, stamps, text) in [
-        ("spike above three times", nine.as_slice(), above),
-        ("no spike at three times", five.as_slice(), at),
-    ] {
-        assert!(rt; spike_writes(rt.alloc(), stamps, text)?, "{name}");
+
+// A record of two readers, and one that is passed on.
+const READ: Files<'static> = &[("t.json", READERS), ("e", "{\"key\":\"a\",\"ts\":10}\n")];
+
+const TAILED: Files<'static> = &[("t.json", TAILS), ("e", VALUED)];
+
+// Topologies, and what is written, done or left of an event file.
+static TEXTS: [Case; 10] = [
+    ("pass by tail", SOLO, TAILED, Look::Writes(PASSED)),
+    (
+        "a row is named by the tail",
+        SOLO,
+        TAILED,
+        Look::LastRow(2, (1, "x")),
+    ),
+    ("two readers of one stream", SOLO, READ, Look::Writes(BOTH)),
+    (
+        "two readers of one stream make eleven entries",
+        SOLO,
+        READ,
+        Look::Entries(11),
+    ),
+    (
+        "a count counts what a count makes",
+        SOLO,
+        &[("t.json", CHAIN), ("e", EVENTS)],
+        Look::Writes(HOUR),
+    ),
+    (
+        "a count in three intervals",
+        SOLO,
+        &[("t.json", CUTS), ("e", FIVE_KEYS)],
+        Look::Writes(FIVE_WINDOWS),
+    ),
+    (
+        "other names and spellings are taken",
+        SOLO,
+        &[("t.json", SPELLED), ("e", ODD)],
+        Look::Writes(SUMMED),
+    ),
+    (
+        "an unread stream is written",
+        SOLO,
+        &[
+            ("t.json", UNREAD),
+            ("e", "{\"key\":\"b\",\"ts\":7,\"value\":-3}"),
+        ],
+        Look::Writes(INJECTED),
+    ),
+    (
+        "spike above three times",
+        SOLO,
+        &[("t.json", SPIKE), ("e", NINE)],
+        Look::Writes(ABOVE),
+    ),
+    (
+        "no spike at three times",
+        SOLO,
+        &[("t.json", SPIKE), ("e", FIVE)],
+        Look::Writes(AT),
+    ),
+];
+
+#[test]
+fn each_topology_has_its_text(rt: HostRuntime) -> Result<(), Fail> {
+    for case in &TEXTS {
+        assert!(rt; holds(rt.alloc(), case)?, "{}", case.0);
     }
     Ok(())
 }
 
-// Whether this is written of a thousand records by the key's head.
-fn heads_write(alloc: Global, text: &str) -> Result<bool, NoMemory> {
-    let events = heads(alloc)?;
-    is_written(alloc, HEADS, events.as_str(), text)
-}
-
-#[test]
-fn windows_by_head(rt: HostRuntime) -> Result<(), Fail> {
-    let text = r#"{"key":"h0","stream":"windows","ts":1000,"value":250}
+// What is written of a thousand records by the key's head.
+const BY_HEAD: &str = r#"{"key":"h0","stream":"windows","ts":1000,"value":250}
 {"key":"h1","stream":"windows","ts":1000,"value":250}
 {"key":"h2","stream":"windows","ts":1000,"value":250}
 {"key":"h3","stream":"windows","ts":1000,"value":250}
 {"fired":4,"handled":1000,"injected":1000,"late":0}
 "#;
-    assert!(rt; heads_write(rt.alloc(), text)?);
+
+// Whether it is.
+fn heads_write(alloc: Global) -> Result<bool, NoMemory> {
+    let events = heads(alloc)?;
+    let files = [("t.json", HEADS), ("e", events.as_str())];
+    let is_so = seen(alloc, SOLO, &files, Look::Writes(BY_HEAD));
+    drop(events);
+    is_so
+}
+
+#[test]
+fn windows_by_head(rt: HostRuntime) -> Result<(), Fail> {
+    assert!(rt; heads_write(rt.alloc())?);
     Ok(())
 }

@@ -33,18 +33,31 @@ fn bytes_of(alloc: Global, text: &str) -> Result<Bytes, NoMemory> {
     Ok(Bytes::from_vec(text.as_bytes().to_vec(alloc)?))
 }
 
-// The files: a topology, a plan, and sixty lines.
-fn listed(alloc: Global, files: Files<'_>) -> Result<FileList, NoMemory> {
-    let mut list = FileList::new(alloc);
-    list.push(file(alloc, "t.json", bytes_of(alloc, files.0)?)?)?;
-    list.push(file(alloc, "p", bytes_of(alloc, files.1)?)?)?;
-    list.push(file(alloc, "e", load_lines(alloc, 7, 60)?)?)?;
-    Ok(list)
+// A file of this name and text.
+fn text_file(alloc: Global, name: &str, text: &str) -> Result<NamedFile, NoMemory> {
+    let bytes = bytes_of(alloc, text)?;
+    file(alloc, name, bytes)
+}
+
+// The sixty lines.
+fn lines(alloc: Global) -> Result<NamedFile, NoMemory> {
+    let bytes = load_lines(alloc, 7, 60)?;
+    file(alloc, "e", bytes)
+}
+
+// Appends the files: a topology, a plan, and sixty lines.
+fn push_files(alloc: Global, list: &mut FileList, files: Files<'_>) -> Result<(), NoMemory> {
+    list.push(text_file(alloc, "t.json", files.0)?)?;
+    list.push(text_file(alloc, "p", files.1)?)?;
+    list.push(lines(alloc)?)?;
+    Ok(())
 }
 
 // A shelf with these files, whose reads don't fail.
 fn shelf(alloc: Global, files: Files<'_>) -> Result<MemShelf, NoMemory> {
-    Ok(MemShelf::of(listed(alloc, files)?, CallList::new(alloc)))
+    let mut list = FileList::new(alloc);
+    push_files(alloc, &mut list, files)?;
+    Ok(MemShelf::of(list, CallList::new(alloc)))
 }
 
 /// An ample sink.
@@ -59,22 +72,27 @@ pub(super) fn keeper(alloc: Global) -> MemKeeper {
 
 /// A keeper without rows, whose call of this number fails.
 pub(super) fn failing(alloc: Global, call: u64) -> Result<MemKeeper, NoMemory> {
-    let mut calls = CallList::new(alloc);
-    calls.push(call)?;
+    let calls = CallList::from_vec(vec![in alloc; call]?);
     Ok(MemKeeper::new(alloc, calls))
 }
 
 // The words of a line, which stand with one blank between them.
 fn words(alloc: Global, line: &str) -> Result<Seq<Name>, NoMemory> {
     let mut words = Seq::new(alloc);
-    for word in line.split(' ') {
-        words.push(Name::of(alloc, word)?)?;
-    }
+    push_words(alloc, &mut words, line)?;
     Ok(words)
 }
 
-/// What a call with this line answers over these files, and writes to a sink. No other function calls the program,
-/// since each that does carries what its clauses tell.
+// Appends them.
+fn push_words(alloc: Global, words: &mut Seq<Name>, line: &str) -> Result<(), NoMemory> {
+    for word in line.split(' ') {
+        words.push(Name::of(alloc, word)?)?;
+    }
+    Ok(())
+}
+
+/// What a call with this line answers over these files, and writes to a sink. One function calls the program, since
+/// each that does carries what its clauses tell.
 pub(super) fn called<R: Threads + Wait + Sync, G: Gate + Sync>(
     rt: &R,
     alloc: Global,
@@ -84,9 +102,26 @@ pub(super) fn called<R: Threads + Wait + Sync, G: Gate + Sync>(
     out: &mut MemSink,
     gate: &G,
 ) -> Result<Done<MemKeeper>, NoMemory> {
-    let words = words(alloc, line)?;
     let mut shelf = shelf(alloc, files)?;
-    Ok(millwheel(rt, alloc, words.as_slice(), &mut shelf, keeper, out, gate))
+    let done = called_with(rt, alloc, line, &mut shelf, keeper, out, gate);
+    drop(shelf);
+    done
+}
+
+// The same over a shelf.
+fn called_with<R: Threads + Wait + Sync, G: Gate + Sync>(
+    rt: &R,
+    alloc: Global,
+    line: &str,
+    shelf: &mut MemShelf,
+    keeper: MemKeeper,
+    out: &mut MemSink,
+    gate: &G,
+) -> Result<Done<MemKeeper>, NoMemory> {
+    let words = words(alloc, line)?;
+    let done = millwheel(rt, alloc, words.as_slice(), shelf, keeper, out, gate);
+    drop(words);
+    Ok(done)
 }
 
 /// The same over a keeper that does not fail, with nobody held.

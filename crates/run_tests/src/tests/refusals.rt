@@ -10,7 +10,7 @@ const USAGE: &str = "usage: millwheel MODE ARGS";
 const PLANNED: &str = "run --workers 4 --rounds 12 --plan p t.json e";
 
 // Calls: of each the line, the files, and what is said.
-const REFUSED: [(&str, Files<'static>, &str); 11] = [
+static REFUSED: [(&str, Files<'static>, &str); 11] = [
     ("run t.json e", (CUTS, ""), USAGE),
     ("run --workers 4 t.json e", (CUTS, ""), USAGE),
     ("run --workers 0 --rounds 1 t.json e", (CUTS, ""), USAGE),
@@ -46,9 +46,9 @@ const REFUSED: [(&str, Files<'static>, &str); 11] = [
 
 #[test]
 fn each_run_is_refused(rt: HostRuntime) -> Result<(), Fail> {
-    for (line, files, message) in REFUSED {
+    for (line, files, message) in &REFUSED {
         assert!(rt;
-            is_refused(&rt, rt.alloc(), line, files, message)?,
+            is_refused(&rt, rt.alloc(), line, *files, message)?,
             "{line}"
         );
     }

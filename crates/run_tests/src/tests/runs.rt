@@ -1,6 +1,6 @@
 //! Runs, each with its plan: their claims, and the text that one thread writes too.
 use super::calls::{COUNT, CUTS, Files};
-use super::looks::{Claims, has_claims, keeper_fails, write_the_same};
+use super::looks::{Claims, has_claims, is_audited, keeper_fails, write_the_same};
 use std::test::Fail;
 
 // A stall, a crash, a move, and the three that change what is sent.
@@ -80,7 +80,7 @@ const ALONE_CLAIMS: Claims<'static> = &[(0, 0), (0, 1), (0, 0), (0, 1)];
 const MANY_CLAIMS: Claims<'static> = &[(0, 0), (1, 1), (0, 0), (0, 1)];
 
 // Runs: of each the line, the files, and the claims.
-const RUNS: [(&str, Files<'static>, Claims<'static>); 7] = [
+static RUNS: [(&str, Files<'static>, Claims<'static>); 7] = [
     (PLANNED, (CUTS, PLAN), PLANNED_CLAIMS),
     (
         "run --workers 2 --rounds 12 --plan p t.json e",
@@ -116,19 +116,36 @@ const RUNS: [(&str, Files<'static>, Claims<'static>); 7] = [
 
 #[test]
 fn each_run_has_its_claims(rt: HostRuntime) -> Result<(), Fail> {
-    for (line, files, claims) in RUNS {
-        assert!(rt; has_claims(&rt, rt.alloc(), line, files, claims)?, "{line}");
+    for (line, files, claims) in &RUNS {
+        assert!(rt;
+            has_claims(&rt, rt.alloc(), line, *files, claims)?,
+            "{line}"
+        );
     }
     Ok(())
 }
 
 #[test]
 fn each_run_writes_what_one_thread_writes(rt: HostRuntime) -> Result<(), Fail> {
-    for (line, files, _) in RUNS {
+    for (line, files, _) in &RUNS {
         assert!(rt;
-            write_the_same(&rt, rt.alloc(), line, SOLO, files)?,
+            write_the_same(&rt, rt.alloc(), line, SOLO, *files)?,
             "{line}"
         );
+    }
+    Ok(())
+}
+
+// Lines of runs, and their topologies.
+static AUDITED: [(&str, &str); 2] = [
+    ("run --workers 2 --rounds 3 --history t.json e", CUTS),
+    ("run --workers 2 --rounds 0 --history t.json e", COUNT),
+];
+
+#[test]
+fn a_runs_own_text_is_accepted(rt: HostRuntime) -> Result<(), Fail> {
+    for (line, topology) in &AUDITED {
+        assert!(rt; is_audited(&rt, rt.alloc(), line, topology)?, "{line}");
     }
     Ok(())
 }
@@ -147,10 +164,10 @@ fn four_threads_end_twenty_times_as_one_does(rt: HostRuntime) -> Result<(), Fail
 // The first call of the keeper asks for a row, and each claim for the rows of its interval.
 #[test]
 fn a_keeper_that_fails_at_a_first_claim_ends_the_run(rt: HostRuntime) -> Result<(), Fail> {
-    for (call, entries) in [(0, 0), (1, 0), (2, 1), (3, 2), (4, 3)] {
+    for (call, entries) in &[(0, 0), (1, 0), (2, 1), (3, 2), (4, 3)] {
         let line = "run --workers 3 --rounds 4 t.json e";
         assert!(rt;
-            keeper_fails(&rt, rt.alloc(), line, (CUTS, ""), call, entries)?,
+            keeper_fails(&rt, rt.alloc(), line, (CUTS, ""), *call, *entries)?,
             "{call}"
         );
     }

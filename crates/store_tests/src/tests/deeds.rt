@@ -52,21 +52,26 @@ fn key(alloc: Global, text: &str) -> Result<Key, NoMemory> {
 fn put(alloc: Global, keeper: &mut impl Keeper, text: &str, byte: u8) -> Result<(), KeeperFault> {
     let key = key(alloc, text)?;
     let name = RowName { part: 1, key };
-    keeper.put(alloc, &name, [byte].as_slice())
+    let done = keeper.put(alloc, &name, [byte].as_slice());
+    drop(name);
+    done
 }
 
-// Puts seven rows, the last in the place of an earlier one.
+// The keys and the bytes of seven rows, the last in the place of an earlier one.
+static ROWS: [(&str, u8); 7] = [
+    ("q", 1),
+    ("pz", 2),
+    ("h", 3),
+    ("hi", 4),
+    ("g", 5),
+    ("\u{ff}", 6),
+    ("h", 7),
+];
+
+// Puts them.
 fn fill(alloc: Global, keeper: &mut impl Keeper) -> Result<(), KeeperFault> {
-    for (text, byte) in [
-        ("q", 1),
-        ("pz", 2),
-        ("h", 3),
-        ("hi", 4),
-        ("g", 5),
-        ("\u{ff}", 6),
-        ("h", 7),
-    ] {
-        put(alloc, keeper, text, byte)?;
+    for (text, byte) in &ROWS {
+        put(alloc, keeper, text, *byte)?;
     }
     Ok(())
 }
@@ -82,7 +87,9 @@ fn puts_seven(alloc: Global, keeper: &mut impl Keeper) -> Result<bool, KeeperFau
 fn has_seven(alloc: Global, keeper: &mut impl Keeper) -> Result<bool, KeeperFault> {
     let least = first(alloc, keeper)?;
     let rows = scanned(alloc, keeper)?;
-    Ok(least == 5 && are_bytes(alloc, &rows, b"\x07\x04\x02".as_slice())?)
+    let are = are_bytes(alloc, &rows, b"\x07\x04\x02".as_slice());
+    drop(rows);
+    Ok(least == 5 && are?)
 }
 
 // Puts one row so often, each time with another byte.
@@ -95,10 +102,15 @@ fn puts_one(alloc: Global, keeper: &mut impl Keeper, times: u32) -> Result<bool,
 
 // The byte of the first row, or 0 where there is none.
 fn first(alloc: Global, keeper: &mut impl Keeper) -> Result<u8, KeeperFault> {
-    match keeper.first(alloc)? {
-        Some(row) => Ok(row.bytes.get(0).copied().unwrap_or(0)),
-        None => Ok(0),
-    }
+    let row = keeper.first(alloc)?;
+    let byte = row.as_ref().map(first_byte).unwrap_or(0);
+    drop(row);
+    Ok(byte)
+}
+
+// The first byte of a row, or 0.
+fn first_byte(row: &KeptRow) -> u8 {
+    row.bytes.get(0).copied().unwrap_or(0)
 }
 
 // Whether a look for the first row fails, and not for want of memory.
@@ -116,43 +128,56 @@ fn from_h_to_q(alloc: Global) -> Result<Bounds, NoMemory> {
 // The rows from h to q.
 fn scanned(alloc: Global, keeper: &mut impl Keeper) -> Result<KeptRowList, KeeperFault> {
     let bounds = from_h_to_q(alloc)?;
-    keeper.scan(alloc, &bounds)
+    let rows = keeper.scan(alloc, &bounds);
+    drop(bounds);
+    rows
 }
 
 // Whether a scan goes well.
 fn scans(alloc: Global, keeper: &mut impl Keeper) -> Result<bool, KeeperFault> {
-    let _rows = scanned(alloc, keeper)?;
+    let rows = scanned(alloc, keeper)?;
+    drop(rows);
     Ok(true)
 }
 
 // Whether a scan fails, and not for want of memory.
 fn scan_fails(alloc: Global, keeper: &mut impl Keeper) -> bool {
-    match scanned(alloc, keeper) {
-        Ok(_) => false,
-        Err(fault) => fault == KeeperFault::Failed,
-    }
+    let rows = scanned(alloc, keeper);
+    rows.err() == Some(KeeperFault::Failed)
 }
 
 // Whether these are the bytes of rows, one after another.
 fn are_bytes(alloc: Global, rows: &KeptRowList, want: &[u8]) -> Result<bool, NoMemory> {
     let mut all = Bytes::new(alloc);
-    for row in rows.as_slice() {
+    push_bytes(&mut all, rows.as_slice())?;
+    let are = all.as_slice() == want;
+    drop(all);
+    Ok(are)
+}
+
+// Appends the bytes of rows.
+fn push_bytes(all: &mut Bytes, rows: &[KeptRow]) -> Result<(), NoMemory> {
+    for row in rows {
         for byte in row.bytes.as_slice() {
             all.push(*byte)?;
         }
     }
-    Ok(all.as_slice() == want)
+    Ok(())
 }
 
 // Whether part 1 has one row, whose key is `a`, with these bytes.
 fn has_one(alloc: Global, keeper: &mut impl Keeper, bytes: &[u8]) -> Result<bool, KeeperFault> {
-    let bounds = Bounds {
+    let whole = Bounds {
         part: 1,
         from: Key::none(alloc),
         to: None,
     };
-    let rows = keeper.scan(alloc, &bounds)?;
-    Ok(rows.len() == 1 && is_first(rows.as_slice(), bytes))
+    let rows = keeper.scan(alloc, &whole);
+    drop(whole);
+    let rows = rows?;
+    let has_one = rows.len() == 1 && is_first(rows.as_slice(), bytes);
+    drop(rows);
+    Ok(has_one)
 }
 
 // Whether the first row is of part 1, with the key `a` and these bytes.

@@ -38,11 +38,7 @@ const COUNTED: &[u8] = b"\x01\0\0\0\0\0\0\0\x0d\0\0\0\0\0\0\0\x0d\x01\0\0\0\0\0\
 
 // The bytes of a text.
 fn bytes_of(alloc: Global, text: &str) -> Result<Bytes, NoMemory> {
-    let mut bytes = Bytes::new(alloc);
-    for byte in text.as_bytes() {
-        bytes.push(*byte)?;
-    }
-    Ok(bytes)
+    Ok(Bytes::from_vec(text.as_bytes().to_vec(alloc)?))
 }
 
 // A file of this name and content.
@@ -57,10 +53,15 @@ fn file(alloc: Global, name: &str, content: &str) -> Result<NamedFile, NoMemory>
 // The files of the example.
 fn shelf(alloc: Global) -> Result<MemShelf, NoMemory> {
     let mut files = FileList::new(alloc);
-    for (name, content) in [("t.json", COUNT), ("e", EVENTS)] {
-        files.push(file(alloc, name, content)?)?;
-    }
+    push_files(alloc, &mut files)?;
     Ok(MemShelf::of(files, CallList::new(alloc)))
+}
+
+// Appends them.
+fn push_files(alloc: Global, files: &mut FileList) -> Result<(), NoMemory> {
+    files.push(file(alloc, "t.json", COUNT)?)?;
+    files.push(file(alloc, "e", EVENTS)?)?;
+    Ok(())
 }
 
 // An ample sink.
@@ -71,16 +72,24 @@ fn sink(alloc: Global) -> MemSink {
 // The words of a command line that keeps the rows in a file.
 fn words(alloc: Global, store: &str) -> Result<Seq<Name>, NoMemory> {
     let mut words = Seq::new(alloc);
-    for word in ["solo", "--keep", store, "t.json", "e"] {
+    push_words(alloc, &mut words, store)?;
+    Ok(words)
+}
+
+// Appends them.
+fn push_words(alloc: Global, words: &mut Seq<Name>, store: &str) -> Result<(), NoMemory> {
+    for word in &["solo", "--keep", store, "t.json", "e"] {
         words.push(Name::of(alloc, word)?)?;
     }
-    Ok(words)
+    Ok(())
 }
 
 // The file that the words name.
 fn named(alloc: Global, store: &str) -> Result<Option<Name>, NoMemory> {
     let words = words(alloc, store)?;
-    keep_name(alloc, words.as_slice())
+    let name = keep_name(alloc, words.as_slice());
+    drop(words);
+    name
 }
 
 // Runs the words over this keeper. No other function calls the program.
@@ -91,7 +100,9 @@ fn run(
     out: &mut MemSink,
 ) -> Result<Done<SqliteKeeper>, NoMemory> {
     let mut shelf = shelf(alloc)?;
-    Ok(millwheel_alone(alloc, words, &mut shelf, keeper, out))
+    let done = millwheel_alone(alloc, words, &mut shelf, keeper, out);
+    drop(shelf);
+    Ok(done)
 }
 
 // Runs the example over this keeper, and closes that.
@@ -102,7 +113,9 @@ fn run_and_close(
     out: &mut MemSink,
 ) -> Result<Status, NoMemory> {
     let words = words(alloc, store)?;
-    let Done { status, keeper, .. } = run(alloc, words.as_slice(), keeper, out)?;
+    let done = run(alloc, words.as_slice(), keeper, out);
+    drop(words);
+    let Done { status, keeper, .. } = done?;
     Ok(after_closing(status, keeper.close()))
 }
 
@@ -121,24 +134,37 @@ fn kept_in(
 
 // Runs the example over the file that its words name, and closes that.
 fn kept(rt: &HostRuntime, store: &str, out: &mut MemSink) -> Result<Status, NoMemory> {
-    match named(rt.alloc(), store)? {
+    let name = named(rt.alloc(), store)?;
+    let status = match &name {
         Some(name) => kept_in(rt, name.text(), store, out),
         None => Ok(Status::Usage),
-    }
+    };
+    drop(name);
+    status
 }
 
 // Whether the example is run, and its text written.
 fn is_run(rt: &HostRuntime, store: &str) -> Result<bool, NoMemory> {
     let mut out = sink(rt.alloc());
-    let status = kept(rt, store, &mut out)?;
-    Ok(status.is_ok() && out.text() == TEXT.as_bytes())
+    let status = kept(rt, store, &mut out);
+    let is_written = out.text() == TEXT.as_bytes();
+    drop(out);
+    let status = status?;
+    let is_ok = status.is_ok();
+    drop(status);
+    Ok(is_ok && is_written)
 }
 
 // Whether it is not run, since there are rows, and nothing is written.
 fn is_refused(rt: &HostRuntime, store: &str) -> Result<bool, NoMemory> {
     let mut out = sink(rt.alloc());
-    let status = kept(rt, store, &mut out)?;
-    Ok(matches!(status, Status::NotEmpty { .. }) && out.text().is_empty())
+    let status = kept(rt, store, &mut out);
+    let is_unwritten = out.text().is_empty();
+    drop(out);
+    let status = status?;
+    let is_refused = matches!(&status, Status::NotEmpty { .. });
+    drop(status);
+    Ok(is_refused && is_unwritten)
 }
 
 // Whether the database has the two rows of the example in a file.

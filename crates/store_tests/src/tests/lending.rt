@@ -6,15 +6,17 @@ use sqlite_keeper::SqliteKeeper;
 /// Whether a deed is done with the keeper of a file, which is let go without a close.
 pub(super) fn dropped(rt: &HostRuntime, name: &str, deed: Deed) -> Result<bool, KeeperFault> {
     let mut keeper = SqliteKeeper::at(rt, name)?;
-    is_done(rt.alloc(), &mut keeper, deed)
+    let done = is_done(rt.alloc(), &mut keeper, deed);
+    drop(keeper);
+    done
 }
 
 /// The same with a keeper that is closed, which has to go well.
 pub(super) fn closed(rt: &HostRuntime, name: &str, deed: Deed) -> Result<bool, KeeperFault> {
     let mut keeper = SqliteKeeper::at(rt, name)?;
-    let done = is_done(rt.alloc(), &mut keeper, deed)?;
+    let done = is_done(rt.alloc(), &mut keeper, deed);
     keeper.close()?;
-    Ok(done)
+    done
 }
 
 /// Why a keeper can't be had at a name, if it can't.
@@ -27,6 +29,8 @@ pub(super) fn second_refusal(
     rt: &HostRuntime,
     name: &str,
 ) -> Result<Option<KeeperFault>, KeeperFault> {
-    let _first = SqliteKeeper::at(rt, name)?;
-    Ok(refusal(rt, name))
+    let first = SqliteKeeper::at(rt, name)?;
+    let refusal = refusal(rt, name);
+    drop(first);
+    Ok(refusal)
 }

@@ -69,7 +69,7 @@ count = entries 16";
 
 #[test]
 fn a_crash_or_a_late_copy_changes_nothing_that_is_written(rt: HostRuntime) -> Result<(), Fail> {
-    for (name, table) in [
+    for (name, table) in &[
         ("late copy is duplicate", LATE_COPY),
         ("crash between write and send", UNSENT),
         ("crash before write", UNWRITTEN),

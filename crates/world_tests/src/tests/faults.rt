@@ -61,7 +61,7 @@ fn wrong_untold(alloc: Global, events: &str, shown: &[u8], table: &str) -> Resul
 
 #[test]
 fn a_keeper_does_not_tell_or_shows_what_is_no_row(rt: HostRuntime) -> Result<(), Fail> {
-    for (name, events, shown, table) in [
+    for (name, events, shown, table) in &[
         ("a keeper that does not tell", MARKED, NEW_ROW, UNTOLD),
         ("a row that is damaged", EVENTS, NO_ROW, DAMAGED),
     ] {
@@ -145,30 +145,34 @@ last = Handle 3
 send 0 = Sent 2
 count = entries 5";
 
+// Tables over a keeper of which these calls fail: of each the name, the case, the calls, and the lines.
+type Failing = (
+    &'static str,
+    (&'static str, &'static str),
+    &'static [u64],
+    &'static str,
+);
+
+static TABLES: [Failing; 3] = [
+    (
+        "a keeper that fails",
+        (COUNT, MARKED),
+        &[1, 4, 6, 8, 10, 12, 15],
+        FAILING,
+    ),
+    ("a timer of a chain", (CHAIN, MARKED), &[7], UNFIRED),
+    (
+        "a record that is passed on",
+        (PASSED, EVENTS),
+        &[5],
+        UNPASSED,
+    ),
+];
+
 #[test]
 fn a_step_whose_keeper_fails_is_not_done(rt: HostRuntime) -> Result<(), Fail> {
-    let each = [1, 4, 6, 8, 10, 12, 15];
-    for (name, case, failing, table) in [
-        (
-            "a keeper that fails",
-            (COUNT, MARKED),
-            each.as_slice(),
-            FAILING,
-        ),
-        (
-            "a timer of a chain",
-            (CHAIN, MARKED),
-            [7].as_slice(),
-            UNFIRED,
-        ),
-        (
-            "a record that is passed on",
-            (PASSED, EVENTS),
-            [5].as_slice(),
-            UNPASSED,
-        ),
-    ] {
-        let line = wrong_where(rt.alloc(), case, failing, table)?;
+    for (name, case, failing, table) in &TABLES {
+        let line = wrong_where(rt.alloc(), *case, failing, table)?;
         assert!(rt; line == 0, "{name}: line {line}");
     }
     Ok(())
@@ -212,13 +216,19 @@ write 0 = Stale 3
 write 0 = Nothing
 count = entries 4";
 
+// The first wrong line over a book that takes three entries, or four.
+fn wrong_full(alloc: Global, limit: u32) -> Result<u64, NoMemory> {
+    match limit {
+        3 => wrong_line(alloc, (COUNT, EVENTS), &[], 3, FULL),
+        _ => wrong_line(alloc, (COUNT, EVENTS), &[], 4, STALE_AND_FULL),
+    }
+}
+
 #[test]
 fn a_full_history_takes_no_entry(rt: HostRuntime) -> Result<(), Fail> {
-    let full = wrong_line(rt.alloc(), (COUNT, EVENTS), &[], 3, FULL)?;
-    let stale = wrong_line(rt.alloc(), (COUNT, EVENTS), &[], 4, STALE_AND_FULL)?;
-    assert!(rt;
-        full == 0 && stale == 0,
-        "full: line {full}, stale before full: line {stale}"
-    );
+    for limit in &[3, 4] {
+        let line = wrong_full(rt.alloc(), *limit)?;
+        assert!(rt; line == 0, "{limit}: line {line}");
+    }
     Ok(())
 }

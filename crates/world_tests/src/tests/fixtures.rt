@@ -1,5 +1,5 @@
 //! The cases, the keepers and the worlds of the tests.
-ghost use Rattle.std.specs.Prelude.{◌≡◌, ◌≤◌, ◌^◌, IfOk};
+ghost use Rattle.std.specs.Prelude.{◌≡◌, ◌≤◌, ◌^◌, IfOk, length};
 ghost use Rattle.topology.specs.Shapes.{injectors_of};
 ghost use Rattle.node.specs.Works.{IsWorkOf};
 ghost use Rattle.computations.specs.Parts.{HasState, part_record, part_timer};
@@ -72,10 +72,19 @@ fn lines(alloc: Global, events: &str) -> Result<Items, NoMemory> {
 
 /// The case of a topology of one injector over this event file.
 pub(crate) fn case(alloc: Global, topology: &str, events: &str) -> Result<Case, NoMemory> {
+    let items = items(alloc, events)?;
     let topology = topology_of(alloc, topology)?;
-    let mut items = ItemsList::new(alloc);
-    items.push(lines(alloc, events)?)?;
     Case::of(alloc, topology, items)
+}
+
+// The lines of an event file, as those of the one injector.
+fn items(alloc: Global, events: &str) -> Result<ItemsList, NoMemory>
+    ensures { IfOk result (λ items. length items ≡ 1) }
+{
+    let lines = lines(alloc, events)?;
+    let mut items = ItemsList::new(alloc);
+    items.push(lines)?;
+    Ok(items)
 }
 
 // A keeper in memory whose calls of these numbers fail. The first is that of the book's start.
@@ -92,10 +101,7 @@ pub(crate) fn blind_keeper(alloc: Global, shown: &[u8]) -> Result<BlindKeeper, N
     let Ok(key) = Key::of(alloc, "z") else {
         return Err(NoMemory);
     };
-    let mut bytes = Bytes::new(alloc);
-    for byte in shown {
-        bytes.push(*byte)?;
-    }
+    let bytes = Bytes::from_vec(shown.to_vec(alloc)?);
     let name = RowName { part: 1, key };
     Ok(BlindKeeper::new(KeptRow { name, bytes }))
 }

@@ -90,7 +90,7 @@ count = entries 16";
 
 #[test]
 fn a_lease_that_was_overtaken_is_stale(rt: HostRuntime) -> Result<(), Fail> {
-    for (name, table) in [
+    for (name, table) in &[
         ("old owner is stale", OLD_OWNER),
         ("a report is stale once", STALE_REPORT),
         ("an acknowledgement is stale", STALE_ACK),

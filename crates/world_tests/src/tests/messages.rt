@@ -134,7 +134,7 @@ count = entries 15";
 
 #[test]
 fn a_message_is_taken_once_and_by_its_worker(rt: HostRuntime) -> Result<(), Fail> {
-    for (name, table) in [
+    for (name, table) in &[
         ("a lost record is sent again", LOST),
         ("a message for another stays", NOT_MINE),
         ("a message that is gone is nothing", GONE),
@@ -148,7 +148,7 @@ fn a_message_is_taken_once_and_by_its_worker(rt: HostRuntime) -> Result<(), Fail
 
 #[test]
 fn a_step_that_has_nothing_to_do_is_nothing(rt: HostRuntime) -> Result<(), Fail> {
-    for (name, table) in [
+    for (name, table) in &[
         ("nothing to do is nothing", NOTHING_TO_DO),
         ("no line is left", NO_LINE),
     ] {

@@ -143,7 +143,9 @@ fn is_written(alloc: Global, said: Said, want: &str) -> Result<bool, NoMemory> {
         (word, None) => Ok(word == want),
         (word, Some(number)) => {
             let text = format!(in alloc; "{word} {number}")?;
-            Ok(text.as_str() == want)
+            let is_so = text.as_str() == want;
+            drop(text);
+            Ok(is_so)
         }
     }
 }
@@ -192,8 +194,25 @@ pub(crate) fn wrong_over<K: Keeper>(
 {
     let (topology, events) = files;
     let case = case(alloc, topology, events)?;
-    let mut world = world(alloc, &case, keeper, limit)?;
-    first_wrong(alloc, &mut world, table)
+    let wrong = wrong_of(alloc, &case, keeper, limit, table);
+    drop(case);
+    wrong
+}
+
+// The same over a new world of this case.
+fn wrong_of<K: Keeper>(
+    alloc: Global,
+    case: &Case,
+    keeper: K,
+    limit: u64,
+    table: &str,
+) -> Result<u64, NoMemory>
+    requires { limit ≤ 2 ^ 32 }
+{
+    let mut world = world(alloc, case, keeper, limit)?;
+    let wrong = first_wrong(alloc, &mut world, table);
+    drop(world);
+    wrong
 }
 
 /// The same over a keeper in memory whose calls of these numbers fail.

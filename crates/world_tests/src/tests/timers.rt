@@ -94,7 +94,7 @@ count = entries 18";
 
 #[test]
 fn timers_fire_when_they_are_due(rt: HostRuntime) -> Result<(), Fail> {
-    for (name, table) in [
+    for (name, table) in &[
         ("a timer fires when it is due", DUE),
         ("the next owner reports the same", REPORTED),
     ] {

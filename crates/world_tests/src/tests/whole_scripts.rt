@@ -5,6 +5,7 @@ use computations::Kinds;
 use mw_types::{Entry, NoMemory};
 use node::NodeFault;
 use row_keeper::Keeper;
+use run_history::Case;
 use std::alloc::Global;
 use std::test::Fail;
 use world::{World, run_script};
@@ -28,7 +29,9 @@ fn runs<K: Keeper>(
 ) -> Result<Result<(), NodeFault>, NoMemory> {
     let case = world.book().case();
     let schedule = schedule(alloc, case, text)?;
-    Ok(run_script(alloc, world, schedule.steps()))
+    let ran = run_script(alloc, world, schedule.steps());
+    drop(schedule);
+    Ok(ran)
 }
 
 // Does the steps of a text, and says whether they end so with so many entries.
@@ -39,7 +42,9 @@ fn leaves<K: Keeper>(
     is_ok: bool,
     entries: usize,
 ) -> Result<bool, NoMemory> {
-    let ends_so = runs(alloc, world, text)?.is_ok() == is_ok;
+    let ran = runs(alloc, world, text)?;
+    let ends_so = ran.is_ok() == is_ok;
+    drop(ran);
     Ok(ends_so && world.book().history().len() == entries)
 }
 
@@ -59,10 +64,21 @@ fn handles(entries: &[Entry], number: usize, commit: u64) -> bool {
 // The drain claims as entries 3 and 4, and handles the record as entry 5.
 fn is_handled_by_the_drain(alloc: Global) -> Result<bool, NoMemory> {
     let case = case(alloc, COUNT, EVENTS)?;
-    let mut world = world(alloc, &case, keeper(alloc, &[])?, MOST)?;
-    let is_left = leaves(alloc, &mut world, UNWRITTEN, true, 3)?;
+    let is_handled = is_handled_of(alloc, &case);
+    drop(case);
+    is_handled
+}
+
+// The same of a case.
+fn is_handled_of(alloc: Global, case: &Case) -> Result<bool, NoMemory> {
+    let keeper = keeper(alloc, &[])?;
+    let mut world = world(alloc, case, keeper, MOST)?;
+    let is_left = leaves(alloc, &mut world, UNWRITTEN, true, 3);
     let is_drained = drains(alloc, &mut world, 16);
-    Ok(is_left && is_drained && handles(world.into_book().history().entries(), 5, 2))
+    let book = world.into_book();
+    let is_handled = handles(book.history().entries(), 5, 2);
+    drop(book);
+    Ok(is_left? && is_drained && is_handled)
 }
 
 #[test]
@@ -74,9 +90,19 @@ fn a_drain_handles_what_was_prepared(rt: HostRuntime) -> Result<(), Fail> {
 // The fourth call of the keeper fails, which the script's third step makes.
 fn ends_at_the_fault(alloc: Global) -> Result<bool, NoMemory> {
     let case = case(alloc, COUNT, EVENTS)?;
-    let mut world = world(alloc, &case, keeper(alloc, &[3])?, MOST)?;
-    let ends = leaves(alloc, &mut world, UNWRITTEN, false, 2)?;
-    Ok(ends && leaves(alloc, &mut world, "inject 0 0\nclaim 1 1", true, 4)?)
+    let ends = ends_of(alloc, &case);
+    drop(case);
+    ends
+}
+
+// The same of a case.
+fn ends_of(alloc: Global, case: &Case) -> Result<bool, NoMemory> {
+    let keeper = keeper(alloc, &[3])?;
+    let mut world = world(alloc, case, keeper, MOST)?;
+    let ends = leaves(alloc, &mut world, UNWRITTEN, false, 2);
+    let goes_on = leaves(alloc, &mut world, "inject 0 0\nclaim 1 1", true, 4);
+    drop(world);
+    Ok(ends? && goes_on?)
 }
 
 #[test]

@@ -159,7 +159,7 @@ const AT_THE_END: [Deed; 4] = [
 ];
 
 // What a count is handed, and what it produces, in this order.
-const COUNTS: [(&str, &[Deed], &[(u64, i64)]); 2] = [
+static COUNTS: [(&str, &[Deed], &[(u64, i64)]); 2] = [
     (
         "one, one, seven",
         &ONE_ONE_SEVEN,
@@ -185,7 +185,7 @@ type Judged = (
     &'static [(u64, i64)],
 );
 
-const JUDGED: [Judged; 4] = [
+static JUDGED: [Judged; 4] = [
     (
         "a spike above three times",
         &ONE_ONE_SEVEN_JUDGED,

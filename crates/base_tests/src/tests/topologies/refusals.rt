@@ -138,7 +138,7 @@ const FIRST_IS_NO_JSON: &str = r#"clicks","stream":"raw"=>clicks","stream":7,""#
 const FIRST_IS_READING: &str = r#"60,"reads":[{"stream":"raw"=>0,"reads":[{"stream":"none""#;
 
 // Changes of the file, and why it is refused after each, if it is.
-const CHANGES: [(&str, Option<TopologyRefusal>); 10] = [
+static CHANGES: [(&str, Option<TopologyRefusal>); 10] = [
     (OTHER_SHAPES, Some(TopologyRefusal::BadShape)),
     (BAD_NAMES, Some(TopologyRefusal::BadName)),
     (DOUBLE_NAMES, Some(TopologyRefusal::DoubleName)),

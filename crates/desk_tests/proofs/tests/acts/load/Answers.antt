@@ -1,4 +1,4 @@
-use Rattle.node.proofs.ReceiveLaws.{Fits-looked}
+use Rattle.node.proofs.OutLaws.{Fits-looked}
 use Rattle.desk_tests.proofs.tests.acts.load.Goals as goal
 
 -- the worker fits its desk once a mark was loaded

@@ -1,4 +1,4 @@
-use Rattle.node.proofs.ReceiveLaws.{Fits-looked}
+use Rattle.node.proofs.OutLaws.{Fits-looked}
 use Rattle.shared_book.specs.SharedDesks.{shared_view}
 use Rattle.desk_tests.proofs.tests.crossing.catch_up.Goals as goal
 
