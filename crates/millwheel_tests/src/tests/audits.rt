@@ -148,7 +148,12 @@ fn files_are_refused_before_a_trace(rt: HostRuntime) -> Result<(), Fail> {
 }
 
 // Whether bytes are audited as the text of a run over these files, of so many entries.
-fn audits(alloc: Global, trace: &[u8], topology: &str, text: &str) -> Result<bool, NoMemory> {
+fn audits<'x>(
+    alloc: Global,
+    trace: &'x [u8],
+    topology: &'x str,
+    text: &'x str,
+) -> Result<bool, NoMemory> {
     match str::from_utf8(trace) {
         Ok(trace) => {
             let files = [("t.json", topology), ("e", EVENTS), ("r", trace)];
