@@ -6,6 +6,7 @@ use Rattle.row_keeper.specs.declared.keeper.Keeper.{Ghosts}
 use Rattle.shared_book.specs.declared.seats.Seat.{Seat}
 use Rattle.shared_book.specs.declared.turn.Turn.{Turn}
 use Rattle.shared_book.specs.declared.turn.Busy.{Busy}
+use Rattle.shared_book.specs.declared.views.View.{View}
 use Rattle.shared_book.specs.contracts.seats.Seat.{the_row}
 use Rattle.shared_book.specs.Steps.{SeatView, missing}
 
@@ -14,6 +15,10 @@ use Rattle.shared_book.specs.Steps.{SeatView, missing}
 abbrev pub IsBusy : {T : Type 0} → Result T Busy → SeatView → SeatView → Type 0
 IsBusy (Ok turn) new old = ⊤
 IsBusy (Err busy) new old = (busy.found ≢ 0) × (new ≡ (missing old.0 busy.found, old.1))
+
+-- another seat had the turn: the number that was found, which is not 0, is noted, and nothing else changed
+abbrev pub HasMissed : View → View → Busy → Type 0
+HasMissed old new busy = (busy.found ≢ 0) × (new ≡ missing old busy.found)
 
 -- a seat that got no turn is a seat of its table, which noted what it found
 abbrev pub RestsTurn : (K : RattleType) (g : Ghosts K.Denot) → MutBor (Seat K.Denot g)

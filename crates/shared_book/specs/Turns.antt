@@ -28,6 +28,7 @@ use Rattle.shared_book.specs.declared.views.View.{View}
 use Rattle.shared_book.specs.Lists.{IsIn, Ascends}
 use Rattle.shared_book.specs.FenceLaw.{Slot, IsCore, AreClaimed}
 use Rattle.shared_book.specs.Steps.{SeatView, IsNext, holding, faulted, grown}
+use Rattle.shared_book.specs.MarkSteps.{released}
 
 -- ---- what a seat is
 
@@ -74,6 +75,10 @@ pub record HasTaken (old new : View) : Type 0 where
   -- it, under a lease that was stale then or not. And the floor that it had loaded is at most the history's
   pub marks : IfSome old.basis.told (λ _. AreSafe old.basis.case (run_of old.basis.case.topology new.front) old.marks)
   pub floor : old.floor ≤ floor_of (run_of old.basis.case.topology new.front)
+
+-- a turn was taken, and given back at once
+abbrev pub HasCaughtUp : View → View → Type 0
+HasCaughtUp old new = (turn : View) × HasTaken old turn × (new ≡ released turn)
 
 -- a note was met: what was seen goes on, and nothing that came to be seen was written under a lease of the
 -- seat

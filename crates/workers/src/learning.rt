@@ -41,6 +41,6 @@ pub(crate) fn learn<'s, 'a, K: Keeper>(desk: &mut SharedDesk<'s, 'a, K>, case: &
 {
     desk.sound();
     load_marks(desk, case);
-    desk.catch_up();
+    let _tried = desk.catch_up();
     desk.sound();
 }

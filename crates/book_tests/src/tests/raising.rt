@@ -181,7 +181,7 @@ fn round<K: Keeper>(
 {
     let both = load_both(desk, loads);
     if nth % 10 == 0 {
-        desk.catch_up();
+        let _tried = desk.catch_up();
     }
     raise_once(desk, lease, interval, 2 * nth + u64::from(worker) + 1, both)
 }

@@ -102,7 +102,7 @@ fn catch_up<K: Keeper>(
     ensures home { shared_home desk.new.seat.now.place ≡ shared_home desk.old.seat.now.place }
 {
     desk.sound();
-    desk.catch_up();
+    let _tried = desk.catch_up();
     desk.sound();
     Outcome::Nothing
 }
