@@ -12,8 +12,8 @@ use Rattle.text_lines.specs.Words.{is_word}
 use Rattle.command_line.specs.Words.{after_word, assigned, first_value, is_dashed, is_end, line_after, with_option, with_positionals}
 use Rattle.command_line.specs.Clap.{is_short}
 use Rattle.command_line.specs.declared.line.Line.{Line}
-use Rattle.command_line.proofs.Rules.{Asked, plan, workers, rounds, keep, trace, plan_id, workers_id, rounds_id, keep_id, trace_id, history, name_of, rule_of, rules}
-use Rattle.command_line.proofs.Lines.{value_of, with_value}
+use Rattle.command_line.proofs.Rules.{Asked, plan, workers, rounds, keep, trace, plan_id, workers_id, rounds_id, keep_id, trace_id, history, live, Flag, history_flag, live_flag, flag_name, name_of, rule_of, rules}
+use Rattle.command_line.proofs.Lines.{flagged, given, value_of, with_value}
 use Rattle.command_line.proofs.Steps.{IsPlain, end_word}
 
 -- ---- the forms of a word
@@ -129,25 +129,31 @@ text_tells xs ys = go (bytes_eq xs ys) refl (bytes_eq ys xs) refl
     go false e true f = inl (sym (same_text ys xs (sym f)))
     go false e false f = inr (e, f)
 
+-- a name is no flag's
+pub record NamesNoFlag (name : Text) : Type 0 where
+  pub no_history : is_word (dashed name) (codes "--history") ≡ false
+  pub no_live : is_word (dashed name) (codes "--live") ≡ false
+
 -- no argument has the name
 pub record IsUnknown (name : Text) : Type 0 where
   pub not_found : arg_by_long rules name ≡ None
   pub no_option : (v : Text) (line : Line) → with_option (dashed name) v line ≡ None
-  pub no_flag : is_word (dashed name) (codes "--history") ≡ false
+  pub no_flag : NamesNoFlag name
 
 pub data Named (name : Text) : Type 0 where
   asks : (x : Asked) → name ≡ name_of x → Named name
-  a_flag : name ≡ codes "history" → Named name
+  a_flag : (f : Flag) → name ≡ flag_name f → Named name
   unknown : IsUnknown name → Named name
 
 abbrev Apart : Text → Text → Type 0
 Apart xs ys = (bytes_eq xs ys ≡ false) × (bytes_eq ys xs ≡ false)
 
-abbrev found_by : Bool → Bool → Bool → Bool → Bool → Bool → Option Rule
-found_by a b c d e f = cond (a || false) (Some (rule_of plan_id)) (cond (b || false) (Some (rule_of workers_id))
+abbrev found_by : Bool → Bool → Bool → Bool → Bool → Bool → Bool → Option Rule
+found_by a b c d e f g = cond (a || false) (Some (rule_of plan_id)) (cond (b || false) (Some (rule_of workers_id))
     (cond (c || false) (Some (rule_of rounds_id))
     (cond (d || false) (Some (rule_of keep_id))
-    (cond (e || false) (Some (rule_of trace_id)) (cond (f || false) (Some (rule_of history)) None)))))
+    (cond (e || false) (Some (rule_of trace_id)) (cond (f || false) (Some (rule_of history))
+    (cond (g || false) (Some (rule_of live)) None))))))
 
 abbrev pub set_by : Bool → Bool → Bool → Bool → Bool → Text → Line → Option Line
 set_by a b c d e v line = cond a (option_map (λ u. record line { plan = u }) (first_value v line.plan))
@@ -158,12 +164,13 @@ set_by a b c d e v line = cond a (option_map (λ u. record line { plan = u }) (f
 
 unknown_is : (name : Text) → Apart name (codes "plan") → Apart name (codes "workers") → Apart name (codes "rounds")
     → Apart name (codes "keep") → Apart name (codes "trace") → Apart name (codes "history")
+    → Apart name (codes "live")
     → IsUnknown name
 unfolding rules
-unknown_is name a b c d e f = record {
-  not_found = λ i. found_by (a.1 i) (b.1 i) (c.1 i) (d.1 i) (e.1 i) (f.1 i);
+unknown_is name a b c d e f g = record {
+  not_found = λ i. found_by (a.1 i) (b.1 i) (c.1 i) (d.1 i) (e.1 i) (f.1 i) (g.1 i);
   no_option = λ v line i. set_by (a.0 i) (b.0 i) (c.0 i) (d.0 i) (e.0 i) v line;
-  no_flag = f.0;
+  no_flag = record { no_history = f.0; no_live = g.0 };
 }
 
 pub named : (name : Text) → Named name
@@ -178,8 +185,11 @@ named name = elim (text_tells name (codes "plan")) [
         | inr d ↦ elim (text_tells name (codes "trace")) [
           | inl e ↦ asks trace e
           | inr e ↦ elim (text_tells name (codes "history")) [
-            | inl f ↦ a_flag f
-            | inr f ↦ unknown (unknown_is name a b c d e f)
+            | inl f ↦ a_flag history_flag f
+            | inr f ↦ elim (text_tells name (codes "live")) [
+              | inl g ↦ a_flag live_flag g
+              | inr g ↦ unknown (unknown_is name a b c d e f g)
+            ]
           ]
         ]
       ]
@@ -203,6 +213,17 @@ option_again workers v had line given = ap (λ o. option_map (λ u. record line 
 option_again rounds v had line given = ap (λ o. option_map (λ u. record line { rounds = u }) (first_value v o)) given
 option_again keep v had line given = ap (λ o. option_map (λ u. record line { keep = u }) (first_value v o)) given
 option_again trace v had line given = ap (λ o. option_map (λ u. record line { trace = u }) (first_value v o)) given
+
+-- a flag is set where it was not given before
+pub flag_first : (f : Flag) (line : Line)
+    → after_word (dashed (flag_name f)) None line ≡ option_map (λ l. (l, None)) (cond (given f line) None (Some (flagged f line)))
+flag_first history_flag line = refl
+flag_first live_flag line = refl
+
+-- and takes no value
+pub flag_alone : (f : Flag) (v : Text) (line : Line) → with_option (dashed (flag_name f)) v line ≡ None
+flag_alone history_flag v line = refl
+flag_alone live_flag v line = refl
 
 pub next_word : (word : Text) (words : List Text) (waiting : Option Text) (line : Line) (next : Line × Option Text)
     → is_end word waiting ≡ false

@@ -10,7 +10,7 @@ use Rattle.clap.specs.declared.error.Error.{Error}
 use Rattle.clap.specs.declared.error.kind.ErrorKind.TheVariants as kind
 use Rattle.clap.specs.declared.parser.matches.ArgMatches.{ArgMatches}
 use Rattle.command_line.specs.Words.{line_of}
-use Rattle.command_line.specs.Clap.{HasFlag, IsLineIn, has_short, mill_app, rows_in}
+use Rattle.command_line.specs.Clap.{HasFlags, IsLineIn, has_short, mill_app, rows_in}
 use Rattle.command_line.specs.declared.line.Line.{Line}
 use Rattle.command_line.proofs.Reading.{clap_reads}
 use Rattle.command_line.proofs.Rules.{simple}
@@ -40,11 +40,13 @@ lines_are_one rows a b p q =
     ap (λ (names : List Text). record a { positionals = names }) (sym p.positionals ∙ q.positionals)
     ∙ ap (λ (o : Option Text). record a { positionals = b.positionals; plan = o }) (sym p.plan ∙ q.plan)
     ∙ ap (λ (o : Option Text). record a { positionals = b.positionals; plan = b.plan; workers = o }) (sym p.workers ∙ q.workers)
-    ∙ ap (λ (o : Option Text). record b { rounds = o; keep = a.keep; trace = a.trace; history = a.history }) (sym p.rounds ∙ q.rounds)
-    ∙ ap (λ (o : Option Text). record b { keep = o; trace = a.trace; history = a.history }) (sym p.keep ∙ q.keep)
-    ∙ ap (λ (o : Option Text). record b { trace = o; history = a.history }) (sym p.trace ∙ q.trace)
-    ∙ ap (λ (flag : Bool). record b { history = flag })
+    ∙ ap (λ (o : Option Text). record b { rounds = o; keep = a.keep; trace = a.trace; history = a.history; live = a.live }) (sym p.rounds ∙ q.rounds)
+    ∙ ap (λ (o : Option Text). record b { keep = o; trace = a.trace; history = a.history; live = a.live }) (sym p.keep ∙ q.keep)
+    ∙ ap (λ (o : Option Text). record b { trace = o; history = a.history; live = a.live }) (sym p.trace ∙ q.trace)
+    ∙ ap (λ (flag : Bool). record b { history = flag; live = a.live })
     (flags_are_one (one_of (codes "history") rows) a.history b.history p.history q.history)
+    ∙ ap (λ (flag : Bool). record b { live = flag })
+    (flags_are_one (one_of (codes "live") rows) a.live b.live p.live q.live)
 
 -- where `clap` took the words, the words have a line, which is what it found
 line_there : (words : List Text) (app : App) (m : ArgMatches) → app ≡ mill_app → has_short words ≡ false
@@ -63,11 +65,11 @@ line_there words app m app_is none faults found = go (line_of words) refl (clap_
     go None is fails = absurd (fails no_fault)
     go (Some line) is reads = (line, (is, subst (λ rows. IsLineIn rows line) (sym rows_are) reads.1))
 
--- so the flag reads in one of its ways
-pub flag_there : (words : List Text) (app : App) (m : ArgMatches) → app ≡ mill_app → has_short words ≡ false
-    → (is_simple_and_free app ≡ true → fault_of app words ≡ []) → HasMatchesOf app words m → HasFlag (rows_in m)
-flag_there words app m app_is none faults found =
-    let line = line_there words app m app_is none faults found in (line.0.history, line.1.1.history)
+-- so each flag reads in one of its ways
+pub flags_there : (words : List Text) (app : App) (m : ArgMatches) → app ≡ mill_app → has_short words ≡ false
+    → (is_simple_and_free app ≡ true → fault_of app words ≡ []) → HasMatchesOf app words m → HasFlags (rows_in m)
+flags_there words app m app_is none faults found =
+    let line = line_there words app m app_is none faults found in ((line.0.history, line.1.1.history), (line.0.live, line.1.1.live))
 
 -- and a line that is what `clap` found is the one that the words say
 pub line_taken : (words : List Text) (app : App) (m : ArgMatches) (made : Line) → app ≡ mill_app → has_short words ≡ false

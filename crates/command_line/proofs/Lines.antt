@@ -7,9 +7,9 @@ use Rattle.clap.specs.Walk.{Row, Text, all_of, with_values, without}
 use Rattle.clap.specs.Values.{read_as}
 use Rattle.clap.specs.declared.builder.value_parser.Reading.TheVariants as reading
 use Rattle.clap.specs.declared.parser.matches.ValueSource.{ValueSource}
-use Rattle.command_line.specs.Clap.{IsLineIn, values_in}
+use Rattle.command_line.specs.Clap.{IsFlagIn, IsLineIn, values_in}
 use Rattle.command_line.specs.declared.line.Line.{Line}
-use Rattle.command_line.proofs.Rules.{Asked, plan, workers, rounds, keep, trace, Id, mode, args, plan_id, workers_id, rounds_id, keep_id, trace_id, history, name_of, option, text_of, same_or_other}
+use Rattle.command_line.proofs.Rules.{Asked, plan, workers, rounds, keep, trace, Id, mode, args, plan_id, workers_id, rounds_id, keep_id, trace_id, history, live, Flag, history_flag, live_flag, flag, flag_name, name_of, option, text_of, same_or_other}
 use Rattle.command_line.proofs.Rows.{Values, all_of-seen, first_of-seen, more, one_of-seen, seen, seen-more, seen-other, without-absent}
 
 -- ---- what the rows have, by the line
@@ -40,6 +40,7 @@ wanted line rounds_id = single line.rounds
 wanted line keep_id = single line.keep
 wanted line trace_id = single line.trace
 wanted line history = flag_values line.history
+wanted line live = flag_values line.live
 
 abbrev as_written : List Text → Values
 as_written values = (values, reading.AsWritten)
@@ -143,18 +144,38 @@ option_held rows line x v source holds absent =
     after_first rows line (with_value x v line) (option x) source (v ∷ []) holds (wanted_option x line
     ∙ ap single absent) (wanted_with x v line) (others_with x v line)
 
-abbrev pub flagged : Line → Line
-flagged line = record line { history = true }
+-- ---- the flags
 
-others_flagged : (line : Line) (j : Id) → bytes_eq (codes "history") (text_of j) ≡ false → wanted line j ≡ wanted (flagged line) j
-others_flagged line history apart = absurd (true≢false apart)
-others_flagged line _ apart = refl
+-- whether a flag is given
+abbrev pub given : Flag → Line → Bool
+given history_flag line = line.history
+given live_flag line = line.live
 
--- the flag is set
-pub flag_held : (rows : List Row) (line : Line) (source : ValueSource) → Holds rows line → line.history ≡ false
-    → Holds (with_values (codes "history") reading.AsWritten source (codes "true" ∷ []) (without (codes "history") rows)) (flagged line)
-flag_held rows line source holds absent =
-    after_first rows line (flagged line) history source (codes "true" ∷ []) holds (ap flag_values absent) refl (others_flagged line)
+abbrev pub flagged : Flag → Line → Line
+flagged history_flag line = record line { history = true }
+flagged live_flag line = record line { live = true }
+
+pub wanted_flag : (f : Flag) (line : Line) → wanted line (flag f) ≡ flag_values (given f line)
+wanted_flag history_flag line = refl
+wanted_flag live_flag line = refl
+
+wanted_flagged : (f : Flag) (line : Line) → Some (codes "true" ∷ []) ≡ wanted (flagged f line) (flag f)
+wanted_flagged history_flag line = refl
+wanted_flagged live_flag line = refl
+
+others_flagged : (f : Flag) (line : Line) (j : Id) → bytes_eq (flag_name f) (text_of j) ≡ false
+    → wanted line j ≡ wanted (flagged f line) j
+others_flagged history_flag line history apart = absurd (true≢false apart)
+others_flagged history_flag line _ apart = refl
+others_flagged live_flag line live apart = absurd (true≢false apart)
+others_flagged live_flag line _ apart = refl
+
+-- a flag is set
+pub flag_held : (rows : List Row) (line : Line) (f : Flag) (source : ValueSource) → Holds rows line → given f line ≡ false
+    → Holds (with_values (flag_name f) reading.AsWritten source (codes "true" ∷ []) (without (flag_name f) rows)) (flagged f line)
+flag_held rows line f source holds absent =
+    after_first rows line (flagged f line) (flag f) source (codes "true" ∷ []) holds (wanted_flag f line ∙ ap flag_values absent)
+    (wanted_flagged f line) (others_flagged f line)
 
 -- ---- positionals
 
@@ -193,10 +214,34 @@ args_held rows line first ps word source holds =
 abbrev pub flag_text : Bool → Text
 flag_text flag = cond flag (codes "true") (codes "false")
 
--- the rows say what the line says, and the flag has its default
-abbrev pub Finds : List Row → Line → Type 0
-Finds rows line = ((i : Id) → bytes_eq (codes "history") (text_of i) ≡ false → seen (text_of i) rows ≡ shown (wanted line i))
-    × (seen (codes "history") rows ≡ Some (flag_text line.history ∷ [], reading.AsWritten))
+-- an argument is no flag
+abbrev pub IsNoFlag : Id → Type 0
+IsNoFlag i = (f : Flag) → bytes_eq (flag_name f) (text_of i) ≡ false
+
+-- the rows say what the line says, and each flag has its default
+pub record Finds (rows : List Row) (line : Line) : Type 0 where
+  pub others : (i : Id) → IsNoFlag i → seen (text_of i) rows ≡ shown (wanted line i)
+  pub flags : (f : Flag) → seen (flag_name f) rows ≡ Some (flag_text (given f line) ∷ [], reading.AsWritten)
+
+mode_apart : IsNoFlag mode
+mode_apart history_flag = refl
+mode_apart live_flag = refl
+
+args_apart : IsNoFlag args
+args_apart history_flag = refl
+args_apart live_flag = refl
+
+option_apart : (x : Asked) → IsNoFlag (option x)
+option_apart plan history_flag = refl
+option_apart plan live_flag = refl
+option_apart workers history_flag = refl
+option_apart workers live_flag = refl
+option_apart rounds history_flag = refl
+option_apart rounds live_flag = refl
+option_apart keep history_flag = refl
+option_apart keep live_flag = refl
+option_apart trace history_flag = refl
+option_apart trace live_flag = refl
 
 first_shown : (o : Option Text) → option_and_then (λ (p : Values). slice_get p.0 0) (shown (single o)) ≡ o
 first_shown None = refl
@@ -210,26 +255,31 @@ both_parts (p ∷ []) = refl
 both_parts (p ∷ (q ∷ ps)) = refl
 
 value_found : (rows : List Row) (line : Line) → Finds rows line → (i : Id) (o : Option Text)
-    → bytes_eq (codes "history") (text_of i) ≡ false → wanted line i ≡ single o
+    → IsNoFlag i → wanted line i ≡ single o
     → Rattle.clap.specs.Walk.first_of (text_of i) rows ≡ o
 value_found rows line finds i o apart is =
-    first_of-seen (text_of i) rows ∙ ap (option_and_then (λ (p : Values). slice_get p.0 0)) (finds.0 i apart ∙ ap shown is) ∙ first_shown o
+    first_of-seen (text_of i) rows ∙ ap (option_and_then (λ (p : Values). slice_get p.0 0)) (finds.others i apart ∙ ap shown is) ∙ first_shown o
 
-values_found : (rows : List Row) (line : Line) → Finds rows line → (i : Id) → bytes_eq (codes "history") (text_of i) ≡ false
+values_found : (rows : List Row) (line : Line) → Finds rows line → (i : Id) → IsNoFlag i
     → values_in rows (text_of i) ≡ unwrap_or (option_map (λ (p : Values). p.0) (shown (wanted line i))) []
 values_found rows line finds i apart =
     ap (λ (o : Option (List Text)). unwrap_or o []) (all_of-seen (text_of i) rows
-    ∙ ap (option_map (λ (p : Values). p.0)) (finds.0 i apart))
+    ∙ ap (option_map (λ (p : Values). p.0)) (finds.others i apart))
+
+flag_found : (rows : List Row) (line : Line) → Finds rows line → (f : Flag) → IsFlagIn rows (flag_name f) (given f line)
+flag_found rows line finds f = one_of-seen (flag_name f) rows
+    ∙ ap (option_and_then (λ (p : Values). option_map (read_as p.1) (slice_get p.0 0))) (finds.flags f)
 
 pub line_found : (rows : List Row) (line : Line) → Finds rows line → IsLineIn rows line
 line_found rows line finds = record {
-  positionals = ap₂ (λ (a b : List Text). a ++ b) (values_found rows line finds mode refl) (values_found rows line finds args refl)
+  positionals = ap₂ (λ (a b : List Text). a ++ b) (values_found rows line finds mode mode_apart)
+      (values_found rows line finds args args_apart)
       ∙ both_parts line.positionals;
-  plan = value_found rows line finds plan_id line.plan refl refl;
-  workers = value_found rows line finds workers_id line.workers refl refl;
-  rounds = value_found rows line finds rounds_id line.rounds refl refl;
-  keep = value_found rows line finds keep_id line.keep refl refl;
-  trace = value_found rows line finds trace_id line.trace refl refl;
-  history = one_of-seen (codes "history") rows
-      ∙ ap (option_and_then (λ (p : Values). option_map (read_as p.1) (slice_get p.0 0))) finds.1;
+  plan = value_found rows line finds plan_id line.plan (option_apart plan) refl;
+  workers = value_found rows line finds workers_id line.workers (option_apart workers) refl;
+  rounds = value_found rows line finds rounds_id line.rounds (option_apart rounds) refl;
+  keep = value_found rows line finds keep_id line.keep (option_apart keep) refl;
+  trace = value_found rows line finds trace_id line.trace (option_apart trace) refl;
+  history = flag_found rows line finds history_flag;
+  live = flag_found rows line finds live_flag;
 }

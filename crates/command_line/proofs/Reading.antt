@@ -9,15 +9,15 @@ use Rattle.clap.specs.Simple.{App, matches_of, names_of}
 use Rattle.clap.proofs.FaultLemmas.{leaf_fault}
 use Rattle.clap.specs.declared.error.kind.ErrorKind.TheVariants as kind
 use Rattle.text_lines.specs.Words.{is_word}
-use Rattle.command_line.specs.Words.{after_word, assigned, is_dashed, line_after, line_of, no_words, with_dashed, with_flag, with_option, with_positionals}
+use Rattle.command_line.specs.Words.{after_word, assigned, is_dashed, line_after, line_of, no_words, with_dashed, with_history, with_live, with_option, with_positionals}
 use Rattle.command_line.specs.Clap.{has_short, is_short, mill_app}
 use Rattle.command_line.specs.declared.line.Line.{Line}
-use Rattle.command_line.proofs.Rules.{Asked, Id, mode, args, plan, workers, rounds, keep, trace, plan_id, workers_id, rounds_id, keep_id, trace_id, history, built_is, by_long, by_long-history, name_of, rule_of, rules, shape, text_of}
+use Rattle.command_line.proofs.Rules.{Asked, Id, mode, args, plan, workers, rounds, keep, trace, plan_id, workers_id, rounds_id, keep_id, trace_id, history, live, Flag, history_flag, live_flag, built_is, by_long, by_long-flag, flag_name, flag_with, name_of, rule_of, rules, shape, text_of}
 use Rattle.command_line.proofs.Rules as ours
-use Rattle.command_line.proofs.Lines.{Holds, flagged, value_of, with_ps, with_value}
+use Rattle.command_line.proofs.Lines.{Holds, flagged, given, value_of, with_ps, with_value}
 use Rattle.command_line.proofs.Steps.{Fails, IsPlain, Pending, Reads, ReadsAt, at, at_end, at_word, begun_turn, begun_walked, end_turn, end_walked, end_word, fails_first, fails_then, fault_from, flag_turn, flag_walked, given_turn, given_walked, held, id_next, is_free, long_fails, long_settles, past_word, place, plain_turn, plain_walked, trailing_turn, trailing_walked, value_fault, value_taken, value_turn, value_walked, wait_is_free, wait_next}
 use Rattle.command_line.proofs.States.{Stands, end_reads, flag_fails, flag_passes, flag_says, option_fails, option_passes, option_says, pending_fails, pending_stands, positional_stands, waiting_fails}
-use Rattle.command_line.proofs.Forms.{Cut, Form, IsUnknown, Named, a_flag, a_long, a_plain, a_short, an_end, asks, cut_of, dashed, form_of, named, never_read, next_word, no_word, option_again, option_first, parts, text_tells, unknown, whole}
+use Rattle.command_line.proofs.Forms.{Cut, Form, NamesNoFlag, IsUnknown, Named, a_flag, a_long, a_plain, a_short, an_end, asks, cut_of, dashed, flag_alone, flag_first, form_of, named, never_read, next_word, no_word, option_again, option_first, parts, text_tells, unknown, whole}
 
 -- ---- behind `--`
 
@@ -142,18 +142,30 @@ same_place rounds v line = refl
 same_place keep v line = refl
 same_place trace v line = refl
 
-no_flag_name : (x : Asked) → is_word (dashed (name_of x)) (codes "--history") ≡ false
-no_flag_name plan = refl
-no_flag_name workers = refl
-no_flag_name rounds = refl
-no_flag_name keep = refl
-no_flag_name trace = refl
+-- nor does a flag
+same_place-flag : (f : Flag) (line : Line) → place (flagged f line).positionals ≡ place line.positionals
+same_place-flag history_flag line = refl
+same_place-flag live_flag line = refl
 
-no_flag_parts : (text : Text) → has_byte 61 text ≡ true → is_word (dashed text) (codes "--history") ≡ false
-no_flag_parts text has = elim (text_tells text (codes "history")) [
-  | inl e ↦ absurd (true≢false (sym has ∙ ap (has_byte 61) e))
+no_flag_name : (x : Asked) → NamesNoFlag (name_of x)
+no_flag_name plan = record { no_history = refl; no_live = refl }
+no_flag_name workers = record { no_history = refl; no_live = refl }
+no_flag_name rounds = record { no_history = refl; no_live = refl }
+no_flag_name keep = record { no_history = refl; no_live = refl }
+no_flag_name trace = record { no_history = refl; no_live = refl }
+
+-- a text with `=` is another than one without
+other_parts : (text name : Text) → has_byte 61 text ≡ true → has_byte 61 name ≡ false → bytes_eq text name ≡ false
+other_parts text name has none = elim (text_tells text name) [
+  | inl e ↦ absurd (true≢false (sym has ∙ ap (has_byte 61) e ∙ none))
   | inr apart ↦ apart.0
 ]
+
+no_flag_parts : (text : Text) → has_byte 61 text ≡ true → NamesNoFlag text
+no_flag_parts text has = record {
+  no_history = other_parts text (codes "history") has refl;
+  no_live = other_parts text (codes "live") has refl;
+}
 
 -- what comes of a line that the grammar equals to another
 as_line : (a b : Option Line) (w : Walk) (words : List Text) → a ≡ b → ReadsAt b w words → ReadsAt a w words
@@ -185,8 +197,9 @@ module _ (words : List Text) (on : ReadsOn words) (rows : List Row) (pending : P
       (positional_stands ps line (settled_rows rules pending rows) word stands.says) (wait_is_free ps)) in
       let said : after_word word None line ≡ Some (more, None) =
       ap (λ b. cond (not b) (Some (with_positionals (word ∷ []) line, None))
-      (cond (is_word word (codes "--history")) (option_map (λ l. (l, None)) (with_flag line))
-      (with_dashed word (assigned word) line))) no_dash in
+      (cond (is_word word (codes "--history")) (option_map (λ l. (l, None)) (with_history line))
+      (cond (is_word word (codes "--live")) (option_map (λ l. (l, None)) (with_live line))
+      (with_dashed word (assigned word) line)))) no_dash in
       as_line (line_after (word ∷ words) None line) (line_after words None more) here (word ∷ words)
       (next_word word words None line (more, None) plain.no_end said)
       (past_word (line_after words None more) here (at (settled_rows rules pending rows) after (wait_next ps) 2 false) word words
@@ -214,15 +227,12 @@ module _ (words : List Text) (on : ReadsOn words) (rows : List Row) (pending : P
         (next_word (dashed (x ∷ xs)) words None line (next, said) refl says)
         (past_word (line_after words said next) here after (dashed (x ∷ xs)) words turn is reads)
 
-    by_flag : (b : Bool) → is_word (dashed (x ∷ xs)) (codes "--history") ≡ b
-        → after_word (dashed (x ∷ xs)) None line
-        ≡ cond b (option_map (λ l. (l, None)) (with_flag line)) (with_dashed (dashed (x ∷ xs)) (assigned (dashed (x ∷ xs))) line)
-    by_flag b is = ap (λ b. cond b (option_map (λ l. (l, None)) (with_flag line))
-        (with_dashed (dashed (x ∷ xs)) (assigned (dashed (x ∷ xs))) line)) is
-
-    by_parts : (o : Option (Text × Text)) → is_word (dashed (x ∷ xs)) (codes "--history") ≡ false → assigned (dashed (x ∷ xs)) ≡ o
+    by_parts : (o : Option (Text × Text)) → NamesNoFlag (x ∷ xs) → assigned (dashed (x ∷ xs)) ≡ o
         → after_word (dashed (x ∷ xs)) None line ≡ with_dashed (dashed (x ∷ xs)) o line
-    by_parts o no_flag is = by_flag false no_flag ∙ ap (λ o. with_dashed (dashed (x ∷ xs)) o line) is
+    by_parts o no_flag is =
+        ap₂ (λ a b. cond a (option_map (λ l. (l, None)) (with_history line)) (cond b (option_map (λ l. (l, None)) (with_live line))
+        (with_dashed (dashed (x ∷ xs)) (assigned (dashed (x ∷ xs))) line))) no_flag.no_history no_flag.no_live
+        ∙ ap (λ o. with_dashed (dashed (x ∷ xs)) o line) is
 
     -- with no `=`
     module _ (is_long : long_of (dashed (x ∷ xs)) ≡ Some (x ∷ xs, None)) (no_parts : assigned (dashed (x ∷ xs)) ≡ None) where
@@ -230,8 +240,7 @@ module _ (words : List Text) (on : ReadsOn words) (rows : List Row) (pending : P
       begun_read y same =
           let p = place line.positionals in
           let found : arg_by_long rules (x ∷ xs) ≡ Some (rule_of (ours.option y)) = ap (arg_by_long rules) same ∙ by_long y in
-          let no_flag : is_word (dashed (x ∷ xs)) (codes "--history") ≡ false = ap (λ t. is_word (dashed t) (codes "--history")) same
-          ∙ no_flag_name y in
+          let no_flag : NamesNoFlag (x ∷ xs) = subst NamesNoFlag (sym same) (no_flag_name y) in
           let after = at (settled_rows rules pending rows) (Some (name_of y, [])) (option (name_of y)) p false in
           passed line (Some (dashed (x ∷ xs))) after (by_parts None no_flag no_parts)
           (begun_turn (dashed (x ∷ xs)) (x ∷ xs) refl is_long rows pending waiting p y found ∙ ap (λ k. or_else k []) stands.passes)
@@ -239,38 +248,41 @@ module _ (words : List Text) (on : ReadsOn words) (rows : List Row) (pending : P
           (as_line (line_after words (Some (dashed (x ∷ xs))) line) (line_after words (Some (dashed (name_of y))) line) after words
           (ap (λ t. line_after words (Some (dashed t)) line) same) (on.begun y (settled_rows rules pending rows) line stands.says))
 
-      flag_read : x ∷ xs ≡ codes "history" → ReadsFree (dashed (x ∷ xs) ∷ words) rows pending waiting line
-      flag_read same = go line.history refl
+      flag_read : (f : Flag) → x ∷ xs ≡ flag_name f → ReadsFree (dashed (x ∷ xs) ∷ words) rows pending waiting line
+      flag_read f same = go (given f line) refl
         where
-          found : arg_by_long rules (x ∷ xs) ≡ Some (rule_of history)
-          found = ap (arg_by_long rules) same ∙ by_long-history
+          found : arg_by_long rules (x ∷ xs) ≡ Some (flag_with (flag_name f))
+          found = ap (arg_by_long rules) same ∙ by_long-flag f
 
-          says : (b : Bool) → line.history ≡ b
-              → after_word (dashed (x ∷ xs)) None line ≡ option_map (λ l. (l, None)) (cond b None (Some (flagged line)))
-          says b is = by_flag true (ap (λ t. is_word (dashed t) (codes "--history")) same)
-              ∙ ap (λ b. option_map (λ l. (l, None)) (cond b None (Some (flagged line)))) is
+          says : (b : Bool) → given f line ≡ b
+              → after_word (dashed (x ∷ xs)) None line ≡ option_map (λ l. (l, None)) (cond b None (Some (flagged f line)))
+          says b is = ap (λ t. after_word (dashed t) None line) same ∙ flag_first f line
+              ∙ ap (λ b. option_map (λ l. (l, None)) (cond b None (Some (flagged f line)))) is
 
           turn : turn_fault shape [] (from_line rows pending waiting line) (dashed (x ∷ xs))
               ≡ or_else (or_else (settle_fault rules false (held rows pending))
-              (use_fault false (rule_of history) [] (settled_rows rules pending rows))) []
-          turn = flag_turn (dashed (x ∷ xs)) (x ∷ xs) refl is_long rows pending waiting (place line.positionals) found
+              (use_fault false (flag_with (flag_name f)) [] (settled_rows rules pending rows))) []
+          turn = flag_turn (dashed (x ∷ xs)) (x ∷ xs) refl is_long rows pending waiting (place line.positionals) (flag_name f) found
 
-          go : (b : Bool) → line.history ≡ b → ReadsFree (dashed (x ∷ xs) ∷ words) rows pending waiting line
+          go : (b : Bool) → given f line ≡ b → ReadsFree (dashed (x ∷ xs) ∷ words) rows pending waiting line
           go true is =
-              let uses = use_fault false (rule_of history) [] (settled_rows rules pending rows) in
+              let uses = use_fault false (flag_with (flag_name f)) [] (settled_rows rules pending rows) in
               let settle = settle_fault rules false (held rows pending) in
               refused (no_word (dashed (x ∷ xs)) words None line refl (says true is))
               (subst Fails (sym turn)
               (fails_first (or_else settle uses) []
-              (fails_then settle uses (flag_fails (settled_rows rules pending rows) line stands.says is))))
+              (fails_then settle uses (flag_fails (settled_rows rules pending rows) line f stands.says is))))
           go false is =
-              let rows' = used (rule_of history) [] (settled_rows rules pending rows) in
-              passed (flagged line) None (at rows' None idle (place line.positionals) false) (says false is)
+              let rows' = used (flag_with (flag_name f)) [] (settled_rows rules pending rows) in
+              let more = flagged f line in
+              passed more None (at rows' None idle (place line.positionals) false) (says false is)
               (turn ∙ ap₂ (λ a b. or_else (or_else a b) []) stands.passes
-              (flag_passes (settled_rows rules pending rows) line stands.says is))
-              (flag_walked (dashed (x ∷ xs)) (x ∷ xs) refl is_long rows pending waiting (place line.positionals) found)
-              (on.free rows' None idle (flagged line)
-              (record { says = flag_says (settled_rows rules pending rows) line stands.says is; passes = refl }) refl)
+              (flag_passes (settled_rows rules pending rows) line f stands.says is))
+              (flag_walked (dashed (x ∷ xs)) (x ∷ xs) refl is_long rows pending waiting (place line.positionals) (flag_name f) found)
+              (at_place (line_after words None more) rows' None idle (place more.positionals) (place line.positionals) false words
+              (same_place-flag f line)
+              (on.free rows' None idle more
+              (record { says = flag_says (settled_rows rules pending rows) line f stands.says is; passes = refl }) refl))
 
       unknown_read : IsUnknown (x ∷ xs) → ReadsFree (dashed (x ∷ xs) ∷ words) rows pending waiting line
       unknown_read none =
@@ -284,7 +296,7 @@ module _ (words : List Text) (on : ReadsOn words) (rows : List Row) (pending : P
     -- with its value behind the first `=`
     module _ (name v : Text) (is_long : long_of (dashed (x ∷ xs)) ≡ Some (name, Some v)) (is_cut : assigned (dashed (x ∷ xs))
         ≡ Some (dashed name, v))
-        (no_flag : is_word (dashed (x ∷ xs)) (codes "--history") ≡ false) where
+        (no_flag : NamesNoFlag (x ∷ xs)) where
       given_read : (y : Asked) → name ≡ name_of y → ReadsFree (dashed (x ∷ xs) ∷ words) rows pending waiting line
       given_read y same = go (value_of y line) refl
         where
@@ -343,17 +355,17 @@ module _ (words : List Text) (on : ReadsOn words) (rows : List Row) (pending : P
         at_name : (o : Option Text) → Named (x ∷ xs) → long_of (dashed (x ∷ xs)) ≡ Some (x ∷ xs, None) → assigned (dashed (x ∷ xs)) ≡ None
             → ReadsFree (dashed (x ∷ xs) ∷ words) rows pending waiting line
         at_name o (asks y same) is none = begun_read is none y same
-        at_name o (a_flag same) is none = flag_read is none same
+        at_name o (a_flag f same) is none = flag_read is none f same
         at_name o (unknown none_such) is none = unknown_read is none none_such
 
         at_parts : (name v : Text) → Named name → long_of (dashed (x ∷ xs)) ≡ Some (name, Some v)
             → assigned (dashed (x ∷ xs)) ≡ Some (dashed name, v)
-            → is_word (dashed (x ∷ xs)) (codes "--history") ≡ false
+            → NamesNoFlag (x ∷ xs)
             → ReadsFree (dashed (x ∷ xs) ∷ words) rows pending waiting line
         at_parts name v (asks y same) is cut no_flag = given_read name v is cut no_flag y same
-        at_parts name v (a_flag same) is cut no_flag =
-            none_read name v is cut no_flag (ap (λ t. with_option (dashed t) v line) same) (Some (rule_of history))
-            (ap (arg_by_long rules) same ∙ by_long-history) too_many
+        at_parts name v (a_flag f same) is cut no_flag =
+            none_read name v is cut no_flag (ap (λ t. with_option (dashed t) v line) same ∙ flag_alone f v line)
+            (Some (flag_with (flag_name f))) (ap (arg_by_long rules) same ∙ by_long-flag f) too_many
         at_parts name v (unknown none_such) is cut no_flag =
             none_read name v is cut no_flag (none_such.no_option v line) None none_such.not_found no_such
 
@@ -479,6 +491,7 @@ no_rows rounds_id = refl
 no_rows keep_id = refl
 no_rows trace_id = refl
 no_rows history = refl
+no_rows live = refl
 
 -- where no short word stands before the first `--`, `clap` takes the words that are a line, and finds that line
 pub clap_reads : (words : List Text) → has_short words ≡ false

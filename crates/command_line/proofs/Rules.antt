@@ -17,6 +17,11 @@ pub data Asked : Type 0 where
   keep : Asked
   trace : Asked
 
+-- one of the flags
+pub data Flag : Type 0 where
+  history_flag : Flag
+  live_flag : Flag
+
 -- one of the arguments
 pub data Id : Type 0 where
   mode : Id
@@ -27,6 +32,7 @@ pub data Id : Type 0 where
   keep_id : Id
   trace_id : Id
   history : Id
+  live : Id
 
 abbrev pub option : Asked → Id
 option plan = plan_id
@@ -34,6 +40,10 @@ option workers = workers_id
 option rounds = rounds_id
 option keep = keep_id
 option trace = trace_id
+
+abbrev pub flag : Flag → Id
+flag history_flag = history
+flag live_flag = live
 
 abbrev pub text_of : Id → Text
 text_of mode = codes "mode"
@@ -44,9 +54,13 @@ text_of rounds_id = codes "rounds"
 text_of keep_id = codes "keep"
 text_of trace_id = codes "trace"
 text_of history = codes "history"
+text_of live = codes "live"
 
 abbrev pub name_of : Asked → Text
 name_of x = text_of (option x)
+
+abbrev pub flag_name : Flag → Text
+flag_name f = text_of (flag f)
 
 abbrev one : ValueRange
 one = record { start_inclusive = 1; end_inclusive = 1 }
@@ -57,6 +71,16 @@ no_value = record { start_inclusive = 0; end_inclusive = 0 }
 abbrev option_with : Text → Rule
 option_with name = record (new_rule name) { long = Some name; action = Some Set; parser = Some parsers.String; range = Some one }
 
+abbrev pub flag_with : Text → Rule
+flag_with name = record (new_rule name) {
+  long = Some name;
+  action = Some SetTrue;
+  parser = Some parsers.Bool;
+  range = Some no_value;
+  defaults = codes "false" ∷ [];
+  missing = codes "true" ∷ [];
+}
+
 abbrev pub rule_of : Id → Rule
 rule_of mode = record (new_rule (codes "mode")) { index = Some 1; action = Some Set; parser = Some parsers.String; range = Some one }
 rule_of args = record (new_rule (codes "args")) { index = Some 2; action = Some Append; parser = Some parsers.String; range = Some one }
@@ -65,19 +89,13 @@ rule_of workers_id = option_with (codes "workers")
 rule_of rounds_id = option_with (codes "rounds")
 rule_of keep_id = option_with (codes "keep")
 rule_of trace_id = option_with (codes "trace")
-rule_of history = record (new_rule (codes "history")) {
-  long = Some (codes "history");
-  action = Some SetTrue;
-  parser = Some parsers.Bool;
-  range = Some no_value;
-  defaults = codes "false" ∷ [];
-  missing = codes "true" ∷ [];
-}
+rule_of history = flag_with (codes "history")
+rule_of live = flag_with (codes "live")
 
 unfoldable pub rules : List Rule
 rules =
     rule_of mode ∷ rule_of args ∷ rule_of plan_id ∷ rule_of workers_id ∷ rule_of rounds_id ∷ rule_of keep_id
-    ∷ rule_of trace_id ∷ rule_of history ∷ []
+    ∷ rule_of trace_id ∷ rule_of history ∷ rule_of live ∷ []
 
 abbrev pub shape : Shape
 shape = record (new_shape (codes "millwheel")) {
@@ -105,6 +123,7 @@ by_id rounds_id = refl
 by_id keep_id = refl
 by_id trace_id = refl
 by_id history = refl
+by_id live = refl
 
 pub by_long : (x : Asked) → arg_by_long rules (name_of x) ≡ Some (rule_of (option x))
 unfolding rules
@@ -114,9 +133,10 @@ by_long rounds = refl
 by_long keep = refl
 by_long trace = refl
 
-pub by_long-history : arg_by_long rules (codes "history") ≡ Some (rule_of history)
+pub by_long-flag : (f : Flag) → arg_by_long rules (flag_name f) ≡ Some (flag_with (flag_name f))
 unfolding rules
-by_long-history = refl
+by_long-flag history_flag = refl
+by_long-flag live_flag = refl
 
 pub first_place : arg_by_index rules 1 ≡ Some (rule_of mode)
 unfolding rules
@@ -136,4 +156,5 @@ same_or_other rounds_id rounds_id = inl refl
 same_or_other keep_id keep_id = inl refl
 same_or_other trace_id trace_id = inl refl
 same_or_other history history = inl refl
+same_or_other live live = inl refl
 same_or_other _ _ = inr refl

@@ -1,12 +1,12 @@
 -- No line of the grammar has a word that begins with one `-` alone before its first `--`.
-use Rattle.std.proofs.Common.{◌≡◌, ◌∙◌, ◌&&◌, ◌||◌, ◌+◌, inl, inr, Bool, true, false, true≢false, not, cond, ℕ, zero, suc, arith, List, [], ◌∷◌, Option, Some, None, refl, sym, ap, subst, option_map, take, drop, length, nat_lt, codes}
+use Rattle.std.proofs.Common.{◌≡◌, ◌∙◌, ◌&&◌, ◌||◌, ◌+◌, inl, inr, Bool, true, false, true≢false, not, cond, ℕ, zero, suc, arith, List, [], ◌∷◌, Option, Some, None, refl, sym, ap, ap₂, subst, option_map, take, drop, length, nat_lt, codes}
 use Rattle.std.proofs.lemmas.Bool.Decides.{eqb_tells}
 use Rattle.std.specs.List.{position_or_len}
 use Rattle.std.specs.Prelude.{option_and_then}
 use Rattle.std.specs.Str.{bytes_eq}
 use Rattle.clap.specs.Walk.{Text}
 use Rattle.text_lines.specs.Words.{is_word}
-use Rattle.command_line.specs.Words.{after_word, assigned, is_dashed, is_end, is_equals, line_after, with_dashed, with_flag, with_option, with_positionals}
+use Rattle.command_line.specs.Words.{after_word, assigned, is_dashed, is_end, is_equals, line_after, with_dashed, with_history, with_live, with_option, with_positionals}
 use Rattle.command_line.specs.Clap.{has_short, is_short}
 use Rattle.command_line.specs.declared.line.Line.{Line}
 use Rattle.command_line.proofs.Forms.{never_read, set_by}
@@ -19,9 +19,14 @@ no_option (c ∷ cs) no_dash v line =
     (no_dash i && bytes_eq cs (codes "rounds"))
     (no_dash i && bytes_eq cs (codes "keep")) (no_dash i && bytes_eq cs (codes "trace")) v line
 
-no_flag : (name : Text) → is_dashed name ≡ false → is_word (45 ∷ name) (codes "--history") ≡ false
-no_flag [] no_dash = refl
-no_flag (c ∷ cs) no_dash = ap (λ b. b && bytes_eq cs (codes "history")) no_dash
+-- nor has a flag
+no_history : (name : Text) → is_dashed name ≡ false → is_word (45 ∷ name) (codes "--history") ≡ false
+no_history [] no_dash = refl
+no_history (c ∷ cs) no_dash = ap (λ b. b && bytes_eq cs (codes "history")) no_dash
+
+no_live : (name : Text) → is_dashed name ≡ false → is_word (45 ∷ name) (codes "--live") ≡ false
+no_live [] no_dash = refl
+no_live (c ∷ cs) no_dash = ap (λ b. b && bytes_eq cs (codes "live")) no_dash
 
 no_end : (name : Text) → is_dashed name ≡ false → is_word (45 ∷ name) (codes "--") ≡ false
 no_end [] no_dash = refl
@@ -57,8 +62,9 @@ short_refused cs words (Some name) line no_dash = refl
 short_refused cs words None line no_dash =
     ap (λ b. cond b (Some (with_positionals words line))
     (option_and_then (λ (n : Line × Option Text). line_after words n.1 n.0) (after_word (45 ∷ cs) None line))) (no_end cs no_dash)
-    ∙ ap (λ b. option_and_then (λ (n : Line × Option Text). line_after words n.1 n.0)
-    (cond b (option_map (λ l. (l, None)) (with_flag line)) (with_dashed (45 ∷ cs) (assigned (45 ∷ cs)) line))) (no_flag cs no_dash)
+    ∙ ap₂ (λ a b. option_and_then (λ (n : Line × Option Text). line_after words n.1 n.0)
+    (cond a (option_map (λ l. (l, None)) (with_history line)) (cond b (option_map (λ l. (l, None)) (with_live line))
+    (with_dashed (45 ∷ cs) (assigned (45 ∷ cs)) line)))) (no_history cs no_dash) (no_live cs no_dash)
     ∙ short_after cs words line no_dash
 
 -- a word before the first `--` that is short, or is followed by such a one

@@ -2,6 +2,7 @@
 use Rattle.std.proofs.Common.{◌≡◌, ◌∙◌, ◌++◌, ◌&&◌, ◌||◌, Bool, ℕ, true, false, cond, List, [], ◌∷◌, Option, Some, None, refl, sym, ap, subst, is_some, codes}
 use Rattle.std.specs.List.{fold}
 use Rattle.std.specs.Option.{option_map_or, unwrap_or}
+use Rattle.std.specs.Str.{bytes_eq}
 use Rattle.clap.specs.Walk.{Row, Rule, Text, Waiting, default_rows, finished, has_row, is_empty, reading_by, settled_rows, used, used_by_id, with_default, with_values, without}
 use Rattle.clap.specs.Faults.{check_fault, defaults_fault, given_default_fault, repeat_fault, settle_fault, use_fault, walk_fault}
 use Rattle.clap.specs.Kinds.{or_else}
@@ -9,9 +10,9 @@ use Rattle.clap.specs.declared.builder.value_parser.Reading.TheVariants as readi
 use Rattle.clap.specs.declared.parser.matches.ValueSource.TheVariants as source
 use Rattle.clap.specs.declared.error.kind.ErrorKind.TheVariants as kind
 use Rattle.command_line.specs.declared.line.Line.{Line}
-use Rattle.command_line.proofs.Rules.{Asked, plan, workers, rounds, keep, trace, Id, mode, args, plan_id, workers_id, rounds_id, keep_id, trace_id, history, by_id, name_of, option, rule_of, rules, shape, text_of}
-use Rattle.command_line.proofs.Rows.{Values, has_row-seen, more, seen-other, seen-more}
-use Rattle.command_line.proofs.Lines.{Finds, Holds, args_held, flag_held, flag_text, flag_values, flagged, line_found, mode_held, option_held, shown, single, some_shown, value_of, wanted, wanted_option, with_ps, with_value}
+use Rattle.command_line.proofs.Rules.{Asked, plan, workers, rounds, keep, trace, Id, mode, args, plan_id, workers_id, rounds_id, keep_id, trace_id, history, live, Flag, history_flag, live_flag, by_id, flag, flag_name, flag_with, name_of, option, rule_of, rules, shape, text_of}
+use Rattle.command_line.proofs.Rows.{Values, has_row-seen, more, seen, seen-other, seen-more}
+use Rattle.command_line.proofs.Lines.{Finds, Holds, args_held, IsNoFlag, flag_held, flag_text, flag_values, flagged, given, line_found, mode_held, option_held, shown, single, some_shown, value_of, wanted, wanted_flag, wanted_option, with_ps, with_value}
 use Rattle.command_line.proofs.Steps.{Fails, Pending, Reads, at, fault_from, held, id_next, rows_from}
 
 -- the rows, with what is pending, say what the line says, and nothing that is pending is refused
@@ -25,6 +26,9 @@ row_is rows line i holds = has_row-seen (text_of i) rows ∙ ap is_some (holds i
 some_single : (o : Option Text) → is_some (single o) ≡ is_some o
 some_single None = refl
 some_single (Some v) = refl
+
+flag_row : (rows : List Row) (line : Line) (f : Flag) → Holds rows line → has_row (flag_name f) rows ≡ is_some (flag_values (given f line))
+flag_row rows line f holds = row_is rows line (flag f) holds ∙ ap is_some (wanted_flag f line)
 
 option_row : (rows : List Row) (line : Line) (x : Asked) → Holds rows line → has_row (name_of x) rows ≡ is_some (value_of x line)
 option_row rows line x holds = row_is rows line (option x) holds ∙ ap is_some (wanted_option x line) ∙ some_single (value_of x line)
@@ -95,17 +99,17 @@ waiting_fails rows x = subst Fails (sym (ap (λ o. option_map_or (λ a. use_faul
     empty keep = λ e. cc
     empty trace = λ e. cc
 
--- ---- the flag
+-- ---- a flag
 
-module _ (rows : List Row) (line : Line) (holds : Holds rows line) where
-  pub flag_says : line.history ≡ false → Holds (used (rule_of history) [] rows) (flagged line)
-  flag_says absent = flag_held rows line source.CommandLine holds absent
+module _ (rows : List Row) (line : Line) (f : Flag) (holds : Holds rows line) where
+  pub flag_says : given f line ≡ false → Holds (used (flag_with (flag_name f)) [] rows) (flagged f line)
+  flag_says absent = flag_held rows line f source.CommandLine holds absent
 
-  pub flag_passes : line.history ≡ false → use_fault false (rule_of history) [] rows ≡ []
-  flag_passes absent = absent_passes (codes "history") rows (row_is rows line history holds ∙ ap (λ b. is_some (flag_values b)) absent)
+  pub flag_passes : given f line ≡ false → use_fault false (flag_with (flag_name f)) [] rows ≡ []
+  flag_passes absent = absent_passes (flag_name f) rows (flag_row rows line f holds ∙ ap (λ b. is_some (flag_values b)) absent)
 
-  pub flag_fails : line.history ≡ true → Fails (use_fault false (rule_of history) [] rows)
-  flag_fails given = repeat_fails (codes "history") rows (row_is rows line history holds ∙ ap (λ b. is_some (flag_values b)) given)
+  pub flag_fails : given f line ≡ true → Fails (use_fault false (flag_with (flag_name f)) [] rows)
+  flag_fails is = repeat_fails (flag_name f) rows (flag_row rows line f holds ∙ ap (λ b. is_some (flag_values b)) is)
 
 -- ---- a positional
 
@@ -148,8 +152,11 @@ past_default : (a : Rule) (rows : List Row) (rest : List Rule) → a.defaults �
     → fold with_default rows (a ∷ rest) ≡ fold with_default rows rest
 past_default a rows rest none = ap (λ r. fold with_default r rest) (no_default a rows none)
 
+abbrev from_live : List Rule
+from_live = rule_of live ∷ []
+
 abbrev from_history : List Rule
-from_history = rule_of history ∷ []
+from_history = rule_of history ∷ from_live
 
 abbrev from_trace : List Rule
 from_trace = rule_of trace_id ∷ from_history
@@ -169,13 +176,22 @@ from_plan = rule_of plan_id ∷ from_workers
 abbrev from_args : List Rule
 from_args = rule_of args ∷ from_plan
 
-flag_default : (rows : List Row) → defaults_fault rows from_history ≡ []
+flag_default : (id : Text) (rows : List Row) (rest : List Rule)
+    → defaults_fault rows (flag_with id ∷ rest) ≡ defaults_fault (with_default rows (flag_with id)) rest
 unfolding defaults_fault
-flag_default rows = go (has_row (codes "history") rows)
+flag_default id rows rest = ap (λ k. or_else k (defaults_fault (with_default rows (flag_with id)) rest)) (go (has_row id rows))
   where
-    go : (b : Bool) → or_else (cond (b || false) [] (given_default_fault (rule_of history) (codes "false" ∷ []))) [] ≡ []
+    go : (b : Bool) → cond (b || false) [] (given_default_fault (flag_with id) (codes "false" ∷ [])) ≡ []
     go true = refl
     go false = refl
+
+no_rules : (rows : List Row) → defaults_fault rows [] ≡ []
+unfolding defaults_fault
+no_rules rows = refl
+
+-- the rows after the defaults of the flags
+abbrev with_flags : List Row → List Row
+with_flags rows = with_default (with_default rows (rule_of history)) (rule_of live)
 
 defaults_pass : (rows : List Row) → defaults_fault rows rules ≡ []
 unfolding rules
@@ -184,9 +200,11 @@ defaults_pass rows =
     ∙ no_default_fault (rule_of plan_id) rows from_workers refl ∙ no_default_fault (rule_of workers_id) rows from_rounds refl
     ∙ no_default_fault (rule_of rounds_id) rows from_keep refl ∙ no_default_fault (rule_of keep_id) rows from_trace refl
     ∙ no_default_fault (rule_of trace_id) rows from_history refl
-    ∙ flag_default rows
+    ∙ flag_default (codes "history") rows from_live
+    ∙ flag_default (codes "live") (with_default rows (rule_of history)) []
+    ∙ no_rules (with_flags rows)
 
-defaults_are : (rows : List Row) → fold with_default rows rules ≡ with_default rows (rule_of history)
+defaults_are : (rows : List Row) → fold with_default rows rules ≡ with_flags rows
 unfolding rules
 defaults_are rows =
     past_default (rule_of mode) rows from_args refl ∙ past_default (rule_of args) rows from_plan refl
@@ -198,31 +216,47 @@ none_required : (rows : List Row) → check_fault shape rows false ≡ []
 unfolding rules
 none_required rows = refl
 
-default_finds : (rows : List Row) (line : Line) → Holds rows line → Finds (with_default rows (rule_of history)) line
-default_finds rows line holds = go line.history refl
+-- the rows with the default of a flag, unless it is given
+abbrev to_default : Text → List Row → Bool → List Row
+to_default id rows b = cond b rows (with_values id reading.AsWritten source.DefaultValue (codes "false" ∷ []) rows)
+
+module _ (id : Text) (rows : List Row) where
+  default_is : (b : Bool) → has_row id rows ≡ b → with_default rows (flag_with id) ≡ to_default id rows b
+  default_is b e = ap (to_default id rows) e
+
+  -- a flag that is not given has its default
+  default_seen : (b : Bool) → seen id rows ≡ shown (flag_values b)
+      → seen id (with_default rows (flag_with id)) ≡ Some (flag_text b ∷ [], reading.AsWritten)
+  default_seen true is =
+      ap (seen id) (default_is true (has_row-seen id rows ∙ ap is_some is)) ∙ is
+  default_seen false is =
+      ap (seen id) (default_is false (has_row-seen id rows ∙ ap is_some is))
+      ∙ seen-more id reading.AsWritten source.DefaultValue (codes "false" ∷ []) rows
+      ∙ ap (λ (o : Option Values). Some (more (codes "false" ∷ []) (unwrap_or o ([], reading.AsWritten)))) is
+
+  -- and another argument what it had
+  default_other : (j : Text) → bytes_eq id j ≡ false → seen j (with_default rows (flag_with id)) ≡ seen j rows
+  default_other j apart = go (has_row id rows)
+    where
+      go : (b : Bool) → seen j (to_default id rows b) ≡ seen j rows
+      go true = refl
+      go false = seen-other id j reading.AsWritten source.DefaultValue (codes "false" ∷ []) rows apart
+
+default_finds : (rows : List Row) (line : Line) → Holds rows line → Finds (with_flags rows) line
+default_finds rows line holds = record { others = other; flags = flags }
   where
-    row : has_row (codes "history") rows ≡ is_some (flag_values line.history)
-    row = row_is rows line history holds
+    first : List Row
+    first = with_default rows (rule_of history)
 
-    to_default : (b : Bool) → List Row
-    to_default b = cond b rows (with_values (codes "history") reading.AsWritten source.DefaultValue (codes "false" ∷ []) rows)
+    other : (i : Id) → IsNoFlag i → seen (text_of i) (with_flags rows) ≡ shown (wanted line i)
+    other i apart = default_other (codes "live") first (text_of i) (apart live_flag)
+        ∙ default_other (codes "history") rows (text_of i) (apart history_flag) ∙ holds i
 
-    default_is : (b : Bool) → has_row (codes "history") rows ≡ b → with_default rows (rule_of history) ≡ to_default b
-    default_is b e = ap to_default e
-
-    go : (b : Bool) → line.history ≡ b → Finds (with_default rows (rule_of history)) line
-    go true e = subst (λ r. Finds r line) (sym (default_is true (row ∙ ap (λ b. is_some (flag_values b)) e))) (
-      λ i apart. holds i,
-      holds history ∙ ap (λ b. shown (flag_values b)) e
-          ∙ sym (ap (λ b. Some (flag_text b ∷ [], reading.AsWritten)) e),
-    )
-    go false e = subst (λ r. Finds r line) (sym (default_is false (row ∙ ap (λ b. is_some (flag_values b)) e))) (
-      λ i apart. seen-other (codes "history") (text_of i) reading.AsWritten source.DefaultValue (codes "false" ∷ []) rows apart ∙ holds i,
-      seen-more (codes "history") reading.AsWritten source.DefaultValue (codes "false" ∷ []) rows
-          ∙ ap (λ (o : Option Values). Some (more (codes "false" ∷ []) (unwrap_or o ([], reading.AsWritten)))) (holds history
-          ∙ ap (λ b. shown (flag_values b)) e)
-          ∙ sym (ap (λ b. Some (flag_text b ∷ [], reading.AsWritten)) e),
-    )
+    flags : (f : Flag) → seen (flag_name f) (with_flags rows) ≡ Some (flag_text (given f line) ∷ [], reading.AsWritten)
+    flags history_flag = default_other (codes "live") first (codes "history") refl
+        ∙ default_seen (codes "history") rows line.history (holds history)
+    flags live_flag = default_seen (codes "live") first line.live
+        (default_other (codes "history") rows (codes "live") refl ∙ holds live)
 
 -- where nothing is refused, the end of the words is the line
 pub end_reads : (rows : List Row) (pending : Pending) (waiting : Waiting) (p : ℕ) (t : Bool) (line : Line) → Stands rows pending line

@@ -10,7 +10,7 @@ use Rattle.clap.specs.Kinds.{Kinds, or_else}
 use Rattle.clap.specs.declared.error.kind.ErrorKind.TheVariants as kind
 use Rattle.command_line.specs.Clap.{IsLineIn}
 use Rattle.command_line.specs.declared.line.Line.{Line}
-use Rattle.command_line.proofs.Rules.{Asked, Id, mode, args, by_id, by_long, by_long-history, first_place, history, name_of, rule_of, rules, second_place, shape, text_of}
+use Rattle.command_line.proofs.Rules.{Asked, Id, mode, args, by_id, by_long, first_place, flag_with, name_of, rule_of, rules, second_place, shape, text_of}
 use Rattle.command_line.proofs.Rules as ours
 
 -- ---- kinds of error
@@ -346,20 +346,20 @@ module _ (word name : Text) (no_end : bytes_eq word end_word ≡ false) (is_long
     begun_walked = long_walked word name None no_end is_long rows pending waiting p (rule_of (ours.option x))
         (held (settled_rows rules pending rows) (Some (name_of x, []))) (option (name_of x)) found begun_met
 
-  -- the flag
-  module _ (found : arg_by_long rules name ≡ Some (rule_of history)) where
+  -- a flag
+  module _ (id : Text) (found : arg_by_long rules name ≡ Some (flag_with id)) where
     pub flag_turn : turn_fault shape [] (at rows pending waiting p false) word
         ≡ or_else (or_else (settle_fault rules false (held rows pending))
-        (use_fault false (rule_of history) [] (settled_rows rules pending rows))) []
-    flag_turn = long_turn word name None no_end is_long rows pending waiting p (rule_of history)
-        (reacted rules (rule_of history) [] (held rows pending)) idle found refl
+        (use_fault false (flag_with id) [] (settled_rows rules pending rows))) []
+    flag_turn = long_turn word name None no_end is_long rows pending waiting p (flag_with id)
+        (reacted rules (flag_with id) [] (held rows pending)) idle found refl
         (or_else (settle_fault rules false (held rows pending))
-        (use_fault false (rule_of history) [] (settled_rows rules pending rows))) refl
+        (use_fault false (flag_with id) [] (settled_rows rules pending rows))) refl
 
     pub flag_walked : walked rules [] (at rows pending waiting p false) word
-        ≡ at (used (rule_of history) [] (settled_rows rules pending rows)) None idle p false
-    flag_walked = long_walked word name None no_end is_long rows pending waiting p (rule_of history)
-        (reacted rules (rule_of history) [] (held rows pending)) idle found refl
+        ≡ at (used (flag_with id) [] (settled_rows rules pending rows)) None idle p false
+    flag_walked = long_walked word name None no_end is_long rows pending waiting p (flag_with id)
+        (reacted rules (flag_with id) [] (held rows pending)) idle found refl
 
 -- while an option has no value, another flag is refused
 pub long_settles : (found : Option Rule) (v : Option Text) (h : Held) → Fails (settle_fault rules false h)

@@ -25,15 +25,16 @@ has_short (word ∷ words) = if is_word word (codes "--") then false else is_sho
 abbrev pub option_rule : Text → Rule
 option_rule name = record (new_rule name) { long = Some name; action = Some Set }
 
--- the mode, the arguments behind it, and the flag
+-- the mode, and the arguments behind it
 abbrev pub mode_rule : Rule
 mode_rule = new_rule (codes "mode")
 
 abbrev pub args_rule : Rule
 args_rule = record (new_rule (codes "args")) { action = Some Append }
 
-abbrev pub history_rule : Rule
-history_rule = record (new_rule (codes "history")) { long = Some (codes "history"); action = Some SetTrue }
+-- a flag
+abbrev pub flag_rule : Text → Rule
+flag_rule name = record (new_rule name) { long = Some name; action = Some SetTrue }
 
 -- the command before it has an argument
 abbrev pub mill_top : App
@@ -50,9 +51,9 @@ option_app = with_rule (with_rule (with_rule (with_rule (with_rule positional_ap
     (option_rule (codes "plan"))) (option_rule (codes "workers")))
     (option_rule (codes "rounds"))) (option_rule (codes "keep"))) (option_rule (codes "trace"))
 
--- what `clap` is told: a mode, its arguments, five options with one value each, and one flag
+-- what `clap` is told: a mode, its arguments, five options with one value each, and two flags
 abbrev pub mill_app : App
-mill_app = with_rule option_app history_rule
+mill_app = with_rule (with_rule option_app (flag_rule (codes "history"))) (flag_rule (codes "live"))
 
 -- what `clap` found
 abbrev pub rows_in : ArgMatches → List Row
@@ -62,13 +63,17 @@ rows_in matches = rows_of (found_of matches)
 abbrev pub values_in : List Row → Text → List Text
 values_in rows id = unwrap_or (all_of id rows) []
 
--- the flag reads so
-abbrev pub IsFlagIn : List Row → Bool → Type 0
-IsFlagIn rows flag = one_of (codes "history") rows ≡ Some (if flag then codes "true" else codes "false")
+-- a flag reads so
+abbrev pub IsFlagIn : List Row → Text → Bool → Type 0
+IsFlagIn rows id flag = one_of id rows ≡ Some (if flag then codes "true" else codes "false")
 
--- the flag reads in one of the two ways
-abbrev pub HasFlag : List Row → Type 0
-HasFlag rows = (flag : Bool) × IsFlagIn rows flag
+-- a flag reads in one of the two ways
+abbrev pub HasFlag : List Row → Text → Type 0
+HasFlag rows id = (flag : Bool) × IsFlagIn rows id flag
+
+-- both flags do
+abbrev pub HasFlags : List Row → Type 0
+HasFlags rows = HasFlag rows (codes "history") × HasFlag rows (codes "live")
 
 -- the line with the names of files that `clap` found as options
 abbrev pub with_files : List Row → Line → Line
@@ -97,4 +102,5 @@ pub record IsLineIn (rows : List Row) (line : Line) : Type 0 where
   pub rounds : first_of (codes "rounds") rows ≡ line.rounds
   pub keep : first_of (codes "keep") rows ≡ line.keep
   pub trace : first_of (codes "trace") rows ≡ line.trace
-  pub history : IsFlagIn rows line.history
+  pub history : IsFlagIn rows (codes "history") line.history
+  pub live : IsFlagIn rows (codes "live") line.live

@@ -1,5 +1,5 @@
 -- Which command the words of a command line are. Own.
-use Rattle.std.specs.Prelude.{ℕ, ⊤, ◌≤◌, ◌^◌, ◌-◌, ◌+◌, ◌||◌, Bool, false, if◌then◌else◌, List, [], ◌∷◌, codes, Option, Some, None, is_some}
+use Rattle.std.specs.Prelude.{◌≡◌, ℕ, ⊤, ◌≤◌, ◌^◌, ◌-◌, ◌+◌, ◌||◌, ◌&&◌, Bool, false, if◌then◌else◌, List, [], ◌∷◌, codes, Option, Some, None, is_some}
 use Rattle.std.specs.Option.{option_map, option_and_then}
 use Rattle.text_lines.specs.Words.{both, is_word}
 use Rattle.text_lines.specs.Numbers.{between}
@@ -20,23 +20,27 @@ abbrev pub seed_limit : ℕ
 seed_limit = 2 ^ 32 - 1
 
 -- what a run reads: a topology and one event file or more
-abbrev pub inputs_of : List (List ℕ) → Bool → Option Inputs
-inputs_of (topology ∷ (event ∷ events)) history =
-    Some (record { topology = topology; events = event ∷ events; history = history })
-inputs_of _ history = None
+abbrev pub inputs_of : List (List ℕ) → Bool → Bool → Option Inputs
+inputs_of (topology ∷ (event ∷ events)) history live =
+    Some (record { topology = topology; events = event ∷ events; history = history; live = live })
+inputs_of _ history live = None
+
+-- the same, by the flags of a line, which has not both
+abbrev pub inputs_in : List (List ℕ) → Line → Option Inputs
+inputs_in args line = if line.history && line.live then None else inputs_of args line.history line.live
 
 -- whether there are workers or rounds, which the mode run alone takes
 abbrev pub has_rounds : Line → Bool
 has_rounds line = is_some line.workers || is_some line.rounds
 
--- `solo TOPOLOGY EVENTS..`, with `--history` and `--keep FILE` or without
+-- `solo TOPOLOGY EVENTS..`, with `--history` or `--live`, and with `--keep FILE` or without
 abbrev pub solo_of : List (List ℕ) → Line → Option Call
 solo_of args line = if has_rounds line || is_some line.plan then None
-    else option_map Solo (inputs_of args line.history)
+    else option_map Solo (inputs_in args line)
 
--- `replay --plan FILE TOPOLOGY EVENTS..`, with `--history` and `--keep FILE` or without
+-- `replay --plan FILE TOPOLOGY EVENTS..`, with `--history` or `--live`, and with `--keep FILE` or without
 abbrev pub replay_of : List (List ℕ) → Line → Option Call
-replay_of args line = if has_rounds line then None else both Replay line.plan (inputs_of args line.history)
+replay_of args line = if has_rounds line then None else both Replay line.plan (inputs_in args line)
 
 -- how many workers a run may have, which has one or more
 abbrev pub workers_limit : ℕ
@@ -52,9 +56,9 @@ pub record AreSizes (workers rounds : ℕ) : Type 0 where
   pub few : workers ≤ workers_limit
   pub short : rounds ≤ rounds_limit
 
--- where a call is a run, its numbers are within the limits
+-- where a call is a run, its numbers are within the limits, and no result is wanted before its end
 abbrev pub HasSizes : Call → Type 0
-HasSizes (Run workers rounds plan inputs) = AreSizes workers rounds
+HasSizes (Run workers rounds plan inputs) = AreSizes workers rounds × (inputs.live ≡ false)
 HasSizes _ = ⊤
 
 -- the number that an option asks for, from the one on and up to the other
@@ -68,17 +72,17 @@ run_numbers line = both (λ workers rounds. (workers, rounds)) (number_asked 1 w
 
 -- `run --workers N --rounds R TOPOLOGY EVENTS..`, with `--plan FILE` and `--history` or without
 abbrev pub run_of : List (List ℕ) → Line → Option Call
-run_of args line = if is_some line.keep then None
+run_of args line = if is_some line.keep || line.live then None
     else both (λ (numbers : ℕ × ℕ) inputs. Run numbers.0 numbers.1 line.plan inputs) (run_numbers line)
-    (inputs_of args line.history)
+    (inputs_of args line.history false)
 
--- whether there is an option beside `--trace`, or the flag
+-- whether there is an option beside `--trace`, or a flag
 abbrev pub has_options : Line → Bool
-has_options line = has_rounds line || (is_some line.plan || (is_some line.keep || line.history))
+has_options line = has_rounds line || (is_some line.plan || (is_some line.keep || (line.history || line.live)))
 
 -- `plain TOPOLOGY EVENTS..`, which takes no option and no flag
 abbrev pub plain_of : List (List ℕ) → Line → Option Call
-plain_of args line = if has_options line then None else option_map Plain (inputs_of args false)
+plain_of args line = if has_options line then None else option_map Plain (inputs_of args false false)
 
 -- `load SEED LINES`, which takes no option and no flag
 abbrev pub load_of : List (List ℕ) → Line → Option Call
@@ -103,7 +107,7 @@ untraced_of mode args line = if is_word mode (codes "solo") then solo_of args li
 
 -- `audit --trace FILE TOPOLOGY EVENTS..`, which takes no other option and no flag
 abbrev pub audit_of : List (List ℕ) → Line → Option Call
-audit_of args line = if has_options line then None else both Audit (inputs_of args false) line.trace
+audit_of args line = if has_options line then None else both Audit (inputs_of args false false) line.trace
 
 -- what a mode with these arguments asks for; audit alone takes the option `--trace`
 abbrev pub call_with : List ℕ → List (List ℕ) → Line → Option Call

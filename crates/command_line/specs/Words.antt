@@ -1,4 +1,4 @@
--- What the words of a command line are: positionals, options with a value each, and a flag. Own.
+-- What the words of a command line are: positionals, options with a value each, and two flags. Own.
 use Rattle.std.specs.Prelude.{ℕ, ◌==◌, ◌++◌, Bool, true, false, not, if◌then◌else◌, List, [], ◌∷◌, codes, Option, Some, None}
 use Rattle.std.specs.Option.{option_map, option_and_then}
 use Rattle.text_lines.specs.Words.{cut_at, is_word}
@@ -27,15 +27,20 @@ no_words = record {
   keep = None;
   trace = None;
   history = false;
+  live = false;
 }
 
 -- the line with these positionals behind its own
 abbrev pub with_positionals : List (List ℕ) → Line → Line
 with_positionals words line = record line { positionals = line.positionals ++ words }
 
--- the line with the flag, which it has once at most
-abbrev pub with_flag : Line → Option Line
-with_flag line = if line.history then None else Some (record line { history = true })
+-- the line with the flag for the history's lines, which it has once at most
+abbrev pub with_history : Line → Option Line
+with_history line = if line.history then None else Some (record line { history = true })
+
+-- the line with the flag for each result as soon as it is there, which it has once at most
+abbrev pub with_live : Line → Option Line
+with_live line = if line.live then None else Some (record line { live = true })
 
 -- the value of an option that had none before: an option is given once at most
 abbrev pub first_value : List ℕ → Option (List ℕ) → Option (Option (List ℕ))
@@ -69,7 +74,8 @@ after_word word (Some name) line =
     if is_dashed word then None else option_map (λ l. (l, None)) (with_option name word line)
 after_word word None line =
     if not (is_dashed word) then Some (with_positionals (word ∷ []) line, None)
-    else if is_word word (codes "--history") then option_map (λ l. (l, None)) (with_flag line)
+    else if is_word word (codes "--history") then option_map (λ l. (l, None)) (with_history line)
+    else if is_word word (codes "--live") then option_map (λ l. (l, None)) (with_live line)
     else with_dashed word (assigned word) line
 
 -- whether a word ends the options: it is `--`, and no option waits for its value

@@ -2,7 +2,7 @@
 
 use mw_types::{Name, Seq};
 
-/// What a run reads, and whether it is to write its history's lines before its result.
+/// What a run reads, and what it is to write beside its result.
 #[derive(Drop, PartialEq, Eq)]
 pub struct Inputs {
     /// The name of the topology's file.
@@ -11,6 +11,8 @@ pub struct Inputs {
     pub events: Seq<Name>,
     /// Whether the history's lines are wanted.
     pub history: bool,
+    /// Whether each result is wanted as soon as its entry is there, which is not beside the history's lines.
+    pub live: bool,
 }
 
 /// What is to be done, by the mode of the command line.

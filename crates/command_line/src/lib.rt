@@ -1,6 +1,6 @@
 //! The command line: which words are a command, and what it asks for.
 //!
-//! The words are positionals, of which the first is the mode, options with one value each, and one flag;
+//! The words are positionals, of which the first is the mode, options with one value each, and two flags;
 //! the mode says which of them it takes. They are read with `clap`, beside a rule of our own on words that
 //! begin with one `-`. Stands on `mw_types`, `text_lines` and `clap`. Public contract: `read_words` answers the command
 //! that the words are, and `Usage` exactly where they are none; want of memory is its one free answer.

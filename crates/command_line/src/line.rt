@@ -1,8 +1,8 @@
 //! What the words of a command line say before its mode is looked at.
-ghost use Rattle.std.specs.Prelude.{◌≡◌, ◌≢◌, ◌++◌, IfOk, List, OnOk, false, map};
+ghost use Rattle.std.specs.Prelude.{◌≡◌, ◌≢◌, ◌++◌, IfOk, List, OnOk, codes, false, map};
 ghost use Rattle.clap.specs.Walk.{first_of};
 ghost use Rattle.command_line.specs.Words.{line_of, no_words};
-ghost use Rattle.command_line.specs.Clap.{HasFlag, IsFlagIn, IsLineIn, has_short, rows_in, values_in, with_files, with_numbers, with_words};
+ghost use Rattle.command_line.specs.Clap.{HasFlag, HasFlags, IsFlagIn, IsLineIn, has_short, rows_in, values_in, with_files, with_numbers, with_words};
 ghost use Rattle.command_line.specs.Inside.{Answers};
 
 use crate::parser::parser;
@@ -13,7 +13,7 @@ use clap::error::ErrorKind;
 use mw_types::{Name, NoMemory, Seq};
 use std::alloc::Global;
 
-/// The positionals in their order, the value of each option that is given, and whether the flag is.
+/// The positionals in their order, the value of each option that is given, and whether each flag is.
 #[derive(Drop)]
 pub(crate) struct Line {
     pub(crate) positionals: Seq<Name>,
@@ -23,6 +23,7 @@ pub(crate) struct Line {
     pub(crate) keep: Option<Name>,
     pub(crate) trace: Option<Name>,
     pub(crate) history: bool,
+    pub(crate) live: bool,
 }
 
 // The words as texts.
@@ -108,18 +109,22 @@ fn add_found(alloc: Global, line: &mut Line, matches: &ArgMatches<'_>) -> Result
     add_numbers(alloc, line, matches)
 }
 
-// Whether the flag is given.
-fn has_history(matches: &ArgMatches<'_>) -> bool
-    requires read { HasFlag (rows_in matches.now) }
+// Whether a flag is given.
+fn has_flag(matches: &ArgMatches<'_>, id: &str) -> bool
+    requires read { HasFlag (rows_in matches.now) id.now }
 
-    ensures flag { IsFlagIn (rows_in matches.now) result }
+    ensures flag { IsFlagIn (rows_in matches.now) id.now result }
 {
-    matches.get_flag("history")
+    matches.get_flag(id)
 }
 
-// The line without a word, but for the flag.
-fn no_words(alloc: Global, history: bool) -> Line
-    ensures line { result ≡ record no_words { history = history } }
+// The line without a word, but for the flags that `clap` found.
+fn flags_in(alloc: Global, matches: &ArgMatches<'_>) -> Line
+    requires read { HasFlags (rows_in matches.now) }
+
+    ensures line { result ≡ record no_words { history = result.history; live = result.live } }
+    ensures history { IsFlagIn (rows_in matches.now) (codes "history") result.history }
+    ensures live { IsFlagIn (rows_in matches.now) (codes "live") result.live }
 {
     Line {
         positionals: Seq::new(alloc),
@@ -128,17 +133,18 @@ fn no_words(alloc: Global, history: bool) -> Line
         rounds: None,
         keep: None,
         trace: None,
-        history,
+        history: has_flag(matches, "history"),
+        live: has_flag(matches, "live"),
     }
 }
 
 // The line that `clap` found.
 fn line_in(alloc: Global, matches: &ArgMatches<'_>) -> Result<Line, NoMemory>
-    requires read { HasFlag (rows_in matches.now) }
+    requires read { HasFlags (rows_in matches.now) }
 
     ensures line { IfOk result (IsLineIn (rows_in matches.now)) }
 {
-    let mut line = no_words(alloc, has_history(matches));
+    let mut line = flags_in(alloc, matches);
     add_found(alloc, &mut line, matches)?;
     Ok(line)
 }

@@ -2,7 +2,7 @@
 ghost use Rattle.std.specs.Prelude.{◌≡◌, IfOk, false};
 ghost use Rattle.clap.specs.Simple.{app_of};
 ghost use Rattle.clap.specs.Walk.{rule_of};
-ghost use Rattle.command_line.specs.Clap.{mill_app, option_app, option_rule, positional_app};
+ghost use Rattle.command_line.specs.Clap.{flag_rule, mill_app, option_app, option_rule, positional_app};
 
 use clap::{Arg, ArgAction, Command};
 use std::alloc::{AllocError, Global};
@@ -38,13 +38,19 @@ fn options<'a>(alloc: Global) -> Result<Command<'a>, AllocError>
         .arg(valued(alloc, "trace"))
 }
 
-/// One simple command: a mode, its arguments, five options with one value each, and one flag.
+// A flag.
+fn flag<'a>(alloc: Global, name: &'a str) -> Arg<'a>
+    ensures rule { rule_of result ≡ flag_rule name.entry.now }
+    ensures local { result.global ≡ false }
+{
+    Arg::new(alloc, name).long(name).action(ArgAction::SetTrue)
+}
+
+/// One simple command: a mode, its arguments, five options with one value each, and two flags.
 pub(crate) fn parser<'a>(alloc: Global) -> Result<Command<'a>, AllocError>
     ensures app { IfOk result (λ command. app_of command ≡ mill_app) }
 {
-    options(alloc)?.arg(
-        Arg::new(alloc, "history")
-            .long("history")
-            .action(ArgAction::SetTrue),
-    )
+    options(alloc)?
+        .arg(flag(alloc, "history"))?
+        .arg(flag(alloc, "live"))
 }

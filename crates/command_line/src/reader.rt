@@ -1,6 +1,6 @@
 //! The command that the words are.
 ghost use Rattle.std.specs.Prelude.{◌≡◌, ◌≤◌, ◌∷◌, [], Err, IfOk, IfSome, MatchOption, None, Some};
-ghost use Rattle.command_line.specs.Grammar.{AreSizes, HasSizes, audit_of, call_of, call_with, collect_of, command_from, command_of, has_options, has_rounds, inputs_of, load_of, number_asked, plain_of, replay_of, run_numbers, run_of, solo_of, untraced_of};
+ghost use Rattle.command_line.specs.Grammar.{AreSizes, HasSizes, audit_of, call_of, call_with, collect_of, command_from, command_of, has_options, has_rounds, inputs_in, inputs_of, load_of, number_asked, plain_of, replay_of, run_numbers, run_of, solo_of, untraced_of};
 
 use crate::command::{Call, Command, Inputs};
 use crate::line::{Line, line_of};
@@ -32,8 +32,9 @@ fn first_of(words: &mut Seq<Name>) -> Option<Name>
 }
 
 // What a run reads.
-fn inputs_of(mut args: Seq<Name>, history: bool) -> Option<Inputs>
-    ensures inputs { result ≡ inputs_of args history }
+fn inputs_of(mut args: Seq<Name>, history: bool, live: bool) -> Option<Inputs>
+    ensures inputs { result ≡ inputs_of args history live }
+    ensures live { IfSome result (λ inputs. inputs.live ≡ live) }
 {
     let topology = first_of(&mut args)?;
     if args.is_empty() {
@@ -43,6 +44,7 @@ fn inputs_of(mut args: Seq<Name>, history: bool) -> Option<Inputs>
         topology,
         events: args,
         history,
+        live,
     })
 }
 
@@ -65,11 +67,21 @@ impl Line {
         self.workers.is_some() || self.rounds.is_some()
     }
 
-    // Whether there is an option beside `--trace`, or the flag.
+    // Whether there is an option beside `--trace`, or a flag.
     fn has_options(&self) -> bool
         ensures options { result ≡ has_options self.now }
     {
-        self.has_rounds() || self.plan.is_some() || self.keep.is_some() || self.history
+        self.has_rounds() || self.plan.is_some() || self.keep.is_some() || self.history || self.live
+    }
+
+    // What a run reads, by the flags.
+    fn inputs(&self, args: Seq<Name>) -> Option<Inputs>
+        ensures inputs { result ≡ inputs_in args self.now }
+    {
+        if self.history && self.live {
+            return None;
+        }
+        inputs_of(args, self.history, self.live)
     }
 
     // The call of mode solo.
@@ -80,7 +92,7 @@ impl Line {
         if self.has_rounds() || self.plan.is_some() {
             return None;
         }
-        let inputs = inputs_of(args, self.history)?;
+        let inputs = self.inputs(args)?;
         Some(Call::Solo { inputs })
     }
 
@@ -94,7 +106,7 @@ impl Line {
             return None;
         }
         let plan = self.plan.take()?;
-        let inputs = inputs_of(args, self.history)?;
+        let inputs = self.inputs(args)?;
         Some(Call::Replay { plan, inputs })
     }
 
@@ -114,11 +126,11 @@ impl Line {
         ensures sizes { IfSome result HasSizes }
         ensures keep { self.new.keep ≡ self.old.keep }
     {
-        if self.keep.is_some() {
+        if self.keep.is_some() || self.live {
             return None;
         }
         let (workers, rounds) = self.numbers()?;
-        let inputs = inputs_of(args, self.history)?;
+        let inputs = inputs_of(args, self.history, false)?;
         let plan = self.plan.take();
         Some(Call::Run {
             workers,
@@ -133,7 +145,7 @@ impl Line {
         ensures call { result ≡ plain_of args self.now }
         ensures sizes { IfSome result HasSizes }
     {
-        match inputs_of(args, false) {
+        match inputs_of(args, false, false) {
             Some(inputs) if !self.has_options() => Some(Call::Plain { inputs }),
             _ => None,
         }
@@ -177,7 +189,7 @@ impl Line {
             return None;
         }
         let trace = self.trace.take()?;
-        let inputs = inputs_of(args, false)?;
+        let inputs = inputs_of(args, false, false)?;
         Some(Call::Audit { inputs, trace })
     }
 
@@ -250,7 +262,7 @@ pub fn read_words(alloc: Global, words: &[Name]) -> Result<Command, WordsRefusal
     ensures command { IfOk result (λ command. command_of words.now ≡ Some command) }
     ensures usage { result ≡ Err WordsRefusal.Usage → command_of words.now ≡ None }
 
-    // The numbers of a run are within their limits.
+    // The numbers of a run are within their limits, and its results are wanted at its end.
     ensures sizes { IfOk result (λ command. HasSizes command.call) }
 {
     let mut line = line_of(alloc, words)?;

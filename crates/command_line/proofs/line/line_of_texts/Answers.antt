@@ -1,13 +1,13 @@
 use Rattle.std.proofs.Common.{◌∙◌, List, map}
 use Rattle.clap.specs.Walk.{Text}
 use Rattle.clap.specs.Simple.{app_of}
-use Rattle.command_line.proofs.Found.{flag_there, line_refused, line_taken}
+use Rattle.command_line.proofs.Found.{flags_there, line_refused, line_taken}
 use Rattle.command_line.proofs.line.line_of_texts.Goals as goal
 
 pub line_in-requires : goal.line_in-requires
 line_in-requires c =
     let texts : List Text = map (λ text. text.now) c.args.texts.now in record {
-      read = flag_there texts (app_of c.in_ok-parser.field-0) c.in-Ok.matches c.in_ok-parser.ensures.app c.requires.long
+      read = flags_there texts (app_of c.in_ok-parser.field-0) c.in-Ok.matches c.in_ok-parser.ensures.app c.requires.long
           c.in-Ok.ensures.kinds c.in-Ok.ensures.matches;
     }
 
