@@ -40,6 +40,9 @@ fn say_inputs(said: &mut String, inputs: &Inputs) -> Result<(), NoMemory> {
     if inputs.history {
         said.push_str(" history")?;
     }
+    if inputs.live {
+        said.push_str(" live")?;
+    }
     Ok(())
 }
 

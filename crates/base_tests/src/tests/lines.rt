@@ -2,7 +2,7 @@
 
 /// A line's words stand with one blank between them, and `""` is the empty word. The command has each name
 /// in brackets.
-pub(super) static LINES: [(&str, &str); 124] = [
+pub(super) static LINES: [(&str, &str); 138] = [
     ("", "usage"),
     ("solo t e", "solo [t] [e]"),
     ("solo t e f g", "solo [t] [e] [f] [g]"),
@@ -17,6 +17,13 @@ pub(super) static LINES: [(&str, &str); 124] = [
     ("solo t e --history=x", "usage"),
     ("solo t e --history=", "usage"),
     ("solo t e --hist", "usage"),
+    ("--live solo t e", "solo [t] [e] live"),
+    ("solo t --keep k e --live", "solo [t] [e] live keep [k]"),
+    ("solo t e --live --live", "usage"),
+    ("solo t e --live --history", "usage"),
+    ("solo t e --live=", "usage"),
+    ("solo t e --liv", "usage"),
+    ("solo -- t --live", "solo [t] [--live]"),
     ("solo --keep k t e", "solo [t] [e] keep [k]"),
     ("solo --keep=k t e", "solo [t] [e] keep [k]"),
     ("--keep k solo t e", "solo [t] [e] keep [k]"),
@@ -70,6 +77,7 @@ pub(super) static LINES: [(&str, &str); 124] = [
     ("run --workers 2 t e", "usage"),
     ("run --rounds 3 t e", "usage"),
     ("run t e", "usage"),
+    ("run --workers 2 --rounds 3 --live t e", "usage"),
     ("run --workers 2 --rounds 3 t", "usage"),
     ("run --workers 2 --rounds 3 t e --keep k", "usage"),
     ("run --workers 2 --workers 2 --rounds 3 t e", "usage"),
@@ -80,6 +88,8 @@ pub(super) static LINES: [(&str, &str); 124] = [
         "replay --plan p t e --keep k --history",
         "replay [p] [t] [e] history keep [k]",
     ),
+    ("replay --live --plan p t e", "replay [p] [t] [e] live"),
+    ("replay --history --plan p t e --live", "usage"),
     ("replay t e", "usage"),
     ("replay --plan p t", "usage"),
     ("replay --plan p --plan p t e", "usage"),
@@ -91,6 +101,7 @@ pub(super) static LINES: [(&str, &str); 124] = [
     ("plain t", "usage"),
     ("plain", "usage"),
     ("plain t e --history", "usage"),
+    ("plain t e --live", "usage"),
     ("plain t e --keep k", "usage"),
     ("plain --plan p t e", "usage"),
     ("plain t e --workers 2", "usage"),
@@ -103,6 +114,7 @@ pub(super) static LINES: [(&str, &str); 124] = [
     ("audit t e --trace", "usage"),
     ("audit --trace r --trace r t e", "usage"),
     ("audit --trace r t e --history", "usage"),
+    ("audit --trace r t e --live", "usage"),
     ("audit --trace r t e --keep k", "usage"),
     ("audit --trace r t e --plan p", "usage"),
     ("audit --trace r t e --workers 2", "usage"),
@@ -117,6 +129,7 @@ pub(super) static LINES: [(&str, &str); 124] = [
     ("collect", "usage"),
     ("collect f g", "usage"),
     ("collect f --history", "usage"),
+    ("collect f --live", "usage"),
     ("collect f --keep k", "usage"),
     ("collect --plan p f", "usage"),
     ("load 7 3", "load 7 3"),
@@ -136,4 +149,5 @@ pub(super) static LINES: [(&str, &str); 124] = [
     ("load -7 3", "usage"),
     ("load 7 3 --keep k", "usage"),
     ("load 7 3 --history", "usage"),
+    ("load 7 3 --live", "usage"),
 ];
