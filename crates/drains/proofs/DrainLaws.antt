@@ -4,7 +4,6 @@ use Rattle.std.specs.Prelude.{Option, Some, None, IsSome, IfSome}
 use Rattle.std.specs.Option.{is_some}
 use Rattle.std.proofs.lemmas.Bool.{both_ways}
 use Rattle.list_lemmas.proofs.Told.{if-there}
-use Rattle.mw_types.specs.Causes.{Rose}
 use Rattle.mw_types.specs.declared.entry.Entry.{Entry}
 use Rattle.mw_types.specs.declared.delivery.Delivery.{Delivery}
 use Rattle.mw_types.specs.declared.identity.RecordId.{RecordId}
@@ -20,8 +19,8 @@ use Rattle.book.specs.Lawful.{IsLawful}
 use Rattle.node.specs.Asking.{MayAskForget}
 use Rattle.node.specs.Messages.{IsDeliverable}
 use Rattle.node.specs.Workers.{NodeView}
-use Rattle.drains.specs.Drains.{HasClaimedAll, HasEnded, IsDraining}
-use Rattle.drains.specs.Turns.{CanBeKept, HasAskedOne, HasGone, HasStepped, HasTurned, WhereTold, is_finished_at, sent_at}
+use Rattle.drains.specs.Drains.{HasEnded}
+use Rattle.drains.specs.Turns.{CanBeKept, HasAskedOne, HasStepped, HasTurned, WhereTold, is_finished_at, sent_at}
 use Rattle.drains.proofs.EndLaws.{injected-finished}
 use Rattle.drains.proofs.LawfulRows.{lawful-rows}
 use Rattle.drains.proofs.GoLaws.{fact-back, fact-on, stayed-turn, told-on}
@@ -73,24 +72,6 @@ found-deliverable book node sender d is kept = record {
 
 -- ---- claims and then turns
 
--- a drain that went on after its claims is a drain
-pub goes-after : (old mid new : BookView) → HasGone old mid → HasClaimedAll old.case (length old.history) mid.history
-    → IsDraining old.case (length old.history) mid.history
-    → WhereTold mid ((from : ℕ) → HasClaimedAll mid.case from mid.history → IsDraining mid.case from mid.history
-    → IsDraining mid.case from new.history)
-    → IfSome old.rows (λ _. IsDraining old.case (length old.history) new.history)
-goes-after old mid new gone claimed draining goes = if-there old.rows (λ told.
-    subst (λ (c : CaseShape). HasClaimedAll c (length old.history) mid.history → IsDraining c (length old.history) mid.history
-    → IsDraining c (length old.history) new.history) gone.case (goes (gone.tells ∙ told) (length old.history)) claimed draining)
-
--- and has ended where they have
-pub ends-after : (old mid new : BookView) → HasGone old mid → HasClaimedAll old.case (length old.history) mid.history
-    → WhereTold mid ((from : ℕ) → HasClaimedAll mid.case from mid.history → HasEnded mid.case from new.history)
-    → IfSome old.rows (λ _. HasEnded old.case (length old.history) new.history)
-ends-after old mid new gone claimed ends = if-there old.rows (λ told.
-    subst (λ (c : CaseShape). HasClaimedAll c (length old.history) mid.history → HasEnded c (length old.history) new.history)
-    gone.case (ends (gone.tells ∙ told) (length old.history)) claimed)
-
 -- where it has ended no work is left
 pub ended-finished : (old new : BookView) → new.case ≡ old.case → is_some new.rows ≡ is_some old.rows
     → IsLawful new.case (core_of new) → IfSome old.rows (λ _. HasEnded old.case (length old.history) new.history)
@@ -99,15 +80,6 @@ ended-finished old new same tells lawful ended = if-there old.rows (λ told.
     let done = subst (λ (c : CaseShape). HasEnded c (length old.history) new.history) (sym same) (rows-told old.rows told ended) in
     injected-finished new.case (length old.history) new.history lawful.runnable
     (lawful-rows new.case new.history new.rows (tells ∙ told) lawful.held).0 done.earlier)
-
--- a drain that failed at its claims is a drain
-pub goes-before : (old new : BookView) → IsDraining old.case (length old.history) new.history
-    → IfSome old.rows (λ _. IsDraining old.case (length old.history) new.history)
-goes-before old new draining = if-there old.rows (λ told. draining)
-
--- a fault of the turns is one of the drain
-pub rose-after : (old mid new : BookView) → HasGone old mid → Rose mid.faults new.faults → Rose old.faults new.faults
-rose-after old mid new gone rose = let later = gone.faults in omega (arith, rose, later)
 
 -- ---- a record that was found
 

@@ -1,12 +1,10 @@
 -- A drain fails since the history is full only where it has not ended: it had a further entry to write.
-use Rattle.std.proofs.Common.{◌≡◌, ◌<◌, ◌≤◌, ℕ, true, List, ◌∷◌, ◌++◌, [], length, refl, sym, ◌∙◌, ap, subst, arith, inl, inr}
-use Rattle.std.specs.Prelude.{Option, Some, None, IsSome, IfSome, Contains, Result, Ok, Err, OnErr}
+use Rattle.std.proofs.Common.{◌≡◌, ◌≤◌, ℕ, true, List, ◌∷◌, ◌++◌, [], refl, sym, ◌∙◌, subst, arith, inl, inr}
+use Rattle.std.specs.Prelude.{Option, Some, None, IsSome, IfSome, Contains}
 use Rattle.std.specs.Option.{is_some}
-use Rattle.list_lemmas.proofs.Told.{if-there}
 use Rattle.mw_types.specs.declared.entry.Entry.{Entry}
 use Rattle.mw_types.specs.declared.identity.RecordId.{RecordId}
 use Rattle.mw_types.specs.declared.identity.RowName.{RowName}
-use Rattle.topology.specs.Rules.{interval_count}
 use Rattle.topology.specs.Shapes.{injectors_of}
 use Rattle.run_history.specs.Cases.{CaseShape}
 use Rattle.run_history.specs.Legal.{floor_of}
@@ -24,8 +22,7 @@ use Rattle.node.specs.Messages.{IsComputation}
 use Rattle.node.specs.Workers.{NodeView}
 use Rattle.node.specs.declared.outcome.NodeFault.{NodeFault}
 use Rattle.node.specs.declared.outcome.NodeFault.TheVariants as faults
-use Rattle.drains.specs.Drains.{HasClaimedAll, HasEnded}
-use Rattle.drains.specs.Turns.{AreExact, HasAskedOne, HasFailed, HasGone, HasStepped, HasTurned, IsAtWork, IsClaiming, IsDrainingOn, IsFullAsking, IsFullUnended, IsInjected, IsNextIn, IsNextInjector, IsQuiet, IsSettled, IsUnended, WhereTold}
+use Rattle.drains.specs.Turns.{AreExact, HasAskedOne, HasStepped, HasTurned, IsAtWork, IsFullAsking, IsFullUnended, IsInjected, IsNextIn, IsNextInjector, IsQuiet, IsSettled, IsUnended, WhereTold}
 use Rattle.drains.proofs.DrainLaws.{told-fact-back}
 use Rattle.drains.proofs.FireLoop.{IsFiring, firing-turned}
 use Rattle.drains.proofs.InjectLaws.{found-first}
@@ -141,38 +138,3 @@ firing-full start old was part why on lawful settled exact is asking = λ full.
     turned-unended start new (firing-turned start old new was part on lawful settled exact is (as-written old MayAsk one.0 one.1))
 
 -- ---- the whole
-
--- where a claim failed the drain has not claimed each interval
-pub claims-short : (start old new : BookView) (node : NodeView) (interval : ℕ) → IsClaiming start old node interval
-    → interval < interval_count old.case.topology → HasStepped old new None
-    → HasClaimedAll start.case (length start.history) new.history → ⊥
-claims-short start old new node interval on less stepped claimed =
-    let next = on.next in
-    let same : length new.history ≡ length old.history = ap (λ (h : List Entry). length h) stepped.appended in
-    let few : interval < interval_count start.case.topology =
-    subst (λ (c : CaseShape). interval < interval_count c.topology) on.gone.case less in
-    omega (arith, next, same, few, claimed)
-
--- a turn that fails so is one of a drain that has not ended
-pub turns-full : (start old new : BookView) (node : NodeView) (why : NodeFault) → IsDrainingOn start old node → HasFailed old new why
-    → IsFullUnended old why → why ≡ faults.HistoryFull → WhereTold start (IsUnended start.case new.history)
-turns-full start old new node why on failed unended full = λ told.
-    subst (IsUnended start.case) (sym failed.stepped.appended)
-    (subst (λ (c : CaseShape). IsUnended c old.history) on.gone.case (unended full (on.gone.tells ∙ told)))
-
--- a drain that failed at its claims has not ended
-pub full-before : (old new : BookView) → (HasClaimedAll old.case (length old.history) new.history → ⊥)
-    → IfSome old.rows (λ _. HasEnded old.case (length old.history) new.history → ⊥)
-full-before old new short = if-there old.rows (λ told ended. short ended.earlier.earlier.earlier.claimed)
-
--- and one whose turns failed so
-pub full-after : (old mid new : BookView) → HasGone old mid → WhereTold mid (IsUnended mid.case new.history)
-    → IfSome old.rows (λ _. HasEnded old.case (length old.history) new.history → ⊥)
-full-after old mid new gone unended = if-there old.rows (λ told.
-    subst (λ (c : CaseShape). HasEnded c (length old.history) new.history → ⊥) gone.case
-    (unended (gone.tells ∙ told) (length old.history)))
-
--- what holds whatever the fault holds of a fault
-pub on-err : {A E P : Type 0} → (r : Result A E) → P → OnErr r P
-on-err (Ok x) p = tt
-on-err (Err e) p = p

@@ -12,7 +12,7 @@ use Rattle.run_history.specs.Cases.{CaseShape}
 use Rattle.run_history.specs.Fences.{Begins, last_claim}
 use Rattle.run_history.specs.Runs.{run_of}
 use Rattle.run_history.specs.Watermarks.{least, low_watermark}
-use Rattle.run_history.proofs.Beginnings.{Begins-itself, Begins-length, Begins-trans}
+use Rattle.run_history.proofs.Beginnings.{Begins-itself, Begins-trans}
 use Rattle.run_history.proofs.Claims.{last_claim-push}
 use Rattle.watermark.specs.Marks.{marks_of}
 use Rattle.book.specs.Books.{BookView, core_of}
@@ -25,9 +25,9 @@ use Rattle.node.specs.Workers.{NodeView, Worker, goes_into, leases_of, where_pas
 use Rattle.node.specs.declared.outcome.NodeFault.{NodeFault}
 use Rattle.node.specs.declared.outcome.Outcome.{Outcome}
 use Rattle.node.specs.declared.outcome.Outcome.TheVariants as outcomes
-use Rattle.drains.specs.Drains.{HasClaimedAll, HasEnded, IsDraining}
+use Rattle.drains.specs.Drains.{HasClaimedAll, IsDraining}
 use Rattle.drains.specs.ReportRounds.{marks_after_round}
-use Rattle.drains.specs.Turns.{AreExact, HasFailed, HasFailedIn, HasFirst, HasGone, HasLast, HasStepped, HasTaken, HasTurned, IsAtWork, IsClaiming, IsDrainingOn, IsEndOf, IsNextIn, IsSettled, with_own}
+use Rattle.drains.specs.Turns.{AreExact, HasFailed, HasFirst, HasGone, HasLast, HasStepped, HasTaken, HasTurned, IsAtWork, IsClaiming, IsNextIn, IsSettled, with_own}
 use Rattle.drains.proofs.RoundLaws.{round-low}
 use Rattle.drains.proofs.LawfulRows.{lawful-rows}
 use Rattle.drains.proofs.TurnLaws.{free-of, held-leased, lease-held, moved-before, sending-none, stepped-by, stepped-on}
@@ -103,56 +103,6 @@ gone-step start old new own gone stepped = record {
     longer None h = Begins-itself h
     longer (Some entry) h = (entry ∷ [], refl)
 
--- one going after another
-pub gone-on : (one two three : BookView) → HasGone one two → HasGone two three → HasGone one three
-gone-on one two three first second = record {
-  case = second.case ∙ first.case;
-  limit = second.limit ∙ first.limit;
-  tells = second.tells ∙ first.tells;
-  faults = let f = first.faults in let s = second.faults in omega (arith, f, s);
-  grown = Begins-trans one.history two.history three.history first.grown second.grown;
-}
-
--- a fault of a step is one of the drain
-pub failed-in : (start old new : BookView) (why : NodeFault) → HasGone start old → HasFailed old new why → HasFailedIn start new why
-failed-in start old new why gone failed = record {
-  keeper = λ e. let rose = failed.keeper e in let later = gone.faults in omega (arith, rose, later);
-  full = failed.full;
-  damaged = failed.damaged;
-}
-
--- a drain that begins turns
-pub drains-first : (book : BookView) (node : NodeView) → IsAtWork book node → IsDrainingOn book book node
-drains-first book node at = record {
-  gone = gone-not book;
-  at_work = at;
-  goes = λ told from claimed draining. draining;
-}
-
--- a longer history has as many claims
-claimed-more : (case : CaseShape) (from : ℕ) (front history : List Entry) → Begins front history → HasClaimedAll case from front
-    → HasClaimedAll case from history
-claimed-more case from front history begins claimed = let longer = Begins-length front history begins in omega (arith, longer, claimed)
-
--- a drain goes on by a turn
-pub drains-on : (start old new : BookView) (was node : NodeView) (more : Bool) → IsDrainingOn start old was → HasTurned old new more
-    → IsAtWork new node → IsDrainingOn start new node
-drains-on start old new was node more on turned at = record {
-  gone = gone-step start old new turned.own on.gone turned.stepped;
-  at_work = at;
-  goes = λ told from claimed draining.
-      subst (IsDraining start.case from) (sym turned.stepped.appended)
-      (by_own turned.own (turned.next (on.gone.tells ∙ told)) from claimed (on.goes told from claimed draining));
-}
-  where
-    by_own : (own : Option Entry) → IfSome own (IsNextIn old.case old.history) → (from : ℕ) → HasClaimedAll start.case from start.history
-        → IsDraining start.case from old.history → IsDraining start.case from (with_own own old.history)
-    by_own None next from claimed draining = draining
-    by_own (Some entry) next from claimed draining =
-        draining-push start.case from old.history entry draining
-        (subst (λ (c : CaseShape). IsNextIn c old.history entry) on.gone.case next from
-        (claimed-more start.case from start.history old.history on.gone.grown claimed))
-
 -- a worker that forgets what it has to send is still at work
 pub at_work-emptied : (book : BookView) (was node : NodeView) → IsAtWork book was → node ≡ record was { outbox = [] }
     → Fits book.case (own_view book) node → IsAtWork book node
@@ -161,15 +111,6 @@ at_work-emptied book was node at is fits = record {
   free = ap (λ (n : NodeView). n.prepared) is ∙ at.free;
   each = subst (λ (n : NodeView). HasFirst book.history n.held (interval_count book.case.topology)) (sym is) at.each;
 }
-
--- a drain has ended where a turn wrote nothing
-pub drains-end : (start old new : BookView) (was : NodeView) → IsDrainingOn start old was → HasTurned old new false
-    → (IsSome old.rows → IsEndOf old.case old.history) → IsSome start.rows → (from : ℕ) → HasClaimedAll start.case from start.history
-    → HasEnded start.case from new.history
-drains-end start old new was on turned ended told from claimed =
-    subst (HasEnded start.case from) (sym (stayed-turn old new turned).appended)
-    (subst (λ (c : CaseShape). IsEndOf c old.history) on.gone.case (ended (on.gone.tells ∙ told)) from
-    (claimed-more start.case from start.history old.history on.gone.grown claimed))
 
 -- a turn that wrote an entry brings the history nearer to its limit
 pub nearer : (old new : BookView) → HasTurned old new true → length new.history ≤ new.limit

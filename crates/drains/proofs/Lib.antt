@@ -24,3 +24,4 @@ pub mod FireLoop
 pub mod Results
 pub mod DrainLaws
 pub mod FullLaws
+pub mod DrainTurnLaws

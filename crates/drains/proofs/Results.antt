@@ -15,3 +15,8 @@ ok-both (Err e) f one two = tt
 pub err-then : {T E : Type 0} {P Q : E → Type 0} (r : Result T E) → ((e : E) → P e → Q e) → IfErr r P → IfErr r Q
 err-then (Ok x) f is = tt
 err-then (Err e) f is = f e is
+
+-- what holds of each refusal holds of one
+pub err-any : {T E : Type 0} {Q : E → Type 0} (r : Result T E) → ((e : E) → Q e) → IfErr r Q
+err-any (Ok x) f = tt
+err-any (Err e) f = f e

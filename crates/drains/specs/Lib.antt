@@ -1,3 +1,4 @@
 pub mod Drains
 pub mod ReportRounds
+pub mod DrainTurns
 pub mod Turns

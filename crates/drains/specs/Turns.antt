@@ -1,4 +1,5 @@
--- What a drain has come to, and what one turn of it leaves. No public clause cites this module.
+-- What a drain has come to, and what one turn of it leaves. Of this module public clauses cite how a book goes on,
+-- what the worker has, and how a call fails.
 use Rattle.std.specs.Prelude.{◌≡◌, ◌<◌, ◌≤◌, ◌+◌, ◌⊎◌, ◌++◌, ◌∷◌, [], ℕ, Bool, true, false, if◌then◌else◌, nat_lt, nat_le, List, Option, Some, None, IsSome, IfSome, length, slice_get}
 use Rattle.std.specs.Option.{is_some, option_and_then, option_map, option_map_or}
 use Rattle.mw_types.specs.Causes.{Rose}
@@ -136,19 +137,6 @@ pub record HasFailed (old new : BookView) (why : NodeFault) : Type 0 where
   pub keeper : why ≡ faults.KeeperFault → Rose old.faults new.faults
   pub full : why ≡ faults.HistoryFull → length new.history ≡ new.limit
   pub damaged : IsDamageOf (own_view new) (refusal_of why)
-
--- a drain that began with a book failed, and the refusal has its cause
-pub record HasFailedIn (start book : BookView) (why : NodeFault) : Type 0 where
-  pub keeper : why ≡ faults.KeeperFault → Rose start.faults book.faults
-  pub full : why ≡ faults.HistoryFull → length book.history ≡ book.limit
-  pub damaged : IsDamageOf (own_view book) (refusal_of why)
-
--- a drain that began with a book, and had claimed all intervals, goes on
-pub record IsDrainingOn (start book : BookView) (node : NodeView) : Type 0 where
-  pub gone : HasGone start book
-  pub at_work : IsAtWork book node
-  pub goes : WhereTold start ((from : ℕ) → HasClaimedAll start.case from start.history →
-      IsDraining start.case from start.history → IsDraining start.case from book.history)
 
 -- no drain has ended at a history
 abbrev pub IsUnended : CaseShape → List Entry → Type 0

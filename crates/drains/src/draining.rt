@@ -1,29 +1,29 @@
 //! The drain: one thread works off all that a book has left to do.
-ghost use Rattle.std.specs.Prelude.{◌≡◌, ◌<◌, ◌≤◌, ◌-◌, ℕ, Err, IfOk, IfErr, IfSome, OnOk, OnErr, None, length, true};
+ghost use Rattle.std.specs.Prelude.{◌≡◌, ◌≤◌, Err, IfErr, IfSome, OnOk, length};
 ghost use Rattle.std.specs.Option.{is_some};
 ghost use Rattle.mw_types.specs.Causes.{Rose};
 ghost use Rattle.run_history.specs.Fences.{Begins};
 ghost use Rattle.run_history.specs.Finished.{IsFinished};
 ghost use Rattle.run_history.specs.Runs.{run_of};
-ghost use Rattle.node.specs.Fits.{Fits};
 ghost use Rattle.node.specs.Works.{IsWorkOf};
 ghost use Rattle.book.specs.DeskReasons.{IsDamageOf};
 ghost use Rattle.book.specs.OwnDesks.{own_view};
 ghost use Rattle.node.specs.Answers.{refusal_of};
-ghost use Rattle.drains.specs.Drains.{HasClaimedAll, HasEnded, IsDraining};
-ghost use Rattle.drains.specs.Turns.{HasFailed, HasGone, HasStepped, HasTurned, IsAtWork, IsEndOf, IsUnended, WhereTold};
+ghost use Rattle.drains.specs.Drains.{HasEnded, IsDraining};
+ghost use Rattle.drains.specs.DrainTurns.{IsUnderWay};
+ghost use Rattle.drains.specs.Turns.{HasGone, WhereTold};
 
-use crate::claiming::claim_all;
-use crate::turns::turn;
-use book::{Book, NoNote};
+use crate::drain_turns::{Drain, begin_drain, drain_turn};
+use book::Book;
 use computations::Computation;
-use node::{Node, NodeFault};
+use node::NodeFault;
 use row_keeper::Keeper;
 use std::alloc::Global;
 
 /// Works off all that a book has left to do, as one thread does it: it claims each interval, and then
-/// writes one entry after another until none is left to write. It returns over every keeper. A world
-/// drains its book by it, and so does whoever has a book and no world.
+/// writes one entry after another until none is left to write. Each of these is a turn of `drain_turn`.
+/// It returns over every keeper. A world drains its book by it, and so does whoever has a book and no
+/// world.
 pub fn drain<'a, K: Keeper, C: Computation>(
     alloc: Global,
     book: &mut Book<'a, K>,
@@ -57,24 +57,23 @@ pub fn drain<'a, K: Keeper, C: Computation>(
         (λ _. HasEnded book.old.case (length book.old.history) book.new.history → ⊥) }
     ensures damaged { IfErr result (λ why. IsDamageOf (own_view book.new) (refusal_of why)) }
 {
-    let mut node = Node::new(alloc, 0);
-    let drained = drain_by(alloc, book, work, &mut node);
-    drop(node);
+    let mut drain = begin_drain(alloc, book);
+    let drained = drain_by(alloc, book, work, &mut drain);
+    drop(drain);
     drained
 }
 
-// A worker that has nothing works off all that a book has left to do.
+// Works off all that a book has left to do, in a drain of it that was begun.
 fn drain_by<'a, K: Keeper, C: Computation>(
     alloc: Global,
     book: &mut Book<'a, K>,
     work: &C,
-    node: &mut Node<NoNote>,
+    drain: &mut Drain,
 ) -> Result<(), NodeFault>
     requires work { IsWorkOf book.old.case.topology (C.has work.now)
         (C.gives_record work.now) (C.gives_timer work.now) }
-    requires fits { Fits book.old.case (own_view book.old) node.old }
-    requires free { node.old.prepared ≡ None }
-    requires first { node.old.number ≡ 0 }
+    requires under_way { IsUnderWay book.old drain.old }
+    requires from { drain.old.from ≡ length book.old.history }
     ensures case { book.new.case ≡ book.old.case }
     ensures limit { book.new.limit ≡ book.old.limit }
     ensures tells { is_some book.new.rows ≡ is_some book.old.rows }
@@ -94,8 +93,7 @@ fn drain_by<'a, K: Keeper, C: Computation>(
         (λ _. HasEnded book.old.case (length book.old.history) book.new.history → ⊥) }
     ensures damaged { IfErr result (λ why. IsDamageOf (own_view book.new) (refusal_of why)) }
 {
-    claim_all(alloc, book, node)?;
-    let drained = turn_all(alloc, book, work, node);
+    let drained = turn_all(alloc, book, work, drain);
     // Its clauses say what always holds of a book.
     book.history();
     drained
@@ -106,29 +104,25 @@ fn turn_all<'a, K: Keeper, C: Computation>(
     alloc: Global,
     book: &mut Book<'a, K>,
     work: &C,
-    node: &mut Node<NoNote>,
+    drain: &mut Drain,
 ) -> Result<(), NodeFault>
     requires work { IsWorkOf book.old.case.topology (C.has work.now)
         (C.gives_record work.now) (C.gives_timer work.now) }
-    requires at_work { IsAtWork book.old node.old }
+    requires under_way { IsUnderWay book.old drain.old }
     ensures gone { HasGone book.old book.new }
-    ensures draining { WhereTold book.old ((from : ℕ) →
-        HasClaimedAll book.old.case from book.old.history →
-        IsDraining book.old.case from book.old.history →
-        IsDraining book.old.case from book.new.history) }
-    ensures ended { OnOk result (WhereTold book.old ((from : ℕ) →
-        HasClaimedAll book.old.case from book.old.history →
-        HasEnded book.old.case from book.new.history)) }
+    ensures draining { WhereTold book.old (
+        IsDraining book.old.case drain.old.from book.old.history →
+        IsDraining book.old.case drain.old.from book.new.history) }
+    ensures ended { OnOk result (WhereTold book.old
+        (HasEnded book.old.case drain.old.from book.new.history)) }
     ensures keeper_fault { result ≡ Err NodeFault.KeeperFault →
         Rose book.old.faults book.new.faults }
     ensures full { result ≡ Err NodeFault.HistoryFull →
         length book.new.history ≡ book.new.limit }
-    ensures more { result ≡ Err NodeFault.HistoryFull →
-        WhereTold book.old (IsUnended book.old.case book.new.history) }
+    ensures more { result ≡ Err NodeFault.HistoryFull → WhereTold book.old
+        (HasEnded book.old.case drain.old.from book.new.history → ⊥) }
     ensures damaged { IfErr result (λ why. IsDamageOf (own_view book.new) (refusal_of why)) }
 {
-    while turn(alloc, book, work, node)? {
-        node.drop_messages();
-    }
+    while drain_turn(alloc, book, work, drain)? {}
     Ok(())
 }

@@ -12,6 +12,7 @@
 #![tactic(auto)]
 
 mod claiming;
+mod drain_turns;
 mod draining;
 mod drains;
 mod examples;
@@ -22,6 +23,7 @@ mod purging;
 mod report_rounds;
 mod turns;
 
+pub use drain_turns::{Drain, begin_drain, drain_turn};
 pub use draining::drain;
 pub use drains::{
     drained_histories_are_one, drains_begin_the_drained_history, drains_go_on_until_they_end,

@@ -1,11 +1,11 @@
 use Rattle.std.proofs.Common.{◌-◌, length}
-use Rattle.drains.specs.Turns.{IsDrainingOn}
+use Rattle.drains.specs.DrainTurns.{IsGoingOn}
 use Rattle.drains.proofs.draining.turn_all.Given as goal
 
 -- the drain goes on from where it began
-abbrev pub invariant-loop-node : goal.invariant-loop-node
-invariant-loop-node g l = IsDrainingOn l.initial.book l.book l.node
+abbrev pub invariant-loop : goal.invariant-loop
+invariant-loop g l = IsGoingOn l.initial.book l.book l.initial.drain.from l.drain
 
 -- each turn brings the history nearer to its limit
-abbrev pub decreases-loop-node : goal.decreases-loop-node
-decreases-loop-node g l = l.book.limit - length l.book.history
+abbrev pub decreases-loop : goal.decreases-loop
+decreases-loop g l = l.book.limit - length l.book.history
