@@ -13,3 +13,4 @@ pub mod TakeSteps
 pub mod SendSteps
 pub mod StepLaws
 pub mod SendWorlds
+pub mod FullSteps

@@ -1,11 +1,12 @@
 -- Steps of a script that are done one after another.
-use Rattle.std.proofs.Common.{◌≡◌, ◌∙◌, ◌≤◌, ◌∷◌, List, refl, sym, ap, subst, arith}
+use Rattle.std.proofs.Common.{◌≡◌, ◌∙◌, ◌+◌, ◌<◌, ◌≤◌, ◌++◌, ◌∷◌, [], ℕ, List, drop, get_or, length, refl, sym, ap, subst, arith}
+use Rattle.std.proofs.lemmas.List.{drop_more, length_push}
 use Rattle.std.specs.Prelude.{Option, None, Some, IsSome, IfSome}
 use Rattle.std.specs.Option.{is_some, option_to_list}
 use Rattle.mw_types.specs.declared.entry.Entry.{Entry}
 use Rattle.run_history.specs.Cases.{CaseShape}
 use Rattle.run_history.specs.Fences.{Begins}
-use Rattle.run_history.proofs.Beginnings.{Begins-itself, Begins-trans}
+use Rattle.run_history.proofs.Beginnings.{Begins-itself, Begins-length, Begins-trans}
 use Rattle.node.specs.declared.outcome.Outcome.{Outcome}
 use Rattle.scripts.specs.Acts.{Acted, world_after, world_then}
 use Rattle.scripts.specs.Keeping.{AppendsAtMostOne}
@@ -14,7 +15,7 @@ use Rattle.scripts.specs.declared.step.Step.{Step}
 use Rattle.scripts.specs.declared.step.Step.TheVariants as steps
 use Rattle.scripts.proofs.Steps.{script-keeps}
 use Rattle.world.specs.ScriptRuns.{IsRunning}
-use Rattle.world.specs.Stepping.{HasActed, HasFaulted}
+use Rattle.world.specs.Stepping.{HasActed, HasFaulted, WouldAppend}
 use Rattle.world.specs.WorldStates.{WorldState, world_of}
 
 -- a fact that is told
@@ -78,3 +79,30 @@ run-begun start world new left all running same told =
     subst (λ (h : List Entry). Begins h (world_after start.book.case (world_of start) all).history) (sym same)
     (subst (λ (w : World). Begins world.book.history w.history) (running.script told)
     (script-keeps start.book.case (world_of world) left).grown)
+
+-- a script whose next step would have appended an entry writes more
+pub run-short : (start world new : WorldState) (step : Step) (rest all : List Step) → IsRunning start world (step ∷ rest) all
+    → new.book.history ≡ world.book.history → WouldAppend step world → IsSome start.book.rows
+    → length new.book.history < length (world_after start.book.case (world_of start) all).history
+run-short start world new step rest all running same would told =
+    let appends = some-then world.book.rows would (running.tells ∙ told) in
+    let after = world_then start.book.case (world_of world) step in
+    let one : after.history ≡ world.book.history ++ appends.0 ∷ [] =
+    ap (λ (k : CaseShape). (world_then k (world_of world) step).history) (sym running.case) ∙ appends.1 in
+    let long : length after.history ≡ length world.book.history + 1 = ap length one ∙ length_push world.book.history appends.0 in
+    let begins = Begins-length after.history (world_after start.book.case after rest).history
+    (script-keeps start.book.case after rest).grown in
+    let whole : length (world_after start.book.case after rest).history ≡ length (world_after start.book.case (world_of start) all).history =
+    ap (λ (w : World). length w.history) (running.script told) in
+    let kept : length new.book.history ≡ length world.book.history = ap (λ (h : List Entry). length h) same in
+    omega (arith, long, begins, whole, kept)
+
+-- so at the step at which it stopped
+pub run-stopped : (start world new : WorldState) (all : List Step) (at : ℕ) (d : Step) → IsRunning start world (drop at all) all
+    → at < length all → HasFaulted (get_or all at d) world new → WouldAppend (get_or all at d) world → IsSome start.book.rows
+    → length new.book.history < length (world_after start.book.case (world_of start) all).history
+run-stopped start world new all at d running below kept would told =
+    let step = get_or all at d in
+    run-short start world new step (drop (at + 1) all) all
+    (subst (λ (left : List Step). IsRunning start world left all) (drop_more all at d below) running)
+    (faulted-history step world new kept) would told

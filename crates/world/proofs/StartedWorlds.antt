@@ -1,23 +1,27 @@
 -- New workers, and the world in which a script begins.
-use Rattle.std.proofs.Common.{◌≡◌, ◌∙◌, ◌+◌, ◌++◌, ◌∷◌, ℕ, List, [], length, get_or, refl, sym, ap, subst, arith, inl, inr, length-append}
-use Rattle.std.specs.Prelude.{Some, replicate}
-use Rattle.std.proofs.lemmas.Bool.{cases_lt}
-use Rattle.std.proofs.lemmas.List.{get_or_append_left, map-append, replicate-append-replicate}
+use Rattle.std.proofs.Common.{◌≡◌, ◌∙◌, ◌+◌, ◌<◌, ◌++◌, ◌∷◌, ℕ, List, [], length, get_or, refl, sym, ap, subst, arith, inl, inr, length-append}
+use Rattle.std.specs.Prelude.{All, Bool, Err, IfErr, IfOk, Ok, OnOk, Result, Some, map, replicate, slice_get, slice_set, take}
+use Rattle.std.proofs.lemmas.Bool.{cases_eq, cases_lt}
+use Rattle.std.proofs.lemmas.List.{get_or-set_other, get_or-set_same, get_or_append_left, length-set, map-append, replicate-append-replicate, take_all, take_more_set}
 use Rattle.std.proofs.lemmas.List.Elements.{All-from_recursion, All-push}
 use Rattle.std.proofs.lemmas.Option.{get_or_from_slice_get, slice_get-get_or, slice_get_within}
-use Rattle.std.proofs.Math.Seq.{get_or-append_seam}
+use Rattle.std.proofs.Math.Seq.{get_or-append_seam, take-append_seam}
 use Rattle.run_history.specs.Cases.{CaseShape}
 use Rattle.book.specs.Books.{BookView}
 use Rattle.book.specs.Desks.{DeskView}
 use Rattle.book.specs.OwnDesks.{own_view}
 use Rattle.node.specs.Fits.{Fits}
 use Rattle.node.specs.Workers.{NodeView, Worker, idle, worker_at}
+use Rattle.node.specs.declared.outcome.NodeFault.{NodeFault}
 use Rattle.scripts.specs.Keeping.{AreClaimed}
 use Rattle.scripts.specs.Worlds.{world_on}
 use Rattle.scripts.proofs.Leases.{AreClaimed-first}
 use Rattle.world.specs.Standing.{IsFlying, IsWorld}
-use Rattle.world.specs.WorkerCalls.{AreNew}
-use Rattle.world.specs.WorldStates.{world_of}
+use Rattle.world.specs.WorkerCalls.{AreNewTo}
+use Rattle.world.specs.WorldDrains.{AreNew, HasDrain}
+use Rattle.world.specs.WorldStates.{WorldState, world_of}
+use Rattle.drains.specs.DrainTurns.{DrainView, HasDrained, IsUnderWay}
+use Rattle.drains.specs.Turns.{HasFailed}
 
 -- no worker yet
 pub new-none : AreNew 0 []
@@ -76,3 +80,99 @@ started book nodes new = record {
   flying = All-from_recursion (IsFlying book) [] tt;
   few = omega arith;
 }
+
+-- ---- workers that crash one after another
+
+-- none of them has crashed yet
+pub crashed-none : (nodes : List NodeView) → length nodes ≡ 16
+    → ((number : ℕ) (node : NodeView) → slice_get nodes number ≡ Some node → node.number ≡ number) → AreNewTo 0 nodes
+crashed-none nodes all numbered = record {
+  all = all;
+  numbered = numbered;
+  have_nothing = refl;
+  fit = λ case desk same. All-from_recursion (Fits case desk) [] tt;
+}
+
+-- one more has
+pub crashed-more : (count : ℕ) (nodes : List NodeView) (was node : NodeView) → AreNewTo count nodes → count < 16
+    → slice_get nodes count ≡ Some was → node.number ≡ was.number → worker_at node ≡ idle
+    → ((case : CaseShape) (desk : DeskView) → desk.case ≡ case → Fits case desk node)
+    → AreNewTo (count + 1) (slice_set nodes count node)
+crashed-more count nodes was node new less at number nothing fits = record {
+  all = size ∙ new.all;
+  numbered = λ n x found. elim (cases_eq n count) [
+    | inl same ↦
+        let is_node : node ≡ x = sym (ap (λ k. get_or (slice_set nodes count node) k node) same
+        ∙ get_or-set_same nodes count node node within) ∙ get_or_from_slice_get (slice_set nodes count node) n x node found in
+        sym (ap (λ (m : NodeView). m.number) is_node) ∙ number ∙ new.numbered count was at ∙ sym same
+    | inr apart ↦
+        let there = slice_get_within (slice_set nodes count node) n x found in
+        let long = size in
+        new.numbered n x (slice_get-get_or nodes n node (omega (arith, there, long))
+        ∙ ap Some (sym (get_or-set_other nodes count n node node apart)
+        ∙ get_or_from_slice_get (slice_set nodes count node) n x node found))
+  ];
+  have_nothing = ap (map worker_at) taken ∙ map-append worker_at (take count nodes) (node ∷ [])
+      ∙ ap (λ (ws : List Worker). ws ++ worker_at node ∷ []) new.have_nothing
+      ∙ ap (λ w. replicate count idle ++ w ∷ []) nothing ∙ replicate-append-replicate count 1 idle;
+  fit = λ case desk same. subst (All (Fits case desk)) (sym taken)
+      (All-push (Fits case desk) (take count nodes) node (new.fit case desk same) (fits case desk same));
+}
+  where
+    within : count < length nodes
+    within = let all = new.all in omega (arith, all, less)
+
+    size : length (slice_set nodes count node) ≡ length nodes
+    size = length-set nodes count node
+
+    taken : take (count + 1) (slice_set nodes count node) ≡ take count nodes ++ node ∷ []
+    taken = take_more_set nodes count node within
+
+-- all have
+pub crashed-all : (nodes : List NodeView) → AreNewTo 16 nodes → AreNew 16 nodes
+crashed-all nodes new = record {
+  all = new.all;
+  numbered = new.numbered;
+  have_nothing = ap (map worker_at) (sym whole) ∙ new.have_nothing;
+  fit = λ case desk same. subst (All (Fits case desk)) whole (new.fit case desk same);
+}
+  where
+    whole : take 16 nodes ≡ nodes
+    whole = take_all 16 nodes (let all = new.all in omega (arith, all))
+
+-- and stand in the vector whose slice they are
+pub crashed-whole : (len : ℕ) (new rest : List NodeView) → len ≡ 16 → AreNew 16 new → AreNew 16 (take len (new ++ rest))
+crashed-whole len new rest size is =
+    subst (AreNew 16) (sym (ap (λ n. take n (new ++ rest)) (size ∙ sym is.all) ∙ take-append_seam new rest)) is
+
+-- ---- a drain of a world
+
+-- workers that are new stand in a world over each book
+pub draining-world : (book : BookView) (world : WorldState) → AreNew 16 world.nodes → world.flight ≡ []
+    → IsWorld (record { book = book; nodes = world.nodes; flight = world.flight })
+draining-world book world new none =
+    subst (λ flight. IsWorld (record { book = book; nodes = world.nodes; flight = flight })) (sym none)
+    (started book world.nodes new)
+
+-- a drain is under way over the book that its turn leaves
+pub drain-on : (old : WorldState) (book : BookView) (was drain : DrainView) → HasDrain old was → IsUnderWay book drain
+    → HasDrain (record { book = book; nodes = old.nodes; flight = old.flight }) drain
+drain-on old book was drain has under = record { under_way = under; idle = has.idle; none = has.none }
+
+-- a turn keeps the case, however it ends
+pub turned-case : (r : Result Bool NodeFault) (from : ℕ) (old new : BookView) → IfOk r (HasDrained from old new)
+    → IfErr r (HasFailed old new) → new.case ≡ old.case
+turned-case (Ok more) from old new drained failed = drained.stepped.case
+turned-case (Err why) from old new drained failed = failed.stepped.case
+
+-- of what is left where a turn did not fail
+pub ok-left : {T E : Type 0} {Q S : Type 0} (r : Result T E) → (Q → S) → OnOk r Q → OnOk r S
+ok-left (Ok x) f one = f one
+ok-left (Err e) f one = tt
+
+-- the workers of a world that is drained have nothing, and no message is in flight
+pub drained-world : (book : BookView) (world : WorldState) → AreNew 16 world.nodes → world.flight ≡ []
+    → world_of (record { book = book; nodes = world.nodes; flight = world.flight }) ≡ world_on book.history book.marks
+drained-world book world new none =
+    subst (λ flight. world_of (record { book = book; nodes = world.nodes; flight = flight }) ≡ world_on book.history book.marks)
+    (sym none) (begun book world.nodes new)

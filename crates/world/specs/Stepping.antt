@@ -1,7 +1,8 @@
 -- When a step is done for real as it is in the scripted world, what a fault leaves, and why a step is
 -- answered so. Own.
-use Rattle.std.specs.Prelude.{◌≡◌, ◌+◌, ⊤, List, Some, IfSome, length}
+use Rattle.std.specs.Prelude.{◌≡◌, ◌+◌, ◌++◌, ◌∷◌, [], ⊤, List, Some, IfSome, length}
 use Rattle.mw_types.specs.declared.entry.Entry.{Entry}
+use Rattle.run_history.specs.Cases.{CaseShape}
 use Rattle.run_history.specs.Fences.{IsOvertakenBy}
 use Rattle.book.specs.Books.{LeaseView}
 use Rattle.node.specs.Workers.{Worker, idle}
@@ -24,6 +25,16 @@ abbrev pub HasFaulted : Step → WorldState → WorldState → Type 0
 HasFaulted (steps.Take worker message) old new =
     world_of new ≡ record (world_of old) { flight = without_message message (world_of old).flight }
 HasFaulted _ old new = world_of new ≡ world_of old
+
+-- a step appends an entry in a scripted world
+abbrev pub AppendsOne : CaseShape → World → Step → Type 0
+AppendsOne case world step =
+    (entry : Entry) × ((act case world step).1.history ≡ world.history ++ entry ∷ [])
+
+-- a step would have appended an entry: it does in the scripted world, where a contract can see the keeper's
+-- rows
+abbrev pub WouldAppend : Step → WorldState → Type 0
+WouldAppend step old = IfSome old.book.rows (λ _. AppendsOne old.book.case (world_of old) step)
 
 -- ---- over every keeper
 

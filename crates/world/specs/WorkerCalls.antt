@@ -1,6 +1,6 @@
 -- What one worker does to its book, and to a scripted world of which it is a worker. No public clause cites
 -- this module.
-use Rattle.std.specs.Prelude.{◌≡◌, ◌⊎◌, ◌++◌, ℕ, if◌then◌else◌, List, Option, None, Some, IfSome, All, length, map, replicate, slice_get, slice_set}
+use Rattle.std.specs.Prelude.{◌≡◌, ◌⊎◌, ◌++◌, ℕ, if◌then◌else◌, List, Option, None, Some, IfSome, All, length, map, replicate, slice_get, slice_set, take}
 use Rattle.std.specs.Option.{option_map_or}
 use Rattle.mw_types.specs.declared.entry.Entry.{Entry}
 use Rattle.mw_types.specs.declared.entry.Entry.TheVariants as entries
@@ -12,6 +12,8 @@ use Rattle.book.specs.OwnDesks.{own_view}
 use Rattle.node.specs.Answers.{HasGrown, HasKept}
 use Rattle.node.specs.Fits.{Fits}
 use Rattle.node.specs.Workers.{IsHandle, NodeView, WorkView, Worker, idle, leases_of, worker_at}
+use Rattle.node.specs.declared.outcome.NodeFault.{NodeFault}
+use Rattle.node.specs.declared.outcome.NodeFault.TheVariants.{HistoryFull}
 use Rattle.node.specs.declared.outcome.Outcome.{Outcome}
 use Rattle.node.specs.declared.outcome.Outcome.TheVariants as outcomes
 use Rattle.node.specs.declared.outgoing.Outgoing.{Outgoing}
@@ -20,6 +22,7 @@ use Rattle.scripts.specs.Worlds.{World, in_flight, lease_on, row_of_message}
 use Rattle.scripts.specs.declared.step.Step.{Step}
 use Rattle.scripts.specs.declared.step.Step.TheVariants as steps
 use Rattle.world.specs.Standing.{FitsOwn}
+use Rattle.world.specs.Stepping.{AppendsOne, WouldAppend}
 use Rattle.drains.specs.Turns.{HasStepped}
 use Rattle.world.specs.WorldStates.{WorldState}
 
@@ -98,6 +101,22 @@ abbrev pub FliesOn : Step → List (Option Outgoing) → List (Option Outgoing) 
 FliesOn step flight after outcome = (case : CaseShape) (world : World) → world.flight ≡ flight →
     (outcome, record world { flight = after }) ≡ act case world step
 
+-- a worker's call fails since the history is full only where its step would have appended an entry, in each
+-- scripted world of which it is a worker
+abbrev pub IsFullOn : Step → BookView → NodeView → NodeFault → Type 0
+IsFullOn step old was why = why ≡ HistoryFull → IfSome old.rows (λ _. (world : World) →
+    IsWorldAt old was world → AppendsOne old.case world step)
+
+-- so where it took a message that is in flight under this number
+abbrev pub IsFullTaking : ℕ → Outgoing → BookView → NodeView → NodeFault → Type 0
+IsFullTaking message taken old was why = why ≡ HistoryFull → IfSome old.rows (λ _. (world : World) →
+    IsWorldAt old was world → in_flight world.flight message ≡ Some taken →
+    AppendsOne old.case world (steps.Take was.number message))
+
+-- a step of a world fails since the history is full only where it would have appended an entry
+abbrev pub IsFullStep : Step → WorldState → NodeFault → Type 0
+IsFullStep step old why = why ≡ HistoryFull → WouldAppend step old
+
 -- a step is one that this worker does without a message
 abbrev pub IsAlone : ℕ → Step → Type 0
 IsAlone number (steps.Claim worker interval) = worker ≡ number
@@ -130,11 +149,11 @@ pub record IsSending (old : BookView) (was : NodeView) (flight : List (Option Ou
   pub rest : node ≡ record was { outbox = node.outbox }
   pub sent : after ++ map Some node.outbox ≡ flight ++ map Some was.outbox
 
--- ---- new workers
+-- ---- workers that crash
 
--- so many new workers, by their numbers
-pub record AreNew (count : ℕ) (nodes : List NodeView) : Type 0 where
-  pub all : length nodes ≡ count
+-- sixteen workers stand by their numbers, and so many of them, from the first on, are new
+pub record AreNewTo (count : ℕ) (nodes : List NodeView) : Type 0 where
+  pub all : length nodes ≡ 16
   pub numbered : (number : ℕ) (node : NodeView) → slice_get nodes number ≡ Some node → node.number ≡ number
-  pub have_nothing : map worker_at nodes ≡ replicate count idle
-  pub fit : (case : CaseShape) (desk : DeskView) → desk.case ≡ case → All (Fits case desk) nodes
+  pub have_nothing : map worker_at (take count nodes) ≡ replicate count idle
+  pub fit : (case : CaseShape) (desk : DeskView) → desk.case ≡ case → All (Fits case desk) (take count nodes)

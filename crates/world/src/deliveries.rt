@@ -11,7 +11,7 @@ ghost use Rattle.scripts.specs.Worlds.{row_of_message};
 ghost use Rattle.world.specs.Standing.{FitsOwn};
 ghost use Rattle.drains.specs.Turns.{HasFailed};
 ghost use Rattle.world.specs.Stepping.{IsCausedBy};
-ghost use Rattle.world.specs.WorkerCalls.{HasCalled, HasRested, IsReady, TakesOn, answered_in_place};
+ghost use Rattle.world.specs.WorkerCalls.{HasCalled, HasRested, IsFullTaking, IsReady, TakesOn, answered_in_place};
 
 use book::{Book, Desk, NoNote, OwnDesk};
 use computations::Computation;
@@ -85,6 +85,8 @@ pub(crate) fn receive<'a, K: Keeper, C: Computation>(
         book.old.history book.new.history) }
     ensures rested { OnErr result (HasRested book.old book.new node.old node.new) }
     ensures failed { IfErr result (HasFailed book.old book.new) }
+    ensures full { IfErr result (λ why. (number : ℕ) →
+        IsFullTaking number (outgoing_of message) book.old node.old why) }
 {
     match message {
         Message::Deliver { parcel } => handle(alloc, book, work, node, parcel),
@@ -114,6 +116,8 @@ fn handle<'a, K: Keeper, C: Computation>(
         book.old.history book.new.history) }
     ensures rested { OnErr result (HasRested book.old book.new node.old node.new) }
     ensures failed { IfErr result (HasFailed book.old book.new) }
+    ensures full { IfErr result (λ why. (number : ℕ) →
+        IsFullTaking number (outgoing_of (messages.Deliver parcel)) book.old node.old why) }
 {
     // Its clauses say what always holds of a book.
     book.history();
@@ -144,6 +148,8 @@ fn acknowledge<'a, K: Keeper>(
         book.old.history book.new.history) }
     ensures rested { OnErr result (HasRested book.old book.new node.old node.new) }
     ensures failed { IfErr result (HasFailed book.old book.new) }
+    ensures full { IfErr result (λ why. (number : ℕ) →
+        IsFullTaking number (outgoing_of (messages.Ack receipt)) book.old node.old why) }
 {
     // Its clauses say what always holds of a book.
     book.history();

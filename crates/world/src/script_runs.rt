@@ -1,5 +1,5 @@
 //! Scripts that are run, step by step.
-ghost use Rattle.std.specs.Prelude.{◌≡◌, ◌≤◌, All, Err, IfErr, IfSome, OnOk, length};
+ghost use Rattle.std.specs.Prelude.{◌≡◌, ◌<◌, ◌≤◌, All, Err, IfErr, IfSome, OnOk, length};
 ghost use Rattle.std.specs.Option.{is_some};
 ghost use Rattle.mw_types.specs.Causes.{Rose};
 ghost use Rattle.run_history.specs.Fences.{Begins};
@@ -43,6 +43,11 @@ pub fn run_script<'a, K: Keeper, C: Computation + Drop>(
         Rose world.old.book.faults world.new.book.faults }
     ensures full { result ≡ Err NodeFault.HistoryFull →
         length world.new.book.history ≡ world.new.book.limit }
+
+    // Where a contract can see the keeper's rows, it is full only where the script writes more.
+    ensures more { result ≡ Err NodeFault.HistoryFull → IfSome world.old.book.rows (λ _.
+        length world.new.book.history
+        < length (world_after world.old.book.case (world_of world.old) steps.now).history) }
     ensures damaged { IfErr result (λ why.
         IsDamageOf (own_view world.new.book) (refusal_of why)) }
 {

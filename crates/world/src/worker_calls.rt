@@ -7,7 +7,7 @@ ghost use Rattle.node.specs.Works.{IsWorkOf};
 ghost use Rattle.world.specs.Standing.{FitsOwn};
 ghost use Rattle.drains.specs.Turns.{HasFailed};
 ghost use Rattle.world.specs.Stepping.{IsCausedBy};
-ghost use Rattle.world.specs.WorkerCalls.{ActsOn, HasCalled, HasRested};
+ghost use Rattle.world.specs.WorkerCalls.{ActsOn, HasCalled, HasRested, IsFullOn};
 
 use book::{Book, Desk, NoNote, OwnDesk};
 use computations::Computation;
@@ -32,6 +32,8 @@ pub(crate) fn claim<'a, K: Keeper>(
         book.old.history book.new.history) }
     ensures rested { OnErr result (HasRested book.old book.new node.old node.new) }
     ensures failed { IfErr result (HasFailed book.old book.new) }
+    ensures full { IfErr result (IsFullOn (Step.Claim node.old.number interval)
+        book.old node.old) }
 {
     // Its clauses say what always holds of a book.
     book.history();
@@ -58,6 +60,8 @@ pub(crate) fn inject<'a, K: Keeper>(
         book.old.history book.new.history) }
     ensures rested { OnErr result (HasRested book.old book.new node.old node.new) }
     ensures failed { IfErr result (HasFailed book.old book.new) }
+    ensures full { IfErr result (IsFullOn (Step.Inject node.old.number part)
+        book.old node.old) }
 {
     // Its clauses say what always holds of a book.
     book.history();
@@ -83,6 +87,8 @@ pub(crate) fn write<'a, K: Keeper>(
         book.old.history book.new.history) }
     ensures rested { OnErr result (HasRested book.old book.new node.old node.new) }
     ensures failed { IfErr result (HasFailed book.old book.new) }
+    ensures full { IfErr result (IsFullOn (Step.Write node.old.number)
+        book.old node.old) }
 {
     // Its clauses say what always holds of a book.
     book.history();
@@ -113,6 +119,8 @@ pub(crate) fn fire<'a, K: Keeper, C: Computation>(
         book.old.history book.new.history) }
     ensures rested { OnErr result (HasRested book.old book.new node.old node.new) }
     ensures failed { IfErr result (HasFailed book.old book.new) }
+    ensures full { IfErr result (IsFullOn (Step.Fire node.old.number part)
+        book.old node.old) }
 {
     // Its clauses say what always holds of a book.
     book.history();
@@ -140,6 +148,8 @@ pub(crate) fn report<'a, K: Keeper>(
         book.old.history book.new.history) }
     ensures rested { OnErr result (HasRested book.old book.new node.old node.new) }
     ensures failed { IfErr result (HasFailed book.old book.new) }
+    ensures full { IfErr result (IsFullOn (Step.Report node.old.number interval)
+        book.old node.old) }
 {
     // Its clauses say what always holds of a book.
     book.history();
@@ -165,6 +175,8 @@ pub(crate) fn resend<'a, K: Keeper>(
         book.old.history book.new.history) }
     ensures rested { OnErr result (HasRested book.old book.new node.old node.new) }
     ensures failed { IfErr result (HasFailed book.old book.new) }
+    ensures full { IfErr result (IsFullOn (Step.Resend node.old.number)
+        book.old node.old) }
 {
     // Its clauses say what always holds of a book.
     book.history();
@@ -192,6 +204,8 @@ pub(crate) fn purge<'a, K: Keeper>(
         book.old.history book.new.history) }
     ensures rested { OnErr result (HasRested book.old book.new node.old node.new) }
     ensures failed { IfErr result (HasFailed book.old book.new) }
+    ensures full { IfErr result (IsFullOn (Step.Purge node.old.number interval)
+        book.old node.old) }
 {
     // Its clauses say what always holds of a book.
     book.history();

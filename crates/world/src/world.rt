@@ -6,7 +6,7 @@ ghost use Rattle.book.specs.Books.{core_of};
 ghost use Rattle.book.specs.Lawful.{IsLawful};
 ghost use Rattle.node.specs.Works.{IsWorkOf};
 ghost use Rattle.scripts.specs.Worlds.{empty_world, world_on};
-ghost use Rattle.world.specs.WorkerCalls.{AreNew};
+ghost use Rattle.world.specs.WorldDrains.{AreNew};
 ghost use Rattle.world.specs.WorldStates.{world_of};
 
 use crate::flights::Flight;

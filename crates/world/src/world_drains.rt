@@ -1,5 +1,5 @@
-//! The drain of a world.
-ghost use Rattle.std.specs.Prelude.{◌≡◌, ◌≤◌, length, Err, IfErr, IfSome, OnOk};
+//! The drain of a world, whole and turn by turn.
+ghost use Rattle.std.specs.Prelude.{◌≡◌, ◌≤◌, ◌<◌, ◌-◌, ℕ, Some, false, true, length, slice_get, Err, IfErr, IfOk, IfSome, OnOk};
 ghost use Rattle.std.specs.Option.{is_some};
 ghost use Rattle.mw_types.specs.Causes.{Rose};
 ghost use Rattle.run_history.specs.Fences.{Begins};
@@ -10,12 +10,17 @@ ghost use Rattle.book.specs.OwnDesks.{own_view};
 ghost use Rattle.node.specs.Answers.{refusal_of};
 ghost use Rattle.scripts.specs.Worlds.{world_on};
 ghost use Rattle.drains.specs.Drains.{HasEnded, IsDraining};
+ghost use Rattle.drains.specs.DrainTurns.{HasDrained, IsFullBefore};
+ghost use Rattle.drains.specs.Turns.{HasFailed, WhereTold};
+ghost use Rattle.node.specs.Workers.{NodeView};
+ghost use Rattle.world.specs.WorldDrains.{AreNew, HasDrain};
 ghost use Rattle.world.specs.WorldStates.{world_of};
 
 use crate::world::{World, sixteen};
+use book::NoNote;
 use computations::Computation;
-use drains::drain;
-use node::NodeFault;
+use drains::{Drain, begin_drain, drain, drain_turn};
+use node::{Node, NodeFault};
 use row_keeper::Keeper;
 use std::alloc::Global;
 
@@ -60,5 +65,58 @@ impl<'a, K: Keeper, C: Computation + Drop> World<'a, K, C> {
         self.nodes = nodes;
         self.flight = Vec::new(alloc);
         drain(alloc, &mut self.book, &self.work)
+    }
+
+    /// Begins a drain, of which each next entry is a turn: every worker crashes, and every message is
+    /// lost. It takes no memory.
+    pub fn begin_drain(&mut self, alloc: Global) -> Drain
+        ensures book { self.new.book ≡ self.old.book }
+        ensures begun { world_of self.new
+            ≡ world_on self.old.book.history self.old.book.marks }
+        ensures from { result.from ≡ length self.old.book.history }
+        ensures drain { HasDrain self.new result }
+    {
+        crash_all(&mut self.nodes);
+        self.flight.clear();
+        begin_drain(alloc, &self.book)
+    }
+
+    /// Appends the one entry that a drain has next, and tells whether there was one. It was begun, and
+    /// no step came since. The whole drain is these, one after another.
+    pub fn drain_turn(&mut self, alloc: Global, drain: &mut Drain) -> Result<bool, NodeFault>
+        requires drain { HasDrain self.old drain.old }
+
+        ensures drained { IfOk result (HasDrained drain.old.from self.old.book self.new.book) }
+        ensures drain { OnOk result (HasDrain self.new drain.new) }
+        ensures from { drain.new.from ≡ drain.old.from }
+
+        // Where a contract can see the keeper's rows, no entry is left only at the drain's end.
+        ensures ended { IfOk result (λ more. more ≡ false → WhereTold self.old.book
+            (HasEnded self.old.book.case drain.old.from self.old.book.history)) }
+        ensures nearer { IfOk result (λ more. more ≡ true →
+            self.new.book.limit - length self.new.book.history
+            < self.old.book.limit - length self.old.book.history) }
+
+        // No worker has anything then, and nothing is in flight.
+        ensures begun { world_of self.new
+            ≡ world_on self.new.book.history self.new.book.marks }
+
+        // A fault appends nothing, and where the history is full the drain has not ended.
+        ensures failed { IfErr result (HasFailed self.old.book self.new.book) }
+        ensures unended { IfErr result (IsFullBefore drain.old.from self.old.book) }
+    {
+        drain_turn(alloc, &mut self.book, &self.work, drain)
+    }
+}
+
+// Has each of sixteen workers crash.
+fn crash_all(nodes: &mut [Node<NoNote>])
+    requires all { length nodes.old ≡ 16 }
+    requires numbered { (number : ℕ) (node : NodeView) →
+        slice_get nodes.old number ≡ Some node → node.number ≡ number }
+    ensures new { AreNew 16 nodes.new }
+{
+    for number in 0..16 {
+        nodes[number].crash();
     }
 }

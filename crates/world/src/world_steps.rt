@@ -10,9 +10,9 @@ ghost use Rattle.node.specs.Works.{IsWorkOf};
 ghost use Rattle.scripts.specs.Keeping.{AppendsAtMostOne};
 ghost use Rattle.scripts.specs.Steps.{IsStep};
 ghost use Rattle.world.specs.Standing.{FitsOwn};
-ghost use Rattle.world.specs.Stepping.{HasActed, HasCauseOf, HasFaulted, IsCausedBy};
+ghost use Rattle.world.specs.Stepping.{HasActed, HasCauseOf, HasFaulted, IsCausedBy, WouldAppend};
 ghost use Rattle.drains.specs.Turns.{HasFailed};
-ghost use Rattle.world.specs.WorkerCalls.{ActsOn, HasCalled, HasGoneOn, HasRested, IsAlone};
+ghost use Rattle.world.specs.WorkerCalls.{ActsOn, HasCalled, HasGoneOn, HasRested, IsAlone, IsFullOn, IsFullStep};
 ghost use Rattle.world.specs.WorldStates.{world_of};
 
 use crate::deliveries::{answered_in_place, receive};
@@ -52,6 +52,10 @@ impl<'a, K: Keeper, C: Computation + Drop> World<'a, K, C> {
             Rose self.old.book.faults self.new.book.faults }
         ensures full { result ≡ Err NodeFault.HistoryFull →
             length self.new.book.history ≡ self.new.book.limit }
+
+        // Where a contract can see the keeper's rows, it is full only where the step would have appended
+        // an entry.
+        ensures more { result ≡ Err NodeFault.HistoryFull → WouldAppend step.now self.old }
         ensures damaged { IfErr result (λ why.
             IsDamageOf (own_view self.new.book) (refusal_of why)) }
     {
@@ -70,6 +74,7 @@ impl<'a, K: Keeper, C: Computation + Drop> World<'a, K, C> {
         ensures gone { HasGoneOn self.old self.new }
         ensures kept { OnErr result (HasFaulted step.now self.old self.new) }
         ensures failed { IfErr result (HasFailed self.old.book self.new.book) }
+        ensures full { IfErr result (IsFullStep step.now self.old) }
     {
         match step {
             Step::Claim {
@@ -106,6 +111,7 @@ impl<'a, K: Keeper, C: Computation + Drop> World<'a, K, C> {
         ensures gone { HasGoneOn self.old self.new }
         ensures same { OnErr result (world_of self.new ≡ world_of self.old) }
         ensures failed { IfErr result (HasFailed self.old.book self.new.book) }
+        ensures full { IfErr result (IsFullStep step.now self.old) }
     {
         let node = &mut self.nodes[worker as usize];
         call_alone(alloc, &mut self.book, &self.work, node, step)
@@ -119,6 +125,7 @@ impl<'a, K: Keeper, C: Computation + Drop> World<'a, K, C> {
         ensures gone { HasGoneOn self.old self.new }
         ensures same { OnErr result (world_of self.new ≡ world_of self.old) }
         ensures failed { IfErr result (HasFailed self.old.book self.new.book) }
+        ensures full { IfErr result (IsFullStep (Step.Send worker) self.old) }
     {
         let node = &mut self.nodes[worker as usize];
         send(&mut self.book, node, &mut self.flight)
@@ -133,6 +140,7 @@ impl<'a, K: Keeper, C: Computation + Drop> World<'a, K, C> {
         ensures gone_or_same { OnErr result
             (HasFaulted (Step.Take worker message) self.old self.new) }
         ensures failed { IfErr result (HasFailed self.old.book self.new.book) }
+        ensures full { IfErr result (IsFullStep (Step.Take worker message) self.old) }
     {
         let case = self.book.case();
         let Some(found) = find(&self.flight, message) else {
@@ -154,6 +162,7 @@ impl<'a, K: Keeper, C: Computation + Drop> World<'a, K, C> {
         ensures gone { HasGoneOn self.old self.new }
         ensures same { OnErr result (world_of self.new ≡ world_of self.old) }
         ensures failed { IfErr result (HasFailed self.old.book self.new.book) }
+        ensures full { IfErr result (IsFullStep (Step.Repeat message) self.old) }
     {
         repeat(alloc, &mut self.flight, message)
     }
@@ -187,6 +196,7 @@ fn call_alone<'a, K: Keeper, C: Computation>(
         book.old.history book.new.history) }
     ensures rested { OnErr result (HasRested book.old book.new node.old node.new) }
     ensures failed { IfErr result (HasFailed book.old book.new) }
+    ensures full { IfErr result (IsFullOn step.now book.old node.old) }
 {
     // Its clauses say what always holds of a book.
     book.history();

@@ -1,5 +1,5 @@
 //! Schedules over a keeper that tells its rows, over one that does not, and over one that fails, and over a
-//! book that is full.
+//! book that is full; and drains by turns.
 mod crashes;
 mod faults;
 mod fixtures;
@@ -7,4 +7,5 @@ mod leases;
 mod messages;
 mod tables;
 mod timers;
+mod turns;
 mod whole_scripts;

@@ -110,7 +110,7 @@ due-is case old world number was mark due held acting free on =
     at_lease lease = option_map_or (fire_under case number world mark due) lease (nothing world number)
 
 -- the timer that may fire does
-asked-is : (case : CaseShape) (old : BookView) (world : World) (number : ℕ) (was : NodeView) (part : ℕ) (asked : Request)
+pub asked-is : (case : CaseShape) (old : BookView) (world : World) (number : ℕ) (was : NodeView) (part : ℕ) (asked : Request)
     → IsActing case old world number was → MayAskFire case was part (least (marks_of case.topology part world.marks)) asked
     → fire case number part world ≡ writes world number asked.lease asked.entry (worker_of world number)
 asked-is case old world number was part asked acting may =
@@ -187,7 +187,7 @@ fire-on : (case : CaseShape) (was : NodeView) (part mark : ℕ) (asked : Request
 fire-on case was part mark asked may = subst IsOnRow (sym may.request) refl
 
 -- the least mark that is known of a part is that of the scripted world
-mark-is : (case : CaseShape) (old new : BookView) (world : World) (number part mark : ℕ) (was : NodeView)
+pub mark-is : (case : CaseShape) (old new : BookView) (world : World) (number part mark : ℕ) (was : NodeView)
     → IsActing case old world number was → new.marks ≡ old.marks
     → IsLeastKnown case.topology part (own_view old) (own_view new) mark → mark ≡ least (marks_of case.topology part world.marks)
 mark-is case old new world number part mark was acting marks known =

@@ -47,7 +47,7 @@ next-is case old world number was name held acting on =
     by_item line (Some item) = refl
 
 -- so where a row's interval is held, or not
-inject-is : (case : CaseShape) (old : BookView) (world : World) (number : ℕ) (was : NodeView) (part : ℕ)
+pub inject-is : (case : CaseShape) (old : BookView) (world : World) (number : ℕ) (was : NodeView) (part : ℕ)
     → IsActing case old world number was
     → inject case number part world ≡ deed_asked world number (worker_of world number) (line_asked case was part)
 inject-is case old world number was part acting =

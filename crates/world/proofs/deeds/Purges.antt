@@ -138,7 +138,7 @@ found-is case old world number was interval asked acting may =
 -- ---- what is purged
 
 -- the row that may be asked first forgets
-asked-is : (case : CaseShape) (old : BookView) (world : World) (number : ℕ) (was : NodeView) (interval : ℕ) (asked : Request)
+pub asked-is : (case : CaseShape) (old : BookView) (world : World) (number : ℕ) (was : NodeView) (interval : ℕ) (asked : Request)
     → IsActing case old world number was → MayAskPurge case.topology was interval 1 (floor_known case.topology world) asked
     → purge case.topology number interval world ≡ writes world number asked.lease asked.entry (worker_of world number)
 asked-is case old world number was interval asked acting may =
@@ -217,7 +217,7 @@ purge-on : (shape : Shape) (was : NodeView) (interval floor : ℕ) (asked : Requ
 purge-on shape was interval floor asked may = subst IsOnRow (sym may.may.request) refl
 
 -- a floor that a desk knows that is alone is the history's
-floor-is : (case : CaseShape) (old new : BookView) (world : World) (number floor : ℕ) (was : NodeView)
+pub floor-is : (case : CaseShape) (old new : BookView) (world : World) (number floor : ℕ) (was : NodeView)
     → IsActing case old world number was → IsFloorKnown (own_view old) (own_view new) floor
     → floor ≡ floor_known case.topology world
 floor-is case old new world number floor was acting known = known.same refl

@@ -28,7 +28,7 @@ use Rattle.world.proofs.deeds.Held.{lease_held, lease_on-held, row-held}
 use Rattle.world.proofs.deeds.Left.{IsOnRow, acting-alone, acting-of, asked-acts, becomes-acts, deed_asked, left_world, moved-alone, with_flight}
 
 -- what is there is something
-some-there : {X : Type 0} (o : Option X) → IsSome o → (x : X) × (o ≡ Some x)
+pub some-there : {X : Type 0} (o : Option X) → IsSome o → (x : X) × (o ≡ Some x)
 some-there None some = absurd (cc)
 some-there (Some x) some = (x, refl)
 
@@ -127,7 +127,7 @@ prepare-acts case old new world number was node message (outgoing.Ack to id) out
 -- ---- word that a record was handled
 
 -- word for a row that is held leaves flight, and is written where its record is pending there
-ack-is : (case : CaseShape) (old : BookView) (world : World) (number message : ℕ) (was : NodeView) (to : RowName) (id : RecordId)
+pub ack-is : (case : CaseShape) (old : BookView) (world : World) (number message : ℕ) (was : NodeView) (to : RowName) (id : RecordId)
     (held : HeldView) → IsActing case old world number was → in_flight world.flight message ≡ Some (outgoing.Ack to id)
     → held_on case.topology was.held to ≡ Some held
     → take case.topology number message world ≡ with_flight (without_message message world.flight)

@@ -82,7 +82,7 @@ work-is case old world number was sender (proposals.Handle delivery effects) act
 work-is case old world number was sender _ acting is = absurd is
 
 -- of what is prepared, if anything is
-write-is : (case : CaseShape) (old : BookView) (world : World) (number : ℕ) (was : NodeView) → IsActing case old world number was
+pub write-is : (case : CaseShape) (old : BookView) (world : World) (number : ℕ) (was : NodeView) → IsActing case old world number was
     → write case number world
     ≡ deed_asked world number (with_written (sending_of was) (worker_at was)) (work_asked case.topology was)
 write-is case old world number was acting =

@@ -54,7 +54,7 @@ fn answer<K: Keeper>(
 }
 
 // An answer, as a table has it: its word, and its number where it has one.
-type Said = (&'static str, Option<u64>);
+pub(crate) type Said = (&'static str, Option<u64>);
 
 // How a table has an outcome.
 fn outcome_said(outcome: &Outcome) -> Said {
@@ -87,7 +87,7 @@ fn fault_word(fault: &NodeFault) -> &'static str {
 }
 
 // How a table has the last entry: what it is, and for what.
-fn last_said(entries: &[Entry]) -> Said {
+pub(crate) fn last_said(entries: &[Entry]) -> Said {
     match entries.last() {
         Some(Entry::Claim { interval, .. }) => ("Claim", Some(u64::from(*interval))),
         Some(Entry::Inject { line, .. }) => ("Inject", Some(u64::from(*line))),

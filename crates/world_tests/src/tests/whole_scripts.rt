@@ -22,7 +22,7 @@ crash 0
 ";
 
 // Does the steps of a text. No other function runs a script.
-fn runs<K: Keeper>(
+pub(crate) fn runs<K: Keeper>(
     alloc: Global,
     world: &mut World<'_, K, Kinds>,
     text: &str,

@@ -1,10 +1,10 @@
-use Rattle.std.proofs.Common.{ℕ, rules}
+use Rattle.std.proofs.Common.{rules, ℕ}
 use Rattle.std.specs.Prelude.{IfErr, IfOk}
 use Rattle.node.specs.declared.outcome.Outcome.{Outcome}
 use Rattle.node.specs.declared.outgoing.Outgoing.TheVariants as outgoing
 use Rattle.node.specs.Asking.{ack_asked}
 use Rattle.drains.specs.Turns.{HasFailed}
-use Rattle.world.specs.WorkerCalls.{HasCalled, TakesOn}
+use Rattle.world.specs.WorkerCalls.{HasCalled, IsFullTaking, TakesOn}
 use Rattle.drains.proofs.Results.{ok-then}
 use Rattle.world.proofs.TakeLaws.{ack-on}
 use Rattle.drains.proofs.TurnLaws.{failed-asked}
@@ -12,6 +12,8 @@ use Rattle.world.proofs.WorkerLaws.{by-result, called-by, err-with, leases-ack, 
 use Rattle.node.specs.Workers.{worker_at}
 use Rattle.world.specs.Stepping.{IsCausedBy}
 use Rattle.world.proofs.CauseLaws.{ack-cause}
+use Rattle.node.specs.declared.outcome.NodeFault.{NodeFault}
+use Rattle.world.proofs.FullSteps.{ack-full}
 use Rattle.world.proofs.deliveries.acknowledge.Goals as goal
 
 -- the worker has called its desk
@@ -63,3 +65,15 @@ returns-clause-cause g c =
     let cause : IfOk c.take_ack-result.result (IsCausedBy (worker_at was) old.history new.history) =
     ok-then c.take_ack-result.result (λ outcome answers. ack-cause c.case-case.result.now.topology old new taken was node outcome
     c.requires.fits answers) c.take_ack-result.ensures.answers in search rules
+
+-- where the history is full the step would have appended an entry
+pub returns-clause-full : goal.returns-clause-full
+returns-clause-full g c =
+    let old = c.args.book.now in
+    let new = c.take_ack-result.new.desk.book.now in
+    let was = c.args.node.now in
+    let taken = outgoing.Ack c.args.receipt.to c.args.receipt.id in
+    let full : IfErr c.take_ack-result.result (λ (why : NodeFault). (number : ℕ) → IsFullTaking number taken old was why) =
+    err-with c.take_ack-result.result (λ why fails looked. ack-full c.case-case.result.now old new was c.args.receipt.to
+    c.args.receipt.id why c.case-case.ensures.case c.history.ensures.lawful c.requires.fits c.requires.takes looked fails)
+    c.take_ack-result.ensures.fault c.take_ack-result.ensures.looked in search rules

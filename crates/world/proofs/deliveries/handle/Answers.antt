@@ -1,17 +1,19 @@
-use Rattle.std.proofs.Common.{ℕ, rules}
+use Rattle.std.proofs.Common.{rules, ℕ}
 use Rattle.std.specs.Prelude.{IfErr, IfOk, OnErr}
 use Rattle.book.specs.OwnDesks.{own_view}
 use Rattle.node.specs.declared.outcome.Outcome.{Outcome}
 use Rattle.node.specs.declared.outgoing.Outgoing.TheVariants as outgoing
 use Rattle.node.proofs.FitLaws.{grown_looked}
 use Rattle.drains.specs.Turns.{HasFailed}
-use Rattle.world.specs.WorkerCalls.{HasCalled, HasRested, TakesOn}
+use Rattle.world.specs.WorkerCalls.{HasCalled, HasRested, IsFullTaking, TakesOn}
 use Rattle.drains.proofs.Results.{err-then, ok-then}
 use Rattle.world.proofs.TakeLaws.{handle-on}
 use Rattle.world.proofs.WorkerLaws.{by-result, called-by, err-left, failed-only-memory, leases-same, leases-taken, rested-by}
 use Rattle.node.specs.Workers.{worker_at}
 use Rattle.world.specs.Stepping.{IsCausedBy}
 use Rattle.world.proofs.CauseLaws.{taken-cause}
+use Rattle.node.specs.declared.outcome.NodeFault.{NodeFault}
+use Rattle.world.proofs.FullSteps.{handle-full}
 use Rattle.world.proofs.deliveries.handle.Goals as goal
 
 -- the worker has called its desk
@@ -73,3 +75,12 @@ returns-clause-cause g c =
     let cause : IfOk c.prepare-result.result (IsCausedBy (worker_at was) old.history new.history) =
     ok-then c.prepare-result.result (λ outcome is. taken-cause c.case-case.result.now.topology old new was node taken outcome is)
     c.prepare-result.ensures.answers in search rules
+
+-- a record that is prepared appends nothing
+pub returns-clause-full : goal.returns-clause-full
+returns-clause-full g c =
+    let old = c.args.book.now in
+    let was = c.args.node.now in
+    let taken = outgoing.Deliver c.args.parcel.delivery c.args.parcel.sender in
+    let full : IfErr c.prepare-result.result (λ (why : NodeFault). (number : ℕ) → IsFullTaking number taken old was why) =
+    err-then c.prepare-result.result (λ why is. handle-full taken old was why is) c.prepare-result.ensures.fault in search rules

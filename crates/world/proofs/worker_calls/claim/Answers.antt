@@ -1,11 +1,13 @@
 use Rattle.std.proofs.Common.{rules}
-use Rattle.world.specs.WorkerCalls.{HasCalled}
+use Rattle.world.specs.WorkerCalls.{HasCalled, IsFullOn}
 use Rattle.world.proofs.WorkerLaws.{by-result, called-by, leases-claim, leases-same}
-use Rattle.std.specs.Prelude.{IfOk}
+use Rattle.std.specs.Prelude.{IfErr, IfOk}
 use Rattle.node.specs.Workers.{worker_at}
 use Rattle.world.specs.Stepping.{IsCausedBy}
-use Rattle.drains.proofs.Results.{ok-then}
+use Rattle.drains.proofs.Results.{err-then, ok-then}
 use Rattle.world.proofs.CauseLaws.{claim-cause}
+use Rattle.scripts.specs.declared.step.Step.TheVariants as steps
+use Rattle.world.proofs.FullSteps.{claim-full}
 use Rattle.world.proofs.worker_calls.claim.Goals as goal
 
 -- the worker has called its desk
@@ -31,3 +33,11 @@ returns-clause-cause g c =
     let cause : IfOk c.claim-result.result (IsCausedBy (worker_at was) old.history new.history) =
     ok-then c.claim-result.result (λ outcome answers. claim-cause c.case-case.result.now.topology old new c.args.interval was node outcome answers)
     c.claim-result.ensures.answers in search rules
+
+-- where the history is full the step would have appended an entry
+pub returns-clause-full : goal.returns-clause-full
+returns-clause-full g c =
+    let old = c.args.book.now in
+    let was = c.args.node.now in
+    let full : IfErr c.claim-result.result (IsFullOn (steps.Claim was.number c.args.interval) old was) =
+    err-then c.claim-result.result (λ why fault. claim-full old was c.args.interval why) c.claim-result.ensures.fault in search rules

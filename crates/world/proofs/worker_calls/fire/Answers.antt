@@ -1,7 +1,7 @@
 use Rattle.std.proofs.Common.{rules}
 use Rattle.std.specs.Prelude.{IfErr, IfOk}
 use Rattle.scripts.specs.declared.step.Step.TheVariants as steps
-use Rattle.world.specs.WorkerCalls.{ActsOn, HasCalled}
+use Rattle.world.specs.WorkerCalls.{ActsOn, HasCalled, IsFullOn}
 use Rattle.world.proofs.ActsOnLaws.{fire-on}
 use Rattle.drains.proofs.Results.{ok-then}
 use Rattle.world.proofs.WorkerLaws.{by-result, called-by, leases-some, leases-same}
@@ -12,6 +12,7 @@ use Rattle.world.proofs.WorkerLaws.{err-with}
 use Rattle.node.specs.Workers.{worker_at}
 use Rattle.world.specs.Stepping.{IsCausedBy}
 use Rattle.world.proofs.CauseLaws.{fire-cause}
+use Rattle.world.proofs.FullSteps.{fire-full}
 use Rattle.world.proofs.worker_calls.fire.Goals as goal
 
 -- the worker has called its desk
@@ -59,3 +60,14 @@ returns-clause-cause g c =
     ok-then c.fire-result.result (λ outcome answers. fire-cause c.case-case.result.now old new c.args.part answers.mark was node outcome
     c.requires.fits answers.answers)
     c.fire-result.ensures.answers in search rules
+
+-- where the history is full the step would have appended an entry
+pub returns-clause-full : goal.returns-clause-full
+returns-clause-full g c =
+    let old = c.args.book.now in
+    let new = c.fire-result.new.desk.book.now in
+    let was = c.args.node.now in
+    let full : IfErr c.fire-result.result (IsFullOn (steps.Fire was.number c.args.part) old was) =
+    err-with c.fire-result.result (λ why fails looked. fire-full c.case-case.result.now old new was c.args.part why
+    c.case-case.ensures.case c.history.ensures.lawful c.fire-result.ensures.marks c.requires.fits looked fails)
+    c.fire-result.ensures.fault c.fire-result.ensures.looked in search rules

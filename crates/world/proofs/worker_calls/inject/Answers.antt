@@ -1,14 +1,15 @@
 use Rattle.std.proofs.Common.{refl, rules}
-use Rattle.std.specs.Prelude.{IfOk}
+use Rattle.std.specs.Prelude.{IfErr, IfOk}
 use Rattle.scripts.specs.declared.step.Step.TheVariants as steps
-use Rattle.world.specs.WorkerCalls.{ActsOn, HasCalled}
+use Rattle.world.specs.WorkerCalls.{ActsOn, HasCalled, IsFullOn}
 use Rattle.world.proofs.ActsOnLaws.{inject-on}
 use Rattle.drains.proofs.Results.{ok-then}
-use Rattle.world.proofs.WorkerLaws.{by-result, called-by, leases-asked, leases-same}
+use Rattle.world.proofs.WorkerLaws.{by-result, called-by, err-with, leases-asked, leases-same}
 use Rattle.node.specs.Asking.{line_asked}
 use Rattle.node.specs.Workers.{worker_at}
 use Rattle.world.specs.Stepping.{IsCausedBy}
 use Rattle.world.proofs.CauseLaws.{line-cause}
+use Rattle.world.proofs.FullSteps.{inject-full}
 use Rattle.world.proofs.worker_calls.inject.Goals as goal
 
 -- the worker has called its desk
@@ -45,3 +46,14 @@ returns-clause-cause g c =
     ok-then c.inject-result.result (λ outcome answers. line-cause c.case-case.result.now old new c.args.part was node outcome
     c.requires.fits answers)
     c.inject-result.ensures.answers in search rules
+
+-- where the history is full the step would have appended an entry
+pub returns-clause-full : goal.returns-clause-full
+returns-clause-full g c =
+    let old = c.args.book.now in
+    let new = c.inject-result.new.desk.book.now in
+    let was = c.args.node.now in
+    let full : IfErr c.inject-result.result (IsFullOn (steps.Inject was.number c.args.part) old was) =
+    err-with c.inject-result.result (λ why fails looked. inject-full c.case-case.result.now old new was c.args.part why
+    c.case-case.ensures.case c.history.ensures.lawful c.requires.fits looked fails) c.inject-result.ensures.fault
+    c.inject-result.ensures.looked in search rules

@@ -1,7 +1,7 @@
 use Rattle.std.proofs.Common.{rules}
 use Rattle.std.specs.Prelude.{IfErr, IfOk}
 use Rattle.scripts.specs.declared.step.Step.TheVariants as steps
-use Rattle.world.specs.WorkerCalls.{ActsOn, HasCalled}
+use Rattle.world.specs.WorkerCalls.{ActsOn, HasCalled, IsFullOn}
 use Rattle.world.proofs.ActsOnLaws.{purge-on}
 use Rattle.drains.proofs.Results.{ok-then}
 use Rattle.world.proofs.WorkerLaws.{by-result, called-by, leases-some, leases-same}
@@ -12,6 +12,7 @@ use Rattle.world.proofs.WorkerLaws.{err-with}
 use Rattle.node.specs.Workers.{worker_at}
 use Rattle.world.specs.Stepping.{IsCausedBy}
 use Rattle.world.proofs.CauseLaws.{purge-cause}
+use Rattle.world.proofs.FullSteps.{purge-full}
 use Rattle.world.proofs.worker_calls.purge.Goals as goal
 
 -- the worker has called its desk
@@ -59,3 +60,14 @@ returns-clause-cause g c =
     ok-then c.purge-result.result (λ outcome answers. purge-cause c.case-case.result.now.topology old new c.args.interval 1 answers.floor was node
     outcome c.requires.fits answers.answers)
     c.purge-result.ensures.answers in search rules
+
+-- where the history is full the step would have appended an entry
+pub returns-clause-full : goal.returns-clause-full
+returns-clause-full g c =
+    let old = c.args.book.now in
+    let new = c.purge-result.new.desk.book.now in
+    let was = c.args.node.now in
+    let full : IfErr c.purge-result.result (IsFullOn (steps.Purge was.number c.args.interval) old was) =
+    err-with c.purge-result.result (λ why fails looked. purge-full c.case-case.result.now old new was c.args.interval why
+    c.case-case.ensures.case c.history.ensures.lawful c.requires.fits looked fails) c.purge-result.ensures.fault
+    c.purge-result.ensures.looked in search rules

@@ -1,7 +1,7 @@
 use Rattle.std.proofs.Common.{refl, rules}
 use Rattle.std.specs.Prelude.{IfErr, IfOk}
 use Rattle.scripts.specs.declared.step.Step.TheVariants as steps
-use Rattle.world.specs.WorkerCalls.{ActsOn, HasCalled}
+use Rattle.world.specs.WorkerCalls.{ActsOn, HasCalled, IsFullOn}
 use Rattle.world.proofs.ActsOnLaws.{report-on}
 use Rattle.world.proofs.ActsOnLaws.{ok-is, same-answer}
 use Rattle.world.proofs.WorkerLaws.{by-result, called-by, leases-report, leases-same}
@@ -12,6 +12,7 @@ use Rattle.world.proofs.WorkerLaws.{failed-only-memory}
 use Rattle.node.specs.Workers.{worker_at}
 use Rattle.world.specs.Stepping.{IsCausedBy}
 use Rattle.world.proofs.CauseLaws.{report-cause}
+use Rattle.world.proofs.FullSteps.{no-full}
 use Rattle.world.proofs.worker_calls.report.Goals as goal
 
 -- the worker has called its desk
@@ -59,3 +60,12 @@ returns-clause-cause g c =
     ok-then c.report-result.result (λ outcome answers. report-cause c.case-case.result.now old new c.args.interval was node outcome
     c.requires.fits answers)
     c.report-result.ensures.answers in search rules
+
+-- a report appends nothing
+pub returns-clause-full : goal.returns-clause-full
+returns-clause-full g c =
+    let old = c.args.book.now in
+    let was = c.args.node.now in
+    let full : IfErr c.report-result.result (IsFullOn (steps.Report was.number c.args.interval) old was) =
+    err-then c.report-result.result (λ why is. no-full (steps.Report was.number c.args.interval) old was why is)
+    c.report-result.ensures.memory in search rules

@@ -1,15 +1,16 @@
 use Rattle.std.proofs.Common.{ap, rules}
-use Rattle.std.specs.Prelude.{IfOk}
+use Rattle.std.specs.Prelude.{IfErr, IfOk}
 use Rattle.book.specs.OwnDesks.{own_view}
 use Rattle.node.specs.Workers.{NodeView, leases_of, worker_at}
 use Rattle.node.proofs.FitLaws.{grown_looked, looked_not}
 use Rattle.scripts.specs.declared.step.Step.TheVariants as steps
-use Rattle.world.specs.WorkerCalls.{ActsOn, HasCalled}
+use Rattle.world.specs.WorkerCalls.{ActsOn, HasCalled, IsFullOn}
 use Rattle.world.proofs.ActsOnLaws.{resend-on}
-use Rattle.drains.proofs.Results.{ok-then}
+use Rattle.drains.proofs.Results.{err-then, ok-then}
 use Rattle.world.proofs.WorkerLaws.{called-by, leases-kept}
 use Rattle.world.specs.Stepping.{IsCausedBy}
 use Rattle.world.proofs.CauseLaws.{swept-cause}
+use Rattle.world.proofs.FullSteps.{no-full}
 use Rattle.world.proofs.worker_calls.resend.Goals as goal
 
 -- the worker has called its desk
@@ -42,3 +43,12 @@ returns-clause-cause g c =
     let cause : IfOk c.sweep-result.result (IsCausedBy (worker_at was) old.history old.history) =
     ok-then c.sweep-result.result (λ outcome answers. swept-cause old was node outcome answers)
     c.sweep-result.ensures.answers in search rules
+
+-- what is sent again appends nothing
+pub returns-clause-full : goal.returns-clause-full
+returns-clause-full g c =
+    let old = c.args.book.now in
+    let was = c.args.node.now in
+    let full : IfErr c.sweep-result.result (IsFullOn (steps.Resend was.number) old was) =
+    err-then c.sweep-result.result (λ why is. no-full (steps.Resend was.number) old was why is)
+    c.sweep-result.ensures.fault in search rules

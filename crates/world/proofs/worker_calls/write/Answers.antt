@@ -1,14 +1,15 @@
 use Rattle.std.proofs.Common.{rules}
-use Rattle.std.specs.Prelude.{IfOk}
+use Rattle.std.specs.Prelude.{IfErr, IfOk}
 use Rattle.scripts.specs.declared.step.Step.TheVariants as steps
-use Rattle.world.specs.WorkerCalls.{ActsOn, HasCalled}
+use Rattle.world.specs.WorkerCalls.{ActsOn, HasCalled, IsFullOn}
 use Rattle.world.proofs.ActsOnLaws.{write-on}
 use Rattle.drains.proofs.Results.{ok-then}
-use Rattle.world.proofs.WorkerLaws.{by-result, called-by, leases-asked, leases-same, written-leases}
+use Rattle.world.proofs.WorkerLaws.{by-result, called-by, err-with, leases-asked, leases-same, written-leases}
 use Rattle.node.specs.Asking.{work_asked}
 use Rattle.node.specs.Workers.{sending_of, with_written, worker_at}
 use Rattle.world.specs.Stepping.{IsCausedBy}
 use Rattle.world.proofs.CauseLaws.{work-cause}
+use Rattle.world.proofs.FullSteps.{write-full}
 use Rattle.world.proofs.worker_calls.write.Goals as goal
 
 -- the worker has called its desk
@@ -46,3 +47,14 @@ returns-clause-cause g c =
     ok-then c.commit-result.result (λ outcome answers. work-cause c.case-case.result.now.topology old new
     (with_written (sending_of was) (worker_at was)) was node outcome c.requires.fits answers)
     c.commit-result.ensures.answers in search rules
+
+-- where the history is full the step would have appended an entry
+pub returns-clause-full : goal.returns-clause-full
+returns-clause-full g c =
+    let old = c.args.book.now in
+    let new = c.commit-result.new.desk.book.now in
+    let was = c.args.node.now in
+    let full : IfErr c.commit-result.result (IsFullOn (steps.Write was.number) old was) =
+    err-with c.commit-result.result (λ why fails looked. write-full c.case-case.result.now old new was why
+    c.case-case.ensures.case c.history.ensures.lawful c.requires.fits looked fails) c.commit-result.ensures.fault
+    c.commit-result.ensures.looked in search rules

@@ -1,5 +1,5 @@
 use Rattle.std.proofs.Common.{◌+◌, sym, subst}
-use Rattle.world.specs.WorkerCalls.{AreNew}
+use Rattle.world.specs.WorldDrains.{AreNew}
 use Rattle.world.proofs.StartedWorlds.{new-more}
 use Rattle.world.proofs.world.sixteen.Goals as goal
 

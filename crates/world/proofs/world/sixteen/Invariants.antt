@@ -1,4 +1,4 @@
-use Rattle.world.specs.WorkerCalls.{AreNew}
+use Rattle.world.specs.WorldDrains.{AreNew}
 use Rattle.world.proofs.world.sixteen.Given as goal
 
 -- the workers so far

@@ -5,7 +5,8 @@ use Rattle.node.specs.Workers.{idle}
 use Rattle.scripts.specs.declared.step.Step.TheVariants as steps
 use Rattle.world.specs.Stepping.{HasActed}
 use Rattle.world.specs.WorldStates.{WorldState, world_of}
-use Rattle.drains.proofs.Results.{ok-then}
+use Rattle.drains.proofs.Results.{err-then, ok-then}
+use Rattle.world.proofs.FullSteps.{step-not-full}
 use Rattle.world.proofs.world.World.repeat.Goals as goal
 
 -- a message is copied as in the script
@@ -20,3 +21,8 @@ returns-clause-acted g c =
 -- its answer names no number that wants a cause
 pub returns-clause-cause : goal.returns-clause-cause
 returns-clause-cause g c = ok-then c.repeat.result (λ outcome names. names idle _ _) c.repeat.ensures.cause
+
+-- a copy appends nothing
+pub returns-clause-full : goal.returns-clause-full
+returns-clause-full g c =
+    err-then c.repeat.result (λ why is. step-not-full (steps.Repeat c.args.message) c.args.self.now why is) c.repeat.ensures.no_memory

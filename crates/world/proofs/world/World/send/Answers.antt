@@ -5,11 +5,12 @@ use Rattle.scripts.specs.declared.step.Step.TheVariants as steps
 use Rattle.world.specs.Stepping.{HasActed}
 use Rattle.world.specs.WorkerCalls.{HasGoneOn}
 use Rattle.world.specs.WorldStates.{WorldState, world_of}
-use Rattle.drains.proofs.Results.{ok-then}
+use Rattle.drains.proofs.Results.{err-then, ok-then}
 use Rattle.world.proofs.SendWorlds.{sent-at, unsent-at}
 use Rattle.world.proofs.StandLaws.{world-after}
 use Rattle.world.proofs.WorkerLaws.{err-three}
 use Rattle.world.proofs.WorldSteps.{at-index, changed, fits-index, gone-at, work-moved}
+use Rattle.world.proofs.FullSteps.{step-not-full}
 use Rattle.world.proofs.world.World.send.Goals as goal
 
 -- the worker fits its book
@@ -65,3 +66,8 @@ returns-clause-same g c =
 -- its answer names no number that wants a cause
 pub returns-clause-cause : goal.returns-clause-cause
 returns-clause-cause g c = ok-then c.send.result (λ outcome names. names (worker_of (world_of c.args.self.now) c.args.worker) _ _) c.send.ensures.cause
+
+-- what is sent appends nothing
+pub returns-clause-full : goal.returns-clause-full
+returns-clause-full g c =
+    err-then c.send.result (λ why is. step-not-full (steps.Send c.args.worker) c.args.self.now why is) c.send.ensures.no_memory

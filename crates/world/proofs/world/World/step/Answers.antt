@@ -4,6 +4,7 @@ use Rattle.book.specs.Lawful.{IsLawful}
 use Rattle.world.specs.WorldStates.{WorldState}
 use Rattle.world.proofs.StepLaws.{faulted-rows, gone-one}
 use Rattle.world.proofs.WorkerLaws.{err-left}
+use Rattle.world.proofs.FullSteps.{full-then}
 use Rattle.world.proofs.world.World.step.Goals as goal
 
 -- one entry at most is appended
@@ -17,3 +18,8 @@ returns-clause-rows g c =
     (subst (λ (s : WorldState). IsLawful s.book.case (core_of s.book)) c.self.view_is c.history.ensures.lawful)
     (subst (λ (s : WorldState). IsLawful s.book.case (core_of s.book)) c.self-2.view_is c.history-2.ensures.lawful)
     c.step_once-result.ensures.gone kept) c.step_once-result.ensures.kept
+
+-- where the history is full the step would have appended an entry
+pub returns-clause-more : goal.returns-clause-more
+returns-clause-more g c = λ is.
+    full-then c.step_once-result.result c.args.step.now c.args.self.now c.step_once-result.ensures.full is

@@ -1,13 +1,14 @@
 use Rattle.std.proofs.Common.{◌≡◌, subst, sym}
-use Rattle.std.specs.Prelude.{IfOk, OnErr}
+use Rattle.std.specs.Prelude.{IfErr, IfOk, OnErr}
 use Rattle.scripts.specs.Steps.{IsStep}
 use Rattle.world.specs.Stepping.{HasActed, IsCausedBy, worker_of_step}
-use Rattle.world.specs.WorkerCalls.{IsAlone}
+use Rattle.world.specs.WorkerCalls.{IsAlone, IsFullStep}
 use Rattle.world.specs.WorldStates.{WorldState, world_of}
-use Rattle.drains.proofs.Results.{ok-then}
+use Rattle.drains.proofs.Results.{err-then, ok-then}
 use Rattle.world.proofs.WorldSteps.{acted-at, at-index, changed, fits-index, rested-at, stands-at, work-moved}
 use Rattle.world.proofs.WorkerLaws.{err-left}
 use Rattle.world.proofs.CauseLaws.{alone-cause}
+use Rattle.world.proofs.FullSteps.{full-at}
 use Rattle.world.proofs.world.World.step_alone.Goals as goal
 
 -- the worker fits its book
@@ -75,3 +76,14 @@ returns-clause-cause g c =
     c.call_alone.ensures.cause in
     subst (λ (s : WorldState). IfOk c.call_alone.result (IsCausedBy (worker_of_step (world_of s) c.args.step.now) s.book.history after))
     c.self.view_is cause
+
+-- where the history is full the step would have appended an entry
+pub returns-clause-full : goal.returns-clause-full
+returns-clause-full g c =
+    let state : WorldState = record { book = c.self.inside.book; nodes = c.self.inside.nodes.items; flight = c.self.inside.flight.items } in
+    let was = c.index_mut-node.result.now in
+    let at = at-index state c.args.worker was c.self.invariant.0 c.requires.worker c.index_mut-node.ensures.value in
+    let full : IfErr c.call_alone.result (IsFullStep c.args.step.now state) =
+    err-then c.call_alone.result (λ why on. full-at c.args.step.now state c.args.worker was why c.self.invariant.0 at on)
+    c.call_alone.ensures.full in
+    subst (λ (s : WorldState). IfErr c.call_alone.result (IsFullStep c.args.step.now s)) c.self.view_is full

@@ -1,5 +1,5 @@
 use Rattle.std.proofs.Common.{◌≡◌, subst, sym, rules}
-use Rattle.std.specs.Prelude.{IfOk, None, OnErr, Some, slice_get, slice_set, unwrap_or}
+use Rattle.std.specs.Prelude.{IfErr, IfOk, None, OnErr, Some, slice_get, slice_set, unwrap_or}
 use Rattle.list_lemmas.proofs.Told.{if-there}
 use Rattle.run_history.specs.Cases.{CaseShape}
 use Rattle.book.specs.OwnDesks.{own_view}
@@ -10,15 +10,16 @@ use Rattle.node.specs.declared.outcome.Outcome.TheVariants as outcomes
 use Rattle.scripts.specs.declared.step.Step.TheVariants as steps
 use Rattle.world.specs.Standing.{IsWorld}
 use Rattle.world.specs.Stepping.{HasActed, HasFaulted, IsCausedBy}
-use Rattle.world.specs.WorkerCalls.{answered_in_place}
+use Rattle.world.specs.WorkerCalls.{IsFullStep, answered_in_place}
 use Rattle.world.specs.WorldStates.{WorldState, world_of}
-use Rattle.drains.proofs.Results.{ok-then}
+use Rattle.drains.proofs.Results.{err-then, ok-then}
 use Rattle.world.proofs.TakeLaws.{ready-of}
 use Rattle.world.proofs.TakeSteps.{found-sent, take-left, take-not, taken-at, taken-rested, taken-stands}
 use Rattle.world.proofs.WorkerLaws.{err-left}
 use Rattle.world.proofs.WorldSteps.{at-index, changed, fits-index, work-moved}
 use Rattle.scripts.specs.Worlds.{worker_of}
 use Rattle.world.proofs.CauseLaws.{left-cause, world-cause}
+use Rattle.world.proofs.FullSteps.{taken-full}
 use Rattle.world.proofs.world.World.take.Goals as goal
 
 -- no message is there
@@ -133,3 +134,14 @@ returns-clause-cause g c =
     ok-then c.receive.result (λ outcome is. world-cause state after c.args.worker was outcome here is) c.receive.ensures.cause in
     subst (λ (s : WorldState). IfOk c.receive.result (IsCausedBy (worker_of (world_of s) c.args.worker) s.book.history after))
     c.self.view_is cause
+
+-- where the history is full the step would have appended an entry
+pub returns-clause-full : goal.returns-clause-full
+returns-clause-full g c =
+    let state : WorldState = record { book = c.self.inside.book; nodes = c.self.inside.nodes.items; flight = c.self.inside.flight.items } in
+    let was = c.index_mut-node.result.now in
+    let here = at-index state c.args.worker was c.self.invariant.0 c.requires.worker c.index_mut-node.ensures.value in
+    let full : IfErr c.receive.result (IsFullStep (steps.Take c.args.worker c.args.message) state) =
+    err-then c.receive.result (λ why takes. taken-full state c.args.worker c.args.message was c.take_out-taken.result why
+    c.self.invariant.0 here c.take_out-taken.ensures.taken takes) c.receive.ensures.full in
+    subst (λ (s : WorldState). IfErr c.receive.result (IsFullStep (steps.Take c.args.worker c.args.message) s)) c.self.view_is full

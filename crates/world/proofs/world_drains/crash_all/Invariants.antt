@@ -1,0 +1,6 @@
+use Rattle.world.specs.WorkerCalls.{AreNewTo}
+use Rattle.world.proofs.world_drains.crash_all.Given as goal
+
+-- the workers so far have crashed
+abbrev pub invariant-loop-number : goal.invariant-loop-number
+invariant-loop-number l = AreNewTo l.number l.nodes

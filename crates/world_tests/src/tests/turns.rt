@@ -1,0 +1,165 @@
+//! Worlds that are drained turn by turn, as their twins are drained at once.
+ghost use Rattle.std.specs.Prelude.{◌≡◌, true};
+ghost use Rattle.world.specs.WorldDrains.{HasDrain};
+
+use super::fixtures::{CHAIN, COUNT, EVENTS, MARKED, MOST, case, keeper, world};
+use super::tables::last_said;
+use super::whole_scripts::runs;
+use computations::Kinds;
+use mw_types::{Entry, NoMemory};
+use row_keeper::{Keeper, MemKeeper};
+use run_history::Case;
+use std::alloc::Global;
+use std::test::Fail;
+use world::{Drain, World};
+
+// Whether the next turn writes one entry, which is the one that these have at its place, or none where it
+// has to write none.
+fn turns<K: Keeper>(
+    alloc: Global,
+    world: &mut World<'_, K, Kinds>,
+    drain: &mut Drain,
+    whole: &[Entry],
+    is_more: bool,
+) -> bool
+    requires drain { HasDrain world.old drain.old }
+    ensures drain { result ≡ true → HasDrain world.new drain.new }
+{
+    let count = world
+        .book()
+        .history()
+        .len()
+        .saturating_add(usize::from(is_more));
+    let Ok(more) = world.drain_turn(alloc, drain) else {
+        return false;
+    };
+    let entries = world.book().history().entries();
+    more == is_more && entries.len() == count && is_as(entries, whole)
+}
+
+// Whether a history ends as these entries do at its length.
+fn is_as(entries: &[Entry], whole: &[Entry]) -> bool {
+    match whole.get(..entries.len()) {
+        Some(front) => last_said(entries) == last_said(front),
+        None => false,
+    }
+}
+
+// Whether a drain by turns writes these entries, one a turn, and then none, however often it is asked.
+fn is_drained_as<K: Keeper>(
+    alloc: Global,
+    world: &mut World<'_, K, Kinds>,
+    whole: &[Entry],
+) -> bool {
+    let left = whole.len().saturating_sub(world.book().history().len());
+    let mut drain = world.begin_drain(alloc);
+    for _ in 0..left {
+        if !turns(alloc, world, &mut drain, whole, true) {
+            return false;
+        }
+    }
+    turns(alloc, world, &mut drain, whole, false) && turns(alloc, world, &mut drain, whole, false)
+}
+
+// A world that has done a script, over a keeper whose calls of these numbers fail.
+fn after<'a>(
+    alloc: Global,
+    case: &'a Case,
+    failing: &[u64],
+    script: &str,
+) -> Result<World<'a, MemKeeper, Kinds>, NoMemory> {
+    let mut world = world(alloc, case, keeper(alloc, failing)?, MOST)?;
+    match runs(alloc, &mut world, script)? {
+        Ok(()) => Ok(world),
+        Err(_) => Err(NoMemory),
+    }
+}
+
+// Whether a world is drained by turns as its twin was at once. After a fault it is drained once more, as its
+// twin was.
+fn agrees<K: Keeper>(
+    alloc: Global,
+    world: &mut World<'_, K, Kinds>,
+    whole: &[Entry],
+    is_faulty: bool,
+) -> bool {
+    let first = is_drained_as(alloc, world, whole);
+    if is_faulty {
+        !first && is_drained_as(alloc, world, whole)
+    } else {
+        first
+    }
+}
+
+// Drains a world at once, and once more after a fault. Whether each ends as is wanted.
+fn ends<K: Keeper>(alloc: Global, world: &mut World<'_, K, Kinds>, is_faulty: bool) -> bool {
+    world.drain(alloc).is_err() == is_faulty && (!is_faulty || world.drain(alloc).is_ok())
+}
+
+// Whether both ways of a drain write the same behind a script.
+fn is_one(
+    alloc: Global,
+    files: (&str, &str),
+    failing: &[u64],
+    script: &str,
+) -> Result<bool, NoMemory> {
+    let (topology, events) = files;
+    let case = case(alloc, topology, events)?;
+    let is_faulty = !failing.is_empty();
+    let mut twin = after(alloc, &case, failing, script)?;
+    if !ends(alloc, &mut twin, is_faulty) {
+        return Ok(false);
+    }
+    let mut world = after(alloc, &case, failing, script)?;
+    let whole = twin.book().history().entries();
+    Ok(agrees(alloc, &mut world, whole, is_faulty))
+}
+
+// A worker crashes before it sends, and the record that the next owner sends again is in flight.
+const IN_FLIGHT: &str = "claim 0 0
+claim 0 1
+inject 0 0
+crash 0
+claim 1 0
+resend 1
+send 1
+";
+
+// A record is prepared, and its sender has crashed.
+const PREPARED: &str = "claim 0 0
+claim 1 1
+inject 0 0
+send 0
+take 1 0
+crash 0
+";
+
+#[test]
+fn a_drain_by_turns_writes_what_a_drain_does(rt: HostRuntime) -> Result<(), Fail> {
+    for (name, files, failing, script) in [
+        ("no script", (COUNT, EVENTS), [].as_slice(), ""),
+        (
+            "a message in flight",
+            (COUNT, EVENTS),
+            [].as_slice(),
+            IN_FLIGHT,
+        ),
+        (
+            "a record prepared",
+            (COUNT, MARKED),
+            [].as_slice(),
+            PREPARED,
+        ),
+        ("a chain of counts", (CHAIN, MARKED), [].as_slice(), ""),
+        // The sixth call is that of the second line.
+        (
+            "a keeper that fails once",
+            (COUNT, EVENTS),
+            [6].as_slice(),
+            "",
+        ),
+    ] {
+        assert!(rt; is_one(rt.alloc(), files, failing, script)?, "{name}");
+    }
+    Ok(())
+}
