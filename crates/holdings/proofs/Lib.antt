@@ -4,6 +4,7 @@ pub mod HeldRows
 pub mod HeldPlaces
 pub mod HeldSteps
 pub mod ClaimSteps
+pub mod TimeLaws
 pub mod WorkLaws
 pub mod StampLaws
 pub mod KeyLaws

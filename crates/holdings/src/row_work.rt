@@ -1,5 +1,7 @@
 //! The oldest work of one row.
 ghost use Rattle.std.specs.Prelude.{◌≡◌, cond, filter, map, min, not};
+ghost use Rattle.std.specs.List.Sorted.{IsStrictlySortedBy};
+ghost use Rattle.mw_types.specs.Orders.{timer_cmp};
 ghost use Rattle.mw_types.specs.declared.timer.Timer.{Timer};
 ghost use Rattle.mw_types.specs.declared.delivery.Delivery.{Delivery};
 ghost use Rattle.run_history.specs.Marks.{row_marks};
@@ -8,11 +10,28 @@ ghost use Rattle.run_history.specs.Watermarks.{least};
 use mw_types::{Delivery, END, Timer};
 use row_parts::Row;
 
-// The oldest work of a row that is not late, or the end where there is none.
+// The oldest work of a row that is not late, or the end where there is none. Each write asks it
+// twice, so it goes no further than to the first timer that is not late.
 pub(crate) fn row_work(row: &Row) -> u64
     ensures { result ≡ least (row_marks row.now) }
 {
-    oldest_pending(row.pending.as_slice(), oldest_timer(row.timers.as_slice()))
+    row.sound();
+    oldest_pending(row.pending.as_slice(), first_time(row.timers.as_slice()))
+}
+
+// The time of the first of timers that is not late, or the end where there is none. They ascend by
+// time, so none behind it is older.
+fn first_time(timers: &[Timer]) -> u64
+    requires { IsStrictlySortedBy timer_cmp timers.now }
+    ensures { result ≡ least (map (λ (t : Timer). t.time)
+        (filter (λ (t : Timer). not t.late) timers.now)) }
+{
+    for timer in timers {
+        if !timer.late {
+            return timer.time;
+        }
+    }
+    END
 }
 
 /// The least time of timers that are not late, or the end where there is none.

@@ -18,7 +18,7 @@ returns c =
       floor = c.row.inside.floor;
       last = c.row.inside.last;
     } in
-    let times : c.oldest_timer.result ≡ least (times_set row) = c.oldest_timer.ensures
+    let times : c.first_time.result ≡ least (times_set row) = c.first_time.ensures
     ∙ ap (λ (l : List Timer). least (map (λ (t : Timer). t.time) (filter (λ (t : Timer). not t.late) l)))
     c.as_slice-2.ensures.elements in
     c.oldest_pending.ensures
