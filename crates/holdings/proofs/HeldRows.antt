@@ -12,7 +12,7 @@ use Rattle.list_lemmas.proofs.Told.{if-same}
 use Rattle.mw_types.specs.Orders.{row_cmp}
 use Rattle.mw_types.specs.declared.identity.RowName.{RowName}
 use Rattle.mw_types.specs.declared.entry.Entry.{Entry}
-use Rattle.mw_types.specs.declared.entry.Entry.TheVariants.{Claim, Inject, Handle, Fire}
+use Rattle.mw_types.specs.declared.entry.Entry.TheVariants.{Claim}
 use Rattle.mw_types.proofs.OrderLaws.{row_cmp-total}
 use Rattle.topology.specs.Shapes.{Shape, parts_of}
 use Rattle.row_parts.specs.Contents.{Contents, fresh}

@@ -1,5 +1,5 @@
 -- The own work of an interval that is held is that of what is known under its lease.
-use Rattle.std.proofs.Common.{◌≡◌, ◌-◌, ℕ, true, cond, List, [], ◌∷◌, ◌++◌, refl, sym, ◌∙◌, ap, arith}
+use Rattle.std.proofs.Common.{◌≡◌, ℕ, true, cond, List, [], ◌∷◌, ◌++◌, refl, sym, ◌∙◌, ap, arith}
 use Rattle.std.specs.Prelude.{min, Some, IfSome, slice_get}
 use Rattle.std.specs.List.{flat_map}
 use Rattle.list_lemmas.proofs.Told.{if-same}
