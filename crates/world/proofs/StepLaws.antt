@@ -1,18 +1,21 @@
 -- What a step leaves of a world, whole.
-use Rattle.std.proofs.Common.{◌≡◌, ◌∙◌, ◌++◌, List, refl, sym, ap, subst}
+use Rattle.std.proofs.Common.{◌≡◌, ◌∙◌, ◌<◌, ◌++◌, ℕ, List, refl, sym, ap, subst}
 use Rattle.std.specs.Prelude.{Option, None, Some, IfSome}
 use Rattle.std.specs.Option.{is_some, option_to_list}
 use Rattle.std.proofs.lemmas.List.{append-nil}
 use Rattle.mw_types.specs.declared.entry.Entry.{Entry}
 use Rattle.row_keeper.specs.Rows.{Rows}
+use Rattle.topology.specs.Shapes.{Shape}
 use Rattle.run_history.specs.Cases.{CaseShape}
 use Rattle.book.specs.Books.{core_of}
 use Rattle.book.specs.Lawful.{HoldsRowsOf, IsLawful}
 use Rattle.scripts.specs.Keeping.{AppendsAtMostOne}
+use Rattle.scripts.specs.Steps.{IsStep}
 use Rattle.scripts.specs.declared.step.Step.{Step}
+use Rattle.scripts.specs.declared.step.Step.TheVariants as steps
 use Rattle.world.specs.Stepping.{HasFaulted}
 use Rattle.drains.specs.Turns.{with_own}
-use Rattle.world.specs.WorkerCalls.{HasGoneOn}
+use Rattle.world.specs.WorkerCalls.{HasGoneOn, IsAlone}
 use Rattle.world.specs.WorldStates.{WorldState, world_of}
 use Rattle.world.proofs.RunLaws.{faulted-history}
 
@@ -44,3 +47,36 @@ faulted-rows step old new was is gone kept =
     (subst (λ (h : List Entry). IfSome new.book.rows (HoldsRowsOf old.book.case h)) (faulted-history step old new kept)
     (subst (λ (k : CaseShape). IfSome new.book.rows (HoldsRowsOf k new.book.history)) gone.stepped.case is.held)) was.held
     gone.stepped.tells
+
+-- ---- a step that a worker does without a message
+
+-- the worker is one of sixteen
+pub alone-few : (shape : Shape) (number : ℕ) (step : Step) → IsStep shape step → IsAlone number step → number < 16
+alone-few shape number (steps.Claim worker interval) is alone = subst (λ n. n < 16) alone is.0
+alone-few shape number (steps.Inject worker part) is alone = subst (λ n. n < 16) alone is.0
+alone-few shape number (steps.Send worker) is alone = absurd alone
+alone-few shape number (steps.Take worker message) is alone = absurd alone
+alone-few shape number (steps.Write worker) is alone = subst (λ n. n < 16) alone is
+alone-few shape number (steps.Fire worker part) is alone = subst (λ n. n < 16) alone is.0
+alone-few shape number (steps.Report worker interval) is alone = subst (λ n. n < 16) alone is.0
+alone-few shape number (steps.Resend worker) is alone = subst (λ n. n < 16) alone is
+alone-few shape number (steps.Purge worker interval) is alone = subst (λ n. n < 16) alone is.0
+alone-few shape number (steps.Repeat message) is alone = absurd alone
+alone-few shape number (steps.Lose message) is alone = absurd alone
+alone-few shape number (steps.Crash worker) is alone = subst (λ n. n < 16) alone is
+
+-- a fault leaves the world
+pub faulted-alone : (number : ℕ) (step : Step) (old new : WorldState) → IsAlone number step → world_of new ≡ world_of old
+    → HasFaulted step old new
+faulted-alone number (steps.Claim worker interval) old new alone same = same
+faulted-alone number (steps.Inject worker part) old new alone same = same
+faulted-alone number (steps.Send worker) old new alone same = absurd alone
+faulted-alone number (steps.Take worker message) old new alone same = absurd alone
+faulted-alone number (steps.Write worker) old new alone same = same
+faulted-alone number (steps.Fire worker part) old new alone same = same
+faulted-alone number (steps.Report worker interval) old new alone same = same
+faulted-alone number (steps.Resend worker) old new alone same = same
+faulted-alone number (steps.Purge worker interval) old new alone same = same
+faulted-alone number (steps.Repeat message) old new alone same = absurd alone
+faulted-alone number (steps.Lose message) old new alone same = absurd alone
+faulted-alone number (steps.Crash worker) old new alone same = same

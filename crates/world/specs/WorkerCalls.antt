@@ -1,6 +1,6 @@
 -- What one worker does to its book, and to a scripted world of which it is a worker. No public clause cites
 -- this module.
-use Rattle.std.specs.Prelude.{◌≡◌, ◌⊎◌, ◌++◌, ℕ, if◌then◌else◌, List, Option, None, Some, IfSome, All, length, map, replicate, slice_get, slice_set, take}
+use Rattle.std.specs.Prelude.{◌≡◌, ◌⊎◌, ◌++◌, ℕ, ⊤, if◌then◌else◌, List, Option, None, Some, IfSome, All, length, map, replicate, slice_get, slice_set, take}
 use Rattle.std.specs.Option.{option_map_or}
 use Rattle.mw_types.specs.declared.entry.Entry.{Entry}
 use Rattle.mw_types.specs.declared.entry.Entry.TheVariants as entries
@@ -128,6 +128,14 @@ IsAlone number (steps.Resend worker) = worker ≡ number
 IsAlone number (steps.Purge worker interval) = worker ≡ number
 IsAlone number (steps.Crash worker) = worker ≡ number
 IsAlone number _ = ⊥
+
+-- a step is of messages: one is sent, taken, copied or lost
+abbrev pub IsOfMessages : Step → Type 0
+IsOfMessages (steps.Send worker) = ⊤
+IsOfMessages (steps.Take worker message) = ⊤
+IsOfMessages (steps.Repeat message) = ⊤
+IsOfMessages (steps.Lose message) = ⊤
+IsOfMessages _ = ⊥
 
 -- what a worker has prepared, if anything, is a record that was handled
 abbrev pub IsReady : NodeView → Type 0

@@ -1,5 +1,5 @@
 //! The steps of a script, done for real.
-ghost use Rattle.std.specs.Prelude.{◌≡◌, ◌<◌, ◌≤◌, ◌^◌, Err, IfErr, IfOk, OnErr, length};
+ghost use Rattle.std.specs.Prelude.{◌≡◌, ◌<◌, ◌≤◌, ◌^◌, Err, IfErr, IfOk, IfSome, None, OnErr, length};
 ghost use Rattle.std.specs.Option.{is_some};
 ghost use Rattle.mw_types.specs.Causes.{Rose};
 ghost use Rattle.book.specs.DeskReasons.{IsDamageOf};
@@ -12,7 +12,7 @@ ghost use Rattle.scripts.specs.Steps.{IsStep};
 ghost use Rattle.world.specs.Standing.{FitsOwn};
 ghost use Rattle.world.specs.Stepping.{HasActed, HasCauseOf, HasFaulted, IsCausedBy, WouldAppend};
 ghost use Rattle.drains.specs.Turns.{HasFailed};
-ghost use Rattle.world.specs.WorkerCalls.{ActsOn, HasCalled, HasGoneOn, HasRested, IsAlone, IsFullOn, IsFullStep};
+ghost use Rattle.world.specs.WorkerCalls.{ActsOn, HasCalled, HasGoneOn, HasRested, IsAlone, IsFullOn, IsFullStep, IsOfMessages};
 ghost use Rattle.world.specs.WorldStates.{world_of};
 
 use crate::deliveries::{answered_in_place, receive};
@@ -76,28 +76,29 @@ impl<'a, K: Keeper, C: Computation + Drop> World<'a, K, C> {
         ensures failed { IfErr result (HasFailed self.old.book self.new.book) }
         ensures full { IfErr result (IsFullStep step.now self.old) }
     {
+        match worker_alone(step) {
+            Some(worker) => self.step_alone(alloc, worker, step),
+            None => self.step_messages(alloc, step),
+        }
+    }
+
+    // Does a step of messages.
+    fn step_messages(&mut self, alloc: Global, step: &Step) -> Result<Outcome, NodeFault>
+        requires step { IsStep self.old.book.case.topology step.now }
+        requires messages { IsOfMessages step.now }
+        ensures acted { IfOk result (HasActed step.now self.old self.new) }
+        ensures cause { IfOk result (HasCauseOf step.now self.old self.new) }
+        ensures gone { HasGoneOn self.old self.new }
+        ensures kept { OnErr result (HasFaulted step.now self.old self.new) }
+        ensures failed { IfErr result (HasFailed self.old.book self.new.book) }
+        ensures full { IfErr result (IsFullStep step.now self.old) }
+    {
         match step {
-            Step::Claim {
-                worker,
-                interval: _,
-            } => self.step_alone(alloc, *worker, step),
-            Step::Inject { worker, part: _ } => self.step_alone(alloc, *worker, step),
             Step::Send { worker } => self.send(*worker),
             Step::Take { worker, message } => self.take(alloc, *worker, *message),
-            Step::Write { worker } => self.step_alone(alloc, *worker, step),
-            Step::Fire { worker, part: _ } => self.step_alone(alloc, *worker, step),
-            Step::Report {
-                worker,
-                interval: _,
-            } => self.step_alone(alloc, *worker, step),
-            Step::Resend { worker } => self.step_alone(alloc, *worker, step),
-            Step::Purge {
-                worker,
-                interval: _,
-            } => self.step_alone(alloc, *worker, step),
             Step::Repeat { message } => self.repeat(alloc, *message),
             Step::Lose { message } => Ok(self.lose(*message)),
-            Step::Crash { worker } => self.step_alone(alloc, *worker, step),
+            _ => unreachable!(),
         }
     }
 
@@ -174,6 +175,39 @@ impl<'a, K: Keeper, C: Computation + Drop> World<'a, K, C> {
         ensures gone { HasGoneOn self.old self.new }
     {
         lose(&mut self.flight, message)
+    }
+}
+
+// The worker that does a step without a message. None where the step is of messages.
+fn worker_alone(step: &Step) -> Option<u32>
+    ensures alone { IfSome result (λ worker. IsAlone worker step.now) }
+    ensures messages { result ≡ None → IsOfMessages step.now }
+{
+    match step {
+        Step::Claim {
+            worker,
+            interval: _,
+        } => Some(*worker),
+        Step::Inject { worker, part: _ } => Some(*worker),
+        Step::Write { worker } => Some(*worker),
+        Step::Fire { worker, part: _ } => Some(*worker),
+        Step::Report {
+            worker,
+            interval: _,
+        } => Some(*worker),
+        Step::Resend { worker } => Some(*worker),
+        Step::Purge {
+            worker,
+            interval: _,
+        } => Some(*worker),
+        Step::Crash { worker } => Some(*worker),
+        Step::Send { worker: _ } => None,
+        Step::Take {
+            worker: _,
+            message: _,
+        } => None,
+        Step::Repeat { message: _ } => None,
+        Step::Lose { message: _ } => None,
     }
 }
 
