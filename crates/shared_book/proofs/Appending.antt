@@ -33,7 +33,7 @@ use Rattle.shared_book.specs.FenceLaw.{Slot, FenceLaw, Fits, AreApart, IsCore, A
 use Rattle.shared_book.specs.Steps.{Appends, GivesBack, Faults, Looks, IsOwnEntry, lease_in, grown, idle, faulted}
 use Rattle.shared_book.proofs.Lists.{in_append, in_left, in_right, ascends_push, distinct_append, drop_front}
 use Rattle.shared_book.proofs.ViewLists.{everywhere_set, pairwise_set, somewhere_set, somewhere_here}
-use Rattle.shared_book.proofs.Histories.{begins_more, claim_kept, claim_within, entry_at_end, all_below, below_push, carried_below, legal_begins, seq_of_lease}
+use Rattle.shared_book.proofs.Histories.{begins_more, claim_kept, claim_within, entry_at_end, all_below, below_push, carried_below, legal_begins}
 use Rattle.shared_book.proofs.LawSteps.{floor-few, loaded-safe, marks_appended, marks_moved, marks_released}
 use Rattle.shared_book.proofs.Quiet.{quiet-grown, quiet-moved, quiet-released, quiet-stays}
 use Rattle.shared_book.proofs.Moves.{off, apart_sym, fits_on, alone}

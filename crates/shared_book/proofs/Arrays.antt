@@ -1,5 +1,5 @@
 -- What a seat's arrays have of an interval is what its view has settled of it.
-use Rattle.std.proofs.Common.{◌≡◌, ◌∙◌, ℕ, zero, suc, ◌<◌, ◌==◌, Bool, true, false, cond, List, [], ◌∷◌, map, get_or, refl, sym, ap, arith, eq-eqb, ne_eqb}
+use Rattle.std.proofs.Common.{◌≡◌, ◌∙◌, ℕ, zero, suc, cond, List, [], ◌∷◌, map, get_or, refl, sym, ap, eq-eqb, ne_eqb}
 use Rattle.std.specs.Prelude.{slice_set}
 use Rattle.book.specs.Books.{LeaseView}
 use Rattle.shared_book.specs.declared.views.Settled.{Settled}

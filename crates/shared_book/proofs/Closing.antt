@@ -1,5 +1,5 @@
 -- What a close hands back: the seat with all numbers, and no turn, has seen all, and the book is at home.
-use Rattle.std.proofs.Common.{◌≡◌, ℕ, zero, suc, ◌+◌, ◌<◌, ◌≤◌, List, [], length, Some, None, true, false, refl, sym, ap, ◌∙◌, subst, ⊎_elim, arith}
+use Rattle.std.proofs.Common.{◌≡◌, ℕ, zero, suc, ◌<◌, ◌≤◌, List, [], length, Some, None, true, false, refl, sym, ap, ◌∙◌, subst, ⊎_elim, arith}
 use Rattle.std.specs.Prelude.{IfSome, Option, take}
 use Rattle.std.proofs.lemmas.List.{length-take-le}
 use mathlib.Core.Option.{some, some-injective}
@@ -13,7 +13,6 @@ use Rattle.topology.specs.Rules.{interval_count}
 use Rattle.run_history.specs.Cases.{intervals_of}
 use Rattle.run_history.specs.Runs.{run_of}
 use Rattle.run_history.proofs.CaseIntervals.{length-intervals}
-use Rattle.watermark.specs.Marks.{mark_of}
 use Rattle.book.specs.Books.{CoreView}
 use Rattle.book.specs.Lawful.{IsLawful}
 use Rattle.book.specs.Marks.{AreSafe}

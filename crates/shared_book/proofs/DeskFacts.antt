@@ -1,5 +1,5 @@
 -- What a desk keeps of its seat, and what always holds of it.
-use Rattle.std.proofs.Common.{◌≡◌, ◌≢◌, ◌∙◌, ◌<◌, ◌≤◌, ◌++◌, ◌∷◌, ℕ, suc, true, List, [], length, take, refl, sym, ap, subst, ⊎_elim, arith}
+use Rattle.std.proofs.Common.{◌≡◌, ◌≢◌, ◌∙◌, ◌<◌, ◌≤◌, ℕ, suc, true, List, [], length, take, refl, sym, ap, subst, ⊎_elim, arith}
 use Rattle.std.specs.Prelude.{IfSome, IsSome, None, Option, Some, drop, get_or, slice_get, slice_set}
 use Rattle.std.specs.Option.{option_map}
 use Rattle.std.proofs.lemmas.List.{append-nil, length-take-le, take-append-drop}
@@ -7,7 +7,7 @@ use Rattle.std.proofs.lemmas.List.Elements.{All-nil}
 use Rattle.atomic_table.specs.Seated.{TableId}
 use Rattle.mw_types.specs.declared.entry.Entry.{Entry}
 use Rattle.run_history.specs.Cases.{CaseShape, intervals_of}
-use Rattle.run_history.specs.Fences.{Begins, IsClaimed, IsFenced, known, sequencer_of}
+use Rattle.run_history.specs.Fences.{Begins, IsFenced, known, sequencer_of}
 use Rattle.run_history.specs.Marks.{own_work}
 use Rattle.run_history.specs.Runs.{run_of}
 use Rattle.run_history.proofs.CaseIntervals.{length-intervals}
@@ -17,21 +17,19 @@ use Rattle.history_laws.proofs.KnownLaws.{own_work-known}
 use Rattle.key_intervals.specs.declared.bounds.Bounds.{Bounds}
 use Rattle.watermark.specs.Marks.{mark_of}
 use Rattle.run_history.specs.Inputs.{IsRunnable}
-use Rattle.book.specs.Books.{CoreView, LeaseView}
+use Rattle.book.specs.Books.{LeaseView}
 use Rattle.book.specs.Conditions.{IsOwnWork}
 use Rattle.book.specs.Desks.{HasLooked, HasMet, IsSound, KeepsMarks, Sight}
-use Rattle.book.specs.Lawful.{IsLawful}
-use Rattle.book.specs.OwnDesks.{is_claimed, telling}
+use Rattle.book.specs.OwnDesks.{is_claimed}
 use Rattle.book.proofs.Numbers.{own-stays}
 use Rattle.book.proofs.OwnLaws.{claimed-is_claimed, is_claimed-claimed}
 use Rattle.shared_book.specs.declared.views.Basis.{Basis}
 use Rattle.shared_book.specs.declared.views.Settled.{Settled}
 use Rattle.shared_book.specs.declared.views.View.{View}
-use Rattle.shared_book.specs.FenceLaw.{AreClaimed, IsCore}
-use Rattle.shared_book.specs.Joins.{joined}
+use Rattle.shared_book.specs.FenceLaw.{AreClaimed}
 use Rattle.shared_book.specs.MarkSteps.{IsOwnSettled, released}
 use Rattle.shared_book.specs.Places.{place_of, with_mark_loaded}
-use Rattle.shared_book.specs.SharedDesks.{HasKept, IsKeptOfSeat, is_held, shared_view, sight_of, table_numbers}
+use Rattle.shared_book.specs.SharedDesks.{HasKept, is_held, shared_view, sight_of, table_numbers}
 use Rattle.shared_book.specs.Steps.{HasSeenLawful, HasSeenSettled, SeatView, missing}
 use Rattle.shared_book.specs.Turns.{HasMetForeign, HasTurn}
 use Rattle.shared_book.proofs.Appending.{lawful_legal}

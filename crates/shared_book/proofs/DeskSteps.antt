@@ -1,6 +1,6 @@
 -- What the calls of a desk leave, by what they did in a turn.
-use Rattle.std.proofs.Common.{inl, inr, ◌≡◌, ◌≢◌, ◌⊎◌, ◌∙◌, ◌≤◌, ◌++◌, ◌∷◌, ℕ, suc, Bool, true, false, List, [], length, drop, take, refl, sym, ap, subst, ⊎_elim, arith}
-use Rattle.std.specs.Prelude.{◌↔◌, Err, IfErr, IfOk, IfSome, IsErrOf, None, Ok, OnOk, Option, Result}
+use Rattle.std.proofs.Common.{inl, ◌≡◌, ◌≢◌, ◌∙◌, ◌≤◌, ◌++◌, ◌∷◌, ℕ, true, List, [], length, drop, take, refl, sym, ap, subst, arith}
+use Rattle.std.specs.Prelude.{◌↔◌, Err, IsErrOf, None}
 use Rattle.std.proofs.lemmas.List.{append-nil}
 use Rattle.mw_types.specs.Causes.{HasCause, Rose}
 use Rattle.mw_types.specs.declared.entry.Entry.{Entry}
@@ -8,11 +8,10 @@ use Rattle.mw_types.specs.declared.entry.Entry.TheVariants.{Claim}
 use Rattle.mw_types.specs.declared.identity.RowName.{RowName}
 use Rattle.row_keeper.specs.Rows.{Rows}
 use Rattle.row_parts.specs.Contents.{Contents}
-use Rattle.run_history.specs.Cases.{CaseShape, intervals_of}
+use Rattle.run_history.specs.Cases.{intervals_of}
 use Rattle.run_history.specs.Fences.{Begins}
 use Rattle.run_history.specs.Legal.{floor_of}
 use Rattle.run_history.specs.Runs.{run_of, written_row}
-use Rattle.run_history.proofs.Beginnings.{Begins-itself, Begins-trans}
 use Rattle.history_laws.proofs.FloorLaws.{floor_of-rises}
 use Rattle.watermark.specs.Marks.{mark_of}
 use Rattle.book.specs.Answers.{HasStayed, IsFullWhere, IsSameBook, IsStaleWhere, IsWritten}
@@ -31,16 +30,14 @@ use Rattle.book.specs.declared.refusals.ClaimRefusal.{ClaimRefusal}
 use Rattle.book.specs.declared.refusals.ClaimRefusal.TheVariants as claims
 use Rattle.book.specs.declared.refusals.WriteRefusal.{WriteRefusal}
 use Rattle.book.specs.declared.refusals.WriteRefusal.TheVariants as writes
-use Rattle.book.proofs.ClaimLaws.{err-is}
 use Rattle.book.proofs.Numbers.{numbers_from-one, own-stays}
 use Rattle.book.proofs.OwnReasons.{claim-reason, reason}
 use Rattle.book.proofs.OwnLaws.{none-carried}
 use Rattle.shared_book.specs.declared.views.Basis.{Basis}
 use Rattle.shared_book.specs.declared.views.View.{View}
-use Rattle.shared_book.specs.Lists.{IsIn}
 use Rattle.shared_book.specs.MarkSteps.{released}
 use Rattle.shared_book.specs.SharedDesks.{is_held, shared_view}
-use Rattle.shared_book.specs.Steps.{SeatView, faulted, grown, lease_in, missing}
+use Rattle.shared_book.specs.Steps.{SeatView, grown, lease_in, missing}
 use Rattle.shared_book.specs.Turns.{HasClaimedIn, HasFaulted, HasStoredIn, HasTaken, HasWrittenIn}
 use Rattle.shared_book.proofs.Held.{held-in, held-more, in-held}
 use Rattle.shared_book.proofs.Lists.{drop_front, in_right}

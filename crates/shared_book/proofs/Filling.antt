@@ -1,5 +1,5 @@
 -- Input marks that are settled one after the other are those of what a release settles.
-use Rattle.std.proofs.Common.{◌≡◌, ◌≢◌, ◌∙◌, ℕ, zero, suc, ◌+◌, ◌<◌, ◌≤◌, ◌==◌, Bool, true, false, true≢false, cond, List, [], ◌∷◌, ◌++◌, drop, length, map, replicate, take, get_or, refl, sym, ap, arith}
+use Rattle.std.proofs.Common.{◌≡◌, ◌∙◌, ℕ, zero, suc, ◌+◌, ◌<◌, ◌≤◌, ◌==◌, Bool, true, false, true≢false, cond, List, [], ◌∷◌, ◌++◌, drop, length, map, replicate, take, get_or, refl, sym, ap, arith}
 use Rattle.std.specs.Prelude.{max, nat_lt, unwrap_or, None, Option, Some, slice_get, slice_index, slice_set}
 use Rattle.std.specs.List.{cons_option, list_any}
 use Rattle.std.specs.Option.{option_map_or}

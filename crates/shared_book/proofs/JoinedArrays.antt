@@ -1,11 +1,11 @@
 -- The arrays of a seat that took in another are those of its view.
-use Rattle.std.proofs.Common.{◌≡◌, ◌∙◌, ℕ, ◌++◌, List, cond, length, map, refl, sym, ap, subst, ⊎_elim}
+use Rattle.std.proofs.Common.{◌≡◌, ◌∙◌, ℕ, List, cond, length, map, refl, sym, ap, subst, ⊎_elim}
 use Rattle.std.specs.Prelude.{max, nat_lt, slice_index}
 use Rattle.run_history.specs.Cases.{CaseShape}
 use Rattle.shared_book.specs.declared.views.Settled.{Settled}
 use Rattle.shared_book.specs.declared.views.View.{View}
 use Rattle.shared_book.specs.Joins.{joined, note_of}
-use Rattle.shared_book.specs.Places.{AreThere, greatest, newest}
+use Rattle.shared_book.specs.Places.{AreThere, greatest}
 use Rattle.shared_book.specs.Settling.{IsFilledTo}
 use Rattle.shared_book.proofs.Filling.{array-greatest, array-newest, length-greatest, length-newest}
 use Rattle.shared_book.proofs.Joining.{met_leases, met_marks, met_settled}

@@ -1,14 +1,10 @@
 -- Each kind of step keeps the law of marks. A step changes one view; `v` is what it was, and `w` what it becomes.
-use Rattle.std.proofs.Common.{inl, inr, ◌≡◌, ◌≢◌, ◌⊎◌, ◌∙◌, ℕ, suc, ◌+◌, ◌<◌, ◌≤◌, List, [], ◌∷◌, ◌++◌, length, take, set, refl, sym, ap, subst, ⊎_elim, arith}
-use Rattle.std.specs.Prelude.{max, Option, Some, IfSome, replicate, slice_get, slice_set}
-use Rattle.std.proofs.lemmas.List.{length-take}
+use Rattle.std.proofs.Common.{◌≡◌, ◌∙◌, ℕ, ◌+◌, ◌<◌, ◌≤◌, List, [], ◌∷◌, ◌++◌, length, refl, sym, ap, subst, ⊎_elim, arith}
+use Rattle.std.specs.Prelude.{max, Some, IfSome, replicate, slice_get, slice_set}
 use mathlib.Core.Option.{some, some-ne-none}
-use mathlib.Core.Logic.{dite}
-use native.Mathlib.Decide.{ℕ_discrete}
 use lib.ListN.{get_elem?}
 use Rattle.mw_types.specs.declared.entry.Entry.{Entry}
 use Rattle.mw_types.specs.declared.entry.Entry.TheVariants.{Claim, Inject, Handle, Fire, Ack, Purge}
-use Rattle.key_intervals.specs.declared.bounds.Bounds.{Bounds}
 use Rattle.topology.specs.Shapes.{Shape}
 use Rattle.run_history.specs.Cases.{CaseShape, intervals_of}
 use Rattle.run_history.specs.Runs.{Run, run_of}
@@ -29,7 +25,7 @@ use Rattle.shared_book.specs.declared.views.Settled.{Settled}
 use Rattle.shared_book.specs.declared.views.View.{View}
 use Rattle.shared_book.specs.Lists.{Everywhere}
 use Rattle.shared_book.specs.Places.{nothing, place_of, claimed_now, settled_by, place_after, places_after, newest, greatest, with_mark_loaded, with_floor_loaded}
-use Rattle.shared_book.specs.MarksLaw.{IsVouched, IsSettled, HasSettled, HasLoaded, MarksLaw}
+use Rattle.shared_book.specs.MarksLaw.{IsSettled, HasSettled, HasLoaded, MarksLaw}
 use Rattle.shared_book.proofs.ViewLists.{everywhere_set, everywhere_snoc, everywhere_joined}
 use Rattle.shared_book.proofs.Places.{place-set, place-none, place-nothing, mark-none, mark-zero, place-after, place-newest, mark-greatest, mark-set, mark-set_here}
 use Rattle.shared_book.proofs.Vouching.{AreSafe-lower, settled-stays, settled-on, settled-nothing, settled-claimed, settled-after}

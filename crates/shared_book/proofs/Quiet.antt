@@ -1,6 +1,6 @@
 -- Nothing was written under a lease since it was settled, but in the turn that goes on: each kind of step keeps this.
-use Rattle.std.proofs.Common.{inl, inr, ◌≡◌, ◌≢◌, ◌⊎◌, ◌∙◌, ℕ, zero, suc, ◌+◌, ◌<◌, ◌≤◌, ◌==◌, Bool, true, false, true≢false, cond, List, [], ◌∷◌, ◌++◌, length, Option, Some, None, refl, sym, ap, subst, ⊎_elim, arith, eq-eqb, ne_eqb, length-append}
-use Rattle.std.specs.Prelude.{slice_get, slice_set}
+use Rattle.std.proofs.Common.{inl, inr, ◌≡◌, ◌≢◌, ◌⊎◌, ◌∙◌, ℕ, zero, suc, ◌+◌, ◌==◌, Bool, true, false, true≢false, cond, List, [], ◌∷◌, ◌++◌, length, Option, Some, None, refl, sym, ap, subst, ⊎_elim, arith, eq-eqb, ne_eqb, length-append}
+use Rattle.std.specs.Prelude.{slice_set}
 use Rattle.std.specs.Option.{option_and_then, option_map_or}
 use Rattle.std.proofs.lemmas.List.{append-nil}
 use Rattle.std.proofs.lemmas.Option.{slice_get_within}
@@ -20,7 +20,7 @@ use Rattle.list_lemmas.proofs.Lists.{none_some, some_same}
 use Rattle.book.specs.Books.{LeaseView}
 use Rattle.shared_book.specs.declared.views.Settled.{Settled}
 use Rattle.shared_book.specs.declared.views.View.{View}
-use Rattle.shared_book.specs.FenceLaw.{AreClaimed, CarriesBelow, IsQuiet, IsQuietPlace, sequencers}
+use Rattle.shared_book.specs.FenceLaw.{AreClaimed, IsQuiet, IsQuietPlace, sequencers}
 use Rattle.shared_book.specs.Lists.{IsIn}
 use Rattle.shared_book.specs.Places.{claimed_now, newest, nothing, place_of, place_after, places_after, settled_by, is_last}
 use Rattle.shared_book.specs.Steps.{lease_in}

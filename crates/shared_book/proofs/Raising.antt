@@ -1,9 +1,8 @@
 -- What a seat's call to raise a mark asks of the step.
-use Rattle.std.proofs.Common.{◌≡◌, ◌∙◌, ◌≤◌, ◌==◌, ℕ, suc, Bool, true, false, cond, take, refl, sym, ap, arith}
-use Rattle.std.specs.Prelude.{IfSome, Some, min, slice_get}
+use Rattle.std.proofs.Common.{◌≡◌, ◌≤◌, ◌==◌, ℕ, suc, Bool, true, false, cond, take, refl, ap, arith}
+use Rattle.std.specs.Prelude.{min}
 use Rattle.std.proofs.lemmas.Bool.{eqb-true}
 use Rattle.key_intervals.specs.declared.bounds.Bounds.{Bounds}
-use Rattle.run_history.specs.Cases.{intervals_of}
 use Rattle.run_history.specs.Marks.{own_work}
 use Rattle.run_history.specs.Runs.{run_of}
 use Rattle.book.specs.Books.{LeaseView}

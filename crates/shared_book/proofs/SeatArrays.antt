@@ -1,5 +1,5 @@
 -- What a seat keeps in its arrays is what its view has, where a call leaves that as it was.
-use Rattle.std.proofs.Common.{◌≡◌, ◌∙◌, ℕ, suc, ◌<◌, ◌+◌, List, [], ◌∷◌, ◌++◌, length, map, replicate, refl, sym, ap, subst, ⊎_elim}
+use Rattle.std.proofs.Common.{◌≡◌, ◌∙◌, ℕ, suc, ◌<◌, List, [], ◌∷◌, ◌++◌, length, map, sym, ap, subst, ⊎_elim}
 use Rattle.std.specs.Prelude.{slice_set}
 use Rattle.std.proofs.lemmas.List.{length-map, length-set}
 use Rattle.book.specs.Books.{LeaseView}
@@ -7,9 +7,7 @@ use Rattle.run_history.specs.Cases.{intervals_of}
 use Rattle.shared_book.specs.declared.views.Basis.{Basis}
 use Rattle.shared_book.specs.declared.views.Settled.{Settled}
 use Rattle.shared_book.specs.declared.views.View.{View}
-use Rattle.shared_book.specs.Lists.{IsIn}
 use Rattle.shared_book.specs.Places.{AreThere, HasAllPlaces, PLACES, claimed_now, claims_of, inputs_of, with_mark_loaded}
-use Rattle.shared_book.specs.Steps.{SeatView}
 use Rattle.shared_book.proofs.Arrays.{map-set_place}
 use Rattle.shared_book.proofs.Lists.{in_append}
 

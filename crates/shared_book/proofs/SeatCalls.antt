@@ -19,8 +19,8 @@ use Rattle.book.specs.declared.refusals.WriteRefusal.{WriteRefusal}
 use Rattle.book.specs.declared.refusals.WriteRefusal.TheVariants as writes
 use Rattle.shared_book.specs.declared.views.Settled.{Settled}
 use Rattle.shared_book.specs.declared.views.View.{View}
-use Rattle.shared_book.specs.Places.{PLACES, claimed_now, settled_by, settled_in}
-use Rattle.shared_book.specs.Steps.{SeatView, grown, lease_in}
+use Rattle.shared_book.specs.Places.{PLACES, settled_by, settled_in}
+use Rattle.shared_book.specs.Steps.{grown, lease_in}
 use Rattle.shared_book.specs.Turns.{HasClaimedIn, HasFaulted, HasStoredIn, HasWrittenIn}
 use Rattle.shared_book.proofs.Calls.{entry_carries}
 use Rattle.shared_book.proofs.Lists.{drop_front}

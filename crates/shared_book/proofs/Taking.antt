@@ -1,39 +1,33 @@
 -- What a desk knew before its turn is right in the turn, whatever others appended.
-use Rattle.std.proofs.Common.{◌≡◌, ◌∙◌, ◌≤◌, ◌++◌, ℕ, true, List, length, take, sym, ap, subst, arith}
+use Rattle.std.proofs.Common.{◌≡◌, ◌∙◌, ◌≤◌, ℕ, true, List, length, take, sym, ap, subst, arith}
 use Rattle.std.proofs.lemmas.List.{length-take-le}
-use Rattle.std.specs.Prelude.{IfSome, IsSome, Option, Some, None, unwrap_or}
+use Rattle.std.specs.Prelude.{IfSome, IsSome, Some, unwrap_or}
 use Rattle.list_lemmas.proofs.Told.{if-anyway}
 use Rattle.mw_types.specs.declared.entry.Entry.{Entry}
 use Rattle.mw_types.specs.declared.identity.RecordId.{RecordId}
 use Rattle.mw_types.specs.declared.identity.RowName.{RowName}
-use Rattle.key_intervals.specs.declared.bounds.Bounds.{Bounds}
 use Rattle.row_parts.specs.Contents.{Contents, fresh, found_delivery}
-use Rattle.row_keeper.specs.Rows.{Rows}
-use Rattle.run_history.specs.Cases.{CaseShape, fresh_of, intervals_of}
+use Rattle.run_history.specs.Cases.{fresh_of, intervals_of}
 use Rattle.topology.specs.Shapes.{Shape}
-use Rattle.run_history.specs.Fences.{Begins, HasSeenAll, IsFenced, interval_of, known}
+use Rattle.run_history.specs.Fences.{interval_of, known}
 use Rattle.run_history.specs.Finished.{is_handled}
-use Rattle.run_history.specs.Inputs.{IsRunnable}
 use Rattle.run_history.specs.Legal.{IsLegal, floor_of}
-use Rattle.run_history.specs.Marks.{own_work}
 use Rattle.run_history.specs.Runs.{row_in, row_of, run_of}
 use Rattle.topology.specs.Rules.{interval_count}
 use Rattle.run_history.proofs.Beginnings.{Begins-length}
 use Rattle.run_history.proofs.CaseIntervals.{length-intervals}
 use Rattle.run_history.proofs.Fitting.{fits-more, fits-parts}
 use Rattle.history_laws.proofs.FinishedLaws.{is_handled-more}
-use Rattle.history_laws.proofs.FloorLaws.{floor_of-rises}
 use Rattle.history_laws.proofs.SeenLaws.{found-more}
-use Rattle.book.specs.Books.{BookView, CoreView, LeaseView, core_of}
-use Rattle.book.specs.Conditions.{IsOwnWork, IsRowSeen, MayForget, MaySettle}
-use Rattle.book.specs.Desking.{IsDueKnown, IsKnownOf, IsPurgeKnown, IsRowKnown, MayAsk}
+use Rattle.book.specs.Books.{CoreView, LeaseView}
+use Rattle.book.specs.Conditions.{IsRowSeen, MayForget, MaySettle}
+use Rattle.book.specs.Desking.{IsKnownOf, IsPurgeKnown, IsRowKnown, MayAsk}
 use Rattle.book.specs.Lawful.{IsLawful}
 use Rattle.book.specs.Marks.{AreSafe, AreUnderLow}
 use Rattle.book.specs.OwnDesks.{telling}
 use Rattle.book.specs.Proposals.{IsProposedOf}
 use Rattle.book.specs.declared.proposal.Proposal.{Proposal}
 use Rattle.book.specs.declared.proposal.Proposal.TheVariants as proposals
-use Rattle.book.proofs.DeskLaws.{if-telling, telling-if}
 use Rattle.watermark.proofs.SafeMarks.{are-under_low}
 use Rattle.book.proofs.SeenRows.{part-there, told-both, told-then}
 use Rattle.shared_book.specs.declared.views.Basis.{Basis}
@@ -41,12 +35,10 @@ use Rattle.shared_book.specs.declared.views.View.{View}
 use Rattle.shared_book.specs.FenceLaw.{IsCore}
 use Rattle.shared_book.specs.Lists.{IsIn}
 use Rattle.shared_book.specs.SharedDesks.{shared_view}
-use Rattle.shared_book.specs.Steps.{SeatView}
-use Rattle.shared_book.specs.Turns.{HasTaken, HasTurn, IsProposedIn, IsRowHeld, MayWrite}
+use Rattle.shared_book.specs.Turns.{HasTaken, IsProposedIn, IsRowHeld, MayWrite}
 use Rattle.shared_book.proofs.Appending.{lawful_legal}
 use Rattle.shared_book.proofs.Held.{held-in}
 use Rattle.shared_book.proofs.LawSteps.{floor-few}
-use Rattle.history_laws.proofs.KnownLaws.{own_work-known}
 use Rattle.history_laws.proofs.StayLaws.{row-stays}
 use Rattle.shared_book.proofs.Filling.{mark-front_le}
 use Rattle.shared_book.proofs.Vouching.{AreSafe-lower}

@@ -1,7 +1,7 @@
 -- What is settled stays vouched for as others append, what a release settles is vouched for, and what is vouched for is a
 -- safe mark.
-use Rattle.std.proofs.Common.{inl, inr, ◌≡◌, ◌⊎◌, ◌∙◌, ℕ, zero, suc, ◌+◌, ◌<◌, ◌≤◌, ◌==◌, Bool, true, false, cond, true≢false, List, [], ◌∷◌, ◌++◌, length, take, refl, sym, ap, subst, arith, length-append}
-use Rattle.std.specs.Prelude.{All, min, max, Option, Some, None, IfSome, get_or, slice_get}
+use Rattle.std.proofs.Common.{◌≡◌, ◌∙◌, ℕ, suc, ◌+◌, ◌<◌, ◌≤◌, ◌==◌, Bool, true, false, cond, true≢false, List, [], ◌∷◌, ◌++◌, length, take, refl, sym, ap, subst, arith, length-append}
+use Rattle.std.specs.Prelude.{min, Option, Some, None, IfSome, get_or, slice_get}
 use Rattle.std.specs.Option.{option_map_or}
 use Rattle.std.proofs.lemmas.Bool.{eq-eqb, eqb-true}
 use Rattle.std.proofs.lemmas.List.{take-append-le}
@@ -10,17 +10,16 @@ use Rattle.std.proofs.lemmas.List.Elements.{All-from_recursion}
 use Rattle.mw_types.specs.declared.entry.Entry.{Entry}
 use Rattle.mw_types.specs.declared.entry.Entry.TheVariants.{Claim}
 use Rattle.key_intervals.specs.declared.bounds.Bounds.{Bounds}
-use Rattle.topology.specs.Shapes.{Shape, parts_of, feeds_of}
+use Rattle.topology.specs.Shapes.{parts_of, feeds_of}
 use Rattle.run_history.specs.Cases.{CaseShape, intervals_of}
 use Rattle.run_history.specs.Runs.{Run, run_of}
 use Rattle.run_history.specs.Legal.{IsLegal}
-use Rattle.run_history.specs.Fences.{Begins, IsCurrent, is_claim, last_claim}
+use Rattle.run_history.specs.Fences.{Begins, IsCurrent, last_claim}
 use Rattle.run_history.specs.Inputs.{IsRunnable}
 use Rattle.run_history.specs.Watermarks.{least}
-use Rattle.run_history.specs.Marks.{own_work, work_above, IsSafe}
+use Rattle.run_history.specs.Marks.{own_work, IsSafe}
 use Rattle.run_history.proofs.Beginnings.{Begins-length}
 use Rattle.run_history.proofs.Claims.{last_claim-push}
-use Rattle.list_lemmas.proofs.Lists.{none_some, some_same}
 use Rattle.history_laws.proofs.LowLaws.{rows-in_order}
 use Rattle.history_laws.proofs.MarkLaws.{IsSafe-stays, work_above-rises, feeds-there, interval-there}
 use Rattle.watermark.specs.Marks.{mark_of, feeding_marks}

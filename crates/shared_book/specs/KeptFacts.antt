@@ -1,7 +1,7 @@
 -- What a desk keeps of its seat has one proof at most, as a ghost field must.
-use Rattle.std.proofs.Common.{◌≡◌, ◌∙◌, ◌++◌, ◌∷◌, ℕ, List, [], sym, ap}
+use Rattle.std.proofs.Common.{◌≡◌, ◌∙◌, ◌∷◌, ℕ, List, [], sym}
 use Rattle.std.proofs.Props.{props}
-use Rattle.std.specs.Prelude.{Option, Some, IfSome}
+use Rattle.std.specs.Prelude.{Some}
 use Rattle.std.specs.Coded.{×_prop, Unit-prop}
 use mathlib.Core.HLevel.{Σ_prop_path}
 use Rattle.mw_types.specs.Outcomes.{EffectsView}
@@ -14,8 +14,8 @@ use Rattle.mw_types.specs.declared.record.Record.{Record}
 use Rattle.mw_types.specs.declared.timer.Timer.{Timer}
 use Rattle.row_parts.specs.Contents.{found_delivery}
 use Rattle.run_history.specs.Cases.{CaseShape}
-use Rattle.run_history.specs.Legal.{AreLegal, IsLegal, MayAcknowledge, MayClaim, MayFire, MayFollow, MayHandle, MayInject, MayPurge, record_outcome}
-use Rattle.run_history.specs.Runs.{Run, empty_run, followed, row_of}
+use Rattle.run_history.specs.Legal.{AreLegal, MayFollow, MayHandle, record_outcome}
+use Rattle.run_history.specs.Runs.{Run, followed, row_of}
 use Rattle.list_lemmas.proofs.Lists.{some_same}
 use Rattle.book.specs.Books.{LeaseView}
 use Rattle.shared_book.specs.declared.views.Basis.{Basis}

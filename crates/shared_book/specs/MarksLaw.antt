@@ -7,7 +7,7 @@ use Rattle.mw_types.specs.declared.entry.Entry.{Entry}
 use Rattle.key_intervals.specs.declared.bounds.Bounds.{Bounds}
 use Rattle.topology.specs.Shapes.{feeds_of}
 use Rattle.run_history.specs.Cases.{CaseShape, intervals_of}
-use Rattle.run_history.specs.Runs.{Run, run_of}
+use Rattle.run_history.specs.Runs.{run_of}
 use Rattle.run_history.specs.Legal.{floor_of}
 use Rattle.run_history.specs.Fences.{IsCurrent}
 use Rattle.run_history.specs.Marks.{own_work, work_above}

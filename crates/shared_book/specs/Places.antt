@@ -1,5 +1,5 @@
 -- What a seat has settled of its leases, and how two lists of marks become one. Own.
-use Rattle.std.specs.Prelude.{◌≡◌, ◌<◌, ℕ, suc, ◌==◌, map, max, nat_lt, if◌then◌else◌, List, [], ◌∷◌, length, slice_get, slice_set, unwrap_or, Bool, false, Option}
+use Rattle.std.specs.Prelude.{◌≡◌, ◌<◌, ℕ, suc, ◌==◌, map, max, nat_lt, if◌then◌else◌, List, [], ◌∷◌, length, slice_get, slice_set, unwrap_or, Bool, false}
 use Rattle.std.specs.Option.{option_map_or}
 use Rattle.mw_types.specs.declared.entry.Entry.{Entry}
 use Rattle.mw_types.specs.declared.entry.Entry.TheVariants.{Claim}

@@ -7,8 +7,11 @@ use Rattle.shared_book.proofs.catching_up.turn_once.Goals as goal
 
 -- the turn was taken and given back
 pub returns-clause-caught : goal.returns-clause-caught
-returns-clause-caught g c = (c.take-found.new.seat.place.me.0, c.take-found.ensures.taken c.if-found-ne0.false,
-    ap (λ (m : SeatView). m.0) c.finish.ensures.view)
+returns-clause-caught g c = (
+  c.take-found.new.seat.place.me.0,
+  c.take-found.ensures.taken c.if-found-ne0.false,
+  ap (λ (m : SeatView). m.0) c.finish.ensures.view,
+)
 
 pub returns-clause-looked : goal.returns-clause-looked
 returns-clause-looked g c =

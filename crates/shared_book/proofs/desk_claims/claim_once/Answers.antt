@@ -1,12 +1,10 @@
-use Rattle.std.proofs.Common.{ap, length, subst, sym, ◌∙◌}
+use Rattle.std.proofs.Common.{ap, sym, ◌∙◌}
 use Rattle.book.specs.Desking.{HasClaimed}
-use Rattle.book.specs.DeskReasons.{HasClaimReason}
 use Rattle.book.specs.Desks.{HasLooked, KeepsMarks}
 use Rattle.shared_book.specs.declared.views.View.{View}
 use Rattle.shared_book.specs.Steps.{grown}
 use Rattle.shared_book.specs.SharedDesks.{shared_view}
-use Rattle.shared_book.proofs.DeskSteps.{marks-busy, marks-grown, marks-refused, busy-looked, claimed, given, looked-refused, reason-claim, refused-claim}
-use Rattle.shared_book.proofs.Taking.{basis-taken}
+use Rattle.shared_book.proofs.DeskSteps.{marks-busy, marks-grown, marks-refused, busy-looked, claimed, given, looked-refused, refused-claim}
 use Rattle.shared_book.proofs.desk_claims.claim_once.Goals as goal
 
 pub returns-in-Ok-clause-claimed : goal.returns-in-Ok-clause-claimed

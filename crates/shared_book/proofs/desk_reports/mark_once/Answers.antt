@@ -3,7 +3,6 @@ use Rattle.run_history.specs.Cases.{CaseShape, intervals_of}
 use Rattle.run_history.proofs.CaseIntervals.{length-intervals}
 use Rattle.watermark.specs.Marks.{mark_of}
 use Rattle.book.specs.Desks.{HasLooked, KeepsMarks}
-use Rattle.shared_book.specs.declared.views.View.{View}
 use Rattle.shared_book.specs.Places.{with_mark_loaded}
 use Rattle.shared_book.specs.SharedDesks.{HasKept, shared_view}
 use Rattle.shared_book.specs.Steps.{SeatView}

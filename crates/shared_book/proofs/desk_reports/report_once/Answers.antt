@@ -1,4 +1,4 @@
-use Rattle.std.proofs.Common.{ap, arith, length, subst, sym, ◌∙◌}
+use Rattle.std.proofs.Common.{ap, arith, subst, sym, ◌∙◌}
 use Rattle.run_history.specs.Inputs.{IsRunnable}
 use Rattle.book.specs.Desks.{HasLooked, KeepsMarks}
 use Rattle.shared_book.specs.Joins.{first_of}

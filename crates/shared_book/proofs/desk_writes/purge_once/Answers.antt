@@ -1,15 +1,12 @@
-use Rattle.std.proofs.Common.{[], ap, length, subst, sym, ◌∙◌, ◌∷◌}
-use Rattle.mw_types.specs.declared.entry.Entry.TheVariants.{Ack, Purge}
+use Rattle.std.proofs.Common.{[], subst, sym}
+use Rattle.mw_types.specs.declared.entry.Entry.TheVariants.{Purge}
 use Rattle.run_history.specs.Runs.{written_row}
-use Rattle.book.specs.Desking.{HasStored, HasWritten}
+use Rattle.book.specs.Desking.{HasStored}
 use Rattle.book.specs.DeskReasons.{HasReason, of_write}
 use Rattle.book.specs.Desks.{HasLooked, KeepsMarks}
-use Rattle.shared_book.specs.declared.views.View.{View}
-use Rattle.shared_book.specs.Steps.{grown}
 use Rattle.shared_book.specs.SharedDesks.{shared_view}
-use Rattle.shared_book.specs.Turns.{HasStoredIn, HasWrittenIn}
-use Rattle.shared_book.proofs.DeskSteps.{marks-busy, marks-grown, marks-refused, busy-looked, given, looked-refused, reason-write, refused-write, stored, written-by}
-use Rattle.shared_book.proofs.Taking.{basis-taken, core-taken, forget-taken, row-taken, write-taken}
+use Rattle.shared_book.proofs.DeskSteps.{marks-busy, marks-grown, marks-refused, busy-looked, given, looked-refused, reason-write, refused-write, stored}
+use Rattle.shared_book.proofs.Taking.{core-taken, forget-taken, row-taken, write-taken}
 use Rattle.shared_book.proofs.desk_writes.purge_once.Goals as goal
 
 pub purge_at-result-requires-clause-lease : goal.purge_at-result-requires-clause-lease

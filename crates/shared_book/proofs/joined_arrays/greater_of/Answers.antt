@@ -1,4 +1,4 @@
-use Rattle.std.proofs.Common.{◌≡◌, ◌<◌, length, arith}
+use Rattle.std.proofs.Common.{arith}
 use Rattle.shared_book.proofs.Filling.{filled-none, filled-next}
 use Rattle.shared_book.proofs.joined_arrays.greater_of.Goals as goal
 

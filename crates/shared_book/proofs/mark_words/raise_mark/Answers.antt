@@ -1,4 +1,4 @@
-use Rattle.std.proofs.Common.{◌+◌, ◌-◌, ◌≡◌, ◌≤◌, ◌∙◌, ap, sym, subst, arith}
+use Rattle.std.proofs.Common.{◌+◌, ◌-◌, ◌≡◌, ◌≤◌, ◌∙◌, sym, subst, arith}
 use Rattle.watermark.specs.Marks.{mark_of}
 use Rattle.shared_book.specs.Places.{with_mark_loaded}
 use Rattle.shared_book.proofs.Told.{may_raise_mark}

@@ -1,5 +1,4 @@
-use Rattle.std.proofs.Common.{◌∙◌, ◌≡◌, ap, sym, subst, arith}
-use Rattle.std.specs.Prelude.{max}
+use Rattle.std.proofs.Common.{◌∙◌, ap, arith}
 use Rattle.shared_book.specs.Steps.{SeatView}
 use Rattle.shared_book.proofs.DeskFacts.{kept-look, looked-met, tells}
 use Rattle.shared_book.proofs.DeskSteps.{marks-same}

@@ -1,9 +1,8 @@
-use Rattle.std.proofs.Common.{◌≡◌, ◌∙◌, ◌≤◌, ℕ, List, ap, length, sym, subst, arith}
+use Rattle.std.proofs.Common.{◌∙◌, ℕ, List, ap, length, arith}
 use Rattle.run_history.specs.Cases.{CaseShape, intervals_of}
 use Rattle.run_history.specs.Runs.{run_of}
 use Rattle.run_history.proofs.CaseIntervals.{length-intervals}
 use Rattle.watermark.specs.Marks.{mark_of}
-use Rattle.book.specs.Marks.{AreSafe}
 use Rattle.book.proofs.SeenRows.{told-then}
 use Rattle.shared_book.proofs.Vouching.{AreSafe-lower}
 use Rattle.shared_book.proofs.opening.first_marks.Goals as goal

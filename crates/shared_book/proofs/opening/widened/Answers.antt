@@ -1,4 +1,4 @@
-use Rattle.std.proofs.Common.{◌≡◌, ◌∙◌, ◌++◌, ◌+◌, ℕ, List, ap, drop, length, length-append, replicate, sym, arith}
+use Rattle.std.proofs.Common.{◌∙◌, ◌++◌, ℕ, List, ap, drop, length, length-append, replicate, arith}
 use Rattle.std.proofs.lemmas.List.{length-drop, length-take-le}
 use Rattle.watermark.specs.Marks.{mark_of}
 use Rattle.shared_book.proofs.Filling.{mark-widened}

@@ -1,8 +1,5 @@
-use Rattle.std.proofs.Common.{◌≡◌, ◌∙◌, List, ℕ, ap, length, take, subst, sym}
-use Rattle.std.specs.Prelude.{IfSome}
-use Rattle.run_history.specs.Cases.{CaseShape, intervals_of}
+use Rattle.std.proofs.Common.{take}
 use Rattle.run_history.specs.Runs.{run_of}
-use Rattle.book.specs.Marks.{AreSafe}
 use Rattle.book.proofs.SeenRows.{told-then}
 use Rattle.shared_book.proofs.Filling.{mark-front_le}
 use Rattle.shared_book.proofs.Vouching.{AreSafe-lower}

@@ -1,4 +1,4 @@
-use Rattle.std.proofs.Common.{◌≡◌, ◌∙◌, ap, map, sym}
+use Rattle.std.proofs.Common.{◌∙◌, map, sym}
 use Rattle.shared_book.specs.declared.views.Settled.{Settled}
 use Rattle.shared_book.specs.Places.{places_after}
 use Rattle.shared_book.proofs.Calls.{seen_history}

@@ -1,4 +1,4 @@
-use Rattle.std.proofs.Common.{◌≡◌, ◌∙◌, ap, sym}
+use Rattle.std.proofs.Common.{◌∙◌, sym}
 use Rattle.shared_book.proofs.Filling.{last-some}
 use Rattle.shared_book.proofs.settling.settled_input.Goals as goal
 

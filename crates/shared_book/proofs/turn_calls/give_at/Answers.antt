@@ -1,4 +1,4 @@
-use Rattle.std.proofs.Common.{◌≡◌, ◌∙◌, ap, length, sym, subst}
+use Rattle.std.proofs.Common.{◌∙◌, ap, length, sym, subst}
 use Rattle.shared_book.specs.declared.views.View.{View}
 use Rattle.shared_book.specs.Joins.{first_of}
 use Rattle.shared_book.specs.Places.{AreThere, claims_of, inputs_of, with_floor_loaded}

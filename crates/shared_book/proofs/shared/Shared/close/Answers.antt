@@ -1,4 +1,4 @@
-use Rattle.std.proofs.Common.{◌≡◌, List, sym, ap, ◌∙◌, subst, length, arith}
+use Rattle.std.proofs.Common.{List, sym, ap, ◌∙◌, subst, length}
 use Rattle.std.specs.Prelude.{IfSome, take, ◌<◌, ℕ}
 use Rattle.run_history.specs.Cases.{CaseShape, intervals_of}
 use Rattle.run_history.specs.Runs.{run_of}

@@ -1,8 +1,7 @@
-use Rattle.std.proofs.Common.{◌≡◌, ◌∙◌, ◌≤◌, ap, sym, subst, arith}
+use Rattle.std.proofs.Common.{◌∙◌, ap, sym, subst}
 use Rattle.std.specs.Prelude.{min, slice_set}
 use Rattle.shared_book.specs.declared.views.View.{View}
 use Rattle.shared_book.specs.Joins.{first_of}
-use Rattle.shared_book.specs.Places.{input_under}
 use Rattle.shared_book.specs.Steps.{SeatView}
 use Rattle.shared_book.proofs.Raising.{may-raise}
 use Rattle.shared_book.proofs.SeatArrays.{HasArrays, arrays-marked}

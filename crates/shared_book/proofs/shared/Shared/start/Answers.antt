@@ -1,8 +1,5 @@
-use Rattle.std.proofs.Common.{◌≡◌, ◌∙◌, ◌≤◌, ℕ, List, ap, sym, subst, arith}
-use Rattle.std.specs.Prelude.{IfSome}
+use Rattle.std.proofs.Common.{◌∙◌, ℕ, List, ap, sym, subst, arith}
 use Rattle.run_history.specs.Cases.{CaseShape}
-use Rattle.run_history.specs.Legal.{floor_of}
-use Rattle.run_history.specs.Runs.{run_of}
 use Rattle.watermark.specs.Marks.{mark_of}
 use Rattle.book.specs.Books.{CoreView}
 use Rattle.book.proofs.DeskLaws.{telling-if}

@@ -1,4 +1,4 @@
-use Rattle.std.proofs.Common.{ap, length, sym, subst}
+use Rattle.std.proofs.Common.{sym, subst}
 use Rattle.run_history.specs.Inputs.{IsRunnable}
 use Rattle.shared_book.proofs.DeskFacts.{sound}
 use Rattle.shared_book.proofs.shared_desk.SharedDeskDesk.sound.Goals as goal
