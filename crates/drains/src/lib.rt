@@ -3,12 +3,12 @@
 //! A drain claims each interval, and then writes the one entry that its rules name, until none is left
 //! to write. Each law of drains and of rounds of reports is the contract of a function with an empty body.
 //! Stands on `node` and the crates below it. Public contract: `drain` returns over every keeper, and where
-//! a contract can see the keeper's rows it writes exactly the entries of that order, and after Ok none is
-//! left; until it ends a drain has a next entry, and at most one that leaves the history legal and
-//! fenced; so two legal and fenced histories that are drained from one beginning are the same; no work is
-//! left when a legal one ends; one round of reports finds exactly the low watermarks where nothing is
-//! pending. Definitions: `specs/Drains.antt`, what a drain writes; `specs/ReportRounds.antt`, a round of
-//! reports.
+//! a contract can see the keeper's rows it writes exactly the entries of that order, each by a `drain_turn`,
+//! and after Ok none is left; until it ends a drain has a next entry, and at most one that leaves the
+//! history legal and fenced; so two legal and fenced histories that are drained from one beginning are the
+//! same; no work is left when a legal one ends; one round of reports finds exactly the low watermarks where
+//! nothing is pending. Definitions: `specs/Drains.antt`, what a drain writes; `specs/DrainTurns.antt`, when
+//! one is under way; `specs/ReportRounds.antt`, a round of reports.
 #![tactic(auto)]
 
 mod claiming;
