@@ -3,11 +3,11 @@ use super::calls::{Files, answer, keeper, numbers, sink};
 use super::events::EVENTS;
 use super::histories::MARKED;
 use super::looks::{Look, seen, seen_by};
+use super::must;
 use super::topologies::{COUNT, CUTS, READERS, SPIKE};
 use mw_ports::MemSink;
 use mw_types::{CallList, NoMemory};
 use std::alloc::Global;
-use std::test::Fail;
 
 // The line that audits a trace of one event file.
 const AUDIT: &str = "audit --trace r t.json e";
@@ -32,9 +32,12 @@ fn refuses(alloc: Global, trace: &str, message: &str) -> Result<bool, NoMemory> 
 }
 
 #[test]
-fn audit_accepts(rt: HostRuntime) -> Result<(), Fail> {
-    assert!(rt; accepts(rt.alloc(), MARKED, "{\"entries\":11}\n")?);
-    Ok(())
+fn audit_accepts(rt: HostRuntime) {
+    must(
+        &rt,
+        accepts(rt.alloc(), MARKED, "{\"entries\":11}\n"),
+        "a lawful trace",
+    );
 }
 
 // What is written in the place of what, where it first stands in the trace of the two records, and what is
@@ -94,11 +97,10 @@ fn refuses_changed(alloc: Global, new: &str, old: &str, message: &str) -> Result
 }
 
 #[test]
-fn audit_refuses(rt: HostRuntime) -> Result<(), Fail> {
+fn audit_refuses(rt: HostRuntime) {
     for (new, old, message) in &CHANGED {
-        assert!(rt; refuses_changed(rt.alloc(), new, old, message)?, "{new}");
+        must(&rt, refuses_changed(rt.alloc(), new, old, message), new);
     }
-    Ok(())
 }
 
 // Traces that end early, and what is said of each.
@@ -112,11 +114,10 @@ static ENDED: [(&str, &str); 3] = [
 ];
 
 #[test]
-fn a_trace_that_ends_early_is_refused(rt: HostRuntime) -> Result<(), Fail> {
+fn a_trace_that_ends_early_is_refused(rt: HostRuntime) {
     for (trace, message) in &ENDED {
-        assert!(rt; refuses(rt.alloc(), trace, message)?, "{trace}");
+        must(&rt, refuses(rt.alloc(), trace, message), trace);
     }
-    Ok(())
 }
 
 // Files that are read in their order, the trace last, and what is said of the first that is refused.
@@ -137,14 +138,14 @@ static FILES: [(&str, Files<'static>, &str); 5] = [
 ];
 
 #[test]
-fn files_are_refused_before_a_trace(rt: HostRuntime) -> Result<(), Fail> {
+fn files_are_refused_before_a_trace(rt: HostRuntime) {
     for (name, files, message) in &FILES {
-        assert!(rt;
-            seen(rt.alloc(), AUDIT, files, Look::Refused(message))?,
-            "{name}"
+        must(
+            &rt,
+            seen(rt.alloc(), AUDIT, files, Look::Refused(message)),
+            name,
         );
     }
-    Ok(())
 }
 
 // Whether bytes are audited as the text of a run over these files, of so many entries.
@@ -188,11 +189,10 @@ static RUNS: [(&str, &str, &str); 5] = [
 ];
 
 #[test]
-fn a_runs_own_text_is_accepted(rt: HostRuntime) -> Result<(), Fail> {
+fn a_runs_own_text_is_accepted(rt: HostRuntime) {
     for (line, topology, text) in &RUNS {
-        assert!(rt; audits_own(rt.alloc(), line, topology, text)?, "{text}");
+        must(&rt, audits_own(rt.alloc(), line, topology, text), text);
     }
-    Ok(())
 }
 
 // Whether a sink that takes eight bytes and fails at its second call gets eight bytes of what is written.
@@ -207,7 +207,6 @@ fn ends_after_eight(alloc: Global) -> Result<bool, NoMemory> {
 }
 
 #[test]
-fn a_sink_fails_after_eight_bytes_of_an_audit(rt: HostRuntime) -> Result<(), Fail> {
-    assert!(rt; ends_after_eight(rt.alloc())?);
-    Ok(())
+fn a_sink_fails_after_eight_bytes_of_an_audit(rt: HostRuntime) {
+    must(&rt, ends_after_eight(rt.alloc()), "eight bytes");
 }

@@ -1,10 +1,10 @@
 //! The mode `collect`: the live lines of a file, each once.
 use super::calls::{keeper, numbers};
 use super::looks::{Look, seen, seen_by};
+use super::must;
 use mw_ports::MemSink;
 use mw_types::{CallList, NoMemory};
 use std::alloc::Global;
-use std::test::Fail;
 
 // A file that is collected, and the text that is written of it.
 struct Row {
@@ -61,11 +61,10 @@ fn collects(alloc: Global, row: &Row) -> Result<bool, NoMemory> {
 }
 
 #[test]
-fn collect_once(rt: HostRuntime) -> Result<(), Fail> {
+fn collect_once(rt: HostRuntime) {
     for row in &ROWS {
-        assert!(rt; collects(rt.alloc(), row)?, "{}", row.name);
+        must(&rt, collects(rt.alloc(), row), row.name);
     }
-    Ok(())
 }
 
 // A file whose fourth line differs from its first.
@@ -84,17 +83,16 @@ static LINES: [(&str, &str); 3] = [
 ];
 
 #[test]
-fn a_line_that_differs_is_named(rt: HostRuntime) -> Result<(), Fail> {
+fn a_line_that_differs_is_named(rt: HostRuntime) {
     for (line, message) in &LINES {
         let is_so = seen(
             rt.alloc(),
             line,
             &[("f", DIFFERING)],
             Look::Refused(message),
-        )?;
-        assert!(rt; is_so, "{line}");
+        );
+        must(&rt, is_so, line);
     }
-    Ok(())
 }
 
 // Whether a sink that takes eight bytes and fails at its second call gets eight bytes of a file's text.
@@ -115,7 +113,10 @@ fn ends_after_eight(alloc: Global, file: &str) -> Result<bool, NoMemory> {
 }
 
 #[test]
-fn a_sink_fails_after_eight_bytes_of_a_collection(rt: HostRuntime) -> Result<(), Fail> {
-    assert!(rt; ends_after_eight(rt.alloc(), ROWS[1].file)?);
-    Ok(())
+fn a_sink_fails_after_eight_bytes_of_a_collection(rt: HostRuntime) {
+    must(
+        &rt,
+        ends_after_eight(rt.alloc(), ROWS[1].file),
+        "eight bytes",
+    );
 }

@@ -2,13 +2,13 @@
 use super::calls::{FIRST, SOLO, answer, bytes_of, keeper, numbers, sink};
 use super::events::heads;
 use super::looks::{Kind, Look, Rows, is_row, seen_by};
+use super::must;
 use super::topologies::HEADS;
 use millwheel_cli::Status;
 use mw_ports::MemSink;
 use mw_types::{CallList, Key, NoMemory, RowName};
 use row_keeper::{BlindKeeper, Keeper, KeptRow, MemKeeper};
 use std::alloc::Global;
-use std::test::Fail;
 
 // A sink of eight bytes whose second write fails, or takes nothing.
 fn sink_of_eight(alloc: Global, fails: bool) -> Result<MemSink, NoMemory> {
@@ -31,11 +31,10 @@ fn ends_after_eight(alloc: Global, fails: bool) -> Result<bool, NoMemory> {
 }
 
 #[test]
-fn a_sink_fails_after_eight_bytes_or_takes_nothing(rt: HostRuntime) -> Result<(), Fail> {
+fn a_sink_fails_after_eight_bytes_or_takes_nothing(rt: HostRuntime) {
     for fails in &[true, false] {
-        assert!(rt; ends_after_eight(rt.alloc(), *fails)?, "fails: {fails}");
+        must(&rt, ends_after_eight(rt.alloc(), *fails), fails);
     }
-    Ok(())
 }
 
 // Whether the first example's run is so over a keeper whose call of this number fails.
@@ -81,11 +80,10 @@ static FAILED: [(u64, Look<'static>); 7] = [
 ];
 
 #[test]
-fn a_keeper_that_fails_ends_the_run(rt: HostRuntime) -> Result<(), Fail> {
+fn a_keeper_that_fails_ends_the_run(rt: HostRuntime) {
     for (number, look) in &FAILED {
-        assert!(rt; fails_at(rt.alloc(), *number, *look)?, "{number}");
+        must(&rt, fails_at(rt.alloc(), *number, *look), number);
     }
-    Ok(())
 }
 
 // The name of a row of part 1.
@@ -133,9 +131,8 @@ fn thousand_are_refused(alloc: Global) -> Result<bool, NoMemory> {
 }
 
 #[test]
-fn keeper_not_empty(rt: HostRuntime) -> Result<(), Fail> {
-    assert!(rt; thousand_are_refused(rt.alloc())?);
-    Ok(())
+fn keeper_not_empty(rt: HostRuntime) {
+    must(&rt, thousand_are_refused(rt.alloc()), "a thousand records");
 }
 
 // A keeper that shows one row and never what is put: the row stays as it was made.
@@ -171,7 +168,6 @@ fn damage_ends(alloc: Global) -> Result<bool, NoMemory> {
 }
 
 #[test]
-fn damaged_row(rt: HostRuntime) -> Result<(), Fail> {
-    assert!(rt; damage_ends(rt.alloc())?);
-    Ok(())
+fn damaged_row(rt: HostRuntime) {
+    must(&rt, damage_ends(rt.alloc()), "the row of a");
 }

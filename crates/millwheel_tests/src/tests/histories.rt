@@ -2,10 +2,10 @@
 use super::calls::{FIRST, Files, SOLO};
 use super::events::repeated;
 use super::looks::{Case, Kind, Look, Rows, holds, seen};
+use super::must;
 use super::topologies::{COUNT, CUTS, READERS};
 use mw_types::NoMemory;
 use std::alloc::Global;
-use std::test::Fail;
 
 // The history of the first example, and its text.
 const TWO_WINDOWS: &str = r#"{"do":"claim","interval":0,"n":0,"worker":0}
@@ -112,11 +112,10 @@ static EXAMPLE: [Case; 3] = [
 ];
 
 #[test]
-fn two_windows_and_summary(rt: HostRuntime) -> Result<(), Fail> {
+fn two_windows_and_summary(rt: HostRuntime) {
     for case in &EXAMPLE {
-        assert!(rt; holds(rt.alloc(), case)?, "{}", case.0);
+        must(&rt, holds(rt.alloc(), case), case.0);
     }
-    Ok(())
 }
 
 // An event file of no line.
@@ -129,11 +128,10 @@ static NOTHING: [Case; 2] = [
 ];
 
 #[test]
-fn empty_event_file(rt: HostRuntime) -> Result<(), Fail> {
+fn empty_event_file(rt: HostRuntime) {
     for case in &NOTHING {
-        assert!(rt; holds(rt.alloc(), case)?, "{}", case.0);
+        must(&rt, holds(rt.alloc(), case), case.0);
     }
-    Ok(())
 }
 
 // Histories and their lines.
@@ -171,11 +169,10 @@ static HISTORIES: [Case; 3] = [
 ];
 
 #[test]
-fn each_history_has_its_lines(rt: HostRuntime) -> Result<(), Fail> {
+fn each_history_has_its_lines(rt: HostRuntime) {
     for case in &HISTORIES {
-        assert!(rt; holds(rt.alloc(), case)?, "{}", case.0);
+        must(&rt, holds(rt.alloc(), case), case.0);
     }
-    Ok(())
 }
 
 // Whether this entry stands there in the history of so many records of one key.
@@ -201,12 +198,8 @@ static MANY: [(u32, usize, Kind<'static>); 7] = [
 // Two claims, and three entries for each of 64 records, stand before entry 194. The row has seen 64 ids
 // then, which it forgets before it handles one more; with 63 it forgets none.
 #[test]
-fn a_row_of_64_ids_forgets_them_before_it_handles_one_more(rt: HostRuntime) -> Result<(), Fail> {
+fn a_row_of_64_ids_forgets_them_before_it_handles_one_more(rt: HostRuntime) {
     for (records, number, entry) in &MANY {
-        assert!(rt;
-            stands(rt.alloc(), *records, *number, *entry)?,
-            "{records}: {number}"
-        );
+        must(&rt, stands(rt.alloc(), *records, *number, *entry), number);
     }
-    Ok(())
 }

@@ -1,16 +1,15 @@
 //! The mode `load`, and where rows are kept.
 use super::calls::words;
 use super::looks::{Look, seen};
+use super::must;
 use millwheel_cli::{keep_name, load_lines};
 use mw_types::{Name, NoMemory};
 use std::alloc::Global;
-use std::test::Fail;
 
 #[test]
-fn load_of_three_lines(rt: HostRuntime) -> Result<(), Fail> {
+fn load_of_three_lines(rt: HostRuntime) {
     let look = Look::Writes("{\"fired\":3,\"handled\":3,\"injected\":3,\"late\":0}\n");
-    assert!(rt; seen(rt.alloc(), "load 7 3", &[], look)?);
-    Ok(())
+    must(&rt, seen(rt.alloc(), "load 7 3", &[], look), "three lines");
 }
 
 // Whether the lines of load under seed 7 are so many, and end so.
@@ -36,10 +35,10 @@ const THREE: &str = r#"{"key":"b","ts":99}
 "#;
 
 #[test]
-fn the_lines_of_load(rt: HostRuntime) -> Result<(), Fail> {
+fn the_lines_of_load(rt: HostRuntime) {
     let end = "{\"watermark\":520}\n";
-    assert!(rt; load_is(rt.alloc(), 3, THREE)? && load_ends_with(rt.alloc(), 50, end)?);
-    Ok(())
+    must(&rt, load_is(rt.alloc(), 3, THREE), "three lines");
+    must(&rt, load_ends_with(rt.alloc(), 50, end), "fifty lines");
 }
 
 // Whether the words of a line keep rows in the file of this name, or in none.
@@ -61,9 +60,8 @@ static KEPT: [(&str, Option<&str>); 3] = [
 ];
 
 #[test]
-fn rows_are_kept_where_the_words_say_so(rt: HostRuntime) -> Result<(), Fail> {
+fn rows_are_kept_where_the_words_say_so(rt: HostRuntime) {
     for (line, file) in &KEPT {
-        assert!(rt; keeps_in(rt.alloc(), line, *file)?, "{line}");
+        must(&rt, keeps_in(rt.alloc(), line, *file), line);
     }
-    Ok(())
 }

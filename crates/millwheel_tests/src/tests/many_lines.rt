@@ -1,10 +1,10 @@
 //! A thousand record lines over a hundred keys and twenty windows, against a count by an array.
 use super::calls::SOLO;
 use super::looks::{Look, seen};
+use super::must;
 use super::topologies::COUNT;
 use mw_types::NoMemory;
 use std::alloc::Global;
-use std::test::Fail;
 
 // The key and the timestamp of a line, which three and four lines in a row share.
 fn line_at(line: u32) -> (u32, u32) {
@@ -120,7 +120,6 @@ fn are_counted(alloc: Global, lines: u32) -> Result<bool, NoMemory> {
 }
 
 #[test]
-fn a_thousand_lines_are_counted(rt: HostRuntime) -> Result<(), Fail> {
-    assert!(rt; are_counted(rt.alloc(), 1000)?);
-    Ok(())
+fn a_thousand_lines_are_counted(rt: HostRuntime) {
+    must(&rt, are_counted(rt.alloc(), 1000), "a thousand lines");
 }

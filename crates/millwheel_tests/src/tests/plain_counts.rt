@@ -3,13 +3,13 @@ use super::calls::{FIRST, Files, SOLO, answer, keeper, sink};
 use super::events::EVENTS;
 use super::faults::with_a_row;
 use super::looks::{Look, ONE_ROW, seen, seen_by};
+use super::must;
 use super::topologies::{CHAIN, COUNT, CUTS, SPIKE, TAILS, TWO, UNREAD};
 use millwheel_cli::load_lines;
 use mw_ports::MemSink;
 use mw_types::{CallList, NoMemory};
 use std::alloc::Global;
 use std::str;
-use std::test::Fail;
 
 // A count that reads one stream twice, by the key and by the key's head.
 const TWICE: &str =
@@ -214,35 +214,31 @@ fn is_counted(alloc: Global, row: &Row) -> Result<bool, NoMemory> {
 }
 
 #[test]
-fn the_worked_examples_are_counted(rt: HostRuntime) -> Result<(), Fail> {
+fn the_worked_examples_are_counted(rt: HostRuntime) {
     for row in &WORKED {
-        assert!(rt; is_counted(rt.alloc(), row)?, "{}", row.name);
+        must(&rt, is_counted(rt.alloc(), row), row.name);
     }
-    Ok(())
 }
 
 #[test]
-fn a_late_record_is_in_no_window_and_at_no_place(rt: HostRuntime) -> Result<(), Fail> {
+fn a_late_record_is_in_no_window_and_at_no_place(rt: HostRuntime) {
     for row in &LATE {
-        assert!(rt; is_counted(rt.alloc(), row)?, "{}", row.name);
+        must(&rt, is_counted(rt.alloc(), row), row.name);
     }
-    Ok(())
 }
 
 #[test]
-fn a_member_is_read_once_for_each_subscription(rt: HostRuntime) -> Result<(), Fail> {
+fn a_member_is_read_once_for_each_subscription(rt: HostRuntime) {
     for row in &READINGS {
-        assert!(rt; is_counted(rt.alloc(), row)?, "{}", row.name);
+        must(&rt, is_counted(rt.alloc(), row), row.name);
     }
-    Ok(())
 }
 
 #[test]
-fn a_spike_is_judged_by_the_values_before_it(rt: HostRuntime) -> Result<(), Fail> {
+fn a_spike_is_judged_by_the_values_before_it(rt: HostRuntime) {
     for row in &VALUES {
-        assert!(rt; is_counted(rt.alloc(), row)?, "{}", row.name);
+        must(&rt, is_counted(rt.alloc(), row), row.name);
     }
-    Ok(())
 }
 
 // Two event files, one for each of two injectors.
@@ -259,9 +255,12 @@ const TEXT: &str = r#"{"key":"a","stream":"windows","ts":60,"value":1}
 "#;
 
 #[test]
-fn two_injectors_are_counted(rt: HostRuntime) -> Result<(), Fail> {
-    assert!(rt; seen(rt.alloc(), "plain t.json l r", BOTH, Look::Writes(TEXT))?);
-    Ok(())
+fn two_injectors_are_counted(rt: HostRuntime) {
+    must(
+        &rt,
+        seen(rt.alloc(), "plain t.json l r", BOTH, Look::Writes(TEXT)),
+        "both files",
+    );
 }
 
 // Whether a call ended with Ok; what it wrote is in the sink.
@@ -310,9 +309,8 @@ fn load_is_counted(alloc: Global) -> Result<bool, NoMemory> {
 }
 
 #[test]
-fn two_thousand_lines_are_counted_as_solo_does(rt: HostRuntime) -> Result<(), Fail> {
-    assert!(rt; load_is_counted(rt.alloc())?);
-    Ok(())
+fn two_thousand_lines_are_counted_as_solo_does(rt: HostRuntime) {
+    must(&rt, load_is_counted(rt.alloc()), "two thousand lines");
 }
 
 // Whether a keeper that has a row is handed back with it where the first example is counted.
@@ -326,7 +324,6 @@ fn row_is_left(alloc: Global) -> Result<bool, NoMemory> {
 }
 
 #[test]
-fn a_keeper_that_has_a_row_is_not_called(rt: HostRuntime) -> Result<(), Fail> {
-    assert!(rt; row_is_left(rt.alloc())?);
-    Ok(())
+fn a_keeper_that_has_a_row_is_not_called(rt: HostRuntime) {
+    must(&rt, row_is_left(rt.alloc()), "the row of h0");
 }

@@ -2,10 +2,10 @@
 use super::calls::{FIRST, Files, SOLO, called, keeper, shelf, sink};
 use super::events::{EVENTS, repeated};
 use super::looks::{Look, ended_so, seen};
+use super::must;
 use super::topologies::{COUNT, TWO};
 use mw_types::NoMemory;
 use std::alloc::Global;
-use std::test::Fail;
 
 // Whether the first example is refused with this message where the read of this number fails.
 fn read_fails(alloc: Global, number: u64, message: &str) -> Result<bool, NoMemory> {
@@ -23,11 +23,10 @@ fn read_fails(alloc: Global, number: u64, message: &str) -> Result<bool, NoMemor
 static READS: [(u64, &str); 2] = [(0, "can't read t.json"), (1, "can't read e")];
 
 #[test]
-fn a_file_that_cannot_be_read_is_named(rt: HostRuntime) -> Result<(), Fail> {
+fn a_file_that_cannot_be_read_is_named(rt: HostRuntime) {
     for (number, message) in &READS {
-        assert!(rt; read_fails(rt.alloc(), *number, message)?, "{number}");
+        must(&rt, read_fails(rt.alloc(), *number, message), number);
     }
-    Ok(())
 }
 
 // Whether this is refused with this message where a topology is so many blanks.
@@ -46,11 +45,10 @@ static BLANKS: [(u32, &str); 2] = [
 ];
 
 #[test]
-fn a_topology_that_is_too_long_is_refused(rt: HostRuntime) -> Result<(), Fail> {
+fn a_topology_that_is_too_long_is_refused(rt: HostRuntime) {
     for (count, message) in &BLANKS {
-        assert!(rt; blanks_are_refused(rt.alloc(), *count, message)?, "{count}");
+        must(&rt, blanks_are_refused(rt.alloc(), *count, message), count);
     }
-    Ok(())
 }
 
 // Whether a topology is refused with this message that has one place of the count changed.
@@ -92,14 +90,14 @@ static CHANGES: [(&str, &str, &str); 3] = [
 ];
 
 #[test]
-fn a_topology_is_refused_for_its_streams_or_its_files(rt: HostRuntime) -> Result<(), Fail> {
+fn a_topology_is_refused_for_its_streams_or_its_files(rt: HostRuntime) {
     for (old, new, message) in &CHANGES {
-        assert!(rt;
-            change_is_refused(rt.alloc(), old, new, message)?,
-            "{message}"
+        must(
+            &rt,
+            change_is_refused(rt.alloc(), old, new, message),
+            message,
         );
     }
-    Ok(())
 }
 
 // Event files and a plan, each with a bad line.
@@ -176,14 +174,11 @@ static REFUSED: [(&str, Files<'static>, &str); 31] = [
 ];
 
 #[test]
-fn words_and_files_are_refused(rt: HostRuntime) -> Result<(), Fail> {
+fn words_and_files_are_refused(rt: HostRuntime) {
     for (line, files, message) in &REFUSED {
-        assert!(rt;
-            seen(rt.alloc(), line, files, Look::Refused(message))?,
-            "{line}: {message}"
-        );
+        let is_so = seen(rt.alloc(), line, files, Look::Refused(message));
+        must(&rt, is_so, format_args!("{line}: {message}"));
     }
-    Ok(())
 }
 
 // Whether the second file is refused after a first of so many records.
@@ -197,7 +192,6 @@ fn no_room_is_left(alloc: Global, records: u32) -> Result<bool, NoMemory> {
 }
 
 #[test]
-fn the_second_file_has_the_room_that_is_left(rt: HostRuntime) -> Result<(), Fail> {
-    assert!(rt; no_room_is_left(rt.alloc(), 262143)?);
-    Ok(())
+fn the_second_file_has_the_room_that_is_left(rt: HostRuntime) {
+    must(&rt, no_room_is_left(rt.alloc(), 262143), "the second line");
 }

@@ -1,10 +1,10 @@
 //! Plans whose steps are done before the drain.
 use super::events::EVENTS;
 use super::looks::{Look, seen};
+use super::must;
 use super::topologies::COUNT;
 use mw_types::NoMemory;
 use std::alloc::Global;
-use std::test::Fail;
 
 // The second worker claims the row while the first has its record prepared, whose write is then stale.
 const OLD_OWNER: &str = "claim 0 0
@@ -85,9 +85,8 @@ static REPLAYS: [(&str, &str, usize); 4] = [
 ];
 
 #[test]
-fn a_crash_or_an_old_owner_changes_no_text(rt: HostRuntime) -> Result<(), Fail> {
+fn a_crash_or_an_old_owner_changes_no_text(rt: HostRuntime) {
     for (name, plan, count) in &REPLAYS {
-        assert!(rt; is_replayed(rt.alloc(), plan, *count)?, "{name}");
+        must(&rt, is_replayed(rt.alloc(), plan, *count), name);
     }
-    Ok(())
 }

@@ -1,8 +1,8 @@
 //! Two event files, one for each of two injectors.
 use super::calls::Files;
 use super::looks::{Case, Look, holds};
+use super::must;
 use super::topologies::TWO;
-use std::test::Fail;
 
 // A record of each injector, in windows of their own.
 const FILES: Files<'static> = &[
@@ -33,9 +33,8 @@ static LOOKS: [Case; 3] = [
 ];
 
 #[test]
-fn two_injectors_hold_the_watermark(rt: HostRuntime) -> Result<(), Fail> {
+fn two_injectors_hold_the_watermark(rt: HostRuntime) {
     for case in &LOOKS {
-        assert!(rt; holds(rt.alloc(), case)?, "{}", case.0);
+        must(&rt, holds(rt.alloc(), case), case.0);
     }
-    Ok(())
 }

@@ -1,11 +1,11 @@
 //! What is said of each status, and the number with which the process ends.
 use super::calls::{bytes_of, numbers, sink};
+use super::must;
 use injector::LineWhy;
 use millwheel_cli::{Status, tell};
 use mw_ports::MemSink;
 use mw_types::{CallList, Key, KeyRefusal, Name, NoMemory, RowName};
 use std::alloc::Global;
-use std::test::Fail;
 use topology::TopologyRefusal;
 use trace_lines::AuditWhy;
 
@@ -121,11 +121,10 @@ static STATUSES: [(u8, &str); 17] = [
 ];
 
 #[test]
-fn each_status_is_told_with_its_number(rt: HostRuntime) -> Result<(), Fail> {
+fn each_status_is_told_with_its_number(rt: HostRuntime) {
     for (number, line) in &STATUSES {
-        assert!(rt; is_told(rt.alloc(), *number, line)?, "{number}");
+        must(&rt, is_told(rt.alloc(), *number, line), number);
     }
-    Ok(())
 }
 
 // Whether a full history has its number where nothing can be written after eight bytes.
@@ -139,7 +138,6 @@ fn is_told_in_part(alloc: Global) -> Result<bool, NoMemory> {
 }
 
 #[test]
-fn a_status_that_is_not_told_has_its_number(rt: HostRuntime) -> Result<(), Fail> {
-    assert!(rt; is_told_in_part(rt.alloc())?);
-    Ok(())
+fn a_status_that_is_not_told_has_its_number(rt: HostRuntime) {
+    must(&rt, is_told_in_part(rt.alloc()), "a full history");
 }

@@ -2,10 +2,10 @@
 use super::calls::{Files, SOLO};
 use super::events::{EVENTS, heads};
 use super::looks::{Case, Look, holds, seen};
+use super::must;
 use super::topologies::{CHAIN, COUNT, CUTS, HEADS, READERS, SPELLED, SPIKE, TAILS, UNREAD};
 use mw_types::NoMemory;
 use std::alloc::Global;
-use std::test::Fail;
 
 // Three records of one hour.
 const HOUR: &str = r#"{"key":"a","stream":"hours","ts":3600,"value":2}
@@ -93,11 +93,10 @@ static MARKED: [Case; 4] = [
 ];
 
 #[test]
-fn the_watermark_says_what_is_late(rt: HostRuntime) -> Result<(), Fail> {
+fn the_watermark_says_what_is_late(rt: HostRuntime) {
     for case in &MARKED {
-        assert!(rt; holds(rt.alloc(), case)?, "{}", case.0);
+        must(&rt, holds(rt.alloc(), case), case.0);
     }
-    Ok(())
 }
 
 // One record of a value, and that it is passed on.
@@ -209,11 +208,10 @@ static TEXTS: [Case; 10] = [
 ];
 
 #[test]
-fn each_topology_has_its_text(rt: HostRuntime) -> Result<(), Fail> {
+fn each_topology_has_its_text(rt: HostRuntime) {
     for case in &TEXTS {
-        assert!(rt; holds(rt.alloc(), case)?, "{}", case.0);
+        must(&rt, holds(rt.alloc(), case), case.0);
     }
-    Ok(())
 }
 
 // What is written of a thousand records by the key's head.
@@ -234,7 +232,6 @@ fn heads_write(alloc: Global) -> Result<bool, NoMemory> {
 }
 
 #[test]
-fn windows_by_head(rt: HostRuntime) -> Result<(), Fail> {
-    assert!(rt; heads_write(rt.alloc())?);
-    Ok(())
+fn windows_by_head(rt: HostRuntime) {
+    must(&rt, heads_write(rt.alloc()), "a thousand records");
 }
