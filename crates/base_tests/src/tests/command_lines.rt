@@ -1,84 +1,70 @@
 //! Command lines, each with what it is read as.
-
 use super::lines::LINES;
+use super::{made, must};
 use command_line::{Call, Command, Inputs, WordsRefusal, read_words};
-use mw_types::{Name, NoMemory, Seq};
+use mw_types::{Name, Seq};
 use std::alloc::Global;
-use std::test::Fail;
+use std::process::Abort;
 
 // The words of a line, as names.
-fn words_in(alloc: Global, line: &str) -> Result<Seq<Name>, NoMemory> {
+fn words_in(rt: &impl Abort, alloc: Global, line: &str) -> Seq<Name> {
     let mut words = Seq::new(alloc);
     if !line.is_empty() {
-        push_words(alloc, &mut words, line)?;
+        push_words(rt, alloc, &mut words, line);
     }
-    Ok(words)
+    words
 }
 
 // Appends the words of a line that has some.
-fn push_words(alloc: Global, words: &mut Seq<Name>, line: &str) -> Result<(), NoMemory> {
+fn push_words(rt: &impl Abort, alloc: Global, words: &mut Seq<Name>, line: &str) {
     for word in line.split(' ') {
-        words.push(Name::of(alloc, if word == "\"\"" { "" } else { word })?)?;
+        let text = if word == "\"\"" { "" } else { word };
+        made(rt, words.push(made(rt, Name::of(alloc, text))));
     }
-    Ok(())
+}
+
+// Appends a text.
+fn say(rt: &impl Abort, said: &mut String, text: &str) {
+    made(rt, said.push_str(text));
 }
 
 // Appends a name in brackets.
-fn say_name(said: &mut String, name: &Name) -> Result<(), NoMemory> {
-    said.push_str(" [")?;
-    said.push_str(name.text())?;
-    said.push_str("]")?;
-    Ok(())
+fn say_name(rt: &impl Abort, said: &mut String, name: &Name) {
+    say(rt, said, " [");
+    say(rt, said, name.text());
+    say(rt, said, "]");
+}
+
+// Appends a number.
+fn say_number(rt: &impl Abort, alloc: Global, said: &mut String, number: u32) {
+    say(rt, said, made(rt, format!(in alloc; " {number}")).as_str());
 }
 
 // Appends what a run reads.
-fn say_inputs(said: &mut String, inputs: &Inputs) -> Result<(), NoMemory> {
-    say_name(said, &inputs.topology)?;
+fn say_inputs(rt: &impl Abort, said: &mut String, inputs: &Inputs) {
+    say_name(rt, said, &inputs.topology);
     for name in inputs.events.as_slice() {
-        say_name(said, name)?;
+        say_name(rt, said, name);
     }
     if inputs.history {
-        said.push_str(" history")?;
+        say(rt, said, " history");
     }
     if inputs.live {
-        said.push_str(" live")?;
+        say(rt, said, " live");
     }
-    Ok(())
-}
-
-// Appends how many lines of which seed are printed.
-fn say_load(alloc: Global, said: &mut String, seed: u32, lines: u32) -> Result<(), Fail> {
-    said.push_str(format!(in alloc; "load {seed} {lines}")?.as_str())?;
-    Ok(())
-}
-
-// Appends how many workers and rounds are asked for, and the plan's name.
-fn say_run(
-    alloc: Global,
-    said: &mut String,
-    workers: u32,
-    rounds: u32,
-    plan: Option<&Name>,
-) -> Result<(), Fail> {
-    said.push_str(format!(in alloc; "run {workers} {rounds}")?.as_str())?;
-    if let Some(name) = plan {
-        said.push_str(" plan")?;
-        say_name(said, name)?;
-    }
-    Ok(())
 }
 
 // Appends what a call asks for.
-fn say_call(alloc: Global, said: &mut String, call: &Call) -> Result<(), Fail> {
+fn say_call(rt: &impl Abort, alloc: Global, said: &mut String, call: &Call) {
     match call {
         Call::Solo { inputs } => {
-            said.push_str("solo")?;
-            Ok(say_inputs(said, inputs)?)
+            say(rt, said, "solo");
+            say_inputs(rt, said, inputs);
         }
         Call::Replay { plan, inputs } => {
-            said.push_str("replay")?;
-            say_name(said, plan)?;
-            Ok(say_inputs(said, inputs)?)
+            say(rt, said, "replay");
+            say_name(rt, said, plan);
+            say_inputs(rt, said, inputs);
         }
         Call::Run {
             workers,
@@ -86,67 +72,78 @@ fn say_call(alloc: Global, said: &mut String, call: &Call) -> Result<(), Fail> {
             plan,
             inputs,
         } => {
-            say_run(alloc, said, *workers, *rounds, plan.as_ref())?;
-            Ok(say_inputs(said, inputs)?)
+            say(rt, said, "run");
+            say_number(rt, alloc, said, *workers);
+            say_number(rt, alloc, said, *rounds);
+            if let Some(name) = plan {
+                say(rt, said, " plan");
+                say_name(rt, said, name);
+            }
+            say_inputs(rt, said, inputs);
         }
         Call::Plain { inputs } => {
-            said.push_str("plain")?;
-            Ok(say_inputs(said, inputs)?)
+            say(rt, said, "plain");
+            say_inputs(rt, said, inputs);
         }
-        Call::Load { seed, lines } => say_load(alloc, said, *seed, *lines),
+        Call::Load { seed, lines } => {
+            say(rt, said, "load");
+            say_number(rt, alloc, said, *seed);
+            say_number(rt, alloc, said, *lines);
+        }
         Call::Audit { inputs, trace } => {
-            said.push_str("audit")?;
-            say_name(said, trace)?;
-            Ok(say_inputs(said, inputs)?)
+            say(rt, said, "audit");
+            say_name(rt, said, trace);
+            say_inputs(rt, said, inputs);
         }
         Call::Collect { file } => {
-            said.push_str("collect")?;
-            Ok(say_name(said, file)?)
+            say(rt, said, "collect");
+            say_name(rt, said, file);
         }
     }
 }
 
 // Appends what a command asks for.
-fn say(alloc: Global, said: &mut String, command: &Command) -> Result<(), Fail> {
-    say_call(alloc, said, &command.call)?;
+fn say_command(rt: &impl Abort, alloc: Global, said: &mut String, command: &Command) {
+    say_call(rt, alloc, said, &command.call);
     if let Some(name) = &command.keep {
-        said.push_str(" keep")?;
-        say_name(said, name)?;
+        say(rt, said, " keep");
+        say_name(rt, said, name);
     }
-    Ok(())
 }
 
-// Appends what the words are read as, with each name in brackets.
-fn say_words(alloc: Global, said: &mut String, words: &[Name]) -> Result<(), Fail> {
-    match read_words(alloc, words) {
-        Ok(command) => say(alloc, said, &command),
-        Err(WordsRefusal::Usage) => Ok(said.push_str("usage")?),
-        Err(WordsRefusal::NoMemory) => Ok(said.push_str("no memory")?),
+// Appends what words are read as, with each name in brackets.
+fn say_read(
+    rt: &impl Abort,
+    alloc: Global,
+    said: &mut String,
+    read: &Result<Command, WordsRefusal>,
+) {
+    match read {
+        Ok(command) => say_command(rt, alloc, said, command),
+        Err(WordsRefusal::Usage) => say(rt, said, "usage"),
+        Err(WordsRefusal::NoMemory) => say(rt, said, "no memory"),
     }
 }
 
 // What a line is read as.
-fn said_of(alloc: Global, line: &str) -> Result<String, Fail> {
-    let words = words_in(alloc, line)?;
+fn said_of(rt: &impl Abort, alloc: Global, line: &str) -> String {
     let mut said = String::new(alloc);
-    let done = say_words(alloc, &mut said, words.as_slice());
+    let words = words_in(rt, alloc, line);
+    let read = read_words(alloc, words.as_slice());
+    say_read(rt, alloc, &mut said, &read);
+    drop(read);
     drop(words);
-    done?;
-    Ok(said)
+    said
 }
 
 // Whether a line is read as this.
-fn is_said(alloc: Global, line: &str, wanted: &str) -> Result<bool, Fail> {
-    let said = said_of(alloc, line)?;
-    let is_so = said.as_str() == wanted;
-    drop(said);
-    Ok(is_so)
+fn is_said(rt: &impl Abort, alloc: Global, line: &str, wanted: &str) -> bool {
+    said_of(rt, alloc, line).as_str() == wanted
 }
 
 #[test]
-fn each_line_is_its_command(rt: HostRuntime) -> Result<(), Fail> {
+fn each_line_is_its_command(rt: HostRuntime) {
     for (line, wanted) in &LINES {
-        assert!(rt; is_said(rt.alloc(), line, wanted)?, "{line}");
+        must(&rt, is_said(&rt, rt.alloc(), line, wanted), *line);
     }
-    Ok(())
 }

@@ -1,8 +1,10 @@
 //! What event files hold, by example.
-use super::{key_of, refusal_of};
+use super::{key_of, made, must, refusal_of};
+use injector::LinesRefusal::Line;
 use injector::{Item, Items, LineWhy, LinesRefusal, read_lines};
-use mw_types::{END, NoMemory};
+use mw_types::END;
 use std::alloc::Global;
+use std::process::Abort;
 
 // What these bytes hold, with room for two lines.
 fn read(alloc: Global, bytes: &[u8]) -> Result<Items, LinesRefusal> {
@@ -45,17 +47,9 @@ fn are_marks(items: &Items, marks: &[u64]) -> bool {
     true
 }
 
-// Whether a text has these records and watermarks.
-fn holds(
-    alloc: Global,
-    text: &[u8],
-    records: &[Told],
-    marks: &[u64],
-) -> Result<bool, LinesRefusal> {
-    let items = read(alloc, text)?;
-    let are = are_told(&items, records, marks);
-    drop(items);
-    Ok(are)
+// The same of items that are handed over, so that they are let go here alone.
+fn hold(items: Items, records: &[Told], marks: &[u64]) -> bool {
+    are_told(&items, records, marks)
 }
 
 // One file, the records that it has, and the watermarks before each and after the last.
@@ -115,148 +109,221 @@ static FILES: [File; 8] = [
     ),
 ];
 
-#[test]
-fn files_hold_their_records_and_watermarks(rt: HostRuntime) -> Result<(), LinesRefusal> {
-    for (name, text, records, marks) in &FILES {
-        assert!(rt; holds(rt.alloc(), text, records, marks)?, "{name}");
-    }
-    Ok(())
-}
-
-// Whether a line that is pushed is held.
-fn holds_pushed(alloc: Global) -> Result<bool, NoMemory> {
+// The line of a record, pushed.
+fn pushed(rt: &impl Abort, alloc: Global) -> Items {
     let mut items = Items::new(alloc);
-    let record_key = key_of(alloc, "a")?;
     let item = Item {
-        record_key,
+        record_key: key_of(rt, alloc, "a"),
         stamp: 5,
         value: 1,
         late: false,
     };
-    items.push(item, 0)?;
-    let are = are_told(&items, &[("a", 5, 1, false)], &[0, END]);
-    drop(items);
-    Ok(are)
+    made(rt, items.push(item, 0));
+    items
 }
 
 #[test]
-fn lines_that_are_pushed_are_held(rt: HostRuntime) -> Result<(), NoMemory> {
-    assert!(rt; holds_pushed(rt.alloc())?);
-    Ok(())
-}
-
-// Whether a text is refused at this line, by this rule.
-fn is_refused(alloc: Global, text: &[u8], line: u32, why: LineWhy) -> bool {
-    refusal_of(read(alloc, text)) == Some(LinesRefusal::Line { line, why })
-}
-
-// Lines of which one breaks a rule, the number of that line, and the first rule that it breaks.
-static BROKEN: [(&[u8], u32, LineWhy); 20] = [
-    (b"{\"key\":\"\xff\",\"ts\":1}", 1, LineWhy::NotJson),
-    (b"\r\r\n", 1, LineWhy::NotJson),
-    (b"{\"key\":\"a\",\"ts\":05}", 1, LineWhy::NotJson),
-    (b"{\"key\":\"a\\\",\"ts\":5}", 1, LineWhy::NotJson),
-    (b"[1]", 1, LineWhy::NotObject),
-    (b"{\"ts\":1}", 1, LineWhy::BadKey),
-    (b"{\"key\":7,\"ts\":-1}", 1, LineWhy::BadKey),
-    (b"{\"key\":\"\",\"ts\":1}", 1, LineWhy::BadKey),
-    (b"{\"key\":\"a\",\"value\":null}", 1, LineWhy::BadStamp),
-    (
-        b"{\"key\":\"a\",\"ts\":4611686018427387905}",
-        1,
-        LineWhy::BadStamp,
-    ),
-    (b"{\"key\":\"a\",\"ts\":-0}", 1, LineWhy::BadStamp),
-    (b"{\"watermark\":4611686018427387905}", 1, LineWhy::BadStamp),
-    (b"{\"watermark\":null,\"key\":7}", 1, LineWhy::BadStamp),
-    (
-        b"{\"key\":\"a\",\"ts\":1,\"value\":null}",
-        1,
-        LineWhy::BadValue,
-    ),
-    (
-        b"{\"key\":\"a\",\"ts\":1,\"value\":1.0}",
-        1,
-        LineWhy::BadValue,
-    ),
-    (
-        b"{\"key\":\"a\",\"ts\":1,\"value\":-0}",
-        1,
-        LineWhy::BadValue,
-    ),
-    (
-        b"{\"key\":\"a\",\"ts\":1,\"value\":9223372036854775808}",
-        1,
-        LineWhy::BadValue,
-    ),
-    (
-        b"{\"key\":\"a\",\"ts\":1,\"value\":-9223372036854775809}",
-        1,
-        LineWhy::BadValue,
-    ),
-    (
-        b"{\"key\":\"a\",\"ts\":1}\n{\"key\":\"a\",\"ts\"",
-        2,
-        LineWhy::NotJson,
-    ),
-    (
-        b"{\"key\":\"a\",\"ts\":1}\n{\"key\":\"a\",\"ts\":2}\n{\"watermark\":1}\n{\"key\":\"a\",\"ts\":3}",
-        4,
-        LineWhy::TooManyLines,
-    ),
-];
-
-#[test]
-fn the_first_rule_that_a_line_breaks_is_named(rt: HostRuntime) {
-    for (at, (text, line, why)) in BROKEN.iter().enumerate() {
-        assert!(rt; is_refused(rt.alloc(), text, *line, *why), "{at}");
+fn files_hold_their_records_and_watermarks(rt: HostRuntime) {
+    for (name, text, records, marks) in &FILES {
+        must(
+            &rt,
+            hold(made(&rt, read(rt.alloc(), text)), records, marks),
+            *name,
+        );
     }
+    let is_held = hold(pushed(&rt, rt.alloc()), &[("a", 5, 1, false)], &[0, END]);
+    must(&rt, is_held, "a line that is pushed is held");
 }
 
-// A record whose key has so many letters.
-fn long_key(alloc: Global, count: u32) -> Result<String, NoMemory> {
-    let mut text = String::new(alloc);
-    push_long_key(&mut text, count)?;
-    Ok(text)
+// What is read.
+enum Lines {
+    // These bytes.
+    Bytes(&'static [u8]),
+    // A record whose key has so many letters.
+    Key(u32),
 }
 
-// Appends it.
-fn push_long_key(text: &mut String, count: u32) -> Result<(), NoMemory> {
-    text.push_str("{\"key\":\"")?;
-    for _ in 0..count {
-        text.push_str("k")?;
-    }
-    text.push_str("\",\"ts\":1}")?;
-    Ok(())
-}
-
-// Why it is refused, if it is.
-fn long_key_refusal(alloc: Global, count: u32) -> Result<Option<LinesRefusal>, NoMemory> {
-    let text = long_key(alloc, count)?;
-    let refusal = refusal_of(read(alloc, text.as_bytes()));
-    drop(text);
-    Ok(refusal)
-}
-
-// Lengths of a key, and why each is refused, if it is.
-static LONG: [(u32, Option<LinesRefusal>); 2] = [
-    (256, None),
+// Lines, and the first rule that one breaks, if one does, with its number.
+static READ: [(Lines, Option<LinesRefusal>); 22] = [
     (
-        257,
-        Some(LinesRefusal::Line {
+        Lines::Bytes(b"{\"key\":\"\xff\",\"ts\":1}"),
+        Some(Line {
+            line: 1,
+            why: LineWhy::NotJson,
+        }),
+    ),
+    (
+        Lines::Bytes(b"\r\r\n"),
+        Some(Line {
+            line: 1,
+            why: LineWhy::NotJson,
+        }),
+    ),
+    (
+        Lines::Bytes(b"{\"key\":\"a\",\"ts\":05}"),
+        Some(Line {
+            line: 1,
+            why: LineWhy::NotJson,
+        }),
+    ),
+    (
+        Lines::Bytes(b"{\"key\":\"a\\\",\"ts\":5}"),
+        Some(Line {
+            line: 1,
+            why: LineWhy::NotJson,
+        }),
+    ),
+    (
+        Lines::Bytes(b"[1]"),
+        Some(Line {
+            line: 1,
+            why: LineWhy::NotObject,
+        }),
+    ),
+    (
+        Lines::Bytes(b"{\"ts\":1}"),
+        Some(Line {
+            line: 1,
+            why: LineWhy::BadKey,
+        }),
+    ),
+    (
+        Lines::Bytes(b"{\"key\":7,\"ts\":-1}"),
+        Some(Line {
+            line: 1,
+            why: LineWhy::BadKey,
+        }),
+    ),
+    (
+        Lines::Bytes(b"{\"key\":\"\",\"ts\":1}"),
+        Some(Line {
+            line: 1,
+            why: LineWhy::BadKey,
+        }),
+    ),
+    (
+        Lines::Bytes(b"{\"key\":\"a\",\"value\":null}"),
+        Some(Line {
+            line: 1,
+            why: LineWhy::BadStamp,
+        }),
+    ),
+    (
+        Lines::Bytes(b"{\"key\":\"a\",\"ts\":4611686018427387905}"),
+        Some(Line {
+            line: 1,
+            why: LineWhy::BadStamp,
+        }),
+    ),
+    (
+        Lines::Bytes(b"{\"key\":\"a\",\"ts\":-0}"),
+        Some(Line {
+            line: 1,
+            why: LineWhy::BadStamp,
+        }),
+    ),
+    (
+        Lines::Bytes(b"{\"watermark\":4611686018427387905}"),
+        Some(Line {
+            line: 1,
+            why: LineWhy::BadStamp,
+        }),
+    ),
+    (
+        Lines::Bytes(b"{\"watermark\":null,\"key\":7}"),
+        Some(Line {
+            line: 1,
+            why: LineWhy::BadStamp,
+        }),
+    ),
+    (
+        Lines::Bytes(b"{\"key\":\"a\",\"ts\":1,\"value\":null}"),
+        Some(Line {
+            line: 1,
+            why: LineWhy::BadValue,
+        }),
+    ),
+    (
+        Lines::Bytes(b"{\"key\":\"a\",\"ts\":1,\"value\":1.0}"),
+        Some(Line {
+            line: 1,
+            why: LineWhy::BadValue,
+        }),
+    ),
+    (
+        Lines::Bytes(b"{\"key\":\"a\",\"ts\":1,\"value\":-0}"),
+        Some(Line {
+            line: 1,
+            why: LineWhy::BadValue,
+        }),
+    ),
+    (
+        Lines::Bytes(b"{\"key\":\"a\",\"ts\":1,\"value\":9223372036854775808}"),
+        Some(Line {
+            line: 1,
+            why: LineWhy::BadValue,
+        }),
+    ),
+    (
+        Lines::Bytes(b"{\"key\":\"a\",\"ts\":1,\"value\":-9223372036854775809}"),
+        Some(Line {
+            line: 1,
+            why: LineWhy::BadValue,
+        }),
+    ),
+    (
+        Lines::Bytes(b"{\"key\":\"a\",\"ts\":1}\n{\"key\":\"a\",\"ts\""),
+        Some(Line {
+            line: 2,
+            why: LineWhy::NotJson,
+        }),
+    ),
+    (
+        Lines::Bytes(
+            b"{\"key\":\"a\",\"ts\":1}\n{\"key\":\"a\",\"ts\":2}\n{\"watermark\":1}\n{\"key\":\"a\",\"ts\":3}",
+        ),
+        Some(Line {
+            line: 4,
+            why: LineWhy::TooManyLines,
+        }),
+    ),
+    (Lines::Key(256), None),
+    (
+        Lines::Key(257),
+        Some(Line {
             line: 1,
             why: LineWhy::BadKey,
         }),
     ),
 ];
 
-#[test]
-fn a_key_has_at_most_256_bytes(rt: HostRuntime) -> Result<(), NoMemory> {
-    for (count, refusal) in &LONG {
-        assert!(rt;
-            long_key_refusal(rt.alloc(), *count)? == *refusal,
-            "{count}"
-        );
+// A record whose key has so many letters.
+fn long_key(rt: &impl Abort, alloc: Global, count: u32) -> String {
+    let mut text = String::new(alloc);
+    for (part, times) in [("{\"key\":\"", 1), ("k", count), ("\",\"ts\":1}", 1)] {
+        for _ in 0..times {
+            made(rt, text.push_str(part));
+        }
     }
-    Ok(())
+    text
+}
+
+// Why a text is refused, if it is.
+fn text_refusal(alloc: Global, text: String) -> Option<LinesRefusal> {
+    refusal_of(read(alloc, text.as_bytes()))
+}
+
+// Why lines are refused, if they are.
+fn refusal(rt: &impl Abort, alloc: Global, lines: &Lines) -> Option<LinesRefusal> {
+    match lines {
+        Lines::Bytes(bytes) => refusal_of(read(alloc, bytes)),
+        Lines::Key(count) => text_refusal(alloc, long_key(rt, alloc, *count)),
+    }
+}
+
+#[test]
+fn the_first_rule_that_a_line_breaks_is_named(rt: HostRuntime) {
+    for (at, (lines, why)) in READ.iter().enumerate() {
+        must(&rt, refusal(&rt, rt.alloc(), lines) == *why, at);
+    }
 }

@@ -1,16 +1,16 @@
 //! The handlers of `computations`, over a table of all three kinds.
-ghost use Rattle.std.specs.Prelude.{◌≡◌, ◌≤◌, ◌^◌, Some, IfOk};
+ghost use Rattle.std.specs.Prelude.{◌≡◌, ◌≤◌, Some};
 ghost use Rattle.mw_types.specs.declared.kind.Kind.TheVariants as kinds;
 ghost use Rattle.mw_types.specs.Bounds.{IsWithin};
 ghost use Rattle.computations.specs.Parts.{HasState, kind_at};
 
 mod spikes;
 
+use super::{made, must};
 use computations::{Computation, Context, Kinds};
-use mw_types::{
-    Effects, Key, Kind, KindTable, MAX_STAMP, NoMemory, Record, Seq, State, Timer, WindowList,
-};
+use mw_types::{Effects, Key, Kind, KindTable, MAX_STAMP, Record, Seq, State, Timer, WindowList};
 use std::alloc::Global;
+use std::process::Abort;
 
 // One injector, a count with windows of 60 microseconds, a spike that compares two totals by the
 // factor three, and a pass.
@@ -41,13 +41,13 @@ impl KindTable for ThreeKinds {
     }
 }
 
-fn watched(alloc: Global) -> Result<Kinds, NoMemory>
-    ensures count { IfOk result (λ work. kind_at work 1 ≡ Some (kinds.Count 60)) }
-    ensures spike { IfOk result (λ work. kind_at work 2 ≡ Some (kinds.Spike 2 3)) }
-    ensures pass { IfOk result (λ work. kind_at work 3 ≡ Some kinds.Pass) }
+// The computations of that table.
+fn watched(rt: &impl Abort, alloc: Global) -> Kinds
+    ensures count { kind_at result 1 ≡ Some (kinds.Count 60) }
+    ensures spike { kind_at result 2 ≡ Some (kinds.Spike 2 3) }
+    ensures pass { kind_at result 3 ≡ Some kinds.Pass }
 {
-    let kinds = Kinds::of(alloc, &ThreeKinds)?;
-    Ok(kinds)
+    made(rt, Kinds::of(alloc, &ThreeKinds))
 }
 
 // A row of the count with no open window.
@@ -64,125 +64,124 @@ fn fresh(alloc: Global, work: &Kinds) -> State
 
 // What a computation leaves of a record.
 fn of_record<C: Computation>(
+    rt: &impl Abort,
     alloc: Global,
     work: &C,
     part: u32,
     key: &Key,
     state: &State,
     item: &Record,
-) -> Result<Effects, NoMemory>
+) -> Effects
     requires computation { C.has work.now part state.now }
     requires within { IsWithin state.now }
     requires in_time { item.now.stamp ≤ MAX_STAMP }
-    ensures has { IfOk result (λ e. C.has work.now part e.state) }
-    ensures within { IfOk result (λ e. IsWithin e.state) }
+    ensures has { C.has work.now part result.state }
+    ensures within { IsWithin result.state }
 {
-    let mut context = Context::for_record(alloc, key, state, item)?;
-    match work.on_record(alloc, part, &mut context, item) {
-        Ok(()) => Ok(context.into_effects()),
-        Err(want) => {
-            drop(context);
-            Err(want)
-        }
-    }
+    let mut context = made(rt, Context::for_record(alloc, key, state, item));
+    made(rt, work.on_record(alloc, part, &mut context, item));
+    context.into_effects()
 }
 
 // What a computation leaves of a timer.
 fn of_timer<C: Computation>(
+    rt: &impl Abort,
     alloc: Global,
     work: &C,
     part: u32,
     key: &Key,
     state: &State,
     timer: &Timer,
-) -> Result<Effects, NoMemory>
+) -> Effects
     requires computation { C.has work.now part state.now }
     requires within { IsWithin state.now }
     requires in_time { timer.now.time ≤ MAX_STAMP }
-    ensures has { IfOk result (λ e. C.has work.now part e.state) }
-    ensures within { IfOk result (λ e. IsWithin e.state) }
+    ensures has { C.has work.now part result.state }
+    ensures within { IsWithin result.state }
 {
-    let mut context = Context::for_timer(alloc, key, state, timer)?;
-    match work.on_timer(alloc, part, &mut context, timer) {
-        Ok(()) => Ok(context.into_effects()),
-        Err(want) => {
-            drop(context);
-            Err(want)
-        }
-    }
+    let mut context = made(rt, Context::for_timer(alloc, key, state, timer));
+    made(rt, work.on_timer(alloc, part, &mut context, timer));
+    context.into_effects()
 }
 
 // What is handed to a part: a record of this timestamp and value, or the timer of this time.
-#[derive(Clone, Copy)]
 enum Deed {
     Record(u64, i64),
     Timer(u64),
 }
 
-// What a part leaves of a record of no key that is in time.
-fn taken(
-    alloc: Global,
-    work: &Kinds,
-    part: u32,
-    state: &State,
-    stamp: u64,
-    value: i64,
-) -> Result<Effects, NoMemory>
-    requires has { HasState work.now part state.now }
-    requires within { IsWithin state.now }
-    ensures has { IfOk result (λ e. HasState work.now part e.state) }
-    ensures within { IfOk result (λ e. IsWithin e.state) }
+// A record of no key that is in time.
+fn record(alloc: Global, stamp: u64, value: i64) -> Record
+    ensures in_time { result.stamp ≤ MAX_STAMP }
+    ensures not_after { result.stamp ≤ stamp }
 {
-    let key = Key::none(alloc);
-    let item = Record {
+    Record {
         key: Key::none(alloc),
         stamp: stamp.min(MAX_STAMP),
         value,
         late: false,
-    };
-    let effects = of_record(alloc, work, part, &key, state, &item)?;
-    Ok(effects)
+    }
 }
 
-// What a part leaves of a timer of no key.
-fn fired(
-    alloc: Global,
-    work: &Kinds,
-    part: u32,
-    state: &State,
-    time: u64,
-) -> Result<Effects, NoMemory>
-    requires has { HasState work.now part state.now }
-    requires within { IsWithin state.now }
-    ensures has { IfOk result (λ e. HasState work.now part e.state) }
-    ensures within { IfOk result (λ e. IsWithin e.state) }
+// A timer that is in time.
+fn timer(time: u64) -> Timer
+    ensures { result.time ≤ MAX_STAMP }
 {
-    let key = Key::none(alloc);
-    let timer = Timer {
+    Timer {
         tag: 0,
         time: time.min(MAX_STAMP),
         late: false,
-    };
-    let effects = of_timer(alloc, work, part, &key, state, &timer)?;
-    Ok(effects)
+    }
 }
 
-// What a part leaves of one of both.
-fn done(
+// What a part leaves of one of both in a row of this key.
+fn left_under(
+    rt: &impl Abort,
+    alloc: Global,
+    work: &Kinds,
+    part: u32,
+    key: &Key,
+    state: &State,
+    deed: &Deed,
+) -> Effects
+    requires has { HasState work.now part state.now }
+    requires within { IsWithin state.now }
+    ensures has { HasState work.now part result.state }
+    ensures within { IsWithin result.state }
+{
+    match deed {
+        Deed::Record(stamp, value) => {
+            let item = record(alloc, *stamp, *value);
+            of_record(rt, alloc, work, part, key, state, &item)
+        }
+        Deed::Timer(time) => of_timer(rt, alloc, work, part, key, state, &timer(*time)),
+    }
+}
+
+// The same of no key.
+fn left_by(
+    rt: &impl Abort,
     alloc: Global,
     work: &Kinds,
     part: u32,
     state: &State,
-    deed: Deed,
-) -> Result<Effects, NoMemory>
+    deed: &Deed,
+) -> Effects
     requires has { HasState work.now part state.now }
     requires within { IsWithin state.now }
-    ensures has { IfOk result (λ e. HasState work.now part e.state) }
-    ensures within { IfOk result (λ e. IsWithin e.state) }
+    ensures has { HasState work.now part result.state }
+    ensures within { IsWithin result.state }
 {
-    match deed {
-        Deed::Record(stamp, value) => taken(alloc, work, part, state, stamp, value),
-        Deed::Timer(time) => fired(alloc, work, part, state, time),
+    left_under(rt, alloc, work, part, &Key::none(alloc), state, deed)
+}
+
+// The timestamps and values of records that were produced.
+type Produced = Seq<(u64, i64)>;
+
+// Notes what a handler produced.
+fn note(rt: &impl Abort, produced: &mut Produced, effects: &Effects) {
+    for one in effects.productions.as_slice() {
+        made(rt, produced.push((one.stamp, one.value)));
     }
 }
 
@@ -198,107 +197,72 @@ fn state_of(effects: Effects) -> State
     state
 }
 
-// The timestamps and values of records that were produced.
-type Produced = Seq<(u64, i64)>;
-
-// Notes what a handler produced.
-fn note(produced: &mut Produced, effects: &Effects) -> Result<(), NoMemory> {
-    for one in effects.productions.as_slice() {
-        produced.push((one.stamp, one.value))?;
-    }
-    Ok(())
-}
-
 // The state of a row after one of both, and what was produced is noted.
 fn stepped(
+    rt: &impl Abort,
     alloc: Global,
     work: &Kinds,
     part: u32,
     state: &State,
-    deed: Deed,
+    deed: &Deed,
     produced: &mut Produced,
-) -> Result<State, NoMemory>
+) -> State
     requires has { HasState work.now part state.now }
     requires within { IsWithin state.now }
-    ensures has { IfOk result (λ s. HasState work.now part s) }
-    ensures within { IfOk result (λ s. IsWithin s) }
+    ensures has { HasState work.now part result }
+    ensures within { IsWithin result }
 {
-    let effects = done(alloc, work, part, state, deed)?;
-    note(produced, &effects)?;
-    Ok(state_of(effects))
+    let effects = left_by(rt, alloc, work, part, state, deed);
+    note(rt, produced, &effects);
+    state_of(effects)
 }
 
 // The state of a row after these, and what was produced on the way. The loop has the one call with
 // conditions, so that no test carries what each call before has told.
 fn walked(
+    rt: &impl Abort,
     alloc: Global,
     work: &Kinds,
     part: u32,
     first: State,
     deeds: &[Deed],
-) -> Result<(State, Produced), NoMemory>
+) -> (State, Produced)
     requires has { HasState work.now part first }
     requires within { IsWithin first }
 {
     let mut state = first;
     let mut produced = Seq::new(alloc);
     for deed in deeds {
-        state = stepped(alloc, work, part, &state, *deed, &mut produced)?;
+        state = stepped(rt, alloc, work, part, &state, deed, &mut produced);
     }
-    Ok((state, produced))
+    (state, produced)
 }
 
-// A record at 10 of no key.
-fn record_at_10(alloc: Global) -> Record
-    ensures { result.stamp ≡ 10 }
-{
-    Record {
-        key: Key::none(alloc),
-        stamp: 10,
-        value: 7,
-        late: false,
-    }
+// Whether a handler left one timer, one record, and the state of a pass with two late ones.
+fn are_one_each(effects: Effects) -> bool {
+    let counts = (effects.timers.len(), effects.productions.len());
+    let is_pass = matches!(&effects.state, State::Pass { late: 2 });
+    drop(effects);
+    is_pass && counts == (1, 1)
 }
 
-// What a handler leaves that sets a timer and produces a record.
-fn left(alloc: Global) -> Result<Effects, NoMemory> {
+// Whether a context shows the row of no key and its state, and takes a timer and a record.
+fn shows_and_takes(rt: &impl Abort, alloc: Global) -> bool {
     let key = Key::none(alloc);
     let state = State::Pass { late: 2 };
-    let mut context = Context::for_record(alloc, &key, &state, &record_at_10(alloc))?;
-    context.set_timer(7, 11)?;
-    context.produce(alloc, &key, 10, -1)?;
-    Ok(context.into_effects())
-}
-
-// Whether it is one timer, one record, and the state as it was.
-fn leaves_both(alloc: Global) -> Result<bool, NoMemory> {
-    let effects = left(alloc)?;
-    let is_pass = matches!(&effects.state, State::Pass { late: 2 });
-    let holds = is_pass && effects.timers.len() == 1 && effects.productions.len() == 1;
-    drop(effects);
-    Ok(holds)
-}
-
-// Whether a context shows this key and state.
-fn shows(alloc: Global, key: &Key, state: &State) -> Result<bool, NoMemory> {
-    let context = Context::for_record(alloc, key, state, &record_at_10(alloc))?;
-    let holds = *context.key() == *key && *context.state() == *state;
-    drop(context);
-    Ok(holds)
-}
-
-// Whether a context shows no key, and the state of a pass.
-fn shows_the_row(alloc: Global) -> Result<bool, NoMemory> {
-    shows(alloc, &Key::none(alloc), &State::Pass { late: 2 })
-}
-
-// Whether both hold.
-fn shows_and_leaves(alloc: Global) -> Result<bool, NoMemory> {
-    Ok(shows_the_row(alloc)? && leaves_both(alloc)?)
+    let item = record(alloc, 10, 7);
+    let mut context = made(rt, Context::for_record(alloc, &key, &state, &item));
+    let is_shown = *context.key() == key && *context.state() == state;
+    made(rt, context.set_timer(7, 11));
+    made(rt, context.produce(alloc, &key, 10, -1));
+    let effects = context.into_effects();
+    drop(item);
+    drop(state);
+    drop(key);
+    are_one_each(effects) && is_shown
 }
 
 #[test]
-fn a_context_shows_the_row_and_takes_what_a_handler_does(rt: HostRuntime) -> Result<(), NoMemory> {
-    assert!(rt; shows_and_leaves(rt.alloc())?);
-    Ok(())
+fn a_context_shows_the_row_and_takes_what_a_handler_does(rt: HostRuntime) {
+    must(&rt, shows_and_takes(&rt, rt.alloc()), "a context");
 }

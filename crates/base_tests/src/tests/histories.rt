@@ -1,10 +1,11 @@
 //! The calls of `run_history`, for what no clause says: that ample memory is enough. No helper has a
 //! clause, so that no test carries what the calls before have told.
-use super::are;
+use super::{are, made, must};
 use injector::{Items, ItemsList};
-use mw_types::{Bytes, Entry, Key, NoMemory, Production, Record};
+use mw_types::{Entry, Key, Production, Record};
 use run_history::{Case, History, emissions, first_row, make, production, result_text};
 use std::alloc::Global;
+use std::process::Abort;
 use topology::Topology;
 
 // A record, whose key is of no matter here.
@@ -17,142 +18,113 @@ fn record(alloc: Global) -> Record {
     }
 }
 
-// The record, injected.
-fn injected(alloc: Global) -> Entry {
-    Entry::Inject {
+// Whether there is an entry. It is handed over, so that it is let go here alone.
+fn is_there(entry: Option<Entry>) -> bool {
+    let is_there = entry.is_some();
+    drop(entry);
+    is_there
+}
+
+// Whether a history that was empty holds an entry, and gives it back.
+fn takes_back(rt: &impl Abort, alloc: Global) -> bool {
+    let mut history = History::new(alloc);
+    let was_empty = history.is_empty();
+    let entry = Entry::Inject {
         seq: 0,
         part: 0,
         line: 0,
         item: record(alloc),
-    }
-}
-
-// A record that the count produces.
-fn counted(alloc: Global) -> Production {
-    Production {
-        key: Key::none(alloc),
-        stamp: 60,
-        value: 2,
-    }
+    };
+    made(rt, history.push(entry));
+    let holds = history.entries().len() == 1;
+    let is_first = is_there(history.pop());
+    let is_more = is_there(history.pop());
+    drop(history);
+    was_empty && holds && is_first && !is_more
 }
 
 // How many deliveries and emissions a part makes of a record that the count produces.
-fn sizes(alloc: Global, topology: &Topology, part: u32) -> Result<(usize, usize), NoMemory> {
+fn sizes(rt: &impl Abort, alloc: Global, topology: &Topology, part: u32) -> (usize, usize) {
     if topology.parts() <= part {
-        return Err(NoMemory);
+        return (0, 0);
     }
-    let made = make(alloc, topology, part, &[counted(alloc)], false, 7)?;
-    let sizes = (made.deliveries.len(), made.emissions.len());
-    drop(made);
-    Ok(sizes)
+    let counted = Production {
+        key: Key::none(alloc),
+        stamp: 60,
+        value: 2,
+    };
+    let made = made(rt, make(alloc, topology, part, &[counted], false, 7));
+    (made.deliveries.len(), made.emissions.len())
 }
 
-// The same of the injector and of the count.
-type Both = ((usize, usize), (usize, usize));
-
-// Whether a history that was empty holds an entry, and gives it back.
-fn takes_back(alloc: Global) -> Result<bool, NoMemory> {
-    let mut history = History::new(alloc);
-    let was_empty = history.is_empty();
-    let pushed = history.push(injected(alloc));
-    let holds = history.entries().len() == 1;
-    let first = history.pop();
-    let is_first = first.is_some();
-    drop(first);
-    let second = history.pop();
-    let is_last = second.is_none();
-    drop(second);
-    drop(history);
-    pushed?;
-    Ok(was_empty && holds && is_first && is_last)
-}
-
-// The same of the parts of one count.
-fn count_sizes(alloc: Global) -> Result<Both, NoMemory> {
-    let topology = Topology::one_count(alloc, 60)?;
-    let injected = sizes(alloc, &topology, 0);
-    let counted = sizes(alloc, &topology, 1);
+// Whether the injector of one count makes a delivery, and the count an emission.
+fn makes_one(rt: &impl Abort, alloc: Global) -> bool {
+    let topology = made(rt, Topology::one_count(alloc, 60));
+    let injected = sizes(rt, alloc, &topology, 0);
+    let counted = sizes(rt, alloc, &topology, 1);
     drop(topology);
-    Ok((injected?, counted?))
+    injected == (1, 0) && counted == (0, 1)
 }
 
 // The case of one count whose event file is empty.
-fn empty_case(alloc: Global) -> Result<Case, NoMemory> {
+fn empty_case(rt: &impl Abort, alloc: Global) -> Case {
     let mut all = ItemsList::new(alloc);
-    all.push(Items::new(alloc))?;
-    Case::of(alloc, Topology::one_count(alloc, 60)?, all)
+    made(rt, all.push(Items::new(alloc)));
+    let topology = made(rt, Topology::one_count(alloc, 60));
+    made(rt, Case::of(alloc, topology, all))
 }
 
-// How many timers, pending deliveries and ids the first row of the count has.
-fn sizes_of_first(alloc: Global, case: &Case) -> (usize, usize, usize) {
+// Whether the first row of the count has no timer, pending delivery or id.
+fn begins_fresh(alloc: Global, case: &Case) -> bool {
     let row = first_row(alloc, case, 1);
     let sizes = (row.timers.len(), row.pending.len(), row.seen.len());
     drop(row);
-    sizes
-}
-
-// How many records a history of nothing emits.
-fn emitted(alloc: Global, case: &Case) -> Result<usize, NoMemory> {
-    let emissions = emissions(alloc, case, &History::new(alloc))?;
-    let count = emissions.len();
-    drop(emissions);
-    Ok(count)
-}
-
-// What is written of a history of nothing.
-fn written(alloc: Global, case: &Case) -> Result<Bytes, NoMemory> {
-    result_text(alloc, case, &History::new(alloc))
+    sizes == (0, 0, 0)
 }
 
 // The summary of nothing.
 const SUMMARY: &[u8] = b"{\"fired\":0,\"handled\":0,\"injected\":0,\"late\":0}\n";
 
-// Whether a row begins fresh, there are two intervals, and of a run of nothing the summary is printed alone.
-fn is_empty_run(alloc: Global, case: &Case) -> Result<bool, NoMemory> {
-    Ok(
-        sizes_of_first(alloc, case) == (0, 0, 0)
-            && case.intervals().count() == 2
-            && emitted(alloc, case)? == 0
-            && are(written(alloc, case)?, SUMMARY),
-    )
+// Whether a history of nothing emits nothing, and its summary is printed alone.
+fn emits_nothing(rt: &impl Abort, alloc: Global, case: &Case) -> bool {
+    let nothing = History::new(alloc);
+    let is_printed = are(made(rt, result_text(alloc, case, &nothing)), SUMMARY);
+    made(rt, emissions(alloc, case, &nothing)).is_empty() && is_printed
 }
 
-// The same of the empty case. No other function has a case of its own, since each that has is slow to
-// prove.
-fn empty_case_is_empty_run(alloc: Global) -> Result<bool, NoMemory> {
-    let case = empty_case(alloc)?;
-    let holds = is_empty_run(alloc, &case);
+// Whether a row of the empty case begins fresh, there are two intervals, and a run of nothing is printed. No other
+// function has a case of its own, since each that has is slow to prove.
+fn is_empty_run(rt: &impl Abort, alloc: Global) -> bool {
+    let case = empty_case(rt, alloc);
+    let is_cut = case.intervals().count() == 2;
+    let is_empty = begins_fresh(alloc, &case) && emits_nothing(rt, alloc, &case);
     drop(case);
-    holds
+    is_cut && is_empty
 }
 
-// The timestamp and value of what is produced of the record.
-fn produced(alloc: Global) -> Result<(u64, i64), NoMemory> {
-    let production = production(alloc, &record(alloc))?;
-    let told = (production.stamp, production.value);
-    drop(production);
-    Ok(told)
-}
-
-// Whether one of these holds.
-fn holds(alloc: Global, at: u32) -> Result<bool, NoMemory> {
-    match at {
-        0 => takes_back(alloc),
-        1 => Ok(count_sizes(alloc)? == ((1, 0), (0, 1))),
-        2 => empty_case_is_empty_run(alloc),
-        _ => Ok(produced(alloc)? == (10, 3)),
-    }
+// Whether the record is produced as it is.
+fn is_produced(rt: &impl Abort, alloc: Global) -> bool {
+    let production = made(rt, production(alloc, &record(alloc)));
+    production.stamp == 10 && production.value == 3
 }
 
 #[test]
-fn histories_are_kept_made_and_printed(rt: HostRuntime) -> Result<(), NoMemory> {
-    for (at, name) in &[
-        (0, "a history takes its last entry back"),
-        (1, "a count is sent to and emits"),
-        (2, "a run of nothing is printed and rows begin fresh"),
-        (3, "an injected record is produced as it is"),
-    ] {
-        assert!(rt; holds(rt.alloc(), *at)?, "{name}");
-    }
-    Ok(())
+fn histories_are_kept_made_and_printed(rt: HostRuntime) {
+    let alloc = rt.alloc();
+    must(
+        &rt,
+        takes_back(&rt, alloc),
+        "a history takes its last entry back",
+    );
+    must(&rt, makes_one(&rt, alloc), "a count is sent to and emits");
+    must(
+        &rt,
+        is_empty_run(&rt, alloc),
+        "a run of nothing is printed and rows begin fresh",
+    );
+    must(
+        &rt,
+        is_produced(&rt, alloc),
+        "an injected record is produced as it is",
+    );
 }

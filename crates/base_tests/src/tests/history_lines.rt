@@ -1,22 +1,22 @@
 //! The lines of a history: each record injected, handled and acknowledged, then its window fired, and
 //! the row purged.
-ghost use Rattle.std.specs.Prelude.{All, IfOk, ◌≤◌};
+ghost use Rattle.std.specs.Prelude.{All, ◌≤◌};
 ghost use Rattle.mw_types.specs.declared.TheConstants.{MAX_STAMP};
 ghost use Rattle.mw_types.specs.declared.record.Production.{Production};
 ghost use Rattle.mw_types.specs.Bounds.{IsWithin};
 ghost use Rattle.run_history.specs.HistoryLines.{HasLine};
 
-use super::{are, key_of};
+use super::{are, key_of, made, must};
 use mw_types::{
-    Bytes, Effects, Entry, Key, NoMemory, Production, ProductionList, Record, RecordId, RowName,
-    Seq, State, Timer,
+    Bytes, Effects, Entry, Key, Production, Record, RecordId, RowName, Seq, State, Timer,
 };
 use row_parts::read_state;
 use run_history::{History, entry_line, history_lines};
 use std::alloc::Global;
+use std::process::Abort;
 
 // The lines of the entries.
-const LINES: [&[u8]; 11] = [
+static LINES: [&[u8]; 11] = [
     b"{\"do\":\"claim\",\"interval\":0,\"n\":0,\"worker\":0}\n",
     b"{\"do\":\"claim\",\"interval\":1,\"n\":1,\"worker\":0}\n",
     b"{\"do\":\"inject\",\"key\":\"a\",\"late\":false,\"line\":0,\"n\":2,\"part\":0,\"seq\":0,\"ts\":10,\"value\":1}\n",
@@ -38,29 +38,18 @@ const ONE_60: &[u8] = b"\x01\0\0\0\0\0\0\0\0\0\0\0\x01\0\0\0\0\0\0\0\x3c\0\0\0\0
 const ONE_120: &[u8] = b"\x01\0\0\0\0\0\0\0\0\0\0\0\x01\0\0\0\0\0\0\0\x78\0\0\0\0\0\0\0\x01";
 
 // The row of the key a of the count.
-fn count_row(alloc: Global) -> Result<RowName, NoMemory> {
-    Ok(RowName {
-        part: 1,
-        key: key_of(alloc, "a")?,
-    })
-}
-
-// The row of the injector.
-fn injector_row(alloc: Global) -> RowName {
+fn count_row(rt: &impl Abort, alloc: Global) -> RowName {
     RowName {
-        part: 0,
-        key: Key::none(alloc),
+        part: 1,
+        key: key_of(rt, alloc, "a"),
     }
 }
 
 // The state of these bytes.
-fn state_spelt(alloc: Global, bytes: &[u8]) -> Result<State, NoMemory>
-    ensures { IfOk result IsWithin }
+fn state_spelt(rt: &impl Abort, alloc: Global, bytes: &[u8]) -> State
+    ensures { IsWithin result }
 {
-    match read_state(alloc, bytes) {
-        Ok(state) => Ok(state),
-        Err(_) => Err(NoMemory),
-    }
+    made(rt, read_state(alloc, bytes))
 }
 
 // The timer of this time.
@@ -75,206 +64,176 @@ fn timer_at(time: u32) -> Timer
 }
 
 // A handler left this state, and set the timer of this time.
-fn sets(alloc: Global, bytes: &[u8], time: u32) -> Result<Effects, NoMemory> {
-    let state = state_spelt(alloc, bytes)?;
+fn sets(rt: &impl Abort, alloc: Global, bytes: &[u8], time: u32) -> Effects {
     let mut timers = Seq::new(alloc);
-    timers.push(timer_at(time))?;
-    Ok(Effects {
-        state,
+    made(rt, timers.push(timer_at(time)));
+    Effects {
+        state: state_spelt(rt, alloc, bytes),
         timers,
         productions: Seq::new(alloc),
-    })
+    }
+}
+
+// A count of one that the row produces.
+fn one(rt: &impl Abort, alloc: Global, time: u32) -> Production
+    ensures { result.stamp ≤ MAX_STAMP }
+{
+    Production {
+        key: key_of(rt, alloc, "a"),
+        stamp: time as u64,
+        value: 1,
+    }
 }
 
 // A handler closed the last window, and produced its count of one.
-fn closes(alloc: Global, time: u32) -> Result<Effects, NoMemory> {
-    let productions = one_of(alloc, time)?;
-    Ok(Effects {
-        state: state_spelt(alloc, NONE)?,
+fn closes(rt: &impl Abort, alloc: Global, time: u32) -> Effects {
+    let mut productions = Seq::new(alloc);
+    made(rt, productions.push(one(rt, alloc, time)));
+    Effects {
+        state: state_spelt(rt, alloc, NONE),
         timers: Seq::new(alloc),
         productions,
-    })
-}
-
-// The count of one that the row produces.
-fn one_of(alloc: Global, time: u32) -> Result<ProductionList, NoMemory>
-    ensures { IfOk result (All (λ (p : Production). p.stamp ≤ MAX_STAMP)) }
-{
-    let mut productions = Seq::new(alloc);
-    productions.push(Production {
-        key: key_of(alloc, "a")?,
-        stamp: time as u64,
-        value: 1,
-    })?;
-    Ok(productions)
+    }
 }
 
 // A line is injected.
-fn injected(alloc: Global, line: u32, stamp: u64) -> Result<Entry, NoMemory>
-    ensures { IfOk result HasLine }
+fn injected(rt: &impl Abort, alloc: Global, line: u32, stamp: u64) -> Entry
+    ensures { HasLine result }
 {
-    Ok(Entry::Inject {
+    Entry::Inject {
         seq: 0,
         part: 0,
         line,
         item: Record {
-            key: key_of(alloc, "a")?,
+            key: key_of(rt, alloc, "a"),
             stamp,
             value: 1,
             late: false,
         },
-    })
+    }
 }
 
 // Its record opens the window that ends at this time.
-fn handled(alloc: Global, commit: u32, state: &[u8], time: u32) -> Result<Entry, NoMemory>
-    ensures { IfOk result HasLine }
+fn handled(rt: &impl Abort, alloc: Global, commit: u32, state: &[u8], time: u32) -> Entry
+    ensures { HasLine result }
 {
-    Ok(Entry::Handle {
+    Entry::Handle {
         seq: 1,
-        row: count_row(alloc)?,
+        row: count_row(rt, alloc),
         id: RecordId {
             commit: u64::from(commit),
             index: 0,
         },
-        effects: sets(alloc, state, time)?,
-    })
+        effects: sets(rt, alloc, state, time),
+    }
 }
 
 // The injector's row learns that the record was handled.
-fn acknowledged(alloc: Global, commit: u32) -> Result<Entry, NoMemory>
-    ensures { IfOk result HasLine }
+fn acknowledged(alloc: Global, commit: u32) -> Entry
+    ensures { HasLine result }
 {
-    Ok(Entry::Ack {
+    Entry::Ack {
         seq: 0,
-        row: injector_row(alloc),
+        row: RowName {
+            part: 0,
+            key: Key::none(alloc),
+        },
         id: RecordId {
             commit: u64::from(commit),
             index: 0,
         },
-    })
+    }
 }
 
 // The window is closed.
-fn fired(alloc: Global, time: u32) -> Result<Entry, NoMemory>
-    ensures { IfOk result HasLine }
+fn fired(rt: &impl Abort, alloc: Global, time: u32) -> Entry
+    ensures { HasLine result }
 {
-    let effects = closes(alloc, time)?;
-    Ok(Entry::Fire {
+    Entry::Fire {
         seq: 1,
-        row: count_row(alloc)?,
+        row: count_row(rt, alloc),
         timer: timer_at(time),
         mark: u64::from(time),
-        effects,
-    })
+        effects: closes(rt, alloc, time),
+    }
 }
 
-// The row is purged.
-fn purged(alloc: Global, floor: u64) -> Result<Entry, NoMemory>
-    ensures { IfOk result HasLine }
-{
-    Ok(Entry::Purge {
-        seq: 1,
-        row: count_row(alloc)?,
-        floor,
-    })
-}
-
-// The entry of this commit number.
-fn entry(alloc: Global, n: usize) -> Result<Entry, NoMemory>
-    ensures { IfOk result HasLine }
+// The entry of this commit number, of which the last purges the row.
+fn entry(rt: &impl Abort, alloc: Global, n: usize) -> Entry
+    ensures { HasLine result }
 {
     match n {
-        0 => Ok(Entry::Claim {
+        0 => Entry::Claim {
             worker: 0,
             interval: 0,
-        }),
-        1 => Ok(Entry::Claim {
+        },
+        1 => Entry::Claim {
             worker: 0,
             interval: 1,
-        }),
-        2 => injected(alloc, 0, 10),
-        3 => handled(alloc, 2, ONE_60, 60),
+        },
+        2 => injected(rt, alloc, 0, 10),
+        3 => handled(rt, alloc, 2, ONE_60, 60),
         4 => acknowledged(alloc, 2),
-        5 => fired(alloc, 60),
-        6 => injected(alloc, 1, 70),
-        7 => handled(alloc, 6, ONE_120, 120),
+        5 => fired(rt, alloc, 60),
+        6 => injected(rt, alloc, 1, 70),
+        7 => handled(rt, alloc, 6, ONE_120, 120),
         8 => acknowledged(alloc, 6),
-        9 => fired(alloc, 120),
-        _ => purged(alloc, 10),
+        9 => fired(rt, alloc, 120),
+        _ => Entry::Purge {
+            seq: 1,
+            row: count_row(rt, alloc),
+            floor: 10,
+        },
     }
 }
 
 // Whether the entry of this commit number is printed so.
-fn is_printed(alloc: Global, n: usize, line: &[u8]) -> Result<bool, NoMemory> {
-    let entry = entry(alloc, n)?;
-    let printed = entry_line(alloc, &entry, n as u64);
+fn is_printed(rt: &impl Abort, alloc: Global, n: usize, line: &[u8]) -> bool {
+    let entry = entry(rt, alloc, n);
+    let printed = made(rt, entry_line(alloc, &entry, n as u64));
     drop(entry);
-    Ok(are(printed?, line))
+    are(printed, line)
 }
 
-#[test]
-fn each_entry_has_its_line(rt: HostRuntime) -> Result<(), NoMemory> {
-    for (n, line) in LINES.iter().enumerate() {
-        assert!(rt; is_printed(rt.alloc(), n, line)?, "{n}");
-    }
-    Ok(())
-}
-
-// The history of the entries.
-fn example(alloc: Global) -> Result<History, NoMemory>
-    ensures { IfOk result (All HasLine) }
-{
+// What is printed of the history of the first entries, of which there are so many.
+fn printed(rt: &impl Abort, alloc: Global, count: usize) -> Bytes {
     let mut history = History::new(alloc);
-    for n in 0..LINES.len() {
-        history.push(entry(alloc, n)?)?;
+    for n in 0..count {
+        made(rt, history.push(entry(rt, alloc, n)));
     }
-    Ok(history)
+    made(rt, history_lines(alloc, &history))
 }
 
-// What is printed of it.
-fn example_printed(alloc: Global) -> Result<Bytes, NoMemory> {
-    let history = example(alloc)?;
-    let printed = history_lines(alloc, &history);
-    drop(history);
-    printed
-}
-
-// Whether bytes are all lines, one after another.
+// Whether bytes are those of all lines, one after another.
 fn are_lines(bytes: &[u8]) -> bool {
     let mut rest = bytes;
     for line in &LINES {
-        if rest.len() < line.len() || &rest[..line.len()] != *line {
-            return false;
+        match rest.strip_prefix(*line) {
+            Some(after) => rest = after,
+            None => return false,
         }
-        rest = &rest[line.len()..];
     }
     rest.is_empty()
 }
 
-// Whether the history is printed as its lines.
-fn example_is_printed(alloc: Global) -> Result<bool, NoMemory> {
-    let printed = example_printed(alloc)?;
-    let are = are_lines(printed.as_slice());
-    drop(printed);
-    Ok(are)
-}
-
-// Whether of a history of nothing no line is printed.
-fn nothing_is_printed(alloc: Global) -> Result<bool, NoMemory> {
-    let history = History::new(alloc);
-    let printed = history_lines(alloc, &history);
-    drop(history);
-    Ok(are(printed?, b""))
-}
-
-// Whether both are.
-fn both_are_printed(alloc: Global) -> Result<bool, NoMemory> {
-    Ok(example_is_printed(alloc)? && nothing_is_printed(alloc)?)
+// The same of a list that is handed over.
+fn is_whole(printed: Bytes) -> bool {
+    are_lines(printed.as_slice())
 }
 
 #[test]
-fn a_history_is_printed_line_by_line(rt: HostRuntime) -> Result<(), NoMemory> {
-    assert!(rt; both_are_printed(rt.alloc())?);
-    Ok(())
+fn a_history_is_printed_line_by_line(rt: HostRuntime) {
+    for (n, line) in LINES.iter().enumerate() {
+        must(&rt, is_printed(&rt, rt.alloc(), n, line), n);
+    }
+    must(
+        &rt,
+        is_whole(printed(&rt, rt.alloc(), LINES.len())),
+        "all lines",
+    );
+    must(
+        &rt,
+        are(printed(&rt, rt.alloc(), 0), b""),
+        "of nothing no line",
+    );
 }

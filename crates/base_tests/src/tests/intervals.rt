@@ -4,10 +4,11 @@ ghost use Rattle.key_intervals.specs.declared.bounds.Bounds.{Bounds};
 ghost use Rattle.mw_types.specs.declared.key.PartCuts.{PartCuts};
 ghost use Rattle.key_intervals.specs.Intervals.{AreNumbered, bounds_of};
 
-use super::key_of;
+use super::{key_of, made, must};
 use key_intervals::{Bounds, INTERVALS_MAX, Intervals};
 use mw_types::{Key, KeyList, KeyRefusal, NoMemory, PartCuts, PartCutsList, RowName};
 use std::alloc::Global;
+use std::process::Abort;
 
 // A part without cuts.
 fn whole(alloc: Global, part: u32) -> PartCuts
@@ -44,21 +45,11 @@ fn three_intervals(alloc: Global) -> Result<Intervals, KeyRefusal>
     Ok(intervals)
 }
 
-// Whether a row of a part that is there is in this interval.
-fn finds(
-    alloc: Global,
-    intervals: &Intervals,
-    part: u32,
-    text: &str,
-    number: u32,
-) -> Result<bool, NoMemory>
+// Whether the row of a key, of a part that is there, is in this interval.
+fn finds(intervals: &Intervals, part: u32, key: Key, number: u32) -> bool
     requires { Any (λ (b : Bounds). b.part ≡ part) intervals.now }
 {
-    let key = key_of(alloc, text)?;
-    let name = RowName { part, key };
-    let found = intervals.find(&name);
-    drop(name);
-    Ok(found == number)
+    intervals.find(&RowName { part, key }) == number
 }
 
 // Keys of the part that is cut, and the interval of each.
@@ -73,19 +64,19 @@ static CUT: [(&str, u32); 7] = [
 ];
 
 // Whether a row of the part that is cut is in this interval.
-fn is_found(alloc: Global, text: &str, number: u32) -> Result<bool, KeyRefusal> {
-    let intervals = three_intervals(alloc)?;
-    let is_found = finds(alloc, &intervals, 1, text, number);
-    drop(intervals);
-    Ok(is_found?)
+fn is_found(rt: &impl Abort, alloc: Global, text: &str, number: u32) -> bool {
+    let intervals = made(rt, three_intervals(alloc));
+    finds(&intervals, 1, key_of(rt, alloc, text), number)
 }
 
-#[test]
-fn a_cut_begins_an_interval(rt: HostRuntime) -> Result<(), KeyRefusal> {
-    for (text, number) in &CUT {
-        assert!(rt; is_found(rt.alloc(), text, *number)?, "{text}");
-    }
-    Ok(())
+// Whether there are five, of which the first and the last are of the parts beside. The key is one of the last.
+fn are_five(alloc: Global, key: Key) -> Result<bool, KeyRefusal> {
+    let intervals = three_intervals(alloc)?;
+    Ok(
+        intervals.count() == 5
+            && injector_interval(alloc, &intervals) == 0
+            && finds(&intervals, 2, key, 4),
+    )
 }
 
 // The interval of the row of the injector.
@@ -98,46 +89,26 @@ fn injector_interval(alloc: Global, intervals: &Intervals) -> u32
     })
 }
 
-// Whether there are five, of which the first and the last are of the parts beside.
-fn are_five(alloc: Global) -> Result<bool, KeyRefusal> {
-    let intervals = three_intervals(alloc)?;
-    Ok(
-        intervals.count() == 5
-            && injector_interval(alloc, &intervals) == 0
-            && finds(alloc, &intervals, 2, "h", 4)?,
-    )
-}
-
-// The bounds from h to q.
-fn middle(alloc: Global) -> Result<Bounds, NoMemory> {
-    let from = key_of(alloc, "h")?;
-    let to = Some(key_of(alloc, "q")?);
-    Ok(Bounds { part: 1, from, to })
-}
-
-// Whether bounds are those, and have no row of another part.
-fn is_middle(alloc: Global, bounds: &Bounds) -> Result<bool, NoMemory> {
-    let key = key_of(alloc, "h")?;
-    Ok(!bounds.covers(&RowName { part: 2, key }) && *bounds == middle(alloc)?)
+// Whether bounds go from h to q in part 1, and have no row of another part.
+fn is_middle(rt: &impl Abort, alloc: Global, bounds: &Bounds) -> bool {
+    let middle = Bounds {
+        part: 1,
+        from: key_of(rt, alloc, "h"),
+        to: Some(key_of(rt, alloc, "q")),
+    };
+    let other = RowName {
+        part: 2,
+        key: key_of(rt, alloc, "h"),
+    };
+    !bounds.covers(&other) && *bounds == middle
 }
 
 // Whether the interval in the middle has these bounds.
-fn has_middle(alloc: Global) -> Result<bool, KeyRefusal> {
-    let intervals = three_intervals(alloc)?;
-    let holds = is_middle(alloc, intervals.bounds(2));
+fn has_middle(rt: &impl Abort, alloc: Global) -> bool {
+    let intervals = made(rt, three_intervals(alloc));
+    let is_middle = is_middle(rt, alloc, intervals.bounds(2));
     drop(intervals);
-    Ok(holds?)
-}
-
-// Whether there are five, and the one in the middle has those bounds.
-fn has_five_and_a_middle(alloc: Global) -> Result<bool, KeyRefusal> {
-    Ok(are_five(alloc)? && has_middle(alloc)?)
-}
-
-#[test]
-fn parts_beside_a_cut_part_have_one_interval(rt: HostRuntime) -> Result<(), KeyRefusal> {
-    assert!(rt; has_five_and_a_middle(rt.alloc())?);
-    Ok(())
+    is_middle
 }
 
 // So many parts without cuts.
@@ -166,10 +137,15 @@ fn whole_intervals(alloc: Global, count: u32) -> Result<Intervals, NoMemory>
 }
 
 // How many intervals so many parts have.
-fn count_of(alloc: Global, count: u32) -> Result<u32, NoMemory>
+fn count_of(rt: &impl Abort, alloc: Global, count: u32) -> u32
     requires { count ≤ INTERVALS_MAX }
 {
-    Ok(whole_intervals(alloc, count)?.count())
+    made(rt, whole_intervals(alloc, count)).count()
+}
+
+// Whether one part, and 61, have as many intervals.
+fn have_as_many(rt: &impl Abort, alloc: Global) -> bool {
+    count_of(rt, alloc, 1) == 1 && count_of(rt, alloc, 61) == 61
 }
 
 // Whether bounds are those of a whole part.
@@ -178,31 +154,24 @@ fn is_whole(bounds: &Bounds, part: u32) -> bool {
 }
 
 // Whether the last of 61 parts has its own interval, without an upper end.
-fn last_is_whole(alloc: Global) -> Result<bool, NoMemory> {
-    let intervals = whole_intervals(alloc, 61)?;
+fn last_is_whole(rt: &impl Abort, alloc: Global) -> bool {
+    let intervals = made(rt, whole_intervals(alloc, 61));
     let last = RowName {
         part: 60,
         key: Key::none(alloc),
     };
-    let holds = intervals.find(&last) == 60 && is_whole(intervals.bounds(60), 60);
-    drop(last);
-    drop(intervals);
-    Ok(holds)
-}
-
-// Whether one of these holds of parts without cuts.
-fn whole_holds(alloc: Global, at: u32) -> Result<bool, NoMemory> {
-    match at {
-        0 => Ok(count_of(alloc, 1)? == 1),
-        1 => Ok(count_of(alloc, 61)? == 61),
-        _ => last_is_whole(alloc),
-    }
+    intervals.find(&last) == 60 && is_whole(intervals.bounds(60), 60)
 }
 
 #[test]
-fn a_part_without_cuts_has_one_interval(rt: HostRuntime) -> Result<(), NoMemory> {
-    for (at, name) in &[(0, "of one"), (1, "of 61"), (2, "the last")] {
-        assert!(rt; whole_holds(rt.alloc(), *at)?, "{name}");
+fn a_cut_begins_an_interval(rt: HostRuntime) {
+    let alloc = rt.alloc();
+    for (text, number) in &CUT {
+        must(&rt, is_found(&rt, alloc, text, *number), *text);
     }
-    Ok(())
+    let are_five = are_five(alloc, key_of(&rt, alloc, "h"));
+    must(&rt, made(&rt, are_five), "there are five");
+    must(&rt, has_middle(&rt, alloc), "the one in the middle");
+    must(&rt, have_as_many(&rt, alloc), "parts without cuts");
+    must(&rt, last_is_whole(&rt, alloc), "the last of 61");
 }

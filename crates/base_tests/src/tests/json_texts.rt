@@ -1,22 +1,15 @@
 //! The texts that have one JSON value.
+use super::{made, must};
 use json_reading::json_of;
-use mw_types::NoMemory;
-use serde_json::Value;
 use std::alloc::Global;
 use std::process::Abort;
-use std::test::Fail;
 
-// Whether these bytes are the JSON number 7.
-fn is_seven(alloc: Global, bytes: &[u8]) -> Result<Option<bool>, NoMemory> {
-    let value = json_of(alloc, bytes)?;
-    let is_seven = value.as_ref().map(is_number_seven);
-    drop(value);
-    Ok(is_seven)
-}
-
-// Whether a value is the number 7.
-fn is_number_seven(value: &Value) -> bool {
-    value.as_u64() == Some(7)
+// Whether these bytes are the JSON number 7, or nothing where they have no value.
+fn is_seven(rt: &impl Abort, alloc: Global, bytes: &[u8]) -> Option<bool> {
+    match made(rt, json_of(alloc, bytes)) {
+        Some(value) => Some(value.as_u64() == Some(7)),
+        None => None,
+    }
 }
 
 // Texts, and whether each is the number, where it has a value.
@@ -30,9 +23,8 @@ static TEXTS: [(&[u8], Option<bool>); 6] = [
 ];
 
 #[test]
-fn one_text_alone_has_a_value(rt: HostRuntime) -> Result<(), Fail> {
+fn one_text_alone_has_a_value(rt: HostRuntime) {
     for (at, (bytes, want)) in TEXTS.iter().enumerate() {
-        assert!(rt; is_seven(rt.alloc(), bytes)? == *want, "{at}");
+        must(&rt, is_seven(&rt, rt.alloc(), bytes) == *want, at);
     }
-    Ok(())
 }

@@ -1,212 +1,192 @@
 //! Keepers, called as such and through their bound.
-use super::are;
+use super::{key_of, made, must};
 use key_intervals::Bounds;
-use mw_types::{Bytes, CallList, Key, KeyRefusal, NoMemory, RowName};
+use mw_types::{Bytes, CallList, Key, RowName};
 use row_keeper::{BlindKeeper, Keeper, KeeperFault, KeptRow, KeptRowList, MemKeeper};
 use std::alloc::Global;
+use std::process::Abort;
 
-// The key with this text.
-fn key(alloc: Global, text: &str) -> Result<Key, NoMemory> {
-    match Key::of(alloc, text) {
-        Ok(key) => Ok(key),
-        Err(KeyRefusal::BadLength) => Ok(Key::none(alloc)),
-        Err(KeyRefusal::NoMemory) => Err(NoMemory),
-    }
+// What a keeper is asked, and what it answers.
+enum Asked {
+    // A row of this part, key and byte is put, which may fail.
+    Put(u32, &'static str, u8, Result<(), KeeperFault>),
+    // The rows of part 1 from h to q have these bytes.
+    Scan(Result<&'static [u8], KeeperFault>),
+    // The first row has this byte, which is 0 where there is none.
+    First(Result<u8, KeeperFault>),
 }
 
-// A row of one byte.
-fn row(alloc: Global, part: u32, text: &str, byte: u8) -> Result<KeptRow, NoMemory> {
-    let key = key(alloc, text)?;
-    Ok(KeptRow {
-        name: RowName { part, key },
-        bytes: Bytes::from_vec(vec![in alloc; byte]?),
-    })
+// An interval has its rows in order once they are put, the last in the place of an earlier one.
+static IN_ORDER: [Asked; 10] = [
+    Asked::First(Ok(0)),
+    Asked::Put(2, "h", 1, Ok(())),
+    Asked::Put(1, "q", 2, Ok(())),
+    Asked::Put(1, "pz", 3, Ok(())),
+    Asked::Put(1, "h", 4, Ok(())),
+    Asked::Put(1, "a", 5, Ok(())),
+    Asked::Put(0, "", 6, Ok(())),
+    Asked::Put(1, "h", 7, Ok(())),
+    Asked::Scan(Ok(&[7, 3])),
+    Asked::First(Ok(6)),
+];
+
+// Each named call fails, and is done the next time.
+static FAILING: [Asked; 6] = [
+    Asked::Put(1, "h", 1, Err(KeeperFault::Failed)),
+    Asked::Put(1, "h", 2, Ok(())),
+    Asked::Scan(Err(KeeperFault::Failed)),
+    Asked::Scan(Ok(&[2])),
+    Asked::First(Err(KeeperFault::Failed)),
+    Asked::First(Ok(2)),
+];
+
+// A blind keeper shows its row of the byte 9, and no other that is put.
+static BLIND: [Asked; 9] = [
+    Asked::Put(2, "h", 1, Ok(())),
+    Asked::Put(1, "q", 2, Ok(())),
+    Asked::Put(1, "pz", 3, Ok(())),
+    Asked::Put(1, "h", 4, Ok(())),
+    Asked::Put(1, "a", 5, Ok(())),
+    Asked::Put(0, "", 6, Ok(())),
+    Asked::Put(1, "h", 7, Ok(())),
+    Asked::First(Ok(0)),
+    Asked::Scan(Ok(&[9])),
+];
+
+// It takes a put of the very row that it shows.
+static SHOWN: [Asked; 1] = [Asked::Put(1, "a", 255, Ok(()))];
+
+// The name of a row, whose key may be none.
+fn name_of(rt: &impl Abort, alloc: Global, part: u32, text: &str) -> RowName {
+    let key = if text.is_empty() {
+        Key::none(alloc)
+    } else {
+        key_of(rt, alloc, text)
+    };
+    RowName { part, key }
 }
 
 // Puts a row of one byte into a keeper.
 fn put<K: Keeper>(
     alloc: Global,
     keeper: &mut K,
-    part: u32,
-    text: &str,
+    name: RowName,
     byte: u8,
 ) -> Result<(), KeeperFault> {
-    let row = row(alloc, part, text, byte)?;
-    let done = keeper.put(alloc, &row.name, row.bytes.as_slice());
-    drop(row);
-    done
+    keeper.put(alloc, &name, &[byte])
 }
 
-// The part, the key and the byte of seven rows, the last in the place of an earlier one.
-static ROWS: [(u32, &str, u8); 7] = [
-    (2, "h", 1),
-    (1, "q", 2),
-    (1, "pz", 3),
-    (1, "h", 4),
-    (1, "a", 5),
-    (0, "", 6),
-    (1, "h", 7),
-];
+// What a scan finds from h to q.
+fn scan<K: Keeper>(
+    rt: &impl Abort,
+    alloc: Global,
+    keeper: &mut K,
+) -> Result<KeptRowList, KeeperFault> {
+    let bounds = Bounds {
+        part: 1,
+        from: key_of(rt, alloc, "h"),
+        to: Some(key_of(rt, alloc, "q")),
+    };
+    keeper.scan(alloc, &bounds)
+}
 
-// Puts them.
-fn fill<K: Keeper>(alloc: Global, keeper: &mut K) -> Result<(), KeeperFault> {
-    for (part, text, byte) in &ROWS {
-        put(alloc, keeper, *part, text, *byte)?;
+// Whether these are the bytes of rows, of which each has one.
+fn are_bytes(rows: &[KeptRow], want: &[u8]) -> bool {
+    let mut are = rows.len() == want.len();
+    for (at, row) in rows.iter().enumerate() {
+        are = are && row.bytes.len() == 1 && row.bytes.get(0) == want.get(at);
     }
-    Ok(())
+    are
 }
 
-// The bytes of rows, one after another.
-fn bytes_of(alloc: Global, rows: KeptRowList) -> Result<Bytes, KeeperFault> {
-    let mut all = Bytes::new(alloc);
-    let pushed = push_bytes(&mut all, rows.as_slice());
-    drop(rows);
-    pushed?;
-    Ok(all)
-}
-
-// Appends the bytes of rows.
-fn push_bytes(all: &mut Bytes, rows: &[KeptRow]) -> Result<(), NoMemory> {
-    for row in rows {
-        for byte in row.bytes.as_slice() {
-            all.push(*byte)?;
-        }
+// Whether a scan found rows of these bytes, or failed so.
+fn is_found(found: Result<KeptRowList, KeeperFault>, want: Result<&[u8], KeeperFault>) -> bool {
+    match found {
+        Ok(rows) => match want {
+            Ok(bytes) => are_bytes(rows.as_slice(), bytes),
+            Err(_) => false,
+        },
+        Err(fault) => want == Err(fault),
     }
-    Ok(())
-}
-
-// The keys of part 1 from h to q.
-fn middle(alloc: Global) -> Result<Bounds, NoMemory> {
-    let from = key(alloc, "h")?;
-    let to = Some(key(alloc, "q")?);
-    Ok(Bounds { part: 1, from, to })
-}
-
-// The bytes of the rows of part 1 from h to q.
-fn scan<K: Keeper>(alloc: Global, keeper: &mut K) -> Result<Bytes, KeeperFault> {
-    let bounds = middle(alloc)?;
-    let found = keeper.scan(alloc, &bounds);
-    drop(bounds);
-    bytes_of(alloc, found?)
-}
-
-// Whether these are the bytes of those rows.
-fn scans<K: Keeper>(alloc: Global, keeper: &mut K, bytes: &[u8]) -> Result<bool, KeeperFault> {
-    Ok(are(scan(alloc, keeper)?, bytes))
 }
 
 // The byte of the first row, or 0 where there is none.
-fn first<K: Keeper>(alloc: Global, keeper: &mut K) -> Result<u8, KeeperFault> {
-    let row = keeper.first(alloc)?;
-    let byte = match &row {
-        Some(row) => row.bytes.get(0).copied().unwrap_or(0),
-        None => 0,
-    };
-    drop(row);
-    Ok(byte)
+fn first_byte(found: Result<Option<KeptRow>, KeeperFault>) -> Result<u8, KeeperFault> {
+    match found {
+        Ok(Some(row)) => Ok(row.bytes.get(0).copied().unwrap_or(0)),
+        Ok(None) => Ok(0),
+        Err(fault) => Err(fault),
+    }
+}
+
+// Whether a keeper answers so.
+fn is_answered<K: Keeper>(rt: &impl Abort, alloc: Global, keeper: &mut K, asked: &Asked) -> bool {
+    match asked {
+        Asked::Put(part, text, byte, want) => {
+            put(alloc, keeper, name_of(rt, alloc, *part, text), *byte) == *want
+        }
+        Asked::Scan(want) => is_found(scan(rt, alloc, keeper), *want),
+        Asked::First(want) => first_byte(keeper.first(alloc)) == *want,
+    }
+}
+
+// Asks a keeper one after another, and gives it back.
+fn ask<K: Keeper>(rt: &impl Abort, alloc: Global, keeper: K, all: &[Asked]) -> K {
+    let mut keeper = keeper;
+    for (at, asked) in all.iter().enumerate() {
+        must(rt, is_answered(rt, alloc, &mut keeper, asked), at);
+    }
+    keeper
+}
+
+// A keeper in memory that fails at these of its calls.
+fn in_memory(rt: &impl Abort, alloc: Global, calls: &[u64]) -> MemKeeper {
+    let mut list = CallList::new(alloc);
+    for call in calls {
+        made(rt, list.push(*call));
+    }
+    MemKeeper::new(alloc, list)
+}
+
+// A blind keeper that shows this row of part 1.
+fn blind(rt: &impl Abort, alloc: Global, text: &str, byte: u8) -> BlindKeeper {
+    BlindKeeper::new(KeptRow {
+        name: name_of(rt, alloc, 1, text),
+        bytes: Bytes::from_vec(made(rt, vec![in alloc; byte])),
+    })
 }
 
 // Whether these are the bytes of all rows of a keeper in memory.
-fn has_all(alloc: Global, keeper: &MemKeeper, bytes: &[u8]) -> Result<bool, KeeperFault> {
-    Ok(are(bytes_of(alloc, keeper.rows(alloc)?)?, bytes))
-}
-
-// Whether an interval has its rows in order once they are put.
-fn is_in_order(alloc: Global) -> Result<bool, KeeperFault> {
-    let mut keeper = MemKeeper::new(alloc, CallList::new(alloc));
-    let is_so = orders(alloc, &mut keeper);
-    drop(keeper);
-    is_so
-}
-
-// The same of a keeper that has no row yet.
-fn orders(alloc: Global, keeper: &mut MemKeeper) -> Result<bool, KeeperFault> {
-    let was_empty = first(alloc, keeper)? == 0;
-    fill(alloc, keeper)?;
-    Ok(
-        was_empty
-            && scans(alloc, keeper, &[7, 3])?
-            && first(alloc, keeper)? == 6
-            && has_all(alloc, keeper, &[6, 5, 7, 3, 2, 1])?,
-    )
-}
-
-// A keeper that fails at these of its calls.
-fn failing(alloc: Global, calls: &[u64]) -> Result<MemKeeper, NoMemory> {
-    let mut list = CallList::new(alloc);
-    for call in calls {
-        list.push(*call)?;
-    }
-    Ok(MemKeeper::new(alloc, list))
-}
-
-// Whether a put fails once, and is done the next time.
-fn puts_again(alloc: Global, keeper: &mut MemKeeper) -> bool {
-    put(alloc, keeper, 1, "h", 1) == Err(KeeperFault::Failed)
-        && put(alloc, keeper, 1, "h", 2) == Ok(())
-}
-
-// Whether a scan fails once, and has the row the next time.
-fn scans_again(alloc: Global, keeper: &mut MemKeeper) -> bool {
-    scans(alloc, keeper, &[2]) == Err(KeeperFault::Failed) && scans(alloc, keeper, &[2]) == Ok(true)
-}
-
-// Whether each named call fails.
-fn fails_as_named(alloc: Global) -> Result<bool, KeeperFault> {
-    let mut keeper = failing(alloc, &[0, 2, 4])?;
-    let is_so = puts_again(alloc, &mut keeper)
-        && scans_again(alloc, &mut keeper)
-        && first_again(alloc, &mut keeper);
-    drop(keeper);
-    Ok(is_so)
-}
-
-// Whether a look for the first row fails once, and has it the next time.
-fn first_again(alloc: Global, keeper: &mut MemKeeper) -> bool {
-    first(alloc, keeper) == Err(KeeperFault::Failed) && first(alloc, keeper) == Ok(2)
-}
-
-// Whether a keeper that is blind shows its row, and no other.
-fn is_blind(alloc: Global) -> Result<bool, KeeperFault> {
-    let mut keeper = BlindKeeper::new(row(alloc, 1, "p", 9)?);
-    let is_so = hides_others(alloc, &mut keeper);
-    drop(keeper);
-    is_so
-}
-
-// Whether a keeper shows the row of the byte 9 alone, once others are put.
-fn hides_others(alloc: Global, keeper: &mut BlindKeeper) -> Result<bool, KeeperFault> {
-    fill(alloc, keeper)?;
-    Ok(first(alloc, keeper)? == 0 && scans(alloc, keeper, &[9])?)
-}
-
-// Whether it takes a put of the very row that it shows.
-fn takes_its_row(alloc: Global) -> Result<bool, KeeperFault> {
-    let mut keeper = BlindKeeper::new(row(alloc, 1, "a", 255)?);
-    let is_taken = put(alloc, &mut keeper, 1, "a", 255) == Ok(());
-    drop(keeper);
-    Ok(is_taken)
-}
-
-// Whether one of these holds.
-fn holds(alloc: Global, at: u32) -> Result<bool, KeeperFault> {
-    match at {
-        0 => is_in_order(alloc),
-        1 => fails_as_named(alloc),
-        2 => is_blind(alloc),
-        _ => takes_its_row(alloc),
-    }
+fn has_all(rt: &impl Abort, alloc: Global, keeper: MemKeeper, want: &[u8]) -> bool {
+    let rows = made(rt, keeper.rows(alloc));
+    are_bytes(rows.as_slice(), want)
 }
 
 #[test]
-fn keepers_show_their_rows_and_fail_as_told(rt: HostRuntime) -> Result<(), KeeperFault> {
-    for (at, name) in &[
-        (0, "an interval has its rows in order"),
-        (1, "each named call fails"),
-        (2, "a blind keeper shows its row"),
-        (3, "a blind keeper takes its row"),
-    ] {
-        assert!(rt; holds(rt.alloc(), *at)?, "{name}");
-    }
-    Ok(())
+fn a_keeper_in_memory_shows_its_rows(rt: HostRuntime) {
+    let alloc = rt.alloc();
+    let keeper = ask(&rt, alloc, in_memory(&rt, alloc, &[]), &IN_ORDER);
+    must(
+        &rt,
+        has_all(&rt, alloc, keeper, &[6, 5, 7, 3, 2, 1]),
+        "all rows",
+    );
+}
+
+#[test]
+fn a_keeper_in_memory_fails_as_told(rt: HostRuntime) {
+    let alloc = rt.alloc();
+    drop(ask(&rt, alloc, in_memory(&rt, alloc, &[0, 2, 4]), &FAILING));
+}
+
+#[test]
+fn a_blind_keeper_shows_its_row(rt: HostRuntime) {
+    let alloc = rt.alloc();
+    drop(ask(&rt, alloc, blind(&rt, alloc, "p", 9), &BLIND));
+}
+
+#[test]
+fn a_blind_keeper_takes_its_row(rt: HostRuntime) {
+    let alloc = rt.alloc();
+    drop(ask(&rt, alloc, blind(&rt, alloc, "a", 255), &SHOWN));
 }

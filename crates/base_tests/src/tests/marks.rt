@@ -1,24 +1,51 @@
 //! The oldest of some stamps, and what feeds an interval, with values that were worked out by hand.
-ghost use Rattle.std.specs.Prelude.{Contains, IfOk, OnOk, length, ◌≡◌};
+ghost use Rattle.std.specs.Prelude.{IfOk, length, ◌≡◌};
 ghost use Rattle.topology.specs.Shapes.{injectors_of};
 
-use super::are;
+use super::{are, made, must};
 use injector::{Items, ItemsList};
-use mw_types::{END, NoMemory, NumberList};
+use mw_types::{END, NoMemory};
 use run_history::Case;
 use std::alloc::Global;
-use std::test::Fail;
+use std::mem::replace;
+use std::process::Abort;
 use topology::{Topology, read};
 use watermark::{Oldest, feeding, inputs, low};
 
-// The stamps 5, 3 and 3.
-fn three_stamps(alloc: Global) -> Result<Oldest, NoMemory> {
-    let mut oldest = Oldest::new(alloc);
-    for stamp in [5, 3, 3] {
-        oldest.add(stamp)?;
-    }
-    Ok(oldest)
+// What is done with stamps, or seen of them.
+enum Deed {
+    // There is none.
+    Begin,
+    // A stamp is added.
+    Add(u64),
+    // Another is there for a while.
+    Visit(u64),
+    // This is the least, which is removed, if there is one.
+    Take(u64),
+    // This is the least.
+    Least(u64),
 }
+
+// What is done with stamps, one after another.
+static DEEDS: [Deed; 15] = [
+    // The least is held as often as it was added.
+    Deed::Add(5),
+    Deed::Add(3),
+    Deed::Add(3),
+    Deed::Take(3),
+    Deed::Take(3),
+    Deed::Take(5),
+    Deed::Take(END),
+    // It stays the least after a later one, and after an earlier one.
+    Deed::Begin,
+    Deed::Add(5),
+    Deed::Add(3),
+    Deed::Add(3),
+    Deed::Visit(4),
+    Deed::Least(3),
+    Deed::Visit(2),
+    Deed::Least(3),
+];
 
 // Removes the least stamp, if there is one.
 fn remove_least(oldest: &mut Oldest) {
@@ -28,18 +55,6 @@ fn remove_least(oldest: &mut Oldest) {
     }
 }
 
-// Whether these are the least stamps, each removed before the next.
-fn are_removed(alloc: Global, stamps: &[u64]) -> Result<bool, NoMemory> {
-    let mut oldest = three_stamps(alloc)?;
-    for least in stamps {
-        if oldest.least() != *least {
-            return Ok(false);
-        }
-        remove_least(&mut oldest);
-    }
-    Ok(true)
-}
-
 // Adds a stamp, and removes it again.
 fn add_and_remove(oldest: &mut Oldest, stamp: u64) -> Result<(), NoMemory> {
     oldest.add(stamp)?;
@@ -47,36 +62,32 @@ fn add_and_remove(oldest: &mut Oldest, stamp: u64) -> Result<(), NoMemory> {
     Ok(())
 }
 
-// The least stamp, after another was there for a while.
-fn least_after(alloc: Global, stamps: &[u64]) -> Result<u64, NoMemory> {
-    let mut oldest = three_stamps(alloc)?;
-    for stamp in stamps {
-        add_and_remove(&mut oldest, *stamp)?;
+// Does this with stamps, and tells whether what is seen is as told.
+fn is_done(rt: &impl Abort, alloc: Global, oldest: &mut Oldest, deed: &Deed) -> bool {
+    match deed {
+        Deed::Begin => drop(replace(oldest, Oldest::new(alloc))),
+        Deed::Add(stamp) => made(rt, oldest.add(*stamp)),
+        Deed::Visit(stamp) => made(rt, add_and_remove(oldest, *stamp)),
+        Deed::Take(want) => {
+            let least = oldest.least();
+            remove_least(oldest);
+            return least == *want;
+        }
+        Deed::Least(want) => return oldest.least() == *want,
     }
-    let least = oldest.least();
-    drop(oldest);
-    Ok(least)
+    true
 }
 
-// Whether one of these holds.
-fn holds(alloc: Global, at: u32) -> Result<bool, NoMemory> {
-    match at {
-        0 => are_removed(alloc, &[3, 3, 5, END]),
-        1 => Ok(least_after(alloc, &[4])? == 3),
-        _ => Ok(least_after(alloc, &[4, 2])? == 3),
+// Does all of it, beginning with these stamps.
+fn do_all(rt: &impl Abort, alloc: Global, oldest: &mut Oldest) {
+    for (at, deed) in DEEDS.iter().enumerate() {
+        must(rt, is_done(rt, alloc, oldest, deed), at);
     }
 }
 
 #[test]
-fn the_least_stamp_is_held_as_often_as_it_was_added(rt: HostRuntime) -> Result<(), NoMemory> {
-    for (at, name) in &[
-        (0, "as often"),
-        (1, "after a later one"),
-        (2, "after an earlier one"),
-    ] {
-        assert!(rt; holds(rt.alloc(), *at)?, "{name}");
-    }
-    Ok(())
+fn the_least_stamp_is_held_as_often_as_it_was_added(rt: HostRuntime) {
+    do_all(&rt, rt.alloc(), &mut Oldest::new(rt.alloc()));
 }
 
 // One injector, and a count that is cut at h and at q.
@@ -88,10 +99,10 @@ const CHAIN: &str =
     "{\"injectors\":[{\"name\":\"clicks\",\"stream\":\"raw\"}],\"computations\":[{\"name\":\"per_minute\",\"kind\":\"count\",\"size\":60,\"reads\":[{\"stream\":\"raw\",\"by\":\"key\"}],\"stream\":\"windows\"},{\"name\":\"spikes\",\"kind\":\"spike\",\"last\":2,\"times\":3,\"reads\":[{\"stream\":\"windows\",\"by\":\"key\"}],\"stream\":\"alerts\"}]}";
 
 // The case of a topology file, whose injectors have no lines.
-fn case_of(alloc: Global, text: &str) -> Result<Case, Fail> {
-    let topology = read(alloc, text.as_bytes())?;
-    let items = no_lines(alloc, &topology)?;
-    Ok(Case::of(alloc, topology, items)?)
+fn case_of(rt: &impl Abort, alloc: Global, text: &str) -> Case {
+    let topology = made(rt, read(alloc, text.as_bytes()));
+    let items = made(rt, no_lines(alloc, &topology));
+    made(rt, Case::of(alloc, topology, items))
 }
 
 // No lines for each injector.
@@ -105,93 +116,77 @@ fn no_lines(alloc: Global, topology: &Topology) -> Result<ItemsList, NoMemory>
     Ok(items)
 }
 
-// What feeds an interval, or nothing where it is not there.
-fn fed(alloc: Global, case: &Case, interval: u32) -> Result<NumberList, NoMemory> {
-    if interval < case.intervals().count() {
-        feeding(alloc, case, interval)
-    } else {
-        Ok(NumberList::new(alloc))
-    }
+// What is asked of a case.
+enum Asked {
+    // These feed an interval.
+    Fed(u32, &'static [u32]),
+    // This is the least mark of a part, where these are the marks of the intervals.
+    Low(u32, [u64; 4], u64),
+    // This is the least mark of what feeds an interval.
+    Inputs(u32, [u64; 4], u64),
 }
 
-// The least mark of a part that is there, where there is a mark for each interval.
-fn least_mark(case: &Case, part: u32, marks: &[u64]) -> Option<u64> {
-    let whole = marks.len() == case.intervals().count() as usize;
-    if whole && part < case.topology.parts() {
-        Some(low(case, part, marks))
-    } else {
-        None
-    }
-}
-
-// The least mark of what feeds an interval that is there, where there is a mark for each interval.
-fn least_input(case: &Case, interval: u32, marks: &[u64]) -> Option<u64> {
-    let count = case.intervals().count();
-    if marks.len() == count as usize && interval < count {
-        Some(inputs(case, interval, marks))
-    } else {
-        None
-    }
-}
-
-// Whether these feed an interval of a topology.
-fn is_fed(alloc: Global, text: &str, interval: u32, feeds: &[u32]) -> Result<bool, Fail> {
-    let case = case_of(alloc, text)?;
-    let fed = fed(alloc, &case, interval);
-    drop(case);
-    Ok(are(fed?, feeds))
-}
-
-#[test]
-fn an_interval_is_fed_by_what_its_part_reads(rt: HostRuntime) -> Result<(), Fail> {
-    for (name, text, interval, feeds) in &[
-        ("nothing feeds an injector", CUT, 0, [].as_slice()),
-        ("the injector feeds a part", CUT, 1, [0].as_slice()),
-        ("the injector feeds the next part", CUT, 2, [0].as_slice()),
-        ("the injector feeds the last part", CUT, 3, [0].as_slice()),
-        ("the injector feeds the count", CHAIN, 1, [0].as_slice()),
-        ("the count feeds the spike", CHAIN, 2, [1].as_slice()),
-    ] {
-        assert!(rt; is_fed(rt.alloc(), text, *interval, feeds)?, "{name}");
-    }
-    Ok(())
-}
-
-// The least mark of a part of the count that is cut, or of what feeds one of its intervals.
-fn least_of(alloc: Global, of: Of, marks: &[u64]) -> Result<Option<u64>, Fail> {
-    let case = case_of(alloc, CUT)?;
-    let least = match of {
-        Of::Part(part) => least_mark(&case, part, marks),
-        Of::Feeds(interval) => least_input(&case, interval, marks),
-    };
-    drop(case);
-    Ok(least)
-}
-
-// Of what the least mark is asked.
-#[derive(Clone, Copy)]
-enum Of {
-    // Of a part.
-    Part(u32),
-    // Of what feeds an interval.
-    Feeds(u32),
-}
-
-// The slowest interval holds its part, and the injector each interval of its count.
-static LEAST: [(Of, [u64; 4], u64); 7] = [
-    (Of::Part(0), [9, 4, 7, 6], 9),
-    (Of::Part(1), [9, 4, 7, 6], 4),
-    (Of::Part(1), [0, END, END, END], END),
-    (Of::Feeds(0), [9, 4, 7, 6], END),
-    (Of::Feeds(1), [9, 4, 7, 6], 9),
-    (Of::Feeds(2), [9, 4, 7, 6], 9),
-    (Of::Feeds(3), [9, 4, 7, 6], 9),
+// What is asked of two topologies. The slowest interval holds its part, and the injector each interval of its
+// count.
+static ASKED: [(&str, &str, Asked); 13] = [
+    ("nothing feeds an injector", CUT, Asked::Fed(0, &[])),
+    ("the injector feeds a part", CUT, Asked::Fed(1, &[0])),
+    ("the injector feeds the next part", CUT, Asked::Fed(2, &[0])),
+    ("the injector feeds the last part", CUT, Asked::Fed(3, &[0])),
+    ("the injector feeds the count", CHAIN, Asked::Fed(1, &[0])),
+    ("the count feeds the spike", CHAIN, Asked::Fed(2, &[1])),
+    ("low of the injector", CUT, Asked::Low(0, [9, 4, 7, 6], 9)),
+    ("low of the count", CUT, Asked::Low(1, [9, 4, 7, 6], 4)),
+    (
+        "low at the end",
+        CUT,
+        Asked::Low(1, [0, END, END, END], END),
+    ),
+    (
+        "inputs of the injector",
+        CUT,
+        Asked::Inputs(0, [9, 4, 7, 6], END),
+    ),
+    ("inputs of a part", CUT, Asked::Inputs(1, [9, 4, 7, 6], 9)),
+    (
+        "inputs of the next part",
+        CUT,
+        Asked::Inputs(2, [9, 4, 7, 6], 9),
+    ),
+    (
+        "inputs of the last part",
+        CUT,
+        Asked::Inputs(3, [9, 4, 7, 6], 9),
+    ),
 ];
 
-#[test]
-fn the_slowest_interval_holds_its_part_and_what_it_feeds(rt: HostRuntime) -> Result<(), Fail> {
-    for (at, (of, marks, least)) in LEAST.iter().enumerate() {
-        assert!(rt; least_of(rt.alloc(), *of, marks)? == Some(*least), "{at}");
+// Whether a case answers so. An interval and a part that it is asked of are there, and so is a mark for each interval.
+fn answers(rt: &impl Abort, alloc: Global, case: &Case, asked: &Asked) -> bool {
+    let count = case.intervals().count();
+    match asked {
+        Asked::Fed(interval, feeds) => {
+            *interval < count && are(made(rt, feeding(alloc, case, *interval)), feeds)
+        }
+        Asked::Low(part, marks, want) => {
+            count == 4 && *part < case.topology.parts() && low(case, *part, marks) == *want
+        }
+        Asked::Inputs(interval, marks, want) => {
+            count == 4 && *interval < count && inputs(case, *interval, marks) == *want
+        }
     }
-    Ok(())
+}
+
+// Whether the case of a topology does.
+fn is_answered(rt: &impl Abort, alloc: Global, text: &str, asked: &Asked) -> bool {
+    let case = case_of(rt, alloc, text);
+    let answers = answers(rt, alloc, &case, asked);
+    drop(case);
+    answers
+}
+
+#[test]
+fn the_slowest_interval_holds_its_part_and_what_it_feeds(rt: HostRuntime) {
+    for (name, text, asked) in &ASKED {
+        must(&rt, is_answered(&rt, rt.alloc(), text, asked), *name);
+    }
 }

@@ -1,186 +1,114 @@
 //! Shelves and sinks in memory fail as told; the real ones reach files and standard output; the words of a
 //! call are read.
-use super::{are, refusal_of};
+use super::{are, made, must, refusal_of};
 use mw_ports::{
     FileList, FileShelf, MemShelf, MemSink, NamedFile, OutSink, Shelf, ShelfFault, Sink, SinkFault,
     WordsFault, words_of, write_all,
 };
-use mw_types::{Bytes, CallList, Name, NoMemory, Seq};
+use mw_types::{Bytes, CallList, Name, Seq};
 use std::alloc::Global;
 use std::fs;
 use std::io::{Error, ErrorKind};
-use std::test::Fail;
+use std::process::Abort;
 
-// These bytes.
-fn bytes_of(alloc: Global, content: &str) -> Result<Bytes, NoMemory> {
-    Ok(Bytes::from_vec(content.as_bytes().to_vec(alloc)?))
+// The calls of these numbers.
+fn calls(rt: &impl Abort, alloc: Global, numbers: &[u64]) -> CallList {
+    CallList::from_vec(made(rt, numbers.to_vec(alloc)))
 }
 
-// A file of this name and content.
-fn file(alloc: Global, name: &str, content: &str) -> Result<NamedFile, NoMemory> {
-    Ok(NamedFile {
-        name: Name::of(alloc, name)?,
-        bytes: bytes_of(alloc, content)?,
-    })
-}
-
-// The call of this number alone.
-fn call(alloc: Global, number: u64) -> Result<CallList, NoMemory> {
-    Ok(CallList::from_vec(vec![in alloc; number]?))
-}
-
-// Whether this was read.
-fn is_content(read: Result<Bytes, ShelfFault>, content: &[u8]) -> bool {
-    match read {
-        Ok(bytes) => are(bytes, content),
-        Err(_) => false,
-    }
-}
-
-// Whether a shelf gives this content, or has this fault, read through its trait.
-fn answers<S: Shelf>(
-    alloc: Global,
-    shelf: &mut S,
-    name: &str,
-    limit: u64,
-    wanted: Result<&[u8], ShelfFault>,
-) -> bool {
-    match wanted {
-        Ok(content) => is_content(shelf.read(alloc, name, limit), content),
-        Err(fault) => refusal_of(shelf.read(alloc, name, limit)) == Some(fault),
+// Whether this was read, or failed so.
+fn is_read(found: Result<Bytes, ShelfFault>, want: Result<&[u8], ShelfFault>) -> bool {
+    match found {
+        Ok(bytes) => match want {
+            Ok(content) => are(bytes, content),
+            Err(_) => false,
+        },
+        Err(fault) => want == Err(fault),
     }
 }
 
 // What is asked of a shelf: a name, a limit, and what is answered.
-type Asked = (&'static str, u64, Result<&'static str, ShelfFault>);
+type Asked = (&'static str, u64, Result<&'static [u8], ShelfFault>);
 
-// Whether a shelf gives that answer.
-fn is_answered<S: Shelf>(alloc: Global, shelf: &mut S, asked: &Asked) -> bool {
-    let (name, limit, wanted) = asked;
-    match wanted {
-        Ok(content) => answers(alloc, shelf, name, *limit, Ok(content.as_bytes())),
-        Err(fault) => answers(alloc, shelf, name, *limit, Err(*fault)),
+// Asks a shelf one after another, through its trait.
+fn ask<S: Shelf>(rt: &impl Abort, alloc: Global, shelf: &mut S, all: &[Asked]) {
+    for (at, (name, limit, want)) in all.iter().enumerate() {
+        must(rt, is_read(shelf.read(alloc, name, *limit), *want), at);
     }
 }
 
 // Three files, of which two have one name.
-static FILES: [(&str, &str); 3] = [("e.jsonl", "12345678"), ("t.json", "{}"), ("t.json", "[]")];
+static FILES: [(&str, &[u8]); 3] = [
+    ("e.jsonl", b"12345678"),
+    ("t.json", b"{}"),
+    ("t.json", b"[]"),
+];
 
-// Appends them.
-fn push_files(alloc: Global, files: &mut FileList) -> Result<(), NoMemory> {
-    for (name, content) in &FILES {
-        files.push(file(alloc, name, content)?)?;
+// A file of this name and content.
+fn file(rt: &impl Abort, alloc: Global, name: &str, content: &[u8]) -> NamedFile {
+    NamedFile {
+        name: made(rt, Name::of(alloc, name)),
+        bytes: Bytes::from_vec(made(rt, content.to_vec(alloc))),
     }
-    Ok(())
-}
-
-// A list of them.
-fn files(alloc: Global) -> Result<FileList, NoMemory> {
-    let mut files = FileList::new(alloc);
-    push_files(alloc, &mut files)?;
-    Ok(files)
 }
 
 // A shelf with these, whose second call fails.
-fn shelf(alloc: Global) -> Result<MemShelf, NoMemory> {
-    let files = files(alloc)?;
-    let failing = call(alloc, 1)?;
-    Ok(MemShelf::of(files, failing))
+fn shelf(rt: &impl Abort, alloc: Global) -> MemShelf {
+    let mut files = FileList::new(alloc);
+    for (name, content) in &FILES {
+        made(rt, files.push(file(rt, alloc, name, content)));
+    }
+    MemShelf::of(files, calls(rt, alloc, &[1]))
 }
 
 // What such a shelf is asked, one after another.
 static ASKED: [Asked; 5] = [
-    ("t.json", 2, Ok("{}")),
+    ("t.json", 2, Ok(b"{}")),
     ("t.json", 2, Err(ShelfFault::Failed)),
-    ("e.jsonl", 8, Ok("12345678")),
+    ("e.jsonl", 8, Ok(b"12345678")),
     ("e.jsonl", 7, Err(ShelfFault::TooLong)),
     ("e", 8, Err(ShelfFault::Missing)),
 ];
 
-// The number of the first of these that a shelf does not answer so, or of all.
-fn answered<S: Shelf>(alloc: Global, shelf: &mut S, all: &[Asked]) -> usize {
-    for (at, asked) in all.iter().enumerate() {
-        if !is_answered(alloc, shelf, asked) {
-            return at;
-        }
-    }
-    all.len()
-}
-
-// The same of the shelf in memory.
-fn answered_in_memory(alloc: Global) -> Result<usize, NoMemory> {
-    let mut shelf = shelf(alloc)?;
-    let count = answered(alloc, &mut shelf, &ASKED);
-    drop(shelf);
-    Ok(count)
-}
-
 #[test]
-fn a_shelf_in_memory_answers_its_files(rt: HostRuntime) -> Result<(), NoMemory> {
-    let count = answered_in_memory(rt.alloc())?;
-    assert!(rt; count == ASKED.len(), "{count}");
-    Ok(())
+fn a_shelf_in_memory_answers_its_files(rt: HostRuntime) {
+    ask(&rt, rt.alloc(), &mut shelf(&rt, rt.alloc()), &ASKED);
 }
 
 const LINE: &[u8] = b"{\"key\":\"a\"}\n";
 
-// The first eight bytes of the line, which a write takes at most.
-const EIGHT: &[u8] = b"{\"key\":\"";
+// Whether a sink takes the first eight bytes of the line, which a write takes at most, and then fails.
+fn takes_eight(out: &mut MemSink) -> bool {
+    write_all(out, LINE) == Err(SinkFault::Failed) && out.text() == b"{\"key\":\"".as_slice()
+}
 
-// Whether a sink whose second call fails takes eight bytes of a line, and after them the whole line.
-fn fails_once(alloc: Global) -> Result<bool, NoMemory> {
-    let calls = call(alloc, 1)?;
-    let mut out = MemSink::of(alloc, 8, calls, CallList::new(alloc));
-    let is_so = write_all(&mut out, LINE) == Err(SinkFault::Failed)
-        && out.text() == EIGHT
+// Whether a sink whose second call fails does, and takes the whole line after them.
+fn fails_once(rt: &impl Abort, alloc: Global) -> bool {
+    let mut out = MemSink::of(alloc, 8, calls(rt, alloc, &[1]), CallList::new(alloc));
+    takes_eight(&mut out)
         && write_all(&mut out, LINE) == Ok(())
-        && out.text() == b"{\"key\":\"{\"key\":\"a\"}\n".as_slice();
-    drop(out);
-    Ok(is_so)
+        && out.text() == b"{\"key\":\"{\"key\":\"a\"}\n".as_slice()
 }
 
-// Whether a sink whose second call takes nothing fails then too, and takes the write of nothing.
-fn takes_nothing_once(alloc: Global) -> Result<bool, NoMemory> {
-    let calls = call(alloc, 1)?;
-    let mut out = MemSink::of(alloc, 8, CallList::new(alloc), calls);
-    let is_so = write_all(&mut out, LINE) == Err(SinkFault::Failed)
-        && out.text() == EIGHT
-        && out.write(b"") == Ok(0);
-    drop(out);
-    Ok(is_so)
-}
-
-// Whether both do.
-fn fails_or_takes_nothing(alloc: Global) -> Result<bool, NoMemory> {
-    Ok(fails_once(alloc)? && takes_nothing_once(alloc)?)
+// Whether a sink whose second call takes nothing does, and takes the write of nothing.
+fn takes_nothing_once(rt: &impl Abort, alloc: Global) -> bool {
+    let mut out = MemSink::of(alloc, 8, CallList::new(alloc), calls(rt, alloc, &[1]));
+    takes_eight(&mut out) && out.write(b"") == Ok(0)
 }
 
 #[test]
-fn a_sink_of_eight_bytes_fails_at_its_second_call(rt: HostRuntime) -> Result<(), NoMemory> {
-    assert!(rt; fails_or_takes_nothing(rt.alloc())?);
-    Ok(())
+fn a_sink_of_eight_bytes_fails_at_its_second_call(rt: HostRuntime) {
+    must(&rt, fails_once(&rt, rt.alloc()), "a call that fails");
+    must(
+        &rt,
+        takes_nothing_once(&rt, rt.alloc()),
+        "a call that takes nothing",
+    );
 }
 
-// Makes a folder with one file of eight bytes and a folder.
-fn make_folder(rt: &HostRuntime) -> Result<(), Fail> {
-    let _ = fs::remove_dir_all(rt, "files");
-    fs::create_dir_all(rt, "files/folder")?;
-    fs::write(rt, "files/e.jsonl", "12345678")?;
-    Ok(())
-}
-
-#[test]
-fn a_real_file_is_read_within_its_limit(rt: HostRuntime) -> Result<(), Fail> {
-    make_folder(&rt)?;
-    let count = answered_by_files(&rt);
-    fs::remove_dir_all(&rt, "files")?;
-    assert!(rt; count == REAL.len(), "{count}");
-    Ok(())
-}
-
-// What a shelf over that folder is asked.
+// What a shelf over a folder with one file of eight bytes and a folder is asked.
 static REAL: [Asked; 7] = [
-    ("files/e.jsonl", 8, Ok("12345678")),
+    ("files/e.jsonl", 8, Ok(b"12345678")),
     ("files/e.jsonl", 7, Err(ShelfFault::TooLong)),
     ("files/e.jsonl", 0, Err(ShelfFault::TooLong)),
     ("files/missing", 8, Err(ShelfFault::Missing)),
@@ -189,124 +117,94 @@ static REAL: [Asked; 7] = [
     ("files/e.jsonl/under", 8, Err(ShelfFault::Failed)),
 ];
 
-// The number of the first of these that is not answered so, or of all.
-fn answered_by_files(rt: &HostRuntime) -> usize {
-    let mut shelf = FileShelf::new(rt);
-    answered(rt.alloc(), &mut shelf, &REAL)
+#[test]
+fn a_real_file_is_read_within_its_limit(rt: HostRuntime) {
+    let _ = fs::remove_dir_all(&rt, "files");
+    made(&rt, fs::create_dir_all(&rt, "files/folder"));
+    made(&rt, fs::write(&rt, "files/e.jsonl", "12345678"));
+    ask(&rt, rt.alloc(), &mut FileShelf::new(&rt), &REAL);
+    made(&rt, fs::remove_dir_all(&rt, "files"));
 }
 
 // Twenty thousand bytes.
-fn long_content(alloc: Global) -> Result<Vec<u8>, NoMemory> {
+fn long_content(rt: &impl Abort, alloc: Global) -> Vec<u8> {
     let mut content = Vec::new(alloc);
     for at in 0..20_000u32 {
-        content.push((at % 251) as u8)?;
+        made(rt, content.push((at % 251) as u8));
     }
-    Ok(content)
+    content
 }
 
 // Whether a file that has these bytes is read within a limit that is enough, and not within one less.
-fn is_read(rt: &HostRuntime, content: &[u8]) -> bool {
-    let mut shelf = FileShelf::new(rt);
-    answers(rt.alloc(), &mut shelf, "long", 20_000, Ok(content))
-        && answers(
-            rt.alloc(),
-            &mut shelf,
-            "long",
-            19_999,
-            Err(ShelfFault::TooLong),
-        )
-}
-
-// Whether a file to which these bytes are written is read so.
-fn write_and_read(rt: &HostRuntime, content: &[u8]) -> Result<bool, Fail> {
-    fs::write(rt, "long", content)?;
-    Ok(is_read(rt, content))
-}
-
-// Whether a file of the twenty thousand bytes is.
-fn long_file_is_read(rt: &HostRuntime) -> Result<bool, Fail> {
-    let content = long_content(rt.alloc())?;
-    let is_read = write_and_read(rt, content.as_slice());
-    drop(content);
-    is_read
+fn is_long<S: Shelf>(alloc: Global, shelf: &mut S, content: Vec<u8>) -> bool {
+    is_read(shelf.read(alloc, "long", 20_000), Ok(content.as_slice()))
+        && is_read(shelf.read(alloc, "long", 19_999), Err(ShelfFault::TooLong))
 }
 
 #[test]
-fn a_real_file_of_several_portions_is_read(rt: HostRuntime) -> Result<(), Fail> {
-    assert!(rt; long_file_is_read(&rt)?);
-    fs::remove_file(&rt, "long")?;
-    Ok(())
+fn a_real_file_of_several_portions_is_read(rt: HostRuntime) {
+    let content = long_content(&rt, rt.alloc());
+    made(&rt, fs::write(&rt, "long", content.as_slice()));
+    let is_long = is_long(rt.alloc(), &mut FileShelf::new(&rt), content);
+    must(&rt, is_long, "twenty thousand bytes");
+    made(&rt, fs::remove_file(&rt, "long"));
 }
 
 #[test]
 fn standard_output_takes_a_line(rt: HostRuntime) {
     let mut out = OutSink::new(&rt);
-    assert!(rt; write_all(&mut out, b"one line\n") == Ok(()) && out.write(b"") == Ok(0));
+    must(&rt, write_all(&mut out, b"one line\n") == Ok(()), "a line");
+    must(&rt, out.write(b"") == Ok(0), "nothing");
 }
 
-// The words that a process is called with.
-fn args(alloc: Global) -> Result<Vec<String>, NoMemory> {
-    let mut args = Vec::new(alloc);
-    push_args(alloc, &mut args)?;
-    Ok(args)
-}
+// The words with which a process is called, and those that are read, which are all after the first.
+static CALLS: [(&[&str], &[&str]); 2] = [(&["millwheel", "solo", ""], &["solo", ""]), (&[], &[])];
 
-// Appends them.
-fn push_args(alloc: Global, args: &mut Vec<String>) -> Result<(), NoMemory> {
-    for arg in &["millwheel", "solo", ""] {
-        args.push(String::from_str(alloc, arg)?)?;
+// These texts, owned.
+fn owned(rt: &impl Abort, alloc: Global, texts: &[&str]) -> Vec<String> {
+    let mut all = Vec::new(alloc);
+    for text in texts {
+        made(rt, all.push(made(rt, String::from_str(alloc, text))));
     }
-    Ok(())
+    all
+}
+
+// Whether there is a word, with this text.
+fn is_word(word: Option<&Name>, text: &str) -> bool {
+    match word {
+        Some(word) => word.text() == text,
+        None => false,
+    }
 }
 
 // Whether there are these words and no more.
-fn are_words(words: &Seq<Name>, texts: &[&str]) -> bool {
+fn are_words(words: Seq<Name>, texts: &[&str]) -> bool {
+    let mut are = words.len() == texts.len();
     for (at, text) in texts.iter().enumerate() {
-        if words.get(at).map(|word| word.text()) != Some(*text) {
-            return false;
-        }
+        are = are && is_word(words.get(at), text);
     }
-    words.len() == texts.len()
+    are
 }
 
-// Whether the words that are read are those after the first.
-fn leaves_its_own_name(alloc: Global) -> Result<bool, WordsFault> {
-    let words = words_of(alloc, Ok(args(alloc)?.into_iter()))?;
-    let are = are_words(&words, &["solo", ""]);
-    drop(words);
-    Ok(are)
+// Whether of a process's words these are read.
+fn leaves(rt: &impl Abort, alloc: Global, args: &[&str], want: &[&str]) -> bool {
+    let words = words_of(alloc, Ok(owned(rt, alloc, args).into_iter()));
+    are_words(made(rt, words), want)
 }
 
-// Whether of no words none are read.
-fn leaves_nothing(alloc: Global) -> Result<bool, WordsFault> {
-    let words = words_of(alloc, Ok(Vec::new(alloc).into_iter()))?;
-    let is_empty = words.is_empty();
-    drop(words);
-    Ok(is_empty)
-}
-
-// Whether both hold.
-fn leaves_the_words(alloc: Global) -> Result<bool, WordsFault> {
-    Ok(leaves_its_own_name(alloc)? && leaves_nothing(alloc)?)
+// Whether this is answered where the words were not read.
+fn is_unread(alloc: Global, kind: ErrorKind, fault: WordsFault) -> bool {
+    refusal_of(words_of(alloc, Err(Error::from(kind)))) == Some(fault)
 }
 
 #[test]
-fn the_words_of_a_call_are_without_its_own_name(rt: HostRuntime) -> Result<(), Fail> {
-    assert!(rt; leaves_the_words(rt.alloc())?);
-    Ok(())
-}
-
-// What is answered where the words were not read.
-fn unread(alloc: Global, kind: ErrorKind) -> Option<WordsFault> {
-    refusal_of(words_of(alloc, Err(Error::from(kind))))
-}
-
-#[test]
-fn words_that_are_not_read_are_no_text_or_no_memory(rt: HostRuntime) {
-    for (kind, fault) in &[
-        (ErrorKind::InvalidData, WordsFault::NoText),
-        (ErrorKind::OutOfMemory, WordsFault::NoMemory),
-    ] {
-        assert!(rt; unread(rt.alloc(), *kind) == Some(*fault));
+fn the_words_of_a_call_are_without_its_own_name(rt: HostRuntime) {
+    let alloc = rt.alloc();
+    for (args, want) in &CALLS {
+        must(&rt, leaves(&rt, alloc, args, want), args.len());
     }
+    let no_text = is_unread(alloc, ErrorKind::InvalidData, WordsFault::NoText);
+    must(&rt, no_text, "words that are no text");
+    let no_memory = is_unread(alloc, ErrorKind::OutOfMemory, WordsFault::NoMemory);
+    must(&rt, no_memory, "words for which there was no memory");
 }

@@ -1,6 +1,8 @@
 //! Lists that share memory, beside vectors that do not.
-use mw_types::{Duplicate, NoMemory, SharedList};
+use super::{made, must};
+use mw_types::{Duplicate, SharedList};
 use std::alloc::Global;
+use std::process::Abort;
 
 // A value that threads may hand to one another.
 fn crosses_threads<T: Send + Sync>() -> bool {
@@ -17,36 +19,38 @@ fn are_alike(list: &SharedList<u64>, xs: &[u64]) -> bool {
     list.len() == xs.len()
 }
 
-// Puts a number at a place in both.
-fn insert(
-    list: &mut SharedList<u64>,
-    xs: &mut Vec<u64>,
-    at: usize,
-    x: u64,
-) -> Result<(), NoMemory> {
-    if at <= list.len() && at <= xs.len() {
-        list.insert(at, x)?;
-        xs.insert(at, x)?;
-    }
-    Ok(())
+// What is done at a place.
+#[derive(Drop)]
+enum Edit {
+    // A number is put there.
+    Insert(u64),
+    // It is put in the place of another.
+    Set(u64),
+    // The number there is taken out.
+    Remove,
 }
 
-// Changes a number in both.
-fn set(list: &mut SharedList<u64>, xs: &mut [u64], at: usize, x: u64) -> Result<(), NoMemory> {
-    if at < list.len() && at < xs.len() {
-        list.set(at, x)?;
-        xs[at] = x;
+// Does it to a list and to a vector of one length. What is changed or taken out has to be there.
+fn apply(rt: &impl Abort, list: &mut SharedList<u64>, xs: &mut Vec<u64>, at: usize, edit: &Edit) {
+    assert!(rt; list.len() == xs.len() && at <= xs.len());
+    match edit {
+        Edit::Insert(x) => {
+            made(rt, list.insert(at, *x));
+            made(rt, xs.insert(at, *x));
+        }
+        Edit::Set(x) => {
+            if at < xs.len() {
+                made(rt, list.set(at, *x));
+                xs[at] = *x;
+            }
+        }
+        Edit::Remove => {
+            if at < xs.len() {
+                made(rt, list.remove(at));
+                xs.remove(at);
+            }
+        }
     }
-    Ok(())
-}
-
-// Takes a number out of both.
-fn remove(list: &mut SharedList<u64>, xs: &mut Vec<u64>, at: usize) -> Result<(), NoMemory> {
-    if at < list.len() && at < xs.len() {
-        list.remove(at)?;
-        xs.remove(at);
-    }
-    Ok(())
 }
 
 // A place below a length, as if by chance.
@@ -55,130 +59,108 @@ fn place(step: u64, len: usize) -> usize {
     if len == 0 { 0 } else { mixed % len }
 }
 
-// Whether a list is equal to one that is made of a vector at once.
-fn is_made_of(alloc: Global, list: &SharedList<u64>, xs: &[u64]) -> Result<bool, NoMemory> {
-    let made = SharedList::of(alloc, Vec::from_slice(alloc, xs)?)?;
-    let is_so = *list == made;
-    drop(made);
-    Ok(is_so)
-}
-
-// Whether a list is flat a vector.
-fn is_flat(alloc: Global, list: &SharedList<u64>, xs: &[u64]) -> Result<bool, NoMemory> {
-    let flat = list.flat(alloc)?;
-    let is_so = flat.as_slice() == xs;
+// Whether a list is equal to one that is made of a vector at once, and flat that vector.
+fn is_whole(rt: &impl Abort, alloc: Global, list: &SharedList<u64>, xs: &[u64]) -> bool {
+    let other = made(
+        rt,
+        SharedList::of(alloc, made(rt, Vec::from_slice(alloc, xs))),
+    );
+    let is_equal = *list == other;
+    drop(other);
+    let flat = made(rt, list.flat(alloc));
+    let is_flat = flat.as_slice() == xs;
     drop(flat);
-    Ok(is_so)
+    is_equal && is_flat
 }
 
-// Whether both have the same with one number more, and an older copy has what it had.
-fn grows(
+// Whether both have the same after each edit at a place.
+fn are_edited(
+    rt: &impl Abort,
+    list: &mut SharedList<u64>,
+    xs: &mut Vec<u64>,
+    at: usize,
+    edits: &[Edit],
+) -> bool {
+    let mut are = true;
+    for edit in edits {
+        apply(rt, list, xs, at, edit);
+        are = are && are_alike(list, xs);
+    }
+    are
+}
+
+// Whether both have the same after each edit at a place, and an older copy has what it had.
+fn is_kept(
+    rt: &impl Abort,
     alloc: Global,
     list: &mut SharedList<u64>,
     xs: &mut Vec<u64>,
-    step: u64,
-) -> Result<bool, NoMemory> {
-    let before = list.copy(alloc)?;
-    let old = Vec::from_slice(alloc, xs)?;
-    insert(list, xs, place(step, old.len().saturating_add(1)), step)?;
-    let holds = are_alike(list, xs) && are_alike(&before, &old) && *list != before;
+    at: usize,
+    edits: &[Edit],
+) -> bool {
+    let before = made(rt, list.copy(alloc));
+    let old = made(rt, Vec::from_slice(alloc, xs));
+    let are_edited = are_edited(rt, list, xs, at, edits);
+    let is_kept = are_alike(&before, &old) && *list != before;
     drop(old);
     drop(before);
-    Ok(holds)
+    are_edited && is_kept && is_whole(rt, alloc, list, xs)
 }
 
-// Whether both have the same with one number changed and one taken out, and an older copy has what it had.
-fn shrinks(
+// Puts 300 numbers in, each at a place as if by chance, as into a vector, and takes all out again, each from
+// such a place and changed before.
+fn edit_at_every_place(
+    rt: &impl Abort,
     alloc: Global,
     list: &mut SharedList<u64>,
     xs: &mut Vec<u64>,
-    step: u64,
-) -> Result<bool, NoMemory> {
-    let before = list.copy(alloc)?;
-    let old = Vec::from_slice(alloc, xs)?;
-    set(list, xs, place(step, old.len()), 999)?;
-    let is_set = are_alike(list, xs);
-    remove(list, xs, place(step, old.len()))?;
-    let holds = is_set && are_alike(list, xs) && are_alike(&before, &old);
-    drop(old);
-    drop(before);
-    Ok(holds)
-}
-
-// Whether 300 numbers are put in, each at a place as if by chance, as into a vector.
-fn fills(alloc: Global, list: &mut SharedList<u64>, xs: &mut Vec<u64>) -> Result<bool, NoMemory> {
+) {
     for step in 0..300u64 {
-        if !grows(alloc, list, xs, step)? || !is_made_of(alloc, list, xs)? {
-            return Ok(false);
-        }
+        let at = place(step, xs.len().saturating_add(1));
+        must(
+            rt,
+            is_kept(rt, alloc, list, xs, at, &[Edit::Insert(step)]),
+            step,
+        );
     }
-    Ok(true)
-}
-
-// Whether all are taken out again, each from a place as if by chance, as out of a vector.
-fn empties(alloc: Global, list: &mut SharedList<u64>, xs: &mut Vec<u64>) -> Result<bool, NoMemory> {
     for step in 0..300u64 {
-        if !shrinks(alloc, list, xs, step)? || !is_flat(alloc, list, xs)? {
-            return Ok(false);
-        }
+        let at = place(step, xs.len());
+        let edits = [Edit::Set(999), Edit::Remove];
+        must(rt, is_kept(rt, alloc, list, xs, at, &edits), step);
     }
-    Ok(list.is_empty())
+    must(rt, list.is_empty(), "all are out");
 }
 
-// Whether a list is filled and emptied so.
-fn is_edited(alloc: Global) -> Result<bool, NoMemory> {
-    let mut list = SharedList::new(alloc);
-    let mut xs = Vec::new(alloc);
-    Ok(fills(alloc, &mut list, &mut xs)? && empties(alloc, &mut list, &mut xs)?)
-}
-
-// The list of a hundred numbers.
-fn hundred(alloc: Global) -> Result<SharedList<u64>, NoMemory> {
-    let mut list = SharedList::new(alloc);
+// Puts a hundred numbers into a list, and notes what a walk by pieces meets.
+fn walk(rt: &impl Abort, list: &mut SharedList<u64>, met: &mut Vec<u64>) {
     for x in 0..100u64 {
-        list.push(x)?;
+        made(rt, list.push(x));
     }
-    Ok(list)
-}
-
-// What a walk by pieces meets.
-fn walked(alloc: Global, list: &SharedList<u64>) -> Result<Vec<u64>, NoMemory> {
-    let mut met = Vec::new(alloc);
     for _ in 0..100 {
         if met.len() < list.len() {
-            met.extend_from_slice(list.run_at(met.len()))?;
+            made(rt, met.extend_from_slice(list.run_at(met.len())));
         }
     }
-    Ok(met)
 }
 
-// Whether a walk meets each number.
-fn walk_meets_each(alloc: Global) -> Result<bool, NoMemory> {
-    let list = hundred(alloc)?;
-    let met = walked(alloc, &list)?;
-    let holds = are_alike(&list, &met);
-    drop(met);
+// Edits a list beside a vector, which is empty again then, and walks over it once it has a hundred numbers. The walk
+// meets each.
+fn edit_and_walk(rt: &impl Abort, alloc: Global) {
+    let mut list = SharedList::new(alloc);
+    let mut xs = Vec::new(alloc);
+    edit_at_every_place(rt, alloc, &mut list, &mut xs);
+    walk(rt, &mut list, &mut xs);
+    must(rt, are_alike(&list, &xs), "a walk by pieces meets each");
+    drop(xs);
     drop(list);
-    Ok(holds)
-}
-
-// Whether one of these holds.
-fn holds(alloc: Global, at: u32) -> Result<bool, NoMemory> {
-    match at {
-        0 => Ok(crosses_threads::<SharedList<u64>>()),
-        1 => is_edited(alloc),
-        _ => walk_meets_each(alloc),
-    }
 }
 
 #[test]
-fn shared_lists_are_as_vectors(rt: HostRuntime) -> Result<(), NoMemory> {
-    for (at, name) in &[
-        (0, "lists cross threads"),
-        (1, "edits at every place keep the older lists"),
-        (2, "a walk by pieces meets each element"),
-    ] {
-        assert!(rt; holds(rt.alloc(), *at)?, "{name}");
-    }
-    Ok(())
+fn shared_lists_are_as_vectors(rt: HostRuntime) {
+    must(
+        &rt,
+        crosses_threads::<SharedList<u64>>(),
+        "lists cross threads",
+    );
+    edit_and_walk(&rt, rt.alloc());
 }

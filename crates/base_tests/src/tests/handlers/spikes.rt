@@ -1,14 +1,16 @@
 //! The handlers of a spike, over the counts of a count, and of a pass.
-ghost use Rattle.std.specs.Prelude.{◌≡◌, IfOk, Some};
+ghost use Rattle.std.specs.Prelude.{◌≡◌, ◌≤◌, Some};
+ghost use Rattle.mw_types.specs.declared.TheConstants.{MAX_STAMP};
 ghost use Rattle.mw_types.specs.declared.kind.Kind.TheVariants as kinds;
 ghost use Rattle.mw_types.specs.Bounds.{IsWithin};
 ghost use Rattle.computations.specs.Parts.{HasState, kind_at};
 
-use super::{Deed, Produced, fresh, of_record, walked, watched};
-use crate::tests::{are, key_of};
+use super::{Deed, fresh, of_record, walked, watched};
+use crate::tests::{are, key_of, must};
 use computations::Kinds;
-use mw_types::{Effects, HeldList, Key, NoMemory, Record, State, ValueList};
+use mw_types::{Effects, HeldList, Key, Production, Record, State, ValueList};
 use std::alloc::Global;
+use std::process::Abort;
 
 // A row of the spike with no total.
 fn nothing_held(alloc: Global, work: &Kinds) -> State
@@ -30,50 +32,6 @@ fn nothing_passed(work: &Kinds) -> State
     ensures within { IsWithin result }
 {
     State::Pass { late: 0 }
-}
-
-// What the count produced of these.
-fn counted(alloc: Global, deeds: &[Deed]) -> Result<Produced, NoMemory> {
-    let work = watched(alloc)?;
-    let (_, produced) = walked(alloc, &work, 1, fresh(alloc, &work), deeds)?;
-    Ok(produced)
-}
-
-// The state of the spike after these, and what it produced.
-fn judged(alloc: Global, deeds: &[Deed]) -> Result<(State, Produced), NoMemory> {
-    let work = watched(alloc)?;
-    walked(alloc, &work, 2, nothing_held(alloc, &work), deeds)
-}
-
-// Whether a count produced these, in this order.
-fn counts(alloc: Global, deeds: &[Deed], want: &[(u64, i64)]) -> Result<bool, NoMemory> {
-    Ok(are(counted(alloc, deeds)?, want))
-}
-
-// Whether a spike holds so many totals after these, and knows these; and it produced these.
-fn judges(
-    alloc: Global,
-    deeds: &[Deed],
-    many: usize,
-    totals: &[i64],
-    want: &[(u64, i64)],
-) -> Result<bool, NoMemory> {
-    let (state, produced) = judged(alloc, deeds)?;
-    let holds = holds(&state, many, totals);
-    drop(state);
-    Ok(are(produced, want) && holds)
-}
-
-// Whether a spike holds so many totals, and knows these.
-fn holds(state: &State, many: usize, totals: &[i64]) -> bool {
-    match state {
-        State::Spike {
-            late: _,
-            held,
-            known,
-        } => held.len() == many && known.as_slice() == totals,
-        _ => false,
-    }
 }
 
 // One record in each of two windows, and seven in a third.
@@ -158,112 +116,135 @@ const AT_THE_END: [Deed; 4] = [
     Deed::Timer(9223372036854775807),
 ];
 
-// What a count is handed, and what it produces, in this order.
-static COUNTS: [(&str, &[Deed], &[(u64, i64)]); 2] = [
-    (
-        "one, one, seven",
-        &ONE_ONE_SEVEN,
-        &[(60, 1), (120, 1), (180, 7)],
-    ),
-    ("one, one, three", &ONE_ONE_THREE, &[(180, 3)]),
-];
-
-#[test]
-fn a_count_produces_what_its_windows_have(rt: HostRuntime) -> Result<(), NoMemory> {
-    for (name, deeds, want) in &COUNTS {
-        assert!(rt; counts(rt.alloc(), deeds, want)?, "{name}");
-    }
-    Ok(())
+// What is handed to a row, and what comes of it.
+enum Case {
+    // A count produces these, in this order.
+    Counts(&'static [Deed], &'static [(u64, i64)]),
+    // A spike holds so many totals then, knows these, and has produced those.
+    Judges(&'static [Deed], usize, &'static [i64], &'static [(u64, i64)]),
+    // A pass produces a record, late or not, again, and its row has so many late ones then.
+    Passes(bool, u64),
 }
 
-// What a spike is handed, how many totals it holds then and which it knows, and what it produces.
-type Judged = (
-    &'static str,
-    &'static [Deed],
-    usize,
-    &'static [i64],
-    &'static [(u64, i64)],
-);
-
-static JUDGED: [Judged; 4] = [
+static CASES: [(&str, Case); 8] = [
+    (
+        "one, one, seven",
+        Case::Counts(&ONE_ONE_SEVEN, &[(60, 1), (120, 1), (180, 7)]),
+    ),
+    ("one, one, three", Case::Counts(&ONE_ONE_THREE, &[(180, 3)])),
     (
         "a spike above three times",
-        &ONE_ONE_SEVEN_JUDGED,
-        0,
-        &[1, 7],
-        &[(181, 7)],
+        Case::Judges(&ONE_ONE_SEVEN_JUDGED, 0, &[1, 7], &[(181, 7)]),
     ),
     (
         "no spike at three times",
-        &ONE_ONE_THREE_JUDGED,
-        0,
-        &[1, 3],
-        &[],
+        Case::Judges(&ONE_ONE_THREE_JUDGED, 0, &[1, 3], &[]),
     ),
-    ("a total of a long list is found", &TWENTY, 19, &[9], &[]),
+    (
+        "a total of a long list is found",
+        Case::Judges(&TWENTY, 19, &[9], &[]),
+    ),
     (
         "of two totals due at the end the first goes",
-        &AT_THE_END,
-        0,
-        &[2, 1],
-        &[],
+        Case::Judges(&AT_THE_END, 0, &[2, 1], &[]),
     ),
+    ("a record passes", Case::Passes(false, 0)),
+    ("a late record passes", Case::Passes(true, 1)),
 ];
 
-#[test]
-fn a_spike_judges_each_total_when_it_is_due(rt: HostRuntime) -> Result<(), NoMemory> {
-    for (name, deeds, many, totals, want) in &JUDGED {
-        assert!(rt; judges(rt.alloc(), deeds, *many, totals, want)?, "{name}");
-    }
-    Ok(())
+// Whether a count produced these, in this order.
+fn counts(rt: &impl Abort, alloc: Global, deeds: &[Deed], want: &[(u64, i64)]) -> bool {
+    let work = watched(rt, alloc);
+    let (state, produced) = walked(rt, alloc, &work, 1, fresh(alloc, &work), deeds);
+    drop(state);
+    are(produced, want)
 }
 
-// Whether a handler produced the record of the key `h/x` again, and set no timer.
-fn is_passed(effects: &Effects) -> bool {
-    match effects.productions.as_slice() {
-        [one] => {
-            let repeats = one.key.text() == "h/x" && one.stamp == 5 && one.value == -3;
-            repeats && effects.timers.is_empty()
-        }
+// Whether a spike holds so many totals, and knows these.
+fn holds(state: &State, many: usize, totals: &[i64]) -> bool {
+    match state {
+        State::Spike {
+            late: _,
+            held,
+            known,
+        } => held.len() == many && known.as_slice() == totals,
         _ => false,
     }
 }
 
-// A record of the key `h/x`.
-fn item(alloc: Global, late: bool) -> Result<Record, NoMemory>
-    ensures { IfOk result (λ item. item.stamp ≡ 5) }
+// Whether a spike holds so many totals after these, and knows these; and it produced these.
+fn judges(
+    rt: &impl Abort,
+    alloc: Global,
+    deeds: &[Deed],
+    many: usize,
+    totals: &[i64],
+    want: &[(u64, i64)],
+) -> bool {
+    let work = watched(rt, alloc);
+    let (state, produced) = walked(rt, alloc, &work, 2, nothing_held(alloc, &work), deeds);
+    let are_held = holds(&state, many, totals);
+    drop(state);
+    are(produced, want) && are_held
+}
+
+// Whether a record is the one of the key `h/x`.
+fn is_repeated(one: &Production) -> bool {
+    one.key.text() == "h/x" && one.stamp == 5 && one.value == -3
+}
+
+// Whether a handler produced that record again, set no timer, and left so many late ones.
+fn is_passed(effects: &Effects, after: u64) -> bool {
+    let is_left = match &effects.state {
+        State::Pass { late } => *late == after,
+        _ => false,
+    };
+    match effects.productions.as_slice() {
+        [one] => is_left && effects.timers.is_empty() && is_repeated(one),
+        _ => false,
+    }
+}
+
+// What a pass leaves of a record in a row of another key.
+fn left_of(rt: &impl Abort, alloc: Global, item: &Record) -> Effects
+    requires { item.now.stamp ≤ MAX_STAMP }
 {
-    Ok(Record {
-        key: key_of(alloc, "h/x")?,
+    let work = watched(rt, alloc);
+    let state = nothing_passed(&work);
+    let key = Key::none(alloc);
+    let effects = of_record(rt, alloc, &work, 3, &key, &state, item);
+    drop(key);
+    drop(state);
+    drop(work);
+    effects
+}
+
+// Whether a record of the key `h/x` is passed on, and the row has so many late ones then.
+fn passes(rt: &impl Abort, alloc: Global, late: bool, after: u64) -> bool {
+    let item = Record {
+        key: key_of(rt, alloc, "h/x"),
         stamp: 5,
         value: -3,
         late,
-    })
-}
-
-// What the pass leaves of it in a row of another key.
-fn left_of_item(alloc: Global, late: bool) -> Result<Effects, NoMemory> {
-    let work = watched(alloc)?;
-    let item = item(alloc, late)?;
-    let state = nothing_passed(&work);
-    of_record(alloc, &work, 3, &Key::none(alloc), &state, &item)
-}
-
-// Whether it is passed on, and the row has so many late ones after it.
-fn passes(alloc: Global, late: bool, after: u64) -> Result<bool, NoMemory> {
-    let effects = left_of_item(alloc, late)?;
-    let holds = match &effects.state {
-        State::Pass { late } => *late == after && is_passed(&effects),
-        _ => false,
     };
+    let effects = left_of(rt, alloc, &item);
+    let is_passed = is_passed(&effects, after);
     drop(effects);
-    Ok(holds)
+    is_passed
+}
+
+// Whether it comes so.
+fn is_so(rt: &impl Abort, alloc: Global, case: &Case) -> bool {
+    match case {
+        Case::Counts(deeds, want) => counts(rt, alloc, deeds, want),
+        Case::Judges(deeds, many, totals, want) => judges(rt, alloc, deeds, *many, totals, want),
+        Case::Passes(late, after) => passes(rt, alloc, *late, *after),
+    }
 }
 
 #[test]
-fn a_pass_repeats_each_record(rt: HostRuntime) -> Result<(), NoMemory> {
-    for (late, after) in &[(false, 0), (true, 1)] {
-        assert!(rt; passes(rt.alloc(), *late, *after)?, "late: {late}");
+fn a_count_a_spike_and_a_pass(rt: HostRuntime) {
+    for (name, case) in &CASES {
+        must(&rt, is_so(&rt, rt.alloc(), case), *name);
     }
-    Ok(())
 }

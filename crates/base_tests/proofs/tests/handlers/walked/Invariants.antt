@@ -4,4 +4,4 @@ use Rattle.base_tests.proofs.tests.handlers.walked.Given as goal
 
 -- the row may have the state so far
 abbrev pub invariant-loop-deed : goal.invariant-loop-deed
-invariant-loop-deed l = HasState l.work l.part l.state × IsWithin l.state
+invariant-loop-deed g l = HasState l.work l.part l.state × IsWithin l.state

@@ -1,48 +1,14 @@
 //! The numbers up to which an event file goes.
-use super::{push_times, refusal_of};
+use crate::tests::{made, must, refusal_of};
 use injector::{LineWhy, LinesRefusal, read_lines};
-use mw_types::NoMemory;
 use std::alloc::Global;
+use std::process::Abort;
 
 // A first part, one that stands so many times, one that stands as many times behind it, and a last part.
 type Parts = [&'static str; 4];
 
 // The parts, how often those in the middle stand, and the room for record lines.
 type File = (Parts, u32, u32);
-
-// Why bytes are refused, if they are, with room for so many record lines.
-fn refusal(alloc: Global, bytes: &[u8], room: u32) -> Option<LinesRefusal> {
-    if bytes.len() > 1 << 20 {
-        return Some(LinesRefusal::NoMemory);
-    }
-    refusal_of(read_lines(alloc, bytes, room))
-}
-
-// Appends the parts, those in the middle so many times.
-fn push_parts(text: &mut String, parts: &Parts, times: u32) -> Result<(), NoMemory> {
-    let [head, opening, closing, tail] = parts;
-    text.push_str(head)?;
-    push_times(text, opening, times)?;
-    push_times(text, closing, times)?;
-    text.push_str(tail)?;
-    Ok(())
-}
-
-// Why a file is refused, if it is.
-fn file_refusal(alloc: Global, file: &File) -> Result<Option<LinesRefusal>, NoMemory> {
-    let (parts, times, room) = file;
-    let mut text = String::new(alloc);
-    push_parts(&mut text, parts, *times)?;
-    let why = refusal(alloc, text.as_str().as_bytes(), *room);
-    drop(text);
-    Ok(why)
-}
-
-// The refusal of a line for a rule, where there is one.
-fn refused(at: Option<(u32, LineWhy)>) -> Option<LinesRefusal> {
-    let (line, why) = at?;
-    Some(LinesRefusal::Line { line, why })
-}
 
 // A line whose key has as many letters.
 const KEY: Parts = [r#"{"key":""#, "k", "", r#"","ts":1}"#];
@@ -87,51 +53,73 @@ static COUNTED: [(File, Option<(u32, LineWhy)>); 16] = [
     ((BEHIND, 3, 0), Some((10, LineWhy::TooManyLines))),
 ];
 
-#[test]
-fn an_event_file_goes_up_to_its_lengths(rt: HostRuntime) -> Result<(), NoMemory> {
-    for (at, (file, why)) in COUNTED.iter().enumerate() {
-        assert!(rt; file_refusal(rt.alloc(), file)? == refused(*why), "{at}");
-    }
-    Ok(())
-}
-
 // A line whose last part is a number at the end of its range, or beyond it.
-static NUMBERS: [(&str, Option<LineWhy>); 12] = [
+static NUMBERS: [(&str, Option<(u32, LineWhy)>); 12] = [
     (r#"{"key":"k","ts":0}"#, None),
     (r#"{"key":"k","ts":4611686018427387904}"#, None),
     (
         r#"{"key":"k","ts":4611686018427387905}"#,
-        Some(LineWhy::BadStamp),
+        Some((1, LineWhy::BadStamp)),
     ),
-    (r#"{"key":"k","ts":-1}"#, Some(LineWhy::BadStamp)),
+    (r#"{"key":"k","ts":-1}"#, Some((1, LineWhy::BadStamp))),
     (r#"{"watermark":0}"#, None),
     (r#"{"watermark":4611686018427387904}"#, None),
     (
         r#"{"watermark":4611686018427387905}"#,
-        Some(LineWhy::BadStamp),
+        Some((1, LineWhy::BadStamp)),
     ),
     (r#"{"key":"k","ts":1,"value":-9223372036854775808}"#, None),
     (
         r#"{"key":"k","ts":1,"value":-9223372036854775809}"#,
-        Some(LineWhy::BadValue),
+        Some((1, LineWhy::BadValue)),
     ),
     (r#"{"key":"k","ts":1,"value":9223372036854775807}"#, None),
     (
         r#"{"key":"k","ts":1,"value":9223372036854775808}"#,
-        Some(LineWhy::BadValue),
+        Some((1, LineWhy::BadValue)),
     ),
-    (r#"{"key":"k","ts":1,"value":1.0}"#, Some(LineWhy::BadValue)),
+    (
+        r#"{"key":"k","ts":1,"value":1.0}"#,
+        Some((1, LineWhy::BadValue)),
+    ),
 ];
 
-// Why a line is refused, if it is.
-fn line_refusal(alloc: Global, line: &str) -> Option<LinesRefusal> {
-    refusal(alloc, line.as_bytes(), 1)
+// A file's text.
+fn text_of(rt: &impl Abort, alloc: Global, parts: &Parts, times: u32) -> String {
+    let mut text = String::new(alloc);
+    for (at, part) in parts.iter().enumerate() {
+        for _ in 0..if at == 1 || at == 2 { times } else { 1 } {
+            made(rt, text.push_str(part));
+        }
+    }
+    text
+}
+
+// Why bytes are refused, if they are, with room for so many record lines: the line, and why.
+fn refusal(alloc: Global, bytes: &[u8], room: u32) -> Option<(u32, LineWhy)> {
+    if bytes.len() > 1 << 20 {
+        return Some((0, LineWhy::NotJson));
+    }
+    match refusal_of(read_lines(alloc, bytes, room)) {
+        Some(LinesRefusal::Line { line, why }) => Some((line, why)),
+        Some(LinesRefusal::NoMemory) => Some((0, LineWhy::NotJson)),
+        None => None,
+    }
+}
+
+// The same of a text that is handed over, so that it is let go here alone.
+fn text_refusal(alloc: Global, text: String, room: u32) -> Option<(u32, LineWhy)> {
+    refusal(alloc, text.as_bytes(), room)
 }
 
 #[test]
-fn an_event_line_has_numbers_in_their_ranges(rt: HostRuntime) {
+fn an_event_file_goes_up_to_its_numbers(rt: HostRuntime) {
+    let alloc = rt.alloc();
+    for (at, ((parts, times, room), why)) in COUNTED.iter().enumerate() {
+        let text = text_of(&rt, alloc, parts, *times);
+        must(&rt, text_refusal(alloc, text, *room) == *why, at);
+    }
     for (line, why) in &NUMBERS {
-        let at = why.map(|why| (1, why));
-        assert!(rt; line_refusal(rt.alloc(), line) == refused(at), "{line}");
+        must(&rt, refusal(alloc, line.as_bytes(), 1) == *why, *line);
     }
 }

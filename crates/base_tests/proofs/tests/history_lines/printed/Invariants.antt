@@ -1,7 +1,7 @@
 use Rattle.std.proofs.Common.{All}
 use Rattle.run_history.specs.HistoryLines.{HasLine}
-use Rattle.base_tests.proofs.tests.history_lines.example.Given as goal
+use Rattle.base_tests.proofs.tests.history_lines.printed.Given as goal
 
 -- each entry so far has a line
 abbrev pub invariant-loop-n : goal.invariant-loop-n
-invariant-loop-n l = All HasLine l.history
+invariant-loop-n g l = All HasLine l.history

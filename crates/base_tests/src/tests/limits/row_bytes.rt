@@ -1,46 +1,9 @@
 //! The numbers up to which a row's bytes go, field by field.
-use super::{push_times, refusal_of};
+use crate::tests::{made, must, refusal_of};
 use hex::decode;
-use mw_types::NoMemory;
 use record_codec::{RowRefusal, decode_row};
 use std::alloc::Global;
-use text_lines::number_of;
-
-// Appends a field in hexadecimal; behind a `*` stands how often it comes.
-fn push_field(text: &mut String, field: &str) -> Result<(), NoMemory> {
-    let Some((digits, times)) = field.split_once('*') else {
-        return push_times(text, field, 1);
-    };
-    let times = number_of(times.as_bytes()).unwrap_or(0);
-    push_times(text, digits, u32::try_from(times).unwrap_or(0))
-}
-
-// The digits of fields that stand with one blank between them.
-fn digits(alloc: Global, row: &str) -> Result<String, NoMemory> {
-    let mut text = String::new(alloc);
-    for field in row.split(' ') {
-        push_field(&mut text, field)?;
-    }
-    Ok(text)
-}
-
-// Whether a row has these bytes; nothing where memory ran out.
-fn is_row(alloc: Global, bytes: &[u8]) -> Option<bool> {
-    match refusal_of(decode_row(alloc, bytes)) {
-        None => Some(true),
-        Some(RowRefusal::Damaged) => Some(false),
-        Some(RowRefusal::NoMemory) => None,
-    }
-}
-
-// Whether a row has the bytes of these fields; nothing where they are no hexadecimal digits.
-fn is_read(alloc: Global, row: &str) -> Result<Option<bool>, NoMemory> {
-    let text = digits(alloc, row)?;
-    match decode(alloc, text.as_str()) {
-        Ok(bytes) => Ok(is_row(alloc, bytes.as_slice())),
-        Err(_) => Ok(None),
-    }
-}
+use std::process::Abort;
 
 // A name, whether there is such a row, and its fields: version, last entry, floor, state, timers, pending deliveries and
 // handled ids.
@@ -312,10 +275,37 @@ static ROWS: [(&str, bool, &str); 53] = [
     ),
 ];
 
-#[test]
-fn a_row_goes_up_to_its_numbers(rt: HostRuntime) -> Result<(), NoMemory> {
-    for (name, is_there, row) in &ROWS {
-        assert!(rt; is_read(rt.alloc(), row)? == Some(*is_there), "{name}");
+// The digits of fields that stand with one blank between them; behind a `*` stands how often a field comes.
+fn digits(rt: &impl Abort, alloc: Global, row: &str) -> String {
+    let mut text = String::new(alloc);
+    for field in row.split(' ') {
+        let (digits, times) = field.split_once('*').unwrap_or((field, "1"));
+        for _ in 0..made(rt, times.parse::<u32>()) {
+            made(rt, text.push_str(digits));
+        }
     }
-    Ok(())
+    text
+}
+
+// Why no row has the bytes of these digits, if none has.
+fn refusal(rt: &impl Abort, alloc: Global, digits: String) -> Option<RowRefusal> {
+    let bytes = made(rt, decode(alloc, digits.as_str()));
+    refusal_of(decode_row(alloc, bytes.as_slice()))
+}
+
+// Whether there is a row of these fields, or damage, as told.
+fn is_told(rt: &impl Abort, alloc: Global, row: &str, is_there: bool) -> bool {
+    let want = if is_there {
+        None
+    } else {
+        Some(RowRefusal::Damaged)
+    };
+    refusal(rt, alloc, digits(rt, alloc, row)) == want
+}
+
+#[test]
+fn a_row_goes_up_to_its_numbers(rt: HostRuntime) {
+    for (name, is_there, row) in &ROWS {
+        must(&rt, is_told(&rt, rt.alloc(), row, *is_there), *name);
+    }
 }

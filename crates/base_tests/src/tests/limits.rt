@@ -1,0 +1,4 @@
+//! Limits, a module for each form of bytes.
+mod event_files;
+mod row_bytes;
+mod topologies;
