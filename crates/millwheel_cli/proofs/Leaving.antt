@@ -1,6 +1,6 @@
 -- What a run leaves, or where none was begun, is what the status leaves.
 use Rattle.std.specs.Prelude.{⊤}
-use Rattle.std.proofs.Common.{◌≡◌, ◌≤◌, ◌^◌, ◌∙◌, ℕ, List, length, Option, Some, None, IfSome, refl, inl, inr, sym, ap, subst, arith}
+use Rattle.std.proofs.Common.{◌≡◌, ◌≤◌, ◌^◌, ◌∙◌, ℕ, List, length, Option, Some, None, IfSome, false, refl, inl, inr, sym, ap, subst, arith, true≢false}
 use Rattle.mw_types.specs.declared.identity.RowName.{RowName}
 use Rattle.mw_types.specs.declared.entry.Entry.{Entry}
 use Rattle.command_line.specs.declared.command.Call.{Call}
@@ -10,6 +10,7 @@ use Rattle.command_line.specs.declared.refusal.WordsRefusal.{WordsRefusal}
 use Rattle.command_line.specs.declared.refusal.WordsRefusal.TheVariants as refusals
 use Rattle.mw_ports.specs.Shelves.{Files}
 use Rattle.row_keeper.specs.Rows.{Rows}
+use Rattle.topology.specs.Shapes.{Shape}
 use Rattle.run_history.specs.Cases.{CaseShape}
 use Rattle.run_history.specs.Runs.{run_of}
 use Rattle.run_history.specs.Finished.{IsFinished}
@@ -27,13 +28,15 @@ use Rattle.millwheel_cli.specs.declared.status.Status.{Status}
 use Rattle.millwheel_cli.specs.declared.status.Status.TheVariants as status
 use Rattle.millwheel_cli.specs.declared.task.Task.{Task}
 use Rattle.millwheel_cli.specs.declared.task.Wanted.{Wanted}
-use Rattle.millwheel_cli.specs.declared.task.Wanted.TheVariants.{ResultAlone, HistoryFirst, SummaryAlone}
+use Rattle.millwheel_cli.specs.declared.task.Wanted.TheVariants.{ResultAlone, HistoryFirst, SummaryAlone, EachAtOnce}
 use Rattle.millwheel_cli.specs.declared.refusal.Refusal.{Refusal}
 use Rattle.millwheel_cli.specs.declared.refusal.Refusal.TheVariants.{NoFile, TopologyRefused, EventsRefused, PlanRefused, NoMemory, ReadFault, TooLong, FileCount, CollectRefused, AuditRefused}
+use Rattle.millwheel_cli.specs.declared.task.Before.{Before}
+use Rattle.millwheel_cli.specs.Tasks.{is_at_once}
 use Rattle.millwheel_cli.specs.Limits.{history_limit}
 use Rattle.millwheel_cli.specs.Reasons.{ShelfSeen, HasReason}
 use Rattle.millwheel_cli.specs.Histories.{IsReadAfter, IsShortOf}
-use Rattle.millwheel_cli.specs.Answers.{Left, IsUnbegun, IsUnrun, IsRun, IsKeptRun, IsWholeRun, IsWholeText, IsPlainWhole, IsTextOf, RunLeaves, TextLeaves, CallLeaves, HasRun, HasWritten, HasDone, HasLeft}
+use Rattle.millwheel_cli.specs.Answers.{Left, IsUnbegun, IsUnrun, IsRun, IsKeptRun, IsWholeRun, IsWholeText, IsPlainWhole, IsInOrder, IsTextSoFar, IsTextOf, RunLeaves, TextLeaves, CallLeaves, HasRun, HasWritten, HasDone, HasLeft}
 use Rattle.millwheel_cli.specs.Inside.{HasText, HasPlain, IsCallEnd, IsWritten, status_of, of_words, of_start, of_drain}
 use Rattle.millwheel_cli.proofs.Reasons.{call_reason}
 
@@ -186,6 +189,7 @@ plain_whole ResultAlone case history law text whole = law text whole
 plain_whole HistoryFirst case history law text whole =
     record { result = whole.result; plain = law whole.result whole.of_history; spelled = whole.spelled }
 plain_whole SummaryAlone case history law text whole = tt
+plain_whole EachAtOnce case history law text whole = tt
 
 -- the text of a run that came to its end is told plainly
 pub told_plainly : (task : Task) (left : Left) → IsWholeRun task left → IsRunnable task.case → length left.history ≤ 2 ^ 32
@@ -201,57 +205,80 @@ told_plainly task left run runnable few law = λ text whole. by_rows text whole 
     by_rows text whole (Some rows) kept ended = plain_whole task.wanted task.case left.history
         (λ result is. law task.case left.history result runnable (record { legal = kept.legal; finished = ended; few = few }) is) text whole
 
+-- where no result is written at once, nothing is said of their order
+no_order : (wanted : Wanted) (before : Before) (shape : Shape) (history : List Entry) (text : List ℕ) → is_at_once wanted ≡ false
+    → IsInOrder wanted before shape history text
+no_order ResultAlone before shape history text late = tt
+no_order HistoryFirst before shape history text late = tt
+no_order SummaryAlone before shape history text late = tt
+no_order EachAtOnce before shape history text late = absurd (true≢false late)
+
+-- and where nothing was written, that is the text so far
+pub unwritten : (wanted : Wanted) (shape : Shape) (history : List Entry) (text : Option (List ℕ) × Option (List ℕ))
+    → is_at_once wanted ≡ false → text.1 ≡ text.0 → IsTextSoFar wanted shape history text
+unwritten ResultAlone shape history text late same = same
+unwritten HistoryFirst shape history text late same = same
+unwritten SummaryAlone shape history text late same = same
+unwritten EachAtOnce shape history text late same = absurd (true≢false late)
+
 -- what is written of a run that came to its end is what its status leaves
-pub wrote : (task : Task) (left : Left) (s : Status) → IsWholeRun task left → IsPlainlyTold task left
+pub wrote : (task : Task) (left : Left) (s : Status) → is_at_once task.wanted ≡ false → IsWholeRun task left → IsPlainlyTold task left
     → HasText task.wanted task.case.topology left.history left.text.0 left.text.1 s → RunLeaves task left s
-wrote task left status.Ok run plain is = record {
+wrote task left status.Ok late run plain is = record {
   run = run;
   text = is.text;
   whole = is.whole;
+  in_order = no_order task.wanted task.before task.case.topology left.history is.text late;
   written = is.written;
   plain = plain is.text is.whole;
 }
-wrote task left status.Usage run plain is = absurd is
-wrote task left (status.NoFile n) run plain is = absurd is
-wrote task left (status.TopologyRefused why) run plain is = absurd is
-wrote task left (status.EventsRefused file line why) run plain is = absurd is
-wrote task left (status.PlanRefused line) run plain is = absurd is
-wrote task left status.KeeperFault run plain is = absurd is
-wrote task left status.SinkFault run plain is = record { run = run; text = is.text; whole = is.whole; part = is.part }
-wrote task left status.NoMemory run plain is = elim is [
-  | inl part ↦ inl (record { run = run; text = part.text; whole = part.whole; part = part.part })
-  | inr same ↦ inr (inl (record { run = run.run; unwritten = same }))
+wrote task left status.Usage late run plain is = absurd is
+wrote task left (status.NoFile n) late run plain is = absurd is
+wrote task left (status.TopologyRefused why) late run plain is = absurd is
+wrote task left (status.EventsRefused file line why) late run plain is = absurd is
+wrote task left (status.PlanRefused line) late run plain is = absurd is
+wrote task left status.KeeperFault late run plain is = absurd is
+wrote task left status.SinkFault late run plain is =
+    inl (record { run = run; text = is.text; whole = is.whole; part = is.part })
+wrote task left status.NoMemory late run plain is = elim is [
+  | inl part ↦ inl (inl (record { run = run; text = part.text; whole = part.whole; part = part.part }))
+  | inr same ↦ inr (inl (record {
+    run = run.run;
+    so_far = unwritten task.wanted task.case.topology left.history left.text late same;
+  }))
 ]
-wrote task left (status.NotEmpty name bytes) run plain is = absurd is
-wrote task left status.HistoryFull run plain is = absurd is
-wrote task left (status.RowDamaged name bytes) run plain is = absurd is
-wrote task left (status.ReadFault n) run plain is = absurd is
-wrote task left (status.TooLong n) run plain is = absurd is
-wrote task left (status.FileCount n m) run plain is = absurd is
-wrote task left (status.CollectRefused line first) run plain is = absurd is
-wrote task left (status.AuditRefused line r) run plain is = absurd is
+wrote task left (status.NotEmpty name bytes) late run plain is = absurd is
+wrote task left status.HistoryFull late run plain is = absurd is
+wrote task left (status.RowDamaged name bytes) late run plain is = absurd is
+wrote task left (status.ReadFault n) late run plain is = absurd is
+wrote task left (status.TooLong n) late run plain is = absurd is
+wrote task left (status.FileCount n m) late run plain is = absurd is
+wrote task left (status.CollectRefused line first) late run plain is = absurd is
+wrote task left (status.AuditRefused line r) late run plain is = absurd is
 
 -- so it is where the history is said in other words
-pub wrote_as : (task : Task) (left : Left) (history : List Entry) (s : Status) → history ≡ left.history → IsWholeRun task left
+pub wrote_as : (task : Task) (left : Left) (history : List Entry) (s : Status) → is_at_once task.wanted ≡ false
+    → history ≡ left.history → IsWholeRun task left
     → IsPlainlyTold task left
     → HasText task.wanted task.case.topology history left.text.0 left.text.1 s → RunLeaves task left s
-wrote_as task left history s told run plain is = wrote task left s run plain
+wrote_as task left history s late told run plain is = wrote task left s late run plain
     (subst (λ (h : List Entry). HasText task.wanted task.case.topology h left.text.0 left.text.1 s) told is)
 
 -- what a drain that stopped leaves is what its status leaves
-pub stopped : (task : Task) (left : Left) (fault : NodeFault) → IsRun task left → left.text.1 ≡ left.text.0
+pub stopped : (task : Task) (left : Left) (fault : NodeFault) → IsRun task left
+    → IsTextSoFar task.wanted task.case.topology left.history left.text
     → (fault ≡ faults.HistoryFull → length left.history ≡ history_limit)
     → (fault ≡ faults.HistoryFull → IfSome left.rows.1 (λ _. IsShortOf task.case task.before left.history))
     → ((name : RowName) (bytes : List ℕ) → fault ≡ faults.RowDamaged name bytes
     → (count : ℕ) × IsReadAfter task.before count left.history × IsDamagedRow task.case left.rows.1 count name bytes)
     → RunLeaves task left (of_drain fault)
 stopped task left faults.HistoryFull run same full more damaged =
-    record { stopped = record { run = run; unwritten = same }; full = full refl; more = more refl }
-stopped task left faults.KeeperFault run same full more damaged = inl (record { run = run; unwritten = same })
+    record { stopped = record { run = run; so_far = same }; full = full refl; more = more refl }
+stopped task left faults.KeeperFault run same full more damaged = inl (record { run = run; so_far = same })
 stopped task left (faults.RowDamaged name bytes) run same full more damaged =
     let is = damaged name bytes refl in
-    record { stopped = record { run = run; unwritten = same }; count = is.0; read = is.1; damaged = is.2 }
-stopped task left faults.NoMemory run same full more damaged = inr (inl (record { run = run; unwritten = same }))
+    record { stopped = record { run = run; so_far = same }; count = is.0; read = is.1; damaged = is.2 }
+stopped task left faults.NoMemory run same full more damaged = inr (inl (record { run = run; so_far = same }))
 
 -- what is left where no book was begun is what its status leaves
 pub unstarted : (task : Task) (left : Left) (why : StartWhy) → IsUnbegun left → IsNotEmpty left.rows.0 why

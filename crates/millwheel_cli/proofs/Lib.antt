@@ -11,6 +11,9 @@ pub mod Replaying
 pub mod Running
 pub mod RoundLaws
 pub mod Gathering
+pub mod Living
 pub mod Leaving
+pub mod LiveRuns
+pub mod LivesLeft
 pub mod Telling
 pub mod Said

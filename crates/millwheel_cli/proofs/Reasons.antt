@@ -142,7 +142,7 @@ before_same files later call shape before same is = subst (λ (fs : Option Files
 pub inputs_task : (files later : Option Files) (call : Call) (inputs : Inputs) (names : List (List ℕ)) (shape : Shape)
     (sources : List Source) (before : Before) (task : Task)
     → names ≡ inputs.events → later ≡ files
-    → task.case ≡ record { topology = shape; sources = sources } → task.before ≡ before → task.wanted ≡ wanted_of inputs.history
+    → task.case ≡ record { topology = shape; sources = sources } → task.before ≡ before → task.wanted ≡ wanted_of inputs.history inputs.live
     → HoldsTopology files inputs.topology (length inputs.events) shape → HoldsBefore files call shape before
     → HoldsSources later 0 lines_limit names sources
     → IsInputsTask files call inputs task

@@ -1,5 +1,5 @@
 -- Of what a status comes.
-use Rattle.std.proofs.Common.{◌≡◌, ℕ, List, Option, refl, subst, arith}
+use Rattle.std.proofs.Common.{◌≡◌, ℕ, List, Option, refl, ap, subst, arith}
 use Rattle.mw_types.specs.declared.entry.Entry.{Entry}
 use Rattle.command_line.specs.declared.refusal.WordsRefusal.{WordsRefusal}
 use Rattle.command_line.specs.declared.refusal.WordsRefusal.TheVariants as refusals
@@ -10,12 +10,14 @@ use Rattle.book.specs.declared.refusals.StartWhy.{StartWhy}
 use Rattle.book.specs.declared.refusals.StartWhy.TheVariants as starts
 use Rattle.node.specs.declared.outcome.NodeFault.{NodeFault}
 use Rattle.node.specs.declared.outcome.NodeFault.TheVariants as faults
+use Rattle.millwheel_cli.specs.declared.live.LiveFault.{LiveFault}
+use Rattle.millwheel_cli.specs.declared.live.LiveFault.TheVariants as lives
 use Rattle.millwheel_cli.specs.declared.task.Wanted.{Wanted}
 use Rattle.millwheel_cli.specs.declared.status.Status.{Status}
 use Rattle.millwheel_cli.specs.declared.status.Status.TheVariants as status
 use Rattle.millwheel_cli.specs.declared.refusal.Refusal.{Refusal}
 use Rattle.millwheel_cli.specs.declared.refusal.Refusal.TheVariants.{NoFile, TopologyRefused, EventsRefused, PlanRefused, NoMemory, ReadFault, TooLong, FileCount, CollectRefused, AuditRefused}
-use Rattle.millwheel_cli.specs.Inside.{HasText, status_of, of_words, of_start, of_drain, of_sink}
+use Rattle.millwheel_cli.specs.Inside.{HasText, IsWritten, status_of, of_words, of_start, of_drain, of_live, of_sink}
 
 -- a start that says so failed by its keeper
 pub start_fault : (why : StartWhy) → of_start why ≡ status.KeeperFault → why ≡ starts.KeeperFault
@@ -48,10 +50,25 @@ drain_sink faults.KeeperFault is = grind (arith, is)
 drain_sink (faults.RowDamaged name bytes) is = grind (arith, is)
 drain_sink faults.NoMemory is = grind (arith, is)
 
+-- a run that was stopped so failed by its keeper
+pub live_keeper : (fault : LiveFault) → of_live fault ≡ status.KeeperFault → fault ≡ lives.Run faults.KeeperFault
+live_keeper (lives.Run why) is = ap lives.Run (drain_fault why is)
+live_keeper (lives.Sink sinks.Failed) is = grind (arith, is)
+live_keeper (lives.Sink sinks.NoMemory) is = grind (arith, is)
+
+-- or by its sink
+pub live_sink : (fault : LiveFault) → of_live fault ≡ status.SinkFault → fault ≡ lives.Sink sinks.Failed
+live_sink (lives.Run why) is = absurd (drain_sink why is)
+live_sink (lives.Sink why) is = ap lives.Sink (sink_fault why is)
+
 -- no writing fails by the keeper
 pub text_keeper : (wanted : Wanted) (shape : Shape) (history : List Entry) (old new : Option (List ℕ)) (s : Status)
     → HasText wanted shape history old new s → s ≡ status.KeeperFault → ⊥
 text_keeper wanted shape history old new s is same = subst (λ t. HasText wanted shape history old new t) same is
+
+-- nor does that of a text alone
+pub written_keeper : (text : List ℕ) (old new : Option (List ℕ)) (s : Status) → IsWritten text old new s → s ≡ status.KeeperFault → ⊥
+written_keeper text old new s is same = subst (λ t. IsWritten text old new t) same is
 
 -- no refusal of the files is one of the words
 pub refusal_usage : (refusal : Refusal) → status_of refusal ≡ status.Usage → ⊥

@@ -25,7 +25,10 @@ use Rattle.millwheel_cli.specs.declared.status.Status.TheVariants.{KeeperFault, 
 use Rattle.millwheel_cli.specs.declared.status.Status.TheVariants as status
 use Rattle.millwheel_cli.specs.declared.task.Task.{Task}
 use Rattle.millwheel_cli.specs.declared.task.Wanted.{Wanted}
-use Rattle.millwheel_cli.specs.declared.task.Wanted.TheVariants.{ResultAlone, HistoryFirst, SummaryAlone}
+use Rattle.millwheel_cli.specs.declared.task.Wanted.TheVariants.{ResultAlone, HistoryFirst, SummaryAlone, EachAtOnce}
+use Rattle.millwheel_cli.specs.declared.task.Before.{Before}
+use Rattle.millwheel_cli.specs.declared.task.Before.TheVariants.{Steps}
+use Rattle.millwheel_cli.specs.Lives.{IsLiveInPart, IsLiveOnce, IsLiveSoFar, IsLiveText}
 use Rattle.millwheel_cli.specs.Limits.{history_limit}
 use Rattle.millwheel_cli.specs.Histories.{GoesAs, IsAllOf, IsReadAfter, IsShortOf}
 use Rattle.millwheel_cli.specs.Tasks.{IsTask}
@@ -76,11 +79,18 @@ pub record IsLongText (shape : Shape) (history : List Entry) (text : List ℕ) :
   pub spelled : text ≡ lines_of_history history ++ result
 
 -- the whole text that is wanted of a history: a result of it, or its lines before that, or the summary line
--- alone
+-- alone, or behind the results that were written at once
 abbrev pub IsWholeText : Wanted → Shape → List Entry → List ℕ → Type 0
 IsWholeText ResultAlone shape history text = IsResultText shape history text
 IsWholeText HistoryFirst shape history text = IsLongText shape history text
 IsWholeText SummaryAlone shape history text = text ≡ as_line (summary_data history)
+IsWholeText EachAtOnce shape history text = IsLiveText shape history text
+
+-- where each result was written at once, and nothing came before the drain, the text has each emission's line
+-- once, in the order of their ids; of other texts this says nothing
+abbrev pub IsInOrder : Wanted → Before → Shape → List Entry → List ℕ → Type 0
+IsInOrder EachAtOnce (Steps []) shape history text = IsLiveOnce shape history text
+IsInOrder _ _ shape history text = ⊤
 
 -- the text of a history's lines, and then the plain text of the case
 pub record IsLongPlain (case : CaseShape) (history : List Entry) (text : List ℕ) : Type 0 where
@@ -89,11 +99,17 @@ pub record IsLongPlain (case : CaseShape) (history : List Entry) (text : List �
   pub spelled : text ≡ lines_of_history history ++ result
 
 -- the whole text that is wanted of a history is the plain text of its case, or its lines before that; of the
--- summary line alone this says nothing
+-- summary line alone, and of results that were written at once, this says nothing
 abbrev pub IsPlainWhole : Wanted → CaseShape → List Entry → List ℕ → Type 0
 IsPlainWhole ResultAlone case history text = IsPlainText case text
 IsPlainWhole HistoryFirst case history text = IsLongPlain case history text
 IsPlainWhole SummaryAlone case history text = ⊤
+IsPlainWhole EachAtOnce case history text = ⊤
+
+-- what a run has written that stopped: nothing, or the results of its history, where each is written at once
+abbrev pub IsTextSoFar : Wanted → Shape → List Entry → Option (List ℕ) × Option (List ℕ) → Type 0
+IsTextSoFar EachAtOnce shape history text = IsLiveSoFar shape history text.0 text.1
+IsTextSoFar _ shape history text = text.1 ≡ text.0
 
 -- ---- what each status leaves
 
@@ -102,6 +118,7 @@ pub record IsWhole (task : Task) (left : Left) : Type 0 where
   pub run : IsWholeRun task left
   pub text : List ℕ
   pub whole : IsWholeText task.wanted task.case.topology left.history text
+  pub in_order : IsInOrder task.wanted task.before task.case.topology left.history text
   pub written : left.text.1 ≡ append_known left.text.0 text
   -- nothing of the history but its lines is in it: its result is the plain count
   pub plain : IfSome left.rows.1 (λ _. IsPlainWhole task.wanted task.case left.history text)
@@ -113,10 +130,21 @@ pub record IsPart (task : Task) (left : Left) : Type 0 where
   pub whole : IsWholeText task.wanted task.case.topology left.history text
   pub part : AppendsPrefix text left.text.0 left.text.1
 
--- the run came so far, and nothing was written
+-- the run came so far, and so did its text
 pub record IsStopped (task : Task) (left : Left) : Type 0 where
   pub run : IsRun task left
-  pub unwritten : left.text.1 ≡ left.text.0
+  pub so_far : IsTextSoFar task.wanted task.case.topology left.history left.text
+
+-- the run came so far, where a result could not be written at once: lines were written, and a beginning of
+-- more
+pub record IsCutOff (task : Task) (left : Left) : Type 0 where
+  pub live : task.wanted ≡ EachAtOnce
+  pub run : IsRun task left
+  pub part : IsLiveInPart task.case.topology left.history left.text.0 left.text.1
+
+-- a beginning of the text was written, of a run that came to its end or was cut off
+abbrev pub IsPartOf : Task → Left → Type 0
+IsPartOf task left = IsPart task left ⊎ IsCutOff task left
 
 -- the run stopped since its history has as many entries as one may have, and has more to come: each whole
 -- run has more than that
@@ -141,9 +169,9 @@ pub record IsHeldBefore (left : Left) (name : RowName) (bytes : List ℕ) : Type
 -- what each status leaves once the files are read; the others come before that
 abbrev pub RunLeaves : Task → Left → Status → Type 0
 RunLeaves task left status.Ok = IsWhole task left
-RunLeaves task left SinkFault = IsPart task left
+RunLeaves task left SinkFault = IsPartOf task left
 RunLeaves task left KeeperFault = IsStopped task left ⊎ IsUnbegun left
-RunLeaves task left NoMemory = IsPart task left ⊎ (IsStopped task left ⊎ IsUnbegun left)
+RunLeaves task left NoMemory = IsPartOf task left ⊎ (IsStopped task left ⊎ IsUnbegun left)
 RunLeaves task left HistoryFull = IsFull task left
 RunLeaves task left (RowDamaged name bytes) = IsDamagedAt task left name bytes
 RunLeaves task left (NotEmpty name bytes) = IsHeldBefore left name bytes

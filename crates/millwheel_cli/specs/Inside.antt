@@ -1,6 +1,7 @@
 -- How the functions behind the public call answer. No public clause cites this module.
-use Rattle.std.specs.Prelude.{◌≡◌, ◌≤◌, ◌⊎◌, [], ℕ, ⊤, List, length, Option, IfNone, IfSome}
+use Rattle.std.specs.Prelude.{◌≡◌, ◌≤◌, ◌⊎◌, [], ℕ, ⊤, Bool, false, List, length, Option, IfNone, IfSome}
 use Rattle.std.specs.Io.KnownBytes.{append_known}
+use Rattle.mw_types.specs.Causes.{Rose}
 use Rattle.mw_types.specs.declared.entry.Entry.{Entry}
 use Rattle.mw_types.specs.declared.refusal.PlanRefusal.{PlanRefusal}
 use Rattle.mw_types.specs.declared.refusal.PlanRefusal.TheVariants as plans
@@ -24,16 +25,28 @@ use Rattle.trace_lines.specs.declared.refusal.AuditRefusal.TheVariants as audits
 use Rattle.run_history.specs.Cases.{CaseShape}
 use Rattle.run_history.specs.Fences.{Begins}
 use Rattle.plain_answer.specs.Plain.{IsPlainText}
+use Rattle.live_outlet.specs.Outlets.{OutletView}
 use Rattle.row_keeper.specs.Rows.{Rows}
 use Rattle.command_line.specs.declared.command.Call.{Call}
 use Rattle.mw_ports.specs.Shelves.{Files}
-use Rattle.book.specs.OwnDesks.{telling}
+use Rattle.book.specs.Books.{BookView}
+use Rattle.book.specs.DeskReasons.{IsDamageOf}
+use Rattle.book.specs.OwnDesks.{own_view, telling}
 use Rattle.node.specs.Answers.{refusal_of}
+use Rattle.drains.specs.Turns.{HasFailed}
+use Rattle.drains.specs.DrainTurns.{HasDrained, IsFullBefore}
 use Rattle.crews.specs.Rounds.{IsDamageAt, first_claims, rounds_room}
+use Rattle.node.specs.declared.outcome.Outcome.{Outcome}
+use Rattle.scripts.specs.declared.step.Step.{Step}
+use Rattle.world.specs.Stepping.{HasActed, HasFaulted}
+use Rattle.world.specs.WorldStates.{WorldState}
 use Rattle.book.specs.declared.refusals.StartWhy.{StartWhy}
 use Rattle.book.specs.declared.refusals.StartWhy.TheVariants as starts
 use Rattle.node.specs.declared.outcome.NodeFault.{NodeFault}
 use Rattle.node.specs.declared.outcome.NodeFault.TheVariants as faults
+use Rattle.millwheel_cli.specs.declared.live.LiveFault.{LiveFault}
+use Rattle.millwheel_cli.specs.declared.live.LiveFault.TheVariants as lives
+use Rattle.millwheel_cli.specs.Lives.{IsLiveInPart, IsLiveSoFar, IsPumpedTo}
 use Rattle.millwheel_cli.specs.declared.task.Wanted.{Wanted}
 use Rattle.millwheel_cli.specs.declared.task.Before.{Before}
 use Rattle.millwheel_cli.specs.declared.task.Before.TheVariants.{Steps, Rounds}
@@ -117,10 +130,60 @@ of_drain faults.KeeperFault = status.KeeperFault
 of_drain (faults.RowDamaged name bytes) = status.RowDamaged name bytes
 of_drain faults.NoMemory = status.NoMemory
 
+-- the cause of a drain's fault, in the keeper and the history
+pub record HasRunCause (old new : BookView) (why : NodeFault) : Type 0 where
+  pub keeper : why ≡ faults.KeeperFault → Rose old.faults new.faults
+  pub full : why ≡ faults.HistoryFull → length new.history ≡ new.limit
+  pub damaged : IsDamageOf (own_view new) (refusal_of why)
+
 -- the status of a sink's fault
 abbrev pub of_sink : SinkFault → Status
 of_sink sink.Failed = status.SinkFault
 of_sink sink.NoMemory = status.NoMemory
+
+-- the status where a run was stopped whose results are written at once
+abbrev pub of_live : LiveFault → Status
+of_live (lives.Run why) = of_drain why
+of_live (lives.Sink why) = of_sink why
+
+-- what such a run has written then: the results of its history, or a part of them where it was the sink that
+-- stopped it
+abbrev pub IsLiveBehind : LiveFault → Shape → List Entry → Option (List ℕ) → Option (List ℕ) → Type 0
+IsLiveBehind (lives.Run why) shape history text grown = IsLiveSoFar shape history text grown
+IsLiveBehind (lives.Sink why) shape history text grown = IsLiveInPart shape history text grown
+
+-- the same, where all results of a beginning of the history were written before
+abbrev pub StopsLive : LiveFault → Shape → List Entry → List Entry → OutletView → Option (List ℕ)
+    → Option (List ℕ) → Type 0
+StopsLive fault shape front history old some grown = (once : Bool) (text : Option (List ℕ)) →
+    IsPumpedTo shape front once old text some → IsLiveBehind fault shape history text grown
+
+-- the cause of such a fault, in the keeper and the history, or in the sink
+abbrev pub HasLiveCause : BookView → BookView → ℕ → ℕ → LiveFault → Type 0
+HasLiveCause old new before after (lives.Run why) = HasRunCause old new why
+HasLiveCause old new before after (lives.Sink why) = why ≡ sink.Failed → Rose before after
+
+-- the same of one step
+abbrev pub StopsStep : LiveFault → Shape → List Entry → List Entry → OutletView → Option (List ℕ)
+    → Option (List ℕ) → Type 0
+StopsStep fault shape front history old some grown = (text : Option (List ℕ)) →
+    IsPumpedTo shape front false old text some → IsLiveBehind fault shape history text grown
+
+-- a step was done as it is in the scripted world
+abbrev pub IsStepDone : Step → WorldState → WorldState → Type 0
+IsStepDone step old new = (outcome : Outcome) × HasActed step old new outcome
+
+-- what a step leaves of a world where such a fault ends it: it was not done, or its results could not be
+-- written
+abbrev pub IsStepFault : Step → WorldState → WorldState → LiveFault → Type 0
+IsStepFault step old new (lives.Run why) = HasFaulted step old new
+IsStepFault step old new (lives.Sink why) = IsStepDone step old new
+
+-- what a turn of a drain leaves of a book where such a fault ends it: nothing was appended, or its results
+-- could not be written
+abbrev pub IsTurnFault : ℕ → BookView → BookView → LiveFault → Type 0
+IsTurnFault from old new (lives.Run why) = HasFailed old new why × IsFullBefore from old why
+IsTurnFault from old new (lives.Sink why) = (more : Bool) × HasDrained from old new more
 
 -- the whole text of a history was written
 pub record WritesWhole (wanted : Wanted) (shape : Shape) (history : List Entry)

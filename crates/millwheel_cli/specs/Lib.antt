@@ -5,6 +5,7 @@ pub mod Loads
 pub mod Tasks
 pub mod Collects
 pub mod Audits
+pub mod Lives
 pub mod Reasons
 pub mod Histories
 pub mod Answers

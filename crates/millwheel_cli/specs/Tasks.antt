@@ -68,9 +68,16 @@ is_rounds (Rounds workers rounds actions) = true
 
 -- ---- what is to be done
 
--- the lines of the history are written before its result where they are asked for
-abbrev pub wanted_of : Bool → Wanted
-wanted_of history = if history then wanted.HistoryFirst else wanted.ResultAlone
+-- each result is written at once where that is asked for, and else the lines of the history before its result
+-- where these are
+abbrev pub wanted_of : Bool → Bool → Wanted
+wanted_of history live = if live then wanted.EachAtOnce
+    else if history then wanted.HistoryFirst else wanted.ResultAlone
+
+-- whether each result is to be written at once
+abbrev pub is_at_once : Wanted → Bool
+is_at_once wanted.EachAtOnce = true
+is_at_once _ = false
 
 -- the task is that of a call with these files: a topology, event files, one an injector, and a plan, where
 -- the call names one
@@ -78,7 +85,7 @@ pub record IsInputsTask (files : Option Files) (call : Call) (inputs : Inputs) (
   pub topology_read : HoldsTopology files inputs.topology (length inputs.events) task.case.topology
   pub plan_read : HoldsBefore files call task.case.topology task.before
   pub events_read : HoldsSources files 0 lines_limit inputs.events task.case.sources
-  pub text : task.wanted ≡ wanted_of inputs.history
+  pub text : task.wanted ≡ wanted_of inputs.history inputs.live
 
 -- the case is that of load, by this seed and with so many lines: what solo makes of its topology and of one
 -- event file with its lines

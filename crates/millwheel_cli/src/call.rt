@@ -77,7 +77,7 @@ pub(crate) fn read_inputs<S: Shelf>(
     let (bare, before) = read_first(alloc, shelf, call, inputs)?;
     match read_sources(alloc, shelf, inputs.events.as_slice()) {
         Ok(sources) => {
-            let wanted = wanted_of(inputs.history);
+            let wanted = wanted_of(inputs.history, inputs.live);
             Ok(task_of(alloc, bare, before, sources, wanted)?)
         }
         Err(refusal) => {

@@ -1,12 +1,12 @@
 //! The run of a task whose workers are threads, over a keeper, and the writing of its text.
-ghost use Rattle.std.specs.Prelude.{◌≡◌, ◌≤◌, ◌⊎◌, ℕ, [], List, Option, IfSome, None, Some, length, true};
+ghost use Rattle.std.specs.Prelude.{◌≡◌, ◌≤◌, ◌⊎◌, ℕ, [], List, Option, IfSome, None, Some, false, length, true};
 ghost use Rattle.std.specs.Option.{is_some};
 ghost use Rattle.mw_types.specs.Causes.{Rose};
 ghost use Rattle.book.specs.Books.{core_of};
 ghost use Rattle.book.specs.Lawful.{IsLawful};
 ghost use Rattle.node.specs.Works.{IsWorkOf};
 ghost use Rattle.millwheel_cli.specs.Limits.{history_limit};
-ghost use Rattle.millwheel_cli.specs.Tasks.{AreThere, is_rounds};
+ghost use Rattle.millwheel_cli.specs.Tasks.{AreThere, is_at_once, is_rounds};
 ghost use Rattle.millwheel_cli.specs.Answers.{Left, RunLeaves};
 ghost use Rattle.millwheel_cli.specs.Inside.{AreRoundsOf, IsDamageIn, LeavesBegun, of_drain};
 
@@ -48,6 +48,7 @@ where
     G: Gate + Sync,
     requires there { AreThere task.now.case.topology task.now.before }
     requires rounds { is_rounds task.now.before ≡ true }
+    requires late { is_at_once task.now.wanted ≡ false }
 
     ensures keeper_later { K.faults keeper ≤ K.faults result.keeper }
     ensures out_later { O.faults out.old ≤ O.faults out.new }
@@ -89,6 +90,7 @@ where
         (C.gives_record work.now) (C.gives_timer work.now) }
     requires there { AreThere task.now.case.topology task.now.before }
     requires rounds { is_rounds task.now.before ≡ true }
+    requires late { is_at_once task.now.wanted ≡ false }
 
     ensures keeper_later { K.faults keeper ≤ K.faults result.keeper }
     ensures out_later { O.faults out.old ≤ O.faults out.new }
@@ -133,6 +135,7 @@ where
     requires rounds { is_rounds task.now.before ≡ true }
     requires empty { book.history ≡ [] }
     requires limit { book.limit ≡ history_limit }
+    requires late { is_at_once task.now.wanted ≡ false }
 
     ensures keeper_later { book.entry.faults ≤ K.faults result.keeper }
     ensures out_later { O.faults out.old ≤ O.faults out.new }
@@ -222,6 +225,7 @@ fn end<'a, K: Keeper, C: Computation, O: Sink>(
     requires rounds { AreRoundsOf task.now.case task.now.before book.rows fault book.history }
     requires full { fault ≡ Some NodeFault.HistoryFull → length book.history ≡ book.limit }
     requires damaged { IfSome fault (IsDamageIn task.now.case book.rows book.history) }
+    requires late { is_at_once task.now.wanted ≡ false }
 
     ensures keeper_later { book.entry.faults ≤ K.faults result.keeper }
     ensures out_later { O.faults out.old ≤ O.faults out.new }
@@ -262,6 +266,7 @@ fn finish<'a, K: Keeper, C: Computation, O: Sink>(
     requires full { fault ≡ Some NodeFault.HistoryFull →
         length book.old.history ≡ book.old.limit }
     requires damaged { IfSome fault (IsDamageIn task.now.case book.old.rows book.old.history) }
+    requires late { is_at_once task.now.wanted ≡ false }
 
     ensures keeper_later { book.old.faults ≤ book.new.faults }
     ensures out_later { O.faults out.old ≤ O.faults out.new }
@@ -287,6 +292,7 @@ fn stop<'a, K: Keeper>(book: &Book<'a, K>, fault: NodeFault, task: &Task) -> Sta
         book.now.rows (Some fault) book.now.history }
     requires full { fault ≡ NodeFault.HistoryFull → length book.now.history ≡ book.now.limit }
     requires damaged { IsDamageIn task.now.case book.now.rows book.now.history fault }
+    requires late { is_at_once task.now.wanted ≡ false }
 
     ensures status { result ≡ of_drain fault }
     ensures left { (text : Option (List ℕ)) →
@@ -313,6 +319,7 @@ fn work_off<'a, K: Keeper, C: Computation, O: Sink>(
     requires limit { book.old.limit ≡ history_limit }
     requires rounds { AreRoundsOf task.now.case task.now.before
         book.old.rows None book.old.history }
+    requires late { is_at_once task.now.wanted ≡ false }
 
     ensures keeper_later { book.old.faults ≤ book.new.faults }
     ensures out_later { O.faults out.old ≤ O.faults out.new }

@@ -15,10 +15,11 @@ ghost use Rattle.scripts.specs.Steps.{IsStep};
 ghost use Rattle.world.specs.WorldStates.{world_of};
 ghost use Rattle.millwheel_cli.specs.Limits.{history_limit};
 ghost use Rattle.millwheel_cli.specs.Answers.{Left, RunLeaves};
-ghost use Rattle.millwheel_cli.specs.Tasks.{AreThere, is_rounds};
+ghost use Rattle.millwheel_cli.specs.Tasks.{AreThere, is_at_once, is_rounds};
 ghost use Rattle.millwheel_cli.specs.Inside.{of_start, of_drain};
 
 use crate::done::{Done, unbegun};
+use crate::live::finish_live;
 use crate::status::Status;
 use crate::task::{Before, Task};
 use crate::text::write;
@@ -238,6 +239,41 @@ fn finish<'a, K: Keeper, C: Computation + Drop, O: Sink>(
     steps: &[Step],
     out: &mut O,
 ) -> Status
+    requires case { world.old.book.case ≡ task.now.case }
+    requires before { task.now.before ≡ Before.Steps steps.now }
+    requires steps { All (IsStep task.now.case.topology) steps.now }
+    requires begun { world_of world.old ≡ empty_world task.now.case.topology }
+    requires limit { world.old.book.limit ≡ history_limit }
+
+    ensures keeper_later { world.old.book.faults ≤ world.new.book.faults }
+    ensures out_later { O.faults out.old ≤ O.faults out.new }
+    ensures keeper_fault { result ≡ Status.KeeperFault →
+        Rose world.old.book.faults world.new.book.faults }
+    ensures sink_fault { result ≡ Status.SinkFault → Rose (O.faults out.old) (O.faults out.new) }
+    ensures left { let left : Left = record {
+      rows = (world.old.book.rows, world.new.book.rows);
+      text = (O.text out.old, O.text out.new);
+      history = world.new.book.history;
+    } in RunLeaves task.now left result }
+    ensures untouched { world.new.book.history ≡ [] → world.new.book.rows ≡ world.old.book.rows }
+    ensures tells { is_some world.new.book.rows ≡ is_some world.old.book.rows }
+{
+    if task.wanted.is_at_once() {
+        finish_live(alloc, world, task, steps, out)
+    } else {
+        finish_late(alloc, world, task, steps, out)
+    }
+}
+
+// Does the steps of a task in a new world, works all off that is left, and then writes its text.
+fn finish_late<'a, K: Keeper, C: Computation + Drop, O: Sink>(
+    alloc: Global,
+    world: &mut World<'a, K, C>,
+    task: &Task,
+    steps: &[Step],
+    out: &mut O,
+) -> Status
+    requires late { is_at_once task.now.wanted ≡ false }
     requires case { world.old.book.case ≡ task.now.case }
     requires before { task.now.before ≡ Before.Steps steps.now }
     requires steps { All (IsStep task.now.case.topology) steps.now }

@@ -1,6 +1,6 @@
 //! What a command is to do, once its files are read.
 ghost use Rattle.std.specs.Prelude.{◌≡◌};
-ghost use Rattle.millwheel_cli.specs.Tasks.{wanted_of};
+ghost use Rattle.millwheel_cli.specs.Tasks.{is_at_once, wanted_of};
 
 use plans::Actions;
 use run_history::Case;
@@ -15,6 +15,17 @@ pub enum Wanted {
     HistoryFirst,
     /// The summary line of its result.
     SummaryAlone,
+    /// Each result as soon as its entry is there, and at the end the summary line.
+    EachAtOnce,
+}
+
+impl Wanted {
+    /// Whether each result is to be written at once.
+    pub fn is_at_once(self) -> bool
+        ensures { result ≡ is_at_once self }
+    {
+        matches!(self, Wanted::EachAtOnce)
+    }
 }
 
 /// What comes before the drain of a run.
@@ -47,11 +58,13 @@ pub struct Task {
     pub wanted: Wanted,
 }
 
-/// What is to be written where the lines of the history are asked for, or are not.
-pub fn wanted_of(history: bool) -> Wanted
-    ensures { result ≡ wanted_of history }
+/// What is to be written where the lines of the history are asked for, or each result at once.
+pub fn wanted_of(history: bool, live: bool) -> Wanted
+    ensures { result ≡ wanted_of history live }
 {
-    if history {
+    if live {
+        Wanted::EachAtOnce
+    } else if history {
         Wanted::HistoryFirst
     } else {
         Wanted::ResultAlone

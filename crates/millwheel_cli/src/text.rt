@@ -1,10 +1,11 @@
 //! The text of a history, and its writing.
-ghost use Rattle.std.specs.Prelude.{◌≡◌, ◌≤◌, ◌++◌, All, IfOk};
+ghost use Rattle.std.specs.Prelude.{◌≡◌, ◌≤◌, ◌++◌, All, IfOk, false};
 ghost use Rattle.mw_types.specs.Causes.{Rose};
 ghost use Rattle.run_history.specs.Printing.{IsPrintable};
 ghost use Rattle.run_history.specs.HistoryLines.{HasLine};
 ghost use Rattle.millwheel_cli.specs.Answers.{IsLongText, IsWholeText};
-ghost use Rattle.millwheel_cli.specs.Inside.{HasText, of_sink};
+ghost use Rattle.millwheel_cli.specs.Tasks.{is_at_once};
+ghost use Rattle.millwheel_cli.specs.Inside.{HasText, IsWritten, of_sink};
 
 use crate::status::Status;
 use crate::task::{Task, Wanted};
@@ -13,8 +14,9 @@ use mw_types::{Bytes, NoMemory};
 use run_history::{Case, History, history_lines, result_text, summary_line};
 use std::alloc::Global;
 
-/// Writes the text that is wanted of a task's history.
+/// Writes the text that is wanted of a task's history, where it is wanted at the end.
 pub fn write<O: Sink>(alloc: Global, task: &Task, history: &History, out: &mut O) -> Status
+    requires late { is_at_once task.now.wanted ≡ false }
     requires printable { IsPrintable task.now.case.topology history.now }
     requires lines { All HasLine history.now }
 
@@ -32,8 +34,9 @@ pub fn write<O: Sink>(alloc: Global, task: &Task, history: &History, out: &mut O
     }
 }
 
-// The text that is wanted of a task's history.
+// The text that is wanted of a task's history at the end.
 fn whole_text(alloc: Global, task: &Task, history: &History) -> Result<Bytes, NoMemory>
+    requires late { is_at_once task.now.wanted ≡ false }
     requires printable { IsPrintable task.now.case.topology history.now }
     requires lines { All HasLine history.now }
     ensures { IfOk result (IsWholeText task.now.wanted task.now.case.topology history.now) }
@@ -42,6 +45,7 @@ fn whole_text(alloc: Global, task: &Task, history: &History) -> Result<Bytes, No
         Wanted::ResultAlone => result_text(alloc, &task.case, history),
         Wanted::HistoryFirst => long_text(alloc, &task.case, history),
         Wanted::SummaryAlone => summary_line(alloc, history),
+        Wanted::EachAtOnce => unreachable!(),
     }
 }
 
@@ -63,6 +67,18 @@ fn joined(text: Bytes, more: &[u8]) -> Result<Bytes, NoMemory>
     let mut all = text.into_vec();
     all.extend_from_slice(more)?;
     Ok(Bytes::from_vec(all))
+}
+
+/// Writes a text, and tells how that ended.
+pub(crate) fn written<O: Sink>(text: &[u8], out: &mut O) -> Status
+    ensures later { O.faults out.old ≤ O.faults out.new }
+    ensures sink_fault { result ≡ Status.SinkFault → Rose (O.faults out.old) (O.faults out.new) }
+    ensures written { IsWritten text.now (O.text out.old) (O.text out.new) result }
+{
+    match write_all(out, text) {
+        Ok(()) => Status::Ok,
+        Err(fault) => status_of_sink(fault),
+    }
 }
 
 /// The status of a sink's fault.

@@ -5,16 +5,16 @@ ghost use Rattle.mw_ports.specs.Shelves.{Files};
 ghost use Rattle.millwheel_cli.specs.Asked.{has_task};
 ghost use Rattle.millwheel_cli.specs.Reasons.{ShelfSeen, IsCallRefused};
 ghost use Rattle.millwheel_cli.specs.Answers.{IsTextOf, IsUnrun, Left};
-ghost use Rattle.millwheel_cli.specs.Inside.{IsTextEnd, IsWritten, UnlessWant};
+ghost use Rattle.millwheel_cli.specs.Inside.{IsTextEnd, UnlessWant};
 
 use crate::audits::audited_text;
 use crate::collecting::collected_text;
 use crate::done::{Done, unbegun};
 use crate::refusal::{Refusal, status_of};
 use crate::status::Status;
-use crate::text::status_of_sink;
+use crate::text::written;
 use command_line::Call;
-use mw_ports::{Shelf, Sink, write_all};
+use mw_ports::{Shelf, Sink};
 use mw_types::Bytes;
 use row_keeper::Keeper;
 use std::alloc::Global;
@@ -97,17 +97,5 @@ fn text_of<S: Shelf>(alloc: Global, call: &Call, shelf: &mut S) -> Result<Bytes,
         | Call::Run { .. }
         | Call::Plain { .. }
         | Call::Load { .. } => unreachable!(),
-    }
-}
-
-// Writes a text, and tells how that ended.
-fn written<O: Sink>(text: &[u8], out: &mut O) -> Status
-    ensures later { O.faults out.old ≤ O.faults out.new }
-    ensures sink_fault { result ≡ Status.SinkFault → Rose (O.faults out.old) (O.faults out.new) }
-    ensures written { IsWritten text.now (O.text out.old) (O.text out.new) result }
-{
-    match write_all(out, text) {
-        Ok(()) => Status::Ok,
-        Err(fault) => status_of_sink(fault),
     }
 }

@@ -3,7 +3,7 @@ ghost use Rattle.std.specs.Prelude.{◌≡◌, ◌≤◌, [], false, true};
 ghost use Rattle.std.specs.Option.{is_some};
 ghost use Rattle.mw_types.specs.Causes.{Rose};
 ghost use Rattle.millwheel_cli.specs.Asked.{has_task, is_run, is_unkept};
-ghost use Rattle.millwheel_cli.specs.Tasks.{AreThere, is_rounds};
+ghost use Rattle.millwheel_cli.specs.Tasks.{AreThere, is_at_once, is_rounds};
 ghost use Rattle.millwheel_cli.specs.Answers.{CallLeaves, Left};
 
 use crate::done::Done;
@@ -75,6 +75,7 @@ where
     requires task { has_task call.now ≡ true }
     requires there { AreThere task.now.case.topology task.now.before }
     requires rounds { is_rounds task.now.before ≡ is_run call.now }
+    requires late { is_run call.now ≡ true → is_at_once task.now.wanted ≡ false }
 
     ensures keeper_later { K.faults keeper ≤ K.faults result.keeper }
     ensures out_later { O.faults out.old ≤ O.faults out.new }

@@ -3,7 +3,7 @@ use Rattle.run_history.specs.Inputs.{IsRunnable}
 use Rattle.millwheel_cli.specs.Answers.{RunLeaves}
 use Rattle.millwheel_cli.proofs.Running.{none_kept, run_of_history}
 use Rattle.millwheel_cli.proofs.RoundLaws.{damaged_within, rounds_stopped, stopped_short, told_always}
-use Rattle.millwheel_cli.proofs.Leaving.{stopped}
+use Rattle.millwheel_cli.proofs.Leaving.{stopped, unwritten}
 use Rattle.millwheel_cli.proofs.rounding.stop.Goals as goal
 
 pub returns-clause-left : goal.returns-clause-left
@@ -16,7 +16,7 @@ returns-clause-left g c text began empty =
     (rounds_stopped task.case task.before book.rows (Some c.args.fault) book.history draining c.requires.rounds) in
     let run = run_of_history task began book (text, text) empty c.requires.case lawful goes in
     subst (RunLeaves task _) (sym c.status_of_drain.ensures)
-    (stopped task _ c.args.fault run refl (λ e. c.requires.full e ∙ c.requires.limit)
+    (stopped task _ c.args.fault run (unwritten task.wanted task.case.topology book.history (text, text) c.requires.late refl) (λ e. c.requires.full e ∙ c.requires.limit)
     (λ e. stopped_short task book (Some c.args.fault) c.requires.case lawful
     (subst IsRunnable c.requires.case lawful.runnable).topology draining c.drains_begin_the_drained_history.ensures.begins
     c.requires.rounds)

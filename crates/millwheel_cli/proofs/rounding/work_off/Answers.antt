@@ -10,7 +10,7 @@ use Rattle.millwheel_cli.specs.Answers.{RunLeaves}
 use Rattle.millwheel_cli.proofs.Running.{damaged_at, none_kept, run_of_history, whole_run}
 use Rattle.millwheel_cli.proofs.RoundLaws.{drained_goes, drained_short, drained_whole}
 use Rattle.millwheel_cli.proofs.Statuses.{drain_fault, drain_sink, text_keeper}
-use Rattle.millwheel_cli.proofs.Leaving.{stopped, told_plainly, wrote_as}
+use Rattle.millwheel_cli.proofs.Leaving.{stopped, told_plainly, unwritten, wrote_as}
 use Rattle.millwheel_cli.proofs.rounding.work_off.Goals as goal
 
 pub returns-in-Ok-clause-left : goal.returns-in-Ok-clause-left
@@ -28,7 +28,7 @@ returns-in-Ok-clause-left g c began empty =
     let whole = whole_run task old.rows _ run runnable c.drains_leave_no_work.ensures.finished after.tells all in
     let plain = told_plainly task _ whole runnable (omega (arith, lawful.few, lawful.limit))
     c.results_are_the_plain_count.ensures.plain in
-    wrote_as task _ _ _ c.history.ensures.history whole plain c.write.ensures.written
+    wrote_as task _ _ _ c.requires.late c.history.ensures.history whole plain c.write.ensures.written
 
 pub returns-in-Err-clause-left : goal.returns-in-Err-clause-left
 returns-in-Err-clause-left g c began empty =
@@ -42,7 +42,8 @@ returns-in-Err-clause-left g c began empty =
     let goes = drained_goes task old new c.requires.case after.tells after.grown after.draining c.requires.rounds in
     let run = run_of_history task began new (text, text) empty mine lawful goes in
     subst (RunLeaves task _) (sym c.status_of_drain.ensures)
-    (stopped task _ c.in-Err.fault run refl (λ e. c.in-Err.ensures.full (ap Err e) ∙ after.limit ∙ c.requires.limit)
+    (stopped task _ c.in-Err.fault run (unwritten task.wanted task.case.topology new.history (text, text) c.requires.late refl)
+    (λ e. c.in-Err.ensures.full (ap Err e) ∙ after.limit ∙ c.requires.limit)
     (λ e. drained_short task old new c.requires.case after.case lawful after.tells after.grown after.draining
     c.drains_begin_the_drained_history.ensures.begins c.requires.rounds (c.in-Err.ensures.more (ap Err e)))
     (λ name bytes e. damaged_at task new _ name bytes mine c.in-Err.ensures.damaged e))

@@ -13,8 +13,8 @@ use Rattle.millwheel_cli.specs.Histories.{GoesAs, IsAllOf}
 use Rattle.millwheel_cli.specs.Answers.{RunLeaves}
 use Rattle.millwheel_cli.proofs.Running.{run_of_book, run_short, whole_run, same_where_empty, damaged_at, more_seen}
 use Rattle.millwheel_cli.proofs.Statuses.{drain_fault, drain_sink, text_keeper}
-use Rattle.millwheel_cli.proofs.Leaving.{wrote_as, told_plainly, stopped}
-use Rattle.millwheel_cli.proofs.run.finish.Goals as goal
+use Rattle.millwheel_cli.proofs.Leaving.{wrote_as, told_plainly, stopped, unwritten}
+use Rattle.millwheel_cli.proofs.run.finish_late.Goals as goal
 
 pub returns-in-Ok-clause-left : goal.returns-in-Ok-clause-left
 returns-in-Ok-clause-left g c =
@@ -37,7 +37,7 @@ returns-in-Ok-clause-left g c =
     let lawful : IsLawful new.case (core_of new) = c.look-2.ensures.lawful in
     let plain = told_plainly task _ whole (subst IsRunnable c.requires.case c.look.ensures.lawful.runnable)
     (omega (arith, lawful.few, lawful.limit)) c.results_are_the_plain_count.ensures.plain in
-    wrote_as task _ _ _ told whole plain c.write.ensures.written
+    wrote_as task _ _ _ c.requires.late told whole plain c.write.ensures.written
 
 pub returns-in-Err-clause-left : goal.returns-in-Err-clause-left
 returns-in-Err-clause-left g c =
@@ -52,7 +52,7 @@ returns-in-Err-clause-left g c =
     (subst (λ (k : CaseShape). IfSome old.rows (λ _. IsReplayed k steps new.history)) c.requires.case after.replayed) in
     let run = run_of_book task old new (text, text) c.requires.case after.case
     c.look.ensures.lawful c.look-2.ensures.lawful empty after.tells goes in
-    let status = stopped task _ c.in-Err.fault run refl
+    let status = stopped task _ c.in-Err.fault run (unwritten task.wanted task.case.topology new.history (text, text) c.requires.late refl)
     (λ e. c.in-Err.ensures.full (ap Err e) ∙ after.limit ∙ c.requires.limit)
     (λ e. run_short task _ steps c.requires.before run (subst IsRunnable c.requires.case c.look.ensures.lawful.runnable).topology
     c.drains_begin_the_drained_history.ensures.begins (more_seen _ old.rows new.rows after.tells
