@@ -5,6 +5,7 @@ mod collections;
 mod events;
 mod faults;
 mod histories;
+mod lives;
 mod loads;
 mod looks;
 mod many_lines;
