@@ -2,11 +2,11 @@
 use super::calls::{FIRST, Files, keeper, numbers};
 use super::events::EVENTS;
 use super::looks::{Case, Look, holds, seen_by};
+use super::must;
 use super::topologies::{COUNT, TAILS};
 use mw_ports::MemSink;
 use mw_types::{CallList, NoMemory};
 use std::alloc::Global;
-use std::test::Fail;
 
 // What the first example writes up to its first result, up to its second, and in all.
 const ONE: &str =
@@ -84,11 +84,10 @@ static LIVES: [Case; 5] = [
 ];
 
 #[test]
-fn results_are_written_as_their_entries_come(rt: HostRuntime) -> Result<(), Fail> {
+fn results_are_written_as_their_entries_come(rt: HostRuntime) {
     for case in &LIVES {
-        assert!(rt; holds(rt.alloc(), case)?, "{}", case.0);
+        must(&rt, holds(rt.alloc(), case), case.0);
     }
-    Ok(())
 }
 
 // Whether the first example's run over a sink of eight bytes whose call of this number fails ends there, after so
@@ -120,9 +119,8 @@ static CUTS: [(u64, usize, &str); 5] = [
 ];
 
 #[test]
-fn a_sink_that_fails_stops_the_run(rt: HostRuntime) -> Result<(), Fail> {
+fn a_sink_that_fails_stops_the_run(rt: HostRuntime) {
     for (call, count, text) in &CUTS {
-        assert!(rt; is_cut(rt.alloc(), *call, *count, text)?, "{call}");
+        must(&rt, is_cut(rt.alloc(), *call, *count, text), *call);
     }
-    Ok(())
 }
