@@ -1,11 +1,10 @@
 -- What a text is that was written while its run went on.
-use Rattle.std.proofs.Common.{◌≡◌, ◌≤◌, ◌<◌, ◌+◌, ◌-◌, ◌⊎◌, ◌==◌, ◌++◌, ℕ, Bool, true, false, List, [], ◌∷◌, length, map, take, Option, Some, None, IfSome, refl, sym, ◌∙◌, ap, subst, arith, append_assoc, append-nil, inl, inr, true≢false}
+use Rattle.std.proofs.Common.{◌≡◌, ◌≤◌, ◌<◌, ◌+◌, ◌==◌, ◌++◌, ℕ, Bool, true, false, List, [], ◌∷◌, length, map, take, Option, Some, None, IfSome, refl, sym, ◌∙◌, ap, subst, arith, append_assoc, append-nil, inl, inr, true≢false}
 use Rattle.std.specs.Prelude.{Contains}
 use Rattle.std.specs.List.{AllByRecursion, flat_map}
 use Rattle.std.specs.Io.KnownBytes.{append_known}
 use Rattle.std.proofs.Math.Seq.{take-append_seam, take-append-add}
-use Rattle.std.proofs.lemmas.List.{length-append, take-append-le, take_all}
-use Rattle.std.proofs.lemmas.Bool.{cases_lt}
+use Rattle.std.proofs.lemmas.List.{length-append, take-append-le}
 use Rattle.std.proofs.lemmas.List.Concat.{flat_map-append}
 use Rattle.std.proofs.lemmas.List.Elements.{All-contains_itself, Contains-append_left, Contains-append_right, recursion_from_All}
 use Rattle.list_lemmas.proofs.Lists.{each-append, each-weaker}
@@ -20,7 +19,7 @@ use Rattle.live_outlet.specs.Outlets.{AreBetween, AreLive, IsPumpedFrom, OutletV
 use Rattle.live_outlet.specs.Covering.{StandIn, ended, results_of, told_by}
 use Rattle.live_outlet.proofs.Emitting.{emitted-all, emitted-grows}
 use Rattle.live_outlet.proofs.Pumping.{append_known-none, pumped-grown}
-use Rattle.millwheel_cli.specs.Lives.{AreResultsOf, HasResults, IsCutBehind, IsLiveInPart, IsLiveSoFar, IsPumpedTo, IsResultOf, PumpsOn, StepsOn, ended_line}
+use Rattle.millwheel_cli.specs.Lives.{AreResultsOf, HasResults, IsCutBehind, IsLiveInPart, IsLiveSoFar, IsPumpedTo, IsResultOf, PumpsOn, StepsOn}
 
 -- ---- lines
 
@@ -145,78 +144,6 @@ stand-first shape front history place lines begins within all =
     subst (λ (h : List Entry). StandIn shape lines (run_of shape h).emissions) same
     (each-first (Stands shape lines) (emitted_by shape front place) grows.0 (subst (StandIn shape lines) (sym grows.1) all))
 
--- ---- a text that is cut off
-
--- so many bytes of lines are whole lines and a beginning of one more
-record IsCut (P : List ℕ → Type 0) (lines : List (List ℕ)) (count : ℕ) : Type 0 where
-  whole : List (List ℕ)
-  each : AllByRecursion P whole
-  left : Option (List ℕ)
-  one : IfSome left P
-  more : ℕ
-  within : more ≤ length (ended_line left)
-  is : take count (ended lines) ≡ ended whole ++ take more (ended_line left)
-
-cut-lines : (P : List ℕ → Type 0) (lines : List (List ℕ)) (count : ℕ) → AllByRecursion P lines → IsCut P lines count
-cut-lines P [] count each = record {
-  whole = [];
-  each = tt;
-  left = None;
-  one = tt;
-  more = 0;
-  within = omega arith;
-  is = take_all count [] (omega arith);
-}
-cut-lines P (line ∷ lines) count each =
-    by_place (cases_lt count (length (line ++ 10 ∷ []))) (cut-lines P lines (count - length (line ++ 10 ∷ [])) each.1)
-  where
-    by_place : (count < length (line ++ 10 ∷ [])) ⊎ (length (line ++ 10 ∷ []) ≤ count)
-        → IsCut P lines (count - length (line ++ 10 ∷ [])) → IsCut P (line ∷ lines) count
-    by_place (inl short) next = record {
-      whole = [];
-      each = tt;
-      left = Some line;
-      one = each.0;
-      more = count;
-      within = omega (arith, short);
-      is = take-append-le count (line ++ 10 ∷ []) (ended lines) (omega (arith, short));
-    }
-    by_place (inr past) next =
-        let left = count - length (line ++ 10 ∷ []) in
-        let split : count ≡ length (line ++ 10 ∷ []) + left = omega (arith, past) in record {
-          whole = line ∷ next.whole;
-          each = (each.0, next.each);
-          left = next.left;
-          one = next.one;
-          more = next.more;
-          within = next.within;
-          is = ap (λ k. take k ((line ++ 10 ∷ []) ++ ended lines)) split
-              ∙ take-append-add (line ++ 10 ∷ []) (ended lines) left
-              ∙ ap (λ l. (line ++ 10 ∷ []) ++ l) next.is
-              ∙ sym (append_assoc (line ++ 10 ∷ []) (ended next.whole) (take next.more (ended_line next.left)));
-        }
-
--- lines, and a beginning of further lines
-cut-part : (shape : Shape) (history : List Entry) (lines begun : List (List ℕ)) (text grown : Option (List ℕ))
-    → AreResultsOf shape history lines → AreResultsOf shape history begun
-    → AppendsPrefix (ended begun) (append_known text (ended lines)) grown → IsLiveInPart shape history text grown
-cut-part shape history lines begun text grown each results part =
-    let cut = cut-lines (IsResultOf shape history) begun part.0 results in
-    let rest = take cut.more (ended_line cut.left) in record {
-      lines = lines ++ cut.whole;
-      each = each-append (IsResultOf shape history) lines cut.whole each cut.each;
-      begun = cut.left;
-      result = cut.one;
-      part = (
-        cut.more,
-        cut.within,
-        part.2 ∙ ap (append_known (append_known text (ended lines))) cut.is
-            ∙ sym (more-again (append_known text (ended lines)) (ended cut.whole) rest)
-            ∙ ap (λ (t : Option (List ℕ)). append_known t rest) (more-again text (ended lines) (ended cut.whole)
-            ∙ ap (append_known text) (sym (ended-append lines cut.whole))),
-      );
-    }
-
 -- ---- a pump
 
 map-append : (shape : Shape) (xs ys : List Emission)
@@ -267,16 +194,18 @@ module _ (shape : Shape) (front history : List Entry) (old : OutletView) (text s
       let piece : piece_of (owes_behind old.owes (live_lines shape stops.es)) (live_lines shape stops.begun) ≡ ended begun =
       ap (λ (b : Bool). piece_of b (live_lines shape stops.begun))
       (behind-none old.owes (owes_behind old.owes (live_lines shape stops.es)) (live_lines shape stops.es) none refl)
-      ∙ piece-alone (live_lines shape stops.begun) ∙ lines-ended shape stops.begun in
-      cut-part shape history (lines ++ more) begun text grown
-      (each-append (IsResultOf shape history) lines more (results-grow shape front history lines begins so_far.each)
-      (told-results shape history stops.es (of_run shape history old.place new.place stops.es stops.between)))
-      (told-results shape history stops.begun
-      (each-first (Contains (run_of shape history).emissions) stops.begun stops.left
-      (of_run shape history new.place (new.place + 1) (stops.begun ++ stops.left) stops.next)))
-      (subst (λ (l : List ℕ). AppendsPrefix l (append_known text (ended (lines ++ more))) grown) piece
-      (subst (λ (t : Option (List ℕ)). AppendsPrefix (piece_of (owes_behind old.owes (live_lines shape stops.es))
-      (live_lines shape stops.begun)) t grown) before stops.wrote))
+      ∙ piece-alone (live_lines shape stops.begun) ∙ lines-ended shape stops.begun in record {
+        lines = lines ++ more;
+        each = each-append (IsResultOf shape history) lines more (results-grow shape front history lines begins so_far.each)
+            (told-results shape history stops.es (of_run shape history old.place new.place stops.es stops.between));
+        begun = begun;
+        results = told-results shape history stops.begun
+            (each-first (Contains (run_of shape history).emissions) stops.begun stops.left
+            (of_run shape history new.place (new.place + 1) (stops.begun ++ stops.left) stops.next));
+        part = subst (λ (l : List ℕ). AppendsPrefix l (append_known text (ended (lines ++ more))) grown) piece
+            (subst (λ (t : Option (List ℕ)). AppendsPrefix (piece_of (owes_behind old.owes (live_lines shape stops.es))
+            (live_lines shape stops.begun)) t grown) before stops.wrote);
+      }
 
   -- where each was written once, and the outlet was at the end, each is
   order-on : (new : OutletView) (pumped : IsPumpedFrom shape old front) (none : old.owes ≡ false)

@@ -1,5 +1,5 @@
 -- What a text is that was written while its run went on: each result as soon as its entry was there. Own.
-use Rattle.std.specs.Prelude.{◌≡◌, ◌++◌, ℕ, Bool, true, false, List, [], ◌∷◌, length, Option, Some, None, IfSome, Contains}
+use Rattle.std.specs.Prelude.{◌≡◌, ◌++◌, ℕ, Bool, true, false, List, length, Option, Contains}
 use Rattle.std.specs.List.{AllByRecursion}
 use Rattle.std.specs.Io.KnownBytes.{append_known}
 use Rattle.mw_types.specs.declared.delivery.Emission.{Emission}
@@ -41,19 +41,14 @@ pub record IsLiveSoFar (shape : Shape) (history : List Entry) (text grown : Opti
   pub all : StandIn shape lines (run_of shape history).emissions
   pub wrote : grown ≡ append_known text (ended lines)
 
--- a line with its LF, where there is one
-abbrev pub ended_line : Option (List ℕ) → List ℕ
-ended_line None = []
-ended_line (Some line) = line ++ 10 ∷ []
-
--- lines were written, each of an emission of the history's run and with its LF, and then a beginning of one more
--- such line, or nothing
+-- lines were written, each of an emission of the history's run and with its LF, and then a beginning of more
+-- such lines
 pub record IsLiveInPart (shape : Shape) (history : List Entry) (text grown : Option (List ℕ)) : Type 0 where
   pub lines : List (List ℕ)
   pub each : AreResultsOf shape history lines
-  pub begun : Option (List ℕ)
-  pub result : IfSome begun (IsResultOf shape history)
-  pub part : AppendsPrefix (ended_line begun) (append_known text (ended lines)) grown
+  pub begun : List (List ℕ)
+  pub results : AreResultsOf shape history begun
+  pub part : AppendsPrefix (ended begun) (append_known text (ended lines)) grown
 
 -- ---- what no public clause cites
 
