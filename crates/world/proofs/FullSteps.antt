@@ -31,8 +31,8 @@ use Rattle.node.specs.declared.outcome.NodeFault.TheVariants as faults
 use Rattle.node.specs.declared.outcome.Outcome.{Outcome}
 use Rattle.node.specs.declared.outgoing.Outgoing.{Outgoing}
 use Rattle.node.specs.declared.outgoing.Outgoing.TheVariants as outgoing
-use Rattle.scripts.specs.Acts.{Acted, Deed, done, fire, inject, purge, take, without_message, write, writes}
-use Rattle.scripts.specs.Worlds.{World, in_flight, worker_of}
+use Rattle.scripts.specs.Acts.{Acted, Deed, done, fire, inject, purge, without_message, write, writes}
+use Rattle.scripts.specs.Worlds.{World, worker_of}
 use Rattle.scripts.specs.declared.step.Step.{Step}
 use Rattle.scripts.specs.declared.step.Step.TheVariants as steps
 use Rattle.scripts.proofs.OwnerLaws.{done-current}

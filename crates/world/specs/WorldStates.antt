@@ -1,5 +1,5 @@
 -- What is seen of a world in which steps are done for real, and which scripted world it is. Own.
-use Rattle.std.specs.Prelude.{ℕ, List, map, Option}
+use Rattle.std.specs.Prelude.{List, map, Option}
 use Rattle.std.specs.Option.{option_map}
 use Rattle.book.specs.Books.{BookView}
 use Rattle.book.specs.declared.own_desk.NoNote.{NoNote}
