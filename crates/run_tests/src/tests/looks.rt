@@ -2,7 +2,7 @@
 use super::calls::{Files, called, ended, keeper, sink};
 use super::made;
 use millwheel_cli::{Done, Status};
-use mw_ports::{MemSink, OpenGate};
+use mw_ports::OpenGate;
 use mw_types::Entry;
 use row_keeper::MemKeeper;
 use std::alloc::Global;
