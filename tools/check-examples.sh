@@ -26,6 +26,8 @@ expect expected.jsonl run --workers 2 --rounds 4 --plan rounds.plan t.json e
 for mode in solo plain; do
     expect $stored/stdout $mode $stored/data/{topology.json,front1.jsonl,front2.jsonl}
 done
+expect live.jsonl solo --live t.json e
+expect <(head -n 2 live.jsonl; echo '{"lines":2,"other":1}') collect live.jsonl
 expect <(echo '{"fired":3,"handled":3,"injected":3,"late":0}') load 7 3
 
 [ "$failed" = 0 ] && echo "each example has its text"

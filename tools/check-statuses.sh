@@ -36,6 +36,7 @@ expect 0 '' solo head.json e
 expect 2 'millwheel: usage: millwheel MODE ARGS'
 expect 2 'millwheel: usage: millwheel MODE ARGS' sing t.json e
 expect 2 'millwheel: usage: millwheel MODE ARGS' solo t.json -e
+expect 2 'millwheel: usage: millwheel MODE ARGS' solo --live --history t.json e
 expect 0 '' load 7 3
 expect 0 '' solo taps.json e e
 expect 0 '' solo --keep rows.db t.json e
@@ -51,6 +52,7 @@ expect 0 '' run --workers 16 --rounds 2 t.json e
 expect 7 'millwheel: the keeper failed' solo --keep folder t.json e
 expect 10 'millwheel: the keeper is not empty: part 0 key ' solo --keep rows.db t.json e
 out=/dev/full expect 8 'millwheel: the output failed' solo t.json e
+out=/dev/full expect 8 'millwheel: the output failed' solo --live t.json e
 expect 13 "millwheel: can't read folder" solo t.json folder
 expect 14 'millwheel: too long: long.json' solo long.json e
 expect 15 'millwheel: 1 event files for 2 injectors' solo taps.json e
