@@ -1,4 +1,4 @@
-use Rattle.std.proofs.Common.{◌∙◌, rules, arith, subst, sym}
+use Rattle.std.proofs.Common.{◌≡◌, ◌∙◌, rules, arith, subst, sym}
 use Rattle.std.specs.Prelude.{IfErr}
 use Rattle.drains.specs.DrainTurns.{HasDrained}
 use Rattle.drains.proofs.DrainTurnLaws.{going-ended, going-first, going-on}
@@ -6,9 +6,9 @@ use Rattle.drains.proofs.GoLaws.{gone-step}
 use Rattle.drains.proofs.Results.{err-then}
 use Rattle.run_history.specs.Cases.{CaseShape}
 use Rattle.live_outlet.specs.Outlets.{IsPumpedFrom}
-use Rattle.millwheel_cli.specs.Lives.{TurnsOn}
-use Rattle.millwheel_cli.specs.Inside.{HasLiveCause, IsTurnFault, StopsLive}
-use Rattle.millwheel_cli.proofs.LiveRuns.{cause-before, fault-gone, fault-goes, fault-short, stops-behind, turn-ended, turns-lived, turns-on}
+use Rattle.millwheel_cli.specs.declared.live.LiveFault.{LiveFault}
+use Rattle.millwheel_cli.specs.Inside.{HasLiveCause}
+use Rattle.millwheel_cli.proofs.LiveRuns.{cause-before, fault-gone, fault-goes, fault-short, stops-behind, turn-ended, turns-on, err-is}
 use Rattle.millwheel_cli.proofs.live.turns_live.Goals as goal
 
 -- the drain begins to turn
@@ -114,7 +114,8 @@ returns-in_err-turn_live-clause-behind g c =
     let new = c.turn_live.new.world.book in
     let some = g.O.Sink.text l.out in
     let grown = g.O.Sink.text c.turn_live.new.out in
-    let behind : IfErr c.from_residual.result (λ fault. StopsLive fault old.case.topology old.history new.history l.outlet some grown) =
-    search rules in
-    err-then c.from_residual.result (λ fault is. stops-behind start.case old.case start.history old.history new.history
-    c.args.outlet.now l.outlet (g.O.Sink.text c.args.out.now) some grown fault l.invariant.1.gone.case l.invariant.4 is) behind
+    let fault = c.in_err-turn_live.field-0.0 in
+    let is : IfErr c.from_residual.result (λ (f : LiveFault). f ≡ fault) = search rules in
+    err-is c.from_residual.result fault _ is (stops-behind start.case old.case start.history old.history new.history
+    c.args.outlet.now l.outlet (g.O.Sink.text c.args.out.now) some grown fault l.invariant.1.gone.case l.invariant.4
+    c.in_err-turn_live.ensures.behind)
