@@ -6,5 +6,5 @@ use Rattle.desk_tests.proofs.tests.crossing.catch_up.Goals as goal
 pub returns-clause-fits : goal.returns-clause-fits
 returns-clause-fits g c =
     Fits-looked c.args.given.now.case (shared_view c.args.desk.now.seat.now.place.me.0)
-    (shared_view c.catch_up.new.self.seat.now.place.me.0) c.args.node.now
-    c.sound.ensures.sound c.sound-2.ensures.sound c.catch_up.ensures.looked c.requires.fits
+    (shared_view c.catch_up-tried.new.self.seat.now.place.me.0) c.args.node.now
+    c.sound.ensures.sound c.sound-2.ensures.sound c.catch_up-tried.ensures.looked c.requires.fits
