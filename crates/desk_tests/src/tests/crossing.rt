@@ -6,7 +6,6 @@ ghost use Rattle.shared_book.specs.SharedDesks.{shared_home, shared_view};
 
 use super::acts::{Act, Answer, act_on, receive, short};
 use super::example::Example;
-use super::must;
 use book::Desk;
 use node::{Node, NodeFault, Outcome};
 use row_keeper::Keeper;
@@ -176,7 +175,7 @@ fn take_steps<K: Keeper>(
         let (step, want) = *row;
         nth = nth.saturating_add(1);
         let answer = stepped(alloc, given, one, first, other, second, step);
-        must(rt, short(answer) == want, nth);
+        assert!(rt; short(answer) == want, "{nth}");
     }
 }
 

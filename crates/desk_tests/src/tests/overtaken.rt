@@ -3,14 +3,13 @@
 use super::acts::{Act, Answer};
 use super::entries::Told;
 use super::example::two_lines_example;
-use super::plays::{Acts, Kept, Play, Row, Two, play_all};
+use super::two_workers::{Acts, Play, Row, plays};
+use std::test::Fail;
 
 // Worker 1 claims the injector's interval before worker 0 injects. The claim is entry 2, which names what
 // overtook the lease 0. Without the lease there is nothing to inject.
-const INJECT: Row = Row {
-    kept: Kept::InMemory(&[]),
-    limit: 16,
-    play: Play::Two(Two::Overtaking(Acts {
+const INJECT: Row<'static> = Row {
+    play: Play::Overtaking(Acts {
         before: &[
             (Act::ClaimSource, Answer::Claimed(0)),
             (Act::ClaimCount, Answer::Claimed(1)),
@@ -20,17 +19,15 @@ const INJECT: Row = Row {
             (Act::Inject, Answer::Stale(2)),
             (Act::Inject, Answer::Nothing),
         ],
-    })),
+    }),
     entries: &[Told::Claim(0, 0), Told::Claim(0, 1), Told::Claim(1, 0)],
     marks: [0, 0],
 };
 
 // Worker 1 claims the count's interval when worker 0 has handled the record and not yet written that. The
 // claim is entry 3, behind the line. What was prepared under the lease is given up with it.
-const HANDLE: Row = Row {
-    kept: Kept::InMemory(&[]),
-    limit: 16,
-    play: Play::Two(Two::Overtaking(Acts {
+const HANDLE: Row<'static> = Row {
+    play: Play::Overtaking(Acts {
         before: &[
             (Act::ClaimSource, Answer::Claimed(0)),
             (Act::ClaimCount, Answer::Claimed(1)),
@@ -42,7 +39,7 @@ const HANDLE: Row = Row {
             (Act::Write, Answer::Stale(3)),
             (Act::Write, Answer::Nothing),
         ],
-    })),
+    }),
     entries: &[
         Told::Claim(0, 0),
         Told::Claim(0, 1),
@@ -54,10 +51,8 @@ const HANDLE: Row = Row {
 
 // Worker 1 claims the injector's interval when worker 0 has handled the record, and the word of that is
 // still to be written. The claim is entry 4, behind the line and what handled it.
-const SETTLE: Row = Row {
-    kept: Kept::InMemory(&[]),
-    limit: 16,
-    play: Play::Two(Two::Overtaking(Acts {
+const SETTLE: Row<'static> = Row {
+    play: Play::Overtaking(Acts {
         before: &[
             (Act::ClaimSource, Answer::Claimed(0)),
             (Act::ClaimCount, Answer::Claimed(1)),
@@ -70,7 +65,7 @@ const SETTLE: Row = Row {
             (Act::Take, Answer::Stale(4)),
             (Act::Inject, Answer::Nothing),
         ],
-    })),
+    }),
     entries: &[
         Told::Claim(0, 0),
         Told::Claim(0, 1),
@@ -83,10 +78,8 @@ const SETTLE: Row = Row {
 
 // Worker 1 claims the count's interval when worker 0 knows that the timer is due. The claim is entry 6,
 // behind worker 0's second one.
-const FIRE: Row = Row {
-    kept: Kept::InMemory(&[]),
-    limit: 16,
-    play: Play::Two(Two::Overtaking(Acts {
+const FIRE: Row<'static> = Row {
+    play: Play::Overtaking(Acts {
         before: &[
             (Act::ClaimSource, Answer::Claimed(0)),
             (Act::ClaimCount, Answer::Claimed(1)),
@@ -100,7 +93,7 @@ const FIRE: Row = Row {
         ],
         between: &[(Act::ClaimCount, Answer::Claimed(6))],
         after: &[(Act::Fire, Answer::Stale(6)), (Act::Fire, Answer::Nothing)],
-    })),
+    }),
     entries: &[
         Told::Claim(0, 0),
         Told::Claim(0, 1),
@@ -115,10 +108,8 @@ const FIRE: Row = Row {
 
 // Worker 1 claims the count's interval when worker 0 has fired the timer, and the row of the key a has an id
 // to forget. The claim is entry 7, behind the timer's.
-const PURGE: Row = Row {
-    kept: Kept::InMemory(&[]),
-    limit: 16,
-    play: Play::Two(Two::Overtaking(Acts {
+const PURGE: Row<'static> = Row {
+    play: Play::Overtaking(Acts {
         before: &[
             (Act::ClaimSource, Answer::Claimed(0)),
             (Act::ClaimCount, Answer::Claimed(1)),
@@ -136,7 +127,7 @@ const PURGE: Row = Row {
             (Act::Purge, Answer::Stale(7)),
             (Act::Purge, Answer::Nothing),
         ],
-    })),
+    }),
     entries: &[
         Told::Claim(0, 0),
         Told::Claim(0, 1),
@@ -154,10 +145,8 @@ const PURGE: Row = Row {
 // that is stale is answered too, and harmless: the mark is that of the injector's file, which states no
 // watermark before its first line. The other interval is still worker 0's, whose mark is not above 0 while
 // the injector's is 0.
-const REPORT: Row = Row {
-    kept: Kept::InMemory(&[]),
-    limit: 16,
-    play: Play::Two(Two::Overtaking(Acts {
+const REPORT: Row<'static> = Row {
+    play: Play::Overtaking(Acts {
         before: &[
             (Act::ClaimSource, Answer::Claimed(0)),
             (Act::ClaimCount, Answer::Claimed(1)),
@@ -168,17 +157,15 @@ const REPORT: Row = Row {
             (Act::ReportSource, Answer::Marked(0)),
             (Act::ReportCount, Answer::Marked(0)),
         ],
-    })),
+    }),
     entries: &[Told::Claim(0, 0), Told::Claim(0, 1), Told::Claim(1, 0)],
     marks: [0, 0],
 };
 
 // Worker 1 claims the count's interval when the injector's mark is 60. The claim is entry 5. Worker 0's lease was
 // settled while that mark was 0, and vouches for no more.
-const RAISE: Row = Row {
-    kept: Kept::InMemory(&[]),
-    limit: 16,
-    play: Play::Two(Two::Overtaking(Acts {
+const RAISE: Row<'static> = Row {
+    play: Play::Overtaking(Acts {
         before: &[
             (Act::ClaimSource, Answer::Claimed(0)),
             (Act::ClaimCount, Answer::Claimed(1)),
@@ -190,7 +177,7 @@ const RAISE: Row = Row {
         ],
         between: &[(Act::ClaimCount, Answer::Claimed(5))],
         after: &[(Act::ReportCount, Answer::Marked(0))],
-    })),
+    }),
     entries: &[
         Told::Claim(0, 0),
         Told::Claim(0, 1),
@@ -202,10 +189,12 @@ const RAISE: Row = Row {
     marks: [60, 0],
 };
 
-static ROWS: [Row; 7] = [INJECT, HANDLE, SETTLE, FIRE, PURGE, REPORT, RAISE];
-
 #[test]
-fn stale_across_seats(rt: HostRuntime) {
+fn stale_across_seats(rt: HostRuntime) -> Result<(), Fail> {
     let alloc = rt.alloc();
-    play_all(&rt, alloc, &two_lines_example(&rt, alloc), &ROWS);
+    let given = two_lines_example(alloc)?;
+    for row in &[INJECT, HANDLE, SETTLE, FIRE, PURGE, REPORT, RAISE] {
+        plays(&rt, alloc, &given, row);
+    }
+    Ok(())
 }

@@ -2,10 +2,9 @@
 ghost use Rattle.std.specs.Prelude.{◌≡◌, ◌∷◌, []};
 ghost use Rattle.desk_tests.specs.DeskTests.{IsAtRest};
 
-use super::acts::drive;
-use super::entries::has_left;
+use super::acts::{Act, Answer, drive};
+use super::entries::{Told, has_entries};
 use super::example::Example;
-use super::plays::{Row, Table};
 use book::Book;
 use node::Node;
 use row_keeper::Keeper;
@@ -14,13 +13,13 @@ use std::alloc::Global;
 use std::process::Abort;
 
 // A worker at the desk of the one seat.
-fn at_seat<K: Keeper>(
+pub(crate) fn at_seat<K: Keeper>(
     rt: &impl Abort,
     alloc: Global,
     given: &Example,
     shared: &Shared<'_, K>,
     seat: &mut Seat<K>,
-    table: Table,
+    table: &[(Act, Answer)],
 )
     requires case { shared.now.case.now ≡ given.now.case }
     requires rest { let table = shared.now.table.shared in
@@ -33,15 +32,15 @@ fn at_seat<K: Keeper>(
     drive(rt, alloc, given, &mut desk, &mut node, table);
 }
 
-// The book comes back with what is wanted.
+// The book comes back, and has these entries.
 fn one_seat<K: Keeper>(
     rt: &impl Abort,
     alloc: Global,
     given: &Example,
     shared: Shared<'_, K>,
     seat: Seat<K>,
-    row: &Row,
-    table: Table,
+    table: &[(Act, Answer)],
+    entries: &[Told],
 )
     requires case { shared.case.now ≡ given.now.case }
     requires rest { let table = shared.table.shared in
@@ -50,7 +49,7 @@ fn one_seat<K: Keeper>(
     let mut seat = seat;
     at_seat(rt, alloc, given, &shared, &mut seat, table);
     let book = shared.close(seat);
-    has_left(rt, &book, row);
+    has_entries(rt, &book, entries);
 }
 
 // A worker over a shared book of one seat.
@@ -59,13 +58,13 @@ pub(crate) fn over_one_seat<K: Keeper>(
     alloc: Global,
     given: &Example,
     book: Book<'_, K>,
-    row: &Row,
-    table: Table,
+    table: &[(Act, Answer)],
+    entries: &[Told],
 )
     requires case { book.case ≡ given.now.case }
 {
     match Shared::start(alloc, book, 1) {
-        Ok((shared, seat)) => one_seat(rt, alloc, given, shared, seat, row, table),
+        Ok((shared, seat)) => one_seat(rt, alloc, given, shared, seat, table, entries),
         Err(_refusal) => assert!(rt; false),
     }
 }

@@ -6,10 +6,9 @@ ghost use Rattle.node.specs.Fits.{Fits};
 ghost use Rattle.desk_tests.specs.DeskTests.{IsAtRest};
 
 use super::acts::{Answer, short};
-use super::made;
 use book::{Book, Desk, Seen};
 use injector::{Items, ItemsList, read_lines};
-use mw_types::{CallList, Entry};
+use mw_types::{CallList, Entry, NoMemory};
 use node::Node;
 use row_keeper::{Keeper, MemKeeper};
 use run_history::Case;
@@ -17,6 +16,7 @@ use shared_book::{Seat, Shared, SharedDesk};
 use std::alloc::Global;
 use std::process::Abort;
 use std::sync::Wait;
+use std::test::Fail;
 use std::thread::{Threads, join, yield_now};
 use topology::read;
 
@@ -230,47 +230,44 @@ const TOPOLOGY: &str =
     r#"{"injectors":[{"name":"clicks","stream":"raw"},{"name":"views","stream":"seen"}],"computations":[{"name":"copy","kind":"pass","reads":[{"stream":"raw","by":"key"},{"stream":"seen","by":"key"}],"stream":"copies"}]}"#;
 
 // The lines of a file.
-fn lines(rt: &impl Abort, alloc: Global, bytes: &[u8]) -> Items {
+fn lines(alloc: Global, bytes: &[u8]) -> Result<Items, Fail> {
     if bytes.len() > 100_000 {
-        rt.panic("too long")
+        return Err(Fail::from(NoMemory));
     }
-    made(rt, read_lines(alloc, bytes, LINES))
+    Ok(read_lines(alloc, bytes, LINES)?)
 }
 
 // The lines of both injectors.
-fn items(rt: &impl Abort, alloc: Global) -> ItemsList {
+fn items(alloc: Global) -> Result<ItemsList, Fail> {
     let mut text = String::new(alloc);
     for _ in 0..LINES {
-        made(rt, text.push_str("{\"key\":\"a\",\"ts\":1}\n"));
+        text.push_str("{\"key\":\"a\",\"ts\":1}\n")?;
     }
     let mut all = ItemsList::new(alloc);
     for _ in 0..2 {
-        made(rt, all.push(lines(rt, alloc, text.as_bytes())));
+        all.push(lines(alloc, text.as_bytes())?)?;
     }
-    all
+    Ok(all)
 }
 
 // The case of two injectors with these lines each.
-fn two_injectors(rt: &impl Abort, alloc: Global) -> Case {
-    let topology = made(rt, read(alloc, TOPOLOGY.as_bytes()));
-    let items = items(rt, alloc);
+fn two_injectors(alloc: Global) -> Result<Case, Fail> {
+    let topology = read(alloc, TOPOLOGY.as_bytes())?;
+    let items = items(alloc)?;
     if items.len() != topology.injectors() as usize {
-        rt.panic("other injectors")
+        return Err(Fail::from(NoMemory));
     }
-    made(rt, Case::of(alloc, topology, items))
-}
-
-// A book of the case is shared.
-fn begin<R: Threads + Wait + Abort + Sync>(rt: &R, alloc: Global, case: &Case) {
-    let keeper = MemKeeper::new(alloc, CallList::new(alloc));
-    match Book::start(alloc, case, keeper, 500) {
-        Ok(book) => shared(rt, alloc, case, book),
-        Err(_) => assert!(rt; false),
-    }
+    Ok(Case::of(alloc, topology, items)?)
 }
 
 #[test]
-fn threads_inject_under_one_book(rt: HostRuntime) {
+fn threads_inject_under_one_book(rt: HostRuntime) -> Result<(), Fail> {
     let alloc = rt.alloc();
-    begin(&rt, alloc, &two_injectors(&rt, alloc));
+    let case = two_injectors(alloc)?;
+    let keeper = MemKeeper::new(alloc, CallList::new(alloc));
+    match Book::start(alloc, &case, keeper, 500) {
+        Ok(book) => shared(&rt, alloc, &case, book),
+        Err(_) => assert!(rt; false),
+    }
+    Ok(())
 }

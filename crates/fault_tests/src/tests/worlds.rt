@@ -6,7 +6,6 @@ ghost use Rattle.computations.specs.Parts.{HasState, part_record, part_timer};
 ghost use Rattle.scripts.specs.Steps.{IsStep};
 
 use super::files::{COUNT, EVENTS};
-use super::made;
 use super::overtaken::sides;
 use book::Book;
 use computations::Kinds;
@@ -18,43 +17,50 @@ use run_history::Case;
 use schedules::{Schedule, read_schedule};
 use scripts::Step;
 use std::alloc::Global;
-use std::process::Abort;
 use topology::{Topology, read};
 use world::World;
 
 // The topology of the first example, which has one injector.
-fn topology(rt: &impl Abort, alloc: Global) -> Topology
-    ensures { injectors_of result ≡ 1 }
+fn topology(alloc: Global) -> Result<Topology, NoMemory>
+    ensures { IfOk result (λ topology. injectors_of topology ≡ 1) }
 {
-    let topology = made(rt, read(alloc, COUNT.as_bytes()));
-    if topology.injectors() != 1 {
-        rt.panic("other injectors")
+    let Ok(topology) = read(alloc, COUNT.as_bytes()) else {
+        return Err(NoMemory);
+    };
+    if topology.injectors() == 1 {
+        Ok(topology)
+    } else {
+        Err(NoMemory)
     }
-    topology
 }
 
 // Its lines.
-fn lines(rt: &impl Abort, alloc: Global) -> Items {
+fn lines(alloc: Global) -> Result<Items, NoMemory> {
     let bytes = EVENTS.as_bytes();
     if bytes.len() > 1 << 20 {
-        rt.panic("too long")
+        return Err(NoMemory);
     }
-    made(rt, read_lines(alloc, bytes, 1 << 18))
-}
-
-// Its lines, as those of the one injector.
-fn items(rt: &impl Abort, alloc: Global) -> ItemsList
-    ensures { length result ≡ 1 }
-{
-    let mut items = ItemsList::new(alloc);
-    made(rt, items.push(lines(rt, alloc)));
-    items
+    match read_lines(alloc, bytes, 1 << 18) {
+        Ok(items) => Ok(items),
+        Err(_) => Err(NoMemory),
+    }
 }
 
 // Its case.
-fn case(rt: &impl Abort, alloc: Global) -> Case {
-    let items = items(rt, alloc);
-    made(rt, Case::of(alloc, topology(rt, alloc), items))
+fn case(alloc: Global) -> Result<Case, NoMemory> {
+    let items = items(alloc)?;
+    let topology = topology(alloc)?;
+    Case::of(alloc, topology, items)
+}
+
+// Its lines, as those of the one injector.
+fn items(alloc: Global) -> Result<ItemsList, NoMemory>
+    ensures { IfOk result (λ items. length items ≡ 1) }
+{
+    let lines = lines(alloc)?;
+    let mut items = ItemsList::new(alloc);
+    items.push(lines)?;
+    Ok(items)
 }
 
 // The computations of a case.
@@ -70,53 +76,54 @@ fn work(alloc: Global, case: &Case) -> Result<Kinds, NoMemory>
 
 // A world over a new book of a case.
 fn world<'a>(
-    rt: &impl Abort,
     alloc: Global,
     case: &'a Case,
     keeper: MemKeeper,
-) -> World<'a, MemKeeper, Kinds> {
-    let work = made(rt, work(alloc, case));
+) -> Result<World<'a, MemKeeper, Kinds>, NoMemory> {
+    let work = work(alloc, case)?;
     let Ok(book) = Book::start(alloc, case, keeper, 1 << 32) else {
-        rt.panic("no book")
+        return Err(NoMemory);
     };
     match World::start(alloc, book, work) {
-        Ok(world) => world,
-        Err(_) => rt.panic("no world"),
+        Ok(world) => Ok(world),
+        Err(_) => Err(NoMemory),
     }
 }
 
 // The one step of a line.
-fn step(rt: &impl Abort, alloc: Global, case: &Case, line: &str) -> Step
-    ensures { IsStep case.now.topology result }
+fn step(alloc: Global, case: &Case, line: &str) -> Result<Step, NoMemory>
+    ensures { IfOk result (IsStep case.now.topology) }
 {
-    let schedule = schedule(rt, alloc, case, line);
+    let schedule = schedule(alloc, case, line)?;
     match schedule.steps().first() {
-        Some(step) => *step,
-        None => rt.panic("no step"),
+        Some(step) => Ok(*step),
+        None => Err(NoMemory),
     }
 }
 
 // The schedule of a text.
-fn schedule(rt: &impl Abort, alloc: Global, case: &Case, text: &str) -> Schedule
-    ensures { All (IsStep case.now.topology) result }
+fn schedule(alloc: Global, case: &Case, text: &str) -> Result<Schedule, NoMemory>
+    ensures { IfOk result (λ steps. All (IsStep case.now.topology) steps) }
 {
     let bytes = text.as_bytes();
     if bytes.len() > 1 << 20 {
-        rt.panic("too long")
+        return Err(NoMemory);
     }
-    made(rt, read_schedule(alloc, bytes, case))
+    match read_schedule(alloc, bytes, case) {
+        Ok(schedule) => Ok(schedule),
+        Err(_) => Err(NoMemory),
+    }
 }
 
 // What the step of a line answers. No other function does a step, since each that does carries what its clauses tell.
 fn answer(
-    rt: &impl Abort,
     alloc: Global,
     world: &mut World<'_, MemKeeper, Kinds>,
     line: &str,
-) -> Result<Outcome, NodeFault> {
+) -> Result<Result<Outcome, NodeFault>, NoMemory> {
     let case = world.book().case();
-    let step = step(rt, alloc, case, line);
-    world.step(alloc, &step)
+    let step = step(alloc, case, line)?;
+    Ok(world.step(alloc, &step))
 }
 
 // An answer, as a script has it: its word, and its number where it has one.
@@ -146,11 +153,15 @@ fn fault_said(fault: &NodeFault) -> Said {
     }
 }
 
-// How a script has what a step answers.
-fn step_said(answer: &Result<Outcome, NodeFault>) -> Said {
-    match answer {
-        Ok(outcome) => outcome_said(outcome),
-        Err(fault) => fault_said(fault),
+// How a script has what the step of a line answers.
+fn step_said(
+    alloc: Global,
+    world: &mut World<'_, MemKeeper, Kinds>,
+    line: &str,
+) -> Result<Said, NoMemory> {
+    match answer(alloc, world, line)? {
+        Ok(outcome) => Ok(outcome_said(&outcome)),
+        Err(fault) => Ok(fault_said(&fault)),
     }
 }
 
@@ -172,51 +183,72 @@ fn drain_said(alloc: Global, world: &mut World<'_, MemKeeper, Kinds>) -> Said {
 
 // What a script has beside the left side of a line.
 fn said(
-    rt: &impl Abort,
     alloc: Global,
     world: &mut World<'_, MemKeeper, Kinds>,
     asked: &str,
-) -> Said {
+) -> Result<Said, NoMemory> {
     if asked == "drain" {
-        return drain_said(alloc, world);
+        return Ok(drain_said(alloc, world));
     }
     if asked == "last" {
-        return floor_said(world.book().history().entries());
+        return Ok(floor_said(world.book().history().entries()));
     }
-    let answer = answer(rt, alloc, world, asked);
-    let said = step_said(&answer);
-    drop(answer);
-    said
+    step_said(alloc, world, asked)
 }
 
 // Whether an answer is written so.
-fn is_written(rt: &impl Abort, alloc: Global, said: Said, want: &str) -> bool {
+fn is_written(alloc: Global, said: Said, want: &str) -> Result<bool, NoMemory> {
     match said {
-        (word, None) => word == want,
-        (word, Some(number)) => made(rt, format!(in alloc; "{word} {number}")).as_str() == want,
+        (word, None) => Ok(word == want),
+        (word, Some(number)) => {
+            let text = format!(in alloc; "{word} {number}")?;
+            let is_so = text.as_str() == want;
+            drop(text);
+            Ok(is_so)
+        }
     }
 }
 
-// Does each step of a script over a world.
-fn do_steps(
-    rt: &impl Abort,
+// Whether one line of a script holds.
+fn holds(
     alloc: Global,
     world: &mut World<'_, MemKeeper, Kinds>,
-    name: &str,
-    script: &str,
-) {
-    for line in script.split('\n') {
-        let (asked, want) = sides(line);
-        let said = said(rt, alloc, world, asked);
-        assert!(rt; is_written(rt, alloc, said, want), "{name}: {line}");
-    }
+    line: &str,
+) -> Result<bool, NoMemory> {
+    let (asked, want) = sides(line);
+    let answer = said(alloc, world, asked)?;
+    is_written(alloc, answer, want)
 }
 
-/// Does each step of a script over a new world of the first example and this keeper.
-pub(super) fn do_all(rt: &impl Abort, alloc: Global, keeper: MemKeeper, name: &str, script: &str) {
-    let case = case(rt, alloc);
-    let mut world = world(rt, alloc, &case, keeper);
-    do_steps(rt, alloc, &mut world, name, script);
-    drop(world);
+// Does each step of a script, and answers the number of the first line that does not hold, from 1, or 0.
+fn first_wrong(
+    alloc: Global,
+    world: &mut World<'_, MemKeeper, Kinds>,
+    script: &str,
+) -> Result<u64, NoMemory> {
+    let mut number: u64 = 0;
+    for line in script.split('\n') {
+        number = number.saturating_add(1);
+        if !holds(alloc, world, line)? {
+            return Ok(number);
+        }
+    }
+    Ok(0)
+}
+
+/// The number of the first line of a script that does not hold, or 0, over a new world of the first example and this
+/// keeper.
+pub(super) fn wrong_over(alloc: Global, keeper: MemKeeper, script: &str) -> Result<u64, NoMemory> {
+    let case = case(alloc)?;
+    let wrong = wrong_of(alloc, &case, keeper, script);
     drop(case);
+    wrong
+}
+
+// The same over this case.
+fn wrong_of(alloc: Global, case: &Case, keeper: MemKeeper, script: &str) -> Result<u64, NoMemory> {
+    let mut world = world(alloc, case, keeper)?;
+    let wrong = first_wrong(alloc, &mut world, script);
+    drop(world);
+    wrong
 }

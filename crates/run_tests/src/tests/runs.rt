@@ -1,7 +1,7 @@
 //! Runs, each with its plan: their claims, and the text that one thread writes too.
 use super::calls::{COUNT, CUTS, Files};
 use super::looks::{Claims, has_claims, is_audited, keeper_fails, write_the_same};
-use super::must;
+use std::test::Fail;
 
 // A stall, a crash, a move, and the three that change what is sent.
 const PLAN: &str = "at 2 stall 1
@@ -115,25 +115,25 @@ static RUNS: [(&str, Files<'static>, Claims<'static>); 7] = [
 ];
 
 #[test]
-fn each_run_has_its_claims(rt: HostRuntime) {
+fn each_run_has_its_claims(rt: HostRuntime) -> Result<(), Fail> {
     for (line, files, claims) in &RUNS {
-        must(
-            &rt,
-            has_claims(&rt, rt.alloc(), line, *files, claims),
-            *line,
+        assert!(rt;
+            has_claims(&rt, rt.alloc(), line, *files, claims)?,
+            "{line}"
         );
     }
+    Ok(())
 }
 
 #[test]
-fn each_run_writes_what_one_thread_writes(rt: HostRuntime) {
+fn each_run_writes_what_one_thread_writes(rt: HostRuntime) -> Result<(), Fail> {
     for (line, files, _) in &RUNS {
-        must(
-            &rt,
-            write_the_same(&rt, rt.alloc(), line, SOLO, *files),
-            *line,
+        assert!(rt;
+            write_the_same(&rt, rt.alloc(), line, SOLO, *files)?,
+            "{line}"
         );
     }
+    Ok(())
 }
 
 // Lines of runs, and their topologies.
@@ -143,29 +143,33 @@ static AUDITED: [(&str, &str); 2] = [
 ];
 
 #[test]
-fn a_runs_own_text_is_accepted(rt: HostRuntime) {
+fn a_runs_own_text_is_accepted(rt: HostRuntime) -> Result<(), Fail> {
     for (line, topology) in &AUDITED {
-        must(&rt, is_audited(&rt, rt.alloc(), line, topology), *line);
+        assert!(rt; is_audited(&rt, rt.alloc(), line, topology)?, "{line}");
     }
+    Ok(())
 }
 
 #[test]
-fn four_threads_end_twenty_times_as_one_does(rt: HostRuntime) {
-    for time in 0..20u32 {
-        let is_same = write_the_same(&rt, rt.alloc(), PLANNED, SOLO, (CUTS, PLAN));
-        must(&rt, is_same, time);
+fn four_threads_end_twenty_times_as_one_does(rt: HostRuntime) -> Result<(), Fail> {
+    for time in 0..20 {
+        assert!(rt;
+            write_the_same(&rt, rt.alloc(), PLANNED, SOLO, (CUTS, PLAN))?,
+            "{time}"
+        );
     }
+    Ok(())
 }
 
-// The keeper's call that fails, and how many entries there are then. The first call of the keeper asks for a row, and each
-// claim for the rows of its interval.
-static FAILING: [(u64, usize); 5] = [(0, 0), (1, 0), (2, 1), (3, 2), (4, 3)];
-
+// The first call of the keeper asks for a row, and each claim for the rows of its interval.
 #[test]
-fn a_keeper_that_fails_at_a_first_claim_ends_the_run(rt: HostRuntime) {
-    for (call, entries) in &FAILING {
+fn a_keeper_that_fails_at_a_first_claim_ends_the_run(rt: HostRuntime) -> Result<(), Fail> {
+    for (call, entries) in &[(0, 0), (1, 0), (2, 1), (3, 2), (4, 3)] {
         let line = "run --workers 3 --rounds 4 t.json e";
-        let is_so = keeper_fails(&rt, rt.alloc(), line, (CUTS, ""), *call, *entries);
-        must(&rt, is_so, *call);
+        assert!(rt;
+            keeper_fails(&rt, rt.alloc(), line, (CUTS, ""), *call, *entries)?,
+            "{call}"
+        );
     }
+    Ok(())
 }
