@@ -89,7 +89,11 @@ pub fn millwheel_alone<S: Shelf, K: Keeper, O: Sink>(
     ensures out_later { O.faults out.old ≤ O.faults out.new }
 {
     match read_alone(alloc, words) {
-        Ok(command) => called_alone(alloc, &command.call, shelf, keeper, out),
+        Ok(command) => {
+            let done = called_alone(alloc, &command.call, shelf, keeper, out);
+            drop(command);
+            done
+        }
         Err(refusal) => unbegun(alloc, status_of_words(refusal), keeper),
     }
 }

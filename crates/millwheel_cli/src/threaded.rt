@@ -107,7 +107,11 @@ where
     ensures out_later { O.faults out.old ≤ O.faults out.new }
 {
     match read_words(alloc, words) {
-        Ok(command) => called(rt, alloc, &command.call, shelf, keeper, out, gate),
+        Ok(command) => {
+            let done = called(rt, alloc, &command.call, shelf, keeper, out, gate);
+            drop(command);
+            done
+        }
         Err(refusal) => unbegun(alloc, status_of_words(refusal), keeper),
     }
 }

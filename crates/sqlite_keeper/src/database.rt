@@ -28,13 +28,19 @@ const FIRST: &str = "SELECT part, key, bytes FROM rows ORDER BY part, key LIMIT 
 // a run as slow as the disk.
 const PUTS: u32 = 250;
 
+// The statements on the table.
+#[derive(Drop)]
+struct Statements {
+    put: Statement,
+    range: Statement,
+    first: Statement,
+}
+
 /// A connection to a database with the table, and the statements on it.
 #[derive(Drop)]
 pub(crate) struct Database {
     connection: Connection<FileStore<File>>,
-    put: Statement,
-    range: Statement,
-    first: Statement,
+    statements: Statements,
     // How many puts are not committed yet.
     waiting: u32,
     // Whether puts that were answered are undone, since a transaction failed.
@@ -46,17 +52,18 @@ impl Database {
     /// it is dropped.
     pub(crate) fn at(rt: &HostRuntime, name: &str) -> Result<Database, Error> {
         let mut connection = opened(rt, name)?;
-        let put = prepared(&mut connection, PUT)?;
-        let range = prepared(&mut connection, RANGE)?;
-        let first = prepared(&mut connection, FIRST)?;
-        Ok(Database {
-            connection,
-            put,
-            range,
-            first,
-            waiting: 0,
-            undone: false,
-        })
+        match all_prepared(&mut connection) {
+            Ok(statements) => Ok(Database {
+                connection,
+                statements,
+                waiting: 0,
+                undone: false,
+            }),
+            Err(error) => {
+                drop(connection);
+                Err(error)
+            }
+        }
     }
 
     /// Sets the bytes of a row. So many puts are one transaction, and where one of them fails so that all
@@ -87,7 +94,7 @@ impl Database {
     /// The row with the least name, as a list of one row or none.
     pub(crate) fn first(&mut self) -> Result<Vec<Row>, KeeperFault> {
         self.standing()?;
-        match self.first.query_all(&mut self.connection, &[]) {
+        match self.statements.first.query_all(&mut self.connection, &[]) {
             Ok(rows) => Ok(rows),
             Err(error) => Err(fault_of(error)),
         }
@@ -157,7 +164,8 @@ impl Database {
     // Sets the bytes of a row, in the open transaction.
     fn set(&mut self, name: &RowName, bytes: &[u8]) -> Result<(), Error> {
         let key = name.key.text().as_bytes();
-        self.put
+        self.statements
+            .put
             .execute(&mut self.connection, params![name.part, key, bytes])?;
         Ok(())
     }
@@ -169,7 +177,8 @@ impl Database {
             Some(key) => Some(key.text().as_bytes()),
             None => None,
         };
-        self.range
+        self.statements
+            .range
             .query_all(&mut self.connection, params![bounds.part, from, to])
     }
 }
@@ -178,15 +187,11 @@ impl Database {
 fn shut(database: Database) -> Result<(), KeeperFault> {
     let Database {
         connection,
-        put,
-        range,
-        first,
+        statements,
         waiting: _,
         undone: _,
     } = database;
-    drop(put);
-    drop(range);
-    drop(first);
+    drop(statements);
     match connection.close() {
         Ok(()) => Ok(()),
         Err(error) => Err(fault_of(error)),
@@ -196,8 +201,33 @@ fn shut(database: Database) -> Result<(), KeeperFault> {
 // Opens a database that has the table.
 fn opened(rt: &HostRuntime, name: &str) -> Result<Connection<FileStore<File>>, Error> {
     let mut connection = Connection::open(rt, name)?;
-    connection.execute_batch(TABLE)?;
-    Ok(connection)
+    match connection.execute_batch(TABLE) {
+        Ok(_) => Ok(connection),
+        Err(error) => {
+            drop(connection);
+            Err(error)
+        }
+    }
+}
+
+// Prepares the statements.
+fn all_prepared(connection: &mut Connection<FileStore<File>>) -> Result<Statements, Error> {
+    let put = prepared(connection, PUT)?;
+    let range = match prepared(connection, RANGE) {
+        Ok(range) => range,
+        Err(error) => {
+            drop(put);
+            return Err(error);
+        }
+    };
+    match prepared(connection, FIRST) {
+        Ok(first) => Ok(Statements { put, range, first }),
+        Err(error) => {
+            drop(put);
+            drop(range);
+            Err(error)
+        }
+    }
 }
 
 // Prepares one statement. It is refused where the table has other columns or another key.

@@ -161,7 +161,10 @@ fn put(flight: &mut Flight, message: Message<NoNote>) -> Result<Outcome, NodeFau
     ensures no_memory { IfErr result (λ why. why ≡ NodeFault.NoMemory) }
 {
     let number = flight.len() as u32;
-    make_room(flight, 1)?;
+    if let Err(want) = make_room(flight, 1) {
+        drop(message);
+        return Err(want.into());
+    }
     flight.push_reserved(Some(message));
     Ok(Outcome::Copied { message: number })
 }

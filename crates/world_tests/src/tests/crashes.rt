@@ -1,6 +1,6 @@
 //! Workers that crash, and records that come late.
+use super::must_be_none;
 use super::tables::wrong_in;
-use std::test::Fail;
 
 // The record is copied, handled and acknowledged, and its row forgets its id; then the copy comes.
 const LATE_COPY: &str = "claim 0 0 = Claimed 0
@@ -68,15 +68,13 @@ last = Claim 1
 count = entries 16";
 
 #[test]
-fn a_crash_or_a_late_copy_changes_nothing_that_is_written(rt: HostRuntime) -> Result<(), Fail> {
+fn a_crash_or_a_late_copy_changes_nothing_that_is_written(rt: HostRuntime) {
     for (name, table) in &[
         ("late copy is duplicate", LATE_COPY),
         ("crash between write and send", UNSENT),
         ("crash before write", UNWRITTEN),
         ("a second drain claims alone", SECOND_DRAIN),
     ] {
-        let line = wrong_in(rt.alloc(), table)?;
-        assert!(rt; line == 0, "{name}: line {line}");
+        must_be_none(&rt, wrong_in(&rt, rt.alloc(), table), name);
     }
-    Ok(())
 }

@@ -1,9 +1,9 @@
 //! A keeper that does not tell its rows, a keeper that fails, and a book that is full.
 use super::fixtures::{CHAIN, COUNT, EVENTS, MARKED, MOST, PASSED, blind_keeper};
+use super::must_be_none;
 use super::tables::{wrong_line, wrong_over, wrong_where};
-use mw_types::NoMemory;
 use std::alloc::Global;
-use std::test::Fail;
+use std::process::Abort;
 
 // A row of the count that has handled nothing.
 const NEW_ROW: &[u8] = &[
@@ -54,21 +54,20 @@ last = Claim 0
 count = entries 3";
 
 // The first wrong line over a keeper that does not tell, and shows these bytes.
-fn wrong_untold(alloc: Global, events: &str, shown: &[u8], table: &str) -> Result<u64, NoMemory> {
-    let keeper = blind_keeper(alloc, shown)?;
-    wrong_over(alloc, (COUNT, events), keeper, MOST, table)
+fn wrong_untold(rt: &impl Abort, alloc: Global, events: &str, shown: &[u8], table: &str) -> u64 {
+    let keeper = blind_keeper(rt, alloc, shown);
+    wrong_over(rt, alloc, (COUNT, events), keeper, MOST, table)
 }
 
 #[test]
-fn a_keeper_does_not_tell_or_shows_what_is_no_row(rt: HostRuntime) -> Result<(), Fail> {
+fn a_keeper_does_not_tell_or_shows_what_is_no_row(rt: HostRuntime) {
     for (name, events, shown, table) in &[
         ("a keeper that does not tell", MARKED, NEW_ROW, UNTOLD),
         ("a row that is damaged", EVENTS, NO_ROW, DAMAGED),
     ] {
-        let line = wrong_untold(rt.alloc(), events, shown, table)?;
-        assert!(rt; line == 0, "{name}: line {line}");
+        let line = wrong_untold(&rt, rt.alloc(), events, shown, table);
+        must_be_none(&rt, line, name);
     }
-    Ok(())
 }
 
 // A step whose call of the keeper fails leaves the world as it was, but that a message which was taken is
@@ -170,12 +169,11 @@ static TABLES: [Failing; 3] = [
 ];
 
 #[test]
-fn a_step_whose_keeper_fails_is_not_done(rt: HostRuntime) -> Result<(), Fail> {
+fn a_step_whose_keeper_fails_is_not_done(rt: HostRuntime) {
     for (name, case, failing, table) in &TABLES {
-        let line = wrong_where(rt.alloc(), *case, failing, table)?;
-        assert!(rt; line == 0, "{name}: line {line}");
+        let line = wrong_where(&rt, rt.alloc(), *case, failing, table);
+        must_be_none(&rt, line, name);
     }
-    Ok(())
 }
 
 // A book that takes three entries refuses the steps that would append a fourth, and no other.
@@ -217,18 +215,16 @@ write 0 = Nothing
 count = entries 4";
 
 // The first wrong line over a book that takes three entries, or four.
-fn wrong_full(alloc: Global, limit: u32) -> Result<u64, NoMemory> {
+fn wrong_full(rt: &impl Abort, alloc: Global, limit: u32) -> u64 {
     match limit {
-        3 => wrong_line(alloc, (COUNT, EVENTS), &[], 3, FULL),
-        _ => wrong_line(alloc, (COUNT, EVENTS), &[], 4, STALE_AND_FULL),
+        3 => wrong_line(rt, alloc, (COUNT, EVENTS), &[], 3, FULL),
+        _ => wrong_line(rt, alloc, (COUNT, EVENTS), &[], 4, STALE_AND_FULL),
     }
 }
 
 #[test]
-fn a_full_history_takes_no_entry(rt: HostRuntime) -> Result<(), Fail> {
-    for limit in &[3, 4] {
-        let line = wrong_full(rt.alloc(), *limit)?;
-        assert!(rt; line == 0, "{limit}: line {line}");
+fn a_full_history_takes_no_entry(rt: HostRuntime) {
+    for (name, limit) in &[("three entries", 3), ("four entries", 4)] {
+        must_be_none(&rt, wrong_full(&rt, rt.alloc(), *limit), name);
     }
-    Ok(())
 }

@@ -1,16 +1,18 @@
 //! The cases, the keepers and the worlds of the tests.
-ghost use Rattle.std.specs.Prelude.{◌≡◌, ◌≤◌, ◌^◌, IfOk, length};
+ghost use Rattle.std.specs.Prelude.{◌≡◌, ◌≤◌, ◌^◌, length};
 ghost use Rattle.topology.specs.Shapes.{injectors_of};
 ghost use Rattle.node.specs.Works.{IsWorkOf};
 ghost use Rattle.computations.specs.Parts.{HasState, part_record, part_timer};
 
+use super::made;
 use book::Book;
 use computations::Kinds;
 use injector::{Items, ItemsList, read_lines};
-use mw_types::{Bytes, CallList, Key, NoMemory, RowName};
+use mw_types::{Bytes, CallList, Key, RowName};
 use row_keeper::{BlindKeeper, Keeper, KeptRow, MemKeeper};
 use run_history::Case;
 use std::alloc::Global;
+use std::process::Abort;
 use topology::{Topology, read};
 use world::World;
 
@@ -45,93 +47,78 @@ pub const MARKED: &str = r#"{"key":"a","ts":10}
 pub const MOST: u64 = 1 << 32;
 
 // The topology of a text, which has one injector.
-fn topology_of(alloc: Global, text: &str) -> Result<Topology, NoMemory>
-    ensures { IfOk result (λ topology. injectors_of topology ≡ 1) }
+fn topology_of(rt: &impl Abort, alloc: Global, text: &str) -> Topology
+    ensures { injectors_of result ≡ 1 }
 {
-    let Ok(topology) = read(alloc, text.as_bytes()) else {
-        return Err(NoMemory);
-    };
-    if topology.injectors() == 1 {
-        Ok(topology)
-    } else {
-        Err(NoMemory)
+    let topology = made(rt, read(alloc, text.as_bytes()));
+    if topology.injectors() != 1 {
+        rt.panic("the topology has other injectors");
     }
+    topology
 }
 
 // The lines of an event file.
-fn lines(alloc: Global, events: &str) -> Result<Items, NoMemory> {
+fn lines(rt: &impl Abort, alloc: Global, events: &str) -> Items {
     let bytes = events.as_bytes();
     if bytes.len() > 1 << 20 {
-        return Err(NoMemory);
+        rt.panic("the events are too long");
     }
-    match read_lines(alloc, bytes, 1 << 18) {
-        Ok(items) => Ok(items),
-        Err(_) => Err(NoMemory),
-    }
+    made(rt, read_lines(alloc, bytes, 1 << 18))
 }
 
 /// The case of a topology of one injector over this event file.
-pub(crate) fn case(alloc: Global, topology: &str, events: &str) -> Result<Case, NoMemory> {
-    let items = items(alloc, events)?;
-    let topology = topology_of(alloc, topology)?;
-    Case::of(alloc, topology, items)
+pub(crate) fn case(rt: &impl Abort, alloc: Global, topology: &str, events: &str) -> Case {
+    let items = items(rt, alloc, events);
+    let topology = topology_of(rt, alloc, topology);
+    made(rt, Case::of(alloc, topology, items))
 }
 
 // The lines of an event file, as those of the one injector.
-fn items(alloc: Global, events: &str) -> Result<ItemsList, NoMemory>
-    ensures { IfOk result (λ items. length items ≡ 1) }
+fn items(rt: &impl Abort, alloc: Global, events: &str) -> ItemsList
+    ensures { length result ≡ 1 }
 {
-    let lines = lines(alloc, events)?;
+    let lines = lines(rt, alloc, events);
     let mut items = ItemsList::new(alloc);
-    items.push(lines)?;
-    Ok(items)
+    made(rt, items.push(lines));
+    items
 }
 
 // A keeper in memory whose calls of these numbers fail. The first is that of the book's start.
-pub(crate) fn keeper(alloc: Global, failing: &[u64]) -> Result<MemKeeper, NoMemory> {
+pub(crate) fn keeper(rt: &impl Abort, alloc: Global, failing: &[u64]) -> MemKeeper {
     let mut calls = CallList::new(alloc);
     for number in failing {
-        calls.push(*number)?;
+        made(rt, calls.push(*number));
     }
-    Ok(MemKeeper::new(alloc, calls))
+    MemKeeper::new(alloc, calls)
 }
 
 // A keeper that does not tell its rows, and shows these bytes for the key `z` of the count.
-pub(crate) fn blind_keeper(alloc: Global, shown: &[u8]) -> Result<BlindKeeper, NoMemory> {
-    let Ok(key) = Key::of(alloc, "z") else {
-        return Err(NoMemory);
-    };
-    let bytes = Bytes::from_vec(shown.to_vec(alloc)?);
+pub(crate) fn blind_keeper(rt: &impl Abort, alloc: Global, shown: &[u8]) -> BlindKeeper {
+    let key = made(rt, Key::of(alloc, "z"));
+    let bytes = Bytes::from_vec(made(rt, shown.to_vec(alloc)));
     let name = RowName { part: 1, key };
-    Ok(BlindKeeper::new(KeptRow { name, bytes }))
+    BlindKeeper::new(KeptRow { name, bytes })
 }
 
 // The computations of a case.
-fn work(alloc: Global, case: &Case) -> Result<Kinds, NoMemory>
-    ensures { IfOk result (λ kinds. IsWorkOf case.now.topology
-        (HasState kinds) (part_record kinds) (part_timer kinds)) }
+fn work(rt: &impl Abort, alloc: Global, case: &Case) -> Kinds
+    ensures { IsWorkOf case.now.topology
+        (HasState result) (part_record result) (part_timer result) }
 {
-    match Kinds::of(alloc, &case.topology) {
-        Ok(kinds) => Ok(kinds),
-        Err(NoMemory) => Err(NoMemory),
-    }
+    made(rt, Kinds::of(alloc, &case.topology))
 }
 
 // A world over a new book of a case, which takes so many entries.
 pub(crate) fn world<'a, K: Keeper>(
+    rt: &impl Abort,
     alloc: Global,
     case: &'a Case,
     keeper: K,
     limit: u64,
-) -> Result<World<'a, K, Kinds>, NoMemory>
+) -> World<'a, K, Kinds>
     requires { limit ≤ 2 ^ 32 }
 {
-    let work = work(alloc, case)?;
-    let Ok(book) = Book::start(alloc, case, keeper, limit) else {
-        return Err(NoMemory);
-    };
-    match World::start(alloc, book, work) {
-        Ok(world) => Ok(world),
-        Err(_) => Err(NoMemory),
-    }
+    let work = work(rt, alloc, case);
+    let book = made(rt, Book::start(alloc, case, keeper, limit));
+    made(rt, World::start(alloc, book, work))
 }

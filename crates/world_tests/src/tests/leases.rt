@@ -1,6 +1,6 @@
 //! Leases that were overtaken, and workers without one.
+use super::must_be_none;
 use super::tables::wrong_in;
-use std::test::Fail;
 
 // The second worker claims the count while the first has prepared a record of it. The record is sent once
 // more, to its new owner. Two claims, two lines and what comes of each, two timers and a purge follow.
@@ -89,15 +89,13 @@ drain = Ok
 count = entries 16";
 
 #[test]
-fn a_lease_that_was_overtaken_is_stale(rt: HostRuntime) -> Result<(), Fail> {
+fn a_lease_that_was_overtaken_is_stale(rt: HostRuntime) {
     for (name, table) in &[
         ("old owner is stale", OLD_OWNER),
         ("a report is stale once", STALE_REPORT),
         ("an acknowledgement is stale", STALE_ACK),
         ("a worker resends until its lease is stale", RESENT),
     ] {
-        let line = wrong_in(rt.alloc(), table)?;
-        assert!(rt; line == 0, "{name}: line {line}");
+        must_be_none(&rt, wrong_in(&rt, rt.alloc(), table), name);
     }
-    Ok(())
 }

@@ -1,6 +1,6 @@
 //! Messages that are lost, copied, taken and gone, and steps that have nothing to do.
+use super::must_be_none;
 use super::tables::wrong_in;
-use std::test::Fail;
 
 // A message that was lost is gone, and its record is sent once more.
 const LOST: &str = "claim 0 0 = Claimed 0
@@ -133,27 +133,23 @@ drain = Ok
 count = entries 15";
 
 #[test]
-fn a_message_is_taken_once_and_by_its_worker(rt: HostRuntime) -> Result<(), Fail> {
+fn a_message_is_taken_once_and_by_its_worker(rt: HostRuntime) {
     for (name, table) in &[
         ("a lost record is sent again", LOST),
         ("a message for another stays", NOT_MINE),
         ("a message that is gone is nothing", GONE),
         ("a record waits while one is prepared", WAITING),
     ] {
-        let line = wrong_in(rt.alloc(), table)?;
-        assert!(rt; line == 0, "{name}: line {line}");
+        must_be_none(&rt, wrong_in(&rt, rt.alloc(), table), name);
     }
-    Ok(())
 }
 
 #[test]
-fn a_step_that_has_nothing_to_do_is_nothing(rt: HostRuntime) -> Result<(), Fail> {
+fn a_step_that_has_nothing_to_do_is_nothing(rt: HostRuntime) {
     for (name, table) in &[
         ("nothing to do is nothing", NOTHING_TO_DO),
         ("no line is left", NO_LINE),
     ] {
-        let line = wrong_in(rt.alloc(), table)?;
-        assert!(rt; line == 0, "{name}: line {line}");
+        must_be_none(&rt, wrong_in(&rt, rt.alloc(), table), name);
     }
-    Ok(())
 }

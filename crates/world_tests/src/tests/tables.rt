@@ -3,54 +3,54 @@
 //! A line of a table is a line of a schedule and, after ` = `, what that step answers. Three more words may
 //! stand for a step: `drain`, after which the world is drained, `count`, beside which stands how many
 //! entries there are, and `last`, beside which stands the last of them.
-ghost use Rattle.std.specs.Prelude.{◌≤◌, ◌^◌, All, IfOk};
+ghost use Rattle.std.specs.Prelude.{◌≤◌, ◌^◌, All};
 ghost use Rattle.scripts.specs.Steps.{IsStep};
 
 use super::fixtures::{COUNT, EVENTS, MOST, case, keeper, world};
+use super::made;
 use computations::Kinds;
-use mw_types::{Entry, NoMemory};
+use mw_types::Entry;
 use node::{NodeFault, Outcome};
 use row_keeper::Keeper;
 use run_history::Case;
 use schedules::{Schedule, read_schedule};
 use std::alloc::Global;
+use std::process::Abort;
 use world::{Step, World};
 
 // The schedule of a text.
-pub(crate) fn schedule(alloc: Global, case: &Case, text: &str) -> Result<Schedule, NoMemory>
-    ensures { IfOk result (λ steps. All (IsStep case.now.topology) steps) }
+pub(crate) fn schedule(rt: &impl Abort, alloc: Global, case: &Case, text: &str) -> Schedule
+    ensures { All (IsStep case.now.topology) result }
 {
     let bytes = text.as_bytes();
     if bytes.len() > 1 << 20 {
-        return Err(NoMemory);
+        rt.panic("the schedule is too long");
     }
-    match read_schedule(alloc, bytes, case) {
-        Ok(schedule) => Ok(schedule),
-        Err(_) => Err(NoMemory),
-    }
+    made(rt, read_schedule(alloc, bytes, case))
 }
 
 // The one step of a line.
-fn step(alloc: Global, case: &Case, line: &str) -> Result<Step, NoMemory>
-    ensures { IfOk result (IsStep case.now.topology) }
+fn step(rt: &impl Abort, alloc: Global, case: &Case, line: &str) -> Step
+    ensures { IsStep case.now.topology result }
 {
-    let schedule = schedule(alloc, case, line)?;
+    let schedule = schedule(rt, alloc, case, line);
     match schedule.steps().first() {
-        Some(step) => Ok(*step),
-        None => Err(NoMemory),
+        Some(step) => *step,
+        None => rt.panic("the line has no step"),
     }
 }
 
 // What the step of a line answers. No other function does a step, since each that does carries what
 // its clauses tell.
 fn answer<K: Keeper>(
+    rt: &impl Abort,
     alloc: Global,
     world: &mut World<'_, K, Kinds>,
     line: &str,
-) -> Result<Result<Outcome, NodeFault>, NoMemory> {
+) -> Result<Outcome, NodeFault> {
     let case = world.book().case();
-    let step = step(alloc, case, line)?;
-    Ok(world.step(alloc, &step))
+    let step = step(rt, alloc, case, line);
+    world.step(alloc, &step)
 }
 
 // An answer, as a table has it: its word, and its number where it has one.
@@ -109,137 +109,144 @@ fn drain_said<K: Keeper>(alloc: Global, world: &mut World<'_, K, Kinds>) -> Said
 
 // How a table has what the step of a line answers.
 fn step_said<K: Keeper>(
+    rt: &impl Abort,
     alloc: Global,
     world: &mut World<'_, K, Kinds>,
     line: &str,
-) -> Result<Said, NoMemory> {
-    match answer(alloc, world, line)? {
-        Ok(outcome) => Ok(outcome_said(&outcome)),
-        Err(fault) => Ok((fault_word(&fault), None)),
+) -> Said {
+    match answer(rt, alloc, world, line) {
+        Ok(outcome) => outcome_said(&outcome),
+        Err(fault) => (fault_word(&fault), None),
     }
 }
 
 // What a table has beside the left side of a line.
 fn said<K: Keeper>(
+    rt: &impl Abort,
     alloc: Global,
     world: &mut World<'_, K, Kinds>,
     asked: &str,
-) -> Result<Said, NoMemory> {
+) -> Said {
     if asked == "drain" {
-        return Ok(drain_said(alloc, world));
+        drain_said(alloc, world)
+    } else if asked == "count" {
+        ("entries", Some(world.book().history().len() as u64))
+    } else if asked == "last" {
+        last_said(world.book().history().entries())
+    } else {
+        step_said(rt, alloc, world, asked)
     }
-    if asked == "count" {
-        return Ok(("entries", Some(world.book().history().len() as u64)));
-    }
-    if asked == "last" {
-        return Ok(last_said(world.book().history().entries()));
-    }
-    step_said(alloc, world, asked)
 }
 
 // Whether an answer is written so.
-fn is_written(alloc: Global, said: Said, want: &str) -> Result<bool, NoMemory> {
+fn is_written(rt: &impl Abort, alloc: Global, said: Said, want: &str) -> bool {
     match said {
-        (word, None) => Ok(word == want),
-        (word, Some(number)) => {
-            let text = format!(in alloc; "{word} {number}")?;
-            let is_so = text.as_str() == want;
-            drop(text);
-            Ok(is_so)
-        }
+        (word, None) => word == want,
+        (word, Some(number)) => is_text(made(rt, format!(in alloc; "{word} {number}")), want),
     }
+}
+
+// Whether a text is this one.
+fn is_text(text: String, want: &str) -> bool {
+    text.as_str() == want
 }
 
 // Whether one line of a table holds.
 fn holds<K: Keeper>(
+    rt: &impl Abort,
     alloc: Global,
     world: &mut World<'_, K, Kinds>,
     line: &str,
-) -> Result<bool, NoMemory> {
+) -> bool {
     match line.split_once(" = ") {
         Some((asked, want)) => {
-            let answer = said(alloc, world, asked)?;
-            is_written(alloc, answer, want)
+            let answer = said(rt, alloc, world, asked);
+            is_written(rt, alloc, answer, want)
         }
-        None => Ok(false),
+        None => false,
     }
 }
 
 // Does each step of a table, and answers the number of the first line that does not hold, from 1, or 0.
 fn first_wrong<K: Keeper>(
+    rt: &impl Abort,
     alloc: Global,
     world: &mut World<'_, K, Kinds>,
     table: &str,
-) -> Result<u64, NoMemory> {
+) -> u64 {
     let mut number: u64 = 0;
     for line in table.split('\n') {
         number = number.saturating_add(1);
-        if !holds(alloc, world, line)? {
-            return Ok(number);
+        if !holds(rt, alloc, world, line) {
+            return number;
         }
     }
-    Ok(0)
+    0
 }
 
 /// The number of the first line of a table that does not hold, or 0, over a new world of a topology and
 /// an event file and this keeper, whose book takes so many entries.
 pub(crate) fn wrong_over<K: Keeper>(
+    rt: &impl Abort,
     alloc: Global,
     files: (&str, &str),
     keeper: K,
     limit: u64,
     table: &str,
-) -> Result<u64, NoMemory>
+) -> u64
     requires { limit ≤ 2 ^ 32 }
 {
     let (topology, events) = files;
-    let case = case(alloc, topology, events)?;
-    let wrong = wrong_of(alloc, &case, keeper, limit, table);
+    let case = case(rt, alloc, topology, events);
+    let wrong = wrong_of(rt, alloc, &case, keeper, limit, table);
     drop(case);
     wrong
 }
 
 // The same over a new world of this case.
 fn wrong_of<K: Keeper>(
+    rt: &impl Abort,
     alloc: Global,
     case: &Case,
     keeper: K,
     limit: u64,
     table: &str,
-) -> Result<u64, NoMemory>
+) -> u64
     requires { limit ≤ 2 ^ 32 }
 {
-    let mut world = world(alloc, case, keeper, limit)?;
-    let wrong = first_wrong(alloc, &mut world, table);
+    let mut world = world(rt, alloc, case, keeper, limit);
+    let wrong = first_wrong(rt, alloc, &mut world, table);
     drop(world);
     wrong
 }
 
 /// The same over a keeper in memory whose calls of these numbers fail.
 pub(crate) fn wrong_line(
+    rt: &impl Abort,
     alloc: Global,
     files: (&str, &str),
     failing: &[u64],
     limit: u64,
     table: &str,
-) -> Result<u64, NoMemory>
+) -> u64
     requires { limit ≤ 2 ^ 32 }
 {
-    let keeper = keeper(alloc, failing)?;
-    wrong_over(alloc, files, keeper, limit, table)
+    let keeper = keeper(rt, alloc, failing);
+    wrong_over(rt, alloc, files, keeper, limit, table)
 }
 
 /// The same over a book that takes as many entries as any.
 pub(crate) fn wrong_where(
+    rt: &impl Abort,
     alloc: Global,
     files: (&str, &str),
     failing: &[u64],
     table: &str,
-) -> Result<u64, NoMemory> {
-    wrong_line(alloc, files, failing, MOST, table)
+) -> u64 {
+    wrong_line(rt, alloc, files, failing, MOST, table)
 }
 
 /// The same over the count, its three records, and a keeper that does not fail.
-pub(crate) fn wrong_in(alloc: Global, table: &str) -> Result<u64, NoMemory> {
-    wrong_where(alloc, (COUNT, EVENTS), &[], table)
+pub(crate) fn wrong_in(rt: &impl Abort, alloc: Global, table: &str) -> u64 {
+    wrong_where(rt, alloc, (COUNT, EVENTS), &[], table)
 }

@@ -1,7 +1,7 @@
 //! Reports, timers and purges.
 use super::fixtures::{COUNT, MARKED};
+use super::must_be_none;
 use super::tables::{wrong_in, wrong_where};
-use std::test::Fail;
 
 // A timer fires once its interval's mark is at its time, and not while a record is prepared.
 const DUE: &str = "claim 0 0 = Claimed 0
@@ -93,20 +93,18 @@ last = Purge 17
 count = entries 18";
 
 #[test]
-fn timers_fire_when_they_are_due(rt: HostRuntime) -> Result<(), Fail> {
+fn timers_fire_when_they_are_due(rt: HostRuntime) {
     for (name, table) in &[
         ("a timer fires when it is due", DUE),
         ("the next owner reports the same", REPORTED),
     ] {
-        let line = wrong_where(rt.alloc(), (COUNT, MARKED), &[], table)?;
-        assert!(rt; line == 0, "{name}: line {line}");
+        let line = wrong_where(&rt, rt.alloc(), (COUNT, MARKED), &[], table);
+        must_be_none(&rt, line, name);
     }
-    Ok(())
 }
 
 #[test]
-fn nothing_to_forget_is_nothing(rt: HostRuntime) -> Result<(), Fail> {
-    let line = wrong_in(rt.alloc(), FORGOTTEN)?;
-    assert!(rt; line == 0, "line {line}");
-    Ok(())
+fn nothing_to_forget_is_nothing(rt: HostRuntime) {
+    let line = wrong_in(&rt, rt.alloc(), FORGOTTEN);
+    must_be_none(&rt, line, "nothing to forget");
 }

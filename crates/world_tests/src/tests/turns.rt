@@ -5,12 +5,13 @@ ghost use Rattle.world.specs.WorldDrains.{HasDrain};
 use super::fixtures::{CHAIN, COUNT, EVENTS, MARKED, MOST, case, keeper, world};
 use super::tables::last_said;
 use super::whole_scripts::runs;
+use super::{made, must};
 use computations::Kinds;
-use mw_types::{Entry, NoMemory};
+use mw_types::Entry;
 use row_keeper::{Keeper, MemKeeper};
 use run_history::Case;
 use std::alloc::Global;
-use std::test::Fail;
+use std::process::Abort;
 use world::{Drain, World};
 
 // Whether the next turn writes one entry, which is the one that these have at its place, or none where it
@@ -63,16 +64,15 @@ fn is_drained_as<K: Keeper>(
 
 // A world that has done a script, over a keeper whose calls of these numbers fail.
 fn after<'a>(
+    rt: &impl Abort,
     alloc: Global,
     case: &'a Case,
     failing: &[u64],
     script: &str,
-) -> Result<World<'a, MemKeeper, Kinds>, NoMemory> {
-    let mut world = world(alloc, case, keeper(alloc, failing)?, MOST)?;
-    match runs(alloc, &mut world, script)? {
-        Ok(()) => Ok(world),
-        Err(_) => Err(NoMemory),
-    }
+) -> World<'a, MemKeeper, Kinds> {
+    let mut world = world(rt, alloc, case, keeper(rt, alloc, failing), MOST);
+    made(rt, runs(rt, alloc, &mut world, script));
+    world
 }
 
 // Whether a world is drained by turns as its twin was at once. After a fault it is drained once more, as its
@@ -98,21 +98,48 @@ fn ends<K: Keeper>(alloc: Global, world: &mut World<'_, K, Kinds>, is_faulty: bo
 
 // Whether both ways of a drain write the same behind a script.
 fn is_one(
+    rt: &impl Abort,
     alloc: Global,
     files: (&str, &str),
     failing: &[u64],
     script: &str,
-) -> Result<bool, NoMemory> {
+) -> bool {
     let (topology, events) = files;
-    let case = case(alloc, topology, events)?;
-    let is_faulty = !failing.is_empty();
-    let mut twin = after(alloc, &case, failing, script)?;
-    if !ends(alloc, &mut twin, is_faulty) {
-        return Ok(false);
-    }
-    let mut world = after(alloc, &case, failing, script)?;
-    let whole = twin.book().history().entries();
-    Ok(agrees(alloc, &mut world, whole, is_faulty))
+    let case = case(rt, alloc, topology, events);
+    let holds = is_one_of(rt, alloc, &case, failing, script);
+    drop(case);
+    holds
+}
+
+// The same of a case.
+fn is_one_of(rt: &impl Abort, alloc: Global, case: &Case, failing: &[u64], script: &str) -> bool {
+    let mut twin = after(rt, alloc, case, failing, script);
+    let holds = ends(alloc, &mut twin, !failing.is_empty())
+        && turns_as(
+            rt,
+            alloc,
+            case,
+            failing,
+            script,
+            twin.book().history().entries(),
+        );
+    drop(twin);
+    holds
+}
+
+// Whether a drain by turns of a world behind a script writes these entries.
+fn turns_as(
+    rt: &impl Abort,
+    alloc: Global,
+    case: &Case,
+    failing: &[u64],
+    script: &str,
+    whole: &[Entry],
+) -> bool {
+    let mut world = after(rt, alloc, case, failing, script);
+    let holds = agrees(alloc, &mut world, whole, !failing.is_empty());
+    drop(world);
+    holds
 }
 
 // A worker crashes before it sends, and the record that the next owner sends again is in flight.
@@ -134,32 +161,26 @@ take 1 0
 crash 0
 ";
 
+// Scripts before a drain: of each the name, the case, the calls of the keeper that fail, and the steps.
+type Scripted = (
+    &'static str,
+    (&'static str, &'static str),
+    &'static [u64],
+    &'static str,
+);
+
+static SCRIPTS: [Scripted; 5] = [
+    ("no script", (COUNT, EVENTS), &[], ""),
+    ("a message in flight", (COUNT, EVENTS), &[], IN_FLIGHT),
+    ("a record prepared", (COUNT, MARKED), &[], PREPARED),
+    ("a chain of counts", (CHAIN, MARKED), &[], ""),
+    // The sixth call is that of the second line.
+    ("a keeper that fails once", (COUNT, EVENTS), &[6], ""),
+];
+
 #[test]
-fn a_drain_by_turns_writes_what_a_drain_does(rt: HostRuntime) -> Result<(), Fail> {
-    for (name, files, failing, script) in [
-        ("no script", (COUNT, EVENTS), [].as_slice(), ""),
-        (
-            "a message in flight",
-            (COUNT, EVENTS),
-            [].as_slice(),
-            IN_FLIGHT,
-        ),
-        (
-            "a record prepared",
-            (COUNT, MARKED),
-            [].as_slice(),
-            PREPARED,
-        ),
-        ("a chain of counts", (CHAIN, MARKED), [].as_slice(), ""),
-        // The sixth call is that of the second line.
-        (
-            "a keeper that fails once",
-            (COUNT, EVENTS),
-            [6].as_slice(),
-            "",
-        ),
-    ] {
-        assert!(rt; is_one(rt.alloc(), files, failing, script)?, "{name}");
+fn a_drain_by_turns_writes_what_a_drain_does(rt: HostRuntime) {
+    for (name, files, failing, script) in &SCRIPTS {
+        must(&rt, is_one(&rt, rt.alloc(), *files, failing, script), name);
     }
-    Ok(())
 }

@@ -1,13 +1,14 @@
 //! Whole scripts, whose answers are dropped.
 use super::fixtures::{COUNT, EVENTS, MOST, case, keeper, world};
+use super::must;
 use super::tables::schedule;
 use computations::Kinds;
-use mw_types::{Entry, NoMemory};
+use mw_types::Entry;
 use node::NodeFault;
 use row_keeper::Keeper;
 use run_history::Case;
 use std::alloc::Global;
-use std::test::Fail;
+use std::process::Abort;
 use world::{World, run_script};
 
 // A worker has prepared a record and crashes before it writes.
@@ -23,29 +24,31 @@ crash 0
 
 // Does the steps of a text. No other function runs a script.
 pub(crate) fn runs<K: Keeper>(
+    rt: &impl Abort,
     alloc: Global,
     world: &mut World<'_, K, Kinds>,
     text: &str,
-) -> Result<Result<(), NodeFault>, NoMemory> {
+) -> Result<(), NodeFault> {
     let case = world.book().case();
-    let schedule = schedule(alloc, case, text)?;
+    let schedule = schedule(rt, alloc, case, text);
     let ran = run_script(alloc, world, schedule.steps());
     drop(schedule);
-    Ok(ran)
+    ran
 }
 
 // Does the steps of a text, and says whether they end so with so many entries.
 fn leaves<K: Keeper>(
+    rt: &impl Abort,
     alloc: Global,
     world: &mut World<'_, K, Kinds>,
     text: &str,
     is_ok: bool,
     entries: usize,
-) -> Result<bool, NoMemory> {
-    let ran = runs(alloc, world, text)?;
+) -> bool {
+    let ran = runs(rt, alloc, world, text);
     let ends_so = ran.is_ok() == is_ok;
     drop(ran);
-    Ok(ends_so && world.book().history().len() == entries)
+    ends_so && world.book().history().len() == entries
 }
 
 // Drains, and says whether that goes well and leaves so many entries.
@@ -62,51 +65,53 @@ fn handles(entries: &[Entry], number: usize, commit: u64) -> bool {
 }
 
 // The drain claims as entries 3 and 4, and handles the record as entry 5.
-fn is_handled_by_the_drain(alloc: Global) -> Result<bool, NoMemory> {
-    let case = case(alloc, COUNT, EVENTS)?;
-    let is_handled = is_handled_of(alloc, &case);
+fn is_handled_by_the_drain(rt: &impl Abort, alloc: Global) -> bool {
+    let case = case(rt, alloc, COUNT, EVENTS);
+    let is_handled = is_handled_of(rt, alloc, &case);
     drop(case);
     is_handled
 }
 
 // The same of a case.
-fn is_handled_of(alloc: Global, case: &Case) -> Result<bool, NoMemory> {
-    let keeper = keeper(alloc, &[])?;
-    let mut world = world(alloc, case, keeper, MOST)?;
-    let is_left = leaves(alloc, &mut world, UNWRITTEN, true, 3);
+fn is_handled_of(rt: &impl Abort, alloc: Global, case: &Case) -> bool {
+    let keeper = keeper(rt, alloc, &[]);
+    let mut world = world(rt, alloc, case, keeper, MOST);
+    let is_left = leaves(rt, alloc, &mut world, UNWRITTEN, true, 3);
     let is_drained = drains(alloc, &mut world, 16);
     let book = world.into_book();
     let is_handled = handles(book.history().entries(), 5, 2);
     drop(book);
-    Ok(is_left? && is_drained && is_handled)
+    is_left && is_drained && is_handled
 }
 
 #[test]
-fn a_drain_handles_what_was_prepared(rt: HostRuntime) -> Result<(), Fail> {
-    assert!(rt; is_handled_by_the_drain(rt.alloc())?);
-    Ok(())
+fn a_drain_handles_what_was_prepared(rt: HostRuntime) {
+    must(
+        &rt,
+        is_handled_by_the_drain(&rt, rt.alloc()),
+        "it is handled",
+    );
 }
 
 // The fourth call of the keeper fails, which the script's third step makes.
-fn ends_at_the_fault(alloc: Global) -> Result<bool, NoMemory> {
-    let case = case(alloc, COUNT, EVENTS)?;
-    let ends = ends_of(alloc, &case);
+fn ends_at_the_fault(rt: &impl Abort, alloc: Global) -> bool {
+    let case = case(rt, alloc, COUNT, EVENTS);
+    let ends = ends_of(rt, alloc, &case);
     drop(case);
     ends
 }
 
 // The same of a case.
-fn ends_of(alloc: Global, case: &Case) -> Result<bool, NoMemory> {
-    let keeper = keeper(alloc, &[3])?;
-    let mut world = world(alloc, case, keeper, MOST)?;
-    let ends = leaves(alloc, &mut world, UNWRITTEN, false, 2);
-    let goes_on = leaves(alloc, &mut world, "inject 0 0\nclaim 1 1", true, 4);
+fn ends_of(rt: &impl Abort, alloc: Global, case: &Case) -> bool {
+    let keeper = keeper(rt, alloc, &[3]);
+    let mut world = world(rt, alloc, case, keeper, MOST);
+    let ends = leaves(rt, alloc, &mut world, UNWRITTEN, false, 2);
+    let goes_on = leaves(rt, alloc, &mut world, "inject 0 0\nclaim 1 1", true, 4);
     drop(world);
-    Ok(ends? && goes_on?)
+    ends && goes_on
 }
 
 #[test]
-fn a_script_ends_at_a_fault(rt: HostRuntime) -> Result<(), Fail> {
-    assert!(rt; ends_at_the_fault(rt.alloc())?);
-    Ok(())
+fn a_script_ends_at_a_fault(rt: HostRuntime) {
+    must(&rt, ends_at_the_fault(&rt, rt.alloc()), "it ends there");
 }
