@@ -28,6 +28,7 @@ pub fn read_alone(alloc: Global, words: &[Name]) -> Result<Command, WordsRefusal
 {
     let command = read_words(alloc, words)?;
     if is_run(&command.call) {
+        drop(command);
         return Err(WordsRefusal::Usage);
     }
     Ok(command)

@@ -44,7 +44,9 @@ pub fn audited_text<S: Shelf>(
     } in IfErr result (UnlessWant (IsAuditRefused seen inputs.now trace.now)) }
 {
     let task = read_inputs(alloc, shelf, call, inputs)?;
-    trace_text(alloc, shelf, &task.case, trace)
+    let text = trace_text(alloc, shelf, &task.case, trace);
+    drop(task);
+    text
 }
 
 // What is written of the trace in the file of that name, of a run of this case.

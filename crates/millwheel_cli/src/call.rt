@@ -117,8 +117,13 @@ fn read_first<S: Shelf>(
     } in IfErr result (UnlessWant (IsRefusedFirst seen call.now inputs.now)) }
 {
     let bare = read_bare(alloc, shelf, inputs)?;
-    let before = read_before(alloc, shelf, &bare, call)?;
-    Ok((bare, before))
+    match read_before(alloc, shelf, &bare, call) {
+        Ok(before) => Ok((bare, before)),
+        Err(refusal) => {
+            drop(bare);
+            Err(refusal)
+        }
+    }
 }
 
 // The case of the topology, without a line.

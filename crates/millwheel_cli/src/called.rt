@@ -61,7 +61,11 @@ pub fn called_alone<S: Shelf, K: Keeper, O: Sink>(
         return write_files(alloc, call, shelf, keeper, out);
     }
     match read_task(alloc, shelf, call) {
-        Ok(task) => work_alone(alloc, call, &task, keeper, out),
+        Ok(task) => {
+            let done = work_alone(alloc, call, &task, keeper, out);
+            drop(task);
+            done
+        }
         Err(refusal) => unbegun(alloc, status_of(refusal), keeper),
     }
 }
@@ -111,7 +115,11 @@ where
         return write_files(alloc, call, shelf, keeper, out);
     }
     match read_task(alloc, shelf, call) {
-        Ok(task) => work(rt, alloc, call, &task, keeper, out, gate),
+        Ok(task) => {
+            let done = work(rt, alloc, call, &task, keeper, out, gate);
+            drop(task);
+            done
+        }
         Err(refusal) => unbegun(alloc, status_of(refusal), keeper),
     }
 }

@@ -8,7 +8,7 @@ use super::made;
 use book::Book;
 use computations::Kinds;
 use injector::{Items, ItemsList, read_lines};
-use mw_types::{Bytes, CallList, Key, RowName};
+use mw_types::{Bytes, CallList, Key, NoMemory, RowName};
 use row_keeper::{BlindKeeper, Keeper, KeptRow, MemKeeper};
 use run_history::Case;
 use std::alloc::Global;
@@ -105,7 +105,10 @@ fn work(rt: &impl Abort, alloc: Global, case: &Case) -> Kinds
     ensures { IsWorkOf case.now.topology
         (HasState result) (part_record result) (part_timer result) }
 {
-    made(rt, Kinds::of(alloc, &case.topology))
+    match Kinds::of(alloc, &case.topology) {
+        Ok(kinds) => kinds,
+        Err(NoMemory) => rt.panic("no computations were made"),
+    }
 }
 
 // A world over a new book of a case, which takes so many entries.

@@ -101,10 +101,13 @@ pub(crate) fn last_said(entries: &[Entry]) -> Said {
 
 // How a table has the end of a drain.
 fn drain_said<K: Keeper>(alloc: Global, world: &mut World<'_, K, Kinds>) -> Said {
-    match world.drain(alloc) {
+    let drained = world.drain(alloc);
+    let said = match &drained {
         Ok(()) => ("Ok", None),
-        Err(fault) => (fault_word(&fault), None),
-    }
+        Err(fault) => (fault_word(fault), None),
+    };
+    drop(drained);
+    said
 }
 
 // How a table has what the step of a line answers.
@@ -114,10 +117,13 @@ fn step_said<K: Keeper>(
     world: &mut World<'_, K, Kinds>,
     line: &str,
 ) -> Said {
-    match answer(rt, alloc, world, line) {
-        Ok(outcome) => outcome_said(&outcome),
-        Err(fault) => (fault_word(&fault), None),
-    }
+    let answer = answer(rt, alloc, world, line);
+    let said = match &answer {
+        Ok(outcome) => outcome_said(outcome),
+        Err(fault) => (fault_word(fault), None),
+    };
+    drop(answer);
+    said
 }
 
 // What a table has beside the left side of a line.
@@ -127,14 +133,11 @@ fn said<K: Keeper>(
     world: &mut World<'_, K, Kinds>,
     asked: &str,
 ) -> Said {
-    if asked == "drain" {
-        drain_said(alloc, world)
-    } else if asked == "count" {
-        ("entries", Some(world.book().history().len() as u64))
-    } else if asked == "last" {
-        last_said(world.book().history().entries())
-    } else {
-        step_said(rt, alloc, world, asked)
+    match asked {
+        "drain" => drain_said(alloc, world),
+        "count" => ("entries", Some(world.book().history().len() as u64)),
+        "last" => last_said(world.book().history().entries()),
+        _ => step_said(rt, alloc, world, asked),
     }
 }
 

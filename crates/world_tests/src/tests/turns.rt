@@ -1,10 +1,10 @@
 //! Worlds that are drained turn by turn, as their twins are drained at once.
-ghost use Rattle.std.specs.Prelude.{◌≡◌, true};
+ghost use Rattle.std.specs.Prelude.{◌≡◌, OnSome, true};
 ghost use Rattle.world.specs.WorldDrains.{HasDrain};
 
 use super::fixtures::{CHAIN, COUNT, EVENTS, MARKED, MOST, case, keeper, world};
 use super::tables::last_said;
-use super::whole_scripts::runs;
+use super::whole_scripts::{is_drained, runs};
 use super::{made, must};
 use computations::Kinds;
 use mw_types::Entry;
@@ -31,11 +31,23 @@ fn turns<K: Keeper>(
         .history()
         .len()
         .saturating_add(usize::from(is_more));
-    let Ok(more) = world.drain_turn(alloc, drain) else {
+    let Some(more) = turn(alloc, world, drain) else {
         return false;
     };
     let entries = world.book().history().entries();
     more == is_more && entries.len() == count && is_as(entries, whole)
+}
+
+// Whether the next turn writes an entry, or none after a fault.
+fn turn<K: Keeper>(
+    alloc: Global,
+    world: &mut World<'_, K, Kinds>,
+    drain: &mut Drain,
+) -> Option<bool>
+    requires drain { HasDrain world.old drain.old }
+    ensures drain { OnSome result (HasDrain world.new drain.new) }
+{
+    world.drain_turn(alloc, drain).ok()
 }
 
 // Whether a history ends as these entries do at its length.
@@ -54,12 +66,27 @@ fn is_drained_as<K: Keeper>(
 ) -> bool {
     let left = whole.len().saturating_sub(world.book().history().len());
     let mut drain = world.begin_drain(alloc);
+    let holds = turns_on(alloc, world, &mut drain, whole, left);
+    drop(drain);
+    holds
+}
+
+// Whether so many turns write one of these entries each, and two more write none.
+fn turns_on<K: Keeper>(
+    alloc: Global,
+    world: &mut World<'_, K, Kinds>,
+    drain: &mut Drain,
+    whole: &[Entry],
+    left: usize,
+) -> bool
+    requires drain { HasDrain world.old drain.old }
+{
     for _ in 0..left {
-        if !turns(alloc, world, &mut drain, whole, true) {
+        if !turns(alloc, world, drain, whole, true) {
             return false;
         }
     }
-    turns(alloc, world, &mut drain, whole, false) && turns(alloc, world, &mut drain, whole, false)
+    turns(alloc, world, drain, whole, false) && turns(alloc, world, drain, whole, false)
 }
 
 // A world that has done a script, over a keeper whose calls of these numbers fail.
@@ -93,7 +120,7 @@ fn agrees<K: Keeper>(
 
 // Drains a world at once, and once more after a fault. Whether each ends as is wanted.
 fn ends<K: Keeper>(alloc: Global, world: &mut World<'_, K, Kinds>, is_faulty: bool) -> bool {
-    world.drain(alloc).is_err() == is_faulty && (!is_faulty || world.drain(alloc).is_ok())
+    is_drained(alloc, world) != is_faulty && (!is_faulty || is_drained(alloc, world))
 }
 
 // Whether both ways of a drain write the same behind a script.

@@ -53,7 +53,15 @@ fn leaves<K: Keeper>(
 
 // Drains, and says whether that goes well and leaves so many entries.
 fn drains<K: Keeper>(alloc: Global, world: &mut World<'_, K, Kinds>, entries: usize) -> bool {
-    world.drain(alloc).is_ok() && world.book().history().len() == entries
+    is_drained(alloc, world) && world.book().history().len() == entries
+}
+
+// Drains, and says whether that goes well.
+pub(crate) fn is_drained<K: Keeper>(alloc: Global, world: &mut World<'_, K, Kinds>) -> bool {
+    let drained = world.drain(alloc);
+    let is_ok = drained.is_ok();
+    drop(drained);
+    is_ok
 }
 
 // Whether the entry of this number is that the record of that one was handled.

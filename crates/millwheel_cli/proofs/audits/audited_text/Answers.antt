@@ -20,15 +20,15 @@ returns-in_err-task-clause-refused g c =
 pub returns-clause-text : goal.returns-clause-text
 returns-clause-text g c =
     let read = c.in_ok-task.ensures in
-    IfOk-weaker c.trace_text.result _ _
+    IfOk-weaker c.trace_text-text.result _ _
     (λ text counts. run_held _ _ c.args.call.now c.args.inputs.now c.args.trace.now text _ read.files read.asked counts)
-    c.trace_text.ensures.text
+    c.trace_text-text.ensures.text
 
 -- or the trace was refused
 pub returns-clause-refused : goal.returns-clause-refused
 returns-clause-refused g c =
     let read = c.in_ok-task.ensures in
-    IfErr-weaker c.trace_text.result _ _
+    IfErr-weaker c.trace_text-text.result _ _
     (λ refusal why. audit_trace_refused _ _ _ _ _ _ _ _ c.args.call.now c.args.inputs.now c.args.trace.now _ refusal
     read.files read.asked read.faults_later read.lacks_later why)
-    c.trace_text.ensures.refused
+    c.trace_text-text.ensures.refused

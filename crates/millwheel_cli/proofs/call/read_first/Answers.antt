@@ -2,11 +2,11 @@ use Rattle.std.proofs.Common.{rules}
 use Rattle.millwheel_cli.proofs.Reasons.{plan_refused}
 use Rattle.millwheel_cli.proofs.call.read_first.Goals as goal
 
-pub returns-in_err-before-clause-refused : goal.returns-in_err-before-clause-refused
-returns-in_err-before-clause-refused g c =
+pub returns-in-Err-clause-refused : goal.returns-in-Err-clause-refused
+returns-in-Err-clause-refused g c =
     let bare = c.in_ok-bare.ensures in
     search (
       rules,
       plan_refused _ _ _ _ _ _ _ _ c.args.call.now c.args.inputs.now _ _ bare.files bare.topology bare.faults_later
-          bare.lacks_later c.in_err-before.ensures.refused,
+          bare.lacks_later c.in-Err.ensures.refused,
     )

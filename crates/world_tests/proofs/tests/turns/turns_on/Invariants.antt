@@ -1,5 +1,5 @@
 use Rattle.world.specs.WorldDrains.{HasDrain}
-use Rattle.world_tests.proofs.tests.turns.is_drained_as.Given as goal
+use Rattle.world_tests.proofs.tests.turns.turns_on.Given as goal
 
 -- the drain is under way
 abbrev pub invariant-loop : goal.invariant-loop
