@@ -160,7 +160,7 @@ ack-asked shape node sender id d sent =
     )
 
 -- none, where nothing was sent
-ack-none : (shape : Shape) (node : NodeView) (sender : RowName) (id : RecordId) → sent_at shape node sender id ≡ None
+pub ack-none : (shape : Shape) (node : NodeView) (sender : RowName) (id : RecordId) → sent_at shape node sender id ≡ None
     → settle_asked shape node sender id ≡ None
 ack-none shape node sender id none = by_place (held_on shape node.held sender) none
   where
