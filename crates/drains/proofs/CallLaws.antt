@@ -1,6 +1,6 @@
 -- What each write of a drain leaves, by what was asked for.
 use Rattle.std.proofs.Common.{◌≡◌, ◌<◌, ◌≤◌, ℕ, Bool, true, false, List, [], refl, sym, ◌∙◌, ap, subst, arith, inr}
-use Rattle.std.specs.Prelude.{Option, Some, None, IsSome, IfSome, All}
+use Rattle.std.specs.Prelude.{Option, Some, None, IsSome, IfSome, All, Result, IfOk, IfErr}
 use Rattle.std.specs.Option.{is_some, option_and_then, option_map, option_map_or}
 use Rattle.std.proofs.lemmas.List.Elements.{All-contains}
 use Rattle.list_lemmas.proofs.Lists.{none_some, some_same}
@@ -18,10 +18,13 @@ use Rattle.topology.specs.Shapes.{Shape, injectors_of, parts_of}
 use Rattle.row_parts.specs.Contents.{IsDelivery, cursor_in, found_delivery, same_id}
 use Rattle.run_history.specs.Cases.{CaseShape, record_of, source_of}
 use Rattle.run_history.specs.Fences.{interval_of, is_claim}
+use Rattle.run_history.specs.Finished.{is_handled}
 use Rattle.run_history.specs.Legal.{floor_of, timer_outcome}
 use Rattle.run_history.specs.Runs.{run_of}
 use Rattle.book.specs.Books.{BookView}
-use Rattle.book.specs.OwnDesks.{telling}
+use Rattle.book.specs.Conditions.{MaySettle}
+use Rattle.book.specs.Desking.{IsPurgeKnown}
+use Rattle.book.specs.OwnDesks.{own_view, telling}
 use Rattle.book.specs.declared.proposal.Proposal.TheVariants as proposals
 use Rattle.holdings.specs.Holding.{HeldView, held_at, held_on, row_held}
 use Rattle.node.specs.Asking.{IsNextTimer, MayAskFire, MayAskForget, MayAskPurge, Request, forgetting, line_asked, settle_asked, settling}
@@ -29,12 +32,14 @@ use Rattle.node.specs.FireSteps.{IsSetAt, IsTimerToFire}
 use Rattle.node.specs.LineSteps.{IsLineNext, injector_row}
 use Rattle.node.specs.PurgeSteps.{IsToPurge}
 use Rattle.node.specs.Workers.{NodeView}
+use Rattle.node.specs.declared.outcome.NodeFault.{NodeFault}
+use Rattle.node.specs.declared.outcome.NodeFault.TheVariants as faults
 use Rattle.node.proofs.FiringLaws.{firing, may-fire}
 use Rattle.node.proofs.LineLaws.{asked-line, injecting}
-use Rattle.node.proofs.PurgeLaws.{held-at-on, held-on-at}
+use Rattle.node.proofs.PurgeLaws.{forget-floor, held-at-on, held-on-at}
 use Rattle.node.proofs.SettleLaws.{pending-asked, settled_as}
-use Rattle.drains.specs.Turns.{CanBeKept, HasAsked, HasAskedOne, HasHandled, HasProposed, HasStepped, IsAtWork, cursor_at, is_full_at, line_at, sent_at, worker_of}
-use Rattle.drains.proofs.HeldLaws.{held-here, if-held}
+use Rattle.drains.specs.Turns.{CanBeKept, HasAsked, HasAskedOne, HasHandled, HasProposed, HasStepped, IsAtWork, IsFullAsking, cursor_at, is_full_at, line_at, sent_at, worker_of}
+use Rattle.drains.proofs.HeldLaws.{held-here, held-if, if-held}
 use Rattle.drains.proofs.InjectLaws.{line-there}
 use Rattle.drains.proofs.KnownLaws.{held-there}
 use Rattle.drains.proofs.LeastWorkLaws.{ack-none, forgets-full, full-held}
@@ -137,6 +142,18 @@ pending-here shape all to id interval here covers there sent =
     subst (λ (o : Option HeldView). is_some (option_and_then (λ (h : HeldView). found_delivery id (row_held shape h to).pending) o) ≡ true)
     (held-on-at shape all to interval here covers there) sent
 
+-- it may be settled, where its record was handled
+pub may-settle : (book : BookView) (all : List (Option HeldView)) (to : RowName) (id : RecordId) (interval : ℕ) → IsAtWork book (worker_of all)
+    → interval_of book.case.topology to ≡ Some interval → is_some (sent_at book.case.topology (worker_of all) to id) ≡ true
+    → (IsSome book.rows → is_handled id book.history ≡ true)
+    → IfSome (held_at all interval) (λ here. MaySettle (telling book.rows) book.history (row_held book.case.topology here to) id)
+may-settle book all to id interval at covers sent handled =
+    let held = held-here book all to interval at covers in
+    held-if (λ here. MaySettle (telling book.rows) book.history (row_held book.case.topology here to) id) all interval held.0 held.1 (record {
+      pending = pending-here book.case.topology all to id interval held.0 covers held.1 sent;
+      handled = told-if book.rows (is_handled id book.history ≡ true) handled;
+    })
+
 -- what was asked of it is there
 pub ack-asked : (old new : BookView) (all : List (Option HeldView)) (to : RowName) (id : RecordId) (interval : ℕ)
     → IsAtWork old (worker_of all) → interval_of old.case.topology to ≡ Some interval
@@ -199,17 +216,40 @@ full-may book all name interval here covers there full =
     }
 
 -- and has forgotten
-pub forget-asked : (old new : BookView) (all : List (Option HeldView)) (name : RowName) (interval : ℕ) → IsAtWork old (worker_of all)
-    → interval_of old.case.topology name ≡ Some interval → let floor = floor_of (run_of old.case.topology old.history) in
-    is_full_at old.case.topology (run_of old.case.topology old.history) (worker_of all) name ≡ true
+pub forget-asked : (old new : BookView) (all : List (Option HeldView)) (name : RowName) (interval floor : ℕ)
+    → floor ≡ floor_of (run_of old.case.topology old.history) → IsAtWork old (worker_of all)
+    → interval_of old.case.topology name ≡ Some interval
+    → is_full_at old.case.topology (run_of old.case.topology old.history) (worker_of all) name ≡ true
     → IfSome (held_at all interval) (λ here. HasStepped old new (Some (entries.Purge here.lease.seq name floor)))
-    → HasAskedOne old new (MayAskForget old.case.topology (worker_of all) 64 floor name) true
-forget-asked old new all name interval at covers full done =
+    → let low = floor_of (run_of old.case.topology old.history) in
+    HasAskedOne old new (MayAskForget old.case.topology (worker_of all) 64 low name) true
+forget-asked old new all name interval floor is at covers full done =
     let held = held-here old all name interval at covers in
-    let floor = floor_of (run_of old.case.topology old.history) in
-    asked-one old new (MayAskForget old.case.topology (worker_of all) 64 floor name) (forgetting held.0 name floor)
+    let low = floor_of (run_of old.case.topology old.history) in
+    asked-one old new (MayAskForget old.case.topology (worker_of all) 64 low name) (forgetting held.0 name low)
     (full-may old all name interval held.0 covers held.1 full)
-    (if-held (λ here. HasStepped old new (Some (entries.Purge here.lease.seq name floor))) all interval held.0 held.1 done)
+    (subst (λ (f : ℕ). HasStepped old new (Some (entries.Purge held.0.lease.seq name f))) is
+    (if-held (λ here. HasStepped old new (Some (entries.Purge here.lease.seq name floor))) all interval held.0 held.1 done))
+
+-- a row that is full may forget
+pub forget-known : (book : BookView) (all : List (Option HeldView)) (name : RowName) (interval floor : ℕ)
+    → floor ≡ floor_of (run_of book.case.topology book.history) → IsAtWork book (worker_of all)
+    → interval_of book.case.topology name ≡ Some interval
+    → is_full_at book.case.topology (run_of book.case.topology book.history) (worker_of all) name ≡ true
+    → name.part < parts_of book.case.topology
+    → IfSome (held_at all interval) (λ here. IsPurgeKnown (own_view book) name (row_held book.case.topology here name) floor)
+forget-known book all name interval floor is at covers full there =
+    let held = held-here book all name interval at covers in
+    let may = full-may book all name interval held.0 covers held.1 full in
+    subst (λ (f : ℕ). IfSome (held_at all interval) (λ here. IsPurgeKnown (own_view book) name (row_held book.case.topology here name) f))
+    (sym is) (forget-floor book.case (own_view book) (worker_of all) interval name (floor_of (run_of book.case.topology book.history)) at.fits
+    (forgetting held.0 name (floor_of (run_of book.case.topology book.history)), record {
+      free = refl;
+      held = may.held;
+      there = may.there;
+      forgets = record { many = let many = may.forgets.many in omega (arith, many); rises = may.forgets.rises };
+      request = may.request;
+    }) covers (omega arith))
 
 -- the first row of an interval that has ids to forget may be asked to
 pub first-may : (shape : Shape) (all : List (Option HeldView)) (interval floor : ℕ) (name : RowName)
@@ -238,6 +278,31 @@ purge-asked old new all name interval floor is done =
     (if-held (λ here. HasStepped old new (Some (entries.Purge here.lease.seq name floor))) all interval first.0 first.1 done)
 
 -- ---- timers
+
+-- a timer that is next of a part is next of the part of its row
+pub next-own : (shape : Shape) (node : NodeView) (part mark : ℕ) (name : RowName) (timer : Timer) → IsNextTimer shape node part mark name timer
+    → IsNextTimer shape node name.part mark name timer
+next-own shape node part mark name timer next =
+    subst (λ (p : ℕ). IsNextTimer shape node p mark name timer) (sym next.set.of_part) next
+
+-- what was asked for of a part, by the least mark
+pub fire-of : (old new : BookView) (node : NodeView) (part other mark low : ℕ) (result : Result Bool NodeFault) → other ≡ part → mark ≡ low
+    → IfOk result (HasAskedOne old new (MayAskFire old.case node other mark))
+    → IfOk result (HasAskedOne old new (MayAskFire old.case node part low))
+fire-of old new node part other mark low result same exact is =
+    subst (λ (m : ℕ). IfOk result (HasAskedOne old new (MayAskFire old.case node part m))) exact
+    (subst (λ (p : ℕ). IfOk result (HasAskedOne old new (MayAskFire old.case node p mark))) same is)
+
+-- and where that failed
+pub fire-fails : (case : CaseShape) (node : NodeView) (part other mark low : ℕ) (result : Result Bool NodeFault) → other ≡ part → mark ≡ low
+    → IfErr result (IsFullAsking (MayAskFire case node other mark)) → IfErr result (IsFullAsking (MayAskFire case node part low))
+fire-fails case node part other mark low result same exact is =
+    subst (λ (m : ℕ). IfErr result (IsFullAsking (MayAskFire case node part m))) exact
+    (subst (λ (p : ℕ). IfErr result (IsFullAsking (MayAskFire case node p mark))) same is)
+
+-- a call that fails for lack of memory does not fail since the history is full
+pub memory-asking : (MayAsk : Request → Type 0) (why : NodeFault) → why ≡ faults.NoMemory → IsFullAsking MayAsk why
+memory-asking MayAsk why is = λ full. absurd (let both : faults.NoMemory ≡ faults.HistoryFull = sym is ∙ full in cc)
 
 -- a timer that is next has fired
 pub fire-asked : (old new : BookView) (all : List (Option HeldView)) (name : RowName) (timer : Timer) (mark interval : ℕ)

@@ -1,20 +1,22 @@
 -- What a call on what a drain holds does to a book of its own: how the history goes on, what is held then, and why it fails.
 use Rattle.std.proofs.Common.{◌≡◌, ◌<◌, ◌∙◌, ℕ, List, [], ◌∷◌, ◌++◌, length, refl, sym, ap, subst, arith}
-use Rattle.std.specs.Prelude.{Option, Some, None, IsSome, IfSome}
+use Rattle.std.specs.Prelude.{Option, Some, None, IsSome, IfSome, unwrap_or}
 use Rattle.std.specs.Option.{option_and_then}
 use Rattle.std.proofs.lemmas.List.Elements.{All-nil}
 use Rattle.mw_types.specs.declared.entry.Entry.{Entry}
+use Rattle.mw_types.specs.declared.identity.RecordId.{RecordId}
 use Rattle.mw_types.specs.declared.identity.RowName.{RowName}
+use Rattle.topology.specs.Rules.{interval_count}
 use Rattle.topology.specs.Shapes.{Shape}
-use Rattle.row_parts.specs.Contents.{Contents}
-use Rattle.run_history.specs.Cases.{CaseShape}
+use Rattle.row_parts.specs.Contents.{Contents, found_delivery, fresh}
+use Rattle.run_history.specs.Cases.{CaseShape, fresh_of}
 use Rattle.run_history.specs.Fences.{IsCurrent, interval_of, is_claim, last_claim}
-use Rattle.run_history.specs.Runs.{written_row}
+use Rattle.run_history.specs.Runs.{cached, row_in, written_row}
 use Rattle.list_lemmas.proofs.Lists.{some_same}
 use Rattle.book.specs.Books.{BookView, LeaseView}
-use Rattle.book.specs.DeskReasons.{HasClaimReason, HasReason}
+use Rattle.book.specs.DeskReasons.{HasClaimReason, HasReason, IsReportRefusal}
 use Rattle.book.specs.Desking.{HasStored, HasWritten}
-use Rattle.book.specs.Desks.{HasLooked}
+use Rattle.book.specs.Desks.{HasLooked, IsSound}
 use Rattle.book.specs.OwnDesks.{own_view}
 use Rattle.book.specs.Proposals.{IsEntryOf}
 use Rattle.book.specs.declared.answers.Written.{Written}
@@ -22,7 +24,8 @@ use Rattle.book.specs.declared.desk_refusal.DeskRefusal.{DeskRefusal}
 use Rattle.book.specs.declared.desk_refusal.DeskRefusal.TheVariants as refusals
 use Rattle.book.specs.declared.proposal.Proposal.{Proposal}
 use Rattle.book.specs.declared.proposal.Proposal.TheVariants as proposals
-use Rattle.holdings.specs.Holding.{AreAllHeld, HeldView, HoldsClaim, HoldsEntry, IsRefusedOf, held_at, held_on}
+use Rattle.holdings.specs.Holding.{AreAllHeld, HeldView, HoldsClaim, HoldsEntry, IsRefusedOf, held_at, row_held}
+use Rattle.holdings.proofs.HeldSteps.{AreAllHeld-looked}
 use Rattle.node.specs.Answers.{refusal_of}
 use Rattle.node.specs.Fits.{Fits}
 use Rattle.node.specs.Workers.{with_lease, worker_at}
@@ -32,7 +35,7 @@ use Rattle.node.proofs.CommitLaws.{leases-written}
 use Rattle.node.proofs.FitLaws.{leases-changed, looked_not}
 use Rattle.node.proofs.PurgeLaws.{held-on-at}
 use Rattle.node.proofs.RefusedLaws.{reason-at}
-use Rattle.drains.specs.Turns.{HasFailed, HasProposed, HasStepped, HasTaken, IsAtWork, IsOwnRefusal, worker_of}
+use Rattle.drains.specs.Turns.{HasFailed, HasProposed, HasStepped, HasTaken, IsAtWork, IsOwnRefusal, sent_at, worker_of}
 use Rattle.drains.proofs.TurnLaws.{IsWrite, at_work-after, current, failed-claim, failed-refused, interval-counted, moved-before, stepped-by, stepped-looked}
 
 -- ---- what is held
@@ -227,3 +230,80 @@ claim-taken case old new interval seq was now of_case held h =
       left = (λ i. record { leases = leases i; prepared = None; outbox = [] })
           ∙ ap (λ (s : ℕ). with_lease old.case.topology interval (Some s) (worker_at (worker_of was))) same;
     }
+
+-- ---- a report
+
+-- what is held stays where a call only looked
+pub at_work-looked : (case : CaseShape) (old new : BookView) (was now : List (Option HeldView)) → case ≡ old.case → IsAtWork old (worker_of was)
+    → IsSound (own_view old) → IsSound (own_view new) → HasLooked (own_view old) (own_view new) → now ≡ was → IsAtWork new (worker_of now)
+at_work-looked case old new was now same at sound now_sound looked is =
+    let stepped = stepped-looked old new looked in
+    let kept = AreAllHeld-looked old.case (own_view old) (own_view new) was was refl sound now_sound looked (λ i. refl) at.fits.held in
+    subst (λ (all : List (Option HeldView)). IsAtWork new (worker_of all)) (sym is)
+    (at_work-after old new (worker_of was) (worker_of was) None at stepped tt (worker-fits old.case new was stepped.case kept) refl refl)
+
+-- a report under a last lease is not refused
+pub report-taken : (old new : BookView) (lease : LeaseView) (why : DeskRefusal) → IsCurrent lease.interval lease.seq old.history
+    → HasLooked (own_view old) (own_view new) → HasReason (own_view old) (own_view new) lease why → IsReportRefusal why → ⊥
+report-taken old new lease (refusals.Busy found) last looked reason only = refusal-own old new lease (refusals.Busy found) last looked reason
+report-taken old new lease (refusals.Stale newer) last looked reason only =
+    refusal-own old new lease (refusals.Stale newer) last looked reason
+report-taken old new lease refusals.HistoryFull last looked reason only = only
+report-taken old new lease refusals.KeeperFault last looked reason only = only
+report-taken old new lease (refusals.RowDamaged name bytes) last looked reason only = only
+report-taken old new lease refusals.NoMemory last looked reason only = only
+
+-- the lease of an interval is the last
+pub interval-current : (book : BookView) (all : List (Option HeldView)) (interval : ℕ) (here : HeldView) → IsAtWork book (worker_of all)
+    → interval < interval_count book.case.topology → held_at all interval ≡ Some here
+    → IsCurrent here.lease.interval here.lease.seq book.history
+interval-current book all interval here at less there =
+    let last = at.each interval less in
+    let same : last.held ≡ here = some_same last.held here (sym last.there ∙ there) in
+    let own = (at.fits.held.each interval here there).of_interval in
+    subst (λ (i : ℕ). IsCurrent i here.lease.seq book.history) (sym own)
+    (subst (λ (h : HeldView). IsCurrent interval h.lease.seq book.history) same last.last)
+
+-- ---- a row that is held
+
+-- what is cached of a row of an interval
+abbrev pub cached_at : List (Option HeldView) → ℕ → RowName → Option Contents
+cached_at all interval name = option_and_then (λ (here : HeldView). row_in (cached here.rows) name) (held_at all interval)
+
+-- a row that is cached is held
+pub row-here : (shape : Shape) (all : List (Option HeldView)) (name : RowName) (interval : ℕ) (here : HeldView) (row : Contents)
+    → held_at all interval ≡ Some here → cached_at all interval name ≡ Some row → row_held shape here name ≡ row
+row-here shape all name interval here row there is = ap (λ (o : Option Contents). unwrap_or o (fresh (fresh_of shape name.part)))
+    (sym (ap (option_and_then (λ (h : HeldView). row_in (cached h.rows) name)) there) ∙ is)
+
+-- and one that is not is fresh
+pub fresh-here : (shape : Shape) (all : List (Option HeldView)) (name : RowName) (interval : ℕ) (here : HeldView)
+    → held_at all interval ≡ Some here → cached_at all interval name ≡ None → row_held shape here name ≡ fresh (fresh_of shape name.part)
+fresh-here shape all name interval here there is = ap (λ (o : Option Contents). unwrap_or o (fresh (fresh_of shape name.part)))
+    (sym (ap (option_and_then (λ (h : HeldView). row_in (cached h.rows) name)) there) ∙ is)
+
+-- what a row has pending, by the row that is cached
+pub sent-cached : (shape : Shape) (all : List (Option HeldView)) (name : RowName) (interval : ℕ) (id : RecordId)
+    → interval_of shape name ≡ Some interval
+    → sent_at shape (worker_of all) name id ≡ option_and_then (λ (row : Contents). found_delivery id row.pending) (cached_at all interval name)
+sent-cached shape all name interval id covers =
+    ap (λ (o : Option ℕ). option_and_then (λ (h : HeldView). found_delivery id (row_held shape h name).pending)
+    (option_and_then (held_at all) o)) covers ∙ by_held (held_at all interval)
+  where
+    by_row : (o : Option Contents) → found_delivery id (unwrap_or o (fresh (fresh_of shape name.part))).pending
+        ≡ option_and_then (λ (row : Contents). found_delivery id row.pending) o
+    by_row None = refl
+    by_row (Some row) = refl
+
+    by_held : (o : Option HeldView) → option_and_then (λ (h : HeldView). found_delivery id (row_held shape h name).pending) o
+        ≡ option_and_then (λ (row : Contents). found_delivery id row.pending)
+        (option_and_then (λ (here : HeldView). row_in (cached here.rows) name) o)
+    by_held None = refl
+    by_held (Some here) = by_row (row_in (cached here.rows) name)
+
+-- by what is cached
+pub sent-by : (shape : Shape) (all : List (Option HeldView)) (name : RowName) (interval : ℕ) (id : RecordId) (row : Option Contents)
+    → interval_of shape name ≡ Some interval → row ≡ cached_at all interval name
+    → sent_at shape (worker_of all) name id ≡ option_and_then (λ (r : Contents). found_delivery id r.pending) row
+sent-by shape all name interval id row covers is =
+    sent-cached shape all name interval id covers ∙ ap (option_and_then (λ (r : Contents). found_delivery id r.pending)) (sym is)

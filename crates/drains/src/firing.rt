@@ -15,7 +15,7 @@ ghost use Rattle.drains.specs.ReportRounds.{marks_after_round};
 ghost use Rattle.drains.specs.Turns.{AreExact, HasAskedOne, HasFailed, HasReported, HasStepped, HasTurned, IsAtWork, IsFullAsking, IsFullUnended, IsQuiet, IsQuietAt, IsSettled, WhereTold, worker_of};
 
 use crate::first_timers::first_due;
-use crate::writes::{fault_of, write};
+use crate::writes::write;
 use book::{Book, Desk, OwnDesk, Proposal};
 use computations::Computation;
 use holdings::{Holdings, RowTimer};
@@ -90,9 +90,10 @@ fn raise<'a, K: Keeper>(
     ensures failed { IfErr result (HasFailed book.old book.new) }
     ensures memory { IfErr result (λ why. why ≡ NodeFault.NoMemory) }
 {
-    // Every topology keeps the rules that intervals need.
-    let _parts = book.case().topology.parts();
     let case = book.case();
+    // Every topology keeps the rules that intervals need.
+    let _parts = case.topology.parts();
+    let _all = case.intervals();
     let mut desk = OwnDesk { book };
     desk.sound();
     let own = held.own_work(alloc, &desk, case, interval)?;
@@ -100,7 +101,8 @@ fn raise<'a, K: Keeper>(
     desk.sound();
     match reported {
         Ok(_) => Ok(()),
-        Err(why) => Err(fault_of(why)),
+        // Only where another has the turn, or the lease was overtaken.
+        Err(_) => unreachable!(),
     }
 }
 
@@ -190,6 +192,8 @@ fn fire_one<'a, K: Keeper, C: Computation>(
     ensures marks { OnOk result (book.new.marks ≡ book.old.marks) }
     ensures at_work { OnOk result (IsAtWork book.new (worker_of held.new)) }
     ensures failed { IfErr result (HasFailed book.old book.new) }
+    ensures asking { let part = found.now.name.part in
+        IfErr result (IsFullAsking (MayAskFire book.old.case (worker_of held.old) part mark)) }
 {
     let case = book.case();
     let interval = case.interval_of(&found.name);

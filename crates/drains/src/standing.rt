@@ -1,10 +1,10 @@
 //! How a record stands that a row has pending.
-ghost use Rattle.std.specs.Prelude.{◌≡◌, ◌<◌, ◌≤◌, IfOk, IfSome, Some};
+ghost use Rattle.std.specs.Prelude.{◌≡◌, ◌≤◌, IfOk, IfSome, Some};
 ghost use Rattle.mw_types.specs.declared.TheConstants.{MAX_STAMP};
-ghost use Rattle.topology.specs.Shapes.{parts_of};
 ghost use Rattle.run_history.specs.Fences.{interval_of};
 ghost use Rattle.run_history.specs.Runs.{run_of};
 ghost use Rattle.holdings.specs.Holding.{held_at, row_held};
+ghost use Rattle.node.specs.Messages.{IsComputation};
 ghost use Rattle.node.specs.Works.{IsStateThere, IsWorkOf};
 ghost use Rattle.drains.specs.Drains.{is_full};
 ghost use Rattle.drains.specs.Standings.{IsStandingIn};
@@ -47,7 +47,7 @@ pub(crate) fn standing<'a, K: Keeper, C: Computation>(
     requires work { IsWorkOf book.now.case.topology (C.has work.now)
         (C.gives_record work.now) (C.gives_timer work.now) }
     requires at_work { IsAtWork book.now (worker_of held.now) }
-    requires part { delivery.now.to.part < parts_of book.now.case.topology }
+    requires computation { IsComputation book.now.case.topology delivery.now.to.part }
     requires covers { interval_of book.now.case.topology delivery.now.to ≡ Some interval }
     requires stamp { delivery.now.item.stamp ≤ MAX_STAMP }
     ensures stands { let shape = book.now.case.topology in let run = run_of shape book.now.history in

@@ -35,6 +35,7 @@ pub(crate) fn write<'a, K: Keeper>(
     requires known { IsKnownOf (own_view book.old) name.now proposal.now }
     ensures written { OnOk result (IfSome (held_at held.old interval)
         (λ here. HasProposed book.old book.new here.lease.seq name.now proposal.now)) }
+    ensures marks { OnOk result (book.new.marks ≡ book.old.marks) }
     ensures at_work { OnOk result (IsAtWork book.new (worker_of held.new)) }
     ensures failed { IfErr result (HasFailed book.old book.new) }
 {

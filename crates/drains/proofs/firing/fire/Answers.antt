@@ -1,42 +1,50 @@
-use Rattle.std.proofs.Common.{rules, subst, sym}
-use Rattle.std.specs.Prelude.{IfErr}
+use Rattle.std.proofs.Common.{◌≡◌, ◌≤◌, ap, rules, subst, sym}
+use Rattle.std.specs.Prelude.{IfErr, None, Some}
 use Rattle.run_history.specs.Watermarks.{least}
 use Rattle.watermark.specs.Marks.{marks_of}
-use Rattle.book.specs.Desks.{KeepsMarks}
+use Rattle.run_history.specs.Cases.{CaseShape}
 use Rattle.book.specs.OwnDesks.{own_view}
-use Rattle.node.specs.Answers.{FailsFire}
-use Rattle.node.specs.Asking.{MayAskFire}
-use Rattle.drains.specs.Turns.{HasAskedOne, IsAtWork}
-use Rattle.drains.proofs.CallLaws.{fire-call}
-use Rattle.drains.proofs.FullLaws.{fire-full}
+use Rattle.holdings.specs.Holding.{held_at}
+use Rattle.node.specs.Asking.{IsNextTimer, MayAskFire}
+use Rattle.node.specs.FireSteps.{AreAllWithin, IsTimerToFire}
+use Rattle.node.specs.Messages.{IsComputation}
+use Rattle.node.specs.declared.outcome.NodeFault.TheVariants as faults
+use Rattle.node.proofs.FirstLaws.{rows-within}
+use Rattle.drains.specs.Turns.{HasAskedOne, IsAtWork, worker_of}
+use Rattle.drains.proofs.CallLaws.{asked-none, fire-fails, fire-of, memory-asking, next-own}
 use Rattle.drains.proofs.Results.{err-then}
 use Rattle.drains.proofs.firing.fire.Goals as goal
 
--- a timer that may be asked for has fired, if there is one
-pub returns-clause-asked : goal.returns-clause-asked
-returns-clause-asked g c =
-    let done : HasAskedOne c.args.book.now c.fire.new.desk.book.now (MayAskFire c.args.book.now.case c.args.node.now c.args.part
-    (least (marks_of c.args.book.now.case.topology c.args.part c.args.book.now.marks))) c.is_committed.result =
-    subst (HasAskedOne c.args.book.now c.fire.new.desk.book.now (MayAskFire c.args.book.now.case c.args.node.now c.args.part
-    (least (marks_of c.args.book.now.case.topology c.args.part c.args.book.now.marks)))) (sym c.is_committed.ensures)
-    (fire-call c.case-case.result.now c.args.book.now c.fire.new.desk.book.now c.args.node.now c.fire.new.self c.args.part c.in_ok-outcome.outcome
-    c.case-case.ensures.case c.requires.at_work c.in_ok-outcome.ensures.answers c.in_ok-outcome.ensures.marks c.in_ok-outcome.ensures.fits).0 in search rules
+-- what is held of each interval lies there
+pub first_due-requires-clause-within : goal.first_due-requires-clause-within
+first_due-requires-clause-within g c =
+    let book = c.args.book.now in
+    subst (λ (k : CaseShape). AreAllWithin k.topology c.args.held.now) (sym c.case-case.ensures.case)
+    (λ interval. rows-within book.case (own_view book) (worker_of c.args.held.now) interval c.requires.at_work.fits)
 
--- the worker is at work then
-pub returns-clause-at_work : goal.returns-clause-at_work
-returns-clause-at_work g c =
-    subst (λ b. IsAtWork b c.fire.new.self) (search rules)
-    (fire-call c.case-case.result.now c.args.book.now c.fire.new.desk.book.now c.args.node.now c.fire.new.self c.args.part c.in_ok-outcome.outcome
-    c.case-case.ensures.case c.requires.at_work c.in_ok-outcome.ensures.answers c.in_ok-outcome.ensures.marks c.in_ok-outcome.ensures.fits).1
+-- the timer's row is of the part
+pub fire_one-requires-clause-part : goal.fire_one-requires-clause-part
+fire_one-requires-clause-part g c =
+    let book = c.args.book.now in
+    let next : IsNextTimer book.case.topology (worker_of c.args.held.now) c.args.part c.low-mark.result c.in-Some.found.name
+    c.in-Some.found.timer = search rules in
+    subst (IsComputation book.case.topology) (sym next.set.of_part) c.requires.part
 
--- a timer that fails since the history is full was asked for
-pub returns-in_err-outcome-clause-asking : goal.returns-in_err-outcome-clause-asking
-returns-in_err-outcome-clause-asking g c =
-    let r = c.from_residual.result in
-    let case = c.case-case.result.now in
-    let old = c.args.book.now in
-    let new = c.fire.new.desk.book.now in
-    let was = c.args.node.now in
-    let keeps : KeepsMarks (own_view old) (own_view new) = search rules in
-    let fails : IfErr r (FailsFire case (own_view old) (own_view new) c.args.part was) = search rules in
-    err-then r (λ why f. fire-full case old new was c.args.part why c.case-case.ensures.case f keeps) fails
+-- and it is next there
+pub fire_one-requires-clause-next : goal.fire_one-requires-clause-next
+fire_one-requires-clause-next g c =
+    let book = c.args.book.now in
+    let next : IsNextTimer book.case.topology (worker_of c.args.held.now) c.args.part c.low-mark.result c.in-Some.found.name
+    c.in-Some.found.timer = search rules in
+    let own = next-own book.case.topology (worker_of c.args.held.now) c.args.part c.low-mark.result c.in-Some.found.name
+    c.in-Some.found.timer next in search rules
+
+-- under the least mark of the part
+pub fire_one-requires-clause-known : goal.fire_one-requires-clause-known
+fire_one-requires-clause-known g c =
+    let book = c.args.book.now in
+    let next : IsNextTimer book.case.topology (worker_of c.args.held.now) c.args.part c.low-mark.result c.in-Some.found.name
+    c.in-Some.found.timer = search rules in
+    let exact : c.low-mark.result ≡ least (marks_of book.case.topology c.args.part book.marks) = search rules in
+    subst (λ p. c.low-mark.result ≤ least (marks_of book.case.topology p book.marks)) (sym next.set.of_part)
+    (omega (exact))
