@@ -14,6 +14,7 @@ use Rattle.mw_types.specs.declared.identity.RowName.{RowName}
 use Rattle.mw_types.specs.declared.record.Record.{Record}
 use Rattle.mw_types.specs.declared.timer.Timer.{Timer}
 use Rattle.injector.specs.Sources.{item_at}
+use Rattle.topology.specs.Rules.{interval_count}
 use Rattle.topology.specs.Shapes.{Shape, injectors_of, parts_of}
 use Rattle.row_parts.specs.Contents.{IsDelivery, cursor_in, found_delivery, same_id}
 use Rattle.run_history.specs.Cases.{CaseShape, record_of, source_of}
@@ -27,6 +28,7 @@ use Rattle.book.specs.Desking.{IsPurgeKnown}
 use Rattle.book.specs.OwnDesks.{own_view, telling}
 use Rattle.book.specs.declared.proposal.Proposal.TheVariants as proposals
 use Rattle.holdings.specs.Holding.{HeldView, held_at, held_on, row_held}
+use Rattle.holdings.specs.Purges.{IsFirstToPurge}
 use Rattle.node.specs.Asking.{IsNextTimer, MayAskFire, MayAskForget, MayAskPurge, Request, forgetting, line_asked, settle_asked, settling}
 use Rattle.node.specs.FireSteps.{IsSetAt, IsTimerToFire}
 use Rattle.node.specs.LineSteps.{IsLineNext, injector_row}
@@ -34,6 +36,7 @@ use Rattle.node.specs.PurgeSteps.{IsToPurge}
 use Rattle.node.specs.Workers.{NodeView}
 use Rattle.node.specs.declared.outcome.NodeFault.{NodeFault}
 use Rattle.node.specs.declared.outcome.NodeFault.TheVariants as faults
+use Rattle.node.proofs.FirstLaws.{first-forgets, next-purge-held, rows-within}
 use Rattle.node.proofs.FiringLaws.{firing, may-fire}
 use Rattle.node.proofs.LineLaws.{asked-line, injecting}
 use Rattle.node.proofs.PurgeLaws.{forget-floor, held-at-on, held-on-at}
@@ -250,6 +253,25 @@ forget-known book all name interval floor is at covers full there =
       forgets = record { many = let many = may.forgets.many in omega (arith, many); rises = may.forgets.rises };
       request = may.request;
     }) covers (omega arith))
+
+-- what is found among the rows of an interval is the first that may be asked to
+pub to-purge : (book : BookView) (all : List (Option HeldView)) (interval floor : ℕ) (found : Option RowName) → IsAtWork book (worker_of all)
+    → interval < interval_count book.case.topology
+    → IfSome (held_at all interval) (λ here. IsFirstToPurge floor 1 here.rows found)
+    → IsToPurge book.case.topology (worker_of all) interval 1 floor found
+to-purge book all interval floor found at there first =
+    next-purge-held book.case.topology (worker_of all) interval 1 floor found refl
+    (subst IsSome (sym (at.each interval there).there) refl)
+    (rows-within book.case (own_view book) (worker_of all) interval at.fits) first
+
+-- it may forget
+pub purge-known : (book : BookView) (all : List (Option HeldView)) (name : RowName) (interval floor : ℕ) → IsAtWork book (worker_of all)
+    → floor ≡ floor_of (run_of book.case.topology book.history)
+    → IsToPurge book.case.topology (worker_of all) interval 1 floor (Some name) → interval_of book.case.topology name ≡ Some interval
+    → IfSome (held_at all interval) (λ here. IsPurgeKnown (own_view book) name (row_held book.case.topology here name) floor)
+purge-known book all name interval floor at is first covers =
+    forget-floor book.case (own_view book) (worker_of all) interval name floor at.fits
+    (first-forgets book.case.topology (worker_of all) interval 1 floor name first) covers (omega (arith, is))
 
 -- the first row of an interval that has ids to forget may be asked to
 pub first-may : (shape : Shape) (all : List (Option HeldView)) (interval floor : ℕ) (name : RowName)

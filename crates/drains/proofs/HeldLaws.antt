@@ -88,7 +88,7 @@ at_work-entry case old new was now interval name commit IsEntry entry same at he
 -- the entry of a proposal is no claim
 proposed-write : (case : CaseShape) (seq : ℕ) (name : RowName) (proposal : Proposal) (entry : Entry) → IsEntryOf case seq name proposal entry
     → IsWrite entry
-proposed-write case seq name (proposals.Inject line) entry is = λ interval. ap (is_claim interval) is.2
+proposed-write case seq name (proposals.Inject line) entry is = λ interval. ap (is_claim interval) is.1.1
 proposed-write case seq name (proposals.Handle delivery effects) entry is = λ interval. ap (is_claim interval) is
 proposed-write case seq name (proposals.Fire timer mark effects) entry is = λ interval. ap (is_claim interval) is
 

@@ -32,6 +32,7 @@ use Rattle.node.specs.Asking.{HasToForget, MayAskForget, Request, forgetting, se
 use Rattle.node.specs.Messages.{IsComputation, IsSentFrom}
 use Rattle.node.specs.Workers.{NodeView}
 use Rattle.drains.specs.Drains.{HasClaimedAll, IsNextEntry, IsToHandle, is_full}
+use Rattle.drains.specs.Standings.{IsFound}
 use Rattle.drains.specs.Turns.{HasAsked, HasAskedOne, HasHandled, HasTurned, IsAtWork, IsNextIn, IsHandledNext, is_finished_at, is_full_at, sent_at}
 use Rattle.drains.proofs.LawfulRows.{lawful-rows}
 use Rattle.drains.proofs.ThereLaws.{row-there}
@@ -337,35 +338,7 @@ handle-turned old new sender d more least is_next done = record {
   };
 }
 
--- its record was sent from that row
-pub next-sent : (case : CaseShape) (history : List Entry) (sender : RowName) (d : Delivery) → IsHandledNext case history sender d
-    → IsSentFrom case history sender d
-next-sent case history sender d is = record {
-  made = pending-as_made case.topology history sender d.id d is.pending;
-  on_sender = find-each (IsMadeOn history sender) (λ (e : Delivery). same_id e.id d.id)
-      (row_of case.topology (run_of case.topology history) sender).pending d ((pending-on case.topology history).each sender) is.pending;
-}
-
--- ---- the sender
-
--- a row in which an id is pending is of a part that is there, where that is told
-pub sender-there : (book : BookView) (sender : RowName) (id : RecordId) → IsLawful book.case (core_of book) → IsSome book.rows
-    → IsLeastSent book.case.topology (run_of book.case.topology book.history) id sender → sender.part < parts_of book.case.topology
-sender-there book sender id lawful told least =
-    let legal = (lawful-rows book.case book.history book.rows told lawful.held).0 in
-    (legal-on_parts book.case book.history legal).rows sender
-    (row-there book.case.topology (run_of book.case.topology book.history) sender
-    (λ is. let some = subst (λ (c : Contents). IsSome (found_delivery id c.pending)) is least.pending in cc))
-
 -- ---- the whole
-
--- what is known of the least id, once its record is found in its sender's row
-pub record IsFound (book : BookView) (node : NodeView) (sender : RowName) (d : Delivery) : Type 0 where
-  pub at_work : IsAtWork book node
-  pub lawful : IsLawful book.case (core_of book)
-  pub part : sender.part < parts_of book.case.topology
-  pub least : IsLeastSent book.case.topology (run_of book.case.topology book.history) d.id sender
-  pub sent : sent_at book.case.topology node sender d.id ≡ Some d
 
 -- whether it is handled is whether it is finished
 pub found-handled : (book : BookView) (node : NodeView) (sender : RowName) (d : Delivery) → IsFound book node sender d → (b : Bool)

@@ -1,12 +1,20 @@
 -- How a record stands that a row has pending. No public clause cites this module.
-use Rattle.std.specs.Prelude.{◌≡◌, true, false, List, Option, Some}
+use Rattle.std.specs.Prelude.{◌≡◌, ◌<◌, ℕ, true, false, List, Option, Some, IfSome}
 use Rattle.mw_types.specs.Outcomes.{EffectsView}
 use Rattle.mw_types.specs.declared.delivery.Delivery.{Delivery}
+use Rattle.mw_types.specs.declared.identity.RowName.{RowName}
+use Rattle.topology.specs.Shapes.{parts_of}
 use Rattle.row_parts.specs.Contents.{Contents, is_finished}
 use Rattle.run_history.specs.Cases.{CaseShape}
 use Rattle.run_history.specs.Legal.{record_outcome}
-use Rattle.run_history.specs.Runs.{Run}
+use Rattle.run_history.specs.Runs.{Run, run_of}
+use Rattle.book.specs.Books.{BookView, core_of}
+use Rattle.book.specs.Lawful.{IsLawful}
+use Rattle.book.specs.Senders.{IsLeastSent}
+use Rattle.holdings.specs.Holding.{HeldView, held_at, row_held}
+use Rattle.node.specs.Workers.{NodeView}
 use Rattle.drains.specs.Drains.{is_full}
+use Rattle.drains.specs.Turns.{IsAtWork, sent_at}
 use Rattle.drains.specs.declared.standing.Standing.{Standing}
 use Rattle.drains.specs.declared.standing.Standing.TheVariants as standings
 
@@ -27,3 +35,16 @@ abbrev pub IsStandingIn : CaseShape → Run → Contents → Delivery → Standi
 IsStandingIn case run row delivery standings.Finished = is_finished delivery.id row ≡ true
 IsStandingIn case run row delivery standings.Full = IsToForget run row delivery
 IsStandingIn case run row delivery (standings.Handled effects) = IsToWrite case run row delivery effects
+
+-- how a record stands in its row as that is held of an interval
+abbrev pub StandsIn : BookView → List (Option HeldView) → ℕ → Delivery → Standing → Type 0
+StandsIn book all interval d found = IfSome (held_at all interval) (λ (here : HeldView).
+    IsStandingIn book.case (run_of book.case.topology book.history) (row_held book.case.topology here d.to) d found)
+
+-- the record of the least id that is not acknowledged, as its sender's row has it pending that is held
+pub record IsFound (book : BookView) (node : NodeView) (sender : RowName) (d : Delivery) : Type 0 where
+  pub at_work : IsAtWork book node
+  pub lawful : IsLawful book.case (core_of book)
+  pub part : sender.part < parts_of book.case.topology
+  pub least : IsLeastSent book.case.topology (run_of book.case.topology book.history) d.id sender
+  pub sent : sent_at book.case.topology node sender d.id ≡ Some d

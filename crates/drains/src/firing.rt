@@ -2,6 +2,7 @@
 ghost use Rattle.std.specs.Prelude.{◌≡◌, ◌<◌, ◌≤◌, ◌+◌, ℕ, IfErr, IfOk, OnOk, OnErr, None, true, false, length};
 ghost use Rattle.topology.specs.Rules.{interval_count};
 ghost use Rattle.run_history.specs.Cases.{intervals_of};
+ghost use Rattle.run_history.specs.Fences.{interval_of};
 ghost use Rattle.run_history.specs.Runs.{run_of};
 ghost use Rattle.node.specs.Works.{IsWorkOf};
 ghost use Rattle.node.specs.Messages.{IsComputation};
@@ -165,7 +166,11 @@ fn fire<'a, K: Keeper, C: Computation>(
     let case = book.case();
     let mark = low(case, part, book.marks());
     match first_due(held, alloc, case, part, mark)? {
-        Some(found) => fire_one(alloc, book, work, held, &found, mark),
+        Some(found) => {
+            let fired = fire_one(alloc, book, work, held, &found, mark);
+            drop(found);
+            fired
+        }
         None => Ok(false),
     }
 }
@@ -198,6 +203,36 @@ fn fire_one<'a, K: Keeper, C: Computation>(
     let case = book.case();
     let interval = case.interval_of(&found.name);
     let effects = effects_of(held, alloc, case, work, interval, found)?;
+    write_fire(alloc, book, held, interval, found, mark, effects)
+}
+
+// Writes that a timer fired, with what its handler left.
+fn write_fire<'a, K: Keeper>(
+    alloc: Global,
+    book: &mut Book<'a, K>,
+    held: &mut Holdings,
+    interval: u32,
+    found: &RowTimer,
+    mark: u64,
+    effects: Effects,
+) -> Result<bool, NodeFault>
+    requires at_work { IsAtWork book.old (worker_of held.old) }
+    requires covers { interval_of book.old.case.topology found.now.name ≡ Some interval }
+    requires next { IsNextTimer book.old.case.topology (worker_of held.old) found.now.name.part mark
+        found.now.name found.now.timer }
+    requires known { mark ≤ least (marks_of book.old.case.topology found.now.name.part book.old.marks) }
+    requires set { IsSetAt book.old.case.topology held.old interval found.now.name found.now.timer }
+    requires left { IsLeftByHandler book.old.case held.old interval
+        found.now.name found.now.timer effects }
+    ensures asked { let part = found.now.name.part in
+        IfOk result (HasAskedOne book.old book.new
+        (MayAskFire book.old.case (worker_of held.old) part mark)) }
+    ensures marks { OnOk result (book.new.marks ≡ book.old.marks) }
+    ensures at_work { OnOk result (IsAtWork book.new (worker_of held.new)) }
+    ensures failed { IfErr result (HasFailed book.old book.new) }
+    ensures asking { let part = found.now.name.part in
+        IfErr result (IsFullAsking (MayAskFire book.old.case (worker_of held.old) part mark)) }
+{
     let proposal = Proposal::Fire {
         timer: found.timer,
         mark,

@@ -54,14 +54,38 @@ fn inject<'a, K: Keeper>(
     ensures at_work { OnOk result (IsAtWork book.new (worker_of held.new)) }
     ensures failed { IfErr result (HasFailed book.old book.new) }
 {
+    let name = injector_row(alloc, part);
+    let injected = inject_on(alloc, book, held, &name, line);
+    drop(name);
+    injected?;
+    Ok(true)
+}
+
+// Injects a line, which is the next of an injector whose row has this name.
+fn inject_on<'a, K: Keeper>(
+    alloc: Global,
+    book: &mut Book<'a, K>,
+    held: &mut Holdings,
+    name: &RowName,
+    line: u32,
+) -> Result<(), NodeFault>
+    requires at_work { IsAtWork book.old (worker_of held.old) }
+    requires injector { name.now.part < injectors_of book.old.case.topology }
+    requires name { name.now ≡ injector_row name.now.part }
+    requires next { line_at book.old.case (worker_of held.old) name.now.part ≡ Some (line, name.now.part) }
+    ensures asked { let asked = line_asked book.old.case (worker_of held.old) name.now.part in
+        OnOk result (HasAsked book.old book.new asked true) }
+    ensures at_work { OnOk result (IsAtWork book.new (worker_of held.new)) }
+    ensures failed { IfErr result (HasFailed book.old book.new) }
+{
     let case = book.case();
     // Every topology has its injectors among its parts.
     let _parts = case.topology.parts();
-    let name = injector_row(alloc, part);
-    let interval = case.interval_of(&name);
+    let interval = case.interval_of(name);
     let proposal = Proposal::Inject { line };
-    write(alloc, book, held, interval, &name, &proposal)?;
-    Ok(true)
+    let written = write(alloc, book, held, interval, name, &proposal);
+    drop(proposal);
+    written
 }
 
 // The name of an injector's row.

@@ -15,9 +15,10 @@ ghost use Rattle.book.specs.declared.proposal.Proposal.TheVariants as proposals;
 ghost use Rattle.holdings.specs.Holding.{HeldView, held_at, row_held};
 ghost use Rattle.node.specs.Asking.{MayAskForget, settle_asked};
 ghost use Rattle.node.specs.Works.{IsWorkOf};
+ghost use Rattle.drains.specs.Standings.{IsFound, StandsIn};
 ghost use Rattle.drains.specs.Turns.{CanBeKept, HasAsked, HasAskedOne, HasFailed, HasHandled, HasTurned, IsAtWork, WhereTold, is_full_at, sent_at, worker_of};
 
-use crate::standing::{Standing, standing};
+use crate::standing::{Standing, standing_of};
 use crate::writes::{purge_row, settle, write};
 use book::{Book, Proposal};
 use computations::Computation;
@@ -92,7 +93,39 @@ fn work_on_sent<'a, K: Keeper, C: Computation>(
     // Its clauses say what always holds of a book.
     book.history();
     let to = book.case().interval_of(&delivery.to);
-    match standing(alloc, book, work, held, to, &delivery)? {
+    match standing_of(alloc, book, work, held, to, &delivery) {
+        Ok(standing) => {
+            work_by(alloc, book, held, interval, sender, to, delivery, standing)
+        }
+        Err(NoMemory) => {
+            drop(delivery);
+            Err(NodeFault::NoMemory)
+        }
+    }
+}
+
+// Works on what a row has pending, by how it stands in its row, which is of the interval `to`.
+fn work_by<'a, K: Keeper>(
+    alloc: Global,
+    book: &mut Book<'a, K>,
+    held: &mut Holdings,
+    interval: u32,
+    sender: &RowName,
+    to: u32,
+    delivery: Delivery,
+    standing: Standing,
+) -> Result<bool, NodeFault>
+    requires found { IsFound book.old (worker_of held.old) sender.now delivery }
+    requires covers { interval_of book.old.case.topology sender.now ≡ Some interval }
+    requires to { interval_of book.old.case.topology delivery.to ≡ Some to }
+    requires kept { CanBeKept delivery }
+    requires stands { StandsIn book.old held.old to delivery standing }
+    ensures turned { IfOk result (HasTurned book.old book.new) }
+    ensures more { IfOk result (λ more. WhereTold book.old (more ≡ true)) }
+    ensures at_work { OnOk result (IsAtWork book.new (worker_of held.new)) }
+    ensures failed { IfErr result (HasFailed book.old book.new) }
+{
+    match standing {
         Standing::Finished => {
             let id = delivery.id;
             drop(delivery);

@@ -1,13 +1,12 @@
 //! How a record stands that a row has pending.
-ghost use Rattle.std.specs.Prelude.{◌≡◌, ◌≤◌, IfOk, IfSome, Some};
+ghost use Rattle.std.specs.Prelude.{◌≡◌, ◌≤◌, IfOk, Some};
 ghost use Rattle.mw_types.specs.declared.TheConstants.{MAX_STAMP};
 ghost use Rattle.run_history.specs.Fences.{interval_of};
 ghost use Rattle.run_history.specs.Runs.{run_of};
-ghost use Rattle.holdings.specs.Holding.{held_at, row_held};
 ghost use Rattle.node.specs.Messages.{IsComputation};
 ghost use Rattle.node.specs.Works.{IsStateThere, IsWorkOf};
 ghost use Rattle.drains.specs.Drains.{is_full};
-ghost use Rattle.drains.specs.Standings.{IsStandingIn};
+ghost use Rattle.drains.specs.Standings.{IsStandingIn, StandsIn};
 ghost use Rattle.drains.specs.Turns.{IsAtWork, worker_of};
 
 use crate::least_work::row_of;
@@ -36,7 +35,7 @@ pub(crate) enum Standing {
 }
 
 // How a record stands in its row as that is held; one that is to be handled is handled.
-pub(crate) fn standing<'a, K: Keeper, C: Computation>(
+pub(crate) fn standing_of<'a, K: Keeper, C: Computation>(
     alloc: Global,
     book: &Book<'a, K>,
     work: &C,
@@ -50,9 +49,7 @@ pub(crate) fn standing<'a, K: Keeper, C: Computation>(
     requires computation { IsComputation book.now.case.topology delivery.now.to.part }
     requires covers { interval_of book.now.case.topology delivery.now.to ≡ Some interval }
     requires stamp { delivery.now.item.stamp ≤ MAX_STAMP }
-    ensures stands { let shape = book.now.case.topology in let run = run_of shape book.now.history in
-        IfOk result (λ found. IfSome (held_at held.now interval) (λ here.
-        IsStandingIn book.now.case run (row_held shape here delivery.now.to) delivery.now found)) }
+    ensures stands { IfOk result (StandsIn book.now held.now interval delivery.now) }
 {
     match row_of(held, interval, &delivery.to) {
         Some(row) => standing_in(alloc, book, work, row, delivery),

@@ -16,15 +16,21 @@ pub own_work-requires-clause-there : goal.own_work-requires-clause-there
 own_work-requires-clause-there g c =
     subst IsSome (sym (c.requires.at_work.each c.args.interval c.requires.there).there) refl
 
+-- it is there
+pub unwrap-requires : goal.unwrap-requires
+unwrap-requires g c =
+    let there = ap (λ (all : List (Option HeldView)). held_at all c.args.interval) c.in_ok-own.ensures.same
+    ∙ (c.requires.at_work.each c.args.interval c.requires.there).there in search rules
+
 -- nothing is appended
-pub returns-in-Ok-clause-stepped : goal.returns-in-Ok-clause-stepped
-returns-in-Ok-clause-stepped g c =
+pub returns-clause-stepped : goal.returns-clause-stepped
+returns-clause-stepped g c =
     let new = c.report-reported.new.self.book.now in
     let stepped : HasStepped c.args.book.now new _ = stepped-looked c.args.book.now new c.report-reported.ensures.looked in search rules
 
 -- what is held stays
-pub returns-in-Ok-clause-at_work : goal.returns-in-Ok-clause-at_work
-returns-in-Ok-clause-at_work g c =
+pub returns-clause-at_work : goal.returns-clause-at_work
+returns-clause-at_work g c =
     let old = c.args.book.now in
     let new = c.report-reported.new.self.book.now in
     let at : IsAtWork new (worker_of c.own_work.new.self) =
@@ -32,8 +38,8 @@ returns-in-Ok-clause-at_work g c =
     c.sound.ensures.sound c.sound-2.ensures.sound c.report-reported.ensures.looked c.in_ok-own.ensures.same in search rules
 
 -- and where told the mark is as the report leaves it
-pub returns-in-Ok-clause-reported : goal.returns-in-Ok-clause-reported
-returns-in-Ok-clause-reported g c =
+pub returns-clause-reported : goal.returns-clause-reported
+returns-clause-reported g c =
     let old = c.args.book.now in
     let new = c.report-reported.new.self.book.now in
     let rules_there : IsTopology old.case.topology = search rules in

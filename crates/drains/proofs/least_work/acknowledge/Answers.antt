@@ -6,8 +6,8 @@ use Rattle.drains.proofs.CallLaws.{ack-asked, ack-not, may-settle}
 use Rattle.drains.proofs.least_work.acknowledge.Goals as goal
 
 -- nothing is pending
-pub returns-then-clause-asked : goal.returns-then-clause-asked
-returns-then-clause-asked g c =
+pub returns-then-not-is_pending-clause-asked : goal.returns-then-not-is_pending-clause-asked
+returns-then-not-is_pending-clause-asked g c =
     let shape = c.args.book.now.case.topology in
     let none : is_some (sent_at shape (worker_of c.args.held.now) c.args.sender.now c.args.id) ≡ false =
     (let is = c.is_pending.ensures shape c.requires.covers in search rules) in

@@ -27,8 +27,8 @@ returns-then-is_last_handled-clause-more g c =
     c.acknowledge.ensures.asked
 
 -- there was no memory for what was found
-pub returns-in_err-sent-clause-failed : goal.returns-in_err-sent-clause-failed
-returns-in_err-sent-clause-failed g c =
+pub returns-in_err-delivery-clause-failed : goal.returns-in_err-delivery-clause-failed
+returns-in_err-delivery-clause-failed g c =
     let none : IfErr c.from_residual.result (λ why. why ≡ faults.NoMemory) = search rules in
     err-then c.from_residual.result (λ why is. failed-not c.args.book.now why is) none
 
@@ -38,7 +38,7 @@ work_on_sent-requires-clause-least g c =
     let shape = c.args.book.now.case.topology in
     let covers : interval_of shape c.args.sender.now ≡ Some c.interval_of-interval.result = search rules in
     let is : sent_at shape (worker_of c.args.held.now) c.args.sender.now c.args.id ≡ Some c.in-Some.delivery =
-    sym (c.in_ok-sent.ensures.sent shape covers) ∙ c.in-Some.is in
+    sym (c.in_ok-delivery.ensures.sent shape covers) ∙ c.in-Some.is in
     found-least c.args.book.now (worker_of c.args.held.now) c.args.sender.now c.args.id c.in-Some.delivery is c.requires.least
 
 -- it was sent
@@ -47,7 +47,7 @@ work_on_sent-requires-clause-sent g c =
     let shape = c.args.book.now.case.topology in
     let covers : interval_of shape c.args.sender.now ≡ Some c.interval_of-interval.result = search rules in
     let is : sent_at shape (worker_of c.args.held.now) c.args.sender.now c.args.id ≡ Some c.in-Some.delivery =
-    sym (c.in_ok-sent.ensures.sent shape covers) ∙ c.in-Some.is in
+    sym (c.in_ok-delivery.ensures.sent shape covers) ∙ c.in-Some.is in
     sent-own shape (worker_of c.args.held.now) c.args.sender.now c.args.id c.in-Some.delivery is
 
 -- nothing was done
@@ -60,6 +60,6 @@ returns-in-None-clause-more g c = λ told.
     let shape = c.args.book.now.case.topology in
     let covers : interval_of shape c.args.sender.now ≡ Some c.interval_of-interval.result = search rules in
     let is : sent_at shape (worker_of c.args.held.now) c.args.sender.now c.args.id ≡ None =
-    sym (c.in_ok-sent.ensures.sent shape covers) ∙ c.in-None.is in
+    sym (c.in_ok-delivery.ensures.sent shape covers) ∙ c.in-None.is in
     absurd (pending-sent c.args.book.now (worker_of c.args.held.now) c.args.sender.now c.args.id c.requires.at_work told
     c.requires.part c.requires.least.pending is)

@@ -29,10 +29,11 @@ returns-in-Ok-clause-at_work g c =
     c.in-Ok.ensures.written in search rules
 
 -- it is refused for no other's sake
-pub fault_of-requires-clause-own : goal.fault_of-requires-clause-own
-fault_of-requires-clause-own g c =
-    refusal-held c.args.book.now c.write.new.desk.book.now c.args.held.now c.args.name.now c.args.interval c.in-Err.why
-    c.requires.at_work c.requires.covers c.in-Err.ensures.looked c.in-Err.ensures.reason
+pub fault_of-requires : goal.fault_of-requires
+fault_of-requires g c = record {
+  own = refusal-held c.args.book.now c.write.new.desk.book.now c.args.held.now c.args.name.now c.args.interval c.in-Err.why
+      c.requires.at_work c.requires.covers c.in-Err.ensures.looked c.in-Err.ensures.reason;
+}
 
 -- and fails for its reason
 pub returns-in-Err-clause-failed : goal.returns-in-Err-clause-failed
