@@ -1,23 +1,19 @@
 -- What each write of a drain leaves, by what was asked for.
-use Rattle.std.proofs.Common.{◌≡◌, ◌<◌, ◌≤◌, ℕ, Bool, true, false, List, [], refl, sym, ◌∙◌, ap, subst, arith, inr}
+use Rattle.std.proofs.Common.{◌≡◌, ◌<◌, ℕ, Bool, true, false, List, refl, sym, ◌∙◌, ap, subst, arith}
 use Rattle.std.specs.Prelude.{Option, Some, None, IsSome, IfSome, All, Result, IfOk, IfErr}
 use Rattle.std.specs.Option.{is_some, option_and_then, option_map, option_map_or}
 use Rattle.std.proofs.lemmas.List.Elements.{All-contains}
-use Rattle.list_lemmas.proofs.Lists.{none_some, some_same}
-use Rattle.list_lemmas.proofs.Told.{if-there}
 use Rattle.mw_types.specs.Outcomes.{EffectsView}
 use Rattle.mw_types.specs.declared.delivery.Delivery.{Delivery}
 use Rattle.mw_types.specs.declared.entry.Entry.{Entry}
 use Rattle.mw_types.specs.declared.entry.Entry.TheVariants as entries
 use Rattle.mw_types.specs.declared.identity.RecordId.{RecordId}
 use Rattle.mw_types.specs.declared.identity.RowName.{RowName}
-use Rattle.mw_types.specs.declared.record.Record.{Record}
 use Rattle.mw_types.specs.declared.timer.Timer.{Timer}
-use Rattle.injector.specs.Sources.{item_at}
 use Rattle.topology.specs.Rules.{interval_count}
 use Rattle.topology.specs.Shapes.{Shape, injectors_of, parts_of}
 use Rattle.row_parts.specs.Contents.{IsDelivery, cursor_in, found_delivery, same_id}
-use Rattle.run_history.specs.Cases.{CaseShape, record_of, source_of}
+use Rattle.run_history.specs.Cases.{CaseShape}
 use Rattle.run_history.specs.Fences.{interval_of, is_claim}
 use Rattle.run_history.specs.Finished.{is_handled}
 use Rattle.run_history.specs.Legal.{floor_of, timer_outcome}
@@ -30,7 +26,7 @@ use Rattle.book.specs.declared.proposal.Proposal.TheVariants as proposals
 use Rattle.holdings.specs.Holding.{HeldView, held_at, held_on, row_held}
 use Rattle.holdings.specs.Purges.{IsFirstToPurge}
 use Rattle.node.specs.Asking.{IsNextTimer, MayAskFire, MayAskForget, MayAskPurge, Request, forgetting, line_asked, settle_asked, settling}
-use Rattle.node.specs.FireSteps.{IsSetAt, IsTimerToFire}
+use Rattle.node.specs.FireSteps.{IsSetAt}
 use Rattle.node.specs.LineSteps.{IsLineNext, injector_row}
 use Rattle.node.specs.PurgeSteps.{IsToPurge}
 use Rattle.node.specs.Workers.{NodeView}
@@ -38,7 +34,7 @@ use Rattle.node.specs.declared.outcome.NodeFault.{NodeFault}
 use Rattle.node.specs.declared.outcome.NodeFault.TheVariants as faults
 use Rattle.node.proofs.FirstLaws.{first-forgets, next-purge-held, rows-within}
 use Rattle.node.proofs.FiringLaws.{firing, may-fire}
-use Rattle.node.proofs.LineLaws.{asked-line, injecting}
+use Rattle.node.proofs.LineLaws.{asked-line}
 use Rattle.node.proofs.PurgeLaws.{forget-floor, held-at-on, held-on-at}
 use Rattle.node.proofs.SettleLaws.{pending-asked, settled_as}
 use Rattle.drains.specs.Turns.{CanBeKept, HasAsked, HasAskedOne, HasHandled, HasProposed, HasStepped, IsAtWork, IsFullAsking, cursor_at, is_full_at, line_at, sent_at, worker_of}
@@ -76,7 +72,8 @@ asked-one old new MayAsk asked may stepped = record {
 }
 
 -- none, where there is none to ask for
-pub asked-none : (book : BookView) (MayAsk : Request → Type 0) → ((asked : Request) → MayAsk asked → ⊥) → HasAskedOne book book MayAsk false
+pub asked-none : (book : BookView) (MayAsk : Request → Type 0) → ((asked : Request) → MayAsk asked → ⊥) → HasAskedOne book book
+    MayAsk false
 asked-none book MayAsk none = record {
   asked = None;
   done = record { stepped = stepped-not book; is_more = refl };
@@ -142,17 +139,20 @@ pub pending-here : (shape : Shape) (all : List (Option HeldView)) (to : RowName)
     → interval_of shape to ≡ Some interval → held_at all interval ≡ Some here → is_some (sent_at shape (worker_of all) to id) ≡ true
     → is_some (found_delivery id (row_held shape here to).pending) ≡ true
 pending-here shape all to id interval here covers there sent =
-    subst (λ (o : Option HeldView). is_some (option_and_then (λ (h : HeldView). found_delivery id (row_held shape h to).pending) o) ≡ true)
+    subst (λ (o : Option HeldView). is_some (option_and_then (λ (h : HeldView). found_delivery id (row_held shape h to).pending) o) ≡
+    true)
     (held-on-at shape all to interval here covers there) sent
 
 -- it may be settled, where its record was handled
-pub may-settle : (book : BookView) (all : List (Option HeldView)) (to : RowName) (id : RecordId) (interval : ℕ) → IsAtWork book (worker_of all)
+pub may-settle : (book : BookView) (all : List (Option HeldView)) (to : RowName) (id : RecordId) (interval : ℕ) → IsAtWork book
+    (worker_of all)
     → interval_of book.case.topology to ≡ Some interval → is_some (sent_at book.case.topology (worker_of all) to id) ≡ true
     → (IsSome book.rows → is_handled id book.history ≡ true)
     → IfSome (held_at all interval) (λ here. MaySettle (telling book.rows) book.history (row_held book.case.topology here to) id)
 may-settle book all to id interval at covers sent handled =
     let held = held-here book all to interval at covers in
-    held-if (λ here. MaySettle (telling book.rows) book.history (row_held book.case.topology here to) id) all interval held.0 held.1 (record {
+    held-if (λ here. MaySettle (telling book.rows) book.history (row_held book.case.topology here to) id) all interval held.0 held.1
+    (record {
       pending = pending-here book.case.topology all to id interval held.0 covers held.1 sent;
       handled = told-if book.rows (is_handled id book.history ≡ true) handled;
     })
@@ -245,17 +245,21 @@ forget-known book all name interval floor is at covers full there =
     let held = held-here book all name interval at covers in
     let may = full-may book all name interval held.0 covers held.1 full in
     subst (λ (f : ℕ). IfSome (held_at all interval) (λ here. IsPurgeKnown (own_view book) name (row_held book.case.topology here name) f))
-    (sym is) (forget-floor book.case (own_view book) (worker_of all) interval name (floor_of (run_of book.case.topology book.history)) at.fits
-    (forgetting held.0 name (floor_of (run_of book.case.topology book.history)), record {
-      free = refl;
-      held = may.held;
-      there = may.there;
-      forgets = record { many = let many = may.forgets.many in omega (arith, many); rises = may.forgets.rises };
-      request = may.request;
-    }) covers (omega arith))
+    (sym is) (forget-floor book.case (own_view book) (worker_of all) interval name
+    (floor_of (run_of book.case.topology book.history)) at.fits (
+      forgetting held.0 name (floor_of (run_of book.case.topology book.history)),
+      record {
+        free = refl;
+        held = may.held;
+        there = may.there;
+        forgets = record { many = let many = may.forgets.many in omega (arith, many); rises = may.forgets.rises };
+        request = may.request;
+      },
+    ) covers (omega arith))
 
 -- what is found among the rows of an interval is the first that may be asked to
-pub to-purge : (book : BookView) (all : List (Option HeldView)) (interval floor : ℕ) (found : Option RowName) → IsAtWork book (worker_of all)
+pub to-purge : (book : BookView) (all : List (Option HeldView)) (interval floor : ℕ) (found : Option RowName) → IsAtWork book
+    (worker_of all)
     → interval < interval_count book.case.topology
     → IfSome (held_at all interval) (λ here. IsFirstToPurge floor 1 here.rows found)
     → IsToPurge book.case.topology (worker_of all) interval 1 floor found
@@ -302,25 +306,24 @@ purge-asked old new all name interval floor is done =
 -- ---- timers
 
 -- a timer that is next of a part is next of the part of its row
-pub next-own : (shape : Shape) (node : NodeView) (part mark : ℕ) (name : RowName) (timer : Timer) → IsNextTimer shape node part mark name timer
+pub next-own : (shape : Shape) (node : NodeView) (part mark : ℕ) (name : RowName) (timer : Timer) → IsNextTimer shape node part mark
+    name timer
     → IsNextTimer shape node name.part mark name timer
 next-own shape node part mark name timer next =
     subst (λ (p : ℕ). IsNextTimer shape node p mark name timer) (sym next.set.of_part) next
 
--- what was asked for of a part, by the least mark
-pub fire-of : (old new : BookView) (node : NodeView) (part other mark low : ℕ) (result : Result Bool NodeFault) → other ≡ part → mark ≡ low
+-- what was asked for of the part of its row
+pub fire-of : (old new : BookView) (node : NodeView) (part other mark : ℕ) (result : Result Bool NodeFault) → other ≡ part
     → IfOk result (HasAskedOne old new (MayAskFire old.case node other mark))
-    → IfOk result (HasAskedOne old new (MayAskFire old.case node part low))
-fire-of old new node part other mark low result same exact is =
-    subst (λ (m : ℕ). IfOk result (HasAskedOne old new (MayAskFire old.case node part m))) exact
-    (subst (λ (p : ℕ). IfOk result (HasAskedOne old new (MayAskFire old.case node p mark))) same is)
+    → IfOk result (HasAskedOne old new (MayAskFire old.case node part mark))
+fire-of old new node part other mark result same is =
+    subst (λ (p : ℕ). IfOk result (HasAskedOne old new (MayAskFire old.case node p mark))) same is
 
 -- and where that failed
-pub fire-fails : (case : CaseShape) (node : NodeView) (part other mark low : ℕ) (result : Result Bool NodeFault) → other ≡ part → mark ≡ low
-    → IfErr result (IsFullAsking (MayAskFire case node other mark)) → IfErr result (IsFullAsking (MayAskFire case node part low))
-fire-fails case node part other mark low result same exact is =
-    subst (λ (m : ℕ). IfErr result (IsFullAsking (MayAskFire case node part m))) exact
-    (subst (λ (p : ℕ). IfErr result (IsFullAsking (MayAskFire case node p mark))) same is)
+pub fire-fails : (case : CaseShape) (node : NodeView) (part other mark : ℕ) (result : Result Bool NodeFault) → other ≡ part
+    → IfErr result (IsFullAsking (MayAskFire case node other mark)) → IfErr result (IsFullAsking (MayAskFire case node part mark))
+fire-fails case node part other mark result same is =
+    subst (λ (p : ℕ). IfErr result (IsFullAsking (MayAskFire case node p mark))) same is
 
 -- a call that fails for lack of memory does not fail since the history is full
 pub memory-asking : (MayAsk : Request → Type 0) (why : NodeFault) → why ≡ faults.NoMemory → IsFullAsking MayAsk why

@@ -1,5 +1,5 @@
 -- A whole drain, by what its claims and its turns say.
-use Rattle.std.proofs.Common.{◌≡◌, ◌<◌, ◌≤◌, ℕ, Bool, true, false, List, length, sym, ◌∙◌, subst, arith}
+use Rattle.std.proofs.Common.{◌≡◌, ◌<◌, Bool, true, false, List, length, sym, ◌∙◌, subst}
 use Rattle.std.specs.Prelude.{Option, Some, None, IsSome, IfSome}
 use Rattle.std.specs.Option.{is_some}
 use Rattle.std.proofs.lemmas.Bool.{both_ways}
@@ -26,7 +26,6 @@ use Rattle.drains.proofs.EndLaws.{injected-finished}
 use Rattle.drains.proofs.LawfulRows.{lawful-rows}
 use Rattle.drains.proofs.GoLaws.{fact-back, fact-on, stayed-turn, told-on}
 use Rattle.drains.proofs.LeastWorkLaws.{forget-turned, found-handled, sent-id, sent-to}
-use Rattle.drains.proofs.TurnLaws.{stepped-on}
 
 -- ---- where the rows are told
 
@@ -53,11 +52,6 @@ not-ended book more is none = λ told. absurd (both_ways more none (is told))
 -- a turn that had none more wrote nothing
 pub no-more : (old new : BookView) (more : Bool) → HasTurned old new more → more ≡ false → HasStepped old new None
 no-more old new more turned none = stayed-turn old new (subst (HasTurned old new) none turned)
-
--- and nothing was written with a step before it that wrote nothing
-pub stayed-on : (one two three : BookView) (more : Bool) → HasStepped one two None → HasTurned two three more → more ≡ false
-    → HasStepped one three None
-stayed-on one two three more first turned none = stepped-on one two three None first (no-more two three more turned none)
 
 -- ---- claims and then turns
 

@@ -20,14 +20,14 @@ use Rattle.book.specs.Lawful.{IsLawful}
 use Rattle.book.specs.Marks.{AreSafe}
 use Rattle.book.specs.OwnDesks.{own_view}
 use Rattle.node.specs.Fits.{Fits}
-use Rattle.node.specs.Workers.{NodeView, Worker, goes_into, leases_of, where_passes, with_lease, worker_at}
+use Rattle.node.specs.Workers.{NodeView, Worker, goes_into, leases_of, where_passes}
 use Rattle.node.specs.declared.outcome.NodeFault.{NodeFault}
 use Rattle.drains.specs.Drains.{HasClaimedAll, IsDraining}
 use Rattle.drains.specs.ReportRounds.{marks_after_round}
 use Rattle.drains.specs.Turns.{AreExact, HasFailed, HasFirst, HasGone, HasLast, HasStepped, HasTaken, HasTurned, IsAtWork, IsClaiming, IsNextIn, IsSettled, with_own}
 use Rattle.drains.proofs.RoundLaws.{round-low}
 use Rattle.drains.proofs.LawfulRows.{lawful-rows}
-use Rattle.drains.proofs.TurnLaws.{free-of, held-leased, lease-held, moved-before, sending-none, stepped-by, stepped-on}
+use Rattle.drains.proofs.TurnLaws.{free-of, held-leased, lease-held, sending-none, stepped-on}
 use Rattle.drains.proofs.WholeDrains.{draining-first, draining-push}
 
 -- ---- a step in which nothing was appended

@@ -30,13 +30,12 @@ use Rattle.node.specs.Answers.{refusal_of}
 use Rattle.node.specs.Fits.{Fits}
 use Rattle.node.specs.Workers.{with_lease, worker_at}
 use Rattle.node.specs.declared.outcome.NodeFault.{NodeFault}
-use Rattle.node.specs.declared.outgoing.Outgoing.{Outgoing}
 use Rattle.node.proofs.CommitLaws.{leases-written}
 use Rattle.node.proofs.FitLaws.{leases-changed, looked_not}
 use Rattle.node.proofs.PurgeLaws.{held-on-at}
 use Rattle.node.proofs.RefusedLaws.{reason-at}
 use Rattle.drains.specs.Turns.{HasFailed, HasProposed, HasStepped, HasTaken, IsAtWork, IsOwnRefusal, sent_at, worker_of}
-use Rattle.drains.proofs.TurnLaws.{IsWrite, at_work-after, current, failed-claim, failed-refused, interval-counted, moved-before, stepped-by, stepped-looked}
+use Rattle.drains.proofs.TurnLaws.{IsWrite, at_work-after, current, failed-refused, interval-counted, moved-before, stepped-by, stepped-looked}
 
 -- ---- what is held
 
@@ -69,14 +68,16 @@ pub held-if : (P : HeldView → Type 0) (all : List (Option HeldView)) (interval
 held-if P all interval here there is = subst (λ (o : Option HeldView). IfSome o P) (sym there) is
 
 -- a drain that holds what fits a book fits it
-pub worker-fits : (case : CaseShape) (book : BookView) (all : List (Option HeldView)) → book.case ≡ case → AreAllHeld case (own_view book) all
+pub worker-fits : (case : CaseShape) (book : BookView) (all : List (Option HeldView)) → book.case ≡ case → AreAllHeld case
+    (own_view book) all
     → Fits case (own_view book) (worker_of all)
 worker-fits case book all same held = record { of_case = same; held = held; work = tt; outbox = All-nil _ }
 
 -- ---- an entry that was written
 
 -- a drain is at work once an entry is written on a row that it holds
-pub at_work-entry : (case : CaseShape) (old new : BookView) (was now : List (Option HeldView)) (interval : ℕ) (name : RowName) (commit : ℕ)
+pub at_work-entry : (case : CaseShape) (old new : BookView) (was now : List (Option HeldView)) (interval : ℕ) (name : RowName)
+    (commit : ℕ)
     (IsEntry : LeaseView → Contents → Written → Type 0) (entry : Entry) → case ≡ old.case → IsAtWork old (worker_of was)
     → AreAllHeld case (own_view new) now → HoldsEntry case.topology interval name commit IsEntry was now
     → HasStepped old new (Some entry) → IsWrite entry → IsAtWork new (worker_of now)
@@ -86,7 +87,8 @@ at_work-entry case old new was now interval name commit IsEntry entry same at he
     (leases-written case.topology interval name commit IsEntry was now h) refl
 
 -- the entry of a proposal is no claim
-proposed-write : (case : CaseShape) (seq : ℕ) (name : RowName) (proposal : Proposal) (entry : Entry) → IsEntryOf case seq name proposal entry
+proposed-write : (case : CaseShape) (seq : ℕ) (name : RowName) (proposal : Proposal) (entry : Entry) → IsEntryOf case seq name
+    proposal entry
     → IsWrite entry
 proposed-write case seq name (proposals.Inject line) entry is = λ interval. ap (is_claim interval) is.1.1
 proposed-write case seq name (proposals.Handle delivery effects) entry is = λ interval. ap (is_claim interval) is
@@ -95,7 +97,8 @@ proposed-write case seq name (proposals.Fire timer mark effects) entry is = λ i
 -- what a proposal leaves that was written, as it is answered
 abbrev HoldsProposal : Shape → BookView → BookView → ℕ → RowName → Proposal → ℕ → List (Option HeldView) → List (Option HeldView) → Type 0
 HoldsProposal shape old new interval name proposal commit was now = HoldsEntry shape interval name commit
-    (λ (lease : LeaseView) (row : Contents) (answer : Written). HasWritten (own_view old) (own_view new) lease name proposal row answer) was now
+    (λ (lease : LeaseView) (row : Contents) (answer : Written). HasWritten (own_view old) (own_view new) lease name proposal row
+    answer) was now
 
 -- what was proposed stands behind the history
 proposed : (shape : Shape) (old new : BookView) (interval : ℕ) (name : RowName) (proposal : Proposal) (commit : ℕ)
@@ -126,7 +129,8 @@ proposed-at_work case old new interval name proposal commit was now same at held
     (proposed-write old.case h.held.lease.seq name proposal is.entry is.of_proposal)
 
 -- what an entry leaves that was stored, as it is answered
-abbrev HoldsStored : Shape → BookView → BookView → ℕ → RowName → (ℕ → Entry) → ℕ → List (Option HeldView) → List (Option HeldView) → Type 0
+abbrev HoldsStored : Shape → BookView → BookView → ℕ → RowName → (ℕ → Entry) → ℕ → List (Option HeldView) → List (Option HeldView) →
+    Type 0
 HoldsStored shape old new interval name entry commit was now = HoldsEntry shape interval name commit
     (λ (lease : LeaseView) (row : Contents) (answer : Written). HasStored (own_view old) (own_view new) lease name (entry lease.seq) row
     (λ number. written_row number (entry lease.seq) [] row) answer) was now
@@ -203,7 +207,8 @@ failed-lease old new lease why fault is looked reason = failed-refused old new l
 })
 
 -- so by that of a call on a row that is held
-pub failed-held : (old new : BookView) (all : List (Option HeldView)) (name : RowName) (interval : ℕ) (why : DeskRefusal) (fault : NodeFault)
+pub failed-held : (old new : BookView) (all : List (Option HeldView)) (name : RowName) (interval : ℕ) (why : DeskRefusal)
+    (fault : NodeFault)
     → IsAtWork old (worker_of all) → interval_of old.case.topology name ≡ Some interval → refusal_of fault ≡ why
     → HasLooked (own_view old) (own_view new) → IsRefusedOf (own_view old) (own_view new) all interval why → HasFailed old new fault
 failed-held old new all name interval why fault at covers is looked reason =
@@ -215,7 +220,8 @@ failed-held old new all name interval why fault at covers is looked reason =
 
 -- a claim that was accepted was taken
 pub claim-taken : (case : CaseShape) (old new : BookView) (interval seq : ℕ) (was now : List (Option HeldView)) → case ≡ old.case
-    → AreAllHeld case (own_view new) now → HoldsClaim (own_view old) (own_view new) 0 interval seq was now → HasTaken old new interval (worker_of was) (worker_of now)
+    → AreAllHeld case (own_view new) now → HoldsClaim (own_view old) (own_view new) 0 interval seq was now → HasTaken old new
+    interval (worker_of was) (worker_of now)
 claim-taken case old new interval seq was now of_case held h =
     let claimed = h.claimed in
     let stepped = stepped-by old new claimed.before (Some _) claimed.moved claimed.appended in
@@ -234,18 +240,18 @@ claim-taken case old new interval seq was now of_case held h =
 -- ---- a report
 
 -- what is held stays where a call only looked
-pub at_work-looked : (case : CaseShape) (old new : BookView) (was now : List (Option HeldView)) → case ≡ old.case → IsAtWork old (worker_of was)
-    → IsSound (own_view old) → IsSound (own_view new) → HasLooked (own_view old) (own_view new) → now ≡ was → IsAtWork new (worker_of now)
-at_work-looked case old new was now same at sound now_sound looked is =
+pub at_work-looked : (old new : BookView) (all : List (Option HeldView)) → IsAtWork old (worker_of all) → IsSound (own_view old)
+    → IsSound (own_view new) → HasLooked (own_view old) (own_view new) → IsAtWork new (worker_of all)
+at_work-looked old new all at sound now_sound looked =
     let stepped = stepped-looked old new looked in
-    let kept = AreAllHeld-looked old.case (own_view old) (own_view new) was was refl sound now_sound looked (λ i. refl) at.fits.held in
-    subst (λ (all : List (Option HeldView)). IsAtWork new (worker_of all)) (sym is)
-    (at_work-after old new (worker_of was) (worker_of was) None at stepped tt (worker-fits old.case new was stepped.case kept) refl refl)
+    let kept = AreAllHeld-looked old.case (own_view old) (own_view new) all all refl sound now_sound looked (λ i. refl) at.fits.held in
+    at_work-after old new (worker_of all) (worker_of all) None at stepped tt (worker-fits old.case new all stepped.case kept) refl refl
 
 -- a report under a last lease is not refused
 pub report-taken : (old new : BookView) (lease : LeaseView) (why : DeskRefusal) → IsCurrent lease.interval lease.seq old.history
     → HasLooked (own_view old) (own_view new) → HasReason (own_view old) (own_view new) lease why → IsReportRefusal why → ⊥
-report-taken old new lease (refusals.Busy found) last looked reason only = refusal-own old new lease (refusals.Busy found) last looked reason
+report-taken old new lease (refusals.Busy found) last looked reason only = refusal-own old new lease (refusals.Busy found) last
+    looked reason
 report-taken old new lease (refusals.Stale newer) last looked reason only =
     refusal-own old new lease (refusals.Stale newer) last looked reason
 report-taken old new lease refusals.HistoryFull last looked reason only = only
@@ -285,7 +291,8 @@ fresh-here shape all name interval here there is = ap (λ (o : Option Contents).
 -- what a row has pending, by the row that is cached
 pub sent-cached : (shape : Shape) (all : List (Option HeldView)) (name : RowName) (interval : ℕ) (id : RecordId)
     → interval_of shape name ≡ Some interval
-    → sent_at shape (worker_of all) name id ≡ option_and_then (λ (row : Contents). found_delivery id row.pending) (cached_at all interval name)
+    → sent_at shape (worker_of all) name id ≡ option_and_then (λ (row : Contents). found_delivery id row.pending)
+    (cached_at all interval name)
 sent-cached shape all name interval id covers =
     ap (λ (o : Option ℕ). option_and_then (λ (h : HeldView). found_delivery id (row_held shape h name).pending)
     (option_and_then (held_at all) o)) covers ∙ by_held (held_at all interval)

@@ -1,7 +1,7 @@
 -- What a report leaves of the marks of a book.
-use Rattle.std.proofs.Common.{◌≡◌, ◌<◌, ◌≤◌, ◌+◌, ℕ, zero, suc, List, [], ◌∷◌, ◌++◌, length, refl, sym, ◌∙◌, ap, subst, arith}
+use Rattle.std.proofs.Common.{◌≡◌, ◌<◌, ◌≤◌, ◌+◌, ℕ, zero, suc, List, [], ◌∷◌, length, refl, sym, ◌∙◌, ap, subst, arith}
 use Rattle.key_intervals.specs.declared.bounds.Bounds.{Bounds}
-use Rattle.std.specs.Prelude.{Option, Some, None, IsSome, max, min, slice_get}
+use Rattle.std.specs.Prelude.{Option, Some, None, IsSome, IfSome, max, min, slice_get}
 use Rattle.mw_types.specs.declared.entry.Entry.{Entry}
 use Rattle.topology.specs.Rules.{IsTopology, interval_count}
 use Rattle.run_history.specs.Cases.{CaseShape, intervals_of}
@@ -14,6 +14,7 @@ use Rattle.run_history.proofs.Known.{known-last}
 use Rattle.list_lemmas.proofs.Lists.{some_same}
 use Rattle.watermark.specs.Marks.{feeding_marks, mark_of}
 use Rattle.book.specs.Books.{BookView, LeaseView}
+use Rattle.book.specs.Conditions.{IsOwnWork}
 use Rattle.book.specs.Desking.{IsReported}
 use Rattle.book.specs.Marks.{reported, with_mark}
 use Rattle.book.specs.OwnDesks.{own_view}
@@ -21,28 +22,40 @@ use Rattle.holdings.specs.Holding.{HeldView, IsHeld, held_at}
 use Rattle.holdings.proofs.OwnLaws.{own_work-known}
 use Rattle.node.specs.Workers.{NodeView}
 use Rattle.drains.specs.ReportRounds.{marks_after_round, with_report}
-use Rattle.drains.specs.Turns.{HasReported, HasStepped, IsAtWork, worker_of}
+use Rattle.drains.specs.Turns.{HasReported, HasStepped, IsAtWork, IsOwnOf, worker_of}
 use Rattle.drains.proofs.GoLaws.{told-on}
+use Rattle.drains.proofs.HeldLaws.{if-held}
 use Rattle.drains.proofs.KnownLaws.{told-fact}
 use Rattle.drains.proofs.Marked.{mark-same}
 use Rattle.drains.proofs.RoundLaws.{marks_after_reports, marks_after_reports-all, marks_after_reports-next}
 use Rattle.drains.proofs.TurnLaws.{stepped-not, stepped-on}
 
+-- what was found is own work, by the case that a book tells
+pub own-is : (case : CaseShape) (book : BookView) (all : List (Option HeldView)) (interval own : ℕ) → case ≡ book.case
+    → ((held : HeldView) (bounds : Bounds) → held_at all interval ≡ Some held → slice_get (intervals_of case.topology) interval ≡
+    Some bounds
+    → own ≡ own_work case (cached held.rows) bounds)
+    → IfSome (held_at all interval) (λ held. IsOwnWork case (own_view book).told (own_view book).seen held.lease own)
+    → IsOwnOf book all interval own
+own-is case book all interval own same exact known = record {
+  of_rows = subst (λ (k : CaseShape). (held : HeldView) (bounds : Bounds) → held_at all interval ≡ Some held
+      → slice_get (intervals_of k.topology) interval ≡ Some bounds → own ≡ own_work k (cached held.rows) bounds) same exact;
+  known = λ held there. subst (λ (k : CaseShape). IsOwnWork k (own_view book).told (own_view book).seen held.lease own) same
+      (if-held (λ (h : HeldView). IsOwnWork case (own_view book).told (own_view book).seen h.lease own) all interval held there known);
+}
+
 -- a mark that was reported is that of the interval's own work
-pub marked-reported : (case : CaseShape) (old new : BookView) (all : List (Option HeldView)) (interval mark own : ℕ) (held : HeldView)
-    (lease : LeaseView) → case ≡ old.case → IsAtWork old (worker_of all) → IsTopology old.case.topology → held_at all interval ≡ Some held
-    → interval < interval_count old.case.topology
-    → ((h : HeldView) (b : Bounds) → held_at all interval ≡ Some h → slice_get (intervals_of case.topology) interval ≡ Some b
-    → own ≡ own_work case (cached h.rows) b)
-    → lease ≡ held.lease → IsReported (own_view old) (own_view new) lease own mark → IsSome old.rows → HasReported old new interval
-marked-reported case old new all interval mark own held lease of_case at rules there less exact same_lease reported_mark told bounds bounded =
+pub marked-reported : (old new : BookView) (all : List (Option HeldView)) (interval mark own : ℕ) (held : HeldView)
+    (lease : LeaseView) → IsAtWork old (worker_of all) → IsTopology old.case.topology → held_at all interval ≡ Some held
+    → interval < interval_count old.case.topology → IsOwnOf old all interval own → lease ≡ held.lease
+    → IsReported (own_view old) (own_view new) lease own mark → IsSome old.rows → HasReported old new interval
+marked-reported old new all interval mark own held lease at rules there less found same_lease reported_mark told bounds bounded =
     let is : IsHeld old.case (own_view old) interval held = at.fits.held.each interval held there in
     let last = at.each interval less in
     let same : last.held ≡ held = some_same last.held held (sym last.there ∙ there) in
     let current : last_claim interval old.history ≡ Some held.lease.seq = subst (λ (h : HeldView).
     last_claim interval old.history ≡ Some h.lease.seq) same last.last in
-    let of_rows = subst (λ (k : CaseShape). (h : HeldView) (b : Bounds) → held_at all interval ≡ Some h
-    → slice_get (intervals_of k.topology) interval ≡ Some b → own ≡ own_work k (cached h.rows) b) of_case exact held bounds there bounded in
+    let of_rows = found.of_rows held bounds there bounded in
     let known_own = told-fact old.rows (own ≡ own_work old.case
     (run_of old.case.topology (known held.lease.interval held.lease.seq old.history)) bounds) told
     (own_work-known old.case (own_view old) interval held bounds is bounded rules own of_rows) in
@@ -55,7 +68,8 @@ marked-reported case old new all interval mark own held lease of_case at rules t
     raised.raised
     ∙ ap (λ (m : ℕ). with_mark held.lease.interval m old.marks) raised.answer
     ∙ ap (λ (o : ℕ). with_mark held.lease.interval (reported old.case.topology held.lease.interval o old.marks) old.marks) work
-    ∙ ap (λ (i : ℕ). with_mark i (reported old.case.topology i (own_work old.case (run_of old.case.topology old.history) bounds) old.marks)
+    ∙ ap (λ (i : ℕ). with_mark i (reported old.case.topology i (own_work old.case (run_of old.case.topology old.history) bounds)
+    old.marks)
     old.marks) is.of_interval
 
 -- a mark that has come up to those that feed its interval stays, whatever the own work is

@@ -5,8 +5,7 @@ use Rattle.std.specs.Option.{option_map_or}
 use Rattle.mw_types.specs.Outcomes.{EffectsView}
 use Rattle.mw_types.specs.declared.delivery.Delivery.{Delivery}
 use Rattle.mw_types.specs.declared.identity.RowName.{RowName}
-use Rattle.topology.specs.Shapes.{Shape}
-use Rattle.row_parts.specs.Contents.{Contents, is_finished}
+use Rattle.row_parts.specs.Contents.{is_finished}
 use Rattle.run_history.specs.Fences.{interval_of}
 use Rattle.run_history.specs.Runs.{run_of}
 use Rattle.history_laws.proofs.SentLaws.{pending-as_made}
@@ -15,7 +14,7 @@ use Rattle.book.specs.Desking.{IsKnownOf}
 use Rattle.book.specs.OwnDesks.{own_view}
 use Rattle.book.specs.Proposals.{IsHandling}
 use Rattle.book.specs.declared.proposal.Proposal.TheVariants as proposals
-use Rattle.holdings.specs.Holding.{HeldView, held_at, held_on, row_held}
+use Rattle.holdings.specs.Holding.{HeldView, held_at, row_held}
 use Rattle.node.proofs.PurgeLaws.{held-on-at}
 use Rattle.drains.specs.Drains.{is_full}
 use Rattle.drains.specs.Standings.{IsFound, IsStandingIn, StandsIn}
@@ -92,7 +91,8 @@ stands-handling book all interval d effects at covers kept stands =
     (record { id = kept.id; to_row = refl; new = is.left; does = is.does })
 
 -- and was made, where that is told
-pub stands-known : (book : BookView) (all : List (Option HeldView)) (sender : RowName) (interval : ℕ) (d : Delivery) (effects : EffectsView)
+pub stands-known : (book : BookView) (all : List (Option HeldView)) (sender : RowName) (interval : ℕ) (d : Delivery)
+    (effects : EffectsView)
     → IsFound book (worker_of all) sender d → interval_of book.case.topology d.to ≡ Some interval
     → StandsIn book all interval d (standings.Handled effects)
     → IsKnownOf (own_view book) d.to (proposals.Handle d effects)

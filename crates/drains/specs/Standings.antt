@@ -38,8 +38,9 @@ IsStandingIn case run row delivery (standings.Handled effects) = IsToWrite case 
 
 -- how a record stands in its row as that is held of an interval
 abbrev pub StandsIn : BookView → List (Option HeldView) → ℕ → Delivery → Standing → Type 0
-StandsIn book all interval d found = IfSome (held_at all interval) (λ (here : HeldView).
-    IsStandingIn book.case (run_of book.case.topology book.history) (row_held book.case.topology here d.to) d found)
+StandsIn book all interval d found = let shape = book.case.topology in
+    IfSome (held_at all interval) (λ (here : HeldView).
+    IsStandingIn book.case (run_of shape book.history) (row_held shape here d.to) d found)
 
 -- the record of the least id that is not acknowledged, as its sender's row has it pending that is held
 pub record IsFound (book : BookView) (node : NodeView) (sender : RowName) (d : Delivery) : Type 0 where

@@ -11,9 +11,9 @@ ghost use Rattle.book.specs.Books.{core_of};
 ghost use Rattle.book.specs.Lawful.{IsLawful};
 ghost use Rattle.watermark.specs.Marks.{marks_of};
 ghost use Rattle.node.specs.Asking.{IsNextTimer, MayAskFire};
-ghost use Rattle.node.specs.FireSteps.{IsLeftByHandler, IsSetAt};
+ghost use Rattle.node.specs.FireSteps.{IsLeftByHandler, IsSetAt, IsTimerToFire};
 ghost use Rattle.drains.specs.ReportRounds.{marks_after_round};
-ghost use Rattle.drains.specs.Turns.{AreExact, HasAskedOne, HasFailed, HasReported, HasStepped, HasTurned, IsAtWork, IsFullAsking, IsFullUnended, IsQuiet, IsQuietAt, IsSettled, WhereTold, worker_of};
+ghost use Rattle.drains.specs.Turns.{AreExact, HasAskedOne, HasFailed, HasReported, HasStepped, HasTurned, IsAtWork, IsFullAsking, IsFullUnended, IsOwnOf, IsQuiet, IsQuietAt, IsSettled, WhereTold, worker_of};
 
 use crate::first_timers::first_due;
 use crate::writes::write;
@@ -91,18 +91,49 @@ fn raise<'a, K: Keeper>(
     ensures failed { IfErr result (HasFailed book.old book.new) }
     ensures memory { IfErr result (λ why. why ≡ NodeFault.NoMemory) }
 {
+    let own = own_of(alloc, book, held, interval)?;
+    report_own(book, held, interval, own);
+    Ok(())
+}
+
+// The own work of an interval.
+fn own_of<'a, K: Keeper>(
+    alloc: Global,
+    book: &mut Book<'a, K>,
+    held: &mut Holdings,
+    interval: u32,
+) -> Result<u64, NoMemory>
+    requires at_work { IsAtWork book.old (worker_of held.old) }
+    requires there { interval < interval_count book.old.case.topology }
+    ensures own { IfOk result (IsOwnOf book.old held.old interval) }
+    ensures held { held.new ≡ held.old }
+    ensures book { book.new ≡ book.old }
+{
     let case = book.case();
     // Every topology keeps the rules that intervals need.
     let _parts = case.topology.parts();
     let _all = case.intervals();
+    let desk = OwnDesk { book };
+    held.own_work(alloc, &desk, case, interval)
+}
+
+// Reports own work of an interval that was found, which no other's turn and no later claim refuses.
+fn report_own<'a, K: Keeper>(book: &mut Book<'a, K>, held: &Holdings, interval: u32, own: u64)
+    requires at_work { IsAtWork book.old (worker_of held.now) }
+    requires there { interval < interval_count book.old.case.topology }
+    requires own { IsOwnOf book.old held.now interval own }
+    ensures stepped { HasStepped book.old book.new None }
+    ensures at_work { IsAtWork book.new (worker_of held.now) }
+    ensures reported { WhereTold book.old (HasReported book.old book.new interval) }
+{
+    // Every topology keeps the rules that intervals need.
+    let _parts = book.case().topology.parts();
     let mut desk = OwnDesk { book };
     desk.sound();
-    let own = held.own_work(alloc, &desk, case, interval)?;
     let reported = desk.report(held.get(interval).unwrap().lease(), own);
     desk.sound();
     match reported {
-        Ok(_) => Ok(()),
-        // Only where another has the turn, or the lease was overtaken.
+        Ok(_) => {}
         Err(_) => unreachable!(),
     }
 }
@@ -152,7 +183,8 @@ fn fire<'a, K: Keeper, C: Computation>(
     requires part { IsComputation book.old.case.topology part }
     ensures asked { let case = book.old.case in
         let mark = least (marks_of case.topology part book.old.marks) in
-        IfOk result (HasAskedOne book.old book.new (MayAskFire case (worker_of held.old) part mark)) }
+        IfOk result (HasAskedOne book.old book.new
+        (MayAskFire case (worker_of held.old) part mark)) }
     ensures lawful { IsLawful book.old.case (core_of book.old) }
     ensures marks { OnOk result (book.new.marks ≡ book.old.marks) }
     ensures at_work { OnOk result (IsAtWork book.new (worker_of held.new)) }
@@ -165,7 +197,35 @@ fn fire<'a, K: Keeper, C: Computation>(
     book.history();
     let case = book.case();
     let mark = low(case, part, book.marks());
-    match first_due(held, alloc, case, part, mark)? {
+    let found = first_due(held, alloc, case, part, mark)?;
+    fire_found(alloc, book, work, held, part, found, mark)
+}
+
+// Fires what was found to be the next timer of a computation, where it is due.
+fn fire_found<'a, K: Keeper, C: Computation>(
+    alloc: Global,
+    book: &mut Book<'a, K>,
+    work: &C,
+    held: &mut Holdings,
+    part: u32,
+    found: Option<RowTimer>,
+    mark: u64,
+) -> Result<bool, NodeFault>
+    requires work { IsWorkOf book.old.case.topology (C.has work.now)
+        (C.gives_record work.now) (C.gives_timer work.now) }
+    requires at_work { IsAtWork book.old (worker_of held.old) }
+    requires part { IsComputation book.old.case.topology part }
+    requires found { IsTimerToFire book.old.case.topology (worker_of held.old) part mark found }
+    requires exact { mark ≡ least (marks_of book.old.case.topology part book.old.marks) }
+    ensures asked { IfOk result (HasAskedOne book.old book.new
+        (MayAskFire book.old.case (worker_of held.old) part mark)) }
+    ensures marks { OnOk result (book.new.marks ≡ book.old.marks) }
+    ensures at_work { OnOk result (IsAtWork book.new (worker_of held.new)) }
+    ensures failed { IfErr result (HasFailed book.old book.new) }
+    ensures asking { IfErr result (IsFullAsking
+        (MayAskFire book.old.case (worker_of held.old) part mark)) }
+{
+    match found {
         Some(found) => {
             let fired = fire_one(alloc, book, work, held, &found, mark);
             drop(found);
@@ -190,7 +250,8 @@ fn fire_one<'a, K: Keeper, C: Computation>(
     requires part { IsComputation book.old.case.topology found.now.name.part }
     requires next { IsNextTimer book.old.case.topology (worker_of held.old) found.now.name.part mark
         found.now.name found.now.timer }
-    requires known { mark ≤ least (marks_of book.old.case.topology found.now.name.part book.old.marks) }
+    requires known { let part = found.now.name.part in
+        mark ≤ least (marks_of book.old.case.topology part book.old.marks) }
     ensures asked { let part = found.now.name.part in
         IfOk result (HasAskedOne book.old book.new
         (MayAskFire book.old.case (worker_of held.old) part mark)) }
@@ -220,7 +281,8 @@ fn write_fire<'a, K: Keeper>(
     requires covers { interval_of book.old.case.topology found.now.name ≡ Some interval }
     requires next { IsNextTimer book.old.case.topology (worker_of held.old) found.now.name.part mark
         found.now.name found.now.timer }
-    requires known { mark ≤ least (marks_of book.old.case.topology found.now.name.part book.old.marks) }
+    requires known { let part = found.now.name.part in
+        mark ≤ least (marks_of book.old.case.topology part book.old.marks) }
     requires set { IsSetAt book.old.case.topology held.old interval found.now.name found.now.timer }
     requires left { IsLeftByHandler book.old.case held.old interval
         found.now.name found.now.timer effects }

@@ -72,7 +72,8 @@ fn inject_on<'a, K: Keeper>(
     requires at_work { IsAtWork book.old (worker_of held.old) }
     requires injector { name.now.part < injectors_of book.old.case.topology }
     requires name { name.now ≡ injector_row name.now.part }
-    requires next { line_at book.old.case (worker_of held.old) name.now.part ≡ Some (line, name.now.part) }
+    requires next { let part = name.now.part in
+        line_at book.old.case (worker_of held.old) part ≡ Some (line, part) }
     ensures asked { let asked = line_asked book.old.case (worker_of held.old) name.now.part in
         OnOk result (HasAsked book.old book.new asked true) }
     ensures at_work { OnOk result (IsAtWork book.new (worker_of held.new)) }
@@ -98,7 +99,8 @@ fn injector_row(alloc: Global, part: u32) -> RowName
     }
 }
 
-// The least count of lines that were injected, of the injectors that have one left, and the injector.
+// The least count of lines that were injected, of the injectors that have one left, and the
+// injector.
 fn next_line(alloc: Global, case: &Case, held: &Holdings) -> Option<(u32, u32)>
     ensures { IsBestLine case.now (worker_of held.now) (injectors_of case.now.topology) result }
 {

@@ -58,6 +58,31 @@ pub(crate) fn work_on<'a, K: Keeper, C: Computation>(
     if is_last_handled(book.history(), id) {
         return acknowledge(alloc, book, held, interval, sender, id);
     }
+    work_on_pending(alloc, book, work, held, interval, sender, id)
+}
+
+// Works on what a row has pending under the least id that is not acknowledged.
+fn work_on_pending<'a, K: Keeper, C: Computation>(
+    alloc: Global,
+    book: &mut Book<'a, K>,
+    work: &C,
+    held: &mut Holdings,
+    interval: u32,
+    sender: &RowName,
+    id: RecordId,
+) -> Result<bool, NodeFault>
+    requires work { IsWorkOf book.old.case.topology (C.has work.now)
+        (C.gives_record work.now) (C.gives_timer work.now) }
+    requires at_work { IsAtWork book.old (worker_of held.old) }
+    requires least { let shape = book.old.case.topology in
+        IsLeastSent shape (run_of shape book.old.history) id sender.now }
+    requires part { sender.now.part < parts_of book.old.case.topology }
+    requires covers { interval_of book.old.case.topology sender.now ≡ Some interval }
+    ensures turned { IfOk result (HasTurned book.old book.new) }
+    ensures at_work { OnOk result (IsAtWork book.new (worker_of held.new)) }
+    ensures more { IfOk result (λ more. WhereTold book.old (more ≡ true)) }
+    ensures failed { IfErr result (HasFailed book.old book.new) }
+{
     match sent(alloc, held, interval, sender, id)? {
         Some(delivery) => work_on_sent(alloc, book, work, held, interval, sender, delivery),
         // Only over a keeper whose rows are wrong: what was read there is not what was written.
@@ -94,9 +119,7 @@ fn work_on_sent<'a, K: Keeper, C: Computation>(
     book.history();
     let to = book.case().interval_of(&delivery.to);
     match standing_of(alloc, book, work, held, to, &delivery) {
-        Ok(standing) => {
-            work_by(alloc, book, held, interval, sender, to, delivery, standing)
-        }
+        Ok(standing) => { work_by(alloc, book, held, interval, sender, to, delivery, standing) }
         Err(NoMemory) => {
             drop(delivery);
             Err(NodeFault::NoMemory)
@@ -282,8 +305,9 @@ fn handle<'a, K: Keeper>(
     requires at_work { IsAtWork book.old (worker_of held.old) }
     requires part { delivery.to.part < parts_of book.old.case.topology }
     requires covers { interval_of book.old.case.topology delivery.to ≡ Some interval }
-    requires handling { let shape = book.old.case.topology in IfSome (held_at held.old interval)
-        (λ here. IsHandling book.old.case delivery.to (row_held shape here delivery.to) delivery effects) }
+    requires handling { let case = book.old.case in IfSome (held_at held.old interval) (λ here.
+        let row = row_held case.topology here delivery.to in
+        IsHandling case delivery.to row delivery effects) }
     requires sent { let desk = own_view book.old in
         IsKnownOf desk delivery.to (proposals.Handle delivery effects) }
     ensures handled { IfOk result (HasHandled book.old book.new delivery) }

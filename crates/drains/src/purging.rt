@@ -6,6 +6,7 @@ ghost use Rattle.book.specs.Books.{core_of};
 ghost use Rattle.book.specs.Lawful.{IsLawful};
 ghost use Rattle.run_history.specs.Runs.{run_of};
 ghost use Rattle.node.specs.Asking.{MayAskPurge};
+ghost use Rattle.node.specs.PurgeSteps.{IsToPurge};
 ghost use Rattle.drains.specs.Turns.{HasAskedOne, HasFailed, HasTurned, IsAtWork, IsEndOf, IsFullAsking, IsFullUnended, IsInjected, IsQuiet, IsSettled, WhereTold, worker_of};
 ghost use Rattle.holdings.specs.Holding.{held_at};
 ghost use Rattle.holdings.specs.Purges.{IsFirstToPurge};
@@ -70,7 +71,30 @@ fn purge<'a, K: Keeper>(
     // Its clauses say what always holds of a book.
     book.history();
     let floor = book.floor();
-    match to_purge(alloc, held, interval, floor)? {
+    let found = to_purge(alloc, held, interval, floor)?;
+    purge_found(alloc, book, held, interval, found, floor)
+}
+
+// Has what was found to be the first row of an interval that has ids to forget forget them.
+fn purge_found<'a, K: Keeper>(
+    alloc: Global,
+    book: &mut Book<'a, K>,
+    held: &mut Holdings,
+    interval: u32,
+    found: Option<RowName>,
+    floor: u64,
+) -> Result<bool, NodeFault>
+    requires at_work { IsAtWork book.old (worker_of held.old) }
+    requires found { IsToPurge book.old.case.topology (worker_of held.old) interval 1 floor found }
+    requires floor { floor ≡ floor_of (run_of book.old.case.topology book.old.history) }
+    ensures asked { IfOk result (HasAskedOne book.old book.new
+        (MayAskPurge book.old.case.topology (worker_of held.old) interval 1 floor)) }
+    ensures at_work { OnOk result (IsAtWork book.new (worker_of held.new)) }
+    ensures failed { IfErr result (HasFailed book.old book.new) }
+    ensures asking { IfErr result (IsFullAsking
+        (MayAskPurge book.old.case.topology (worker_of held.old) interval 1 floor)) }
+{
+    match found {
         Some(name) => {
             let purged = purge_row(alloc, book, held, interval, &name, floor);
             drop(name);

@@ -93,4 +93,3 @@ fn is_full<'a, K: Keeper>(book: &Book<'a, K>, row: &Row) -> bool
 {
     64 <= row.seen.len() && row.floor < book.floor()
 }
-

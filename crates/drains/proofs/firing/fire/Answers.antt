@@ -1,17 +1,15 @@
-use Rattle.std.proofs.Common.{◌≡◌, ◌≤◌, ap, arith, rules, subst, sym}
-use Rattle.std.specs.Prelude.{IfErr, None, Some}
+use Rattle.std.proofs.Common.{◌≡◌, rules, subst, sym}
+use Rattle.std.specs.Prelude.{IfErr, IfOk}
+use Rattle.run_history.specs.Cases.{CaseShape}
 use Rattle.run_history.specs.Watermarks.{least}
 use Rattle.watermark.specs.Marks.{marks_of}
-use Rattle.run_history.specs.Cases.{CaseShape}
 use Rattle.book.specs.OwnDesks.{own_view}
-use Rattle.holdings.specs.Holding.{held_at}
-use Rattle.node.specs.Asking.{IsNextTimer, MayAskFire}
-use Rattle.node.specs.FireSteps.{AreAllWithin, IsTimerToFire}
-use Rattle.node.specs.Messages.{IsComputation}
+use Rattle.node.specs.Asking.{MayAskFire}
+use Rattle.node.specs.FireSteps.{AreAllWithin}
 use Rattle.node.specs.declared.outcome.NodeFault.TheVariants as faults
 use Rattle.node.proofs.FirstLaws.{rows-within}
-use Rattle.drains.specs.Turns.{HasAskedOne, IsAtWork, worker_of}
-use Rattle.drains.proofs.CallLaws.{asked-none, fire-fails, fire-of, memory-asking, next-own}
+use Rattle.drains.specs.Turns.{HasAskedOne, IsFullAsking, worker_of}
+use Rattle.drains.proofs.CallLaws.{memory-asking}
 use Rattle.drains.proofs.Results.{err-then}
 use Rattle.drains.proofs.firing.fire.Goals as goal
 
@@ -24,50 +22,29 @@ first_due-requires g c =
           (λ interval. rows-within book.case (own_view book) (worker_of c.args.held.now) interval c.requires.at_work.fits);
     }
 
--- the timer's row is of the part
-pub fire_one-fired-requires-clause-part : goal.fire_one-fired-requires-clause-part
-fire_one-fired-requires-clause-part g c =
+-- a timer that was asked for under the mark has fired under the least
+pub returns-clause-asked : goal.returns-clause-asked
+returns-clause-asked g c =
     let book = c.args.book.now in
-    let next : IsNextTimer book.case.topology (worker_of c.args.held.now) c.args.part c.low-mark.result c.in-Some.found.name
-    c.in-Some.found.timer = search rules in
-    subst (IsComputation book.case.topology) (sym next.set.of_part) c.requires.part
-
--- and it is next there
-pub fire_one-fired-requires-clause-next : goal.fire_one-fired-requires-clause-next
-fire_one-fired-requires-clause-next g c =
-    let book = c.args.book.now in
-    let next : IsNextTimer book.case.topology (worker_of c.args.held.now) c.args.part c.low-mark.result c.in-Some.found.name
-    c.in-Some.found.timer = search rules in
-    let own = next-own book.case.topology (worker_of c.args.held.now) c.args.part c.low-mark.result c.in-Some.found.name
-    c.in-Some.found.timer next in search rules
-
--- under the least mark of the part
-pub fire_one-fired-requires-clause-known : goal.fire_one-fired-requires-clause-known
-fire_one-fired-requires-clause-known g c =
-    let book = c.args.book.now in
-    let next : IsNextTimer book.case.topology (worker_of c.args.held.now) c.args.part c.low-mark.result c.in-Some.found.name
-    c.in-Some.found.timer = search rules in
     let exact : c.low-mark.result ≡ least (marks_of book.case.topology c.args.part book.marks) = search rules in
-    subst (λ p. c.low-mark.result ≤ least (marks_of book.case.topology p book.marks)) (sym next.set.of_part)
-    (omega (arith, exact))
+    let asked : IfOk c.fire_found.result (HasAskedOne book c.fire_found.new.book
+    (MayAskFire book.case (worker_of c.args.held.now) c.args.part c.low-mark.result)) = search rules in
+    subst (λ m. IfOk c.fire_found.result (HasAskedOne book c.fire_found.new.book
+    (MayAskFire book.case (worker_of c.args.held.now) c.args.part m))) exact asked
 
--- a timer that was asked for has fired
-pub returns-in-Some-clause-asked : goal.returns-in-Some-clause-asked
-returns-in-Some-clause-asked g c =
+-- one that failed too
+pub returns-clause-asking : goal.returns-clause-asking
+returns-clause-asking g c =
     let book = c.args.book.now in
-    let worker = worker_of c.args.held.now in
-    let next : IsNextTimer book.case.topology worker c.args.part c.low-mark.result c.in-Some.found.name
-    c.in-Some.found.timer = search rules in
     let exact : c.low-mark.result ≡ least (marks_of book.case.topology c.args.part book.marks) = search rules in
-    fire-of book c.fire_one-fired.new.book worker c.args.part c.in-Some.found.name.part c.low-mark.result _ c.fire_one-fired.result
-    next.set.of_part exact (search rules)
+    let asking : IfErr c.fire_found.result (IsFullAsking
+    (MayAskFire book.case (worker_of c.args.held.now) c.args.part c.low-mark.result)) = search rules in
+    subst (λ m. IfErr c.fire_found.result (IsFullAsking
+    (MayAskFire book.case (worker_of c.args.held.now) c.args.part m))) exact asking
 
--- there is none to ask for
-pub returns-in-None-clause-asked : goal.returns-in-None-clause-asked
-returns-in-None-clause-asked g c =
-    let book = c.args.book.now in
-    let worker = worker_of c.args.held.now in
-    let none : IsTimerToFire book.case.topology worker c.args.part c.low-mark.result None = search rules in
-    let exact : c.low-mark.result ≡ least (marks_of book.case.topology c.args.part book.marks) = search rules in
-    subst (λ m. HasAskedOne book book (MayAskFire book.case worker c.args.part m) _) exact
-    (asked-none book (MayAskFire book.case worker c.args.part c.low-mark.result) (λ asked may. none may.name may.timer may.next))
+-- there was no memory to look
+pub returns-in_err-found-clause-asking : goal.returns-in_err-found-clause-asking
+returns-in_err-found-clause-asking g c =
+    let r = c.from_residual.result in
+    let none : IfErr r (λ why. why ≡ faults.NoMemory) = search rules in
+    err-then r (λ why is. memory-asking _ why is) none

@@ -41,5 +41,6 @@ pub returns-in_err-effects-clause-asking : goal.returns-in_err-effects-clause-as
 returns-in_err-effects-clause-asking g c =
     let r = c.from_residual.result in
     let none : IfErr r (λ why. why ≡ faults.NoMemory) = search rules in
-    err-then r (λ why is. memory-asking (MayAskFire c.args.book.now.case (worker_of c.args.held.now) c.args.found.now.name.part c.args.mark)
+    err-then r (λ why is. memory-asking
+    (MayAskFire c.args.book.now.case (worker_of c.args.held.now) c.args.found.now.name.part c.args.mark)
     why is) none

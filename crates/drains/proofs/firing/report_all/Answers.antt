@@ -6,7 +6,8 @@ use Rattle.drains.proofs.firing.report_all.Goals as goal
 -- an interval more
 pub loop-interval-preserved : goal.loop-interval-preserved
 loop-interval-preserved g c =
-    reports-on c.args.book.now c.loop-interval.book c.report.new.book (worker_of c.loop-interval.held) (worker_of c.report.new.held) c.loop-interval.interval
+    reports-on c.args.book.now c.loop-interval.book c.report.new.book (worker_of c.loop-interval.held) (worker_of c.report.new.held)
+    c.loop-interval.interval
     c.loop-interval.invariant (search (rules, arith)) (search rules) (search rules) (search rules)
 
 -- after the last the marks are those of a round

@@ -1,7 +1,6 @@
 use Rattle.std.proofs.Common.{rules, ◌≡◌, true}
-use Rattle.std.specs.Prelude.{IfSome, IsSome}
+use Rattle.std.specs.Prelude.{IsSome}
 use Rattle.holdings.specs.Holding.{held_at}
-use Rattle.holdings.specs.Timers.{IsFirstTimer}
 use Rattle.node.proofs.FireLaws.{first-held}
 use Rattle.drains.proofs.Results.{ok-then}
 use Rattle.drains.proofs.first_timers.first_in.Goals as goal

@@ -1,7 +1,7 @@
 use Rattle.std.proofs.Common.{false, refl, rules}
 use Rattle.std.specs.Prelude.{None, Some}
 use Rattle.topology.specs.Shapes.{injectors_of}
-use Rattle.drains.specs.Turns.{IsBestLine, IsNextInjector, worker_of}
+use Rattle.drains.specs.Turns.{IsBestLine, worker_of}
 use Rattle.drains.proofs.GoLaws.{turned-stayed}
 use Rattle.drains.proofs.FullLaws.{line-unended}
 use Rattle.drains.proofs.InjectLaws.{inject-none, inject-turned}

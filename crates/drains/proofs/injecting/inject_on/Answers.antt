@@ -1,6 +1,5 @@
 use Rattle.std.proofs.Common.{◌≡◌, rules, subst}
 use Rattle.std.specs.Prelude.{IfSome, Some}
-use Rattle.std.specs.Prelude.{OnOk}
 use Rattle.mw_types.specs.declared.identity.RowName.{RowName}
 use Rattle.run_history.specs.Fences.{interval_of}
 use Rattle.book.specs.declared.proposal.Proposal.TheVariants as proposals
@@ -16,8 +15,10 @@ pub write-written-requires-clause-proposal : goal.write-written-requires-clause-
 write-written-requires-clause-proposal g c =
     let book = c.args.book.now in
     let name = c.args.name.now in
-    let next = line-next book c.args.held.now name.part c.args.line c.requires.at_work c.requires.injector (search rules) c.requires.next in
-    next-line book.case (worker_of c.args.held.now) name.part c.args.line c.interval_of-interval.result name c.requires.name next (search rules)
+    let next = line-next book c.args.held.now name.part c.args.line c.requires.at_work c.requires.injector (search rules)
+    c.requires.next in
+    next-line book.case (worker_of c.args.held.now) name.part c.args.line c.interval_of-interval.result name c.requires.name next
+    (search rules)
 
 -- it was asked for
 pub returns-clause-asked : goal.returns-clause-asked

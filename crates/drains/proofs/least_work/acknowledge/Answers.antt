@@ -1,6 +1,5 @@
-use Rattle.std.proofs.Common.{◌≡◌, false, rules, sym, true}
+use Rattle.std.proofs.Common.{◌≡◌, false, rules, true}
 use Rattle.std.specs.Option.{is_some}
-use Rattle.run_history.specs.Finished.{is_handled}
 use Rattle.drains.specs.Turns.{sent_at, worker_of}
 use Rattle.drains.proofs.CallLaws.{ack-asked, ack-not, may-settle}
 use Rattle.drains.proofs.least_work.acknowledge.Goals as goal

@@ -1,7 +1,6 @@
-use Rattle.std.proofs.Common.{◌≡◌, rules, subst, sym}
+use Rattle.std.proofs.Common.{◌≡◌, rules}
 use Rattle.run_history.specs.Legal.{floor_of}
 use Rattle.run_history.specs.Runs.{run_of}
-use Rattle.drains.specs.Turns.{HasAskedOne, worker_of}
 use Rattle.drains.proofs.CallLaws.{forget-asked, forget-known}
 use Rattle.drains.proofs.least_work.forget.Goals as goal
 

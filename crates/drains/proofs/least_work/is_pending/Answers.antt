@@ -10,7 +10,8 @@ pub returns-in-Some : goal.returns-in-Some
 returns-in-Some c = λ shape covers.
     let is : Some c.in-Some.row.now ≡ cached_at c.args.held.now c.args.interval c.args.sender.now = search rules in
     let pending : c.is_pending.result ≡ is_some (found_delivery c.args.id c.in-Some.row.now.pending) = search rules in
-    pending ∙ ap is_some (sym (sent-by shape c.args.held.now c.args.sender.now c.args.interval c.args.id (Some c.in-Some.row.now) covers is))
+    pending ∙ ap is_some (sym (sent-by shape c.args.held.now c.args.sender.now c.args.interval c.args.id (Some c.in-Some.row.now)
+    covers is))
 
 -- and none
 pub returns-in-None : goal.returns-in-None

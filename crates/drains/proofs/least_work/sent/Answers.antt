@@ -10,7 +10,8 @@ use Rattle.drains.proofs.least_work.sent.Goals as goal
 pub returns-in_ok-copy-in-Some-found-clause-kept : goal.returns-in_ok-copy-in-Some-found-clause-kept
 returns-in_ok-copy-in-Some-found-clause-kept c =
     let found : found_delivery c.args.id c.row.inside.pending ≡ Some c.in-Some-found.delivery.now =
-    (let one = c.found.ensures in let all = c.as_slice.ensures.elements in let is = c.in-Some-found.is in let own = c.in-Some-found.ensures in cc) in
+    (let one = c.found.ensures in let all = c.as_slice.ensures.elements in let is = c.in-Some-found.is in let own =
+    c.in-Some-found.ensures in cc) in
     subst CanBeKept (sym c.in_ok-copy-in-Some-found.ensures.copied)
     (kept-found c.row.inside.pending c.args.id c.in-Some-found.delivery.now c.row.invariant.pending.each found)
 

@@ -28,7 +28,8 @@ returns-in-Finished-clause-turned g c =
     ok-then c.acknowledge.result (λ more done. (ack-turned c.args.book.now c.acknowledge.new.book worker c.args.sender.now
     c.args.delivery.id c.args.delivery more c.requires.found.sent c.requires.found.least
     (found-handled c.args.book.now worker c.args.sender.now c.args.delivery found true
-    (stands-finished c.args.book.now c.args.held.now c.args.to c.args.delivery c.requires.found.at_work covers stands)) done).0) c.acknowledge.ensures.asked
+    (stands-finished c.args.book.now c.args.held.now c.args.to c.args.delivery c.requires.found.at_work covers stands)) done).0)
+    c.acknowledge.ensures.asked
 
 -- and writes an entry
 pub returns-in-Finished-clause-more : goal.returns-in-Finished-clause-more
@@ -40,7 +41,8 @@ returns-in-Finished-clause-more g c =
     ok-then c.acknowledge.result (λ more done told. (ack-turned c.args.book.now c.acknowledge.new.book worker c.args.sender.now
     c.args.delivery.id c.args.delivery more c.requires.found.sent c.requires.found.least
     (found-handled c.args.book.now worker c.args.sender.now c.args.delivery found true
-    (stands-finished c.args.book.now c.args.held.now c.args.to c.args.delivery c.requires.found.at_work covers stands)) done).1) c.acknowledge.ensures.asked
+    (stands-finished c.args.book.now c.args.held.now c.args.to c.args.delivery c.requires.found.at_work covers stands)) done).1)
+    c.acknowledge.ensures.asked
 
 -- its row may be there
 pub forget-forgotten-requires-clause-part : goal.forget-forgotten-requires-clause-part
@@ -64,7 +66,8 @@ returns-in-Full-clause-turned g c =
     let covers = c.requires.to in
     let stands : StandsIn c.args.book.now c.args.held.now c.args.to c.args.delivery standings.Full = search rules in
     ok-then c.forget-forgotten.result (λ more done. forgot-turned c.args.book.now c.forget-forgotten.new.book worker c.args.sender.now
-    c.args.delivery more found (stands-full c.args.book.now c.args.held.now c.args.to c.args.delivery c.requires.found.at_work covers stands).0 done) c.forget-forgotten.ensures.asked
+    c.args.delivery more found (stands-full c.args.book.now c.args.held.now c.args.to c.args.delivery c.requires.found.at_work covers
+    stands).0 done) c.forget-forgotten.ensures.asked
 
 -- and writes an entry
 pub returns-in-Full-clause-more : goal.returns-in-Full-clause-more
@@ -82,8 +85,10 @@ handle-requires-clause-part g c =
 pub handle-requires-clause-handling : goal.handle-requires-clause-handling
 handle-requires-clause-handling g c =
     let covers = c.requires.to in
-    let stands : StandsIn c.args.book.now c.args.held.now c.args.to c.args.delivery (standings.Handled c.in-Handled.effects) = search rules in
-    stands-handling c.args.book.now c.args.held.now c.args.to c.args.delivery c.in-Handled.effects c.requires.found.at_work covers c.requires.kept stands
+    let stands : StandsIn c.args.book.now c.args.held.now c.args.to c.args.delivery (standings.Handled c.in-Handled.effects) = search
+    rules in
+    stands-handling c.args.book.now c.args.held.now c.args.to c.args.delivery c.in-Handled.effects c.requires.found.at_work covers
+    c.requires.kept stands
 
 -- and was made
 pub handle-requires-clause-sent : goal.handle-requires-clause-sent
@@ -91,7 +96,8 @@ handle-requires-clause-sent g c =
     let worker = worker_of c.args.held.now in
     let found = c.requires.found in
     let covers = c.requires.to in
-    let stands : StandsIn c.args.book.now c.args.held.now c.args.to c.args.delivery (standings.Handled c.in-Handled.effects) = search rules in
+    let stands : StandsIn c.args.book.now c.args.held.now c.args.to c.args.delivery (standings.Handled c.in-Handled.effects) = search
+    rules in
     stands-known c.args.book.now c.args.held.now c.args.sender.now c.args.to c.args.delivery c.in-Handled.effects found covers stands
 
 -- that it is handled is a turn
@@ -100,8 +106,10 @@ returns-in-Handled-clause-turned g c =
     let worker = worker_of c.args.held.now in
     let found = c.requires.found in
     let covers = c.requires.to in
-    let stands : StandsIn c.args.book.now c.args.held.now c.args.to c.args.delivery (standings.Handled c.in-Handled.effects) = search rules in
-    let left = stands-left c.args.book.now c.args.held.now c.args.to c.args.delivery c.in-Handled.effects c.requires.found.at_work covers stands in
+    let stands : StandsIn c.args.book.now c.args.held.now c.args.to c.args.delivery (standings.Handled c.in-Handled.effects) = search
+    rules in
+    let left = stands-left c.args.book.now c.args.held.now c.args.to c.args.delivery c.in-Handled.effects c.requires.found.at_work
+    covers stands in
     ok-then c.handle.result (λ more done. handle-turned c.args.book.now c.handle.new.book c.args.sender.now c.args.delivery more
     c.requires.found.least (found-next c.args.book.now worker c.args.sender.now c.args.delivery found left.0 left.1) done)
     c.handle.ensures.handled

@@ -1,72 +1,44 @@
 use Rattle.std.proofs.Common.{◌≡◌, refl, rules, subst, sym}
-use Rattle.std.specs.Prelude.{IfErr, IsSome, None, Some}
+use Rattle.std.specs.Prelude.{IfErr, IfOk, IsSome}
 use Rattle.run_history.specs.Legal.{floor_of}
 use Rattle.run_history.specs.Runs.{run_of}
 use Rattle.node.specs.Asking.{MayAskPurge}
-use Rattle.node.specs.PurgeSteps.{IsToPurge}
 use Rattle.node.specs.declared.outcome.NodeFault.TheVariants as faults
 use Rattle.drains.specs.Turns.{HasAskedOne, IsFullAsking, worker_of}
-use Rattle.drains.proofs.CallLaws.{asked-none, first-may, memory-asking, purge-asked, purge-known, to-purge}
-use Rattle.drains.proofs.Results.{err-any, err-then}
-use Rattle.drains.proofs.TurnLaws.{failed-not}
+use Rattle.drains.proofs.CallLaws.{memory-asking, to-purge}
+use Rattle.drains.proofs.Results.{err-then}
 use Rattle.drains.proofs.purging.purge.Goals as goal
 
 -- the interval is held
 pub to_purge-requires : goal.to_purge-requires
-to_purge-requires g c = record { there = subst IsSome (sym (c.requires.at_work.each c.args.interval c.requires.there).there) refl }
+to_purge-requires g c =
+    record { there = subst IsSome (sym (c.requires.at_work.each c.args.interval c.requires.there).there) refl }
 
--- the row lies there
-pub purge_row-purged-requires-clause-covers : goal.purge_row-purged-requires-clause-covers
-purge_row-purged-requires-clause-covers g c =
-    let book = c.args.book.now in
-    let first : IsToPurge book.case.topology (worker_of c.args.held.now) c.args.interval 1 c.floor-floor.result (Some c.in-Some.name) =
-    to-purge c.args.book.now c.args.held.now c.args.interval c.floor-floor.result (Some c.in-Some.name) c.requires.at_work c.requires.there (search rules) in
-    (first-may book.case.topology c.args.held.now c.args.interval c.floor-floor.result c.in-Some.name first).2
+-- its first row that has ids to forget is the one that may be asked
+pub purge_found-requires-clause-found : goal.purge_found-requires-clause-found
+purge_found-requires-clause-found g c =
+    to-purge c.args.book.now c.args.held.now c.args.interval c.floor-floor.result c.in_ok-found.found c.requires.at_work c.requires.there
+    c.in_ok-found.ensures.first
 
--- and is of a part that is there
-pub purge_row-purged-requires-clause-part : goal.purge_row-purged-requires-clause-part
-purge_row-purged-requires-clause-part g c =
+-- what was asked for under the floor was so under the run's
+pub returns-clause-asked : goal.returns-clause-asked
+returns-clause-asked g c =
     let book = c.args.book.now in
-    let first : IsToPurge book.case.topology (worker_of c.args.held.now) c.args.interval 1 c.floor-floor.result (Some c.in-Some.name) =
-    to-purge c.args.book.now c.args.held.now c.args.interval c.floor-floor.result (Some c.in-Some.name) c.requires.at_work c.requires.there (search rules) in
-    first.0
-
--- it may forget
-pub purge_row-purged-requires-clause-floor : goal.purge_row-purged-requires-clause-floor
-purge_row-purged-requires-clause-floor g c =
-    let book = c.args.book.now in
-    let first : IsToPurge book.case.topology (worker_of c.args.held.now) c.args.interval 1 c.floor-floor.result (Some c.in-Some.name) =
-    to-purge c.args.book.now c.args.held.now c.args.interval c.floor-floor.result (Some c.in-Some.name) c.requires.at_work c.requires.there (search rules) in
     let floor : c.floor-floor.result ≡ floor_of (run_of book.case.topology book.history) = search rules in
-    purge-known c.args.book.now c.args.held.now c.in-Some.name c.args.interval c.floor-floor.result c.requires.at_work floor first
-    (first-may book.case.topology c.args.held.now c.args.interval c.floor-floor.result c.in-Some.name first).2
+    subst (λ f. IfOk c.purge_found.result (HasAskedOne book c.purge_found.new.book
+    (MayAskPurge book.case.topology (worker_of c.args.held.now) c.args.interval 1 f))) floor c.purge_found.ensures.asked
 
--- and has forgotten
-pub returns-in_ok-purged-in-Some-clause-asked : goal.returns-in_ok-purged-in-Some-clause-asked
-returns-in_ok-purged-in-Some-clause-asked g c =
+-- and where that failed
+pub returns-clause-asking : goal.returns-clause-asking
+returns-clause-asking g c =
     let book = c.args.book.now in
-    let first : IsToPurge book.case.topology (worker_of c.args.held.now) c.args.interval 1 c.floor-floor.result (Some c.in-Some.name) =
-    to-purge c.args.book.now c.args.held.now c.args.interval c.floor-floor.result (Some c.in-Some.name) c.requires.at_work c.requires.there (search rules) in
     let floor : c.floor-floor.result ≡ floor_of (run_of book.case.topology book.history) = search rules in
-    subst (λ f. HasAskedOne book c.purge_row-purged.new.book (MayAskPurge book.case.topology (worker_of c.args.held.now) c.args.interval 1 f) _)
-    floor (purge-asked book c.purge_row-purged.new.book c.args.held.now c.in-Some.name c.args.interval c.floor-floor.result first (search rules))
+    subst (λ f. IfErr c.purge_found.result (IsFullAsking
+    (MayAskPurge book.case.topology (worker_of c.args.held.now) c.args.interval 1 f))) floor c.purge_found.ensures.asking
 
--- none may be asked to
-pub returns-in-None-clause-asked : goal.returns-in-None-clause-asked
-returns-in-None-clause-asked g c =
-    let book = c.args.book.now in
-    let none : IsToPurge book.case.topology (worker_of c.args.held.now) c.args.interval 1 c.floor-floor.result None =
-    to-purge c.args.book.now c.args.held.now c.args.interval c.floor-floor.result None c.requires.at_work c.requires.there (search rules) in
-    let floor : c.floor-floor.result ≡ floor_of (run_of book.case.topology book.history) = search rules in
-    asked-none book _ (subst (λ f. IsToPurge book.case.topology (worker_of c.args.held.now) c.args.interval 1 f None) floor none)
-
--- a purge that fails was asked for
-pub returns-in_err-purged-in-Some-clause-asking : goal.returns-in_err-purged-in-Some-clause-asking
-returns-in_err-purged-in-Some-clause-asking g c =
-    let book = c.args.book.now in
-    let first : IsToPurge book.case.topology (worker_of c.args.held.now) c.args.interval 1 c.floor-floor.result (Some c.in-Some.name) =
-    to-purge c.args.book.now c.args.held.now c.args.interval c.floor-floor.result (Some c.in-Some.name) c.requires.at_work c.requires.there (search rules) in
-    let may = first-may book.case.topology c.args.held.now c.args.interval c.floor-floor.result c.in-Some.name first in
-    let floor : c.floor-floor.result ≡ floor_of (run_of book.case.topology book.history) = search rules in
-    err-any c.from_residual-in_err-purged-in-Some.result (λ why. subst (λ f. IsFullAsking
-    (MayAskPurge book.case.topology (worker_of c.args.held.now) c.args.interval 1 f) why) floor (λ full. (_, may.3)))
+-- there was no memory for the row's name
+pub returns-in_err-found-clause-asking : goal.returns-in_err-found-clause-asking
+returns-in_err-found-clause-asking g c =
+    let r = c.from_residual.result in
+    let none : IfErr r (λ why. why ≡ faults.NoMemory) = search rules in
+    err-then r (λ why is. memory-asking _ why is) none

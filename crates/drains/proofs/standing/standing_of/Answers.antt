@@ -1,7 +1,7 @@
 use Rattle.std.proofs.Common.{◌≡◌, ◌∙◌, rules, subst, sym}
 use Rattle.std.specs.Prelude.{None, Some}
 use Rattle.row_parts.specs.Contents.{Contents, fresh}
-use Rattle.run_history.specs.Cases.{CaseShape, fresh_of}
+use Rattle.run_history.specs.Cases.{fresh_of}
 use Rattle.run_history.specs.Runs.{run_of}
 use Rattle.book.specs.OwnDesks.{own_view}
 use Rattle.holdings.specs.Holding.{row_held}
@@ -36,10 +36,12 @@ returns-in-Some g c =
     let to = c.args.delivery.now.to in
     let held = held-here book all to c.args.interval c.requires.at_work c.requires.covers in
     let is : Some c.in-Some.row.now ≡ cached_at all c.args.interval to = search rules in
-    record { stands = ok-then c.standing_in.result (λ found stands. held-if (λ here. IsStandingIn book.case (run_of shape book.history)
-    (row_held shape here to) c.args.delivery.now found) all c.args.interval held.0 held.1
-    (subst (λ (r : Contents). IsStandingIn book.case (run_of shape book.history) r c.args.delivery.now found)
-    (sym (row-here shape all to c.args.interval held.0 c.in-Some.row.now held.1 (sym is))) stands)) c.standing_in.ensures.stands }
+    record {
+      stands = ok-then c.standing_in.result (λ found stands. held-if (λ here. IsStandingIn book.case (run_of shape book.history)
+          (row_held shape here to) c.args.delivery.now found) all c.args.interval held.0 held.1
+          (subst (λ (r : Contents). IsStandingIn book.case (run_of shape book.history) r c.args.delivery.now found)
+          (sym (row-here shape all to c.args.interval held.0 c.in-Some.row.now held.1 (sym is))) stands)) c.standing_in.ensures.stands;
+    }
 
 -- a row that is not cached has one too
 pub standing_in-found-requires-clause-there : goal.standing_in-found-requires-clause-there
@@ -66,7 +68,10 @@ returns-in-None g c =
     let held = held-here book all to c.args.interval c.requires.at_work c.requires.covers in
     let is : None ≡ cached_at all c.args.interval to = search rules in
     let row : c.first_row-row.result ≡ fresh (fresh_of shape to.part) = search rules in
-    record { stands = ok-then c.standing_in-found.result (λ found stands. held-if (λ here. IsStandingIn book.case (run_of shape book.history)
-    (row_held shape here to) c.args.delivery.now found) all c.args.interval held.0 held.1
-    (subst (λ (r : Contents). IsStandingIn book.case (run_of shape book.history) r c.args.delivery.now found)
-    (row ∙ sym (fresh-here shape all to c.args.interval held.0 held.1 (sym is))) stands)) c.standing_in-found.ensures.stands }
+    record {
+      stands = ok-then c.standing_in-found.result
+          (λ found stands. held-if (λ here. IsStandingIn book.case (run_of shape book.history)
+          (row_held shape here to) c.args.delivery.now found) all c.args.interval held.0 held.1
+          (subst (λ (r : Contents). IsStandingIn book.case (run_of shape book.history) r c.args.delivery.now found)
+          (row ∙ sym (fresh-here shape all to c.args.interval held.0 held.1 (sym is))) stands)) c.standing_in-found.ensures.stands;
+    }

@@ -1,4 +1,4 @@
-use Rattle.std.proofs.Common.{subst, true}
+use Rattle.std.proofs.Common.{subst}
 use Rattle.drains.specs.Turns.{HasTurned, IsEndOf, IsQuiet, IsSettled}
 use Rattle.drains.proofs.DrainLaws.{no-more, told-fact-back, told-fact-on}
 use Rattle.drains.proofs.FullLaws.{unended-back}
@@ -27,7 +27,8 @@ inject_or_purge-requires-clause-quiet g c =
 pub returns-clause-turned : goal.returns-clause-turned
 returns-clause-turned g c =
     let stayed = no-more c.args.book.now c.fire_first.new.book c.in_ok-fired.fired c.in_ok-fired.ensures.turned c.if-fired.false in
-    ok-then c.inject_or_purge.result (λ more done. turned-on c.args.book.now c.fire_first.new.book c.inject_or_purge.new.book more stayed done)
+    ok-then c.inject_or_purge.result
+    (λ more done. turned-on c.args.book.now c.fire_first.new.book c.inject_or_purge.new.book more stayed done)
     c.inject_or_purge.ensures.turned
 
 -- where nothing does, it is the end
@@ -41,7 +42,8 @@ returns-clause-ended g c =
 pub returns-clause-failed : goal.returns-clause-failed
 returns-clause-failed g c =
     let stayed = no-more c.args.book.now c.fire_first.new.book c.in_ok-fired.fired c.in_ok-fired.ensures.turned c.if-fired.false in
-    err-then c.inject_or_purge.result (λ why failed. failed-on c.args.book.now c.fire_first.new.book c.inject_or_purge.new.book why stayed failed)
+    err-then c.inject_or_purge.result
+    (λ why failed. failed-on c.args.book.now c.fire_first.new.book c.inject_or_purge.new.book why stayed failed)
     c.inject_or_purge.ensures.failed
 
 -- one since the history is full too

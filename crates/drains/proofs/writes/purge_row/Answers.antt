@@ -18,7 +18,8 @@ returns-in-Ok-clause-purged g c =
     let done : IfSome (held_at c.args.held.now c.args.interval)
     (λ here. HasStepped c.args.book.now new (Some (Purge here.lease.seq c.args.name.now c.args.floor))) =
     stored-held c.case-case.result.now.topology c.args.book.now new c.args.interval c.args.name.now
-    (λ seq. Purge seq c.args.name.now c.args.floor) c.in-Ok.field-0 c.args.held.now c.purge.new.self c.in-Ok.ensures.purged in search rules
+    (λ seq. Purge seq c.args.name.now c.args.floor) c.in-Ok.field-0 c.args.held.now c.purge.new.self c.in-Ok.ensures.purged in search
+    rules
 
 -- and the drain is at work
 pub returns-in-Ok-clause-at_work : goal.returns-in-Ok-clause-at_work

@@ -1,4 +1,4 @@
-use Rattle.std.proofs.Common.{rules, subst, sym}
+use Rattle.std.proofs.Common.{rules}
 use Rattle.std.specs.Prelude.{IfSome}
 use Rattle.holdings.specs.Holding.{held_at}
 use Rattle.drains.specs.Turns.{HasFailed, HasProposed, IsAtWork, worker_of}

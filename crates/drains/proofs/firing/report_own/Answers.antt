@@ -1,26 +1,37 @@
-use Rattle.std.proofs.Common.{◌≡◌, ◌∙◌, List, ap, refl, rules, subst, sym}
-use Rattle.std.specs.Prelude.{IsSome, Option, Some}
+use Rattle.std.proofs.Common.{◌≡◌, refl, rules, subst, sym}
+use Rattle.std.specs.Prelude.{Some}
 use Rattle.topology.specs.Rules.{IsTopology}
 use Rattle.book.specs.Books.{LeaseView}
+use Rattle.book.specs.Conditions.{IsOwnWork}
 use Rattle.book.specs.DeskReasons.{HasReason}
 use Rattle.book.specs.OwnDesks.{own_view}
-use Rattle.holdings.specs.Holding.{HeldView, held_at}
+use Rattle.holdings.specs.Holding.{held_at}
 use Rattle.drains.specs.Turns.{HasReported, HasStepped, IsAtWork, WhereTold, worker_of}
 use Rattle.drains.proofs.HeldLaws.{at_work-looked, interval-current, report-taken}
 use Rattle.drains.proofs.ReportLaws.{marked-reported}
 use Rattle.drains.proofs.TurnLaws.{stepped-looked}
-use Rattle.drains.proofs.firing.raise.Goals as goal
+use Rattle.drains.proofs.firing.report_own.Goals as goal
 
 -- the interval is held
-pub own_work-requires-clause-there : goal.own_work-requires-clause-there
-own_work-requires-clause-there g c =
-    subst IsSome (sym (c.requires.at_work.each c.args.interval c.requires.there).there) refl
-
--- it is there
 pub unwrap-requires : goal.unwrap-requires
-unwrap-requires g c =
-    let there = ap (λ (all : List (Option HeldView)). held_at all c.args.interval) c.in_ok-own.ensures.same
-    ∙ (c.requires.at_work.each c.args.interval c.requires.there).there in search rules
+unwrap-requires g c = let there = (c.requires.at_work.each c.args.interval c.requires.there).there in search rules
+
+-- under a lease that may be used
+pub report-reported-requires-clause-lease : goal.report-reported-requires-clause-lease
+report-reported-requires-clause-lease g c =
+    let held = c.unwrap.result.now in
+    let at : held_at c.args.held.now c.args.interval ≡ Some held = search rules in
+    subst (λ (l : LeaseView). (own_view c.args.book.now).leases l ≡ _) (sym c.lease.ensures.lease)
+    (c.requires.at_work.fits.held.each c.args.interval held at).may_use
+
+-- what is reported is its own work
+pub report-reported-requires-clause-own : goal.report-reported-requires-clause-own
+report-reported-requires-clause-own g c =
+    let held = c.unwrap.result.now in
+    let at : held_at c.args.held.now c.args.interval ≡ Some held = search rules in
+    let book = c.args.book.now in
+    subst (λ (l : LeaseView). IsOwnWork book.case (own_view book).told book.history l c.args.own) (sym c.lease.ensures.lease)
+    (c.requires.own.known held at)
 
 -- nothing is appended
 pub returns-clause-stepped : goal.returns-clause-stepped
@@ -33,9 +44,9 @@ pub returns-clause-at_work : goal.returns-clause-at_work
 returns-clause-at_work g c =
     let old = c.args.book.now in
     let new = c.report-reported.new.self.book.now in
-    let at : IsAtWork new (worker_of c.own_work.new.self) =
-    at_work-looked c.case-case.result.now old new c.args.held.now c.own_work.new.self c.case-case.ensures.case c.requires.at_work
-    c.sound.ensures.sound c.sound-2.ensures.sound c.report-reported.ensures.looked c.in_ok-own.ensures.same in search rules
+    let at : IsAtWork new (worker_of c.args.held.now) =
+    at_work-looked old new c.args.held.now c.requires.at_work c.sound.ensures.sound c.sound-2.ensures.sound
+    c.report-reported.ensures.looked in search rules
 
 -- and where told the mark is as the report leaves it
 pub returns-clause-reported : goal.returns-clause-reported
@@ -44,12 +55,10 @@ returns-clause-reported g c =
     let new = c.report-reported.new.self.book.now in
     let rules_there : IsTopology old.case.topology = search rules in
     let held = c.unwrap.result.now in
-    let there : held_at c.own_work.new.self c.args.interval ≡ Some held = search rules in
-    let at : held_at c.args.held.now c.args.interval ≡ Some held =
-    ap (λ (all : List (Option HeldView)). held_at all c.args.interval) (sym c.in_ok-own.ensures.same) ∙ there in
+    let at : held_at c.args.held.now c.args.interval ≡ Some held = search rules in
     let reported : WhereTold old (HasReported old new c.args.interval) =
-    marked-reported c.case-case.result.now old new c.args.held.now c.args.interval c.in-Ok.field-0 c.in_ok-own.own held c.lease.result.now
-    c.case-case.ensures.case c.requires.at_work rules_there at c.requires.there c.in_ok-own.ensures.exact c.lease.ensures.lease
+    marked-reported old new c.args.held.now c.args.interval c.in-Ok.field-0 c.args.own held c.lease.result.now
+    c.requires.at_work rules_there at c.requires.there c.requires.own c.lease.ensures.lease
     (c.in-Ok.ensures.raised refl) in search rules
 
 -- it is not refused
@@ -58,9 +67,7 @@ unreachable-requires g c =
     let old = c.args.book.now in
     let new = c.report-reported.new.self.book.now in
     let held = c.unwrap.result.now in
-    let there : held_at c.own_work.new.self c.args.interval ≡ Some held = search rules in
-    let at : held_at c.args.held.now c.args.interval ≡ Some held =
-    ap (λ (all : List (Option HeldView)). held_at all c.args.interval) (sym c.in_ok-own.ensures.same) ∙ there in
+    let at : held_at c.args.held.now c.args.interval ≡ Some held = search rules in
     let reason = subst (λ (l : LeaseView). HasReason (own_view old) (own_view new) l c.in-Err.field-0) c.lease.ensures.lease
     c.in-Err.ensures.reason in
     report-taken old new held.lease c.in-Err.field-0
