@@ -2,7 +2,7 @@
 use Rattle.std.proofs.Common.{◌≡◌, ◌<◌, ◌&&◌, ℕ, Bool, true, false, length, refl, sym, ◌∙◌, ap, subst, arith, inl}
 use Rattle.std.specs.Prelude.{Option, Some, None, IsSome, IfSome, nat_lt, nat_le}
 use Rattle.std.specs.List.{list_all}
-use Rattle.std.specs.Option.{is_some, option_and_then, option_map, option_map_or}
+use Rattle.std.specs.Option.{option_and_then, option_map, option_map_or}
 use Rattle.std.proofs.lemmas.Bool.{and_parts, leb-true, ltb-true, le-leb, lt-ltb}
 use Rattle.list_lemmas.proofs.Places.{each-passes}
 use Rattle.mw_types.specs.declared.delivery.Delivery.{Delivery}
@@ -22,7 +22,7 @@ use Rattle.history_laws.proofs.SentLaws.{pending-as_made}
 use Rattle.book.specs.Books.{BookView}
 use Rattle.book.specs.Senders.{IsLeastSent}
 use Rattle.holdings.specs.Holding.{HeldView, held_on, row_held}
-use Rattle.node.specs.Asking.{HasToForget, MayAskForget, Request, forgetting, settle_asked, settling}
+use Rattle.node.specs.Asking.{HasToForget, MayAskForget, Request, settle_asked, settling}
 use Rattle.node.specs.Messages.{IsComputation}
 use Rattle.node.specs.Workers.{NodeView}
 use Rattle.drains.specs.Drains.{HasClaimedAll, IsNextEntry, IsToHandle, is_full}
