@@ -1,41 +1,49 @@
--- What each call of a worker at work leaves, by the clauses of the call.
-use Rattle.std.proofs.Common.{◌≡◌, ◌<◌, ◌≤◌, ℕ, false, cond, List, [], ◌∷◌, refl, sym, ◌∙◌, ap, subst, arith}
-use Rattle.std.specs.Prelude.{Option, Some, None, IfSome, All}
+-- What each write of a drain leaves, by what was asked for.
+use Rattle.std.proofs.Common.{◌≡◌, ◌<◌, ℕ, Bool, true, false, List, refl, sym, ◌∙◌, ap, subst, arith}
+use Rattle.std.specs.Prelude.{Option, Some, None, IsSome, IfSome, All, Result, IfOk, IfErr}
 use Rattle.std.specs.Option.{is_some, option_and_then, option_map, option_map_or}
 use Rattle.std.proofs.lemmas.List.Elements.{All-contains}
 use Rattle.mw_types.specs.Outcomes.{EffectsView}
 use Rattle.mw_types.specs.declared.delivery.Delivery.{Delivery}
+use Rattle.mw_types.specs.declared.entry.Entry.{Entry}
 use Rattle.mw_types.specs.declared.entry.Entry.TheVariants as entries
 use Rattle.mw_types.specs.declared.identity.RecordId.{RecordId}
 use Rattle.mw_types.specs.declared.identity.RowName.{RowName}
-use Rattle.topology.specs.Shapes.{Shape, parts_of}
-use Rattle.row_parts.specs.Contents.{IsDelivery, is_finished, same_id, found_delivery}
+use Rattle.mw_types.specs.declared.timer.Timer.{Timer}
+use Rattle.topology.specs.Rules.{interval_count}
+use Rattle.topology.specs.Shapes.{Shape, injectors_of, parts_of}
+use Rattle.row_parts.specs.Contents.{IsDelivery, cursor_in, found_delivery, same_id}
 use Rattle.run_history.specs.Cases.{CaseShape}
-use Rattle.run_history.specs.Fences.{is_claim}
-use Rattle.run_history.specs.Legal.{floor_of}
+use Rattle.run_history.specs.Fences.{interval_of, is_claim}
+use Rattle.run_history.specs.Finished.{is_handled}
+use Rattle.run_history.specs.Legal.{floor_of, timer_outcome}
 use Rattle.run_history.specs.Runs.{run_of}
-use Rattle.run_history.specs.Watermarks.{least}
-use Rattle.list_lemmas.proofs.Lists.{none_some, some_same}
-use Rattle.watermark.specs.Marks.{marks_of}
 use Rattle.book.specs.Books.{BookView}
-use Rattle.book.specs.Desks.{HasLooked, KeepsMarks}
-use Rattle.book.specs.OwnDesks.{own_view}
-use Rattle.book.specs.declared.proposal.Proposal.{Proposal}
+use Rattle.book.specs.Conditions.{MaySettle}
+use Rattle.book.specs.Desking.{IsPurgeKnown}
+use Rattle.book.specs.OwnDesks.{own_view, telling}
 use Rattle.book.specs.declared.proposal.Proposal.TheVariants as proposals
-use Rattle.holdings.specs.Holding.{HeldView, held_on, row_held}
-use Rattle.node.specs.Answers.{AnswersAck, AnswersAsked, AnswersClaim, AnswersFire, AnswersForget, AnswersPurge, AnswersWrite, received, taken_in}
-use Rattle.node.specs.Asking.{MayAskFire, MayAskForget, MayAskPurge, Request, handled_as, line_asked, proposed, settle_asked, settling, work_asked}
-use Rattle.node.specs.Fits.{Fits, IsPrepared, IsWork}
-use Rattle.node.specs.Workers.{NodeView, Sending, WorkView, Worker, leases_of, sending_in, sending_of, with_outgoing, with_written, worker_at}
-use Rattle.node.specs.declared.outgoing.Outgoing.TheVariants as outgoing
-use Rattle.node.specs.declared.outcome.Outcome.{Outcome}
-use Rattle.node.specs.declared.outcome.Outcome.TheVariants as outcomes
-use Rattle.drains.specs.Turns.{CanBeKept, HasAsked, HasAskedOne, HasHandled, HasStepped, HasTaken, IsAtWork, is_committed, is_finished_at}
-use Rattle.drains.proofs.GoLaws.{claim-taken}
-use Rattle.drains.proofs.InjectLaws.{line-own}
+use Rattle.holdings.specs.Holding.{HeldView, held_at, held_on, row_held}
+use Rattle.holdings.specs.Purges.{IsFirstToPurge}
+use Rattle.node.specs.Asking.{IsNextTimer, MayAskFire, MayAskForget, MayAskPurge, Request, forgetting, line_asked, settle_asked, settling}
+use Rattle.node.specs.FireSteps.{IsSetAt}
+use Rattle.node.specs.LineSteps.{IsLineNext, injector_row}
+use Rattle.node.specs.PurgeSteps.{IsToPurge}
+use Rattle.node.specs.Workers.{NodeView}
+use Rattle.node.specs.declared.outcome.NodeFault.{NodeFault}
+use Rattle.node.specs.declared.outcome.NodeFault.TheVariants as faults
+use Rattle.node.proofs.FirstLaws.{first-forgets, next-purge-held, rows-within}
+use Rattle.node.proofs.FiringLaws.{firing, may-fire}
+use Rattle.node.proofs.LineLaws.{asked-line}
+use Rattle.node.proofs.PurgeLaws.{forget-floor, held-at-on, held-on-at}
+use Rattle.node.proofs.SettleLaws.{pending-asked, settled_as}
+use Rattle.drains.specs.Turns.{CanBeKept, HasAsked, HasAskedOne, HasHandled, HasProposed, HasStepped, IsAtWork, IsFullAsking, cursor_at, is_full_at, line_at, sent_at, worker_of}
+use Rattle.drains.proofs.HeldLaws.{held-here, held-if, if-held}
+use Rattle.drains.proofs.InjectLaws.{line-there}
 use Rattle.drains.proofs.KnownLaws.{held-there}
+use Rattle.drains.proofs.LeastWorkLaws.{ack-none, forgets-full, full-held}
 use Rattle.drains.proofs.NextLaws.{find-has}
-use Rattle.drains.proofs.TurnLaws.{IsOwnRequest, asked-at_work, asked-done, at_work-after, current, sending-none, some-done, stepped-looked, stepped-on, written}
+use Rattle.drains.proofs.TurnLaws.{IsOwnRequest, stepped-not}
 
 -- ---- what is found
 
@@ -46,40 +54,69 @@ kept-found pending id d each found =
     let is = All-contains IsDelivery pending d each (find-has (λ (e : Delivery). same_id e.id id) pending d found) in
     record { id = is.id; stamp = is.stamp }
 
--- ---- a claim
+-- what follows where a book tells is told by its desk
+pub told-if : {X : Type 0} (o : Option X) (Fact : Type 0) → (IsSome o → Fact) → IfSome (telling o) (λ _. Fact)
+told-if None Fact f = tt
+told-if (Some x) Fact f = f refl
 
--- a claim over a book of its own
-pub claim-call : (case : CaseShape) (old new : BookView) (interval : ℕ) (was node : NodeView) (outcome : Outcome) → case ≡ old.case
-    → AnswersClaim case.topology (own_view old) (own_view new) interval was node outcome → Fits case (own_view new) node
-    → node.number ≡ was.number → HasTaken old new interval was node
-claim-call case old new interval was node outcome same answers fits number =
-    claim-taken old new interval was node outcome
-    (subst (λ (k : CaseShape). AnswersClaim k.topology (own_view old) (own_view new) interval was node outcome) same answers)
-    (subst (λ (k : CaseShape). Fits k (own_view new) node) same fits) number
+-- ---- what was asked for
+
+-- an entry that was asked for
+asked-one : (old new : BookView) (MayAsk : Request → Type 0) (asked : Request) → MayAsk asked → HasStepped old new (Some asked.entry)
+    → HasAskedOne old new MayAsk true
+asked-one old new MayAsk asked may stepped = record {
+  asked = Some asked;
+  done = record { stepped = stepped; is_more = refl };
+  may = may;
+  none = λ e. absurd (cc);
+}
+
+-- none, where there is none to ask for
+pub asked-none : (book : BookView) (MayAsk : Request → Type 0) → ((asked : Request) → MayAsk asked → ⊥) → HasAskedOne book book
+    MayAsk false
+asked-none book MayAsk none = record {
+  asked = None;
+  done = record { stepped = stepped-not book; is_more = refl };
+  may = tt;
+  none = λ e. none;
+}
 
 -- ---- a line
 
--- what an injected line leaves
-pub inject-call : (case : CaseShape) (old new : BookView) (was node : NodeView) (part : ℕ) (outcome : Outcome) → case ≡ old.case
-    → IsAtWork old was
-    → AnswersAsked case.topology (own_view old) (own_view new) (line_asked case was part) (worker_at was) was node outcome
-    → HasAsked old new (line_asked old.case was part) (is_committed outcome)
-inject-call case old new was node part outcome same at answers =
-    asked-done old new (line_asked old.case was part) (worker_at was) was node outcome at (line-own old.case was part)
-    (subst (λ (k : CaseShape). AnswersAsked k.topology (own_view old) (own_view new) (line_asked k was part) (worker_at was) was node outcome)
-    same answers)
+-- a line that an injector has left is its next
+pub line-next : (book : BookView) (all : List (Option HeldView)) (part line : ℕ) → IsAtWork book (worker_of all)
+    → part < injectors_of book.case.topology → part < parts_of book.case.topology
+    → line_at book.case (worker_of all) part ≡ Some (line, part) → IsLineNext book.case (worker_of all) part line
+line-next book all part line at injector there is =
+    let held = held-there book (worker_of all) (injector_row part) at there in
+    let has = line-there book.case (worker_of all) part (line, part) is in
+    let cursor : cursor_at book.case (worker_of all) part ≡ line = ap (λ (l : ℕ × ℕ). l.0) has.1 in
+    let same : cursor_at book.case (worker_of all) part
+    ≡ cursor_in (row_held book.case.topology held.0 (injector_row part)).state = ap (λ (o : Option HeldView).
+    option_map_or (λ (h : HeldView). cursor_in (row_held book.case.topology h (injector_row part)).state) o 0) held.1 in
+    let less = has.0 in record {
+      injector = injector;
+      held = held.0;
+      there = held.1;
+      next = sym cursor ∙ same;
+      within = omega (arith, less, cursor);
+    }
 
--- and the worker is at work then
-pub inject-at_work : (case : CaseShape) (old new : BookView) (was node : NodeView) (part : ℕ) (outcome : Outcome) → case ≡ old.case
-    → IsAtWork old was
-    → AnswersAsked case.topology (own_view old) (own_view new) (line_asked case was part) (worker_at was) was node outcome
-    → Fits case (own_view new) node → IsAtWork new node
-inject-at_work case old new was node part outcome same at answers fits =
-    asked-at_work old new (line_asked old.case was part) (worker_at was) was node outcome at (line-own old.case was part) refl
-    (sending-none was at.free)
-    (subst (λ (k : CaseShape). AnswersAsked k.topology (own_view old) (own_view new) (line_asked k was part) (worker_at was) was node outcome)
-    same answers)
-    (subst (λ (k : CaseShape). Fits k (own_view new) node) same fits)
+-- what was asked of it is there
+pub line-asked : (old new : BookView) (all : List (Option HeldView)) (part line interval : ℕ)
+    → IsLineNext old.case (worker_of all) part line → interval_of old.case.topology (injector_row part) ≡ Some interval
+    → IfSome (held_at all interval) (λ here. HasProposed old new here.lease.seq (injector_row part) (proposals.Inject line))
+    → HasAsked old new (line_asked old.case (worker_of all) part) true
+line-asked old new all part line interval next covers done =
+    let there = held-at-on old.case.topology all (injector_row part) interval next.held next.there covers in
+    let is = if-held (λ here. HasProposed old new here.lease.seq (injector_row part) (proposals.Inject line)) all interval next.held
+    there done in
+    let entry = is.of_proposal in
+    let asked = asked-line old.case (worker_of all) part line entry.0 next entry.1.0 in
+    subst (λ (o : Option Request). HasAsked old new o true) (sym asked) (record {
+      stepped = subst (λ (e : Entry). HasStepped old new (Some e)) entry.1.1 is.stepped;
+      is_more = refl;
+    })
 
 -- ---- an acknowledgement
 
@@ -97,29 +134,60 @@ settling-own shape all to id held on = by_found (found_delivery id (row_held sha
     by_found None = tt
     by_found (Some d) = record { name = to; held = held; on = on; lease = refl; write = λ interval. refl }
 
--- an acknowledgement asks its row, which is held
-ack-asked-is : (shape : Shape) (was : NodeView) (to : RowName) (id : RecordId) (held : HeldView) → held_on shape was.held to ≡ Some held
-    → settle_asked shape was to id ≡ settling shape to id held
-ack-asked-is shape was to id held on = ap (option_and_then (settling shape to id)) on
+-- an id is pending in the row of an interval that is held
+pub pending-here : (shape : Shape) (all : List (Option HeldView)) (to : RowName) (id : RecordId) (interval : ℕ) (here : HeldView)
+    → interval_of shape to ≡ Some interval → held_at all interval ≡ Some here → is_some (sent_at shape (worker_of all) to id) ≡ true
+    → is_some (found_delivery id (row_held shape here to).pending) ≡ true
+pending-here shape all to id interval here covers there sent =
+    subst (λ (o : Option HeldView). is_some (option_and_then (λ (h : HeldView). found_delivery id (row_held shape h to).pending) o) ≡
+    true)
+    (held-on-at shape all to interval here covers there) sent
 
--- what an acknowledgement leaves
-pub ack-call : (case : CaseShape) (old new : BookView) (was node : NodeView) (to : RowName) (id : RecordId) (outcome : Outcome)
-    → case ≡ old.case → IsAtWork old was → to.part < parts_of old.case.topology
-    → AnswersAck case.topology (own_view old) (own_view new) (held_on case.topology was.held to) to id was node outcome
-    → Fits case (own_view new) node
-    → HasAsked old new (settle_asked old.case.topology was to id) (is_committed outcome) × IsAtWork new node
-ack-call case old new was node to id outcome same at there answers fits =
+-- it may be settled, where its record was handled
+pub may-settle : (book : BookView) (all : List (Option HeldView)) (to : RowName) (id : RecordId) (interval : ℕ) → IsAtWork book
+    (worker_of all)
+    → interval_of book.case.topology to ≡ Some interval → is_some (sent_at book.case.topology (worker_of all) to id) ≡ true
+    → (IsSome book.rows → is_handled id book.history ≡ true)
+    → IfSome (held_at all interval) (λ here. MaySettle (telling book.rows) book.history (row_held book.case.topology here to) id)
+may-settle book all to id interval at covers sent handled =
+    let held = held-here book all to interval at covers in
+    held-if (λ here. MaySettle (telling book.rows) book.history (row_held book.case.topology here to) id) all interval held.0 held.1
+    (record {
+      pending = pending-here book.case.topology all to id interval held.0 covers held.1 sent;
+      handled = told-if book.rows (is_handled id book.history ≡ true) handled;
+    })
+
+-- what was asked of it is there
+pub ack-asked : (old new : BookView) (all : List (Option HeldView)) (to : RowName) (id : RecordId) (interval : ℕ)
+    → IsAtWork old (worker_of all) → interval_of old.case.topology to ≡ Some interval
+    → is_some (sent_at old.case.topology (worker_of all) to id) ≡ true
+    → IfSome (held_at all interval) (λ here. HasStepped old new (Some (entries.Ack here.lease.seq to id)))
+    → HasAsked old new (settle_asked old.case.topology (worker_of all) to id) true
+ack-asked old new all to id interval at covers sent done =
     let shape = old.case.topology in
-    let held = held-there old was to at there in
-    let own = settling-own shape was.held to id held.0 held.1 in
-    let told = subst (λ (o : Option HeldView). AnswersAck shape (own_view old) (own_view new) o to id was node outcome) held.1
-    (subst (λ (k : CaseShape). AnswersAck k.topology (own_view old) (own_view new) (held_on k.topology was.held to) to id was node outcome)
-    same answers) in (
-      subst (λ o. HasAsked old new o (is_committed outcome)) (sym (ack-asked-is shape was to id held.0 held.1))
-          (asked-done old new (settling shape to id held.0) (worker_at was) was node outcome at own told),
-      asked-at_work old new (settling shape to id held.0) (worker_at was) was node outcome at own refl (sending-none was at.free) told
-          (subst (λ (k : CaseShape). Fits k (own_view new) node) same fits),
-    )
+    let held = held-here old all to interval at covers in
+    let pending = pending-here shape all to id interval held.0 covers held.1 sent in
+    let asked : settle_asked shape (worker_of all) to id ≡ Some (settled_as to id held.0) =
+    ap (option_and_then (settling shape to id)) (held-on-at shape all to interval held.0 covers held.1)
+    ∙ pending-asked shape to id held.0 pending in
+    subst (λ (o : Option Request). HasAsked old new o true) (sym asked) (record {
+      stepped = if-held (λ here. HasStepped old new (Some (entries.Ack here.lease.seq to id))) all interval held.0 held.1 done;
+      is_more = refl;
+    })
+
+-- what is not there
+some-none : {X : Type 0} (o : Option X) → is_some o ≡ false → o ≡ None
+some-none None is = refl
+some-none (Some x) is = absurd cc
+
+-- none was asked of one that is not pending
+pub ack-not : (book : BookView) (all : List (Option HeldView)) (to : RowName) (id : RecordId)
+    → is_some (sent_at book.case.topology (worker_of all) to id) ≡ false
+    → HasAsked book book (settle_asked book.case.topology (worker_of all) to id) false
+ack-not book all to id none =
+    subst (λ (o : Option Request). HasAsked book book o false)
+    (sym (ack-none book.case.topology (worker_of all) to id (some-none (sent_at book.case.topology (worker_of all) to id) none)))
+    (record { stepped = stepped-not book; is_more = refl })
 
 -- ---- purges
 
@@ -134,175 +202,160 @@ forget-own shape was least floor name asked may = record {
   write = λ interval. ap (λ (a : Request). is_claim interval a.entry) may.request;
 }
 
--- what a purge of a row leaves
-pub forget-call : (case : CaseShape) (old new : BookView) (was node : NodeView) (name : RowName) (many : ℕ) (outcome : Outcome)
-    → case ≡ old.case → IsAtWork old was → AnswersForget case.topology (own_view old) (own_view new) name many was node outcome
-    → Fits case (own_view new) node
-    → HasAskedOne old new (MayAskForget old.case.topology was many (floor_of (run_of old.case.topology old.history)) name)
-    (is_committed outcome) × IsAtWork new node
-forget-call case old new was node name many outcome same at answers fits =
-    let shape = old.case.topology in
-    let told = subst (λ (k : CaseShape). AnswersForget k.topology (own_view old) (own_view new) name many was node outcome) same answers in
-    let done = some-done old new (MayAskForget shape was many told.floor name) was node outcome at
-    (forget-own shape was many told.floor name) told.answers (subst (λ (k : CaseShape). Fits k (own_view new) node) same fits) in (
-      subst (λ (f : ℕ). HasAskedOne old new (MayAskForget shape was many f name) (is_committed outcome)) (told.known.same refl) done.0,
-      done.1,
+-- a row that is full may be asked to forget
+pub full-may : (book : BookView) (all : List (Option HeldView)) (name : RowName) (interval : ℕ) (here : HeldView)
+    → interval_of book.case.topology name ≡ Some interval → held_at all interval ≡ Some here
+    → let run = run_of book.case.topology book.history in is_full_at book.case.topology run (worker_of all) name ≡ true
+    → MayAskForget book.case.topology (worker_of all) 64 (floor_of run) name (forgetting here name (floor_of run))
+full-may book all name interval here covers there full =
+    let shape = book.case.topology in
+    let run = run_of shape book.history in
+    let on = held-on-at shape all name interval here covers there in record {
+      free = refl;
+      held = here;
+      there = on;
+      forgets = forgets-full shape run here name (full-held shape run (worker_of all) name here true on full);
+      request = refl;
+    }
+
+-- and has forgotten
+pub forget-asked : (old new : BookView) (all : List (Option HeldView)) (name : RowName) (interval floor : ℕ)
+    → floor ≡ floor_of (run_of old.case.topology old.history) → IsAtWork old (worker_of all)
+    → interval_of old.case.topology name ≡ Some interval
+    → is_full_at old.case.topology (run_of old.case.topology old.history) (worker_of all) name ≡ true
+    → IfSome (held_at all interval) (λ here. HasStepped old new (Some (entries.Purge here.lease.seq name floor)))
+    → let low = floor_of (run_of old.case.topology old.history) in
+    HasAskedOne old new (MayAskForget old.case.topology (worker_of all) 64 low name) true
+forget-asked old new all name interval floor is at covers full done =
+    let held = held-here old all name interval at covers in
+    let low = floor_of (run_of old.case.topology old.history) in
+    asked-one old new (MayAskForget old.case.topology (worker_of all) 64 low name) (forgetting held.0 name low)
+    (full-may old all name interval held.0 covers held.1 full)
+    (subst (λ (f : ℕ). HasStepped old new (Some (entries.Purge held.0.lease.seq name f))) is
+    (if-held (λ here. HasStepped old new (Some (entries.Purge here.lease.seq name floor))) all interval held.0 held.1 done))
+
+-- a row that is full may forget
+pub forget-known : (book : BookView) (all : List (Option HeldView)) (name : RowName) (interval floor : ℕ)
+    → floor ≡ floor_of (run_of book.case.topology book.history) → IsAtWork book (worker_of all)
+    → interval_of book.case.topology name ≡ Some interval
+    → is_full_at book.case.topology (run_of book.case.topology book.history) (worker_of all) name ≡ true
+    → name.part < parts_of book.case.topology
+    → IfSome (held_at all interval) (λ here. IsPurgeKnown (own_view book) name (row_held book.case.topology here name) floor)
+forget-known book all name interval floor is at covers full there =
+    let held = held-here book all name interval at covers in
+    let may = full-may book all name interval held.0 covers held.1 full in
+    subst (λ (f : ℕ). IfSome (held_at all interval) (λ here. IsPurgeKnown (own_view book) name (row_held book.case.topology here name) f))
+    (sym is) (forget-floor book.case (own_view book) (worker_of all) interval name
+    (floor_of (run_of book.case.topology book.history)) at.fits (
+      forgetting held.0 name (floor_of (run_of book.case.topology book.history)),
+      record {
+        free = refl;
+        held = may.held;
+        there = may.there;
+        forgets = record { many = let many = may.forgets.many in omega (arith, many); rises = may.forgets.rises };
+        request = may.request;
+      },
+    ) covers (omega arith))
+
+-- what is found among the rows of an interval is the first that may be asked to
+pub to-purge : (book : BookView) (all : List (Option HeldView)) (interval floor : ℕ) (found : Option RowName) → IsAtWork book
+    (worker_of all)
+    → interval < interval_count book.case.topology
+    → IfSome (held_at all interval) (λ here. IsFirstToPurge floor 1 here.rows found)
+    → IsToPurge book.case.topology (worker_of all) interval 1 floor found
+to-purge book all interval floor found at there first =
+    next-purge-held book.case.topology (worker_of all) interval 1 floor found refl
+    (subst IsSome (sym (at.each interval there).there) refl)
+    (rows-within book.case (own_view book) (worker_of all) interval at.fits) first
+
+-- it may forget
+pub purge-known : (book : BookView) (all : List (Option HeldView)) (name : RowName) (interval floor : ℕ) → IsAtWork book (worker_of all)
+    → floor ≡ floor_of (run_of book.case.topology book.history)
+    → IsToPurge book.case.topology (worker_of all) interval 1 floor (Some name) → interval_of book.case.topology name ≡ Some interval
+    → IfSome (held_at all interval) (λ here. IsPurgeKnown (own_view book) name (row_held book.case.topology here name) floor)
+purge-known book all name interval floor at is first covers =
+    forget-floor book.case (own_view book) (worker_of all) interval name floor at.fits
+    (first-forgets book.case.topology (worker_of all) interval 1 floor name first) covers (omega (arith, is))
+
+-- the first row of an interval that has ids to forget may be asked to
+pub first-may : (shape : Shape) (all : List (Option HeldView)) (interval floor : ℕ) (name : RowName)
+    → IsToPurge shape (worker_of all) interval 1 floor (Some name)
+    → (here : HeldView) × (held_at all interval ≡ Some here) × (interval_of shape name ≡ Some interval)
+    × MayAskPurge shape (worker_of all) interval 1 floor (forgetting here name floor)
+first-may shape all interval floor name is =
+    let may = is.2 in
+    let same : is.1 ≡ forgetting may.may.held name floor =
+    may.may.request ∙ ap (λ (n : RowName). forgetting may.may.held n floor) is.3 in
+    let covers = ap (interval_of shape) (sym is.3) ∙ may.of_interval in (
+      may.may.held,
+      held-at-on shape all may.name interval may.may.held may.may.there may.of_interval,
+      covers,
+      subst (MayAskPurge shape (worker_of all) interval 1 floor) same may,
     )
 
--- what a purge of an interval leaves
-pub purge-call : (case : CaseShape) (old new : BookView) (was node : NodeView) (interval many : ℕ) (outcome : Outcome)
-    → case ≡ old.case → IsAtWork old was → AnswersPurge case.topology (own_view old) (own_view new) interval many was node outcome
-    → Fits case (own_view new) node
-    → HasAskedOne old new (MayAskPurge old.case.topology was interval many (floor_of (run_of old.case.topology old.history)))
-    (is_committed outcome) × IsAtWork new node
-purge-call case old new was node interval many outcome same at answers fits =
-    let shape = old.case.topology in
-    let told = subst (λ (k : CaseShape). AnswersPurge k.topology (own_view old) (own_view new) interval many was node outcome) same answers in
-    let done = some-done old new (MayAskPurge shape was interval many told.floor) was node outcome at
-    (λ asked may. forget-own shape was many told.floor may.name asked may.may) told.answers
-    (subst (λ (k : CaseShape). Fits k (own_view new) node) same fits) in (
-      subst (λ (f : ℕ). HasAskedOne old new (MayAskPurge shape was interval many f) (is_committed outcome)) (told.known.same refl) done.0,
-      done.1,
-    )
+-- and has forgotten
+pub purge-asked : (old new : BookView) (all : List (Option HeldView)) (name : RowName) (interval floor : ℕ)
+    → IsToPurge old.case.topology (worker_of all) interval 1 floor (Some name)
+    → IfSome (held_at all interval) (λ here. HasStepped old new (Some (entries.Purge here.lease.seq name floor)))
+    → HasAskedOne old new (MayAskPurge old.case.topology (worker_of all) interval 1 floor) true
+purge-asked old new all name interval floor is done =
+    let first = first-may old.case.topology all interval floor name is in
+    asked-one old new (MayAskPurge old.case.topology (worker_of all) interval 1 floor) (forgetting first.0 name floor) first.3
+    (if-held (λ here. HasStepped old new (Some (entries.Purge here.lease.seq name floor))) all interval first.0 first.1 done)
 
 -- ---- timers
 
--- what a timer leaves that fires
-pub fire-call : (case : CaseShape) (old new : BookView) (was node : NodeView) (part : ℕ) (outcome : Outcome)
-    → case ≡ old.case → IsAtWork old was → AnswersFire case (own_view old) (own_view new) part was node outcome
-    → KeepsMarks (own_view old) (own_view new) → Fits case (own_view new) node
-    → HasAskedOne old new (MayAskFire old.case was part (least (marks_of old.case.topology part old.marks))) (is_committed outcome)
-    × IsAtWork new node
-fire-call case old new was node part outcome same at answers keeps fits =
-    let shape = old.case.topology in
-    let told = subst (λ (k : CaseShape). AnswersFire k (own_view old) (own_view new) part was node outcome) same answers in
-    let low = told.known.at_least in
-    let high = subst (λ (m : List ℕ). told.mark ≤ least (marks_of shape part m)) (keeps.same refl) told.known.at_most in
-    let exact : told.mark ≡ least (marks_of shape part old.marks) = omega (arith, low, high) in
-    let done = some-done old new (MayAskFire old.case was part told.mark) was node outcome at
-    (λ asked may. record {
-      name = may.name;
-      held = may.next.set.held;
-      on = may.next.set.there;
-      lease = ap (λ (a : Request). a.lease) may.request;
-      write = λ interval. ap (λ (a : Request). is_claim interval a.entry) may.request;
-    }) told.answers (subst (λ (k : CaseShape). Fits k (own_view new) node) same fits) in (
-      subst (λ (m : ℕ). HasAskedOne old new (MayAskFire old.case was part m) (is_committed outcome)) exact done.0,
-      done.1,
-    )
+-- a timer that is next of a part is next of the part of its row
+pub next-own : (shape : Shape) (node : NodeView) (part mark : ℕ) (name : RowName) (timer : Timer) → IsNextTimer shape node part mark
+    name timer
+    → IsNextTimer shape node name.part mark name timer
+next-own shape node part mark name timer next =
+    subst (λ (p : ℕ). IsNextTimer shape node p mark name timer) (sym next.set.of_part) next
+
+-- what was asked for of the part of its row
+pub fire-of : (old new : BookView) (node : NodeView) (part other mark : ℕ) (result : Result Bool NodeFault) → other ≡ part
+    → IfOk result (HasAskedOne old new (MayAskFire old.case node other mark))
+    → IfOk result (HasAskedOne old new (MayAskFire old.case node part mark))
+fire-of old new node part other mark result same is =
+    subst (λ (p : ℕ). IfOk result (HasAskedOne old new (MayAskFire old.case node p mark))) same is
+
+-- and where that failed
+pub fire-fails : (case : CaseShape) (node : NodeView) (part other mark : ℕ) (result : Result Bool NodeFault) → other ≡ part
+    → IfErr result (IsFullAsking (MayAskFire case node other mark)) → IfErr result (IsFullAsking (MayAskFire case node part mark))
+fire-fails case node part other mark result same is =
+    subst (λ (p : ℕ). IfErr result (IsFullAsking (MayAskFire case node p mark))) same is
+
+-- a call that fails for lack of memory does not fail since the history is full
+pub memory-asking : (MayAsk : Request → Type 0) (why : NodeFault) → why ≡ faults.NoMemory → IsFullAsking MayAsk why
+memory-asking MayAsk why is = λ full. absurd (let both : faults.NoMemory ≡ faults.HistoryFull = sym is ∙ full in cc)
+
+-- a timer that is next has fired
+pub fire-asked : (old new : BookView) (all : List (Option HeldView)) (name : RowName) (timer : Timer) (mark interval : ℕ)
+    (effects : EffectsView) (set : IsSetAt old.case.topology all interval name timer)
+    → interval_of old.case.topology name ≡ Some interval → IsNextTimer old.case.topology (worker_of all) name.part mark name timer
+    → timer_outcome old.case name set.row timer ≡ Some effects
+    → IfSome (held_at all interval) (λ here. HasProposed old new here.lease.seq name (proposals.Fire timer mark effects))
+    → HasAskedOne old new (MayAskFire old.case (worker_of all) name.part mark) true
+fire-asked old new all name timer mark interval effects set covers next does done =
+    let is = if-held (λ here. HasProposed old new here.lease.seq name (proposals.Fire timer mark effects)) all interval set.held
+    set.there done in
+    asked-one old new (MayAskFire old.case (worker_of all) name.part mark) (firing name timer mark effects set.held)
+    (may-fire old.case (worker_of all) mark interval name timer effects set covers next does)
+    (subst (λ (e : Entry). HasStepped old new (Some e)) is.of_proposal is.stepped)
 
 -- ---- a record
 
--- what a work is that is prepared, by the record that was sent
-work-is : (node : NodeView) (s : Sending) → sending_of node ≡ Some s
-    → (work : WorkView) × (effects : EffectsView) × (node.prepared ≡ Some work) × (work.proposal ≡ proposals.Handle s.delivery effects)
-work-is node s is = by_work node.prepared refl is
-  where
-    by_proposal : (sender : RowName) (p : Proposal) → sending_in sender p ≡ Some s → (effects : EffectsView) × (p ≡ proposals.Handle s.delivery effects)
-    by_proposal sender (proposals.Inject line) e = absurd (none_some s e)
-    by_proposal sender (proposals.Fire timer mark effects) e = absurd (none_some s e)
-    by_proposal sender (proposals.Handle delivery effects) e =
-        let one = some_same (record { delivery = delivery; sender = sender }) s e in
-        (effects, ap (λ (d : Sending). proposals.Handle d.delivery effects) one)
-
-    by_work : (o : Option WorkView) → node.prepared ≡ o
-        → option_and_then (λ (work : WorkView). sending_in work.sender work.proposal) o ≡ Some s
-        → (work : WorkView) × (effects : EffectsView) × (node.prepared ≡ Some work) × (work.proposal ≡ proposals.Handle s.delivery effects)
-    by_work None at e = absurd (none_some s e)
-    by_work (Some work) at e = let p = by_proposal work.sender work.proposal e in (work, p.0, at, p.1)
-
--- the worker once a record is prepared
-abbrev prepared_with : NodeView → Delivery → RowName → Worker
-prepared_with was delivery sender = record (worker_at was) { prepared = Some (record { delivery = delivery; sender = sender }) }
-
--- a record that is not finished is prepared
-taken-prepared : (old : BookView) (was mid : NodeView) (delivery : Delivery) (sender : RowName) (outcome : Outcome) → IsAtWork old was
-    → delivery.to.part < parts_of old.case.topology → is_finished_at old.case.topology was delivery ≡ false
-    → (outcome, worker_at mid) ≡ taken_in old.case.topology was delivery sender → worker_at mid ≡ prepared_with was delivery sender
-taken-prepared old was mid delivery sender outcome at there left is =
-    let shape = old.case.topology in
-    let held = held-there old was delivery.to at there in
-    let unfinished : is_finished delivery.id (row_held shape held.0 delivery.to) ≡ false =
-    sym (ap (λ (o : Option HeldView). option_map_or (λ (h : HeldView). is_finished delivery.id (row_held shape h delivery.to)) o false) held.1)
-    ∙ left in
-    ap (λ (p : Outcome × Worker). p.1) (is
-    ∙ ap (λ (o : Option WorkView). cond (is_some o) (outcomes.Nothing, worker_at was)
-    (option_map_or (received shape was delivery sender) (held_on shape was.held delivery.to) (outcomes.NotMine, worker_at was))) at.free
-    ∙ ap (λ (o : Option HeldView). option_map_or (received shape was delivery sender) o (outcomes.NotMine, worker_at was)) held.1
-    ∙ ap (λ b. cond b (outcomes.Duplicate, with_outgoing (outgoing.Ack sender delivery.id ∷ []) (worker_at was))
-    (outcomes.Prepared, prepared_with was delivery sender)) unfinished)
-
--- a worker without what it has prepared
-abbrev freed : NodeView → NodeView
-freed node = record node { prepared = None }
-
--- it is at work, where the worker has the leases of one that was
-freed-at_work : (old mid : BookView) (was node : NodeView) → IsAtWork old was → HasLooked (own_view old) (own_view mid)
-    → Fits old.case (own_view mid) node → leases_of node.held ≡ leases_of was.held → IsAtWork mid (freed node)
-freed-at_work old mid was node at looked fits leases =
-    at_work-after old mid was (freed node) None at (stepped-looked old mid looked) tt
-    (record { of_case = fits.of_case; held = fits.held; work = tt; outbox = fits.outbox }) leases refl
-
--- that a record was handled stands behind the history
-pub record HasCommitted (old new : BookView) (delivery : Delivery) (node : NodeView) (outcome : Outcome) : Type 0 where
-  pub handled : HasHandled old new delivery (is_committed outcome)
-  pub at_work : IsAtWork new node
-
--- a record that is prepared is written
-pub handle-call : (case : CaseShape) (old mid new : BookView) (was prepared node : NodeView) (delivery : Delivery) (sender : RowName)
-    (first outcome : Outcome) → case ≡ old.case → IsAtWork old was → delivery.to.part < parts_of old.case.topology
-    → is_finished_at old.case.topology was delivery ≡ false → HasLooked (own_view old) (own_view mid)
-    → (first, worker_at prepared) ≡ taken_in case.topology was delivery sender → Fits case (own_view mid) prepared
-    → AnswersAsked case.topology (own_view mid) (own_view new) (work_asked case.topology prepared)
-    (with_written (sending_of prepared) (worker_at prepared)) prepared node outcome
-    → Fits case (own_view new) node → HasCommitted old new delivery node outcome
-handle-call case old mid new was prepared node delivery sender first outcome same at there left looked taken fits answers after =
-    subst (λ (k : CaseShape). HasCommitted old new delivery node outcome) same
-    (by_case (subst (λ (k : CaseShape). (first, worker_at prepared) ≡ taken_in k.topology was delivery sender) same taken)
-    (subst (λ (k : CaseShape). Fits k (own_view mid) prepared) same fits)
-    (subst (λ (k : CaseShape). AnswersAsked k.topology (own_view mid) (own_view new) (work_asked k.topology prepared)
-    (with_written (sending_of prepared) (worker_at prepared)) prepared node outcome) same answers)
-    (subst (λ (k : CaseShape). Fits k (own_view new) node) same after))
-  where
-    shape : Shape
-    shape = old.case.topology
-
-    stayed : HasStepped old mid None
-    stayed = stepped-looked old mid looked
-
-    by_case : (first, worker_at prepared) ≡ taken_in shape was delivery sender → Fits old.case (own_view mid) prepared
-        → AnswersAsked shape (own_view mid) (own_view new) (work_asked shape prepared)
-        (with_written (sending_of prepared) (worker_at prepared)) prepared node outcome
-        → Fits old.case (own_view new) node → HasCommitted old new delivery node outcome
-    by_case taken fits answers after =
-        let is = taken-prepared old was prepared delivery sender first at there left taken in
-        let sending : sending_of prepared ≡ Some (record { delivery = delivery; sender = sender }) = ap (λ (w : Worker). w.prepared) is in
-        let leases : leases_of prepared.held ≡ leases_of was.held = ap (λ (w : Worker). w.leases) is in
-        let work = work-is prepared (record { delivery = delivery; sender = sender }) sending in
-        let handled = subst (λ (p : Proposal). IsPrepared old.case (own_view mid) prepared.held work.0.sender p) work.3
-        (subst (λ (o : Option WorkView). IfSome o (IsWork old.case (own_view mid) prepared.held)) work.2 fits.work) in
-        let held = handled.held in
-        let asked : Request = handled_as delivery work.1 held in
-        let asks : work_asked shape prepared ≡ Some asked =
-        ap (option_and_then (λ (w : WorkView). proposed shape prepared.held w.proposal)) work.2
-        ∙ ap (proposed shape prepared.held) work.3 ∙ ap (option_map (handled_as delivery work.1)) handled.there in
-        let free = freed-at_work old mid was prepared at looked fits leases in
-        let last = current mid (freed prepared) delivery.to held free
-        (ap (λ (c : CaseShape). held_on c.topology prepared.held delivery.to) stayed.case ∙ handled.there) in
-        let done = written mid new asked (with_written (sending_of prepared) (worker_at prepared)) prepared node outcome last
-        (subst (λ (s : Shape). AnswersWrite s (own_view mid) (own_view new) asked
-        (with_written (sending_of prepared) (worker_at prepared)) prepared node outcome) (ap (λ (c : CaseShape). c.topology) (sym stayed.case))
-        (subst (λ o. AnswersAsked shape (own_view mid) (own_view new) o
-        (with_written (sending_of prepared) (worker_at prepared)) prepared node outcome) asks answers)) in
-        record {
-          handled = record {
-            is_more = done.committed;
-            seq = held.lease.seq;
-            effects = work.1;
-            stepped = stepped-on old mid new (Some asked.entry) stayed done.stepped;
-          };
-          at_work = at_work-after mid new (freed prepared) node (Some asked.entry) free done.stepped (λ interval. refl)
-              (subst (λ (k : CaseShape). Fits k (own_view new) node) (sym stayed.case) after)
-              (done.leases ∙ ap (λ o. (with_written o (worker_at prepared)).leases) sending)
-              (done.prepared ∙ ap (λ o. (with_written o (worker_at prepared)).prepared) sending);
-        }
+-- a record that was handled stands behind the history
+pub handle-done : (old new : BookView) (all : List (Option HeldView)) (delivery : Delivery) (effects : EffectsView) (interval : ℕ)
+    → IsAtWork old (worker_of all) → interval_of old.case.topology delivery.to ≡ Some interval
+    → IfSome (held_at all interval) (λ here. HasProposed old new here.lease.seq delivery.to (proposals.Handle delivery effects))
+    → HasHandled old new delivery true
+handle-done old new all delivery effects interval at covers done =
+    let held = held-here old all delivery.to interval at covers in
+    let is = if-held (λ here. HasProposed old new here.lease.seq delivery.to (proposals.Handle delivery effects)) all interval held.0
+    held.1 done in record {
+      is_more = refl;
+      seq = held.0.lease.seq;
+      effects = effects;
+      stepped = subst (λ (e : Entry). HasStepped old new (Some e)) is.of_proposal is.stepped;
+    }

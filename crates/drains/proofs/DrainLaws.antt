@@ -1,5 +1,5 @@
 -- A whole drain, by what its claims and its turns say.
-use Rattle.std.proofs.Common.{◌≡◌, ◌<◌, ◌≤◌, ℕ, Bool, true, false, List, length, sym, ◌∙◌, subst, arith}
+use Rattle.std.proofs.Common.{◌≡◌, ◌<◌, Bool, true, false, List, length, sym, ◌∙◌, subst}
 use Rattle.std.specs.Prelude.{Option, Some, None, IsSome, IfSome}
 use Rattle.std.specs.Option.{is_some}
 use Rattle.std.proofs.lemmas.Bool.{both_ways}
@@ -17,15 +17,15 @@ use Rattle.book.specs.Senders.{IsLeastSent}
 use Rattle.book.specs.Books.{BookView, core_of}
 use Rattle.book.specs.Lawful.{IsLawful}
 use Rattle.node.specs.Asking.{MayAskForget}
-use Rattle.node.specs.Messages.{IsDeliverable}
+use Rattle.node.specs.Messages.{IsComputation}
 use Rattle.node.specs.Workers.{NodeView}
 use Rattle.drains.specs.Drains.{HasEnded}
-use Rattle.drains.specs.Turns.{CanBeKept, HasAskedOne, HasStepped, HasTurned, WhereTold, is_finished_at, sent_at}
+use Rattle.drains.specs.Standings.{IsFound}
+use Rattle.drains.specs.Turns.{HasAskedOne, HasStepped, HasTurned, WhereTold, is_finished_at, sent_at}
 use Rattle.drains.proofs.EndLaws.{injected-finished}
 use Rattle.drains.proofs.LawfulRows.{lawful-rows}
 use Rattle.drains.proofs.GoLaws.{fact-back, fact-on, stayed-turn, told-on}
-use Rattle.drains.proofs.LeastWorkLaws.{IsFound, forget-turned, found-handled, sender-there, sent-id, sent-to}
-use Rattle.drains.proofs.TurnLaws.{stepped-on}
+use Rattle.drains.proofs.LeastWorkLaws.{forget-turned, found-handled, sent-id, sent-to}
 
 -- ---- where the rows are told
 
@@ -53,23 +53,6 @@ not-ended book more is none = λ told. absurd (both_ways more none (is told))
 pub no-more : (old new : BookView) (more : Bool) → HasTurned old new more → more ≡ false → HasStepped old new None
 no-more old new more turned none = stayed-turn old new (subst (HasTurned old new) none turned)
 
--- and nothing was written with a step before it that wrote nothing
-pub stayed-on : (one two three : BookView) (more : Bool) → HasStepped one two None → HasTurned two three more → more ≡ false
-    → HasStepped one three None
-stayed-on one two three more first turned none = stepped-on one two three None first (no-more two three more turned none)
-
--- ---- what was found
-
--- a record that was found may be delivered
-pub found-deliverable : (book : BookView) (node : NodeView) (sender : RowName) (d : Delivery) → IsFound book node sender d
-    → CanBeKept d → IsDeliverable book.case.topology d sender
-found-deliverable book node sender d is kept = record {
-  id = kept.id;
-  stamp = kept.stamp;
-  to = sent-to book node sender d.id d is.at_work is.part is.sent;
-  from = is.part;
-}
-
 -- ---- claims and then turns
 
 -- where it has ended no work is left
@@ -82,6 +65,11 @@ ended-finished old new same tells lawful ended = if-there old.rows (λ told.
     (lawful-rows new.case new.history new.rows (tells ∙ told) lawful.held).0 done.earlier)
 
 -- ---- a record that was found
+
+-- a record that was found goes to a computation
+pub found-to : (book : BookView) (node : NodeView) (sender : RowName) (d : Delivery) → IsFound book node sender d
+    → IsComputation book.case.topology d.to.part
+found-to book node sender d is = sent-to book node sender d.id d is.at_work is.part is.sent
 
 -- a record that was found goes to a part that is there
 pub found-part : (book : BookView) (node : NodeView) (sender : RowName) (d : Delivery) → IsFound book node sender d
@@ -96,13 +84,6 @@ pub forgot-turned : (old new : BookView) (node : NodeView) (sender : RowName) (d
 forgot-turned old new node sender d more is left done =
     forget-turned old new node sender d more is.at_work is.sent is.least (found-handled old node sender d is false left) done
 
--- what was sent, by the case that a book tells
-pub sent-by : (case : CaseShape) (book : BookView) (node : NodeView) (sender : RowName) (id : RecordId) (found o : Option Delivery)
-    → case ≡ book.case → found ≡ sent_at case.topology node sender id → found ≡ o
-    → sent_at book.case.topology node sender id ≡ o
-sent-by case book node sender id found o same is e =
-    subst (λ (k : CaseShape). sent_at k.topology node sender id ≡ o) same (sym is ∙ e)
-
 -- the least id is that of what was found
 pub found-least : (book : BookView) (node : NodeView) (sender : RowName) (id : RecordId) (d : Delivery)
     → sent_at book.case.topology node sender id ≡ Some d
@@ -111,10 +92,3 @@ pub found-least : (book : BookView) (node : NodeView) (sender : RowName) (id : R
 found-least book node sender id d sent least =
     subst (λ (i : RecordId). IsLeastSent book.case.topology (run_of book.case.topology book.history) i sender)
     (sym (sent-id book.case.topology node sender id d sent)) least
-
--- no sender is of a part that is not there, where that is told
-pub no-sender : (book : BookView) (sender : RowName) (id : RecordId) (parts : ℕ) → parts ≡ parts_of book.case.topology
-    → parts ≤ sender.part → IsLawful book.case (core_of book)
-    → IsLeastSent book.case.topology (run_of book.case.topology book.history) id sender → IsSome book.rows → ⊥
-no-sender book sender id parts same over lawful least told =
-    let there = sender-there book sender id lawful told least in omega (arith, there, same, over)

@@ -1,22 +1,18 @@
 -- A drain fails since the history is full only where it has not ended: it had a further entry to write.
-use Rattle.std.proofs.Common.{◌≡◌, ◌≤◌, ℕ, true, List, ◌∷◌, ◌++◌, [], refl, sym, ◌∙◌, subst, arith, inl, inr}
+use Rattle.std.proofs.Common.{◌≡◌, ℕ, true, ◌∷◌, ◌++◌, [], refl, sym, ◌∙◌, subst, arith}
 use Rattle.std.specs.Prelude.{Option, Some, None, IsSome, IfSome, Contains}
 use Rattle.std.specs.Option.{is_some}
 use Rattle.mw_types.specs.declared.entry.Entry.{Entry}
 use Rattle.mw_types.specs.declared.identity.RecordId.{RecordId}
 use Rattle.mw_types.specs.declared.identity.RowName.{RowName}
 use Rattle.topology.specs.Shapes.{injectors_of}
-use Rattle.run_history.specs.Cases.{CaseShape}
 use Rattle.run_history.specs.Legal.{floor_of}
 use Rattle.run_history.specs.Runs.{run_of}
 use Rattle.run_history.specs.Watermarks.{least}
 use Rattle.watermark.specs.Marks.{marks_of}
 use Rattle.book.specs.Books.{BookView, core_of}
-use Rattle.book.specs.Desks.{DeskView, KeepsMarks}
 use Rattle.book.specs.Lawful.{IsLawful}
-use Rattle.book.specs.OwnDesks.{own_view}
 use Rattle.book.specs.Senders.{IsLeastSent}
-use Rattle.node.specs.Answers.{FailsFire, FailsPurge, FailsSome}
 use Rattle.node.specs.Asking.{MayAskFire, MayAskPurge, Request}
 use Rattle.node.specs.Messages.{IsComputation}
 use Rattle.node.specs.Workers.{NodeView}
@@ -64,34 +60,6 @@ full-not book why is = λ full. absurd (let both : faults.NoMemory ≡ faults.Hi
 -- a call that fails after a step that wrote nothing
 pub unended-back : (old new : BookView) (why : NodeFault) → HasStepped old new None → IsFullUnended new why → IsFullUnended old why
 unended-back old new why stepped is = λ full. told-fact-back IsUnended old new stepped (is full)
-
--- a call that fails since the history is full asked for an entry
-full-asking : (old new : DeskView) (MayAsk : Request → Type 0) (why : NodeFault) → FailsSome old new MayAsk why → IsFullAsking MayAsk why
-full-asking old new MayAsk why (inl is) = λ full. absurd (let both : faults.NoMemory ≡ faults.HistoryFull = sym is ∙ full in cc)
-full-asking old new MayAsk why (inr (asked, may, refused)) = λ full. (asked, may)
-
--- a purge of an interval that fails so
-pub purge-full : (case : CaseShape) (old new : BookView) (was : NodeView) (interval many : ℕ) (why : NodeFault) → case ≡ old.case
-    → FailsPurge case.topology (own_view old) (own_view new) interval many was why
-    → IsFullAsking (MayAskPurge old.case.topology was interval many (floor_of (run_of old.case.topology old.history))) why
-purge-full case old new was interval many why same fails =
-    let shape = old.case.topology in
-    let told = subst (λ (k : CaseShape). FailsPurge k.topology (own_view old) (own_view new) interval many was why) same fails in
-    subst (λ (f : ℕ). IsFullAsking (MayAskPurge shape was interval many f) why) (told.known.same refl)
-    (full-asking (own_view old) (own_view new) (MayAskPurge shape was interval many told.floor) why told.fails)
-
--- a timer that fails so
-pub fire-full : (case : CaseShape) (old new : BookView) (was : NodeView) (part : ℕ) (why : NodeFault) → case ≡ old.case
-    → FailsFire case (own_view old) (own_view new) part was why → KeepsMarks (own_view old) (own_view new)
-    → IsFullAsking (MayAskFire old.case was part (least (marks_of old.case.topology part old.marks))) why
-fire-full case old new was part why same fails keeps =
-    let shape = old.case.topology in
-    let told = subst (λ (k : CaseShape). FailsFire k (own_view old) (own_view new) part was why) same fails in
-    let low = told.known.at_least in
-    let high = subst (λ (m : List ℕ). told.mark ≤ least (marks_of shape part m)) (keeps.same refl) told.known.at_most in
-    let exact : told.mark ≡ least (marks_of shape part old.marks) = omega (arith, low, high) in
-    subst (λ (m : ℕ). IsFullAsking (MayAskFire old.case was part m) why) exact
-    (full-asking (own_view old) (own_view new) (MayAskFire old.case was part told.mark) why told.fails)
 
 -- ---- what was asked for comes next
 

@@ -19,18 +19,15 @@ use Rattle.book.specs.Books.{BookView, core_of}
 use Rattle.book.specs.Lawful.{IsLawful}
 use Rattle.book.specs.Marks.{AreSafe}
 use Rattle.book.specs.OwnDesks.{own_view}
-use Rattle.node.specs.Answers.{AnswersClaim}
 use Rattle.node.specs.Fits.{Fits}
-use Rattle.node.specs.Workers.{NodeView, Worker, goes_into, leases_of, where_passes, with_lease, worker_at}
+use Rattle.node.specs.Workers.{NodeView, Worker, goes_into, leases_of, where_passes}
 use Rattle.node.specs.declared.outcome.NodeFault.{NodeFault}
-use Rattle.node.specs.declared.outcome.Outcome.{Outcome}
-use Rattle.node.specs.declared.outcome.Outcome.TheVariants as outcomes
 use Rattle.drains.specs.Drains.{HasClaimedAll, IsDraining}
 use Rattle.drains.specs.ReportRounds.{marks_after_round}
 use Rattle.drains.specs.Turns.{AreExact, HasFailed, HasFirst, HasGone, HasLast, HasStepped, HasTaken, HasTurned, IsAtWork, IsClaiming, IsNextIn, IsSettled, with_own}
 use Rattle.drains.proofs.RoundLaws.{round-low}
 use Rattle.drains.proofs.LawfulRows.{lawful-rows}
-use Rattle.drains.proofs.TurnLaws.{free-of, held-leased, lease-held, moved-before, sending-none, stepped-by, stepped-on}
+use Rattle.drains.proofs.TurnLaws.{free-of, held-leased, lease-held, sending-none, stepped-on}
 use Rattle.drains.proofs.WholeDrains.{draining-first, draining-push}
 
 -- ---- a step in which nothing was appended
@@ -102,15 +99,6 @@ gone-step start old new own gone stepped = record {
     longer : (o : Option Entry) (h : List Entry) → Begins h (with_own o h)
     longer None h = Begins-itself h
     longer (Some entry) h = (entry ∷ [], refl)
-
--- a worker that forgets what it has to send is still at work
-pub at_work-emptied : (book : BookView) (was node : NodeView) → IsAtWork book was → node ≡ record was { outbox = [] }
-    → Fits book.case (own_view book) node → IsAtWork book node
-at_work-emptied book was node at is fits = record {
-  fits = fits;
-  free = ap (λ (n : NodeView). n.prepared) is ∙ at.free;
-  each = subst (λ (n : NodeView). HasFirst book.history n.held (interval_count book.case.topology)) (sym is) at.each;
-}
 
 -- a turn that wrote an entry brings the history nearer to its limit
 pub nearer : (old new : BookView) → HasTurned old new true → length new.history ≤ new.limit
@@ -214,36 +202,6 @@ claims-all start book node count all on = (
   },
   let next = on.next in omega (arith, next, all),
 )
-
--- what a claim answers over a book of its own
-pub claim-taken : (old new : BookView) (interval : ℕ) (was node : NodeView) (outcome : Outcome)
-    → AnswersClaim old.case.topology (own_view old) (own_view new) interval was node outcome → Fits old.case (own_view new) node
-    → node.number ≡ was.number → HasTaken old new interval was node
-claim-taken old new interval was node (outcomes.Claimed seq) answers fits number =
-    let stepped = stepped-by old new answers.before (Some (entries.Claim was.number interval)) answers.moved answers.appended in
-    let same : seq ≡ length old.history = answers.number ∙ ap length (moved-before old new answers.before answers.moved) in record {
-      stepped = stepped;
-      fits = subst (λ (c : CaseShape). Fits c (own_view new) node) (sym stepped.case) fits;
-      number = number;
-      left = answers.left ∙ ap (λ (s : ℕ). with_lease old.case.topology interval (Some s) (worker_at was)) same;
-    }
-claim-taken old new interval was node (outcomes.Busy found) answers fits number =
-    absurd (no_turn (answers.1.counts.busy found refl))
-  where
-    no_turn : [] ≡ found ∷ [] → ⊥
-    no_turn e = cc
-claim-taken old new interval was node (outcomes.Committed n) answers fits number = absurd answers
-claim-taken old new interval was node (outcomes.Stale n) answers fits number = absurd answers
-claim-taken old new interval was node outcomes.Prepared answers fits number = absurd answers
-claim-taken old new interval was node outcomes.Duplicate answers fits number = absurd answers
-claim-taken old new interval was node outcomes.NotMine answers fits number = absurd answers
-claim-taken old new interval was node (outcomes.Queued n) answers fits number = absurd answers
-claim-taken old new interval was node (outcomes.Sent n) answers fits number = absurd answers
-claim-taken old new interval was node (outcomes.Copied n) answers fits number = absurd answers
-claim-taken old new interval was node outcomes.Lost answers fits number = absurd answers
-claim-taken old new interval was node (outcomes.Marked n) answers fits number = absurd answers
-claim-taken old new interval was node outcomes.Crashed answers fits number = absurd answers
-claim-taken old new interval was node outcomes.Nothing answers fits number = absurd answers
 
 -- ---- marks
 

@@ -91,7 +91,7 @@ cursor-known book node part at told less =
     ∙ ap (λ (c : Contents). cursor_in c.state) (row-known book node (injector_row part) held.0 at told held.1)
 
 -- a line is there where the count is below the number of lines
-line-there : (case : CaseShape) (node : NodeView) (part : ℕ) (line : ℕ × ℕ) → line_at case node part ≡ Some line
+pub line-there : (case : CaseShape) (node : NodeView) (part : ℕ) (line : ℕ × ℕ) → line_at case node part ≡ Some line
     → (cursor_at case node part < length (source_of case part)) × ((cursor_at case node part, part) ≡ line)
 line-there case node part line is = by_test (nat_lt (cursor_at case node part) (length (source_of case part))) refl is
   where

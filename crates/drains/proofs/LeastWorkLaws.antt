@@ -1,18 +1,16 @@
 -- What a turn does with the least id that is not acknowledged is what comes next in a drain.
-use Rattle.std.proofs.Common.{◌≡◌, ◌<◌, ◌&&◌, ℕ, Bool, true, false, List, length, refl, sym, ◌∙◌, ap, subst, arith, inl}
+use Rattle.std.proofs.Common.{◌≡◌, ◌<◌, ◌&&◌, ℕ, Bool, true, false, length, refl, sym, ◌∙◌, ap, subst, arith, inl}
 use Rattle.std.specs.Prelude.{Option, Some, None, IsSome, IfSome, nat_lt, nat_le}
 use Rattle.std.specs.List.{list_all}
-use Rattle.std.specs.Option.{is_some, option_and_then, option_map, option_map_or}
+use Rattle.std.specs.Option.{option_and_then, option_map, option_map_or}
 use Rattle.std.proofs.lemmas.Bool.{and_parts, leb-true, ltb-true, le-leb, lt-ltb}
 use Rattle.list_lemmas.proofs.Places.{each-passes}
 use Rattle.mw_types.specs.declared.delivery.Delivery.{Delivery}
-use Rattle.mw_types.specs.declared.entry.Entry.{Entry}
 use Rattle.mw_types.specs.declared.entry.Entry.TheVariants as entries
 use Rattle.mw_types.specs.declared.identity.RecordId.{RecordId}
 use Rattle.mw_types.specs.declared.identity.RowName.{RowName}
 use Rattle.topology.specs.Shapes.{Shape, injectors_of, parts_of}
 use Rattle.row_parts.specs.Contents.{Contents, is_finished, same_id, found_delivery}
-use Rattle.run_history.specs.Cases.{CaseShape}
 use Rattle.run_history.specs.Finished.{is_handled}
 use Rattle.run_history.specs.Fits.{is_sent_before, suits_part}
 use Rattle.run_history.specs.Legal.{IsLegal, floor_of}
@@ -21,20 +19,16 @@ use Rattle.list_lemmas.proofs.Lists.{find-each, find-passes, none_some}
 use Rattle.history_laws.proofs.FinishedLaws.{finished-handled}
 use Rattle.history_laws.proofs.IdLaws.{same_id-true}
 use Rattle.history_laws.proofs.SentLaws.{pending-as_made}
-use Rattle.history_laws.specs.Ids.{IsMadeOn}
-use Rattle.history_laws.proofs.SenderLaws.{pending-on}
-use Rattle.history_laws.proofs.PrintLaws.{legal-on_parts}
-use Rattle.book.specs.Books.{BookView, core_of}
-use Rattle.book.specs.Lawful.{IsLawful}
+use Rattle.book.specs.Books.{BookView}
 use Rattle.book.specs.Senders.{IsLeastSent}
 use Rattle.holdings.specs.Holding.{HeldView, held_on, row_held}
-use Rattle.node.specs.Asking.{HasToForget, MayAskForget, Request, forgetting, settle_asked, settling}
-use Rattle.node.specs.Messages.{IsComputation, IsSentFrom}
+use Rattle.node.specs.Asking.{HasToForget, MayAskForget, Request, settle_asked, settling}
+use Rattle.node.specs.Messages.{IsComputation}
 use Rattle.node.specs.Workers.{NodeView}
 use Rattle.drains.specs.Drains.{HasClaimedAll, IsNextEntry, IsToHandle, is_full}
+use Rattle.drains.specs.Standings.{IsFound}
 use Rattle.drains.specs.Turns.{HasAsked, HasAskedOne, HasHandled, HasTurned, IsAtWork, IsNextIn, IsHandledNext, is_finished_at, is_full_at, sent_at}
 use Rattle.drains.proofs.LawfulRows.{lawful-rows}
-use Rattle.drains.proofs.ThereLaws.{row-there}
 use Rattle.drains.proofs.KnownLaws.{held-on-is, held-there, row-known}
 
 -- ---- what was asked for
@@ -160,7 +154,7 @@ ack-asked shape node sender id d sent =
     )
 
 -- none, where nothing was sent
-ack-none : (shape : Shape) (node : NodeView) (sender : RowName) (id : RecordId) → sent_at shape node sender id ≡ None
+pub ack-none : (shape : Shape) (node : NodeView) (sender : RowName) (id : RecordId) → sent_at shape node sender id ≡ None
     → settle_asked shape node sender id ≡ None
 ack-none shape node sender id none = by_place (held_on shape node.held sender) none
   where
@@ -287,34 +281,6 @@ forget-turned old new node sender d more at sent least left done = by_asked done
           to_floor = refl;
         })))
 
--- and one is written, where the row is full
-pub forget-more : (old new : BookView) (node : NodeView) (name : RowName) (more : Bool) → IsAtWork old node
-    → name.part < parts_of old.case.topology → let run = run_of old.case.topology old.history in
-    is_full_at old.case.topology run node name ≡ true
-    → HasAskedOne old new (MayAskForget old.case.topology node 64 (floor_of run) name) more → more ≡ true
-forget-more old new node name true at there full done = refl
-forget-more old new node name false at there full done =
-    absurd (done.none (by_none done.asked done.done.is_more) (forgetting held.0 name (floor_of run)) (record {
-      free = at.free;
-      held = held.0;
-      there = held.1;
-      forgets = forgets-full shape run held.0 name (full-held shape run node name held.0 true held.1 full);
-      request = refl;
-    }))
-  where
-    shape : Shape
-    shape = old.case.topology
-
-    run : Run
-    run = run_of shape old.history
-
-    held : (h : HeldView) × (held_on shape node.held name ≡ Some h)
-    held = held-there old node name at there
-
-    by_none : (asked : Option Request) → is_some asked ≡ false → asked ≡ None
-    by_none None e = refl
-    by_none (Some a) e = absurd (cc)
-
 -- that a record was handled is a turn
 pub handle-turned : (old new : BookView) (sender : RowName) (d : Delivery) (more : Bool)
     → IsLeastSent old.case.topology (run_of old.case.topology old.history) d.id sender
@@ -337,35 +303,7 @@ handle-turned old new sender d more least is_next done = record {
   };
 }
 
--- its record was sent from that row
-pub next-sent : (case : CaseShape) (history : List Entry) (sender : RowName) (d : Delivery) → IsHandledNext case history sender d
-    → IsSentFrom case history sender d
-next-sent case history sender d is = record {
-  made = pending-as_made case.topology history sender d.id d is.pending;
-  on_sender = find-each (IsMadeOn history sender) (λ (e : Delivery). same_id e.id d.id)
-      (row_of case.topology (run_of case.topology history) sender).pending d ((pending-on case.topology history).each sender) is.pending;
-}
-
--- ---- the sender
-
--- a row in which an id is pending is of a part that is there, where that is told
-pub sender-there : (book : BookView) (sender : RowName) (id : RecordId) → IsLawful book.case (core_of book) → IsSome book.rows
-    → IsLeastSent book.case.topology (run_of book.case.topology book.history) id sender → sender.part < parts_of book.case.topology
-sender-there book sender id lawful told least =
-    let legal = (lawful-rows book.case book.history book.rows told lawful.held).0 in
-    (legal-on_parts book.case book.history legal).rows sender
-    (row-there book.case.topology (run_of book.case.topology book.history) sender
-    (λ is. let some = subst (λ (c : Contents). IsSome (found_delivery id c.pending)) is least.pending in cc))
-
 -- ---- the whole
-
--- what is known of the least id, once its record is found in its sender's row
-pub record IsFound (book : BookView) (node : NodeView) (sender : RowName) (d : Delivery) : Type 0 where
-  pub at_work : IsAtWork book node
-  pub lawful : IsLawful book.case (core_of book)
-  pub part : sender.part < parts_of book.case.topology
-  pub least : IsLeastSent book.case.topology (run_of book.case.topology book.history) d.id sender
-  pub sent : sent_at book.case.topology node sender d.id ≡ Some d
 
 -- whether it is handled is whether it is finished
 pub found-handled : (book : BookView) (node : NodeView) (sender : RowName) (d : Delivery) → IsFound book node sender d → (b : Bool)

@@ -10,6 +10,7 @@ pub mod EndLaws
 pub mod Tried
 pub mod DrainedExample
 pub mod TurnLaws
+pub mod HeldLaws
 pub mod LawfulRows
 pub mod KnownLaws
 pub mod LeastWorkLaws
@@ -19,6 +20,7 @@ pub mod FireLaws
 pub mod GoLaws
 pub mod ReportLaws
 pub mod CallLaws
+pub mod StandLaws
 pub mod PurgeLoop
 pub mod FireLoop
 pub mod Results

@@ -1,60 +1,75 @@
 -- What a report leaves of the marks of a book.
-use Rattle.std.proofs.Common.{◌≡◌, ◌<◌, ◌≤◌, ◌+◌, ℕ, zero, suc, List, [], ◌∷◌, ◌++◌, length, refl, sym, ◌∙◌, ap, subst, arith}
-use Rattle.std.specs.Prelude.{Some, None, IsSome, max, min, slice_get}
+use Rattle.std.proofs.Common.{◌≡◌, ◌<◌, ◌≤◌, ◌+◌, ℕ, zero, suc, List, [], ◌∷◌, length, refl, sym, ◌∙◌, ap, subst, arith}
+use Rattle.key_intervals.specs.declared.bounds.Bounds.{Bounds}
+use Rattle.std.specs.Prelude.{Option, Some, None, IsSome, IfSome, max, min, slice_get}
 use Rattle.mw_types.specs.declared.entry.Entry.{Entry}
 use Rattle.topology.specs.Rules.{IsTopology, interval_count}
 use Rattle.run_history.specs.Cases.{CaseShape, intervals_of}
 use Rattle.run_history.specs.Fences.{known, last_claim}
 use Rattle.run_history.specs.Marks.{own_work}
-use Rattle.run_history.specs.Runs.{run_of}
+use Rattle.run_history.specs.Runs.{cached, run_of}
 use Rattle.run_history.specs.Watermarks.{least}
 use Rattle.run_history.proofs.CaseIntervals.{length-intervals}
 use Rattle.run_history.proofs.Known.{known-last}
 use Rattle.list_lemmas.proofs.Lists.{some_same}
 use Rattle.watermark.specs.Marks.{feeding_marks, mark_of}
-use Rattle.book.specs.Books.{BookView}
+use Rattle.book.specs.Books.{BookView, LeaseView}
+use Rattle.book.specs.Conditions.{IsOwnWork}
+use Rattle.book.specs.Desking.{IsReported}
 use Rattle.book.specs.Marks.{reported, with_mark}
 use Rattle.book.specs.OwnDesks.{own_view}
 use Rattle.holdings.specs.Holding.{HeldView, IsHeld, held_at}
 use Rattle.holdings.proofs.OwnLaws.{own_work-known}
-use Rattle.node.specs.Answers.{AnswersReport, AnswersReportOf, IsMarked}
-use Rattle.node.specs.Fits.{Fits}
 use Rattle.node.specs.Workers.{NodeView}
-use Rattle.node.specs.declared.outcome.Outcome.{Outcome}
-use Rattle.node.specs.declared.outcome.Outcome.TheVariants as outcomes
 use Rattle.drains.specs.ReportRounds.{marks_after_round, with_report}
-use Rattle.drains.specs.Turns.{HasReported, HasStepped, IsAtWork}
+use Rattle.drains.specs.Turns.{HasReported, HasStepped, IsAtWork, IsOwnOf, worker_of}
 use Rattle.drains.proofs.GoLaws.{told-on}
+use Rattle.drains.proofs.HeldLaws.{if-held}
 use Rattle.drains.proofs.KnownLaws.{told-fact}
 use Rattle.drains.proofs.Marked.{mark-same}
 use Rattle.drains.proofs.RoundLaws.{marks_after_reports, marks_after_reports-all, marks_after_reports-next}
-use Rattle.drains.proofs.TurnLaws.{at_work-kept, stepped-looked, stepped-not, stepped-on}
+use Rattle.drains.proofs.TurnLaws.{stepped-not, stepped-on}
 
--- a mark that was answered is that of the interval's own work
-pub marked-reported : (old new : BookView) (was node : NodeView) (interval mark : ℕ) (held : HeldView) → IsAtWork old was
-    → IsTopology old.case.topology → held_at was.held interval ≡ Some held → interval < interval_count old.case.topology
-    → IsMarked old.case (own_view old) (own_view new) held was node mark → IsSome old.rows → HasReported old new interval
-marked-reported old new was node interval mark held at rules there less marked told bounds bounded =
+-- what was found is own work, by the case that a book tells
+pub own-is : (case : CaseShape) (book : BookView) (all : List (Option HeldView)) (interval own : ℕ) → case ≡ book.case
+    → ((held : HeldView) (bounds : Bounds) → held_at all interval ≡ Some held → slice_get (intervals_of case.topology) interval ≡
+    Some bounds
+    → own ≡ own_work case (cached held.rows) bounds)
+    → IfSome (held_at all interval) (λ held. IsOwnWork case (own_view book).told (own_view book).seen held.lease own)
+    → IsOwnOf book all interval own
+own-is case book all interval own same exact known = record {
+  of_rows = subst (λ (k : CaseShape). (held : HeldView) (bounds : Bounds) → held_at all interval ≡ Some held
+      → slice_get (intervals_of k.topology) interval ≡ Some bounds → own ≡ own_work k (cached held.rows) bounds) same exact;
+  known = λ held there. subst (λ (k : CaseShape). IsOwnWork k (own_view book).told (own_view book).seen held.lease own) same
+      (if-held (λ (h : HeldView). IsOwnWork case (own_view book).told (own_view book).seen h.lease own) all interval held there known);
+}
+
+-- a mark that was reported is that of the interval's own work
+pub marked-reported : (old new : BookView) (all : List (Option HeldView)) (interval mark own : ℕ) (held : HeldView)
+    (lease : LeaseView) → IsAtWork old (worker_of all) → IsTopology old.case.topology → held_at all interval ≡ Some held
+    → interval < interval_count old.case.topology → IsOwnOf old all interval own → lease ≡ held.lease
+    → IsReported (own_view old) (own_view new) lease own mark → IsSome old.rows → HasReported old new interval
+marked-reported old new all interval mark own held lease at rules there less found same_lease reported_mark told bounds bounded =
     let is : IsHeld old.case (own_view old) interval held = at.fits.held.each interval held there in
     let last = at.each interval less in
     let same : last.held ≡ held = some_same last.held held (sym last.there ∙ there) in
     let current : last_claim interval old.history ≡ Some held.lease.seq = subst (λ (h : HeldView).
     last_claim interval old.history ≡ Some h.lease.seq) same last.last in
-    let here : slice_get (intervals_of old.case.topology) held.lease.interval ≡ Some bounds =
-    ap (slice_get (intervals_of old.case.topology)) is.of_interval ∙ bounded in
-    let own = told-fact old.rows (marked.own ≡ own_work old.case
+    let of_rows = found.of_rows held bounds there bounded in
+    let known_own = told-fact old.rows (own ≡ own_work old.case
     (run_of old.case.topology (known held.lease.interval held.lease.seq old.history)) bounds) told
-    (own_work-known old.case (own_view old) interval held bounds is bounded rules marked.own (marked.of_rows bounds here)) in
+    (own_work-known old.case (own_view old) interval held bounds is bounded rules own of_rows) in
     let whole : known held.lease.interval held.lease.seq old.history ≡ old.history =
     known-last held.lease.interval held.lease.seq old.history
     (subst (λ (i : ℕ). last_claim i old.history ≡ Some held.lease.seq) (sym is.of_interval) current) in
-    let work : marked.own ≡ own_work old.case (run_of old.case.topology old.history) bounds =
-    own ∙ ap (λ (h : List Entry). own_work old.case (run_of old.case.topology h) bounds) whole in
-    let raised = marked.alone refl in
+    let work : own ≡ own_work old.case (run_of old.case.topology old.history) bounds =
+    known_own ∙ ap (λ (h : List Entry). own_work old.case (run_of old.case.topology h) bounds) whole in
+    let raised = subst (λ (l : LeaseView). IsReported (own_view old) (own_view new) l own mark) same_lease reported_mark in
     raised.raised
     ∙ ap (λ (m : ℕ). with_mark held.lease.interval m old.marks) raised.answer
     ∙ ap (λ (o : ℕ). with_mark held.lease.interval (reported old.case.topology held.lease.interval o old.marks) old.marks) work
-    ∙ ap (λ (i : ℕ). with_mark i (reported old.case.topology i (own_work old.case (run_of old.case.topology old.history) bounds) old.marks)
+    ∙ ap (λ (i : ℕ). with_mark i (reported old.case.topology i (own_work old.case (run_of old.case.topology old.history) bounds)
+    old.marks)
     old.marks) is.of_interval
 
 -- a mark that has come up to those that feed its interval stays, whatever the own work is
@@ -66,54 +81,6 @@ high-reported book interval high bounds bounded =
     let inputs = least (feeding_marks book.case.topology interval book.marks) in
     let stays : max mark (min own inputs) ≡ mark = omega (arith, high) in
     sym (ap (λ (m : ℕ). with_mark interval m book.marks) stays ∙ mark-same book.marks interval)
-
--- what a report of a worker at work leaves
-pub record HasGiven (old new : BookView) (interval : ℕ) (node : NodeView) : Type 0 where
-  pub at_work : IsAtWork new node
-  pub reported : IsSome old.rows → HasReported old new interval
-
--- a worker at work reports what it has of an interval
-pub report-given : (old new : BookView) (interval : ℕ) (was node : NodeView) (outcome : Outcome) → IsAtWork old was
-    → IsTopology old.case.topology → interval < interval_count old.case.topology
-    → AnswersReport old.case (own_view old) (own_view new) (held_at was.held interval) was node outcome
-    → Fits old.case (own_view new) node → HasGiven old new interval node
-report-given old new interval was node outcome at rules less answers fits =
-    by_outcome outcome (subst (λ o. AnswersReport old.case (own_view old) (own_view new) o was node outcome) there answers)
-  where
-    held : HeldView
-    held = (at.each interval less).held
-
-    there : held_at was.held interval ≡ Some held
-    there = (at.each interval less).there
-
-    by_outcome : (o : Outcome) → AnswersReportOf old.case (own_view old) (own_view new) held was node o → HasGiven old new interval node
-    by_outcome (outcomes.Marked mark) marked = record {
-      at_work = at_work-kept old new was node at marked.idle.looked fits marked.idle.kept;
-      reported = marked-reported old new was node interval mark held at rules there less marked;
-    }
-    by_outcome (outcomes.Stale newer) lost =
-        let claim = lost.claim in
-        let own = (at.fits.held.each interval held there).of_interval in
-        let same = (stepped-looked old new lost.looked).appended in
-        let one : held.lease.seq ≡ newer = some_same held.lease.seq newer (sym (at.each interval less).last
-        ∙ ap (λ (i : ℕ). last_claim i old.history) (sym own) ∙ ap (last_claim held.lease.interval) (sym same) ∙ claim.0) in
-        let before = claim.1 in absurd (omega (arith, one, before))
-    by_outcome (outcomes.Busy found) turned = absurd (no_turn turned.refused.asked.missed (turned.refused.reason.counts.busy found refl))
-      where
-        no_turn : (missed : List ℕ) → [] ≡ missed ++ found ∷ [] → ⊥
-        no_turn [] e = cc
-        no_turn (x ∷ xs) e = cc
-    by_outcome (outcomes.Claimed n) answers = absurd answers
-    by_outcome (outcomes.Committed n) answers = absurd answers
-    by_outcome outcomes.Prepared answers = absurd answers
-    by_outcome outcomes.Duplicate answers = absurd answers
-    by_outcome outcomes.NotMine answers = absurd answers
-    by_outcome (outcomes.Queued n) answers = absurd answers
-    by_outcome (outcomes.Sent n) answers = absurd answers
-    by_outcome (outcomes.Copied n) answers = absurd answers
-    by_outcome outcomes.Lost answers = absurd answers
-    by_outcome outcomes.Crashed answers = absurd answers
-    by_outcome outcomes.Nothing answers = absurd answers
 
 -- ---- a round
 

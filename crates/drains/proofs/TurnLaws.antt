@@ -1,5 +1,5 @@
 -- What the calls of a worker that is at work do to a book: how the history goes on, what the worker is then, and why a call fails.
-use Rattle.std.proofs.Common.{◌≡◌, ◌<◌, ℕ, true, false, cond, List, [], ◌∷◌, ◌++◌, length, refl, sym, ◌∙◌, ap, subst, arith, inl, inr, ◌↔◌}
+use Rattle.std.proofs.Common.{◌≡◌, ◌<◌, ℕ, false, cond, List, ◌++◌, length, refl, sym, ◌∙◌, ap, subst, arith, inl, inr, ◌↔◌}
 use Rattle.std.specs.Prelude.{Option, Some, None, IfSome}
 use Rattle.std.specs.Option.{is_some, option_map, option_and_then}
 use Rattle.std.proofs.lemmas.List.{append-nil}
@@ -22,15 +22,13 @@ use Rattle.book.specs.declared.desk_refusal.DeskRefusal.TheVariants as refusals
 use Rattle.book.specs.declared.proposal.Proposal.{Proposal}
 use Rattle.book.specs.declared.proposal.Proposal.TheVariants as proposals
 use Rattle.holdings.specs.Holding.{HeldView, held_at, held_on}
-use Rattle.node.specs.Answers.{AnswersAsked, AnswersSome, AnswersWrite, FailsAsked, FailsSome, HasKept, IsRefused, refusal_of}
+use Rattle.node.specs.Answers.{FailsAsked, FailsSome, IsRefused, refusal_of}
 use Rattle.node.specs.Asking.{Request}
 use Rattle.node.specs.Fits.{Fits, IsWork}
-use Rattle.node.specs.Workers.{NodeView, WorkView, Worker, leases_of, sending_in, sending_of, worker_at}
+use Rattle.node.specs.Workers.{NodeView, WorkView, leases_of, sending_in, sending_of}
 use Rattle.node.specs.declared.outcome.NodeFault.{NodeFault}
 use Rattle.node.specs.declared.outcome.NodeFault.TheVariants as faults
-use Rattle.node.specs.declared.outcome.Outcome.{Outcome}
-use Rattle.node.specs.declared.outcome.Outcome.TheVariants as outcomes
-use Rattle.drains.specs.Turns.{HasAsked, HasAskedOne, HasFailed, HasFirst, HasStepped, IsAtWork, is_committed, with_own}
+use Rattle.drains.specs.Turns.{HasFailed, HasFirst, HasStepped, IsAtWork, with_own}
 
 -- ---- how the history goes on
 
@@ -147,13 +145,6 @@ at_work-after old new was node own at stepped write fits leases free = record {
       (λ interval. ap (last_claim interval) stepped.appended ∙ claims-stay own old.history interval write) at.each);
 }
 
--- it is at work where a call appended nothing and left it
-pub at_work-kept : (old new : BookView) (was node : NodeView) → IsAtWork old was → HasLooked (own_view old) (own_view new)
-    → Fits old.case (own_view new) node → HasKept was node → IsAtWork new node
-at_work-kept old new was node at looked fits kept =
-    at_work-after old new was node None at (stepped-looked old new looked) tt fits (ap (λ (w : Worker). w.leases) kept)
-    (ap (λ (w : Worker). w.prepared) kept ∙ sending-none was at.free)
-
 -- ---- what is answered
 
 -- the interval in which a row lies is one that is counted
@@ -172,47 +163,6 @@ pub record IsOwnRequest (shape : Shape) (all : List (Option HeldView)) (asked : 
   pub lease : asked.lease ≡ held.lease
   pub write : IsWrite asked.entry
 
--- the book's history has the entry that was asked for, and the worker is this one
-pub record HasWritten (old new : BookView) (asked : Request) (after : Worker) (node : NodeView) (outcome : Outcome) : Type 0 where
-  pub stepped : HasStepped old new (Some asked.entry)
-  pub committed : is_committed outcome ≡ true
-  pub leases : leases_of node.held ≡ after.leases
-  pub prepared : sending_of node ≡ after.prepared
-
--- what is asked under a last lease is written
-pub written : (old new : BookView) (asked : Request) (after : Worker) (was node : NodeView) (outcome : Outcome)
-    → IsCurrent asked.lease.interval asked.lease.seq old.history
-    → AnswersWrite old.case.topology (own_view old) (own_view new) asked after was node outcome
-    → HasWritten old new asked after node outcome
-written old new asked after was node (outcomes.Committed commit) last answers = record {
-  stepped = stepped-by old new answers.before (Some asked.entry) answers.moved answers.appended;
-  committed = refl;
-  leases = ap (λ (w : Worker). w.leases) answers.left;
-  prepared = ap (λ (w : Worker). w.prepared) answers.left;
-}
-written old new asked after was node (outcomes.Stale newer) last answers =
-    let same = (stepped-looked old new answers.looked).appended in
-    let claim = answers.claim in
-    let one : asked.lease.seq ≡ newer = some_same asked.lease.seq newer (sym last ∙ ap (last_claim asked.lease.interval) (sym same) ∙ claim.0) in
-    let less = claim.1 in absurd (omega (arith, one, less))
-written old new asked after was node (outcomes.Busy found) last answers =
-    absurd (no_turn answers.refused.asked.missed (answers.refused.reason.counts.busy found refl))
-  where
-    no_turn : (missed : List ℕ) → [] ≡ missed ++ found ∷ [] → ⊥
-    no_turn [] e = cc
-    no_turn (x ∷ xs) e = cc
-written old new asked after was node (outcomes.Claimed seq) last answers = absurd answers
-written old new asked after was node outcomes.Prepared last answers = absurd answers
-written old new asked after was node outcomes.Duplicate last answers = absurd answers
-written old new asked after was node outcomes.NotMine last answers = absurd answers
-written old new asked after was node (outcomes.Queued count) last answers = absurd answers
-written old new asked after was node (outcomes.Sent count) last answers = absurd answers
-written old new asked after was node (outcomes.Copied message) last answers = absurd answers
-written old new asked after was node outcomes.Lost last answers = absurd answers
-written old new asked after was node (outcomes.Marked mark) last answers = absurd answers
-written old new asked after was node outcomes.Crashed last answers = absurd answers
-written old new asked after was node outcomes.Nothing last answers = absurd answers
-
 -- the lease of a worker at work is the last of the interval in which a row lies
 pub current : (book : BookView) (node : NodeView) (name : RowName) (held : HeldView) → IsAtWork book node
     → held_on book.case.topology node.held name ≡ Some held → IsCurrent held.lease.interval held.lease.seq book.history
@@ -227,77 +177,6 @@ current book node name held at on = by_interval (interval_of book.case.topology 
         let own = (at.fits.held.each interval held e).of_interval in
         subst (λ (i : ℕ). IsCurrent i held.lease.seq book.history) (sym own)
         (subst (λ (h : HeldView). IsCurrent interval h.lease.seq book.history) same last.last)
-
--- what a worker at work asks for is written, where it asks for something
-pub asked-done : (old new : BookView) (asked : Option Request) (after : Worker) (was node : NodeView) (outcome : Outcome)
-    → IsAtWork old was → IfSome asked (IsOwnRequest old.case.topology was.held)
-    → AnswersAsked old.case.topology (own_view old) (own_view new) asked after was node outcome
-    → HasAsked old new asked (is_committed outcome)
-asked-done old new None after was node outcome at own answers = record {
-  stepped = stepped-looked old new answers.1.looked;
-  is_more = sym (ap is_committed answers.0);
-}
-asked-done old new (Some asked) after was node outcome at own answers =
-    let done = written old new asked after was node outcome
-    (subst (λ (l : LeaseView). IsCurrent l.interval l.seq old.history) (sym own.lease) (current old was own.name own.held at own.on)) answers in
-    record { stepped = done.stepped; is_more = sym done.committed }
-
--- and the worker is at work then
-pub asked-at_work : (old new : BookView) (asked : Option Request) (after : Worker) (was node : NodeView) (outcome : Outcome)
-    → IsAtWork old was → IfSome asked (IsOwnRequest old.case.topology was.held) → after.leases ≡ leases_of was.held → after.prepared ≡ None
-    → AnswersAsked old.case.topology (own_view old) (own_view new) asked after was node outcome
-    → Fits old.case (own_view new) node → IsAtWork new node
-asked-at_work old new None after was node outcome at own leases free answers fits =
-    at_work-kept old new was node at answers.1.looked fits answers.1.kept
-asked-at_work old new (Some asked) after was node outcome at own leases free answers fits =
-    let done = written old new asked after was node outcome
-    (subst (λ (l : LeaseView). IsCurrent l.interval l.seq old.history) (sym own.lease) (current old was own.name own.held at own.on)) answers in
-    at_work-after old new was node (Some asked.entry) at done.stepped own.write fits (done.leases ∙ leases) (done.prepared ∙ free)
-
--- something for which a worker at work may ask is written, where there is something
-pub some-done : (old new : BookView) (MayAsk : Request → Type 0) (was node : NodeView) (outcome : Outcome) → IsAtWork old was
-    → ((asked : Request) → MayAsk asked → IsOwnRequest old.case.topology was.held asked)
-    → AnswersSome old.case.topology (own_view old) (own_view new) MayAsk was node outcome → Fits old.case (own_view new) node
-    → HasAskedOne old new MayAsk (is_committed outcome) × IsAtWork new node
-some-done old new MayAsk was node outcome at own answers fits = by_outcome outcome answers
-  where
-    one : (o : Outcome) → (asked : Request) × MayAsk asked
-        × AnswersWrite old.case.topology (own_view old) (own_view new) asked (worker_at was) was node o
-        → HasAskedOne old new MayAsk (is_committed o) × IsAtWork new node
-    one o (asked, may, answers) = (
-      record {
-        asked = Some asked;
-        done = asked-done old new (Some asked) (worker_at was) was node o at (own asked may) answers;
-        may = may;
-        none = λ e. absurd (cc);
-      },
-      asked-at_work old new (Some asked) (worker_at was) was node o at (own asked may) refl (sending-none was at.free) answers fits,
-    )
-
-    by_outcome : (o : Outcome) → AnswersSome old.case.topology (own_view old) (own_view new) MayAsk was node o
-        → HasAskedOne old new MayAsk (is_committed o) × IsAtWork new node
-    by_outcome outcomes.Nothing answers = (
-      record {
-        asked = None;
-        done = record { stepped = stepped-looked old new answers.1.looked; is_more = refl };
-        may = tt;
-        none = λ e. answers.0;
-      },
-      at_work-kept old new was node at answers.1.looked fits answers.1.kept,
-    )
-    by_outcome (outcomes.Committed n) answers = one (outcomes.Committed n) answers
-    by_outcome (outcomes.Stale n) answers = one (outcomes.Stale n) answers
-    by_outcome (outcomes.Busy n) answers = one (outcomes.Busy n) answers
-    by_outcome (outcomes.Claimed n) answers = one (outcomes.Claimed n) answers
-    by_outcome outcomes.Prepared answers = one outcomes.Prepared answers
-    by_outcome outcomes.Duplicate answers = one outcomes.Duplicate answers
-    by_outcome outcomes.NotMine answers = one outcomes.NotMine answers
-    by_outcome (outcomes.Queued n) answers = one (outcomes.Queued n) answers
-    by_outcome (outcomes.Sent n) answers = one (outcomes.Sent n) answers
-    by_outcome (outcomes.Copied n) answers = one (outcomes.Copied n) answers
-    by_outcome outcomes.Lost answers = one outcomes.Lost answers
-    by_outcome (outcomes.Marked n) answers = one (outcomes.Marked n) answers
-    by_outcome outcomes.Crashed answers = one outcomes.Crashed answers
 
 -- ---- why a call fails
 

@@ -2,3 +2,4 @@ pub mod Drains
 pub mod ReportRounds
 pub mod DrainTurns
 pub mod Turns
+pub mod Standings

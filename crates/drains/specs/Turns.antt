@@ -1,6 +1,6 @@
 -- What a drain has come to, and what one turn of it leaves. Of this module public clauses cite how a book goes on,
 -- what the worker has, and how a call fails.
-use Rattle.std.specs.Prelude.{◌≡◌, ◌<◌, ◌≤◌, ◌+◌, ◌⊎◌, ◌++◌, ◌∷◌, [], ℕ, Bool, true, false, if◌then◌else◌, nat_lt, nat_le, List, Option, Some, None, IsSome, IfSome, length, slice_get}
+use Rattle.std.specs.Prelude.{◌≡◌, ◌<◌, ◌≤◌, ◌+◌, ◌⊎◌, ◌++◌, ◌∷◌, [], ℕ, Bool, true, false, if◌then◌else◌, nat_lt, nat_le, List, Option, Some, None, IsSome, IfSome, length, slice_get, ⊤}
 use Rattle.std.specs.Option.{is_some, option_and_then, option_map, option_map_or}
 use Rattle.mw_types.specs.Causes.{Rose}
 use Rattle.mw_types.specs.declared.entry.Entry.{Entry}
@@ -17,13 +17,19 @@ use Rattle.topology.specs.Shapes.{Shape, injectors_of, parts_of}
 use Rattle.row_parts.specs.Contents.{IsId, is_finished, cursor_in, found_delivery}
 use Rattle.run_history.specs.Cases.{CaseShape, intervals_of, source_of}
 use Rattle.run_history.specs.Watermarks.{least, low_watermark}
-use Rattle.run_history.specs.Runs.{Run, row_of, run_of}
+use Rattle.run_history.specs.Marks.{own_work}
+use Rattle.run_history.specs.Runs.{Run, cached, row_of, run_of}
 use Rattle.run_history.specs.Finished.{all_pending, injectors_left, is_handled}
 use Rattle.run_history.specs.Fences.{Begins, IsCurrent, interval_of}
 use Rattle.watermark.specs.Marks.{marks_of}
 use Rattle.book.specs.Books.{BookView}
+use Rattle.book.specs.Conditions.{IsOwnWork}
 use Rattle.book.specs.DeskReasons.{IsDamageOf}
 use Rattle.book.specs.OwnDesks.{own_view}
+use Rattle.book.specs.Proposals.{IsEntryOf}
+use Rattle.book.specs.declared.desk_refusal.DeskRefusal.{DeskRefusal}
+use Rattle.book.specs.declared.desk_refusal.DeskRefusal.TheVariants as refusals
+use Rattle.book.specs.declared.proposal.Proposal.{Proposal}
 use Rattle.holdings.specs.Holding.{HeldView, held_at, held_on, row_held}
 use Rattle.node.specs.Answers.{refusal_of}
 use Rattle.node.specs.Asking.{Request}
@@ -66,6 +72,10 @@ abbrev pub WhereTold : BookView → Type 0 → Type 0
 WhereTold book Fact = IsSome book.rows → Fact
 
 -- ---- the one worker
+
+-- the worker that a drain is: it holds this, and has nothing prepared and nothing to send
+abbrev pub worker_of : List (Option HeldView) → NodeView
+worker_of all = record { number = 0; held = all; prepared = None; outbox = [] }
 
 -- a worker has an interval under its last claim
 pub record HasLast (history : List Entry) (all : List (Option HeldView)) (interval : ℕ) : Type 0 where
@@ -137,6 +147,18 @@ pub record HasFailed (old new : BookView) (why : NodeFault) : Type 0 where
   pub keeper : why ≡ faults.KeeperFault → Rose old.faults new.faults
   pub full : why ≡ faults.HistoryFull → length new.history ≡ new.limit
   pub damaged : IsDamageOf (own_view new) (refusal_of why)
+
+-- what a drain may be refused over a book of its own: no other has a turn, and no lease is overtaken
+abbrev pub IsOwnRefusal : DeskRefusal → Type 0
+IsOwnRefusal (refusals.Busy found) = ⊥
+IsOwnRefusal (refusals.Stale newer) = ⊥
+IsOwnRefusal _ = ⊤
+
+-- the entry of what was proposed of a row was appended, under this sequencer
+pub record HasProposed (old new : BookView) (seq : ℕ) (name : RowName) (proposal : Proposal) : Type 0 where
+  pub entry : Entry
+  pub of_proposal : IsEntryOf old.case seq name proposal entry
+  pub stepped : HasStepped old new (Some entry)
 
 -- no drain has ended at a history
 abbrev pub IsUnended : CaseShape → List Entry → Type 0
@@ -249,6 +271,14 @@ abbrev pub HasReported : BookView → BookView → ℕ → Type 0
 HasReported old new interval =
     (bounds : Bounds) → slice_get (intervals_of old.case.topology) interval ≡ Some bounds →
     new.marks ≡ with_report old.case (run_of old.case.topology old.history) old.marks (interval, bounds)
+
+-- this is the own work of what is held of an interval, as it is held and as it is known
+pub record IsOwnOf (book : BookView) (all : List (Option HeldView)) (interval own : ℕ) : Type 0 where
+  pub of_rows : (held : HeldView) (bounds : Bounds) → held_at all interval ≡ Some held →
+      slice_get (intervals_of book.case.topology) interval ≡ Some bounds →
+      own ≡ own_work book.case (cached held.rows) bounds
+  pub known : (held : HeldView) → held_at all interval ≡ Some held → let desk = own_view book in
+      IsOwnWork book.case desk.told desk.seen held.lease own
 
 -- ---- a record that is handled
 

@@ -2,11 +2,13 @@
 ghost use Rattle.std.specs.Prelude.{◌<◌, IfErr, OnOk};
 ghost use Rattle.topology.specs.Rules.{interval_count};
 ghost use Rattle.book.specs.OwnDesks.{own_view};
-ghost use Rattle.node.specs.Fits.{Fits};
-ghost use Rattle.drains.specs.Turns.{HasFailed, HasTaken};
+ghost use Rattle.holdings.specs.Holding.{AreAllHeld};
+ghost use Rattle.drains.specs.Turns.{HasFailed, HasTaken, worker_of};
 
-use book::{Book, NoNote, OwnDesk};
-use node::{Node, NodeFault};
+use crate::writes::fault_of;
+use book::{Book, OwnDesk};
+use holdings::Holdings;
+use node::NodeFault;
 use row_keeper::Keeper;
 use std::alloc::Global;
 
@@ -14,16 +16,19 @@ use std::alloc::Global;
 pub(crate) fn claim<'a, K: Keeper>(
     alloc: Global,
     book: &mut Book<'a, K>,
-    node: &mut Node<NoNote>,
+    held: &mut Holdings,
     interval: u32,
 ) -> Result<(), NodeFault>
-    requires fits { Fits book.old.case (own_view book.old) node.old }
+    requires fits { AreAllHeld book.old.case (own_view book.old) held.old }
     requires there { interval < interval_count book.old.case.topology }
-    ensures taken { OnOk result (HasTaken book.old book.new interval node.old node.new) }
+    ensures taken { OnOk result
+        (HasTaken book.old book.new interval (worker_of held.old) (worker_of held.new)) }
     ensures failed { IfErr result (HasFailed book.old book.new) }
 {
     let case = book.case();
     let mut desk = OwnDesk { book };
-    node.claim(alloc, &mut desk, case, interval)?;
-    Ok(())
+    match held.claim(alloc, &mut desk, case, 0, interval) {
+        Ok(_) => Ok(()),
+        Err(why) => Err(fault_of(why)),
+    }
 }

@@ -7,36 +7,38 @@ ghost use Rattle.drains.specs.DrainTurns.{HasDrained, IsAtClaim, IsFullBefore, I
 
 use crate::claiming::claim;
 use crate::turns::turn;
-use book::{Book, NoNote};
+use book::Book;
 use computations::Computation;
-use node::{Node, NodeFault};
+use holdings::Holdings;
+use node::NodeFault;
 use row_keeper::Keeper;
 use std::alloc::Global;
 use std::marker::Model;
 
-/// A drain that was begun: how many entries there were, and its one worker.
+/// A drain that was begun: how many entries there were, and what it holds of each interval.
 #[derive(Drop)]
 pub struct Drain {
     from: u64,
-    node: Node<NoNote>,
+    held: Holdings,
 }
 
 impl Model for Drain {
     ghost use Rattle.drains.specs.DrainTurns.{DrainView};
+    ghost use Rattle.drains.specs.Turns.{worker_of};
 
     ghost Value = { DrainView };
 
-    ghost view = { λ d. record { from = d.from; node = d.node } };
+    ghost view = { λ d. record { from = d.from; node = worker_of d.held } };
 }
 
-/// Begins a drain of a book, whose worker has nothing yet. It takes no memory.
+/// Begins a drain of a book, which holds nothing yet. It takes no memory.
 pub fn begin_drain<'a, K: Keeper>(alloc: Global, book: &Book<'a, K>) -> Drain
     ensures from { result.from ≡ length book.now.history }
     ensures under_way { IsUnderWay book.now result }
 {
     Drain {
         from: book.history().len() as u64,
-        node: Node::new(alloc, 0),
+        held: Holdings::new(alloc),
     }
 }
 
@@ -123,7 +125,7 @@ fn claim_next<'a, K: Keeper>(
     ensures failed { IfErr result (HasFailed book.old book.new) }
     ensures unended { IfErr result (IsFullBefore drain.old.from book.old) }
 {
-    claim(alloc, book, &mut drain.node, interval)?;
+    claim(alloc, book, &mut drain.held, interval)?;
     Ok(true)
 }
 
@@ -145,7 +147,5 @@ fn turn_next<'a, K: Keeper, C: Computation>(
     ensures failed { IfErr result (HasFailed book.old book.new) }
     ensures unended { IfErr result (IsFullBefore drain.old.from book.old) }
 {
-    let more = turn(alloc, book, work, &mut drain.node)?;
-    drain.node.drop_messages();
-    Ok(more)
+    turn(alloc, book, work, &mut drain.held)
 }

@@ -1,27 +1,33 @@
 //! What a drain does with the least id that is not acknowledged.
-ghost use Rattle.std.specs.Prelude.{◌≡◌, ◌<◌, ◌≤◌, ℕ, IfErr, IfOk, IfSome, OnOk, Some, IsSome, IsTrue, true, false, option_copied};
-ghost use Rattle.mw_types.specs.declared.TheConstants.{MAX_STAMP};
-ghost use Rattle.topology.specs.Shapes.{parts_of};
-ghost use Rattle.run_history.specs.Runs.{run_of};
-ghost use Rattle.book.specs.Senders.{IsLeastSent};
-ghost use Rattle.holdings.specs.Holding.{held_on, row_held};
-ghost use Rattle.node.specs.Works.{IsWorkOf};
-ghost use Rattle.node.specs.Messages.{IsDeliverable, IsSentFrom};
-ghost use Rattle.book.specs.OwnDesks.{own_view};
-ghost use Rattle.run_history.specs.Legal.{floor_of};
-ghost use Rattle.run_history.specs.Finished.{handles, is_handled};
+ghost use Rattle.std.specs.Prelude.{◌≡◌, ◌<◌, ◌≤◌, IfErr, IfOk, IfSome, OnOk, Some, IsTrue, true, option_copied};
+ghost use Rattle.std.specs.Option.{is_some, option_and_then};
+ghost use Rattle.topology.specs.Shapes.{Shape, parts_of};
 ghost use Rattle.row_parts.specs.Contents.{same_id, found_delivery};
+ghost use Rattle.run_history.specs.Fences.{interval_of};
+ghost use Rattle.run_history.specs.Finished.{handles, is_handled};
+ghost use Rattle.run_history.specs.Legal.{floor_of};
+ghost use Rattle.run_history.specs.Runs.{cached, row_in, run_of};
+ghost use Rattle.book.specs.Desking.{IsKnownOf};
+ghost use Rattle.book.specs.OwnDesks.{own_view};
+ghost use Rattle.book.specs.Proposals.{IsHandling};
+ghost use Rattle.book.specs.Senders.{IsLeastSent};
+ghost use Rattle.book.specs.declared.proposal.Proposal.TheVariants as proposals;
+ghost use Rattle.holdings.specs.Holding.{HeldView, held_at, row_held};
 ghost use Rattle.node.specs.Asking.{MayAskForget, settle_asked};
-ghost use Rattle.drains.specs.Drains.{is_full};
-ghost use Rattle.drains.specs.Turns.{CanBeKept, HasAsked, HasAskedOne, HasFailed, HasHandled, HasTurned, IsAtWork, WhereTold, is_committed, is_finished_at, is_full_at, sent_at};
+ghost use Rattle.node.specs.Works.{IsWorkOf};
+ghost use Rattle.drains.specs.Standings.{IsFound, StandsIn};
+ghost use Rattle.drains.specs.Turns.{CanBeKept, HasAsked, HasAskedOne, HasFailed, HasHandled, HasTurned, IsAtWork, WhereTold, is_full_at, sent_at, worker_of};
 
-use book::{Book, NoNote, OwnDesk};
+use crate::standing::{Standing, standing_of};
+use crate::writes::{purge_row, settle, write};
+use book::{Book, Proposal};
 use computations::Computation;
-use mw_types::{Delivery, Duplicate, Entry, NoMemory, RecordId, RowName};
-use node::{Message, Node, NodeFault, Outcome, Parcel, Receipt};
+use holdings::Holdings;
+use mw_types::{Delivery, Duplicate, Effects, Entry, NoMemory, RecordId, RowName};
+use node::NodeFault;
 use row_keeper::Keeper;
 use row_parts::Row;
-use run_history::{Case, History};
+use run_history::History;
 use std::alloc::Global;
 
 // Works on the least id that is not acknowledged: it is acknowledged, where its record is handled;
@@ -30,47 +36,57 @@ pub(crate) fn work_on<'a, K: Keeper, C: Computation>(
     alloc: Global,
     book: &mut Book<'a, K>,
     work: &C,
-    node: &mut Node<NoNote>,
+    held: &mut Holdings,
     id: RecordId,
-    sender: RowName,
+    sender: &RowName,
 ) -> Result<bool, NodeFault>
     requires work { IsWorkOf book.old.case.topology (C.has work.now)
         (C.gives_record work.now) (C.gives_timer work.now) }
-    requires at_work { IsAtWork book.old node.old }
+    requires at_work { IsAtWork book.old (worker_of held.old) }
     requires least { let shape = book.old.case.topology in
-        IsLeastSent shape (run_of shape book.old.history) id sender }
+        IsLeastSent shape (run_of shape book.old.history) id sender.now }
+    requires part { sender.now.part < parts_of book.old.case.topology }
     ensures turned { IfOk result (HasTurned book.old book.new) }
-    ensures at_work { OnOk result (IsAtWork book.new node.new) }
+    ensures at_work { OnOk result (IsAtWork book.new (worker_of held.new)) }
     ensures more { IfOk result (λ more. WhereTold book.old (more ≡ true)) }
     ensures failed { IfErr result (HasFailed book.old book.new) }
 {
     // Its clauses say what always holds of a book.
     book.history();
-    let case = book.case();
-    let parts = case.topology.parts();
-    let part = sender.part;
-    if parts <= part {
-        drop(sender);
-        return Ok(false);
-    }
+    let interval = book.case().interval_of(sender);
     // Most records were handled right before, and so no row is looked up for them.
     if is_last_handled(book.history(), id) {
-        return acknowledge(alloc, book, node, sender, id);
+        return acknowledge(alloc, book, held, interval, sender, id);
     }
-    let found = match sent(alloc, case, node, &sender, id) {
-        Ok(found) => found,
-        Err(NoMemory) => {
-            drop(sender);
-            return Err(NodeFault::NoMemory);
-        }
-    };
-    match found {
-        Some(delivery) => work_on_sent(alloc, book, work, node, sender, delivery),
+    work_on_pending(alloc, book, work, held, interval, sender, id)
+}
+
+// Works on what a row has pending under the least id that is not acknowledged.
+fn work_on_pending<'a, K: Keeper, C: Computation>(
+    alloc: Global,
+    book: &mut Book<'a, K>,
+    work: &C,
+    held: &mut Holdings,
+    interval: u32,
+    sender: &RowName,
+    id: RecordId,
+) -> Result<bool, NodeFault>
+    requires work { IsWorkOf book.old.case.topology (C.has work.now)
+        (C.gives_record work.now) (C.gives_timer work.now) }
+    requires at_work { IsAtWork book.old (worker_of held.old) }
+    requires least { let shape = book.old.case.topology in
+        IsLeastSent shape (run_of shape book.old.history) id sender.now }
+    requires part { sender.now.part < parts_of book.old.case.topology }
+    requires covers { interval_of book.old.case.topology sender.now ≡ Some interval }
+    ensures turned { IfOk result (HasTurned book.old book.new) }
+    ensures at_work { OnOk result (IsAtWork book.new (worker_of held.new)) }
+    ensures more { IfOk result (λ more. WhereTold book.old (more ≡ true)) }
+    ensures failed { IfErr result (HasFailed book.old book.new) }
+{
+    match sent(alloc, held, interval, sender, id)? {
+        Some(delivery) => work_on_sent(alloc, book, work, held, interval, sender, delivery),
         // Only over a keeper whose rows are wrong: what was read there is not what was written.
-        None => {
-            drop(sender);
-            Ok(false)
-        }
+        None => Ok(false),
     }
 }
 
@@ -79,59 +95,104 @@ fn work_on_sent<'a, K: Keeper, C: Computation>(
     alloc: Global,
     book: &mut Book<'a, K>,
     work: &C,
-    node: &mut Node<NoNote>,
-    sender: RowName,
+    held: &mut Holdings,
+    interval: u32,
+    sender: &RowName,
     delivery: Delivery,
 ) -> Result<bool, NodeFault>
     requires work { IsWorkOf book.old.case.topology (C.has work.now)
         (C.gives_record work.now) (C.gives_timer work.now) }
-    requires at_work { IsAtWork book.old node.old }
+    requires at_work { IsAtWork book.old (worker_of held.old) }
     requires least { let shape = book.old.case.topology in
-        IsLeastSent shape (run_of shape book.old.history) delivery.id sender }
-    requires part { sender.part < parts_of book.old.case.topology }
-    requires sent { sent_at book.old.case.topology node.old sender delivery.id ≡ Some delivery }
+        IsLeastSent shape (run_of shape book.old.history) delivery.id sender.now }
+    requires part { sender.now.part < parts_of book.old.case.topology }
+    requires covers { interval_of book.old.case.topology sender.now ≡ Some interval }
+    requires sent { let shape = book.old.case.topology in
+        sent_at shape (worker_of held.old) sender.now delivery.id ≡ Some delivery }
     requires kept { CanBeKept delivery }
     ensures turned { IfOk result (HasTurned book.old book.new) }
     ensures more { IfOk result (λ more. WhereTold book.old (more ≡ true)) }
-    ensures at_work { OnOk result (IsAtWork book.new node.new) }
+    ensures at_work { OnOk result (IsAtWork book.new (worker_of held.new)) }
     ensures failed { IfErr result (HasFailed book.old book.new) }
 {
     // Its clauses say what always holds of a book.
     book.history();
-    let (finished, full) = standing(book, node, &delivery);
-    if finished {
-        let id = delivery.id;
-        drop(delivery);
-        return acknowledge(alloc, book, node, sender, id);
+    let to = book.case().interval_of(&delivery.to);
+    match standing_of(alloc, book, work, held, to, &delivery) {
+        Ok(standing) => { work_by(alloc, book, held, interval, sender, to, delivery, standing) }
+        Err(NoMemory) => {
+            drop(delivery);
+            Err(NodeFault::NoMemory)
+        }
     }
-    if full {
-        drop(sender);
-        let forgotten = forget(alloc, book, node, &delivery.to);
-        drop(delivery);
-        return forgotten;
+}
+
+// Works on what a row has pending, by how it stands in its row, which is of the interval `to`.
+fn work_by<'a, K: Keeper>(
+    alloc: Global,
+    book: &mut Book<'a, K>,
+    held: &mut Holdings,
+    interval: u32,
+    sender: &RowName,
+    to: u32,
+    delivery: Delivery,
+    standing: Standing,
+) -> Result<bool, NodeFault>
+    requires found { IsFound book.old (worker_of held.old) sender.now delivery }
+    requires covers { interval_of book.old.case.topology sender.now ≡ Some interval }
+    requires to { interval_of book.old.case.topology delivery.to ≡ Some to }
+    requires kept { CanBeKept delivery }
+    requires stands { StandsIn book.old held.old to delivery standing }
+    ensures turned { IfOk result (HasTurned book.old book.new) }
+    ensures more { IfOk result (λ more. WhereTold book.old (more ≡ true)) }
+    ensures at_work { OnOk result (IsAtWork book.new (worker_of held.new)) }
+    ensures failed { IfErr result (HasFailed book.old book.new) }
+{
+    match standing {
+        Standing::Finished => {
+            let id = delivery.id;
+            drop(delivery);
+            acknowledge(alloc, book, held, interval, sender, id)
+        }
+        Standing::Full => {
+            let forgotten = forget(alloc, book, held, to, &delivery.to);
+            drop(delivery);
+            forgotten
+        }
+        Standing::Handled { effects } => handle(alloc, book, held, to, delivery, effects),
     }
-    handle(alloc, book, work, node, sender, delivery)
 }
 
 // What a row has pending under an id.
 fn sent(
     alloc: Global,
-    case: &Case,
-    node: &Node<NoNote>,
+    held: &Holdings,
+    interval: u32,
     sender: &RowName,
     id: RecordId,
 ) -> Result<Option<Delivery>, NoMemory>
-    requires part { sender.now.part < parts_of case.now.topology }
-    ensures sent { IfOk result (λ found.
-        found ≡ sent_at case.now.topology node.now sender.now id) }
+    ensures sent { IfOk result (λ found. (shape : Shape) →
+        interval_of shape sender.now ≡ Some interval →
+        found ≡ sent_at shape (worker_of held.now) sender.now id) }
     ensures kept { IfOk result (λ found. IfSome found CanBeKept) }
 {
-    let Some(row) = node.row(case, sender) else {
+    let Some(row) = row_of(held, interval, sender) else {
         return Ok(None);
     };
     match found(row.pending.as_slice(), id) {
         Some(delivery) => Ok(Some(delivery.copy(alloc)?)),
         None => Ok(None),
+    }
+}
+
+// A row of an interval, as it is held.
+pub(crate) fn row_of<'a>(held: &'a Holdings, interval: u32, name: &RowName) -> Option<&'a Row>
+    ensures { option_copied result ≡ option_and_then
+        (λ (here : HeldView). row_in (cached here.rows) name.now) (held_at held.now interval) }
+{
+    match held.get(interval) {
+        Some(here) => here.row(name),
+        None => None,
     }
 }
 
@@ -169,118 +230,98 @@ fn is_handle_of(entry: &Entry, id: RecordId) -> bool
     }
 }
 
-// Whether a record is finished in its row, and whether that forgets ids before it handles one more.
-fn standing<'a, K: Keeper>(
-    book: &Book<'a, K>,
-    node: &Node<NoNote>,
-    delivery: &Delivery,
-) -> (bool, bool)
-    requires part { delivery.now.to.part < parts_of book.now.case.topology }
-    ensures finished { let shape = book.now.case.topology in
-        result.0 ≡ is_finished_at shape node.now delivery.now }
-    ensures full { let shape = book.now.case.topology in
-        result.1 ≡ is_full_at shape (run_of shape book.now.history) node.now delivery.now.to }
-{
-    match node.row(book.case(), &delivery.to) {
-        Some(row) => (row.is_finished(delivery.id), is_full(book, row)),
-        None => (false, false),
-    }
-}
-
-// Whether a row has 64 ids or more, and can forget some.
-fn is_full<'a, K: Keeper>(book: &Book<'a, K>, row: &Row) -> bool
-    ensures { result ≡ is_full (run_of book.now.case.topology book.now.history) row.now }
-{
-    64 <= row.seen.len() && row.floor < book.floor()
-}
-
-// Tells a row that what it sent was handled.
+// Tells a row that what it sent was handled, where it has that pending.
 fn acknowledge<'a, K: Keeper>(
     alloc: Global,
     book: &mut Book<'a, K>,
-    node: &mut Node<NoNote>,
-    sender: RowName,
+    held: &mut Holdings,
+    interval: u32,
+    sender: &RowName,
     id: RecordId,
 ) -> Result<bool, NodeFault>
-    requires at_work { IsAtWork book.old node.old }
-    requires part { sender.part < parts_of book.old.case.topology }
+    requires at_work { IsAtWork book.old (worker_of held.old) }
+    requires part { sender.now.part < parts_of book.old.case.topology }
+    requires covers { interval_of book.old.case.topology sender.now ≡ Some interval }
     requires handled { WhereTold book.old (is_handled id book.old.history ≡ true) }
-    ensures asked { let asked = settle_asked book.old.case.topology node.old sender id in
+    ensures asked { let shape = book.old.case.topology in
+        let asked = settle_asked shape (worker_of held.old) sender.now id in
         IfOk result (HasAsked book.old book.new asked) }
-    ensures at_work { OnOk result (IsAtWork book.new node.new) }
+    ensures at_work { OnOk result (IsAtWork book.new (worker_of held.new)) }
     ensures failed { IfErr result (HasFailed book.old book.new) }
 {
-    let case = book.case();
-    let mut desk = OwnDesk { book };
-    let receipt = Receipt {
-        to: sender,
-        id,
-        note: NoNote,
-    };
-    let outcome = node.take_ack(alloc, &mut desk, case, Message::Ack { receipt })?;
-    Ok(is_committed(outcome))
+    if !is_pending(held, interval, sender, id) {
+        return Ok(false);
+    }
+    settle(alloc, book, held, interval, sender, id)?;
+    Ok(true)
+}
+
+// Whether an id is pending in a row as it is held.
+fn is_pending(held: &Holdings, interval: u32, sender: &RowName, id: RecordId) -> bool
+    ensures { (shape : Shape) → interval_of shape sender.now ≡ Some interval →
+        result ≡ is_some (sent_at shape (worker_of held.now) sender.now id) }
+{
+    match row_of(held, interval, sender) {
+        Some(row) => row.is_pending(id),
+        None => false,
+    }
 }
 
 // Has a row that has 64 ids or more forget those that no sender sends again.
 fn forget<'a, K: Keeper>(
     alloc: Global,
     book: &mut Book<'a, K>,
-    node: &mut Node<NoNote>,
+    held: &mut Holdings,
+    interval: u32,
     name: &RowName,
 ) -> Result<bool, NodeFault>
-    requires at_work { IsAtWork book.old node.old }
+    requires at_work { IsAtWork book.old (worker_of held.old) }
     requires part { name.now.part < parts_of book.old.case.topology }
+    requires covers { interval_of book.old.case.topology name.now ≡ Some interval }
+    requires full { let shape = book.old.case.topology in
+        is_full_at shape (run_of shape book.old.history) (worker_of held.old) name.now ≡ true }
     ensures asked { let shape = book.old.case.topology in
         let floor = floor_of (run_of shape book.old.history) in
         IfOk result (HasAskedOne book.old book.new
-        (MayAskForget shape node.old 64 floor name.now)) }
-    ensures at_work { OnOk result (IsAtWork book.new node.new) }
+        (MayAskForget shape (worker_of held.old) 64 floor name.now)) }
+    ensures more { IfOk result (λ more. more ≡ true) }
+    ensures at_work { OnOk result (IsAtWork book.new (worker_of held.new)) }
     ensures failed { IfErr result (HasFailed book.old book.new) }
 {
-    let case = book.case();
-    let mut desk = OwnDesk { book };
-    let outcome = node.purge_row(alloc, &mut desk, case, name, 64)?;
-    Ok(is_committed(outcome))
+    let floor = book.floor();
+    purge_row(alloc, book, held, interval, name, floor)?;
+    Ok(true)
 }
 
-// Handles a record, and writes that.
-fn handle<'a, K: Keeper, C: Computation>(
+// Writes that a record was handled, with what its computation left.
+fn handle<'a, K: Keeper>(
     alloc: Global,
     book: &mut Book<'a, K>,
-    work: &C,
-    node: &mut Node<NoNote>,
-    sender: RowName,
+    held: &mut Holdings,
+    interval: u32,
     delivery: Delivery,
+    effects: Effects,
 ) -> Result<bool, NodeFault>
-    requires work { IsWorkOf book.old.case.topology (C.has work.now)
-        (C.gives_record work.now) (C.gives_timer work.now) }
-    requires at_work { IsAtWork book.old node.old }
-    requires deliverable { IsDeliverable book.old.case.topology delivery sender }
-    requires sent { WhereTold book.old
-        (IsSentFrom book.old.case book.old.history sender delivery) }
-    requires unfinished { is_finished_at book.old.case.topology node.old delivery ≡ false }
+    requires at_work { IsAtWork book.old (worker_of held.old) }
+    requires part { delivery.to.part < parts_of book.old.case.topology }
+    requires covers { interval_of book.old.case.topology delivery.to ≡ Some interval }
+    requires handling { let case = book.old.case in IfSome (held_at held.old interval) (λ here.
+        let row = row_held case.topology here delivery.to in
+        IsHandling case delivery.to row delivery effects) }
+    requires sent { let desk = own_view book.old in
+        IsKnownOf desk delivery.to (proposals.Handle delivery effects) }
     ensures handled { IfOk result (HasHandled book.old book.new delivery) }
-    ensures at_work { OnOk result (IsAtWork book.new node.new) }
+    ensures at_work { OnOk result (IsAtWork book.new (worker_of held.new)) }
     ensures failed { IfErr result (HasFailed book.old book.new) }
 {
-    let case = book.case();
-    let mut desk = OwnDesk { book };
-    let parcel = Parcel {
-        delivery,
-        sender,
-        note: NoNote,
+    let proposal = Proposal::Handle { delivery, effects };
+    let written = match &proposal {
+        Proposal::Handle { delivery, .. } => {
+            write(alloc, book, held, interval, &delivery.to, &proposal)
+        }
+        _ => unreachable!(),
     };
-    node.prepare(alloc, &mut desk, case, work, Message::Deliver { parcel })?;
-    let outcome = node.commit(alloc, &mut desk, case)?;
-    Ok(is_committed(outcome))
-}
-
-// Whether an entry was written.
-pub(crate) fn is_committed(outcome: Outcome) -> bool
-    ensures { result ≡ is_committed outcome }
-{
-    match outcome {
-        Outcome::Committed { commit: _ } => true,
-        _ => false,
-    }
+    drop(proposal);
+    written?;
+    Ok(true)
 }

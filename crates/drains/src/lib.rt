@@ -17,11 +17,14 @@ mod draining;
 mod drains;
 mod examples;
 mod firing;
+mod first_timers;
 mod injecting;
 mod least_work;
 mod purging;
 mod report_rounds;
+mod standing;
 mod turns;
+mod writes;
 
 pub use drain_turns::{Drain, begin_drain, drain_turn};
 pub use draining::drain;

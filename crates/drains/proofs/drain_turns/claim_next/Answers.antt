@@ -1,14 +1,23 @@
 use Rattle.std.proofs.Common.{refl, subst, sym, true}
 use Rattle.drains.specs.DrainTurns.{DrainView, HasDrained, IsAtClaim}
+use Rattle.drains.specs.Turns.{worker_of}
 use Rattle.drains.proofs.DrainTurnLaws.{claim-drained, claim-under_way, claim-unended}
 use Rattle.drains.proofs.Results.{err-any}
 use Rattle.drains.proofs.drain_turns.claim_next.Goals as goal
 
+-- what is held fits
+pub claim-requires-clause-fits : goal.claim-requires-clause-fits
+claim-requires-clause-fits g c =
+    let was : DrainView = record { from = c.drain.inside.from; node = worker_of c.drain.inside.held } in
+    let at : IsAtClaim c.args.book.now was c.args.interval =
+    subst (λ (d : DrainView). IsAtClaim c.args.book.now d c.args.interval) (sym c.drain.view_is) c.requires.next in
+    at.claiming.fits.held
+
 -- the claim is the drain's next entry
 pub returns-clause-drained : goal.returns-clause-drained
 returns-clause-drained g c =
-    let was : DrainView = record { from = c.drain.inside.from; node = c.drain.inside.node } in
-    let left : DrainView = record { from = c.drain.inside.from; node = c.claim.new.node } in
+    let was : DrainView = record { from = c.drain.inside.from; node = worker_of c.drain.inside.held } in
+    let left : DrainView = record { from = c.drain.inside.from; node = worker_of c.claim.new.held } in
     let at : IsAtClaim c.args.book.now was c.args.interval =
     subst (λ (d : DrainView). IsAtClaim c.args.book.now d c.args.interval) (sym c.drain.view_is) c.requires.next in
     subst (λ (d : DrainView). HasDrained d.from c.args.book.now c.claim.new.book true) c.drain.view_is
@@ -17,8 +26,8 @@ returns-clause-drained g c =
 -- after which it goes on
 pub returns-clause-under_way : goal.returns-clause-under_way
 returns-clause-under_way g c =
-    let was : DrainView = record { from = c.drain.inside.from; node = c.drain.inside.node } in
-    let left : DrainView = record { from = c.drain.inside.from; node = c.claim.new.node } in
+    let was : DrainView = record { from = c.drain.inside.from; node = worker_of c.drain.inside.held } in
+    let left : DrainView = record { from = c.drain.inside.from; node = worker_of c.claim.new.held } in
     let at : IsAtClaim c.args.book.now was c.args.interval =
     subst (λ (d : DrainView). IsAtClaim c.args.book.now d c.args.interval) (sym c.drain.view_is) c.requires.next in
     claim-under_way c.args.book.now c.claim.new.book was left c.args.interval at c.in_ok-claim.ensures.taken refl

@@ -1,42 +1,50 @@
-use Rattle.std.proofs.Common.{rules, subst, sym}
-use Rattle.std.specs.Prelude.{IfErr}
+use Rattle.std.proofs.Common.{◌≡◌, rules, subst, sym}
+use Rattle.std.specs.Prelude.{IfErr, IfOk}
+use Rattle.run_history.specs.Cases.{CaseShape}
 use Rattle.run_history.specs.Watermarks.{least}
 use Rattle.watermark.specs.Marks.{marks_of}
-use Rattle.book.specs.Desks.{KeepsMarks}
 use Rattle.book.specs.OwnDesks.{own_view}
-use Rattle.node.specs.Answers.{FailsFire}
 use Rattle.node.specs.Asking.{MayAskFire}
-use Rattle.drains.specs.Turns.{HasAskedOne, IsAtWork}
-use Rattle.drains.proofs.CallLaws.{fire-call}
-use Rattle.drains.proofs.FullLaws.{fire-full}
+use Rattle.node.specs.FireSteps.{AreAllWithin}
+use Rattle.node.specs.declared.outcome.NodeFault.TheVariants as faults
+use Rattle.node.proofs.FirstLaws.{rows-within}
+use Rattle.drains.specs.Turns.{HasAskedOne, IsFullAsking, worker_of}
+use Rattle.drains.proofs.CallLaws.{memory-asking}
 use Rattle.drains.proofs.Results.{err-then}
 use Rattle.drains.proofs.firing.fire.Goals as goal
 
--- a timer that may be asked for has fired, if there is one
+-- what is held of each interval lies there
+pub first_due-requires : goal.first_due-requires
+first_due-requires g c =
+    let book = c.args.book.now in
+    record {
+      within = subst (λ (k : CaseShape). AreAllWithin k.topology c.args.held.now) (sym c.case-case.ensures.case)
+          (λ interval. rows-within book.case (own_view book) (worker_of c.args.held.now) interval c.requires.at_work.fits);
+    }
+
+-- a timer that was asked for under the mark has fired under the least
 pub returns-clause-asked : goal.returns-clause-asked
 returns-clause-asked g c =
-    let done : HasAskedOne c.args.book.now c.fire.new.desk.book.now (MayAskFire c.args.book.now.case c.args.node.now c.args.part
-    (least (marks_of c.args.book.now.case.topology c.args.part c.args.book.now.marks))) c.is_committed.result =
-    subst (HasAskedOne c.args.book.now c.fire.new.desk.book.now (MayAskFire c.args.book.now.case c.args.node.now c.args.part
-    (least (marks_of c.args.book.now.case.topology c.args.part c.args.book.now.marks)))) (sym c.is_committed.ensures)
-    (fire-call c.case-case.result.now c.args.book.now c.fire.new.desk.book.now c.args.node.now c.fire.new.self c.args.part c.in_ok-outcome.outcome
-    c.case-case.ensures.case c.requires.at_work c.in_ok-outcome.ensures.answers c.in_ok-outcome.ensures.marks c.in_ok-outcome.ensures.fits).0 in search rules
+    let book = c.args.book.now in
+    let exact : c.low-mark.result ≡ least (marks_of book.case.topology c.args.part book.marks) = search rules in
+    let asked : IfOk c.fire_found.result (HasAskedOne book c.fire_found.new.book
+    (MayAskFire book.case (worker_of c.args.held.now) c.args.part c.low-mark.result)) = search rules in
+    subst (λ m. IfOk c.fire_found.result (HasAskedOne book c.fire_found.new.book
+    (MayAskFire book.case (worker_of c.args.held.now) c.args.part m))) exact asked
 
--- the worker is at work then
-pub returns-clause-at_work : goal.returns-clause-at_work
-returns-clause-at_work g c =
-    subst (λ b. IsAtWork b c.fire.new.self) (search rules)
-    (fire-call c.case-case.result.now c.args.book.now c.fire.new.desk.book.now c.args.node.now c.fire.new.self c.args.part c.in_ok-outcome.outcome
-    c.case-case.ensures.case c.requires.at_work c.in_ok-outcome.ensures.answers c.in_ok-outcome.ensures.marks c.in_ok-outcome.ensures.fits).1
+-- one that failed too
+pub returns-clause-asking : goal.returns-clause-asking
+returns-clause-asking g c =
+    let book = c.args.book.now in
+    let exact : c.low-mark.result ≡ least (marks_of book.case.topology c.args.part book.marks) = search rules in
+    let asking : IfErr c.fire_found.result (IsFullAsking
+    (MayAskFire book.case (worker_of c.args.held.now) c.args.part c.low-mark.result)) = search rules in
+    subst (λ m. IfErr c.fire_found.result (IsFullAsking
+    (MayAskFire book.case (worker_of c.args.held.now) c.args.part m))) exact asking
 
--- a timer that fails since the history is full was asked for
-pub returns-in_err-outcome-clause-asking : goal.returns-in_err-outcome-clause-asking
-returns-in_err-outcome-clause-asking g c =
+-- there was no memory to look
+pub returns-in_err-found-clause-asking : goal.returns-in_err-found-clause-asking
+returns-in_err-found-clause-asking g c =
     let r = c.from_residual.result in
-    let case = c.case-case.result.now in
-    let old = c.args.book.now in
-    let new = c.fire.new.desk.book.now in
-    let was = c.args.node.now in
-    let keeps : KeepsMarks (own_view old) (own_view new) = search rules in
-    let fails : IfErr r (FailsFire case (own_view old) (own_view new) c.args.part was) = search rules in
-    err-then r (λ why f. fire-full case old new was c.args.part why c.case-case.ensures.case f keeps) fails
+    let none : IfErr r (λ why. why ≡ faults.NoMemory) = search rules in
+    err-then r (λ why is. memory-asking _ why is) none

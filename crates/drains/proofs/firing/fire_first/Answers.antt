@@ -4,7 +4,7 @@ use Rattle.run_history.specs.Watermarks.{least}
 use Rattle.watermark.specs.Marks.{marks_of}
 use Rattle.node.specs.Asking.{MayAskFire}
 use Rattle.node.specs.Messages.{IsComputation}
-use Rattle.drains.specs.Turns.{HasAskedOne, IsFullAsking}
+use Rattle.drains.specs.Turns.{HasAskedOne, IsFullAsking, worker_of}
 use Rattle.drains.proofs.FullLaws.{firing-full}
 use Rattle.drains.proofs.FireLoop.{firing-first, firing-on, firing-quiet, firing-turned}
 use Rattle.drains.proofs.Results.{err-then}
@@ -12,19 +12,19 @@ use Rattle.drains.proofs.firing.fire_first.Goals as goal
 
 -- no injector has a timer
 pub loop-part-init : goal.loop-part-init
-loop-part-init g c = search (rules, firing-first c.args.book.now c.args.node.now c.requires.at_work)
+loop-part-init g c = search (rules, firing-first c.args.book.now (worker_of c.args.held.now) c.requires.at_work)
 
 -- a part more
 pub loop-part-preserved : goal.loop-part-preserved
 loop-part-preserved g c =
     let old = c.loop-part.book in
-    let was = c.loop-part.node in
+    let was = (worker_of c.loop-part.held) in
     let is : IsComputation old.case.topology c.loop-part.part = search (rules, arith) in
     let done : HasAskedOne old c.fire.new.book (MayAskFire old.case was c.loop-part.part
     (least (marks_of old.case.topology c.loop-part.part old.marks))) false =
     subst (HasAskedOne old c.fire.new.book (MayAskFire old.case was c.loop-part.part
     (least (marks_of old.case.topology c.loop-part.part old.marks)))) c.if-more.false c.in_ok-more.ensures.asked in
-    firing-on c.args.book.now old c.fire.new.book was c.fire.new.node c.loop-part.part
+    firing-on c.args.book.now old c.fire.new.book was (worker_of c.fire.new.held) c.loop-part.part
     c.loop-part.invariant c.fire.ensures.lawful c.requires.exact is done c.in_ok-more.ensures.marks
     c.in_ok-more.ensures.at_work
 
@@ -32,7 +32,7 @@ loop-part-preserved g c =
 pub returns-then-more-clause-turned : goal.returns-then-more-clause-turned
 returns-then-more-clause-turned g c =
     let old = c.loop-part.book in
-    let was = c.loop-part.node in
+    let was = (worker_of c.loop-part.held) in
     let is : IsComputation old.case.topology c.loop-part.part = search (rules, arith) in
     let done : HasAskedOne old c.fire.new.book (MayAskFire old.case was c.loop-part.part
     (least (marks_of old.case.topology c.loop-part.part old.marks))) true =
@@ -44,7 +44,7 @@ returns-then-more-clause-turned g c =
 -- after the last part no timer is due
 pub returns-clause-quiet : goal.returns-clause-quiet
 returns-clause-quiet g c = λ none told.
-    firing-quiet c.args.book.now c.loop-part.book c.loop-part.node c.loop-part.part (search (rules, arith))
+    firing-quiet c.args.book.now c.loop-part.book (worker_of c.loop-part.held) c.loop-part.part (search (rules, arith))
     c.loop-part.invariant (search rules) told
 
 -- a timer that fails since the history is full was due
@@ -53,7 +53,7 @@ returns-in_err-more-clause-unended g c =
     let r = c.from_residual.result in
     let start = c.args.book.now in
     let old = c.loop-part.book in
-    let was = c.loop-part.node in
+    let was = (worker_of c.loop-part.held) in
     let part = c.loop-part.part in
     let is : IsComputation old.case.topology part = search (rules, arith) in
     let asking : IfErr r (IsFullAsking (MayAskFire old.case was part (least (marks_of old.case.topology part old.marks)))) =

@@ -1,20 +1,31 @@
-use Rattle.std.proofs.Common.{rules, subst, sym}
-use Rattle.node.specs.Asking.{settle_asked}
-use Rattle.drains.specs.Turns.{HasAsked, IsAtWork}
-use Rattle.drains.proofs.CallLaws.{ack-call}
+use Rattle.std.proofs.Common.{◌≡◌, false, rules, true}
+use Rattle.std.specs.Option.{is_some}
+use Rattle.drains.specs.Turns.{sent_at, worker_of}
+use Rattle.drains.proofs.CallLaws.{ack-asked, ack-not, may-settle}
 use Rattle.drains.proofs.least_work.acknowledge.Goals as goal
 
--- the acknowledgement that was asked for is there, if one was
+-- nothing is pending
+pub returns-then-not-is_pending-clause-asked : goal.returns-then-not-is_pending-clause-asked
+returns-then-not-is_pending-clause-asked g c =
+    let shape = c.args.book.now.case.topology in
+    let none : is_some (sent_at shape (worker_of c.args.held.now) c.args.sender.now c.args.id) ≡ false =
+    (let is = c.is_pending.ensures shape c.requires.covers in search rules) in
+    ack-not c.args.book.now c.args.held.now c.args.sender.now c.args.id none
+
+-- the id may be settled
+pub settle-requires-clause-id : goal.settle-requires-clause-id
+settle-requires-clause-id g c =
+    let shape = c.args.book.now.case.topology in
+    let some : is_some (sent_at shape (worker_of c.args.held.now) c.args.sender.now c.args.id) ≡ true =
+    (let is = c.is_pending.ensures shape c.requires.covers in search rules) in
+    may-settle c.args.book.now c.args.held.now c.args.sender.now c.args.id c.args.interval c.requires.at_work c.requires.covers some
+    c.requires.handled
+
+-- and is
 pub returns-clause-asked : goal.returns-clause-asked
 returns-clause-asked g c =
-    let done : HasAsked c.args.book.now c.take_ack.new.desk.book.now (settle_asked c.args.book.now.case.topology c.args.node.now c.args.sender c.args.id) c.is_committed.result =
-    subst (HasAsked c.args.book.now c.take_ack.new.desk.book.now (settle_asked c.args.book.now.case.topology c.args.node.now c.args.sender c.args.id)) (sym c.is_committed.ensures)
-    (ack-call c.case-case.result.now c.args.book.now c.take_ack.new.desk.book.now c.args.node.now c.take_ack.new.self c.args.sender c.args.id c.in_ok-outcome.outcome
-    c.case-case.ensures.case c.requires.at_work c.requires.part c.in_ok-outcome.ensures.answers c.in_ok-outcome.ensures.fits).0 in search rules
-
--- the worker is at work then
-pub returns-clause-at_work : goal.returns-clause-at_work
-returns-clause-at_work g c =
-    subst (λ b. IsAtWork b c.take_ack.new.self) (search rules)
-    (ack-call c.case-case.result.now c.args.book.now c.take_ack.new.desk.book.now c.args.node.now c.take_ack.new.self c.args.sender c.args.id c.in_ok-outcome.outcome
-    c.case-case.ensures.case c.requires.at_work c.requires.part c.in_ok-outcome.ensures.answers c.in_ok-outcome.ensures.fits).1
+    let shape = c.args.book.now.case.topology in
+    let some : is_some (sent_at shape (worker_of c.args.held.now) c.args.sender.now c.args.id) ≡ true =
+    (let is = c.is_pending.ensures shape c.requires.covers in search rules) in
+    ack-asked c.args.book.now c.settle.new.book c.args.held.now c.args.sender.now c.args.id c.args.interval c.requires.at_work
+    c.requires.covers some c.in_ok-settle.ensures.settled

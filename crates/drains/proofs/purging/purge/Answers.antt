@@ -1,40 +1,44 @@
-use Rattle.std.proofs.Common.{rules, subst, sym}
-use Rattle.std.specs.Prelude.{IfErr}
+use Rattle.std.proofs.Common.{◌≡◌, refl, rules, subst, sym}
+use Rattle.std.specs.Prelude.{IfErr, IfOk, IsSome}
 use Rattle.run_history.specs.Legal.{floor_of}
 use Rattle.run_history.specs.Runs.{run_of}
-use Rattle.book.specs.OwnDesks.{own_view}
-use Rattle.node.specs.Answers.{FailsPurge}
 use Rattle.node.specs.Asking.{MayAskPurge}
-use Rattle.drains.specs.Turns.{HasAskedOne, IsAtWork}
-use Rattle.drains.proofs.CallLaws.{purge-call}
-use Rattle.drains.proofs.FullLaws.{purge-full}
+use Rattle.node.specs.declared.outcome.NodeFault.TheVariants as faults
+use Rattle.drains.specs.Turns.{HasAskedOne, IsFullAsking, worker_of}
+use Rattle.drains.proofs.CallLaws.{memory-asking, to-purge}
 use Rattle.drains.proofs.Results.{err-then}
 use Rattle.drains.proofs.purging.purge.Goals as goal
 
--- a purge that may be asked for is there, if there is one
+-- the interval is held
+pub to_purge-requires : goal.to_purge-requires
+to_purge-requires g c =
+    record { there = subst IsSome (sym (c.requires.at_work.each c.args.interval c.requires.there).there) refl }
+
+-- its first row that has ids to forget is the one that may be asked
+pub purge_found-requires-clause-found : goal.purge_found-requires-clause-found
+purge_found-requires-clause-found g c =
+    to-purge c.args.book.now c.args.held.now c.args.interval c.floor-floor.result c.in_ok-found.found c.requires.at_work c.requires.there
+    c.in_ok-found.ensures.first
+
+-- what was asked for under the floor was so under the run's
 pub returns-clause-asked : goal.returns-clause-asked
 returns-clause-asked g c =
-    let done : HasAskedOne c.args.book.now c.purge.new.desk.book.now (MayAskPurge c.args.book.now.case.topology c.args.node.now c.args.interval 1
-    (floor_of (run_of c.args.book.now.case.topology c.args.book.now.history))) c.is_committed.result =
-    subst (HasAskedOne c.args.book.now c.purge.new.desk.book.now (MayAskPurge c.args.book.now.case.topology c.args.node.now c.args.interval 1
-    (floor_of (run_of c.args.book.now.case.topology c.args.book.now.history)))) (sym c.is_committed.ensures)
-    (purge-call c.case-case.result.now c.args.book.now c.purge.new.desk.book.now c.args.node.now c.purge.new.self c.args.interval 1 c.in_ok-outcome.outcome
-    c.case-case.ensures.case c.requires.at_work c.in_ok-outcome.ensures.answers c.in_ok-outcome.ensures.fits).0 in search rules
+    let book = c.args.book.now in
+    let floor : c.floor-floor.result ≡ floor_of (run_of book.case.topology book.history) = search rules in
+    subst (λ f. IfOk c.purge_found.result (HasAskedOne book c.purge_found.new.book
+    (MayAskPurge book.case.topology (worker_of c.args.held.now) c.args.interval 1 f))) floor c.purge_found.ensures.asked
 
--- the worker is at work then
-pub returns-clause-at_work : goal.returns-clause-at_work
-returns-clause-at_work g c =
-    subst (λ b. IsAtWork b c.purge.new.self) (search rules)
-    (purge-call c.case-case.result.now c.args.book.now c.purge.new.desk.book.now c.args.node.now c.purge.new.self c.args.interval 1 c.in_ok-outcome.outcome
-    c.case-case.ensures.case c.requires.at_work c.in_ok-outcome.ensures.answers c.in_ok-outcome.ensures.fits).1
+-- and where that failed
+pub returns-clause-asking : goal.returns-clause-asking
+returns-clause-asking g c =
+    let book = c.args.book.now in
+    let floor : c.floor-floor.result ≡ floor_of (run_of book.case.topology book.history) = search rules in
+    subst (λ f. IfErr c.purge_found.result (IsFullAsking
+    (MayAskPurge book.case.topology (worker_of c.args.held.now) c.args.interval 1 f))) floor c.purge_found.ensures.asking
 
--- a purge that fails since the history is full was asked for
-pub returns-in_err-outcome-clause-asking : goal.returns-in_err-outcome-clause-asking
-returns-in_err-outcome-clause-asking g c =
+-- there was no memory for the row's name
+pub returns-in_err-found-clause-asking : goal.returns-in_err-found-clause-asking
+returns-in_err-found-clause-asking g c =
     let r = c.from_residual.result in
-    let case = c.case-case.result.now in
-    let old = c.args.book.now in
-    let new = c.purge.new.desk.book.now in
-    let was = c.args.node.now in
-    let fails : IfErr r (FailsPurge case.topology (own_view old) (own_view new) c.args.interval 1 was) = search rules in
-    err-then r (λ why f. purge-full case old new was c.args.interval 1 why c.case-case.ensures.case f) fails
+    let none : IfErr r (λ why. why ≡ faults.NoMemory) = search rules in
+    err-then r (λ why is. memory-asking _ why is) none

@@ -17,7 +17,8 @@ returns-in_err-sender-clause-failed g c =
 
 -- a delivery that is settled is not the end
 pub returns-clause-ended : goal.returns-clause-ended
-returns-clause-ended g c = ok-then c.work_on.result (λ more is none. not-ended c.args.book.now more is none) c.work_on.ensures.more
+returns-clause-ended g c = ok-then c.work_on-worked.result (λ more is none. not-ended c.args.book.now more is none)
+    c.work_on-worked.ensures.more
 
 pub returns-in_err-sender-clause-unended : goal.returns-in_err-sender-clause-unended
 returns-in_err-sender-clause-unended g c =
@@ -30,4 +31,5 @@ returns-clause-unended g c =
     let book = c.args.book.now in
     let shape = book.case.topology in
     let least : IsLeastSent shape (run_of shape book.history) c.in-Some.id c.in-Some.sender.now = search rules in
-    err-then c.work_on.result (λ why failed full. sent-unended book c.in-Some.id c.in-Some.sender.now least) c.work_on.ensures.failed
+    err-then c.work_on-worked.result (λ why failed full. sent-unended book c.in-Some.id c.in-Some.sender.now least)
+    c.work_on-worked.ensures.failed

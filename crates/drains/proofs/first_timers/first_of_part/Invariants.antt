@@ -1,0 +1,10 @@
+use Rattle.std.proofs.Common.{◌≡◌}
+use Rattle.node.specs.FireSteps.{IsLeastTimerBelow}
+use Rattle.drains.proofs.first_timers.first_of_part.Given as goal
+
+-- it is the least timer of the part's intervals so far
+abbrev pub invariant-loop-interval : goal.invariant-loop-interval
+invariant-loop-interval l = record {
+  so_far : IsLeastTimerBelow l.intervals l.initial.held l.fn.part l.interval l.first;
+  same : l.held ≡ l.initial.held;
+}
