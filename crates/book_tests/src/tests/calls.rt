@@ -1,15 +1,14 @@
 //! The calls of the example, one each, and what each needs and leaves.
-ghost use Rattle.std.specs.Prelude.{◌≡◌, ◌≤◌, ◌<◌, ◌+◌, ◌∷◌, [], IfOk, OnErr, OnOk, Some, length, slice_get, take};
+ghost use Rattle.std.specs.Prelude.{◌≡◌, ◌≤◌, ◌<◌, ◌+◌, ◌∷◌, [], IfOk, OnErr, OnOk, Some, slice_get, take};
 ghost use Rattle.mw_types.specs.declared.entry.Entry.TheVariants.{Claim};
 ghost use Rattle.mw_types.specs.declared.state.State.TheVariants.{Count, Injector};
 ghost use Rattle.row_parts.specs.Contents.{fresh};
 ghost use Rattle.worked_examples.specs.Rising.{own_after, rise_history, row_closed, row_counted, row_injected};
-ghost use Rattle.book_tests.specs.TestBooks.{HasRisen, first_lease};
+ghost use Rattle.book_tests.specs.TestBooks.{HasRisen, IsLeft, first_lease, row_before};
 
-use super::example::hands;
 use super::hands::Hands;
-use book::{Book, ClaimRefusal, Claimed, Lease, Proposal, Stale, WriteRefusal, Written};
-use mw_types::{NoMemory, RecordId};
+use book::{Book, ClaimRefusal, Claimed, Lease, Stale, WriteRefusal, Written};
+use mw_types::RecordId;
 use row_keeper::Keeper;
 use row_parts::Row;
 use std::alloc::Global;
@@ -29,24 +28,6 @@ pub(crate) fn claim<K: Keeper>(
     book.claim(alloc, 0, interval)
 }
 
-// Worker 0 claims both intervals.
-pub(crate) fn claim_both<K: Keeper>(
-    alloc: Global,
-    book: &mut Book<'_, K>,
-) -> Result<Hands, NoMemory>
-    requires risen { HasRisen 0 book.old }
-    ensures claimed { OnOk result (HasRisen 2 book.new) }
-{
-    let source = match claim(alloc, book, 0) {
-        Ok(Claimed { lease, rows: _rows }) => lease,
-        Err(_why) => return Err(NoMemory),
-    };
-    match claim(alloc, book, 1) {
-        Ok(Claimed { lease, rows: _rows }) => hands(alloc, source, lease),
-        Err(_why) => Err(NoMemory),
-    }
-}
-
 // The first line is injected.
 pub(crate) fn inject<K: Keeper>(
     alloc: Global,
@@ -60,12 +41,18 @@ pub(crate) fn inject<K: Keeper>(
     ensures stayed { OnErr result (HasRisen 2 book.new) }
     ensures left { IfOk result (λ written. written.row ≡ row_injected) }
 {
-    let proposal = Proposal::Inject { line: 0 };
-    book.write(alloc, &hands.source, 2, &hands.injector, row, &proposal)
+    book.write(
+        alloc,
+        &hands.source,
+        2,
+        &hands.injector,
+        row,
+        &hands.injecting,
+    )
 }
 
 // Its record is handled.
-pub(crate) fn handle<K: Keeper>(
+fn handle<K: Keeper>(
     alloc: Global,
     book: &mut Book<'_, K>,
     hands: &Hands,
@@ -81,7 +68,7 @@ pub(crate) fn handle<K: Keeper>(
 }
 
 // Its sender settles it.
-pub(crate) fn settle<K: Keeper>(
+fn settle<K: Keeper>(
     alloc: Global,
     book: &mut Book<'_, K>,
     hands: &Hands,
@@ -100,7 +87,7 @@ pub(crate) fn settle<K: Keeper>(
 }
 
 // The timer of its window fires.
-pub(crate) fn fire<K: Keeper>(
+fn fire<K: Keeper>(
     alloc: Global,
     book: &mut Book<'_, K>,
     hands: &Hands,
@@ -116,7 +103,7 @@ pub(crate) fn fire<K: Keeper>(
 }
 
 // Its row is purged.
-pub(crate) fn purge<K: Keeper>(
+fn purge<K: Keeper>(
     alloc: Global,
     book: &mut Book<'_, K>,
     hands: &Hands,
@@ -128,6 +115,31 @@ pub(crate) fn purge<K: Keeper>(
     ensures stayed { OnErr result (HasRisen 6 book.new) }
 {
     book.purge(alloc, &hands.count, 6, &hands.a, row, 6)
+}
+
+// What comes next after so many of the entries.
+pub(crate) fn next<K: Keeper>(
+    alloc: Global,
+    book: &mut Book<'_, K>,
+    hands: &Hands,
+    row: &Row,
+    count: u64,
+) -> Result<Written, WriteRefusal>
+    requires risen { HasRisen count book.old }
+    requires claimed { 2 ≤ count }
+    requires there { count < 7 }
+    requires row { row.now ≡ row_before count }
+    ensures written { OnOk result (HasRisen (count + 1) book.new) }
+    ensures stayed { OnErr result (HasRisen count book.new) }
+    ensures left { IfOk result (λ written. IsLeft count written.row) }
+{
+    match count {
+        2 => inject(alloc, book, hands, row),
+        3 => handle(alloc, book, hands, row),
+        4 => settle(alloc, book, hands, row),
+        5 => fire(alloc, book, hands, row),
+        _ => purge(alloc, book, hands, row),
+    }
 }
 
 // A worker reports the own work of an interval, after so many of the entries.

@@ -1,52 +1,28 @@
 //! The marks rise while a line is worked off, over a keeper that tells its rows, one that does not,
 //! and one that fails at each of its calls in turn.
-ghost use Rattle.std.specs.Prelude.{◌≡◌, ◌∷◌, [], IfOk};
+ghost use Rattle.std.specs.Prelude.{◌≡◌};
 ghost use Rattle.worked_examples.specs.Rising.{rise_case, row_closed, row_counted, row_injected};
-ghost use Rattle.book_tests.specs.TestBooks.{HasRisen, first_lease};
+ghost use Rattle.book_tests.specs.TestBooks.{HasRisen};
 
-use super::calls::{claim, fire, handle, inject, purge, report, settle};
-use super::example::{hands, none_open, two_line_case};
+use super::calls::report;
+use super::example::{none_open, two_line_case};
 use super::hands::Hands;
-use super::trials::{
-    Sight, Trial, fail_claim, fail_fire, fail_handle, fail_inject, fail_purge, fail_settle, sight,
-};
-use book::{Book, Claimed, Lease, Stale, StartRefusal, StartWhy, Written};
-use mw_types::{Bytes, CallList, Key, RowName, State};
-use row_keeper::{BlindKeeper, Keeper, KeptRow, MemKeeper};
+use super::starts::{blind, in_memory, started};
+use super::trials::{NONE, Trial, claim_both, sight, step};
+use super::{must, refused};
+use book::{Book, StartRefusal, StartWhy};
+use mw_types::State;
+use row_keeper::Keeper;
 use row_parts::Row;
 use run_history::Case;
 use std::alloc::Global;
 use std::process::Abort;
-use std::test::Fail;
-
-// A book looks so.
-fn expect<K: Keeper>(rt: &impl Abort, book: &Book<'_, K>, want: Sight) {
-    assert!(rt; sight(book) == want);
-}
 
 // What is to be sent first: the id's commit number and index, the row's part, and how long its key is.
 fn sender<K: Keeper>(book: &Book<'_, K>) -> Option<(u64, u32, u32, usize)> {
     match book.least_sent() {
         Some((id, name)) => Some((id.commit, id.index, name.part, name.key.text().len())),
         None => None,
-    }
-}
-
-// The injector's row sent the record 0 of entry 2, and nothing earlier is to be sent.
-fn expect_sender<K: Keeper>(rt: &impl Abort, book: &Book<'_, K>) {
-    assert!(rt; sender(book) == Some((2, 0, 0, 0)));
-}
-
-// Nothing is to be sent.
-fn expect_no_sender<K: Keeper>(rt: &impl Abort, book: &Book<'_, K>) {
-    assert!(rt; sender(book).is_none());
-}
-
-// A report was accepted, and answered this mark.
-fn expect_mark(rt: &impl Abort, reported: Result<u64, Stale>, want: u64) {
-    match reported {
-        Ok(mark) => assert!(rt; mark == want),
-        Err(_) => assert!(rt; false),
     }
 }
 
@@ -57,252 +33,191 @@ fn source_mark<K: Keeper>(book: &Book<'_, K>) -> u64
     book.mark(0)
 }
 
-// Starts a book over a keeper whose first call does not fail.
-fn try_start<K: Keeper>(rt: &impl Abort, trial: Trial, case: &Case, keeper: K)
-    requires { case.now ≡ rise_case }
-{
-    match Book::start(trial.alloc, case, keeper, 8) {
-        Ok(book) => try_rise(rt, trial, book),
-        Err(_) => assert!(rt; false),
-    }
-}
-
-// Starts a book over a keeper whose first call fails, and again over the keeper that comes back.
-fn try_start_again<K: Keeper>(rt: &impl Abort, trial: Trial, case: &Case, keeper: K)
-    requires { case.now ≡ rise_case }
-{
-    match Book::start(trial.alloc, case, keeper, 8) {
-        Ok(_) => assert!(rt; false),
-        Err(StartRefusal { why, keeper }) => {
-            assert!(rt; matches!(why, StartWhy::KeeperFault));
-            try_start(rt, trial, case, keeper);
-        }
-    }
-}
-
-// Worker 0 claims both intervals, and works off the first line.
-fn try_rise<K: Keeper>(rt: &impl Abort, trial: Trial, book: Book<'_, K>)
-    requires risen { HasRisen 0 book }
-{
-    let mut book = book;
-    fail_claim(rt, trial, &mut book, 0);
-    match claim(trial.alloc, &mut book, 0) {
-        Ok(Claimed { lease, rows }) => {
-            assert!(rt; rows.is_empty());
-            try_second(rt, trial, &mut book, lease);
-        }
-        Err(_) => assert!(rt; false),
-    }
-}
-
-// Worker 0 claims the interval of the count.
-fn try_second<K: Keeper>(rt: &impl Abort, trial: Trial, book: &mut Book<'_, K>, source: Lease)
-    requires risen { HasRisen 1 book.old }
-    requires source { source ≡ first_lease 0 }
-{
-    fail_claim(rt, trial, book, 1);
-    match claim(trial.alloc, book, 1) {
-        Ok(Claimed { lease, rows }) => {
-            assert!(rt; rows.is_empty());
-            try_claimed(rt, trial, book, source, lease);
-        }
-        Err(_) => assert!(rt; false),
-    }
-}
-
-// Worker 0 has claimed both intervals.
-fn try_claimed<K: Keeper>(
-    rt: &impl Abort,
-    trial: Trial,
-    book: &mut Book<'_, K>,
-    source: Lease,
-    count: Lease,
-)
+// The first line is injected: its record is to be sent, as the record 0 of entry 2, and nothing earlier is.
+fn injected<K: Keeper>(rt: &impl Abort, trial: Trial, book: &mut Book<'_, K>, hands: &Hands) -> Row
     requires risen { HasRisen 2 book.old }
-    requires source { source ≡ first_lease 0 }
-    requires count { count ≡ first_lease 1 }
+    ensures risen { HasRisen 3 book.new }
+    ensures left { result ≡ row_injected }
 {
-    match hands(trial.alloc, source, count) {
-        Ok(hands) => try_inject(rt, trial, book, &hands),
-        Err(_) => assert!(rt; false),
-    }
-}
-
-// The first line is injected.
-fn try_inject<K: Keeper>(rt: &impl Abort, trial: Trial, book: &mut Book<'_, K>, hands: &Hands)
-    requires risen { HasRisen 2 book.old }
-{
-    expect(rt, book, (2, 2, 1, 0, 0));
+    must(rt, sight(book) == (2, 2, 1, 0, 0), "both are claimed");
     let fresh = Row::new(trial.alloc, State::Injector { cursor: 0 });
-    fail_inject(rt, trial, book, hands, &fresh);
-    match inject(trial.alloc, book, hands, &fresh) {
-        Ok(Written { commit, row }) => {
-            assert!(rt; commit == 2);
-            expect_sender(rt, book);
-            expect(rt, book, (3, 2, 2, 0, 0));
-            try_handle(rt, trial, book, hands, &row);
-        }
-        Err(_) => assert!(rt; false),
-    }
+    let row = step(rt, trial, book, hands, &fresh, 2, (3, 2, 2, 0, 0));
+    drop(fresh);
+    must(rt, sender(book) == Some((2, 0, 0, 0)), "it is to be sent");
+    row
 }
 
-// The record is handled.
-fn try_handle<K: Keeper>(
-    rt: &impl Abort,
-    trial: Trial,
-    book: &mut Book<'_, K>,
-    hands: &Hands,
-    injected: &Row,
-)
+// The injector's interval reports, and the record is handled.
+fn handled<K: Keeper>(rt: &impl Abort, trial: Trial, book: &mut Book<'_, K>, hands: &Hands) -> Row
     requires risen { HasRisen 3 book.old }
-    requires injected { injected.now ≡ row_injected }
+    ensures risen { HasRisen 4 book.new }
+    ensures left { result ≡ row_counted }
 {
-    expect_mark(rt, report(book, &hands.source, 0, 3, 10), 10);
+    let mark = report(book, &hands.source, 0, 3, 10);
+    must(rt, mark == Ok(10), "the injector's mark rises to 10");
     let fresh = Row::new(trial.alloc, none_open(trial.alloc));
-    fail_handle(rt, trial, book, hands, &fresh);
-    match handle(trial.alloc, book, hands, &fresh) {
-        Ok(Written { commit, row }) => {
-            assert!(rt; commit == 3);
-            expect(rt, book, (4, 2, 3, 10, 0));
-            try_settle(rt, trial, book, hands, injected, &row);
-        }
-        Err(_) => assert!(rt; false),
-    }
+    let row = step(rt, trial, book, hands, &fresh, 3, (4, 2, 3, 10, 0));
+    drop(fresh);
+    row
 }
 
-// The sender settles the record.
-fn try_settle<K: Keeper>(
+// The interval of the count reports, and the sender settles the record: nothing is to be sent.
+fn settled<K: Keeper>(
     rt: &impl Abort,
     trial: Trial,
     book: &mut Book<'_, K>,
     hands: &Hands,
-    injected: &Row,
-    counted: &Row,
+    injected: Row,
 )
     requires risen { HasRisen 4 book.old }
-    requires injected { injected.now ≡ row_injected }
-    requires counted { counted.now ≡ row_counted }
+    requires injected { injected ≡ row_injected }
+    ensures risen { HasRisen 5 book.new }
 {
-    expect_mark(rt, report(book, &hands.count, 1, 4, 60), 10);
-    fail_settle(rt, trial, book, hands, injected);
-    match settle(trial.alloc, book, hands, injected) {
-        Ok(Written { commit, row }) => {
-            assert!(rt; commit == 4 && row.pending.is_empty());
-            expect_no_sender(rt, book);
-            expect(rt, book, (5, 5, 2, 10, 10));
-            try_source(rt, trial, book, hands, counted);
-        }
-        Err(_) => assert!(rt; false),
-    }
+    let mark = report(book, &hands.count, 1, 4, 60);
+    must(rt, mark == Ok(10), "the count's mark rises to 10");
+    let row = step(rt, trial, book, hands, &injected, 4, (5, 5, 2, 10, 10));
+    let is_settled = row.pending.is_empty() && sender(book).is_none();
+    drop(row);
+    drop(injected);
+    must(rt, is_settled, "nothing is to be sent");
 }
 
-// The injector's interval reports.
-fn try_source<K: Keeper>(
+// Both intervals report, and the timer of the window fires.
+fn fired<K: Keeper>(
     rt: &impl Abort,
     trial: Trial,
     book: &mut Book<'_, K>,
     hands: &Hands,
-    counted: &Row,
-)
+    counted: Row,
+) -> Row
     requires risen { HasRisen 5 book.old }
-    requires counted { counted.now ≡ row_counted }
+    requires counted { counted ≡ row_counted }
+    ensures risen { HasRisen 6 book.new }
+    ensures left { result ≡ row_closed }
 {
-    expect_mark(rt, report(book, &hands.source, 0, 5, 60), 60);
-    try_fire(rt, trial, book, hands, counted);
-}
-
-// The interval of the count reports, and the timer of its window fires.
-fn try_fire<K: Keeper>(
-    rt: &impl Abort,
-    trial: Trial,
-    book: &mut Book<'_, K>,
-    hands: &Hands,
-    counted: &Row,
-)
-    requires risen { HasRisen 5 book.old }
-    requires counted { counted.now ≡ row_counted }
-{
-    assert!(rt; source_mark(book) == 60);
-    expect_mark(rt, report(book, &hands.count, 1, 5, 60), 60);
-    fail_fire(rt, trial, book, hands, counted);
-    match fire(trial.alloc, book, hands, counted) {
-        Ok(Written { commit, row }) => {
-            assert!(rt; commit == 5);
-            expect(rt, book, (6, 6, 1, 60, 60));
-            try_purge(rt, trial, book, hands, &row);
-        }
-        Err(_) => assert!(rt; false),
-    }
+    let source = report(book, &hands.source, 0, 5, 60);
+    let is_raised = source == Ok(60) && source_mark(book) == 60;
+    must(rt, is_raised, "the injector's mark rises to 60");
+    let count = report(book, &hands.count, 1, 5, 60);
+    must(rt, count == Ok(60), "the count's mark rises to 60");
+    let row = step(rt, trial, book, hands, &counted, 5, (6, 6, 1, 60, 60));
+    drop(counted);
+    row
 }
 
 // The row is purged.
-fn try_purge<K: Keeper>(
+fn purged<K: Keeper>(
     rt: &impl Abort,
     trial: Trial,
     book: &mut Book<'_, K>,
     hands: &Hands,
-    closed: &Row,
+    closed: Row,
 )
     requires risen { HasRisen 6 book.old }
-    requires closed { closed.now ≡ row_closed }
+    requires closed { closed ≡ row_closed }
 {
-    fail_purge(rt, trial, book, hands, closed);
-    match purge(trial.alloc, book, hands, closed) {
-        Ok(Written { commit, row }) => {
-            assert!(rt; commit == 6 && row.floor == 6 && row.seen.is_empty());
-            expect(rt, book, (7, 7, 1, 60, 60));
-        }
-        Err(_) => assert!(rt; false),
+    let row = step(rt, trial, book, hands, &closed, 6, (7, 7, 1, 60, 60));
+    let is_purged = row.floor == 6 && row.seen.is_empty();
+    drop(row);
+    drop(closed);
+    must(rt, is_purged, "the row forgets what is below 6");
+}
+
+// Worker 0 works off the first line.
+fn work_off<K: Keeper>(rt: &impl Abort, trial: Trial, book: &mut Book<'_, K>, hands: &Hands)
+    requires risen { HasRisen 2 book.old }
+{
+    let injected = injected(rt, trial, book, hands);
+    let counted = handled(rt, trial, book, hands);
+    settled(rt, trial, book, hands, injected);
+    let closed = fired(rt, trial, book, hands, counted);
+    purged(rt, trial, book, hands, closed);
+}
+
+// The keeper of a refusal, which came since the keeper failed.
+fn keeper_of<K: Keeper>(rt: &impl Abort, refusal: StartRefusal<K>) -> K {
+    let StartRefusal { why, keeper } = refusal;
+    must(
+        rt,
+        matches!(&why, StartWhy::KeeperFault),
+        "the keeper failed",
+    );
+    drop(why);
+    keeper
+}
+
+// The keeper that comes back from a start, where its first call is to fail.
+fn after_start<K: Keeper>(rt: &impl Abort, trial: Trial, case: &Case, keeper: K) -> K {
+    if trial.failing == 0 {
+        keeper_of(rt, refused(rt, Book::start(trial.alloc, case, keeper, 8)))
+    } else {
+        keeper
     }
 }
 
-// No call of the keeper.
-const NONE: u64 = 100;
+// A book is started over a keeper, once more where that failed, and the first line is worked off.
+fn rise<K: Keeper>(rt: &impl Abort, trial: Trial, case: &Case, keeper: K)
+    requires case { case.now ≡ rise_case }
+{
+    let keeper = after_start(rt, trial, case, keeper);
+    let mut book = started(rt, trial.alloc, case, keeper, 8);
+    let hands = claim_both(rt, trial, &mut book);
+    work_off(rt, trial, &mut book, &hands);
+    drop(hands);
+    drop(book);
+}
 
-#[test]
-fn marks_rise(rt: HostRuntime) -> Result<(), Fail> {
-    let alloc = rt.alloc();
-    let case = two_line_case(alloc)?;
-    let trial = Trial {
+// A keeper: one in memory that never fails, or fails at the call of this number, or one that tells no row.
+#[derive(Clone, Copy)]
+enum Kept {
+    Sound,
+    Failing(u64),
+    Blind,
+}
+
+static KEEPERS: [Kept; 10] = [
+    Kept::Sound,
+    Kept::Blind,
+    Kept::Failing(0),
+    Kept::Failing(1),
+    Kept::Failing(2),
+    Kept::Failing(3),
+    Kept::Failing(4),
+    Kept::Failing(5),
+    Kept::Failing(6),
+    Kept::Failing(7),
+];
+
+// The marks rise over a keeper.
+fn rise_over(rt: &impl Abort, alloc: Global, case: &Case, kept: Kept)
+    requires case { case.now ≡ rise_case }
+{
+    let never = Trial {
         alloc,
         failing: NONE,
     };
-    let keeper = MemKeeper::new(alloc, CallList::new(alloc));
-    try_start(&rt, trial, &case, keeper);
-    Ok(())
-}
-
-#[test]
-fn marks_rise_over_a_blind_keeper(rt: HostRuntime) -> Result<(), Fail> {
-    let alloc = rt.alloc();
-    let case = two_line_case(alloc)?;
-    let trial = Trial {
-        alloc,
-        failing: NONE,
-    };
-    let name = RowName {
-        part: 2,
-        key: Key::none(alloc),
-    };
-    let bytes = Bytes::new(alloc);
-    try_start(&rt, trial, &case, BlindKeeper::new(KeptRow { name, bytes }));
-    Ok(())
-}
-
-#[test]
-fn each_keeper_call_fails(rt: HostRuntime) -> Result<(), Fail> {
-    let alloc = rt.alloc();
-    let case = two_line_case(alloc)?;
-    for failing in 0..8 {
-        let mut calls = CallList::new(alloc);
-        calls.push(failing)?;
-        let keeper = MemKeeper::new(alloc, calls);
-        let trial = Trial { alloc, failing };
-        if failing == 0 {
-            try_start_again(&rt, trial, &case, keeper);
-        } else {
-            try_start(&rt, trial, &case, keeper);
-        }
+    match kept {
+        Kept::Sound => rise(rt, never, case, in_memory(rt, alloc, &[])),
+        Kept::Failing(failing) => rise(
+            rt,
+            Trial { alloc, failing },
+            case,
+            in_memory(rt, alloc, &[failing]),
+        ),
+        Kept::Blind => rise(rt, never, case, blind(alloc)),
     }
-    Ok(())
+}
+
+// The marks rise over each keeper.
+fn rise_over_each(rt: &impl Abort, alloc: Global) {
+    let case = two_line_case(rt, alloc);
+    for kept in &KEEPERS {
+        rise_over(rt, alloc, &case, *kept);
+    }
+    drop(case);
+}
+
+#[test]
+fn marks_rise_over_each_keeper(rt: HostRuntime) {
+    rise_over_each(&rt, rt.alloc());
 }

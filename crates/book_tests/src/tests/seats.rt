@@ -24,11 +24,15 @@ pub(crate) enum Tried {
 
 // What came of a claim in a turn.
 fn of_claim(claimed: Result<Claimed, ClaimRefusal>) -> Tried {
-    match claimed {
-        Ok(Claimed { lease, rows: _rows }) => Tried::Claimed { seq: lease.seq() },
+    let tried = match &claimed {
+        Ok(claimed) => Tried::Claimed {
+            seq: claimed.lease.seq(),
+        },
         Err(ClaimRefusal::KeeperFault) => Tried::KeeperFault,
-        Err(_why) => Tried::Refused,
-    }
+        Err(_) => Tried::Refused,
+    };
+    drop(claimed);
+    tried
 }
 
 // A claim in a turn.
