@@ -4,14 +4,13 @@ ghost use Rattle.mw_types.specs.declared.state.State.TheVariants.{Count};
 ghost use Rattle.row_parts.specs.Contents.{fresh};
 ghost use Rattle.book_tests.specs.TestBooks.{HasRisen, IsOvertaken, later_lease};
 
-use super::calls::inject;
-use super::example::{none_open, two_line_case};
+use super::example::none_open;
 use super::hands::Hands;
-use super::starts::{in_memory, started};
-use super::trials::{NONE, Trial, claim_both, lease_of, sight};
+use super::plays::{Kept, Play, Setting, play_all};
+use super::trials::{Trial, injected, is_as_before, lease_of, sight, stays};
 use super::{made, must, refused};
 use book::{Book, ClaimRefusal, Claimed, Lease, Stale, WriteRefusal, Written};
-use mw_types::{END, State};
+use mw_types::END;
 use row_keeper::Keeper;
 use row_parts::Row;
 use std::alloc::Global;
@@ -63,19 +62,8 @@ fn report_stale<K: Keeper>(book: &mut Book<'_, K>, hands: &Hands) -> Result<u64,
     book.report(&hands.count, 3, END)
 }
 
-// The first line is injected.
-fn line_injected<K: Keeper>(rt: &impl Abort, alloc: Global, book: &mut Book<'_, K>, hands: &Hands)
-    requires risen { HasRisen 2 book.old }
-    ensures risen { HasRisen 3 book.new }
-{
-    let fresh = Row::new(alloc, State::Injector { cursor: 0 });
-    let written = made(rt, inject(alloc, book, hands, &fresh));
-    drop(written);
-    drop(fresh);
-}
-
-// A write and a report of the first worker are stale, and change nothing.
-fn stale<K: Keeper>(
+// A write of the first worker is stale.
+fn write_is_stale<K: Keeper>(
     rt: &impl Abort,
     alloc: Global,
     book: &mut Book<'_, K>,
@@ -88,11 +76,18 @@ fn stale<K: Keeper>(
 {
     let before = sight(book);
     let why = refused(rt, handle_stale(alloc, book, hands, row));
-    let is_stale = why == WriteRefusal::Stale { newer: 3 };
-    must(rt, is_stale && before == sight(book), "the write is stale");
+    stays(rt, book, &before, why, WriteRefusal::Stale { newer: 3 });
+}
+
+// A report of the first worker is stale.
+fn report_is_stale<K: Keeper>(rt: &impl Abort, book: &mut Book<'_, K>, hands: &Hands)
+    requires overtaken { IsOvertaken book.old }
+    ensures overtaken { IsOvertaken book.new }
+{
+    let before = sight(book);
     let why = refused(rt, report_stale(book, hands));
-    let is_stale = why == Stale { newer: 3 };
-    must(rt, is_stale && before == sight(book), "the report is stale");
+    must(rt, why.newer == 3, "the report is stale");
+    must(rt, is_as_before(book, &before), "it changes nothing");
 }
 
 // The commit number of what was written.
@@ -108,37 +103,37 @@ fn handled_later<K: Keeper>(
     alloc: Global,
     book: &mut Book<'_, K>,
     hands: &Hands,
-    lease: Lease,
+    lease: &Lease,
 )
     requires overtaken { IsOvertaken book.old }
-    requires lease { lease ≡ later_lease }
+    requires lease { lease.now ≡ later_lease }
 {
     let fresh = Row::new(alloc, none_open(alloc));
-    stale(rt, alloc, book, hands, &fresh);
-    let written = made(rt, handle_later(alloc, book, &lease, hands, &fresh));
-    must(rt, commit_of(written) == 4, "the later worker handles");
+    write_is_stale(rt, alloc, book, hands, &fresh);
+    report_is_stale(rt, book, hands);
+    let written = made(rt, handle_later(alloc, book, lease, hands, &fresh));
     drop(fresh);
+    must(rt, commit_of(written) == 4, "the later worker handles");
+}
+
+// The first line is injected, and the second worker overtakes the first.
+pub(crate) fn overtake<K: Keeper>(
+    rt: &impl Abort,
+    trial: Trial,
+    book: &mut Book<'_, K>,
+    hands: &Hands,
+)
+    requires risen { HasRisen 2 book.old }
+{
+    drop(injected(rt, trial, book, hands));
+    let lease = lease_of(rt, made(rt, claim_later(trial.alloc, book)));
+    handled_later(rt, trial.alloc, book, hands, &lease);
     drop(lease);
 }
 
-// The first worker claims both intervals, and its line is injected; the second worker overtakes it.
-fn overtake(rt: &impl Abort, alloc: Global) {
-    let case = two_line_case(rt, alloc);
-    let mut book = started(rt, alloc, &case, in_memory(rt, alloc, &[]), 8);
-    let trial = Trial {
-        alloc,
-        failing: NONE,
-    };
-    let hands = claim_both(rt, trial, &mut book);
-    line_injected(rt, alloc, &mut book, &hands);
-    let lease = lease_of(rt, made(rt, claim_later(alloc, &mut book)));
-    handled_later(rt, alloc, &mut book, &hands, lease);
-    drop(hands);
-    drop(book);
-    drop(case);
-}
+static SETTINGS: [Setting; 1] = [(Kept::Sound, 8, Play::Overtake)];
 
 #[test]
 fn stale_handle(rt: HostRuntime) {
-    overtake(&rt, rt.alloc());
+    play_all(&rt, rt.alloc(), &SETTINGS);
 }

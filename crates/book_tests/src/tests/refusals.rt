@@ -3,11 +3,11 @@ ghost use Rattle.std.specs.Prelude.{◌≡◌, ◌<◌, OnErr};
 ghost use Rattle.worked_examples.specs.Rising.{rise_case};
 ghost use Rattle.book_tests.specs.TestBooks.{HasRisen};
 
-use super::calls::{claim, inject};
+use super::calls::inject;
 use super::example::{row_a, two_line_case};
 use super::hands::Hands;
+use super::plays::{Kept, Play, Setting, play_all};
 use super::starts::{in_memory, started};
-use super::trials::{NONE, Trial, claim_both};
 use super::{made, must, refused};
 use book::{Book, ClaimRefusal, Claimed, NamedRow, StartRefusal, StartWhy, WriteRefusal, Written};
 use mw_types::{Bytes, Key, RowName, State};
@@ -50,23 +50,29 @@ fn is_inject_full<K: Keeper>(alloc: Global, book: &mut Book<'_, K>, hands: &Hand
     is_write_full(written)
 }
 
-// Whether both claims fill a history of two, so that no interval is claimed and no line injected.
-fn is_full(rt: &impl Abort, alloc: Global, case: &Case) -> bool
-    requires case { case.now ≡ rise_case }
+// Both claims filled a history of two: no interval is claimed, and no line is injected.
+pub(crate) fn fill<K: Keeper>(rt: &impl Abort, alloc: Global, book: &mut Book<'_, K>, hands: &Hands)
+    requires risen { HasRisen 2 book.old }
 {
-    let mut book = started(rt, alloc, case, in_memory(rt, alloc, &[]), 2);
-    let trial = Trial {
-        alloc,
-        failing: NONE,
-    };
-    let hands = claim_both(rt, trial, &mut book);
-    let is_claim_full = is_claim_full(refused(rt, claim_again(alloc, &mut book)));
-    let is_inject_full = is_inject_full(alloc, &mut book, &hands);
-    let count = book.history().len();
-    drop(hands);
-    drop(book);
-    is_claim_full && is_inject_full && count == 2
+    let why = refused(rt, claim_again(alloc, book));
+    must(rt, is_claim_full(why), "no interval is claimed");
+    must(
+        rt,
+        is_inject_full(alloc, book, hands),
+        "no line is injected",
+    );
+    must(rt, book.history().len() == 2, "the history stays");
 }
+
+static SETTINGS: [Setting; 1] = [(Kept::Sound, 2, Play::Fill)];
+
+#[test]
+fn history_full(rt: HostRuntime) {
+    play_all(&rt, rt.alloc(), &SETTINGS);
+}
+
+// Bytes that are no row's.
+const DAMAGED: &[u8] = &[255];
 
 // The row of the key a of the count, with bytes that are no row's.
 fn damaged(rt: &impl Abort, alloc: Global) -> KeptRow {
@@ -78,52 +84,62 @@ fn damaged(rt: &impl Abort, alloc: Global) -> KeptRow {
 
 // Whether these are of the damaged row.
 fn are_of_row_a(name: &RowName, bytes: &Bytes) -> bool {
-    name.part == 1 && name.key.text() == "a" && bytes.as_slice() == [255].as_slice()
+    name.part == 1 && name.key.text() == "a" && bytes.as_slice() == DAMAGED
 }
 
 // Whether a claim was refused for the damaged row.
-fn is_damaged(why: ClaimRefusal) -> bool {
-    let is = match &why {
-        ClaimRefusal::RowDamaged { name, bytes } => are_of_row_a(name, bytes),
+fn is_damaged(claimed: Result<Claimed, ClaimRefusal>) -> bool {
+    let is = match &claimed {
+        Err(ClaimRefusal::RowDamaged { name, bytes }) => are_of_row_a(name, bytes),
         _ => false,
     };
-    drop(why);
+    drop(claimed);
     is
 }
 
-// A worker claims an interval of a book in which nothing has happened yet.
-fn claim_first<K: Keeper>(
+// Worker 0 claims an interval.
+fn claim_one<K: Keeper>(
     alloc: Global,
     book: &mut Book<'_, K>,
     interval: u32,
 ) -> Result<Claimed, ClaimRefusal>
-    requires risen { HasRisen 0 book.old }
+    requires case { book.old.case ≡ rise_case }
     requires interval { interval < 2 }
+    ensures case { book.new.case ≡ rise_case }
 {
     book.claim(alloc, 0, interval)
 }
 
-// Whether a claim of the interval of the damaged row names it, as the first: the history stays empty.
-fn is_named_first(rt: &impl Abort, alloc: Global, case: &Case) -> bool
+// What comes of a claim of an interval over a keeper that shows this row, as the first or after one of the injector's
+// interval, and how many entries there are then.
+fn claimed_over(
+    rt: &impl Abort,
+    alloc: Global,
+    case: &Case,
+    row: KeptRow,
+    is_first: bool,
+    interval: u32,
+) -> (Result<Claimed, ClaimRefusal>, usize)
     requires case { case.now ≡ rise_case }
+    requires interval { interval < 2 }
 {
-    let mut book = started(rt, alloc, case, BlindKeeper::new(damaged(rt, alloc)), 8);
-    let why = refused(rt, claim_first(alloc, &mut book, 1));
-    let is_empty = book.history().is_empty();
-    drop(book);
-    is_damaged(why) && is_empty
-}
-
-// The same after one of the other interval, which the history has alone.
-fn is_named_second(rt: &impl Abort, alloc: Global, case: &Case) -> bool
-    requires case { case.now ≡ rise_case }
-{
-    let mut book = started(rt, alloc, case, BlindKeeper::new(damaged(rt, alloc)), 8);
-    drop(made(rt, claim(alloc, &mut book, 0)));
-    let why = refused(rt, claim(alloc, &mut book, 1));
+    let mut book = started(rt, alloc, case, BlindKeeper::new(row), 8);
+    if !is_first {
+        drop(made(rt, claim_one(alloc, &mut book, 0)));
+    }
+    let claimed = claim_one(alloc, &mut book, interval);
     let count = book.history().len();
     drop(book);
-    is_damaged(why) && count == 1
+    (claimed, count)
+}
+
+// Whether a claim of the interval of the damaged row names it, and the history has the claim before it alone.
+fn is_named(rt: &impl Abort, alloc: Global, case: &Case, is_first: bool) -> bool
+    requires case { case.now ≡ rise_case }
+{
+    let (claimed, count) = claimed_over(rt, alloc, case, damaged(rt, alloc), is_first, 1);
+    let before = if is_first { 0 } else { 1 };
+    is_damaged(claimed) && count == before
 }
 
 // The injector's row before its first line, as a keeper has it.
@@ -159,11 +175,8 @@ fn has_sound(claimed: Claimed) -> bool {
 fn is_sound(rt: &impl Abort, alloc: Global, case: &Case) -> bool
     requires case { case.now ≡ rise_case }
 {
-    let mut book = started(rt, alloc, case, BlindKeeper::new(sound(rt, alloc)), 8);
-    let claimed = made(rt, claim(alloc, &mut book, 0));
-    let count = book.history().len();
-    drop(book);
-    has_sound(claimed) && count == 1
+    let (claimed, count) = claimed_over(rt, alloc, case, sound(rt, alloc), true, 0);
+    has_sound(made(rt, claimed)) && count == 1
 }
 
 // A keeper in memory with the damaged row.
@@ -204,20 +217,14 @@ fn is_handed_back(rt: &impl Abort, alloc: Global, case: &Case) -> bool {
 
 // What is refused, or not.
 enum What {
-    Full,
-    NamedFirst,
-    NamedSecond,
+    Named(bool),
     Sound,
     NotEmpty,
 }
 
-static CASES: [(&str, What); 5] = [
-    ("history full", What::Full),
-    (
-        "a damaged row is named by the first claim",
-        What::NamedFirst,
-    ),
-    ("a damaged row is named by the second", What::NamedSecond),
+static CASES: [(&str, What); 4] = [
+    ("the first claim names a damaged row", What::Named(true)),
+    ("the second claim names it", What::Named(false)),
     ("a sound row is claimed", What::Sound),
     ("a keeper with a row is not empty", What::NotEmpty),
 ];
@@ -227,9 +234,7 @@ fn is_as_told(rt: &impl Abort, alloc: Global, case: &Case, what: &What) -> bool
     requires case { case.now ≡ rise_case }
 {
     match what {
-        What::Full => is_full(rt, alloc, case),
-        What::NamedFirst => is_named_first(rt, alloc, case),
-        What::NamedSecond => is_named_second(rt, alloc, case),
+        What::Named(is_first) => is_named(rt, alloc, case, *is_first),
         What::Sound => is_sound(rt, alloc, case),
         What::NotEmpty => is_handed_back(rt, alloc, case),
     }
@@ -245,6 +250,6 @@ fn are_as_told(rt: &impl Abort, alloc: Global) {
 }
 
 #[test]
-fn claims_writes_and_starts_are_refused(rt: HostRuntime) {
+fn rows_are_claimed_or_named(rt: HostRuntime) {
     are_as_told(&rt, rt.alloc());
 }

@@ -1,6 +1,7 @@
 //! The calls of the example over a keeper that may fail at one of its calls: there the book stays as it was, and the
 //! call is made again.
 ghost use Rattle.std.specs.Prelude.{◌≡◌, ◌≤◌, ◌<◌, ◌+◌};
+ghost use Rattle.worked_examples.specs.Rising.{row_injected};
 ghost use Rattle.book_tests.specs.TestBooks.{HasRisen, IsLeft, first_lease, row_before};
 
 use super::calls::{claim, next};
@@ -8,6 +9,7 @@ use super::example::hands;
 use super::hands::Hands;
 use super::{made, must, refused};
 use book::{Book, ClaimRefusal, Claimed, Lease, WriteRefusal, Written};
+use mw_types::State;
 use row_keeper::Keeper;
 use row_parts::Row;
 use std::alloc::Global;
@@ -21,19 +23,57 @@ pub(crate) struct Trial {
     pub(crate) failing: u64,
 }
 
-// No call of the keeper.
-pub(crate) const NONE: u64 = 100;
-
 // What is seen of a book: how many entries it has, its floor, how much work is left, and the marks.
-pub(crate) type Sight = (usize, u64, u64, u64, u64);
+pub(crate) type Sight = [u64; 5];
+
+// What is seen of a book after so many entries of the example, from 2 on.
+static SIGHTS: [Sight; 6] = [
+    [2, 2, 1, 0, 0],
+    [3, 2, 2, 0, 0],
+    [4, 2, 3, 10, 0],
+    [5, 5, 2, 10, 10],
+    [6, 6, 1, 60, 60],
+    [7, 7, 1, 60, 60],
+];
+
+// The mark of an interval, or 7 where there is none.
+fn mark_at(marks: &[u64], at: usize) -> u64 {
+    marks.get(at).copied().unwrap_or(7)
+}
 
 // What is seen of a book now.
 pub(crate) fn sight<K: Keeper>(book: &Book<'_, K>) -> Sight {
     let marks = book.marks();
-    let source = marks.get(0).copied().unwrap_or(7);
-    let count = marks.get(1).copied().unwrap_or(7);
-    let entries = book.history().len();
-    (entries, book.floor(), book.unfinished(), source, count)
+    let source = mark_at(marks, 0);
+    let count = mark_at(marks, 1);
+    let entries = book.history().len() as u64;
+    [entries, book.floor(), book.unfinished(), source, count]
+}
+
+// Whether a book looks as it did.
+pub(crate) fn is_as_before<K: Keeper>(book: &Book<'_, K>, before: &Sight) -> bool {
+    sight(book) == *before
+}
+
+// Whether a book looks as it has to after so many entries.
+fn looks_so<K: Keeper>(book: &Book<'_, K>, count: u64) -> bool {
+    let at = (count as usize).wrapping_sub(2);
+    match SIGHTS.get(at) {
+        Some(want) => is_as_before(book, want),
+        None => false,
+    }
+}
+
+// A write was refused for this cause, and changed nothing.
+pub(crate) fn stays<K: Keeper>(
+    rt: &impl Abort,
+    book: &Book<'_, K>,
+    before: &Sight,
+    why: WriteRefusal,
+    want: WriteRefusal,
+) {
+    must(rt, why == want, "why it is refused");
+    must(rt, is_as_before(book, before), "nothing changes");
 }
 
 // Whether a claim was refused since the keeper failed.
@@ -52,7 +92,8 @@ fn fail_claim<K: Keeper>(rt: &impl Abort, trial: Trial, book: &mut Book<'_, K>, 
     if trial.failing == u64::from(interval) + 1 {
         let before = sight(book);
         let why = refused(rt, claim(trial.alloc, book, interval));
-        must(rt, is_fault(why) && before == sight(book), "it failed");
+        must(rt, is_fault(why), "the keeper failed");
+        must(rt, is_as_before(book, &before), "nothing changes");
     }
 }
 
@@ -84,6 +125,7 @@ pub(crate) fn claim_both<K: Keeper>(rt: &impl Abort, trial: Trial, book: &mut Bo
 {
     let source = claimed(rt, trial, book, 0);
     let count = claimed(rt, trial, book, 1);
+    must(rt, looks_so(book, 2), "both intervals are claimed");
     hands(rt, trial.alloc, source, count)
 }
 
@@ -105,8 +147,7 @@ fn fail_next<K: Keeper>(
     if trial.failing == count + 1 {
         let before = sight(book);
         let why = refused(rt, next(trial.alloc, book, hands, row, count));
-        let is_fault = why == WriteRefusal::KeeperFault;
-        must(rt, is_fault && before == sight(book), count);
+        stays(rt, book, &before, why, WriteRefusal::KeeperFault);
     }
 }
 
@@ -119,7 +160,7 @@ fn row_of(rt: &impl Abort, written: Written, number: u64) -> Row
     row
 }
 
-// What comes next after so many of the entries is done, and the row that it leaves. This is seen of the book then.
+// What comes next after so many of the entries is done, and the row that it leaves.
 pub(crate) fn step<K: Keeper>(
     rt: &impl Abort,
     trial: Trial,
@@ -127,7 +168,6 @@ pub(crate) fn step<K: Keeper>(
     hands: &Hands,
     row: &Row,
     count: u64,
-    want: Sight,
 ) -> Row
     requires risen { HasRisen count book.old }
     requires claimed { 2 ≤ count }
@@ -138,6 +178,23 @@ pub(crate) fn step<K: Keeper>(
 {
     fail_next(rt, trial, book, hands, row, count);
     let written = made(rt, next(trial.alloc, book, hands, row, count));
-    must(rt, sight(book) == want, count);
+    must(rt, looks_so(book, count + 1), count);
     row_of(rt, written, count)
+}
+
+// The first line is injected, and the injector's row that it leaves.
+pub(crate) fn injected<K: Keeper>(
+    rt: &impl Abort,
+    trial: Trial,
+    book: &mut Book<'_, K>,
+    hands: &Hands,
+) -> Row
+    requires risen { HasRisen 2 book.old }
+    ensures risen { HasRisen 3 book.new }
+    ensures left { result ≡ row_injected }
+{
+    let fresh = Row::new(trial.alloc, State::Injector { cursor: 0 });
+    let row = step(rt, trial, book, hands, &fresh, 2);
+    drop(fresh);
+    row
 }

@@ -6,6 +6,6 @@ use Rattle.book_tests.proofs.tests.example.one_open.Goals as goal
 
 -- one window is open
 pub returns-clause-within : goal.returns-clause-within
-returns-clause-within c =
-    let pushed = c.in_ok-push.ensures.appended ∙ ap (λ l. l ++ window 60 1 ∷ []) c.new-windows.ensures.empty in
+returns-clause-within g c =
+    let pushed = c.push.ensures.appended ∙ ap (λ l. l ++ window 60 1 ∷ []) c.new-windows.ensures.empty in
     (omega arith, subst AreWindows (sym pushed) (AreWindows-one (window 60 1) (omega arith) (omega arith)))
