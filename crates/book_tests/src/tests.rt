@@ -13,6 +13,7 @@ mod hands;
 mod histories;
 mod many_seats;
 mod overtaken;
+mod pairs;
 mod plays;
 mod raising;
 mod refusals;

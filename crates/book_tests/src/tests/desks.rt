@@ -5,15 +5,21 @@ ghost use Rattle.run_history.specs.Legal.{MayClaim};
 ghost use Rattle.worked_examples.specs.Rising.{rise_case};
 ghost use Rattle.book_tests.specs.TestSeats.{IsAtRest};
 
-use super::example::two_line_case;
 use super::must;
-use super::seats::Tried;
-use super::starts::{entries_in, in_memory, shared_among, started};
+use super::pairs::{Pair, over_two_seats};
+use super::seats::{Tried, are_tried};
 use book::{Claimed, Desk, DeskRefusal};
 use row_keeper::Keeper;
 use shared_book::{Seat, Shared, SharedDesk};
 use std::alloc::Global;
 use std::process::Abort;
+
+// What comes of the claims.
+const WANT: &[Tried] = &[
+    Tried::Busy { found: 1 },
+    Tried::Claimed { seq: 0 },
+    Tried::Claimed { seq: 1 },
+];
 
 // What came of a claim through a desk.
 fn of_claim(claimed: Result<Claimed, DeskRefusal>) -> Tried {
@@ -65,8 +71,8 @@ fn desk_claim<K: Keeper>(
     let before = desk.floor();
     let tried = claim_through(&mut desk, alloc, 0, interval);
     let after = desk.floor();
-    must(rt, before == u64::from(interval), "the floor before");
-    must(rt, after == floor_behind(tried), "the floor after");
+    let is_floor = before == u64::from(interval) && after == floor_behind(tried);
+    must(rt, is_floor, "the floor before and after");
     tried
 }
 
@@ -107,7 +113,7 @@ fn tried_beside<K: Keeper>(
     shared: &Shared<'_, K>,
     one: &mut Seat<K>,
     other: &mut Seat<K>,
-) -> Option<Tried>
+) -> Tried
     requires case { shared.now.case.now ≡ rise_case }
     requires one { let table = shared.now.table.shared in
         IsAtRest table.table_id shared.now.case.now 2 (0 ∷ []) one.old.place }
@@ -122,15 +128,15 @@ fn tried_beside<K: Keeper>(
         Ok(turn) => {
             let tried = desk_claim(rt, alloc, shared, other, 0);
             turn.release();
-            Some(tried)
+            tried
         }
-        Err(_) => None,
+        Err(_) => Tried::Refused,
     }
 }
 
 // While one seat has the turn, the desk of the other is told so: the word is 1 more than the number
 // of the seat. Then each claims through its desk, and one meets a note of the other.
-fn take_turns<K: Keeper>(
+pub(crate) fn claim_at_desks<K: Keeper>(
     rt: &impl Abort,
     alloc: Global,
     shared: &Shared<'_, K>,
@@ -148,29 +154,14 @@ fn take_turns<K: Keeper>(
         IsAtRest table.table_id shared.now.case.now 2 (1 ∷ []) other.new.place }
 {
     let beside = tried_beside(rt, alloc, shared, one, other);
-    must(rt, beside == Some(Tried::Busy { found: 1 }), "one is busy");
     let first = desk_claim(rt, alloc, shared, other, 0);
     notes(shared, one, other);
     let second = desk_claim(rt, alloc, shared, one, 1);
-    must(rt, first == Tried::Claimed { seq: 0 }, "the first claim");
-    must(rt, second == Tried::Claimed { seq: 1 }, "the second");
-}
-
-// Two seats of a book, which comes back with what both appended.
-fn two_desks(rt: &impl Abort, alloc: Global) {
-    let case = two_line_case(rt, alloc);
-    let book = started(rt, alloc, &case, in_memory(rt, alloc, &[]), 8);
-    let (shared, seat) = shared_among(rt, alloc, book, 2);
-    let mut other = seat;
-    let mut one = shared.deal(&mut other);
-    take_turns(rt, alloc, &shared, &mut one, &mut other);
-    shared.join(&mut other, one);
-    let book = shared.close(other);
-    must(rt, entries_in(book) == 2, "both claims");
-    drop(case);
+    let tried = [beside, first, second];
+    must(rt, are_tried(&tried, WANT), "what comes of each claim");
 }
 
 #[test]
 fn desk_answers_busy(rt: HostRuntime) {
-    two_desks(&rt, rt.alloc());
+    over_two_seats(&rt, rt.alloc(), Pair::Desks, 2);
 }

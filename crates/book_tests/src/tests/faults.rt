@@ -6,8 +6,8 @@ ghost use Rattle.book_tests.specs.TestSeats.{IsAtRest};
 
 use super::example::two_line_case;
 use super::must;
-use super::seats::{Tried, claim_with};
-use super::starts::{in_memory, shared_among, started};
+use super::seats::{Tried, are_tried, claim_with};
+use super::starts::{in_memory, shared_among};
 use book::Book;
 use mw_types::Entry;
 use row_keeper::Keeper;
@@ -21,8 +21,8 @@ use std::process::Abort;
 #[derive(Clone, Copy)]
 struct Fault {
     failing: u64,
-    tried: [Tried; 4],
-    left: [u32; 3],
+    tried: &'static [Tried],
+    left: &'static [u32],
 }
 
 const FAILED: Tried = Tried::KeeperFault;
@@ -37,23 +37,23 @@ const THIRD: Tried = Tried::Claimed { seq: 2 };
 static FAULTS: [Fault; 4] = [
     Fault {
         failing: 1,
-        tried: [FAILED, FIRST, SECOND, THIRD],
-        left: [1, 2, 3],
+        tried: &[FAILED, FIRST, SECOND, THIRD],
+        left: &[1, 2, 3],
     },
     Fault {
         failing: 2,
-        tried: [FIRST, FAILED, SECOND, THIRD],
-        left: [0, 2, 3],
+        tried: &[FIRST, FAILED, SECOND, THIRD],
+        left: &[0, 2, 3],
     },
     Fault {
         failing: 3,
-        tried: [FIRST, SECOND, FAILED, THIRD],
-        left: [0, 1, 3],
+        tried: &[FIRST, SECOND, FAILED, THIRD],
+        left: &[0, 1, 3],
     },
     Fault {
         failing: 4,
-        tried: [FIRST, SECOND, THIRD, FAILED],
-        left: [0, 1, 2],
+        tried: &[FIRST, SECOND, THIRD, FAILED],
+        left: &[0, 1, 2],
     },
 ];
 
@@ -95,8 +95,8 @@ fn is_claim_of(entry: Option<&Entry>, of: u32) -> bool {
 }
 
 // Whether the entries are claims of these workers.
-fn are_left(entries: &[Entry], left: &[u32; 3]) -> bool {
-    let mut are = entries.len() == 3;
+fn are_left(entries: &[Entry], left: &[u32]) -> bool {
+    let mut are = entries.len() == left.len();
     for (number, worker) in left.iter().enumerate() {
         are = are && is_claim_of(entries.get(number), *worker);
     }
@@ -104,7 +104,7 @@ fn are_left(entries: &[Entry], left: &[u32; 3]) -> bool {
 }
 
 // Whether the history of a book has the claims of these workers, which is let go here.
-fn has_left<K: Keeper>(book: Book<'_, K>, left: &[u32; 3]) -> bool {
+fn has_left<K: Keeper>(book: Book<'_, K>, left: &[u32]) -> bool {
     let has = are_left(book.history().entries(), left);
     drop(book);
     has
@@ -115,13 +115,13 @@ fn two_turns(rt: &impl Abort, alloc: Global, case: &Case, fault: &Fault)
     requires case { case.now ≡ rise_case }
 {
     let keeper = in_memory(rt, alloc, &[fault.failing]);
-    let (shared, seat) = shared_among(rt, alloc, started(rt, alloc, case, keeper, 8), 1);
+    let (shared, seat) = shared_among(rt, alloc, case, keeper, 8, 1);
     let mut seat = seat;
     let (a, b) = claim_twice(alloc, &shared, &mut seat, 0);
     let (c, d) = claim_twice(alloc, &shared, &mut seat, 2);
-    must(rt, [a, b, c, d] == fault.tried, "what came of each");
     let book = shared.close(seat);
-    must(rt, has_left(book, &fault.left), "what is left");
+    let is_so = has_left(book, fault.left) && are_tried(&[a, b, c, d], fault.tried);
+    must(rt, is_so, fault.failing);
 }
 
 // Each fault is as told.

@@ -7,7 +7,7 @@ ghost use Rattle.book_tests.specs.TestSeats.{IsAtRest};
 use super::example::two_line_case;
 use super::must;
 use super::seats::{Tried, claim_once};
-use super::starts::{entries_in, in_memory, shared_among, started};
+use super::starts::{entries_in, in_memory, shared_among};
 use row_keeper::Keeper;
 use shared_book::{Seat, Shared};
 use std::alloc::Global;
@@ -41,8 +41,7 @@ fn dealt<K: Keeper>(
 // Seventeen seats of a book, which comes back with a claim of each.
 fn all_seats(rt: &impl Abort, alloc: Global) {
     let case = two_line_case(rt, alloc);
-    let book = started(rt, alloc, &case, in_memory(rt, alloc, &[]), 17);
-    let (shared, seat) = shared_among(rt, alloc, book, 17);
+    let (shared, seat) = shared_among(rt, alloc, &case, in_memory(rt, alloc, &[]), 17, 17);
     let mut seat = seat;
     dealt(rt, alloc, &shared, &mut seat, 16);
     let book = shared.close(seat);

@@ -86,8 +86,8 @@ fn report_is_stale<K: Keeper>(rt: &impl Abort, book: &mut Book<'_, K>, hands: &H
 {
     let before = sight(book);
     let why = refused(rt, report_stale(book, hands));
-    must(rt, why.newer == 3, "the report is stale");
-    must(rt, is_as_before(book, &before), "it changes nothing");
+    let is_so = why.newer == 3 && is_as_before(book, &before);
+    must(rt, is_so, "the report is stale, and nothing changes");
 }
 
 // The commit number of what was written.

@@ -1,5 +1,5 @@
 //! Threads that raise marks: each has a seat and a lease of its own, and none waits for another's turn.
-ghost use Rattle.std.specs.Prelude.{◌≡◌, ◌<◌, ◌∷◌, [], IfOk, None, true};
+ghost use Rattle.std.specs.Prelude.{◌≡◌, ◌<◌, ◌∷◌, [], IfSome, None, true};
 ghost use Rattle.run_history.specs.Legal.{MayClaim};
 ghost use Rattle.worked_examples.specs.Rising.{rise_case};
 ghost use Rattle.shared_book.specs.SharedDesks.{shared_home, shared_view};
@@ -7,8 +7,7 @@ ghost use Rattle.book_tests.specs.TestSeats.{GoesOn, IsAtRest};
 
 use super::example::two_line_case;
 use super::must;
-use super::seats::Tried;
-use super::starts::{blind, shared_among, started};
+use super::starts::{blind, shared_among};
 use book::{Book, Claimed, Desk, DeskRefusal, Lease};
 use row_keeper::Keeper;
 use run_history::Case;
@@ -80,25 +79,23 @@ fn lease_in(claimed: Claimed) -> Lease
     lease
 }
 
-// Why there is no lease.
-fn of_refusal(why: DeskRefusal) -> Tried {
-    let tried = match &why {
-        DeskRefusal::Busy { found } => Tried::Busy { found: *found },
-        _ => Tried::Refused,
-    };
+// Whether a claim was refused since another had the turn.
+fn is_busy(why: DeskRefusal) -> bool {
+    let is = matches!(&why, DeskRefusal::Busy { .. });
     drop(why);
-    tried
+    is
 }
 
-// One try to claim the interval, and what came of it where there is no lease.
+// One try to claim the interval, and no lease where another had the turn. The test ends where it is refused.
 fn lease_once<K: Keeper>(
+    rt: &impl Abort,
     alloc: Global,
     desk: &mut SharedDesk<'_, '_, K>,
     worker: u32,
     interval: u32,
-) -> Result<Lease, Tried>
+) -> Option<Lease>
     requires may { MayClaim (shared_view desk.old.seat.now.place.me.0).case worker interval }
-    ensures held { IfOk result (λ lease.
+    ensures held { IfSome result (λ lease.
         (shared_view desk.new.seat.now.place.me.0).leases lease ≡ true) }
     ensures goes_on { GoesOn (shared_view desk.old.seat.now.place.me.0)
         (shared_view desk.new.seat.now.place.me.0) }
@@ -106,12 +103,15 @@ fn lease_once<K: Keeper>(
     ensures home { shared_home desk.new.seat.now.place ≡ shared_home desk.old.seat.now.place }
 {
     match desk.claim(alloc, worker, interval) {
-        Ok(claimed) => Ok(lease_in(claimed)),
-        Err(why) => Err(of_refusal(why)),
+        Ok(claimed) => Some(lease_in(claimed)),
+        Err(why) => {
+            must(rt, is_busy(why), "a claim waits for the turn alone");
+            None
+        }
     }
 }
 
-// A claim of the interval, once nobody else has the turn. The test ends where it is refused.
+// A claim of the interval, once nobody else has the turn.
 fn lease_at_last<K: Keeper, R: Wait + Abort>(
     rt: &R,
     alloc: Global,
@@ -127,11 +127,10 @@ fn lease_at_last<K: Keeper, R: Wait + Abort>(
     ensures home { shared_home desk.new.seat.now.place ≡ shared_home desk.old.seat.now.place }
 {
     for _ in rt.forever() {
-        match lease_once(alloc, desk, worker, interval) {
-            Ok(lease) => return lease,
-            Err(Tried::Busy { .. }) => yield_now(),
-            Err(_) => rt.panic("a claim is refused"),
+        if let Some(lease) = lease_once(rt, alloc, desk, worker, interval) {
+            return lease;
         }
+        yield_now();
     }
     unreachable!()
 }
@@ -351,21 +350,19 @@ fn in_threads<K: Keeper + Send, R: Threads + Wait + Abort + Sync>(
     both
 }
 
-// Whether all that two threads loaded is as it has to be, and the book has two claims and these marks: the
-// injector's, and of the count's interval the greatest to which it was raised. The book is let go here.
-fn are_raised<K: Keeper>(book: Book<'_, K>, source: u64, first: Loads, second: Loads) -> bool {
-    let marks = [source, first.count.max(second.count)];
-    let are = book.history().len() == 2 && book.marks() == marks.as_slice();
+// Whether a book has two claims and these marks. It is let go here.
+fn has_marks<K: Keeper>(book: Book<'_, K>, marks: &[u64]) -> bool {
+    let has = book.history().len() == 2 && book.marks() == marks;
     drop(book);
-    are && first.is_sound && second.is_sound
+    has
 }
 
-// Two threads over the seats of a book, which comes back with the marks to which they raised them.
+// Two threads over the seats of a book: all that they loaded is as it has to be, and the book comes back with the
+// marks to which they raised them, the injector's, and of the count's interval the greatest.
 fn two_threads<R: Threads + Wait + Abort + Sync>(rt: &R, alloc: Global, case: &Case, row: Row)
     requires case { case.now ≡ rise_case }
 {
-    let book = started(rt, alloc, case, blind(alloc), 8);
-    let (shared, seat) = shared_among(rt, alloc, book, 2);
+    let (shared, seat) = shared_among(rt, alloc, case, blind(alloc), 8, 2);
     let mut other = seat;
     let one = shared.deal(&mut other);
     let Joined {
@@ -374,7 +371,9 @@ fn two_threads<R: Threads + Wait + Abort + Sync>(rt: &R, alloc: Global, case: &C
         second,
     } = in_threads(rt, alloc, &shared, one, other, row.one, row.other);
     let book = shared.close(seat);
-    must(rt, are_raised(book, row.source, first, second), row.source);
+    let marks = [row.source, first.count.max(second.count)];
+    let is_so = has_marks(book, &marks) && first.is_sound && second.is_sound;
+    must(rt, is_so, row.source);
 }
 
 // Each raises the mark of its own interval; both raise the injector's, where the lease that was claimed first is

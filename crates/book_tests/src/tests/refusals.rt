@@ -54,14 +54,10 @@ fn is_inject_full<K: Keeper>(alloc: Global, book: &mut Book<'_, K>, hands: &Hand
 pub(crate) fn fill<K: Keeper>(rt: &impl Abort, alloc: Global, book: &mut Book<'_, K>, hands: &Hands)
     requires risen { HasRisen 2 book.old }
 {
-    let why = refused(rt, claim_again(alloc, book));
-    must(rt, is_claim_full(why), "no interval is claimed");
-    must(
-        rt,
-        is_inject_full(alloc, book, hands),
-        "no line is injected",
-    );
-    must(rt, book.history().len() == 2, "the history stays");
+    let is_claim_full = is_claim_full(refused(rt, claim_again(alloc, book)));
+    let is_inject_full = is_inject_full(alloc, book, hands);
+    let is_so = is_claim_full && is_inject_full && book.history().len() == 2;
+    must(rt, is_so, "no interval is claimed, and no line is injected");
 }
 
 static SETTINGS: [Setting; 1] = [(Kept::Sound, 2, Play::Fill)];

@@ -11,16 +11,21 @@ use super::must;
 use super::plays::{Kept, Play, Setting, play_all};
 use super::trials::{Trial, injected, step};
 use book::{Book, Stale};
+use mw_types::RecordId;
 use row_keeper::Keeper;
 use row_parts::Row;
 use std::process::Abort;
 
-// Whether the record 0 of entry 2 is to be sent first, by the injector's row.
-fn sends_record<K: Keeper>(book: &Book<'_, K>) -> bool {
+// The record 0 of entry 2.
+const RECORD: RecordId = RecordId {
+    commit: 2,
+    index: 0,
+};
+
+// Whether that is to be sent first, by the injector's row.
+fn sends_record<K: Keeper>(book: &Book<'_, K>, hands: &Hands) -> bool {
     match book.least_sent() {
-        Some((id, name)) => {
-            id.commit == 2 && id.index == 0 && name.part == 0 && name.key.text().is_empty()
-        }
+        Some((id, name)) => id == RECORD && *name == hands.injector,
         None => false,
     }
 }
@@ -71,10 +76,9 @@ fn settled<K: Keeper>(
     ensures risen { HasRisen 5 book.new }
 {
     let mark = report(book, &hands.count, 1, 4, 60);
-    must(rt, is_mark(mark, 10), "the count's mark rises to 10");
     let row = step(rt, trial, book, hands, injected, 4);
-    must(rt, is_settled(row), "nothing is pending");
-    must(rt, book.least_sent().is_none(), "nothing is to be sent");
+    let is_so = is_settled(row) && is_mark(mark, 10) && book.least_sent().is_none();
+    must(rt, is_so, "a mark of 10, and nothing to be sent");
 }
 
 // Both intervals report, and the timer of the window fires.
@@ -91,10 +95,10 @@ fn fired<K: Keeper>(
     ensures left { result ≡ row_closed }
 {
     let source = report(book, &hands.source, 0, 5, 60);
-    must(rt, is_mark(source, 60), "the injector's mark rises to 60");
-    must(rt, source_mark(book) == 60, "it is 60");
+    let raised = source_mark(book);
     let count = report(book, &hands.count, 1, 5, 60);
-    must(rt, is_mark(count, 60), "the count's mark rises to 60");
+    let is_so = is_mark(source, 60) && raised == 60 && is_mark(count, 60);
+    must(rt, is_so, "both marks rise to 60");
     step(rt, trial, book, hands, counted, 5)
 }
 
@@ -125,7 +129,7 @@ pub(crate) fn rise<K: Keeper>(rt: &impl Abort, trial: Trial, book: &mut Book<'_,
     requires risen { HasRisen 2 book.old }
 {
     let injected = injected(rt, trial, book, hands);
-    must(rt, sends_record(book), "its record is to be sent");
+    must(rt, sends_record(book, hands), "its record is to be sent");
     let counted = handled(rt, trial, book, hands);
     settled(rt, trial, book, hands, &injected);
     let closed = fired(rt, trial, book, hands, &counted);

@@ -44,21 +44,25 @@ pub(crate) fn started<'a, K: Keeper>(
     made(rt, Book::start(alloc, case, keeper, limit))
 }
 
-// A book is shared among so many seats, and the first seat has the numbers of all.
+// A new book is shared among so many seats, and the first seat has the numbers of all.
 pub(crate) fn shared_among<'a, K: Keeper>(
     rt: &impl Abort,
     alloc: Global,
-    book: Book<'a, K>,
+    case: &'a Case,
+    keeper: K,
+    limit: u64,
     seats: u32,
 ) -> (Shared<'a, K>, Seat<K>)
+    requires limit { limit ≤ 2 ^ 32 }
     requires some { 0 < seats }
     requires few { seats ≤ 17 }
-    ensures case { result.0.case.now ≡ book.entry.case }
+    ensures case { result.0.case.now ≡ case.now }
     ensures rest { let table = result.0.table.shared in
         IsAtRest table.table_id result.0.case.now seats (span 0 seats) result.1.place }
     ensures first { result.1.number ≡ 0 }
-    ensures untold { book.entry.rows ≡ None → result.1.place.me.0.basis.told ≡ None }
+    ensures untold { K.rows keeper ≡ None → result.1.place.me.0.basis.told ≡ None }
 {
+    let book = started(rt, alloc, case, keeper, limit);
     made(rt, Shared::start(alloc, book, seats))
 }
 

@@ -11,7 +11,7 @@ use super::example::two_line_case;
 use super::histories::expect_shares;
 use super::made;
 use super::seats::{Tried, claim_once};
-use super::starts::{in_memory, shared_among, started};
+use super::starts::{in_memory, shared_among};
 use book::Book;
 use row_keeper::Keeper;
 use run_history::Case;
@@ -31,7 +31,16 @@ struct Ended<K: Keeper> {
     numbers: Vec<Vec<u64>>,
 }
 
-// Tries for the turn until the interval is claimed: the number of the claim. The test ends where the book refuses.
+// The number of a claim, or none where another had the turn. The test ends where the book refused.
+fn number_of(rt: &impl Abort, tried: Tried) -> Option<u64> {
+    match tried {
+        Tried::Claimed { seq } => Some(seq),
+        Tried::Busy { .. } => None,
+        _ => rt.panic("a claim is refused"),
+    }
+}
+
+// Tries for the turn until the interval is claimed: the number of the claim.
 fn claim_at_last<K: Keeper, R: Wait + Abort>(
     rt: &R,
     alloc: Global,
@@ -47,11 +56,11 @@ fn claim_at_last<K: Keeper, R: Wait + Abort>(
         IsAtRest table.table_id shared.now.case.now v.basis.seats v.numbers seat.new.place }
 {
     for _ in rt.forever() {
-        match claim_once(alloc, shared, seat, worker, interval) {
-            Tried::Busy { found: _ } => yield_now(),
-            Tried::Claimed { seq } => return seq,
-            Tried::KeeperFault | Tried::Refused => rt.panic("a claim is refused"),
+        let tried = claim_once(alloc, shared, seat, worker, interval);
+        if let Some(number) = number_of(rt, tried) {
+            return number;
         }
+        yield_now();
     }
     unreachable!()
 }
@@ -192,8 +201,8 @@ fn all_threads<R: Threads + Wait + Abort + Sync>(
     requires some { 0 < seats }
     requires few { seats ≤ 4 }
 {
-    let book = started(rt, alloc, case, in_memory(rt, alloc, &[]), 10_000);
-    let (shared, seat) = shared_among(rt, alloc, book, seats);
+    let keeper = in_memory(rt, alloc, &[]);
+    let (shared, seat) = shared_among(rt, alloc, case, keeper, 10_000, seats);
     let Ended { seat, numbers } = in_threads(rt, alloc, &shared, seat, shares, seats - 1);
     let book = shared.close(seat);
     has_shares(rt, book, numbers, &shares);

@@ -72,8 +72,8 @@ pub(crate) fn stays<K: Keeper>(
     why: WriteRefusal,
     want: WriteRefusal,
 ) {
-    must(rt, why == want, "why it is refused");
-    must(rt, is_as_before(book, before), "nothing changes");
+    let is_so = why == want && is_as_before(book, before);
+    must(rt, is_so, "it is refused, and nothing changes");
 }
 
 // Whether a claim was refused since the keeper failed.
@@ -92,8 +92,8 @@ fn fail_claim<K: Keeper>(rt: &impl Abort, trial: Trial, book: &mut Book<'_, K>, 
     if trial.failing == u64::from(interval) + 1 {
         let before = sight(book);
         let why = refused(rt, claim(trial.alloc, book, interval));
-        must(rt, is_fault(why), "the keeper failed");
-        must(rt, is_as_before(book, &before), "nothing changes");
+        let is_so = is_fault(why) && is_as_before(book, &before);
+        must(rt, is_so, "the keeper failed, and nothing changes");
     }
 }
 

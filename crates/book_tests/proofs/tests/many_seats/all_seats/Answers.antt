@@ -1,7 +1,14 @@
-use Rattle.std.proofs.Common.{ap, ◌∙◌}
+use Rattle.std.proofs.Common.{ap, subst, sym, ◌∙◌}
 use Rattle.shared_book.specs.Opening.{span}
+use Rattle.book_tests.specs.TestSeats.{IsAtRest}
 use Rattle.book_tests.proofs.TestSeatLaws.{all_seats}
 use Rattle.book_tests.proofs.tests.many_seats.all_seats.Goals as goal
+
+-- the first seat is the seat 0, and has the numbers of all
+pub dealt-requires-clause-rest : goal.dealt-requires-clause-rest
+dealt-requires-clause-rest g c =
+    let shared = c.shared_among-shared.ensures in
+    subst (λ n. IsAtRest _ _ 17 (span n 17) _) (sym shared.first) shared.rest
 
 -- the seat has all numbers again
 pub close-book-requires-clause-all : goal.close-book-requires-clause-all
