@@ -1,9 +1,7 @@
 //! The calls of the example, one each, and what each needs and leaves.
-ghost use Rattle.std.specs.Prelude.{◌≡◌, ◌≤◌, ◌<◌, ◌+◌, ◌∷◌, [], IfOk, OnErr, OnOk, Some, slice_get, take};
+ghost use Rattle.std.specs.Prelude.{◌≡◌, ◌≤◌, ◌<◌, ◌+◌, IfOk, OnErr, OnOk, Some, slice_get, take};
 ghost use Rattle.mw_types.specs.declared.entry.Entry.TheVariants.{Claim};
-ghost use Rattle.mw_types.specs.declared.state.State.TheVariants.{Count, Injector};
-ghost use Rattle.row_parts.specs.Contents.{fresh};
-ghost use Rattle.worked_examples.specs.Rising.{own_after, rise_history, row_closed, row_counted, row_injected};
+ghost use Rattle.worked_examples.specs.Rising.{own_after, rise_history};
 ghost use Rattle.book_tests.specs.TestBooks.{HasRisen, IsLeft, first_lease, row_before};
 
 use super::hands::Hands;
@@ -28,96 +26,14 @@ pub(crate) fn claim<K: Keeper>(
     book.claim(alloc, 0, interval)
 }
 
-// The first line is injected.
-pub(crate) fn inject<K: Keeper>(
-    alloc: Global,
-    book: &mut Book<'_, K>,
-    hands: &Hands,
-    row: &Row,
-) -> Result<Written, WriteRefusal>
-    requires risen { HasRisen 2 book.old }
-    requires row { row.now ≡ fresh (Injector 0) }
-    ensures written { OnOk result (HasRisen 3 book.new) }
-    ensures stayed { OnErr result (HasRisen 2 book.new) }
-    ensures left { IfOk result (λ written. written.row ≡ row_injected) }
-{
-    book.write(
-        alloc,
-        &hands.source,
-        2,
-        &hands.injector,
-        row,
-        &hands.injecting,
-    )
-}
+// The first record of entry 2.
+pub(crate) const RECORD: RecordId = RecordId {
+    commit: 2,
+    index: 0,
+};
 
-// Its record is handled.
-fn handle<K: Keeper>(
-    alloc: Global,
-    book: &mut Book<'_, K>,
-    hands: &Hands,
-    row: &Row,
-) -> Result<Written, WriteRefusal>
-    requires risen { HasRisen 3 book.old }
-    requires row { row.now ≡ fresh (Count 0 []) }
-    ensures written { OnOk result (HasRisen 4 book.new) }
-    ensures stayed { OnErr result (HasRisen 3 book.new) }
-    ensures left { IfOk result (λ written. written.row ≡ row_counted) }
-{
-    book.write(alloc, &hands.count, 3, &hands.a, row, &hands.handling)
-}
-
-// Its sender settles it.
-fn settle<K: Keeper>(
-    alloc: Global,
-    book: &mut Book<'_, K>,
-    hands: &Hands,
-    row: &Row,
-) -> Result<Written, WriteRefusal>
-    requires risen { HasRisen 4 book.old }
-    requires row { row.now ≡ row_injected }
-    ensures written { OnOk result (HasRisen 5 book.new) }
-    ensures stayed { OnErr result (HasRisen 4 book.new) }
-{
-    let id = RecordId {
-        commit: 2,
-        index: 0,
-    };
-    book.settle(alloc, &hands.source, 4, &hands.injector, row, id)
-}
-
-// The timer of its window fires.
-fn fire<K: Keeper>(
-    alloc: Global,
-    book: &mut Book<'_, K>,
-    hands: &Hands,
-    row: &Row,
-) -> Result<Written, WriteRefusal>
-    requires risen { HasRisen 5 book.old }
-    requires row { row.now ≡ row_counted }
-    ensures written { OnOk result (HasRisen 6 book.new) }
-    ensures stayed { OnErr result (HasRisen 5 book.new) }
-    ensures left { IfOk result (λ written. written.row ≡ row_closed) }
-{
-    book.write(alloc, &hands.count, 5, &hands.a, row, &hands.firing)
-}
-
-// Its row is purged.
-fn purge<K: Keeper>(
-    alloc: Global,
-    book: &mut Book<'_, K>,
-    hands: &Hands,
-    row: &Row,
-) -> Result<Written, WriteRefusal>
-    requires risen { HasRisen 6 book.old }
-    requires row { row.now ≡ row_closed }
-    ensures written { OnOk result (HasRisen 7 book.new) }
-    ensures stayed { OnErr result (HasRisen 6 book.new) }
-{
-    book.purge(alloc, &hands.count, 6, &hands.a, row, 6)
-}
-
-// What comes next after so many of the entries.
+// What comes next after so many of the entries: the first line is injected, its record is handled, its sender settles
+// it, the timer of its window fires, and its row is purged.
 pub(crate) fn next<K: Keeper>(
     alloc: Global,
     book: &mut Book<'_, K>,
@@ -133,12 +49,14 @@ pub(crate) fn next<K: Keeper>(
     ensures stayed { OnErr result (HasRisen count book.new) }
     ensures left { IfOk result (λ written. IsLeft count written.row) }
 {
+    let source = &hands.source;
+    let lease = &hands.count;
     match count {
-        2 => inject(alloc, book, hands, row),
-        3 => handle(alloc, book, hands, row),
-        4 => settle(alloc, book, hands, row),
-        5 => fire(alloc, book, hands, row),
-        _ => purge(alloc, book, hands, row),
+        2 => book.write(alloc, source, 2, &hands.injector, row, &hands.injecting),
+        3 => book.write(alloc, lease, 3, &hands.a, row, &hands.handling),
+        4 => book.settle(alloc, source, 4, &hands.injector, row, RECORD),
+        5 => book.write(alloc, lease, 5, &hands.a, row, &hands.firing),
+        _ => book.purge(alloc, lease, 6, &hands.a, row, 6),
     }
 }
 

@@ -1,5 +1,5 @@
 //! A worker whose interval another has claimed since: what it writes or reports is refused as stale.
-ghost use Rattle.std.specs.Prelude.{◌≡◌, ◌∷◌, [], IfOk, OnErr, OnOk};
+ghost use Rattle.std.specs.Prelude.{◌≡◌, ◌∷◌, []};
 ghost use Rattle.mw_types.specs.declared.state.State.TheVariants.{Count};
 ghost use Rattle.row_parts.specs.Contents.{fresh};
 ghost use Rattle.book_tests.specs.TestBooks.{HasRisen, IsOvertaken, later_lease};
@@ -9,60 +9,14 @@ use super::hands::Hands;
 use super::plays::{Kept, Play, Setting, play_all};
 use super::trials::{Trial, injected, is_as_before, lease_of, sight, stays};
 use super::{made, must, refused};
-use book::{Book, ClaimRefusal, Claimed, Lease, Stale, WriteRefusal, Written};
+use book::{Book, Lease, WriteRefusal, Written};
 use mw_types::END;
 use row_keeper::Keeper;
 use row_parts::Row;
 use std::alloc::Global;
 use std::process::Abort;
 
-// Worker 1 claims the interval of the count, after the first line was injected.
-fn claim_later<K: Keeper>(alloc: Global, book: &mut Book<'_, K>) -> Result<Claimed, ClaimRefusal>
-    requires risen { HasRisen 3 book.old }
-    ensures overtaken { OnOk result (IsOvertaken book.new) }
-    ensures lease { IfOk result (λ claimed. claimed.lease ≡ later_lease) }
-{
-    book.claim(alloc, 1, 1)
-}
-
-// Worker 0 handles the record, and has not seen the last claim.
-fn handle_stale<K: Keeper>(
-    alloc: Global,
-    book: &mut Book<'_, K>,
-    hands: &Hands,
-    row: &Row,
-) -> Result<Written, WriteRefusal>
-    requires overtaken { IsOvertaken book.old }
-    requires row { row.now ≡ fresh (Count 0 []) }
-    ensures stayed { OnErr result (IsOvertaken book.new) }
-{
-    book.write(alloc, &hands.count, 3, &hands.a, row, &hands.handling)
-}
-
-// Worker 1 handles it.
-fn handle_later<K: Keeper>(
-    alloc: Global,
-    book: &mut Book<'_, K>,
-    lease: &Lease,
-    hands: &Hands,
-    row: &Row,
-) -> Result<Written, WriteRefusal>
-    requires overtaken { IsOvertaken book.old }
-    requires lease { lease.now ≡ later_lease }
-    requires row { row.now ≡ fresh (Count 0 []) }
-{
-    book.write(alloc, lease, 4, &hands.a, row, &hands.handling)
-}
-
-// Worker 0 reports that the interval has no work.
-fn report_stale<K: Keeper>(book: &mut Book<'_, K>, hands: &Hands) -> Result<u64, Stale>
-    requires overtaken { IsOvertaken book.old }
-    ensures stayed { OnErr result (IsOvertaken book.new) }
-{
-    book.report(&hands.count, 3, END)
-}
-
-// A write of the first worker is stale.
+// A write of the first worker is stale, who has not seen the last claim.
 fn write_is_stale<K: Keeper>(
     rt: &impl Abort,
     alloc: Global,
@@ -75,17 +29,18 @@ fn write_is_stale<K: Keeper>(
     ensures overtaken { IsOvertaken book.new }
 {
     let before = sight(book);
-    let why = refused(rt, handle_stale(alloc, book, hands, row));
+    let written = book.write(alloc, &hands.count, 3, &hands.a, row, &hands.handling);
+    let why = refused(rt, written);
     stays(rt, book, &before, why, WriteRefusal::Stale { newer: 3 });
 }
 
-// A report of the first worker is stale.
+// Its report is stale, that the interval has no work.
 fn report_is_stale<K: Keeper>(rt: &impl Abort, book: &mut Book<'_, K>, hands: &Hands)
     requires overtaken { IsOvertaken book.old }
     ensures overtaken { IsOvertaken book.new }
 {
     let before = sight(book);
-    let why = refused(rt, report_stale(book, hands));
+    let why = refused(rt, book.report(&hands.count, 3, END));
     let is_so = why.newer == 3 && is_as_before(book, &before);
     must(rt, is_so, "the report is stale, and nothing changes");
 }
@@ -111,8 +66,9 @@ fn handled_later<K: Keeper>(
     let fresh = Row::new(alloc, none_open(alloc));
     write_is_stale(rt, alloc, book, hands, &fresh);
     report_is_stale(rt, book, hands);
-    let written = made(rt, handle_later(alloc, book, lease, hands, &fresh));
+    let written = book.write(alloc, lease, 4, &hands.a, &fresh, &hands.handling);
     drop(fresh);
+    let written = made(rt, written);
     must(rt, commit_of(written) == 4, "the later worker handles");
 }
 
@@ -126,7 +82,7 @@ pub(crate) fn overtake<K: Keeper>(
     requires risen { HasRisen 2 book.old }
 {
     drop(injected(rt, trial, book, hands));
-    let lease = lease_of(rt, made(rt, claim_later(trial.alloc, book)));
+    let lease = lease_of(rt, made(rt, book.claim(trial.alloc, 1, 1)));
     handled_later(rt, trial.alloc, book, hands, &lease);
     drop(lease);
 }

@@ -3,7 +3,7 @@ ghost use Rattle.std.specs.Prelude.{◌≡◌, ◌<◌, OnErr};
 ghost use Rattle.worked_examples.specs.Rising.{rise_case};
 ghost use Rattle.book_tests.specs.TestBooks.{HasRisen};
 
-use super::calls::inject;
+use super::calls::next;
 use super::example::{row_a, two_line_case};
 use super::hands::Hands;
 use super::plays::{Kept, Play, Setting, play_all};
@@ -17,14 +17,6 @@ use row_parts::Row;
 use run_history::Case;
 use std::alloc::Global;
 use std::process::Abort;
-
-// Another worker claims the first interval, once both are claimed.
-fn claim_again<K: Keeper>(alloc: Global, book: &mut Book<'_, K>) -> Result<Claimed, ClaimRefusal>
-    requires risen { HasRisen 2 book.old }
-    ensures stayed { OnErr result (HasRisen 2 book.new) }
-{
-    book.claim(alloc, 2, 0)
-}
 
 // Whether a claim was refused for a full history.
 fn is_claim_full(why: ClaimRefusal) -> bool {
@@ -45,7 +37,7 @@ fn is_inject_full<K: Keeper>(alloc: Global, book: &mut Book<'_, K>, hands: &Hand
     requires risen { HasRisen 2 book.old }
 {
     let fresh = Row::new(alloc, State::Injector { cursor: 0 });
-    let written = inject(alloc, book, hands, &fresh);
+    let written = next(alloc, book, hands, &fresh, 2);
     drop(fresh);
     is_write_full(written)
 }
@@ -54,7 +46,7 @@ fn is_inject_full<K: Keeper>(alloc: Global, book: &mut Book<'_, K>, hands: &Hand
 pub(crate) fn fill<K: Keeper>(rt: &impl Abort, alloc: Global, book: &mut Book<'_, K>, hands: &Hands)
     requires risen { HasRisen 2 book.old }
 {
-    let is_claim_full = is_claim_full(refused(rt, claim_again(alloc, book)));
+    let is_claim_full = is_claim_full(refused(rt, book.claim(alloc, 2, 0)));
     let is_inject_full = is_inject_full(alloc, book, hands);
     let is_so = is_claim_full && is_inject_full && book.history().len() == 2;
     must(rt, is_so, "no interval is claimed, and no line is injected");

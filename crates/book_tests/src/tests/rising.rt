@@ -4,25 +4,18 @@ ghost use Rattle.std.specs.Prelude.{◌≡◌};
 ghost use Rattle.worked_examples.specs.Rising.{rise_case, row_closed, row_counted, row_injected};
 ghost use Rattle.book_tests.specs.TestBooks.{HasRisen};
 
-use super::calls::report;
+use super::calls::{RECORD, report};
 use super::example::none_open;
 use super::hands::Hands;
 use super::must;
 use super::plays::{Kept, Play, Setting, play_all};
 use super::trials::{Trial, injected, step};
 use book::{Book, Stale};
-use mw_types::RecordId;
 use row_keeper::Keeper;
 use row_parts::Row;
 use std::process::Abort;
 
-// The record 0 of entry 2.
-const RECORD: RecordId = RecordId {
-    commit: 2,
-    index: 0,
-};
-
-// Whether that is to be sent first, by the injector's row.
+// Whether the first record of entry 2 is to be sent first, by the injector's row.
 fn sends_record<K: Keeper>(book: &Book<'_, K>, hands: &Hands) -> bool {
     match book.least_sent() {
         Some((id, name)) => id == RECORD && *name == hands.injector,

@@ -7,8 +7,9 @@ use Rattle.book_tests.proofs.tests.many_seats.all_seats.Goals as goal
 -- the first seat is the seat 0, and has the numbers of all
 pub dealt-requires-clause-rest : goal.dealt-requires-clause-rest
 dealt-requires-clause-rest g c =
-    let shared = c.shared_among-shared.ensures in
-    subst (λ n. IsAtRest _ _ 17 (span n 17) _) (sym shared.first) shared.rest
+    let begun = c.shared_among-shared.result in
+    let told = c.shared_among-shared.ensures in
+    subst (λ n. IsAtRest begun.0.table.shared.table_id begun.0.case.now 17 (span n 17) begun.1.place) (sym told.first) told.rest
 
 -- the seat has all numbers again
 pub close-book-requires-clause-all : goal.close-book-requires-clause-all
