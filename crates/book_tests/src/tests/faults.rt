@@ -16,12 +16,14 @@ use shared_book::{Seat, Shared};
 use std::alloc::Global;
 use std::process::Abort;
 
-// Four claims, of the workers 0 to 3: the call of the keeper that fails, where each claim is one and
-// the start was the first, what came of each claim, and the workers of the entries that are left.
+// Four claims, of the workers 0 to 3: the call of the keeper that fails, where each claim is one and the start was
+// the first, what came of each claim in the first turn and in the second, and the workers of the entries that are
+// left.
 #[derive(Clone, Copy)]
 struct Fault {
-    failing: u64,
-    tried: &'static [Tried],
+    failing: &'static [u64],
+    first: &'static [Tried],
+    second: &'static [Tried],
     left: &'static [u32],
 }
 
@@ -36,23 +38,27 @@ const THIRD: Tried = Tried::Claimed { seq: 2 };
 // Each of the four claims fails once.
 static FAULTS: [Fault; 4] = [
     Fault {
-        failing: 1,
-        tried: &[FAILED, FIRST, SECOND, THIRD],
+        failing: &[1],
+        first: &[FAILED, FIRST],
+        second: &[SECOND, THIRD],
         left: &[1, 2, 3],
     },
     Fault {
-        failing: 2,
-        tried: &[FIRST, FAILED, SECOND, THIRD],
+        failing: &[2],
+        first: &[FIRST, FAILED],
+        second: &[SECOND, THIRD],
         left: &[0, 2, 3],
     },
     Fault {
-        failing: 3,
-        tried: &[FIRST, SECOND, FAILED, THIRD],
+        failing: &[3],
+        first: &[FIRST, SECOND],
+        second: &[FAILED, THIRD],
         left: &[0, 1, 3],
     },
     Fault {
-        failing: 4,
-        tried: &[FIRST, SECOND, THIRD, FAILED],
+        failing: &[4],
+        first: &[FIRST, SECOND],
+        second: &[THIRD, FAILED],
         left: &[0, 1, 2],
     },
 ];
@@ -63,7 +69,7 @@ fn claim_twice<K: Keeper>(
     shared: &Shared<'_, K>,
     seat: &mut Seat<K>,
     worker: u32,
-) -> (Tried, Tried)
+) -> [Tried; 2]
     requires case { shared.now.case.now ≡ rise_case }
     requires worker { worker < 15 }
     requires rest { let table = shared.now.table.shared in
@@ -77,11 +83,11 @@ fn claim_twice<K: Keeper>(
             let first = claim_with(alloc, &mut turn, worker, 0);
             let second = claim_with(alloc, &mut turn, worker + 1, 1);
             turn.release();
-            (first, second)
+            [first, second]
         }
         Err(busy) => {
             let tried = Tried::Busy { found: busy.found };
-            (tried, tried)
+            [tried, tried]
         }
     }
 }
@@ -114,14 +120,14 @@ fn has_left<K: Keeper>(book: Book<'_, K>, left: &[u32]) -> bool {
 fn two_turns(rt: &impl Abort, alloc: Global, case: &Case, fault: &Fault)
     requires case { case.now ≡ rise_case }
 {
-    let keeper = in_memory(rt, alloc, &[fault.failing]);
+    let keeper = in_memory(rt, alloc, fault.failing);
     let (shared, seat) = shared_among(rt, alloc, case, keeper, 8, 1);
     let mut seat = seat;
-    let (a, b) = claim_twice(alloc, &shared, &mut seat, 0);
-    let (c, d) = claim_twice(alloc, &shared, &mut seat, 2);
+    let first = claim_twice(alloc, &shared, &mut seat, 0);
+    let second = claim_twice(alloc, &shared, &mut seat, 2);
     let book = shared.close(seat);
-    let is_so = has_left(book, fault.left) && are_tried(&[a, b, c, d], fault.tried);
-    must(rt, is_so, fault.failing);
+    let is_so = are_tried(&first, fault.first) && are_tried(&second, fault.second);
+    must(rt, has_left(book, fault.left) && is_so, "what is left");
 }
 
 // Each fault is as told.

@@ -14,14 +14,8 @@ use std::alloc::Global;
 use std::process::Abort;
 
 // A seat claims, deals the first of its numbers, and takes the new seat in again once the rest of
-// its numbers were dealt.
-fn dealt<K: Keeper>(
-    rt: &impl Abort,
-    alloc: Global,
-    shared: &Shared<'_, K>,
-    seat: &mut Seat<K>,
-    left: u32,
-)
+// its numbers were dealt. Whether each of them has claimed.
+fn dealt<K: Keeper>(alloc: Global, shared: &Shared<'_, K>, seat: &mut Seat<K>, left: u32) -> bool
     requires case { shared.now.case.now ≡ rise_case }
     requires few { seat.old.number + left < 17 }
     requires rest { let table = shared.now.table.shared in IsAtRest table.table_id
@@ -30,12 +24,14 @@ fn dealt<K: Keeper>(
         shared.now.case.now 17 (span seat.old.number (left + 1)) seat.new.place }
 {
     let tried = claim_once(alloc, shared, seat, 0, left % 2);
-    must(rt, matches!(tried, Tried::Claimed { .. }), left);
+    let mut are = matches!(tried, Tried::Claimed { .. });
     if left > 0 {
         let one = shared.deal(seat);
-        dealt(rt, alloc, shared, seat, left - 1);
+        let others = dealt(alloc, shared, seat, left - 1);
         shared.join(seat, one);
+        are = are && others;
     }
+    are
 }
 
 // Seventeen seats of a book, which comes back with a claim of each.
@@ -43,9 +39,9 @@ fn all_seats(rt: &impl Abort, alloc: Global) {
     let case = two_line_case(rt, alloc);
     let (shared, seat) = shared_among(rt, alloc, &case, in_memory(rt, alloc, &[]), 17, 17);
     let mut seat = seat;
-    dealt(rt, alloc, &shared, &mut seat, 16);
+    let are = dealt(alloc, &shared, &mut seat, 16);
     let book = shared.close(seat);
-    must(rt, entries_in(book) == 17, "a claim of each");
+    must(rt, entries_in(book) == 17 && are, "a claim of each");
     drop(case);
 }
 

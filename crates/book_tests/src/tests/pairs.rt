@@ -4,11 +4,11 @@ ghost use Rattle.worked_examples.specs.Rising.{rise_case};
 ghost use Rattle.book_tests.specs.TestSeats.{IsAtRest};
 
 use super::desks::claim_at_desks;
-use super::example::two_line_case;
 use super::must;
 use super::starts::{entries_in, in_memory, shared_among};
 use super::turns::take_turns;
 use row_keeper::Keeper;
+use run_history::Case;
 use shared_book::{Seat, Shared};
 use std::alloc::Global;
 use std::process::Abort;
@@ -46,14 +46,20 @@ fn act<K: Keeper>(
 }
 
 // Two seats of a book, which comes back with so many entries.
-pub(crate) fn over_two_seats(rt: &impl Abort, alloc: Global, pair: Pair, entries: usize) {
-    let case = two_line_case(rt, alloc);
-    let (shared, seat) = shared_among(rt, alloc, &case, in_memory(rt, alloc, &[]), 8, 2);
+pub(crate) fn over_two_seats(
+    rt: &impl Abort,
+    alloc: Global,
+    case: &Case,
+    pair: Pair,
+    entries: usize,
+)
+    requires case { case.now ≡ rise_case }
+{
+    let (shared, seat) = shared_among(rt, alloc, case, in_memory(rt, alloc, &[]), 8, 2);
     let mut other = seat;
     let mut one = shared.deal(&mut other);
     act(rt, alloc, &shared, &mut one, &mut other, pair);
     shared.join(&mut other, one);
     let book = shared.close(other);
     must(rt, entries_in(book) == entries, "how many entries");
-    drop(case);
 }

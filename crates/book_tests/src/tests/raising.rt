@@ -357,8 +357,15 @@ fn has_marks<K: Keeper>(book: Book<'_, K>, marks: &[u64]) -> bool {
     has
 }
 
+// Whether all that two threads loaded is as it has to be, and a book has the injector's mark and, of the count's
+// interval, the greatest to which it was raised.
+fn are_raised<K: Keeper>(book: Book<'_, K>, source: u64, first: Loads, second: Loads) -> bool {
+    let count = first.count.max(second.count);
+    has_marks(book, &[source, count]) && first.is_sound && second.is_sound
+}
+
 // Two threads over the seats of a book: all that they loaded is as it has to be, and the book comes back with the
-// marks to which they raised them, the injector's, and of the count's interval the greatest.
+// marks to which they raised them.
 fn two_threads<R: Threads + Wait + Abort + Sync>(rt: &R, alloc: Global, case: &Case, row: Row)
     requires case { case.now ≡ rise_case }
 {
@@ -371,9 +378,8 @@ fn two_threads<R: Threads + Wait + Abort + Sync>(rt: &R, alloc: Global, case: &C
         second,
     } = in_threads(rt, alloc, &shared, one, other, row.one, row.other);
     let book = shared.close(seat);
-    let marks = [row.source, first.count.max(second.count)];
-    let is_so = has_marks(book, &marks) && first.is_sound && second.is_sound;
-    must(rt, is_so, row.source);
+    let are = are_raised(book, row.source, first, second);
+    must(rt, are, row.source);
 }
 
 // Each raises the mark of its own interval; both raise the injector's, where the lease that was claimed first is

@@ -1,5 +1,5 @@
 //! Claims, writes and starts that are refused.
-ghost use Rattle.std.specs.Prelude.{◌≡◌, ◌<◌, OnErr};
+ghost use Rattle.std.specs.Prelude.{◌≡◌, ◌<◌};
 ghost use Rattle.worked_examples.specs.Rising.{rise_case};
 ghost use Rattle.book_tests.specs.TestBooks.{HasRisen};
 

@@ -35,14 +35,16 @@ fn is_mark(reported: Result<u64, Stale>, want: u64) -> bool {
     reported == Ok(want)
 }
 
-// The injector's interval reports, and the record is handled.
+// The record is to be sent, the injector's interval reports, and the record is handled.
 fn handled<K: Keeper>(rt: &impl Abort, trial: Trial, book: &mut Book<'_, K>, hands: &Hands) -> Row
     requires risen { HasRisen 3 book.old }
     ensures risen { HasRisen 4 book.new }
     ensures left { result ≡ row_counted }
 {
+    let is_sent = sends_record(book, hands);
     let mark = report(book, &hands.source, 0, 3, 10);
-    must(rt, is_mark(mark, 10), "the injector's mark rises to 10");
+    let is_so = is_sent && is_mark(mark, 10);
+    must(rt, is_so, "the record is to be sent, and a mark of 10");
     let fresh = Row::new(trial.alloc, none_open(trial.alloc));
     let row = step(rt, trial, book, hands, &fresh, 3);
     drop(fresh);
@@ -117,12 +119,11 @@ fn purged<K: Keeper>(
     must(rt, is_purged(row), "the row forgets what is below 6");
 }
 
-// Worker 0 works off the first line, whose record is to be sent once it is injected.
+// Worker 0 works off the first line.
 pub(crate) fn rise<K: Keeper>(rt: &impl Abort, trial: Trial, book: &mut Book<'_, K>, hands: &Hands)
     requires risen { HasRisen 2 book.old }
 {
     let injected = injected(rt, trial, book, hands);
-    must(rt, sends_record(book, hands), "its record is to be sent");
     let counted = handled(rt, trial, book, hands);
     settled(rt, trial, book, hands, &injected);
     let closed = fired(rt, trial, book, hands, &counted);

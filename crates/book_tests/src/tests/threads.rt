@@ -1,10 +1,12 @@
 //! Threads that append to one history: each has a seat of its own, and tries for the turn until it has
 //! claimed as often as it is to.
-ghost use Rattle.std.specs.Prelude.{◌≡◌, ◌<◌, ◌≤◌, ◌+◌, ◌-◌};
+ghost use Rattle.std.specs.Prelude.{◌≡◌, ◌<◌, ◌≤◌, ◌+◌, ◌-◌, []};
 ghost use Rattle.std.specs.Thread.{IsSync, IsSend};
 ghost use Rattle.run_history.specs.Legal.{MayClaim};
 ghost use Rattle.worked_examples.specs.Rising.{rise_case};
+ghost use Rattle.shared_book.specs.Joins.{joined};
 ghost use Rattle.shared_book.specs.Opening.{span};
+ghost use Rattle.shared_book.specs.Turns.{IsHere, IsIdle};
 ghost use Rattle.book_tests.specs.TestSeats.{IsAtRest};
 
 use super::example::two_line_case;
@@ -119,6 +121,28 @@ fn put_behind(rt: &impl Abort, numbers: &mut Vec<Vec<u64>>, more: Vec<Vec<u64>>)
     drop(more);
 }
 
+// A seat takes in that of another thread, whose numbers are put behind its own.
+fn taken_in<K: Keeper>(
+    rt: &impl Abort,
+    shared: &Shared<'_, K>,
+    others: Ended<K>,
+    one: Ended<K>,
+) -> Ended<K>
+    requires here { IsHere shared.now.table.shared.table_id shared.now.case.now others.seat.place }
+    requires idle { IsIdle others.seat.place.me }
+    requires other { IsHere shared.now.table.shared.table_id shared.now.case.now one.seat.place }
+    requires other_idle { IsIdle one.seat.place.me }
+    ensures here { IsHere shared.now.table.shared.table_id shared.now.case.now result.seat.place }
+    ensures view { result.seat.place.me
+        ≡ (joined others.seat.place.me.0 one.seat.place.me.0, []) }
+{
+    let Ended { seat, numbers } = one;
+    let mut all = others;
+    shared.join(&mut all.seat, seat);
+    put_behind(rt, &mut all.numbers, numbers);
+    all
+}
+
 // A seat deals its first number to a thread, and the rest of them in a thread beside it; the seats are
 // joined once both have ended.
 #[tactic(auto, using(shared_book::proofs::Sending::core_send, shared_book::proofs::Sending::seat_send))]
@@ -170,11 +194,7 @@ fn in_threads<K: Keeper + Send, R: Threads + Wait + Abort + Sync>(
                 (span rest.number (next + 1)) result.seat.place }
         { in_threads(rt, alloc, shared, rest, shares, next) },
     );
-    let Ended { seat, numbers } = first;
-    let mut all = others;
-    shared.join(&mut all.seat, seat);
-    put_behind(rt, &mut all.numbers, numbers);
-    all
+    taken_in(rt, shared, others, first)
 }
 
 // The history of a book has what the workers were answered. Both are let go here.

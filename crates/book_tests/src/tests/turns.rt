@@ -4,6 +4,7 @@ ghost use Rattle.topology.specs.Rules.{interval_count};
 ghost use Rattle.worked_examples.specs.Rising.{rise_case};
 ghost use Rattle.book_tests.specs.TestSeats.{IsAtRest};
 
+use super::example::two_line_case;
 use super::must;
 use super::pairs::{Pair, over_two_seats};
 use super::seats::{Tried, are_tried, claim_once, try_once};
@@ -12,10 +13,11 @@ use shared_book::{Seat, Shared};
 use std::alloc::Global;
 use std::process::Abort;
 
-// What comes of the tries for the turn.
-const WANT: &[Tried] = &[
-    Tried::Busy { found: 1 },
-    Tried::Given,
+// What comes of a try beside the turn, and of one behind it.
+const FOUND: &[Tried] = &[Tried::Busy { found: 1 }, Tried::Given];
+
+// What comes of three claims.
+const CLAIMED: &[Tried] = &[
     Tried::Claimed { seq: 0 },
     Tried::Claimed { seq: 1 },
     Tried::Claimed { seq: 2 },
@@ -42,8 +44,32 @@ fn found_beside<K: Keeper>(shared: &Shared<'_, K>, one: &mut Seat<K>, other: &mu
     }
 }
 
-// While one seat has the turn, the other is told so: the word is 1 more than the number of the seat. Then each
-// claims once the other has given the turn back, and one meets a note of the other.
+// Each claims once the other has given the turn back, and one meets a note of the other.
+fn claim_by_turns<K: Keeper>(
+    alloc: Global,
+    shared: &Shared<'_, K>,
+    one: &mut Seat<K>,
+    other: &mut Seat<K>,
+) -> [Tried; 3]
+    requires case { shared.now.case.now ≡ rise_case }
+    requires one { let table = shared.now.table.shared in
+        IsAtRest table.table_id shared.now.case.now 2 (0 ∷ []) one.old.place }
+    requires other { let table = shared.now.table.shared in
+        IsAtRest table.table_id shared.now.case.now 2 (1 ∷ []) other.old.place }
+    ensures one { let table = shared.now.table.shared in
+        IsAtRest table.table_id shared.now.case.now 2 (0 ∷ []) one.new.place }
+    ensures other { let table = shared.now.table.shared in
+        IsAtRest table.table_id shared.now.case.now 2 (1 ∷ []) other.new.place }
+{
+    let first = claim_once(alloc, shared, one, 0, 0);
+    let note = shared.note(one);
+    shared.meet(other, note);
+    let second = claim_once(alloc, shared, other, 1, 0);
+    let third = claim_once(alloc, shared, one, 0, 1);
+    [first, second, third]
+}
+
+// While one seat has the turn, the other is told so: the word is 1 more than the number of the seat. Then each claims.
 pub(crate) fn take_turns<K: Keeper>(
     rt: &impl Abort,
     alloc: Global,
@@ -61,18 +87,14 @@ pub(crate) fn take_turns<K: Keeper>(
     ensures other { let table = shared.now.table.shared in
         IsAtRest table.table_id shared.now.case.now 2 (1 ∷ []) other.new.place }
 {
-    let beside = found_beside(shared, one, other);
-    let behind = try_once(shared, other);
-    let first = claim_once(alloc, shared, one, 0, 0);
-    let note = shared.note(one);
-    shared.meet(other, note);
-    let second = claim_once(alloc, shared, other, 1, 0);
-    let third = claim_once(alloc, shared, one, 0, 1);
-    let tried = [beside, behind, first, second, third];
-    must(rt, are_tried(&tried, WANT), "what comes of each try");
+    let found = [found_beside(shared, one, other), try_once(shared, other)];
+    let claimed = claim_by_turns(alloc, shared, one, other);
+    let is_so = are_tried(&found, FOUND) && are_tried(&claimed, CLAIMED);
+    must(rt, is_so, "what comes of each try");
 }
 
 #[test]
 fn turn_is_busy(rt: HostRuntime) {
-    over_two_seats(&rt, rt.alloc(), Pair::Turns, 3);
+    let alloc = rt.alloc();
+    over_two_seats(&rt, alloc, &two_line_case(&rt, alloc), Pair::Turns, 3);
 }
