@@ -5,7 +5,6 @@ ghost use Rattle.run_history.specs.Legal.{MayClaim};
 ghost use Rattle.worked_examples.specs.Rising.{rise_case};
 ghost use Rattle.book_tests.specs.TestSeats.{IsAtRest};
 
-use super::example::two_line_case;
 use super::must;
 use super::pairs::{Pair, over_two_seats};
 use super::seats::{Tried, are_tried};
@@ -164,6 +163,5 @@ pub(crate) fn claim_at_desks<K: Keeper>(
 
 #[test]
 fn desk_answers_busy(rt: HostRuntime) {
-    let alloc = rt.alloc();
-    over_two_seats(&rt, alloc, &two_line_case(&rt, alloc), Pair::Desks, 2);
+    over_two_seats(&rt, rt.alloc(), Pair::Desks, 2);
 }

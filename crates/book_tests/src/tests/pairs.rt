@@ -4,6 +4,7 @@ ghost use Rattle.worked_examples.specs.Rising.{rise_case};
 ghost use Rattle.book_tests.specs.TestSeats.{IsAtRest};
 
 use super::desks::claim_at_desks;
+use super::example::two_line_case;
 use super::must;
 use super::starts::{entries_in, in_memory, shared_among};
 use super::turns::take_turns;
@@ -46,13 +47,7 @@ fn act<K: Keeper>(
 }
 
 // Two seats of a book, which comes back with so many entries.
-pub(crate) fn over_two_seats(
-    rt: &impl Abort,
-    alloc: Global,
-    case: &Case,
-    pair: Pair,
-    entries: usize,
-)
+fn two_seats(rt: &impl Abort, alloc: Global, case: &Case, pair: Pair, entries: usize)
     requires case { case.now ≡ rise_case }
 {
     let (shared, seat) = shared_among(rt, alloc, case, in_memory(rt, alloc, &[]), 8, 2);
@@ -62,4 +57,11 @@ pub(crate) fn over_two_seats(
     shared.join(&mut other, one);
     let book = shared.close(other);
     must(rt, entries_in(book) == entries, "how many entries");
+}
+
+// The same, over the case of the example.
+pub(crate) fn over_two_seats(rt: &impl Abort, alloc: Global, pair: Pair, entries: usize) {
+    let case = two_line_case(rt, alloc);
+    two_seats(rt, alloc, &case, pair, entries);
+    drop(case);
 }

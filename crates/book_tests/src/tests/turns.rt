@@ -4,7 +4,6 @@ ghost use Rattle.topology.specs.Rules.{interval_count};
 ghost use Rattle.worked_examples.specs.Rising.{rise_case};
 ghost use Rattle.book_tests.specs.TestSeats.{IsAtRest};
 
-use super::example::two_line_case;
 use super::must;
 use super::pairs::{Pair, over_two_seats};
 use super::seats::{Tried, are_tried, claim_once, try_once};
@@ -95,6 +94,5 @@ pub(crate) fn take_turns<K: Keeper>(
 
 #[test]
 fn turn_is_busy(rt: HostRuntime) {
-    let alloc = rt.alloc();
-    over_two_seats(&rt, alloc, &two_line_case(&rt, alloc), Pair::Turns, 3);
+    over_two_seats(&rt, rt.alloc(), Pair::Turns, 3);
 }
