@@ -1,15 +1,12 @@
 //! The calls of the example, one each, and what each needs and leaves.
-ghost use Rattle.std.specs.Prelude.{◌≡◌, ◌≤◌, ◌<◌, ◌+◌, ◌∷◌, [], IfOk, OnErr, OnOk, Some, length, slice_get, take};
+ghost use Rattle.std.specs.Prelude.{◌≡◌, ◌≤◌, ◌<◌, ◌+◌, IfOk, OnErr, OnOk, Some, slice_get, take};
 ghost use Rattle.mw_types.specs.declared.entry.Entry.TheVariants.{Claim};
-ghost use Rattle.mw_types.specs.declared.state.State.TheVariants.{Count, Injector};
-ghost use Rattle.row_parts.specs.Contents.{fresh};
-ghost use Rattle.worked_examples.specs.Rising.{own_after, rise_history, row_closed, row_counted, row_injected};
-ghost use Rattle.book_tests.specs.TestBooks.{HasRisen, first_lease};
+ghost use Rattle.worked_examples.specs.Rising.{own_after, rise_history};
+ghost use Rattle.book_tests.specs.TestBooks.{HasRisen, IsLeft, first_lease, row_before};
 
-use super::example::hands;
 use super::hands::Hands;
-use book::{Book, ClaimRefusal, Claimed, Lease, Proposal, Stale, WriteRefusal, Written};
-use mw_types::{NoMemory, RecordId};
+use book::{Book, ClaimRefusal, Claimed, Lease, Stale, WriteRefusal, Written};
+use mw_types::RecordId;
 use row_keeper::Keeper;
 use row_parts::Row;
 use std::alloc::Global;
@@ -29,105 +26,38 @@ pub(crate) fn claim<K: Keeper>(
     book.claim(alloc, 0, interval)
 }
 
-// Worker 0 claims both intervals.
-pub(crate) fn claim_both<K: Keeper>(
+// The first record of entry 2.
+pub(crate) const RECORD: RecordId = RecordId {
+    commit: 2,
+    index: 0,
+};
+
+// What comes next after so many of the entries: the first line is injected, its record is handled, its sender settles
+// it, the timer of its window fires, and its row is purged.
+pub(crate) fn next<K: Keeper>(
     alloc: Global,
     book: &mut Book<'_, K>,
-) -> Result<Hands, NoMemory>
-    requires risen { HasRisen 0 book.old }
-    ensures claimed { OnOk result (HasRisen 2 book.new) }
+    hands: &Hands,
+    row: &Row,
+    count: u64,
+) -> Result<Written, WriteRefusal>
+    requires risen { HasRisen count book.old }
+    requires claimed { 2 ≤ count }
+    requires there { count < 7 }
+    requires row { row.now ≡ row_before count }
+    ensures written { OnOk result (HasRisen (count + 1) book.new) }
+    ensures stayed { OnErr result (HasRisen count book.new) }
+    ensures left { IfOk result (λ written. IsLeft count written.row) }
 {
-    let source = match claim(alloc, book, 0) {
-        Ok(Claimed { lease, rows: _rows }) => lease,
-        Err(_why) => return Err(NoMemory),
-    };
-    match claim(alloc, book, 1) {
-        Ok(Claimed { lease, rows: _rows }) => hands(alloc, source, lease),
-        Err(_why) => Err(NoMemory),
+    let source = &hands.source;
+    let lease = &hands.count;
+    match count {
+        2 => book.write(alloc, source, 2, &hands.injector, row, &hands.injecting),
+        3 => book.write(alloc, lease, 3, &hands.a, row, &hands.handling),
+        4 => book.settle(alloc, source, 4, &hands.injector, row, RECORD),
+        5 => book.write(alloc, lease, 5, &hands.a, row, &hands.firing),
+        _ => book.purge(alloc, lease, 6, &hands.a, row, 6),
     }
-}
-
-// The first line is injected.
-pub(crate) fn inject<K: Keeper>(
-    alloc: Global,
-    book: &mut Book<'_, K>,
-    hands: &Hands,
-    row: &Row,
-) -> Result<Written, WriteRefusal>
-    requires risen { HasRisen 2 book.old }
-    requires row { row.now ≡ fresh (Injector 0) }
-    ensures written { OnOk result (HasRisen 3 book.new) }
-    ensures stayed { OnErr result (HasRisen 2 book.new) }
-    ensures left { IfOk result (λ written. written.row ≡ row_injected) }
-{
-    let proposal = Proposal::Inject { line: 0 };
-    book.write(alloc, &hands.source, 2, &hands.injector, row, &proposal)
-}
-
-// Its record is handled.
-pub(crate) fn handle<K: Keeper>(
-    alloc: Global,
-    book: &mut Book<'_, K>,
-    hands: &Hands,
-    row: &Row,
-) -> Result<Written, WriteRefusal>
-    requires risen { HasRisen 3 book.old }
-    requires row { row.now ≡ fresh (Count 0 []) }
-    ensures written { OnOk result (HasRisen 4 book.new) }
-    ensures stayed { OnErr result (HasRisen 3 book.new) }
-    ensures left { IfOk result (λ written. written.row ≡ row_counted) }
-{
-    book.write(alloc, &hands.count, 3, &hands.a, row, &hands.handling)
-}
-
-// Its sender settles it.
-pub(crate) fn settle<K: Keeper>(
-    alloc: Global,
-    book: &mut Book<'_, K>,
-    hands: &Hands,
-    row: &Row,
-) -> Result<Written, WriteRefusal>
-    requires risen { HasRisen 4 book.old }
-    requires row { row.now ≡ row_injected }
-    ensures written { OnOk result (HasRisen 5 book.new) }
-    ensures stayed { OnErr result (HasRisen 4 book.new) }
-{
-    let id = RecordId {
-        commit: 2,
-        index: 0,
-    };
-    book.settle(alloc, &hands.source, 4, &hands.injector, row, id)
-}
-
-// The timer of its window fires.
-pub(crate) fn fire<K: Keeper>(
-    alloc: Global,
-    book: &mut Book<'_, K>,
-    hands: &Hands,
-    row: &Row,
-) -> Result<Written, WriteRefusal>
-    requires risen { HasRisen 5 book.old }
-    requires row { row.now ≡ row_counted }
-    ensures written { OnOk result (HasRisen 6 book.new) }
-    ensures stayed { OnErr result (HasRisen 5 book.new) }
-    ensures left { IfOk result (λ written. written.row ≡ row_closed) }
-{
-    book.write(alloc, &hands.count, 5, &hands.a, row, &hands.firing)
-}
-
-// Its row is purged.
-pub(crate) fn purge<K: Keeper>(
-    alloc: Global,
-    book: &mut Book<'_, K>,
-    hands: &Hands,
-    row: &Row,
-) -> Result<Written, WriteRefusal>
-    requires risen { HasRisen 6 book.old }
-    requires row { row.now ≡ row_closed }
-    ensures written { OnOk result (HasRisen 7 book.new) }
-    ensures stayed { OnErr result (HasRisen 6 book.new) }
-{
-    book.purge(alloc, &hands.count, 6, &hands.a, row, 6)
 }
 
 // A worker reports the own work of an interval, after so many of the entries.

@@ -5,23 +5,33 @@ ghost use Rattle.run_history.specs.Legal.{MayClaim};
 ghost use Rattle.worked_examples.specs.Rising.{rise_case};
 ghost use Rattle.book_tests.specs.TestSeats.{IsAtRest};
 
-use super::example::two_line_case;
-use super::seats::Tried;
-use super::starts::started;
-use book::{Book, Claimed, Desk, DeskRefusal};
+use super::must;
+use super::pairs::{Pair, over_two_seats};
+use super::seats::{Tried, are_tried};
+use book::{Claimed, Desk, DeskRefusal};
 use row_keeper::Keeper;
 use shared_book::{Seat, Shared, SharedDesk};
 use std::alloc::Global;
 use std::process::Abort;
-use std::test::Fail;
+
+// What comes of the claims.
+const WANT: &[Tried] = &[
+    Tried::Busy { found: 1 },
+    Tried::Claimed { seq: 0 },
+    Tried::Claimed { seq: 1 },
+];
 
 // What came of a claim through a desk.
 fn of_claim(claimed: Result<Claimed, DeskRefusal>) -> Tried {
-    match claimed {
-        Ok(Claimed { lease, rows: _rows }) => Tried::Claimed { seq: lease.seq() },
-        Err(DeskRefusal::Busy { found }) => Tried::Busy { found },
-        Err(_why) => Tried::Refused,
-    }
+    let tried = match &claimed {
+        Ok(claimed) => Tried::Claimed {
+            seq: claimed.lease.seq(),
+        },
+        Err(DeskRefusal::Busy { found }) => Tried::Busy { found: *found },
+        Err(_) => Tried::Refused,
+    };
+    drop(claimed);
+    tried
 }
 
 // A claim through any desk.
@@ -32,6 +42,14 @@ fn claim_through<D: Desk>(desk: &mut D, alloc: Global, worker: u32, interval: u3
     ensures home { D.home desk.new ≡ D.home desk.old }
 {
     of_claim(desk.claim(alloc, worker, interval))
+}
+
+// The floor behind a claim: the claims are the history, so it is above the last, and 0 where there is none.
+fn floor_behind(tried: Tried) -> u64 {
+    match tried {
+        Tried::Claimed { seq } => seq.wrapping_add(1),
+        _ => 0,
+    }
 }
 
 // One claim through the desk of a seat: the claims of the intervals before it are there, and the floor's word
@@ -50,12 +68,11 @@ fn desk_claim<K: Keeper>(
         IsAtRest table.table_id shared.now.case.now v.basis.seats v.numbers seat.new.place }
 {
     let mut desk = SharedDesk::on(&*shared, seat);
-    assert_eq!(rt; desk.floor(), u64::from(interval));
+    let before = desk.floor();
     let tried = claim_through(&mut desk, alloc, 0, interval);
-    match tried {
-        Tried::Claimed { seq } => assert_eq!(rt; desk.floor(), seq.wrapping_add(1)),
-        _ => assert_eq!(rt; desk.floor(), 0),
-    }
+    let after = desk.floor();
+    let is_floor = before == u64::from(interval) && after == floor_behind(tried);
+    must(rt, is_floor, "the floor before and after");
     tried
 }
 
@@ -89,9 +106,37 @@ fn notes<K: Keeper>(shared: &Shared<'_, K>, one: &mut Seat<K>, other: &mut Seat<
     pass_note(&mut first, &mut second);
 }
 
+// What comes of a claim through the desk of one seat while the other has the turn, where the other gets it.
+fn tried_beside<K: Keeper>(
+    rt: &impl Abort,
+    alloc: Global,
+    shared: &Shared<'_, K>,
+    one: &mut Seat<K>,
+    other: &mut Seat<K>,
+) -> Tried
+    requires case { shared.now.case.now ≡ rise_case }
+    requires one { let table = shared.now.table.shared in
+        IsAtRest table.table_id shared.now.case.now 2 (0 ∷ []) one.old.place }
+    requires other { let table = shared.now.table.shared in
+        IsAtRest table.table_id shared.now.case.now 2 (1 ∷ []) other.old.place }
+    ensures one { let table = shared.now.table.shared in
+        IsAtRest table.table_id shared.now.case.now 2 (0 ∷ []) one.new.place }
+    ensures other { let table = shared.now.table.shared in
+        IsAtRest table.table_id shared.now.case.now 2 (1 ∷ []) other.new.place }
+{
+    match one.try_turn(&*shared) {
+        Ok(turn) => {
+            let tried = desk_claim(rt, alloc, shared, other, 0);
+            turn.release();
+            tried
+        }
+        Err(_) => Tried::Refused,
+    }
+}
+
 // While one seat has the turn, the desk of the other is told so: the word is 1 more than the number
-// of the seat.
-fn busy<K: Keeper>(
+// of the seat. Then each claims through its desk, and one meets a note of the other.
+pub(crate) fn claim_at_desks<K: Keeper>(
     rt: &impl Abort,
     alloc: Global,
     shared: &Shared<'_, K>,
@@ -108,48 +153,15 @@ fn busy<K: Keeper>(
     ensures other { let table = shared.now.table.shared in
         IsAtRest table.table_id shared.now.case.now 2 (1 ∷ []) other.new.place }
 {
-    match one.try_turn(&*shared) {
-        Ok(turn) => {
-            let tried = desk_claim(rt, alloc, shared, other, 0);
-            assert!(rt; tried == Tried::Busy { found: 1 });
-            turn.release();
-        }
-        Err(_) => assert!(rt; false),
-    }
-    assert!(rt; desk_claim(rt, alloc, shared, other, 0) == Tried::Claimed { seq: 0 });
-}
-
-// Two seats of a book, which comes back with what both appended.
-fn two_desks<K: Keeper>(rt: &impl Abort, alloc: Global, shared: Shared<'_, K>, seat: Seat<K>)
-    requires case { shared.case.now ≡ rise_case }
-    requires rest { let table = shared.table.shared in
-        IsAtRest table.table_id shared.case.now 2 (0 ∷ 1 ∷ []) seat.place }
-    requires first { seat.number ≡ 0 }
-{
-    let mut other = seat;
-    let mut one = shared.deal(&mut other);
-    busy(rt, alloc, &shared, &mut one, &mut other);
-    notes(&shared, &mut one, &mut other);
-    assert!(rt; desk_claim(rt, alloc, &shared, &mut one, 1) == Tried::Claimed { seq: 1 });
-    shared.join(&mut other, one);
-    let book = shared.close(other);
-    assert!(rt; book.history().len() == 2);
-}
-
-// The book is shared.
-fn shared<K: Keeper>(rt: &impl Abort, alloc: Global, book: Book<'_, K>)
-    requires case { book.case ≡ rise_case }
-{
-    match Shared::start(alloc, book, 2) {
-        Ok((shared, seat)) => two_desks(rt, alloc, shared, seat),
-        Err(_refusal) => assert!(rt; false),
-    }
+    let beside = tried_beside(rt, alloc, shared, one, other);
+    let first = desk_claim(rt, alloc, shared, other, 0);
+    notes(shared, one, other);
+    let second = desk_claim(rt, alloc, shared, one, 1);
+    let tried = [beside, first, second];
+    must(rt, are_tried(&tried, WANT), "what comes of each claim");
 }
 
 #[test]
-fn desk_answers_busy(rt: HostRuntime) -> Result<(), Fail> {
-    let alloc = rt.alloc();
-    let case = two_line_case(alloc)?;
-    shared(&rt, alloc, started(alloc, &case, 8)?);
-    Ok(())
+fn desk_answers_busy(rt: HostRuntime) {
+    over_two_seats(&rt, rt.alloc(), Pair::Desks, 2);
 }

@@ -1,5 +1,5 @@
 //! The example of two lines: its case, and what is handed to the calls that work off the first.
-ghost use Rattle.std.specs.Prelude.{◌≡◌, ◌∷◌, [], pos, false, IfOk};
+ghost use Rattle.std.specs.Prelude.{◌≡◌, ◌∷◌, []};
 ghost use Rattle.mw_types.specs.Bounds.{IsWithin};
 ghost use Rattle.mw_types.specs.declared.state.State.TheVariants.{Count};
 ghost use Rattle.topology.specs.Samples.{one_count};
@@ -10,63 +10,62 @@ ghost use Rattle.worked_examples.specs.Rising.{item_at_time, rise_case, rise_sou
 ghost use Rattle.book_tests.specs.TestBooks.{first_lease};
 
 use super::hands::Hands;
+use super::made;
 use book::{Lease, Proposal};
 use injector::{Item, Items, ItemsList};
 use mw_types::{
-    Delivery, Effects, Key, NoMemory, Production, ProductionList, Record, RecordId, RowName, State,
-    Timer, TimerList, Window, WindowList,
+    Delivery, Effects, Key, Production, ProductionList, Record, RecordId, RowName, State, Timer,
+    TimerList, Window, WindowList,
 };
 use run_history::Case;
 use std::alloc::Global;
+use std::process::Abort;
 use topology::Topology;
 
 // The key a.
-pub(crate) fn key_a(alloc: Global) -> Result<Key, NoMemory>
-    ensures { IfOk result (λ key. key ≡ key_a) }
+fn key_a(rt: &impl Abort, alloc: Global) -> Key
+    ensures { result ≡ key_a }
 {
-    match Key::of(alloc, "a") {
-        Ok(key) => Ok(key),
-        Err(_) => Err(NoMemory),
-    }
+    made(rt, Key::of(alloc, "a"))
 }
 
 // A record line of the key a.
-fn item(alloc: Global, stamp: u64) -> Result<Item, NoMemory>
-    ensures { IfOk result (λ item. item ≡ item_at_time stamp) }
+fn item(rt: &impl Abort, alloc: Global, stamp: u64) -> Item
+    ensures { result ≡ item_at_time stamp }
 {
-    Ok(Item {
-        record_key: key_a(alloc)?,
+    Item {
+        record_key: key_a(rt, alloc),
         stamp,
         value: 1,
         late: false,
-    })
+    }
 }
 
 // A record at 10, a watermark of 60, and a record at 70.
-fn two_lines(alloc: Global) -> Result<Items, NoMemory>
-    ensures { IfOk result (λ lines. lines ≡ rise_source) }
+fn two_lines(rt: &impl Abort, alloc: Global) -> Items
+    ensures { result ≡ rise_source }
 {
     let mut lines = Items::new(alloc);
-    lines.push(item(alloc, 10)?, 0)?;
-    lines.push(item(alloc, 70)?, 60)?;
-    Ok(lines)
+    made(rt, lines.push(item(rt, alloc, 10), 0));
+    made(rt, lines.push(item(rt, alloc, 70), 60));
+    lines
 }
 
 // The one file.
-fn one_file(alloc: Global) -> Result<ItemsList, NoMemory>
-    ensures { IfOk result (λ items. items ≡ rise_source ∷ []) }
+fn one_file(rt: &impl Abort, alloc: Global) -> ItemsList
+    ensures { result ≡ rise_source ∷ [] }
 {
     let mut items = ItemsList::new(alloc);
-    items.push(two_lines(alloc)?)?;
-    Ok(items)
+    made(rt, items.push(two_lines(rt, alloc)));
+    items
 }
 
 // Windows of 60 over the two records.
-pub(crate) fn two_line_case(alloc: Global) -> Result<Case, NoMemory>
-    ensures { IfOk result (λ case. case ≡ rise_case) }
+pub(crate) fn two_line_case(rt: &impl Abort, alloc: Global) -> Case
+    ensures { result ≡ rise_case }
 {
-    let items = one_file(alloc)?;
-    Case::of(alloc, Topology::one_count(alloc, 60)?, items)
+    let topology = made(rt, Topology::one_count(alloc, 60));
+    made(rt, Case::of(alloc, topology, one_file(rt, alloc)))
 }
 
 // The name of the injector's row.
@@ -80,33 +79,39 @@ fn injector_row(alloc: Global) -> RowName
 }
 
 // The name of the row of the key a.
-pub(crate) fn row_a(alloc: Global) -> Result<RowName, NoMemory>
-    ensures { IfOk result (λ name. name ≡ row_a) }
+pub(crate) fn row_a(rt: &impl Abort, alloc: Global) -> RowName
+    ensures { result ≡ row_a }
 {
-    Ok(RowName {
+    RowName {
         part: 1,
-        key: key_a(alloc)?,
-    })
+        key: key_a(rt, alloc),
+    }
 }
 
-// The delivery of the first line.
-fn sent_delivery(alloc: Global) -> Result<Delivery, NoMemory>
-    ensures { IfOk result (λ delivery. delivery ≡ sent_delivery) }
+// The record of the first line.
+fn sent_record(rt: &impl Abort, alloc: Global) -> Record
+    ensures { result ≡ record_at 10 }
 {
-    let item = Record {
-        key: key_a(alloc)?,
+    Record {
+        key: key_a(rt, alloc),
         stamp: 10,
         value: 1,
         late: false,
-    };
-    Ok(Delivery {
+    }
+}
+
+// Its delivery.
+fn sent_delivery(rt: &impl Abort, alloc: Global) -> Delivery
+    ensures { result ≡ sent_delivery }
+{
+    Delivery {
         id: RecordId {
             commit: 2,
             index: 0,
         },
-        to: row_a(alloc)?,
-        item,
-    })
+        to: row_a(rt, alloc),
+        item: sent_record(rt, alloc),
+    }
 }
 
 // A count without open windows.
@@ -121,13 +126,13 @@ pub(crate) fn none_open(alloc: Global) -> State
 }
 
 // A count with the window to 60 open, which has one record.
-fn one_open(alloc: Global) -> Result<State, NoMemory>
-    ensures one { IfOk result (λ state. state ≡ Count 0 (window 60 1 ∷ [])) }
-    ensures within { IfOk result IsWithin }
+fn one_open(rt: &impl Abort, alloc: Global) -> State
+    ensures one { result ≡ Count 0 (window 60 1 ∷ []) }
+    ensures within { IsWithin result }
 {
     let mut windows = WindowList::new(alloc);
-    windows.push(Window { end: 60, count: 1 })?;
-    Ok(State::Count { late: 0, windows })
+    made(rt, windows.push(Window { end: 60, count: 1 }));
+    State::Count { late: 0, windows }
 }
 
 // The timer of the window to 60.
@@ -142,77 +147,83 @@ fn end_of_window() -> Timer
 }
 
 // The timer of the window alone.
-fn one_timer(alloc: Global) -> Result<TimerList, NoMemory>
-    ensures { IfOk result (λ timers. timers ≡ end_of 60 ∷ []) }
+fn one_timer(rt: &impl Abort, alloc: Global) -> TimerList
+    ensures { result ≡ end_of 60 ∷ [] }
 {
     let mut timers = TimerList::new(alloc);
-    timers.push(end_of_window())?;
-    Ok(timers)
+    made(rt, timers.push(end_of_window()));
+    timers
 }
 
 // What the record at 10 leaves.
-fn counts(alloc: Global) -> Result<Effects, NoMemory>
-    ensures { IfOk result (λ effects. effects ≡ counts (window 60 1 ∷ []) 60) }
+fn counts(rt: &impl Abort, alloc: Global) -> Effects
+    ensures { result ≡ counts (window 60 1 ∷ []) 60 }
 {
-    Ok(Effects {
-        state: one_open(alloc)?,
-        timers: one_timer(alloc)?,
+    Effects {
+        state: one_open(rt, alloc),
+        timers: one_timer(rt, alloc),
         productions: ProductionList::new(alloc),
-    })
+    }
 }
 
-// What the timer of the window leaves.
-fn closes(alloc: Global) -> Result<Effects, NoMemory>
-    ensures { IfOk result (λ effects. effects ≡ closes [] 60 1) }
+// What is produced of the window.
+fn one_production(rt: &impl Abort, alloc: Global) -> ProductionList
+    ensures { result ≡ (closes [] 60 1).productions }
 {
     let mut productions = ProductionList::new(alloc);
     let count = Production {
-        key: key_a(alloc)?,
+        key: key_a(rt, alloc),
         stamp: 60,
         value: 1,
     };
-    productions.push(count)?;
-    Ok(Effects {
+    made(rt, productions.push(count));
+    productions
+}
+
+// What the timer of the window leaves.
+fn closes(rt: &impl Abort, alloc: Global) -> Effects
+    ensures { result ≡ closes [] 60 1 }
+{
+    Effects {
         state: none_open(alloc),
         timers: TimerList::new(alloc),
-        productions,
-    })
+        productions: one_production(rt, alloc),
+    }
 }
 
 // That the record at 10 was handled.
-pub(crate) fn handling(alloc: Global) -> Result<Proposal, NoMemory>
-    ensures { IfOk result (λ proposal.
-        proposal ≡ proposals.Handle sent_delivery (counts (window 60 1 ∷ []) 60)) }
+fn handling(rt: &impl Abort, alloc: Global) -> Proposal
+    ensures { result ≡ proposals.Handle sent_delivery (counts (window 60 1 ∷ []) 60) }
 {
-    Ok(Proposal::Handle {
-        delivery: sent_delivery(alloc)?,
-        effects: counts(alloc)?,
-    })
+    Proposal::Handle {
+        delivery: sent_delivery(rt, alloc),
+        effects: counts(rt, alloc),
+    }
 }
 
 // That the timer of the window fired.
-fn firing(alloc: Global) -> Result<Proposal, NoMemory>
-    ensures { IfOk result (λ proposal.
-        proposal ≡ proposals.Fire (end_of 60) 60 (closes [] 60 1)) }
+fn firing(rt: &impl Abort, alloc: Global) -> Proposal
+    ensures { result ≡ proposals.Fire (end_of 60) 60 (closes [] 60 1) }
 {
-    Ok(Proposal::Fire {
+    Proposal::Fire {
         timer: end_of_window(),
         mark: 60,
-        effects: closes(alloc)?,
-    })
+        effects: closes(rt, alloc),
+    }
 }
 
 // What one has in hand with these leases.
-pub(crate) fn hands(alloc: Global, source: Lease, count: Lease) -> Result<Hands, NoMemory>
+pub(crate) fn hands(rt: &impl Abort, alloc: Global, source: Lease, count: Lease) -> Hands
     requires source { source ≡ first_lease 0 }
     requires count { count ≡ first_lease 1 }
 {
-    Ok(Hands {
+    Hands {
         source,
         count,
         injector: injector_row(alloc),
-        a: row_a(alloc)?,
-        handling: handling(alloc)?,
-        firing: firing(alloc)?,
-    })
+        a: row_a(rt, alloc),
+        injecting: Proposal::Inject { line: 0 },
+        handling: handling(rt, alloc),
+        firing: firing(rt, alloc),
+    }
 }

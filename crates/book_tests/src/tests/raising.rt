@@ -1,21 +1,20 @@
 //! Threads that raise marks: each has a seat and a lease of its own, and none waits for another's turn.
-ghost use Rattle.std.specs.Prelude.{◌≡◌, ◌<◌, ◌∷◌, [], IfOk, IfSome, None, true};
+ghost use Rattle.std.specs.Prelude.{◌≡◌, ◌<◌, ◌∷◌, [], IfSome, None, true};
 ghost use Rattle.run_history.specs.Legal.{MayClaim};
 ghost use Rattle.worked_examples.specs.Rising.{rise_case};
 ghost use Rattle.shared_book.specs.SharedDesks.{shared_home, shared_view};
 ghost use Rattle.book_tests.specs.TestSeats.{GoesOn, IsAtRest};
 
 use super::example::two_line_case;
-use super::seats::Tried;
+use super::must;
+use super::starts::{blind, shared_among};
 use book::{Book, Claimed, Desk, DeskRefusal, Lease};
-use mw_types::{Bytes, Key, NoMemory, RowName};
-use row_keeper::{BlindKeeper, Keeper, KeptRow};
+use row_keeper::Keeper;
 use run_history::Case;
 use shared_book::{Seat, Shared, SharedDesk};
 use std::alloc::Global;
 use std::process::Abort;
 use std::sync::Wait;
-use std::test::Fail;
 use std::thread::{Threads, join, yield_now};
 
 // How often each thread raises a mark.
@@ -71,31 +70,25 @@ fn loaded(loads: Loads, interval: u32, mark: u64) -> Loads {
     }
 }
 
-// One try to claim the interval, and what came of it where there is no lease.
-fn lease_once<K: Keeper>(
-    alloc: Global,
-    desk: &mut SharedDesk<'_, '_, K>,
-    worker: u32,
-    interval: u32,
-) -> Result<Lease, Tried>
-    requires may { MayClaim (shared_view desk.old.seat.now.place.me.0).case worker interval }
-    ensures held { IfOk result (λ lease.
-        (shared_view desk.new.seat.now.place.me.0).leases lease ≡ true) }
-    ensures goes_on { GoesOn (shared_view desk.old.seat.now.place.me.0)
-        (shared_view desk.new.seat.now.place.me.0) }
-    ensures loan { desk.new.seat.ghost_name ≡ desk.old.seat.ghost_name }
-    ensures home { shared_home desk.new.seat.now.place ≡ shared_home desk.old.seat.now.place }
+// The lease that a claim gave.
+fn lease_in(claimed: Claimed) -> Lease
+    ensures { result ≡ claimed.lease }
 {
-    match desk.claim(alloc, worker, interval) {
-        Ok(Claimed { lease, rows: _rows }) => Ok(lease),
-        Err(DeskRefusal::Busy { found }) => Err(Tried::Busy { found }),
-        Err(_why) => Err(Tried::Refused),
-    }
+    let Claimed { lease, rows } = claimed;
+    drop(rows);
+    lease
 }
 
-// A claim of the interval, once nobody else has the turn.
-fn lease_at_last<K: Keeper, R: Wait>(
-    rt: &R,
+// Whether a claim was refused since another had the turn.
+fn is_busy(why: DeskRefusal) -> bool {
+    let is = matches!(&why, DeskRefusal::Busy { .. });
+    drop(why);
+    is
+}
+
+// One try to claim the interval, and no lease where another had the turn. The test ends where it is refused.
+fn lease_once<K: Keeper>(
+    rt: &impl Abort,
     alloc: Global,
     desk: &mut SharedDesk<'_, '_, K>,
     worker: u32,
@@ -109,12 +102,35 @@ fn lease_at_last<K: Keeper, R: Wait>(
     ensures loan { desk.new.seat.ghost_name ≡ desk.old.seat.ghost_name }
     ensures home { shared_home desk.new.seat.now.place ≡ shared_home desk.old.seat.now.place }
 {
-    for _ in rt.forever() {
-        match lease_once(alloc, desk, worker, interval) {
-            Ok(lease) => return Some(lease),
-            Err(Tried::Busy { .. }) => yield_now(),
-            Err(_) => return None,
+    match desk.claim(alloc, worker, interval) {
+        Ok(claimed) => Some(lease_in(claimed)),
+        Err(why) => {
+            must(rt, is_busy(why), "a claim waits for the turn alone");
+            None
         }
+    }
+}
+
+// A claim of the interval, once nobody else has the turn.
+fn lease_at_last<K: Keeper, R: Wait + Abort>(
+    rt: &R,
+    alloc: Global,
+    desk: &mut SharedDesk<'_, '_, K>,
+    worker: u32,
+    interval: u32,
+) -> Lease
+    requires may { MayClaim (shared_view desk.old.seat.now.place.me.0).case worker interval }
+    ensures held { (shared_view desk.new.seat.now.place.me.0).leases result ≡ true }
+    ensures goes_on { GoesOn (shared_view desk.old.seat.now.place.me.0)
+        (shared_view desk.new.seat.now.place.me.0) }
+    ensures loan { desk.new.seat.ghost_name ≡ desk.old.seat.ghost_name }
+    ensures home { shared_home desk.new.seat.now.place ≡ shared_home desk.old.seat.now.place }
+{
+    for _ in rt.forever() {
+        if let Some(lease) = lease_once(rt, alloc, desk, worker, interval) {
+            return lease;
+        }
+        yield_now();
     }
     unreachable!()
 }
@@ -213,7 +229,7 @@ fn raise_all<K: Keeper>(
 }
 
 // A worker claims an interval and raises its mark.
-fn work<K: Keeper, R: Wait>(
+fn work<K: Keeper, R: Wait + Abort>(
     rt: &R,
     alloc: Global,
     desk: &mut SharedDesk<'_, '_, K>,
@@ -229,18 +245,14 @@ fn work<K: Keeper, R: Wait>(
     ensures loan { desk.new.seat.ghost_name ≡ desk.old.seat.ghost_name }
     ensures home { shared_home desk.new.seat.now.place ≡ shared_home desk.old.seat.now.place }
 {
-    match lease_at_last(rt, alloc, desk, worker, interval) {
-        Some(lease) => raise_all(desk, &lease, interval, worker),
-        None => Loads {
-            source: 0,
-            count: 0,
-            is_sound: false,
-        },
-    }
+    let lease = lease_at_last(rt, alloc, desk, worker, interval);
+    let loads = raise_all(desk, &lease, interval, worker);
+    drop(lease);
+    loads
 }
 
 // The same, at the desk of a seat.
-fn at_desk<K: Keeper, R: Wait>(
+fn at_desk<K: Keeper, R: Wait + Abort>(
     rt: &R,
     alloc: Global,
     shared: &Shared<'_, K>,
@@ -262,7 +274,7 @@ fn at_desk<K: Keeper, R: Wait>(
 }
 
 // One thread.
-fn one_thread<K: Keeper, R: Wait>(
+fn one_thread<K: Keeper, R: Wait + Abort>(
     rt: &R,
     alloc: Global,
     shared: &Shared<'_, K>,
@@ -286,7 +298,7 @@ fn one_thread<K: Keeper, R: Wait>(
 
 // Two threads, whose seats are joined once both have ended.
 #[tactic(auto, using(shared_book::proofs::Sending::core_send, shared_book::proofs::Sending::seat_send))]
-fn in_threads<K: Keeper + Send, R: Threads + Wait + Sync>(
+fn in_threads<K: Keeper + Send, R: Threads + Wait + Abort + Sync>(
     rt: &R,
     alloc: Global,
     shared: &Shared<'_, K>,
@@ -338,85 +350,36 @@ fn in_threads<K: Keeper + Send, R: Threads + Wait + Sync>(
     both
 }
 
-// Whether all that two threads loaded is as it has to be, and the book has two claims and these marks: the
-// injector's, and of the count's interval the greatest to which it was raised.
-fn are_raised<K: Keeper>(book: &Book<'_, K>, source: u64, first: Loads, second: Loads) -> bool {
-    let marks = [source, first.count.max(second.count)];
-    book.history().len() == 2
-        && first.is_sound
-        && second.is_sound
-        && book.marks() == marks.as_slice()
+// Whether a book has two claims and these marks. It is let go here.
+fn has_marks<K: Keeper>(book: Book<'_, K>, marks: &[u64]) -> bool {
+    let has = book.history().len() == 2 && book.marks() == marks;
+    drop(book);
+    has
 }
 
-// The book comes back with the marks to which the threads raised them.
-fn comes_back<K: Keeper>(rt: &impl Abort, shared: Shared<'_, K>, both: Joined<K>, source: u64)
-    requires rest { let table = shared.table.shared in
-        IsAtRest table.table_id shared.case.now 2 (0 ∷ 1 ∷ []) both.seat.place }
+// Whether all that two threads loaded is as it has to be, and a book has the injector's mark and, of the count's
+// interval, the greatest to which it was raised.
+fn are_raised<K: Keeper>(book: Book<'_, K>, source: u64, first: Loads, second: Loads) -> bool {
+    let count = first.count.max(second.count);
+    has_marks(book, &[source, count]) && first.is_sound && second.is_sound
+}
+
+// Two threads over the seats of a book: all that they loaded is as it has to be, and the book comes back with the
+// marks to which they raised them.
+fn two_threads<R: Threads + Wait + Abort + Sync>(rt: &R, alloc: Global, case: &Case, row: Row)
+    requires case { case.now ≡ rise_case }
 {
+    let (shared, seat) = shared_among(rt, alloc, case, blind(alloc), 8, 2);
+    let mut other = seat;
+    let one = shared.deal(&mut other);
     let Joined {
         seat,
         first,
         second,
-    } = both;
+    } = in_threads(rt, alloc, &shared, one, other, row.one, row.other);
     let book = shared.close(seat);
-    assert!(rt; are_raised(&book, source, first, second));
-}
-
-// Two threads over the seats of a book.
-fn two_threads<K: Keeper + Send, R: Threads + Wait + Abort + Sync>(
-    rt: &R,
-    alloc: Global,
-    shared: Shared<'_, K>,
-    seat: Seat<K>,
-    row: Row,
-)
-    requires case { shared.case.now ≡ rise_case }
-    requires untold { seat.place.me.0.basis.told ≡ None }
-    requires rest { let table = shared.table.shared in
-        IsAtRest table.table_id shared.case.now 2 (0 ∷ 1 ∷ []) seat.place }
-    requires first { seat.number ≡ 0 }
-{
-    let mut other = seat;
-    let one = shared.deal(&mut other);
-    let both = in_threads(rt, alloc, &shared, one, other, row.one, row.other);
-    comes_back(rt, shared, both, row.source);
-}
-
-// The book is shared among two seats.
-fn shared<K: Keeper + Send, R: Threads + Wait + Abort + Sync>(
-    rt: &R,
-    alloc: Global,
-    book: Book<'_, K>,
-    row: Row,
-)
-    requires case { book.case ≡ rise_case }
-    requires untold { book.rows ≡ None }
-{
-    match Shared::start(alloc, book, 2) {
-        Ok((shared, seat)) => two_threads(rt, alloc, shared, seat, row),
-        Err(_refusal) => assert!(rt; false),
-    }
-}
-
-// A keeper that tells no row, and shows none of a part that is there.
-fn blind(alloc: Global) -> BlindKeeper {
-    let name = RowName {
-        part: 2,
-        key: Key::none(alloc),
-    };
-    let bytes = Bytes::new(alloc);
-    BlindKeeper::new(KeptRow { name, bytes })
-}
-
-// A book over such a keeper, in which nothing has happened yet.
-fn blind_book<'a>(alloc: Global, case: &'a Case) -> Result<Book<'a, BlindKeeper>, NoMemory>
-    ensures case { IfOk result (λ book. book.case ≡ case.now) }
-    ensures untold { IfOk result (λ book. book.rows ≡ None) }
-{
-    match Book::start(alloc, case, blind(alloc), 8) {
-        Ok(book) => Ok(book),
-        Err(_) => Err(NoMemory),
-    }
+    let are = are_raised(book, row.source, first, second);
+    must(rt, are, row.source);
 }
 
 // Each raises the mark of its own interval; both raise the injector's, where the lease that was claimed first is
@@ -445,12 +408,16 @@ const ROWS: [Row; 4] = [
     },
 ];
 
-#[test]
-fn marks_rise_in_threads(rt: HostRuntime) -> Result<(), Fail> {
-    let alloc = rt.alloc();
-    let case = two_line_case(alloc)?;
+// The threads of each row.
+fn each_row<R: Threads + Wait + Abort + Sync>(rt: &R, alloc: Global) {
+    let case = two_line_case(rt, alloc);
     for row in &ROWS {
-        shared(&rt, alloc, blind_book(alloc, &case)?, *row);
+        two_threads(rt, alloc, &case, *row);
     }
-    Ok(())
+    drop(case);
+}
+
+#[test]
+fn marks_rise_in_threads(rt: HostRuntime) {
+    each_row(&rt, rt.alloc());
 }

@@ -1,52 +1,25 @@
 //! The marks rise while a line is worked off, over a keeper that tells its rows, one that does not,
 //! and one that fails at each of its calls in turn.
-ghost use Rattle.std.specs.Prelude.{◌≡◌, ◌∷◌, [], IfOk};
+ghost use Rattle.std.specs.Prelude.{◌≡◌};
 ghost use Rattle.worked_examples.specs.Rising.{rise_case, row_closed, row_counted, row_injected};
-ghost use Rattle.book_tests.specs.TestBooks.{HasRisen, first_lease};
+ghost use Rattle.book_tests.specs.TestBooks.{HasRisen};
 
-use super::calls::{claim, fire, handle, inject, purge, report, settle};
-use super::example::{hands, none_open, two_line_case};
+use super::calls::{RECORD, report};
+use super::example::none_open;
 use super::hands::Hands;
-use super::trials::{
-    Sight, Trial, fail_claim, fail_fire, fail_handle, fail_inject, fail_purge, fail_settle, sight,
-};
-use book::{Book, Claimed, Lease, Stale, StartRefusal, StartWhy, Written};
-use mw_types::{Bytes, CallList, Key, RowName, State};
-use row_keeper::{BlindKeeper, Keeper, KeptRow, MemKeeper};
+use super::must;
+use super::plays::{Kept, Play, Setting, play_all};
+use super::trials::{Trial, injected, step};
+use book::{Book, Stale};
+use row_keeper::Keeper;
 use row_parts::Row;
-use run_history::Case;
-use std::alloc::Global;
 use std::process::Abort;
-use std::test::Fail;
 
-// A book looks so.
-fn expect<K: Keeper>(rt: &impl Abort, book: &Book<'_, K>, want: Sight) {
-    assert!(rt; sight(book) == want);
-}
-
-// What is to be sent first: the id's commit number and index, the row's part, and how long its key is.
-fn sender<K: Keeper>(book: &Book<'_, K>) -> Option<(u64, u32, u32, usize)> {
+// Whether the first record of entry 2 is to be sent first, by the injector's row.
+fn sends_record<K: Keeper>(book: &Book<'_, K>, hands: &Hands) -> bool {
     match book.least_sent() {
-        Some((id, name)) => Some((id.commit, id.index, name.part, name.key.text().len())),
-        None => None,
-    }
-}
-
-// The injector's row sent the record 0 of entry 2, and nothing earlier is to be sent.
-fn expect_sender<K: Keeper>(rt: &impl Abort, book: &Book<'_, K>) {
-    assert!(rt; sender(book) == Some((2, 0, 0, 0)));
-}
-
-// Nothing is to be sent.
-fn expect_no_sender<K: Keeper>(rt: &impl Abort, book: &Book<'_, K>) {
-    assert!(rt; sender(book).is_none());
-}
-
-// A report was accepted, and answered this mark.
-fn expect_mark(rt: &impl Abort, reported: Result<u64, Stale>, want: u64) {
-    match reported {
-        Ok(mark) => assert!(rt; mark == want),
-        Err(_) => assert!(rt; false),
+        Some((id, name)) => id == RECORD && *name == hands.injector,
+        None => false,
     }
 }
 
@@ -57,186 +30,82 @@ fn source_mark<K: Keeper>(book: &Book<'_, K>) -> u64
     book.mark(0)
 }
 
-// Starts a book over a keeper whose first call does not fail.
-fn try_start<K: Keeper>(rt: &impl Abort, trial: Trial, case: &Case, keeper: K)
-    requires { case.now ≡ rise_case }
-{
-    match Book::start(trial.alloc, case, keeper, 8) {
-        Ok(book) => try_rise(rt, trial, book),
-        Err(_) => assert!(rt; false),
-    }
+// Whether a report was accepted, and answered this mark.
+fn is_mark(reported: Result<u64, Stale>, want: u64) -> bool {
+    reported == Ok(want)
 }
 
-// Starts a book over a keeper whose first call fails, and again over the keeper that comes back.
-fn try_start_again<K: Keeper>(rt: &impl Abort, trial: Trial, case: &Case, keeper: K)
-    requires { case.now ≡ rise_case }
-{
-    match Book::start(trial.alloc, case, keeper, 8) {
-        Ok(_) => assert!(rt; false),
-        Err(StartRefusal { why, keeper }) => {
-            assert!(rt; matches!(why, StartWhy::KeeperFault));
-            try_start(rt, trial, case, keeper);
-        }
-    }
-}
-
-// Worker 0 claims both intervals, and works off the first line.
-fn try_rise<K: Keeper>(rt: &impl Abort, trial: Trial, book: Book<'_, K>)
-    requires risen { HasRisen 0 book }
-{
-    let mut book = book;
-    fail_claim(rt, trial, &mut book, 0);
-    match claim(trial.alloc, &mut book, 0) {
-        Ok(Claimed { lease, rows }) => {
-            assert!(rt; rows.is_empty());
-            try_second(rt, trial, &mut book, lease);
-        }
-        Err(_) => assert!(rt; false),
-    }
-}
-
-// Worker 0 claims the interval of the count.
-fn try_second<K: Keeper>(rt: &impl Abort, trial: Trial, book: &mut Book<'_, K>, source: Lease)
-    requires risen { HasRisen 1 book.old }
-    requires source { source ≡ first_lease 0 }
-{
-    fail_claim(rt, trial, book, 1);
-    match claim(trial.alloc, book, 1) {
-        Ok(Claimed { lease, rows }) => {
-            assert!(rt; rows.is_empty());
-            try_claimed(rt, trial, book, source, lease);
-        }
-        Err(_) => assert!(rt; false),
-    }
-}
-
-// Worker 0 has claimed both intervals.
-fn try_claimed<K: Keeper>(
-    rt: &impl Abort,
-    trial: Trial,
-    book: &mut Book<'_, K>,
-    source: Lease,
-    count: Lease,
-)
-    requires risen { HasRisen 2 book.old }
-    requires source { source ≡ first_lease 0 }
-    requires count { count ≡ first_lease 1 }
-{
-    match hands(trial.alloc, source, count) {
-        Ok(hands) => try_inject(rt, trial, book, &hands),
-        Err(_) => assert!(rt; false),
-    }
-}
-
-// The first line is injected.
-fn try_inject<K: Keeper>(rt: &impl Abort, trial: Trial, book: &mut Book<'_, K>, hands: &Hands)
-    requires risen { HasRisen 2 book.old }
-{
-    expect(rt, book, (2, 2, 1, 0, 0));
-    let fresh = Row::new(trial.alloc, State::Injector { cursor: 0 });
-    fail_inject(rt, trial, book, hands, &fresh);
-    match inject(trial.alloc, book, hands, &fresh) {
-        Ok(Written { commit, row }) => {
-            assert!(rt; commit == 2);
-            expect_sender(rt, book);
-            expect(rt, book, (3, 2, 2, 0, 0));
-            try_handle(rt, trial, book, hands, &row);
-        }
-        Err(_) => assert!(rt; false),
-    }
-}
-
-// The record is handled.
-fn try_handle<K: Keeper>(
-    rt: &impl Abort,
-    trial: Trial,
-    book: &mut Book<'_, K>,
-    hands: &Hands,
-    injected: &Row,
-)
+// The record is to be sent, the injector's interval reports, and the record is handled.
+fn handled<K: Keeper>(rt: &impl Abort, trial: Trial, book: &mut Book<'_, K>, hands: &Hands) -> Row
     requires risen { HasRisen 3 book.old }
-    requires injected { injected.now ≡ row_injected }
+    ensures risen { HasRisen 4 book.new }
+    ensures left { result ≡ row_counted }
 {
-    expect_mark(rt, report(book, &hands.source, 0, 3, 10), 10);
+    let is_sent = sends_record(book, hands);
+    let mark = report(book, &hands.source, 0, 3, 10);
+    let is_so = is_sent && is_mark(mark, 10);
+    must(rt, is_so, "the record is to be sent, and a mark of 10");
     let fresh = Row::new(trial.alloc, none_open(trial.alloc));
-    fail_handle(rt, trial, book, hands, &fresh);
-    match handle(trial.alloc, book, hands, &fresh) {
-        Ok(Written { commit, row }) => {
-            assert!(rt; commit == 3);
-            expect(rt, book, (4, 2, 3, 10, 0));
-            try_settle(rt, trial, book, hands, injected, &row);
-        }
-        Err(_) => assert!(rt; false),
-    }
+    let row = step(rt, trial, book, hands, &fresh, 3);
+    drop(fresh);
+    row
 }
 
-// The sender settles the record.
-fn try_settle<K: Keeper>(
+// Whether nothing is pending in a row.
+fn is_settled(row: Row) -> bool {
+    let is = row.pending.is_empty();
+    drop(row);
+    is
+}
+
+// The interval of the count reports, and the sender settles the record: nothing is to be sent.
+fn settled<K: Keeper>(
     rt: &impl Abort,
     trial: Trial,
     book: &mut Book<'_, K>,
     hands: &Hands,
     injected: &Row,
-    counted: &Row,
 )
     requires risen { HasRisen 4 book.old }
     requires injected { injected.now ≡ row_injected }
-    requires counted { counted.now ≡ row_counted }
+    ensures risen { HasRisen 5 book.new }
 {
-    expect_mark(rt, report(book, &hands.count, 1, 4, 60), 10);
-    fail_settle(rt, trial, book, hands, injected);
-    match settle(trial.alloc, book, hands, injected) {
-        Ok(Written { commit, row }) => {
-            assert!(rt; commit == 4 && row.pending.is_empty());
-            expect_no_sender(rt, book);
-            expect(rt, book, (5, 5, 2, 10, 10));
-            try_source(rt, trial, book, hands, counted);
-        }
-        Err(_) => assert!(rt; false),
-    }
+    let mark = report(book, &hands.count, 1, 4, 60);
+    let row = step(rt, trial, book, hands, injected, 4);
+    let is_so = is_settled(row) && is_mark(mark, 10) && book.least_sent().is_none();
+    must(rt, is_so, "a mark of 10, and nothing to be sent");
 }
 
-// The injector's interval reports.
-fn try_source<K: Keeper>(
+// Both intervals report, and the timer of the window fires.
+fn fired<K: Keeper>(
     rt: &impl Abort,
     trial: Trial,
     book: &mut Book<'_, K>,
     hands: &Hands,
     counted: &Row,
-)
+) -> Row
     requires risen { HasRisen 5 book.old }
     requires counted { counted.now ≡ row_counted }
+    ensures risen { HasRisen 6 book.new }
+    ensures left { result ≡ row_closed }
 {
-    expect_mark(rt, report(book, &hands.source, 0, 5, 60), 60);
-    try_fire(rt, trial, book, hands, counted);
+    let source = report(book, &hands.source, 0, 5, 60);
+    let raised = source_mark(book);
+    let count = report(book, &hands.count, 1, 5, 60);
+    let is_so = is_mark(source, 60) && raised == 60 && is_mark(count, 60);
+    must(rt, is_so, "both marks rise to 60");
+    step(rt, trial, book, hands, counted, 5)
 }
 
-// The interval of the count reports, and the timer of its window fires.
-fn try_fire<K: Keeper>(
-    rt: &impl Abort,
-    trial: Trial,
-    book: &mut Book<'_, K>,
-    hands: &Hands,
-    counted: &Row,
-)
-    requires risen { HasRisen 5 book.old }
-    requires counted { counted.now ≡ row_counted }
-{
-    assert!(rt; source_mark(book) == 60);
-    expect_mark(rt, report(book, &hands.count, 1, 5, 60), 60);
-    fail_fire(rt, trial, book, hands, counted);
-    match fire(trial.alloc, book, hands, counted) {
-        Ok(Written { commit, row }) => {
-            assert!(rt; commit == 5);
-            expect(rt, book, (6, 6, 1, 60, 60));
-            try_purge(rt, trial, book, hands, &row);
-        }
-        Err(_) => assert!(rt; false),
-    }
+// Whether a row has forgotten all below 6.
+fn is_purged(row: Row) -> bool {
+    let is = row.floor == 6 && row.seen.is_empty();
+    drop(row);
+    is
 }
 
 // The row is purged.
-fn try_purge<K: Keeper>(
+fn purged<K: Keeper>(
     rt: &impl Abort,
     trial: Trial,
     book: &mut Book<'_, K>,
@@ -246,63 +115,39 @@ fn try_purge<K: Keeper>(
     requires risen { HasRisen 6 book.old }
     requires closed { closed.now ≡ row_closed }
 {
-    fail_purge(rt, trial, book, hands, closed);
-    match purge(trial.alloc, book, hands, closed) {
-        Ok(Written { commit, row }) => {
-            assert!(rt; commit == 6 && row.floor == 6 && row.seen.is_empty());
-            expect(rt, book, (7, 7, 1, 60, 60));
-        }
-        Err(_) => assert!(rt; false),
-    }
+    let row = step(rt, trial, book, hands, closed, 6);
+    must(rt, is_purged(row), "the row forgets what is below 6");
 }
 
-// No call of the keeper.
-const NONE: u64 = 100;
-
-#[test]
-fn marks_rise(rt: HostRuntime) -> Result<(), Fail> {
-    let alloc = rt.alloc();
-    let case = two_line_case(alloc)?;
-    let trial = Trial {
-        alloc,
-        failing: NONE,
-    };
-    let keeper = MemKeeper::new(alloc, CallList::new(alloc));
-    try_start(&rt, trial, &case, keeper);
-    Ok(())
+// Worker 0 works off the first line.
+pub(crate) fn rise<K: Keeper>(rt: &impl Abort, trial: Trial, book: &mut Book<'_, K>, hands: &Hands)
+    requires risen { HasRisen 2 book.old }
+{
+    let injected = injected(rt, trial, book, hands);
+    let counted = handled(rt, trial, book, hands);
+    settled(rt, trial, book, hands, &injected);
+    let closed = fired(rt, trial, book, hands, &counted);
+    purged(rt, trial, book, hands, &closed);
+    drop(closed);
+    drop(counted);
+    drop(injected);
 }
 
-#[test]
-fn marks_rise_over_a_blind_keeper(rt: HostRuntime) -> Result<(), Fail> {
-    let alloc = rt.alloc();
-    let case = two_line_case(alloc)?;
-    let trial = Trial {
-        alloc,
-        failing: NONE,
-    };
-    let name = RowName {
-        part: 2,
-        key: Key::none(alloc),
-    };
-    let bytes = Bytes::new(alloc);
-    try_start(&rt, trial, &case, BlindKeeper::new(KeptRow { name, bytes }));
-    Ok(())
-}
+// Each call of the keeper fails in turn.
+static SETTINGS: [Setting; 10] = [
+    (Kept::Sound, 8, Play::Rise),
+    (Kept::Blind, 8, Play::Rise),
+    (Kept::Failing(0), 8, Play::Rise),
+    (Kept::Failing(1), 8, Play::Rise),
+    (Kept::Failing(2), 8, Play::Rise),
+    (Kept::Failing(3), 8, Play::Rise),
+    (Kept::Failing(4), 8, Play::Rise),
+    (Kept::Failing(5), 8, Play::Rise),
+    (Kept::Failing(6), 8, Play::Rise),
+    (Kept::Failing(7), 8, Play::Rise),
+];
 
 #[test]
-fn each_keeper_call_fails(rt: HostRuntime) -> Result<(), Fail> {
-    let alloc = rt.alloc();
-    let case = two_line_case(alloc)?;
-    for failing in 0..8 {
-        let mut calls = CallList::new(alloc);
-        calls.push(failing)?;
-        let keeper = MemKeeper::new(alloc, calls);
-        let trial = Trial { alloc, failing };
-        if failing == 0 {
-            try_start_again(&rt, trial, &case, keeper);
-        } else {
-            try_start(&rt, trial, &case, keeper);
-        }
-    }
-    Ok(())
+fn marks_rise(rt: HostRuntime) {
+    play_all(&rt, rt.alloc(), &SETTINGS);
 }

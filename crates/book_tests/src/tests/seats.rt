@@ -20,15 +20,26 @@ pub(crate) enum Tried {
     KeeperFault,
     // The turn was there, and the book refused.
     Refused,
+    // The turn was there, and was given back.
+    Given,
+}
+
+// Whether this came of tries.
+pub(crate) fn are_tried(tried: &[Tried], want: &[Tried]) -> bool {
+    tried == want
 }
 
 // What came of a claim in a turn.
 fn of_claim(claimed: Result<Claimed, ClaimRefusal>) -> Tried {
-    match claimed {
-        Ok(Claimed { lease, rows: _rows }) => Tried::Claimed { seq: lease.seq() },
+    let tried = match &claimed {
+        Ok(claimed) => Tried::Claimed {
+            seq: claimed.lease.seq(),
+        },
         Err(ClaimRefusal::KeeperFault) => Tried::KeeperFault,
-        Err(_why) => Tried::Refused,
-    }
+        Err(_) => Tried::Refused,
+    };
+    drop(claimed);
+    tried
 }
 
 // A claim in a turn.
@@ -80,7 +91,7 @@ pub(crate) fn claim_once<K: Keeper>(
 }
 
 // One try for the turn, which is given back at once.
-pub(crate) fn try_once<K: Keeper>(shared: &Shared<'_, K>, seat: &mut Seat<K>) -> u64
+pub(crate) fn try_once<K: Keeper>(shared: &Shared<'_, K>, seat: &mut Seat<K>) -> Tried
     requires rest { let table = shared.now.table.shared in let v = seat.old.place.me.0 in
         IsAtRest table.table_id shared.now.case.now v.basis.seats v.numbers seat.old.place }
     ensures rest { let table = shared.now.table.shared in let v = seat.old.place.me.0 in
@@ -89,8 +100,8 @@ pub(crate) fn try_once<K: Keeper>(shared: &Shared<'_, K>, seat: &mut Seat<K>) ->
     match seat.try_turn(&*shared) {
         Ok(turn) => {
             turn.release();
-            0
+            Tried::Given
         }
-        Err(busy) => busy.found,
+        Err(busy) => Tried::Busy { found: busy.found },
     }
 }

@@ -1,23 +1,26 @@
 //! Threads that append to one history: each has a seat of its own, and tries for the turn until it has
 //! claimed as often as it is to.
-ghost use Rattle.std.specs.Prelude.{◌≡◌, ◌<◌, ◌≤◌, ◌+◌, ◌-◌};
+ghost use Rattle.std.specs.Prelude.{◌≡◌, ◌<◌, ◌≤◌, ◌+◌, ◌-◌, []};
 ghost use Rattle.std.specs.Thread.{IsSync, IsSend};
 ghost use Rattle.run_history.specs.Legal.{MayClaim};
 ghost use Rattle.worked_examples.specs.Rising.{rise_case};
+ghost use Rattle.shared_book.specs.Joins.{joined};
 ghost use Rattle.shared_book.specs.Opening.{span};
+ghost use Rattle.shared_book.specs.Turns.{IsHere, IsIdle};
 ghost use Rattle.book_tests.specs.TestSeats.{IsAtRest};
 
 use super::example::two_line_case;
 use super::histories::expect_shares;
+use super::made;
 use super::seats::{Tried, claim_once};
-use super::starts::started;
+use super::starts::{in_memory, shared_among};
 use book::Book;
 use row_keeper::Keeper;
+use run_history::Case;
 use shared_book::{Seat, Shared};
 use std::alloc::Global;
 use std::process::Abort;
 use std::sync::Wait;
-use std::test::Fail;
 use std::thread::{Threads, join, yield_now};
 
 // How often each worker is to claim.
@@ -30,16 +33,24 @@ struct Ended<K: Keeper> {
     numbers: Vec<Vec<u64>>,
 }
 
-// Tries for the turn until the interval is claimed: the number of the claim, or none where the book
-// refused.
-fn claim_at_last<K: Keeper, R: Wait>(
+// The number of a claim, or none where another had the turn. The test ends where the book refused.
+fn number_of(rt: &impl Abort, tried: Tried) -> Option<u64> {
+    match tried {
+        Tried::Claimed { seq } => Some(seq),
+        Tried::Busy { .. } => None,
+        _ => rt.panic("a claim is refused"),
+    }
+}
+
+// Tries for the turn until the interval is claimed: the number of the claim.
+fn claim_at_last<K: Keeper, R: Wait + Abort>(
     rt: &R,
     alloc: Global,
     shared: &Shared<'_, K>,
     seat: &mut Seat<K>,
     worker: u32,
     interval: u32,
-) -> Option<u64>
+) -> u64
     requires rest { let table = shared.now.table.shared in let v = seat.old.place.me.0 in
         IsAtRest table.table_id shared.now.case.now v.basis.seats v.numbers seat.old.place }
     requires may { MayClaim shared.now.case.now worker interval }
@@ -47,16 +58,16 @@ fn claim_at_last<K: Keeper, R: Wait>(
         IsAtRest table.table_id shared.now.case.now v.basis.seats v.numbers seat.new.place }
 {
     for _ in rt.forever() {
-        match claim_once(alloc, shared, seat, worker, interval) {
-            Tried::Busy { found: _ } => yield_now(),
-            Tried::Claimed { seq } => return Some(seq),
-            Tried::KeeperFault | Tried::Refused => return None,
+        let tried = claim_once(alloc, shared, seat, worker, interval);
+        if let Some(number) = number_of(rt, tried) {
+            return number;
         }
+        yield_now();
     }
     unreachable!()
 }
 
-// A worker claims so often, one interval after the other, and has the numbers of its claims.
+// A worker claims so often, one interval after the other, and notes the numbers of its claims.
 fn claim_share<K: Keeper, R: Wait + Abort>(
     rt: &R,
     alloc: Global,
@@ -64,7 +75,8 @@ fn claim_share<K: Keeper, R: Wait + Abort>(
     seat: &mut Seat<K>,
     worker: u32,
     share: u32,
-) -> Vec<u64>
+    numbers: &mut Vec<u64>,
+)
     requires case { shared.now.case.now ≡ rise_case }
     requires worker { worker < 4 }
     requires rest { let table = shared.now.table.shared in let v = seat.old.place.me.0 in
@@ -72,15 +84,11 @@ fn claim_share<K: Keeper, R: Wait + Abort>(
     ensures rest { let table = shared.now.table.shared in let v = seat.old.place.me.0 in
         IsAtRest table.table_id shared.now.case.now v.basis.seats v.numbers seat.new.place }
 {
-    let mut numbers = Vec::new(alloc);
     for nth in 0..share {
         let interval = worker.wrapping_add(nth) % 2;
         let number = claim_at_last(rt, alloc, shared, seat, worker, interval);
-        numbers
-            .push(number.expect(rt, "the claim is accepted"))
-            .expect(rt, "memory");
+        made(rt, numbers.push(number));
     }
-    numbers
 }
 
 // One thread: a worker claims so often through a seat of its own.
@@ -100,10 +108,39 @@ fn one_thread<K: Keeper, R: Wait + Abort>(
         IsAtRest table.table_id shared.now.case.now v.basis.seats v.numbers result.seat.place }
 {
     let mut seat = seat;
-    let own = claim_share(rt, alloc, shared, &mut seat, worker, share);
-    let mut numbers = Vec::new(alloc);
-    numbers.push(own).expect(rt, "memory");
+    let mut own = Vec::new(alloc);
+    claim_share(rt, alloc, shared, &mut seat, worker, share, &mut own);
+    let numbers = made(rt, vec![in alloc; own]);
     Ended { seat, numbers }
+}
+
+// Puts more lists behind those of other workers.
+fn put_behind(rt: &impl Abort, numbers: &mut Vec<Vec<u64>>, more: Vec<Vec<u64>>) {
+    let mut more = more;
+    made(rt, numbers.append(&mut more));
+    drop(more);
+}
+
+// A seat takes in that of another thread, whose numbers are put behind its own.
+fn taken_in<K: Keeper>(
+    rt: &impl Abort,
+    shared: &Shared<'_, K>,
+    others: Ended<K>,
+    one: Ended<K>,
+) -> Ended<K>
+    requires here { IsHere shared.now.table.shared.table_id shared.now.case.now others.seat.place }
+    requires idle { IsIdle others.seat.place.me }
+    requires other { IsHere shared.now.table.shared.table_id shared.now.case.now one.seat.place }
+    requires other_idle { IsIdle one.seat.place.me }
+    ensures here { IsHere shared.now.table.shared.table_id shared.now.case.now result.seat.place }
+    ensures view { result.seat.place.me
+        ≡ (joined others.seat.place.me.0 one.seat.place.me.0, []) }
+{
+    let Ended { seat, numbers } = one;
+    let mut all = others;
+    shared.join(&mut all.seat, seat);
+    put_behind(rt, &mut all.numbers, numbers);
+    all
 }
 
 // A seat deals its first number to a thread, and the rest of them in a thread beside it; the seats are
@@ -157,52 +194,38 @@ fn in_threads<K: Keeper + Send, R: Threads + Wait + Abort + Sync>(
                 (span rest.number (next + 1)) result.seat.place }
         { in_threads(rt, alloc, shared, rest, shares, next) },
     );
-    let Ended { seat, numbers } = first;
-    let mut all = others;
-    shared.join(&mut all.seat, seat);
-    let mut own = numbers;
-    all.numbers.append(&mut own).expect(rt, "memory");
-    all
+    taken_in(rt, shared, others, first)
+}
+
+// The history of a book has what the workers were answered. Both are let go here.
+fn has_shares<K: Keeper>(
+    rt: &impl Abort,
+    book: Book<'_, K>,
+    numbers: Vec<Vec<u64>>,
+    shares: &Shares,
+) {
+    expect_shares(rt, book.history().entries(), numbers.as_slice(), shares);
+    drop(numbers);
+    drop(book);
 }
 
 // The threads of a shared book, which comes back with what all of them appended.
-fn all_threads<K: Keeper + Send, R: Threads + Wait + Abort + Sync>(
+fn all_threads<R: Threads + Wait + Abort + Sync>(
     rt: &R,
     alloc: Global,
-    shared: Shared<'_, K>,
-    seat: Seat<K>,
-    shares: Shares,
+    case: &Case,
     seats: u32,
+    shares: Shares,
 )
-    requires case { shared.case.now ≡ rise_case }
+    requires case { case.now ≡ rise_case }
     requires some { 0 < seats }
     requires few { seats ≤ 4 }
-    requires rest { let table = shared.table.shared in
-        IsAtRest table.table_id shared.case.now seats (span 0 seats) seat.place }
-    requires first { seat.number ≡ 0 }
 {
+    let keeper = in_memory(rt, alloc, &[]);
+    let (shared, seat) = shared_among(rt, alloc, case, keeper, 10_000, seats);
     let Ended { seat, numbers } = in_threads(rt, alloc, &shared, seat, shares, seats - 1);
     let book = shared.close(seat);
-    let entries = book.history().entries();
-    expect_shares(rt, alloc, entries, numbers.as_slice(), shares);
-}
-
-// The book is shared.
-fn shared<K: Keeper + Send, R: Threads + Wait + Abort + Sync>(
-    rt: &R,
-    alloc: Global,
-    book: Book<'_, K>,
-    shares: Shares,
-    seats: u32,
-)
-    requires case { book.case ≡ rise_case }
-    requires some { 0 < seats }
-    requires few { seats ≤ 4 }
-{
-    match Shared::start(alloc, book, seats) {
-        Ok((shared, seat)) => all_threads(rt, alloc, shared, seat, shares, seats),
-        Err(_refusal) => assert!(rt; false),
-    }
+    has_shares(rt, book, numbers, &shares);
 }
 
 // So many threads, and how often each claims.
@@ -212,13 +235,17 @@ const THREADS: [(u32, Shares); 3] = [
     (4, [2500, 2500, 2500, 2500]),
 ];
 
-#[test]
-fn threads_append_to_one_history(rt: HostRuntime) -> Result<(), Fail> {
-    let alloc = rt.alloc();
-    let case = two_line_case(alloc)?;
+// The threads of each row.
+fn each_row<R: Threads + Wait + Abort + Sync>(rt: &R, alloc: Global) {
+    let case = two_line_case(rt, alloc);
     for row in &THREADS {
         let (seats, shares) = *row;
-        shared(&rt, alloc, started(alloc, &case, 10_000)?, shares, seats);
+        all_threads(rt, alloc, &case, seats, shares);
     }
-    Ok(())
+    drop(case);
+}
+
+#[test]
+fn threads_append_to_one_history(rt: HostRuntime) {
+    each_row(&rt, rt.alloc());
 }

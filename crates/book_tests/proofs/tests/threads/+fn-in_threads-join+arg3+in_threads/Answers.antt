@@ -2,7 +2,7 @@ use Rattle.std.proofs.Common.{◌≡◌, ◌+◌, ◌-◌, suc, ap, ◌∙◌, a
 use Rattle.shared_book.specs.Opening.{span}
 use Rattle.shared_book.specs.Steps.{SeatView}
 use denote.RattleType.{RattleType}
-use denote.Param.Send.{IsSend, param_send, sendable}
+use denote.Param.Send.{IsSend, sendable}
 use Rattle.std.proofs.Crossing.{crosses, send}
 use Rattle.row_keeper.specs.declared.keeper.Keeper.{Ghosts}
 use Rattle.book_tests.specs.contracts.tests.threads.Ended as Ended
@@ -35,14 +35,14 @@ returns g t c =
     let dealt = c.deal-one.ensures in
     let first = c.join-first.ensures.first in
     let others = c.join-first.ensures.second in
-    let view = c.join.ensures.view in
+    let view = c.taken_in.ensures.view in
     let number = c.deal-one.new.seat.number in
     let back : (c.args.left - 1) + 1 ≡ c.args.left = omega arith in
     let end : suc c.args.left ≡ c.args.left + 1 = omega arith in
     let next : number ≡ suc seat.number = omega (arith, dealt.next) in
     record {
       rest = record {
-        here = c.join.ensures.here;
+        here = c.taken_in.ensures.here;
         idle = record {
           turn = ap (λ (m : SeatView). m.0.turn) view ∙ others.idle.turn;
           places = ap (λ (m : SeatView). m.1) view;
