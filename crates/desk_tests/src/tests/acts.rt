@@ -5,6 +5,7 @@ ghost use Rattle.node.specs.Messages.{IsAddressed, IsVouchedFor};
 ghost use Rattle.node.specs.Received.{note_of, outgoing_of};
 
 use super::example::Example;
+use super::must;
 use book::{Desk, Seen};
 use node::{Message, Node, NodeFault, Outcome};
 use std::alloc::Global;
@@ -189,6 +190,6 @@ pub(crate) fn drive<N: Seen, D: Desk<Note = N>>(
         let (act, want) = *step;
         nth = nth.saturating_add(1);
         let answer = act_on(alloc, given, desk, node, act);
-        assert!(rt; short(answer) == want, "{nth}");
+        must(rt, short(answer) == want, nth);
     }
 }

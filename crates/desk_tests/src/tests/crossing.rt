@@ -6,6 +6,7 @@ ghost use Rattle.shared_book.specs.SharedDesks.{shared_home, shared_view};
 
 use super::acts::{Act, Answer, act_on, receive, short};
 use super::example::Example;
+use super::must;
 use book::Desk;
 use node::{Node, NodeFault, Outcome};
 use row_keeper::Keeper;
@@ -175,7 +176,7 @@ fn take_steps<K: Keeper>(
         let (step, want) = *row;
         nth = nth.saturating_add(1);
         let answer = stepped(alloc, given, one, first, other, second, step);
-        assert!(rt; short(answer) == want, "{nth}");
+        must(rt, short(answer) == want, nth);
     }
 }
 

@@ -6,9 +6,10 @@ ghost use Rattle.node.specs.Fits.{Fits};
 ghost use Rattle.desk_tests.specs.DeskTests.{IsAtRest};
 
 use super::acts::{Answer, short};
+use super::made;
 use book::{Book, Desk, Seen};
 use injector::{Items, ItemsList, read_lines};
-use mw_types::{CallList, Entry, NoMemory};
+use mw_types::{CallList, Entry};
 use node::Node;
 use row_keeper::{Keeper, MemKeeper};
 use run_history::Case;
@@ -16,7 +17,6 @@ use shared_book::{Seat, Shared, SharedDesk};
 use std::alloc::Global;
 use std::process::Abort;
 use std::sync::Wait;
-use std::test::Fail;
 use std::thread::{Threads, join, yield_now};
 use topology::read;
 
@@ -230,44 +230,47 @@ const TOPOLOGY: &str =
     r#"{"injectors":[{"name":"clicks","stream":"raw"},{"name":"views","stream":"seen"}],"computations":[{"name":"copy","kind":"pass","reads":[{"stream":"raw","by":"key"},{"stream":"seen","by":"key"}],"stream":"copies"}]}"#;
 
 // The lines of a file.
-fn lines(alloc: Global, bytes: &[u8]) -> Result<Items, Fail> {
+fn lines(rt: &impl Abort, alloc: Global, bytes: &[u8]) -> Items {
     if bytes.len() > 100_000 {
-        return Err(Fail::from(NoMemory));
+        rt.panic("too long")
     }
-    Ok(read_lines(alloc, bytes, LINES)?)
+    made(rt, read_lines(alloc, bytes, LINES))
 }
 
 // The lines of both injectors.
-fn items(alloc: Global) -> Result<ItemsList, Fail> {
+fn items(rt: &impl Abort, alloc: Global) -> ItemsList {
     let mut text = String::new(alloc);
     for _ in 0..LINES {
-        text.push_str("{\"key\":\"a\",\"ts\":1}\n")?;
+        made(rt, text.push_str("{\"key\":\"a\",\"ts\":1}\n"));
     }
     let mut all = ItemsList::new(alloc);
     for _ in 0..2 {
-        all.push(lines(alloc, text.as_bytes())?)?;
+        made(rt, all.push(lines(rt, alloc, text.as_bytes())));
     }
-    Ok(all)
+    all
 }
 
 // The case of two injectors with these lines each.
-fn two_injectors(alloc: Global) -> Result<Case, Fail> {
-    let topology = read(alloc, TOPOLOGY.as_bytes())?;
-    let items = items(alloc)?;
+fn two_injectors(rt: &impl Abort, alloc: Global) -> Case {
+    let topology = made(rt, read(alloc, TOPOLOGY.as_bytes()));
+    let items = items(rt, alloc);
     if items.len() != topology.injectors() as usize {
-        return Err(Fail::from(NoMemory));
+        rt.panic("other injectors")
     }
-    Ok(Case::of(alloc, topology, items)?)
+    made(rt, Case::of(alloc, topology, items))
+}
+
+// A book of the case is shared.
+fn begin<R: Threads + Wait + Abort + Sync>(rt: &R, alloc: Global, case: &Case) {
+    let keeper = MemKeeper::new(alloc, CallList::new(alloc));
+    match Book::start(alloc, case, keeper, 500) {
+        Ok(book) => shared(rt, alloc, case, book),
+        Err(_) => assert!(rt; false),
+    }
 }
 
 #[test]
-fn threads_inject_under_one_book(rt: HostRuntime) -> Result<(), Fail> {
+fn threads_inject_under_one_book(rt: HostRuntime) {
     let alloc = rt.alloc();
-    let case = two_injectors(alloc)?;
-    let keeper = MemKeeper::new(alloc, CallList::new(alloc));
-    match Book::start(alloc, &case, keeper, 500) {
-        Ok(book) => shared(&rt, alloc, &case, book),
-        Err(_) => assert!(rt; false),
-    }
-    Ok(())
+    begin(&rt, alloc, &two_injectors(&rt, alloc));
 }
