@@ -16,6 +16,7 @@ mod plays;
 mod same_answers;
 mod seats;
 mod threads;
+mod turns_of_work;
 mod two_workers;
 
 use std::fmt::Display;

@@ -14,6 +14,7 @@ use mw_types::{Bytes, CallList, Key, RowName};
 use row_keeper::{BlindKeeper, Keeper, KeptRow, MemKeeper};
 use std::alloc::Global;
 use std::process::Abort;
+use std::sync::Wait;
 
 // What a worker is asked, one after another, and what it answers.
 pub(crate) type Table<'a> = &'a [(Act, Answer)];
@@ -35,6 +36,8 @@ pub(crate) enum Two<'a> {
     Overtaking(Acts<'a>),
     // They take in each other's messages.
     Crossing(&'a [(Step, Answer)]),
+    // Each claims its interval, and does three turns of work.
+    Turns,
 }
 
 // What is done.
@@ -87,8 +90,8 @@ fn blind(alloc: Global) -> BlindKeeper {
 }
 
 // A row is played over a book.
-fn over<K: Keeper>(
-    rt: &impl Abort,
+fn over<R: Wait + Abort, K: Keeper>(
+    rt: &R,
     alloc: Global,
     given: &Example,
     book: Book<'_, K>,
@@ -104,7 +107,13 @@ fn over<K: Keeper>(
 }
 
 // A row is played over a new book with this keeper.
-fn begin<K: Keeper>(rt: &impl Abort, alloc: Global, given: &Example, keeper: K, row: &Row<'_>) {
+fn begin<R: Wait + Abort, K: Keeper>(
+    rt: &R,
+    alloc: Global,
+    given: &Example,
+    keeper: K,
+    row: &Row<'_>,
+) {
     match Book::start(alloc, &given.case, keeper, u64::from(row.limit)) {
         Ok(book) => over(rt, alloc, given, book, row),
         Err(_) => assert!(rt; false),
@@ -112,7 +121,7 @@ fn begin<K: Keeper>(rt: &impl Abort, alloc: Global, given: &Example, keeper: K, 
 }
 
 // Each row is played over a new book of its own.
-pub(crate) fn play_all(rt: &impl Abort, alloc: Global, given: &Example, rows: &[Row<'_>]) {
+pub(crate) fn play_all<R: Wait + Abort>(rt: &R, alloc: Global, given: &Example, rows: &[Row<'_>]) {
     for row in rows {
         match row.kept {
             Kept::InMemory(calls) => begin(rt, alloc, given, in_memory(rt, alloc, calls), row),

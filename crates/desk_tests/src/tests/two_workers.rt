@@ -8,12 +8,15 @@ use super::crossing::cross;
 use super::entries::has_left;
 use super::example::Example;
 use super::plays::{Acts, Row, Two};
+use super::turns_of_work::at_turning_seats;
 use book::{Book, Desk, Seen};
 use node::Node;
 use row_keeper::Keeper;
 use shared_book::{Seat, Shared, SharedDesk};
 use std::alloc::Global;
+use std::marker::Brand;
 use std::process::Abort;
+use std::sync::Wait;
 
 // The first worker acts, then the second, and then the first again.
 fn overtake<N: Seen, D: Desk<Note = N>>(
@@ -41,8 +44,8 @@ fn overtake<N: Seen, D: Desk<Note = N>>(
 }
 
 // What workers do over the desks of two seats.
-fn at_seats<K: Keeper>(
-    rt: &impl Abort,
+fn at_seats<R: Wait + Abort, K: Keeper>(
+    rt: &R,
     alloc: Global,
     given: &Example,
     shared: &Shared<'_, K>,
@@ -72,12 +75,13 @@ fn at_seats<K: Keeper>(
             let mut second = SharedDesk::on(&*shared, other);
             cross(rt, alloc, given, &mut first, &mut second, steps);
         }
+        Two::Turns => at_turning_seats::<R, K, Brand>(rt, alloc, given, shared, one, other),
     }
 }
 
 // The seats are joined, and the book comes back.
-fn two_seats<K: Keeper>(
-    rt: &impl Abort,
+fn two_seats<R: Wait + Abort, K: Keeper>(
+    rt: &R,
     alloc: Global,
     given: &Example,
     shared: Shared<'_, K>,
@@ -99,8 +103,8 @@ fn two_seats<K: Keeper>(
 }
 
 // Workers over a shared book of two seats.
-pub(crate) fn over_two_seats<K: Keeper>(
-    rt: &impl Abort,
+pub(crate) fn over_two_seats<R: Wait + Abort, K: Keeper>(
+    rt: &R,
     alloc: Global,
     given: &Example,
     book: Book<'_, K>,
