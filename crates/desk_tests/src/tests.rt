@@ -28,11 +28,11 @@ fn must(rt: &impl Abort, holds: bool, name: impl Display + Drop) {
 }
 
 // What was made. The test ends where it was not.
-fn made<T: Drop, E: Drop>(rt: &impl Abort, given: Result<T, E>) -> T
+fn made<T, E: Drop>(rt: &impl Abort, given: Result<T, E>) -> T
     ensures { given ≡ Ok result }
 {
     match given {
         Ok(it) => it,
-        Err(_) => rt.panic("it was not made"),
+        Err(_refusal) => rt.panic("it was not made"),
     }
 }

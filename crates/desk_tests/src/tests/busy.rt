@@ -6,7 +6,7 @@ ghost use Rattle.desk_tests.specs.DeskTests.{IsAtRest};
 
 use super::acts::{Act, Answer, drive};
 use super::entries::Told;
-use super::example::{Example, two_lines_example};
+use super::example::Example;
 use super::plays::{Acts, Kept, Play, Row, Table, Two, play_all};
 use book::{Desk, Seen};
 use node::Node;
@@ -75,7 +75,7 @@ fn while_taken<K: Keeper, N: Seen, D: Desk<Note = N>>(
             drive(rt, alloc, given, desk, node, during);
             turn.release();
         }
-        Err(_) => assert!(rt; false),
+        Err(_) => rt.panic("no turn"),
     }
 }
 
@@ -111,6 +111,7 @@ fn beside<K: Keeper, N: Seen, D: Desk<Note = N>>(
         acts.between,
     );
     drive(rt, alloc, given, desk, &mut node, acts.after);
+    drop(node);
 }
 
 // The same, over the desk of a seat.
@@ -139,6 +140,5 @@ pub(crate) fn at_busy_seats<K: Keeper>(
 
 #[test]
 fn turn_of_another_is_busy(rt: HostRuntime) {
-    let alloc = rt.alloc();
-    play_all(&rt, alloc, &two_lines_example(&rt, alloc), &ROWS);
+    play_all(&rt, rt.alloc(), &ROWS);
 }

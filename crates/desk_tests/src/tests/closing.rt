@@ -1,7 +1,6 @@
 //! The marks that a worker raised at the desk of a seat come back with the book.
 use super::acts::{Act, Answer};
 use super::entries::Told;
-use super::example::two_lines_example;
 use super::plays::{Kept, Play, Row, Table, play_all};
 
 // The first line is worked off, and both marks rise to 60: the count's once its lease is settled under the
@@ -36,6 +35,5 @@ static ROWS: [Row<'static>; 1] = [Row {
 
 #[test]
 fn close_hands_marks_back(rt: HostRuntime) {
-    let alloc = rt.alloc();
-    play_all(&rt, alloc, &two_lines_example(&rt, alloc), &ROWS);
+    play_all(&rt, rt.alloc(), &ROWS);
 }

@@ -176,7 +176,8 @@ fn take_steps<K: Keeper>(
         let (step, want) = *row;
         nth = nth.saturating_add(1);
         let answer = stepped(alloc, given, one, first, other, second, step);
-        must(rt, short(answer) == want, nth);
+        must(rt, short(&answer) == want, nth);
+        drop(answer);
     }
 }
 
@@ -204,4 +205,6 @@ pub(crate) fn cross<K: Keeper>(
     let mut first = Node::new(alloc, 0);
     let mut second = Node::new(alloc, 1);
     take_steps(rt, alloc, given, one, &mut first, other, &mut second, steps);
+    drop(second);
+    drop(first);
 }

@@ -2,7 +2,6 @@
 //! back, and the same call does it afterwards.
 use super::acts::{Act, Answer};
 use super::entries::Told;
-use super::example::two_lines_example;
 use super::plays::{Kept, Play, Row, Table, play_all};
 
 // Call 0 of the keeper is that of the book's start. A claim is one call, which reads the interval's rows, and
@@ -54,6 +53,5 @@ static ROWS: [Row<'static>; 1] = [Row {
 
 #[test]
 fn keeper_fails_under_a_turn(rt: HostRuntime) {
-    let alloc = rt.alloc();
-    play_all(&rt, alloc, &two_lines_example(&rt, alloc), &ROWS);
+    play_all(&rt, rt.alloc(), &ROWS);
 }

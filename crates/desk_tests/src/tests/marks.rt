@@ -3,7 +3,6 @@
 use super::acts::{Act, Answer};
 use super::crossing::Step;
 use super::entries::Told;
-use super::example::two_lines_example;
 use super::plays::{Kept, Play, Row, Two, play_all};
 
 // Worker 0 injects the line, whose record is at 10, and worker 1 is to handle it. The injector's own work is that
@@ -52,6 +51,5 @@ static ROWS: [Row<'static>; 1] = [RAISED];
 
 #[test]
 fn marks_across_seats(rt: HostRuntime) {
-    let alloc = rt.alloc();
-    play_all(&rt, alloc, &two_lines_example(&rt, alloc), &ROWS);
+    play_all(&rt, rt.alloc(), &ROWS);
 }

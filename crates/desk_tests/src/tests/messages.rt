@@ -2,7 +2,6 @@
 use super::acts::{Act, Answer};
 use super::crossing::Step;
 use super::entries::Told;
-use super::example::two_lines_example;
 use super::plays::{Kept, Play, Row, Two, play_all};
 
 // Worker 0 claims both intervals and injects the line, whose record it handles and does not yet write. A copy
@@ -66,6 +65,5 @@ static ROWS: [Row<'static>; 2] = [CROSSED, AGAIN];
 
 #[test]
 fn messages_cross_seats(rt: HostRuntime) {
-    let alloc = rt.alloc();
-    play_all(&rt, alloc, &two_lines_example(&rt, alloc), &ROWS);
+    play_all(&rt, rt.alloc(), &ROWS);
 }

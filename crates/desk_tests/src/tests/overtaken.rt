@@ -2,7 +2,6 @@
 //! refused, names that claim, and changes nothing.
 use super::acts::{Act, Answer};
 use super::entries::Told;
-use super::example::two_lines_example;
 use super::plays::{Acts, Kept, Play, Row, Two, play_all};
 
 // Worker 1 claims the injector's interval before worker 0 injects. The claim is entry 2, which names what
@@ -206,6 +205,5 @@ static ROWS: [Row<'static>; 7] = [INJECT, HANDLE, SETTLE, FIRE, PURGE, REPORT, R
 
 #[test]
 fn stale_across_seats(rt: HostRuntime) {
-    let alloc = rt.alloc();
-    play_all(&rt, alloc, &two_lines_example(&rt, alloc), &ROWS);
+    play_all(&rt, rt.alloc(), &ROWS);
 }

@@ -4,7 +4,7 @@ ghost use Rattle.std.specs.Prelude.{◌≡◌};
 use super::acts::{Act, Answer};
 use super::crossing::Step;
 use super::entries::Told;
-use super::example::Example;
+use super::example::{Example, two_lines_example};
 use super::made;
 use super::same_answers::over_own_book;
 use super::seats::over_one_seat;
@@ -114,18 +114,24 @@ fn begin<R: Wait + Abort, K: Keeper>(
     keeper: K,
     row: &Row<'_>,
 ) {
-    match Book::start(alloc, &given.case, keeper, u64::from(row.limit)) {
-        Ok(book) => over(rt, alloc, given, book, row),
-        Err(_) => assert!(rt; false),
-    }
+    let limit = u64::from(row.limit);
+    let book = made(rt, Book::start(alloc, &given.case, keeper, limit));
+    over(rt, alloc, given, book, row);
 }
 
 // Each row is played over a new book of its own.
-pub(crate) fn play_all<R: Wait + Abort>(rt: &R, alloc: Global, given: &Example, rows: &[Row<'_>]) {
+fn play_each<R: Wait + Abort>(rt: &R, alloc: Global, given: &Example, rows: &[Row<'_>]) {
     for row in rows {
         match row.kept {
             Kept::InMemory(calls) => begin(rt, alloc, given, in_memory(rt, alloc, calls), row),
             Kept::Blind => begin(rt, alloc, given, blind(alloc), row),
         }
     }
+}
+
+// The same of the example of two lines.
+pub(crate) fn play_all<R: Wait + Abort>(rt: &R, alloc: Global, rows: &[Row<'_>]) {
+    let given = two_lines_example(rt, alloc);
+    play_each(rt, alloc, &given, rows);
+    drop(given);
 }

@@ -3,7 +3,7 @@ ghost use Rattle.std.specs.Prelude.{◌≡◌};
 
 use super::acts::{Act, Answer, drive};
 use super::entries::{Told, has_left};
-use super::example::{Example, two_lines_example};
+use super::example::Example;
 use super::plays::{Kept, Play, Row, Table, play_all};
 use book::{Book, OwnDesk};
 use node::Node;
@@ -86,6 +86,7 @@ fn at_own_desk<K: Keeper>(
     let mut desk = OwnDesk::on(book);
     let mut node = Node::new(alloc, 0);
     drive(rt, alloc, given, &mut desk, &mut node, table);
+    drop(node);
 }
 
 // A worker over a book of its own.
@@ -102,10 +103,10 @@ pub(crate) fn over_own_book<K: Keeper>(
     let mut book = book;
     at_own_desk(rt, alloc, given, &mut book, table);
     has_left(rt, &book, row);
+    drop(book);
 }
 
 #[test]
 fn node_over_each_desk(rt: HostRuntime) {
-    let alloc = rt.alloc();
-    play_all(&rt, alloc, &two_lines_example(&rt, alloc), &ROWS);
+    play_all(&rt, rt.alloc(), &ROWS);
 }

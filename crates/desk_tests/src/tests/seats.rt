@@ -5,6 +5,7 @@ ghost use Rattle.desk_tests.specs.DeskTests.{IsAtRest};
 use super::acts::drive;
 use super::entries::has_left;
 use super::example::Example;
+use super::made;
 use super::plays::{Row, Table};
 use book::Book;
 use node::Node;
@@ -31,6 +32,7 @@ fn at_seat<K: Keeper>(
     let mut desk = SharedDesk::on(&*shared, seat);
     let mut node = Node::new(alloc, 0);
     drive(rt, alloc, given, &mut desk, &mut node, table);
+    drop(node);
 }
 
 // The book comes back with what is wanted.
@@ -51,6 +53,7 @@ fn one_seat<K: Keeper>(
     at_seat(rt, alloc, given, &shared, &mut seat, table);
     let book = shared.close(seat);
     has_left(rt, &book, row);
+    drop(book);
 }
 
 // A worker over a shared book of one seat.
@@ -64,8 +67,6 @@ pub(crate) fn over_one_seat<K: Keeper>(
 )
     requires case { book.case ≡ given.now.case }
 {
-    match Shared::start(alloc, book, 1) {
-        Ok((shared, seat)) => one_seat(rt, alloc, given, shared, seat, row, table),
-        Err(_refusal) => assert!(rt; false),
-    }
+    let (shared, seat) = made(rt, Shared::start(alloc, book, 1));
+    one_seat(rt, alloc, given, shared, seat, row, table);
 }

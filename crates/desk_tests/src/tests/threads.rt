@@ -6,7 +6,7 @@ ghost use Rattle.node.specs.Fits.{Fits};
 ghost use Rattle.desk_tests.specs.DeskTests.{IsAtRest};
 
 use super::acts::{Answer, short};
-use super::made;
+use super::{made, must};
 use book::{Book, Desk, Seen};
 use injector::{Items, ItemsList, read_lines};
 use mw_types::{CallList, Entry};
@@ -53,9 +53,11 @@ fn at_last<N: Seen, D: Desk<Note = N>, R: Wait>(
             Deed::Claim => node.claim(alloc, desk, case, part),
             Deed::Inject => node.inject(alloc, desk, case, part),
         };
-        match short(answer) {
+        let told = short(&answer);
+        drop(answer);
+        match told {
             Answer::Busy(_) => yield_now(),
-            answer => return answer,
+            told => return told,
         }
     }
     unreachable!()
@@ -123,12 +125,13 @@ fn at_desk<K: Keeper, R: Wait + Abort>(
         IsAtRest table.table_id shared.now.case.now v.basis.seats v.numbers seat.new.place }
 {
     if case.intervals().count() <= part {
-        assert!(rt; false);
-        return;
+        rt.panic("no such part")
     }
     let mut desk = SharedDesk::on(&*shared, seat);
     let mut node = Node::new(alloc, part);
-    assert!(rt; injects_all(rt, alloc, case, &mut desk, &mut node, part));
+    let all = injects_all(rt, alloc, case, &mut desk, &mut node, part);
+    drop(node);
+    must(rt, all, part);
 }
 
 // Two threads, and the seats are joined once both have ended.
@@ -207,7 +210,9 @@ fn two_threads<K: Keeper + Send, R: Threads + Wait + Abort + Sync>(
     let seat = in_threads(rt, alloc, &shared, case, one, other);
     let book = shared.close(seat);
     let entries = book.history().entries();
-    assert!(rt; entries.len() == 402 && are_in_order(entries, 0) && are_in_order(entries, 1));
+    let are_all = entries.len() == 402 && are_in_order(entries, 0) && are_in_order(entries, 1);
+    must(rt, are_all, "the entries");
+    drop(book);
 }
 
 // The book is shared among two seats.
@@ -219,10 +224,8 @@ fn shared<K: Keeper + Send, R: Threads + Wait + Abort + Sync>(
 )
     requires case { book.case ≡ case.now }
 {
-    match Shared::start(alloc, book, 2) {
-        Ok((shared, seat)) => two_threads(rt, alloc, shared, case, seat),
-        Err(_refusal) => assert!(rt; false),
-    }
+    let (shared, seat) = made(rt, Shared::start(alloc, book, 2));
+    two_threads(rt, alloc, shared, case, seat);
 }
 
 // Two injectors, and a pass that reads both.
@@ -263,10 +266,12 @@ fn two_injectors(rt: &impl Abort, alloc: Global) -> Case {
 // A book of the case is shared.
 fn begin<R: Threads + Wait + Abort + Sync>(rt: &R, alloc: Global, case: &Case) {
     let keeper = MemKeeper::new(alloc, CallList::new(alloc));
-    match Book::start(alloc, case, keeper, 500) {
-        Ok(book) => shared(rt, alloc, case, book),
-        Err(_) => assert!(rt; false),
-    }
+    shared(
+        rt,
+        alloc,
+        case,
+        made(rt, Book::start(alloc, case, keeper, 500)),
+    );
 }
 
 #[test]

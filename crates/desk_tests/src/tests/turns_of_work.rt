@@ -10,9 +10,9 @@ ghost use Rattle.desk_tests.specs.DeskTests.{IsAtRest};
 
 use super::acts::{Act, Answer, drive};
 use super::entries::Told;
-use super::example::{Example, two_lines_example};
-use super::plays::{Kept, Play, Row, Two, play_all};
-use super::{made, must};
+use super::example::Example;
+use super::made;
+use super::plays::{Kept, Play, Row, Table, Two, play_all};
 use book::Seen;
 use mailboxes::{MailPass, Mailbox, Office};
 use mw_ports::OpenGate;
@@ -24,6 +24,11 @@ use std::alloc::Global;
 use std::process::Abort;
 use std::sync::Wait;
 use workers::{Orders, slice};
+
+// What each worker does first.
+const SOURCE: Table<'static> = &[(Act::ClaimSource, Answer::Claimed(0))];
+
+const COUNT: Table<'static> = &[(Act::ClaimCount, Answer::Claimed(1))];
 
 // Both lines are injected in the first turn, as entries 2 and 3, whose records are handled in the other worker's
 // first turn, and the words of that are settled in the second. Then the injector is at its end; the count knows
@@ -58,6 +63,40 @@ fn mailbox<N: Seen, J: Office>(rt: &impl Abort, alloc: Global) -> (Mailbox<N, J>
     }
 }
 
+// A worker does a turn of work.
+fn turn<R: Wait + Abort, K: Keeper, J: Office>(
+    rt: &R,
+    alloc: Global,
+    given: &Example,
+    desk: &mut SharedDesk<'_, '_, K>,
+    node: &mut Node<Note<K>>,
+    boxes: &[Mailbox<Note<K>, J>],
+    passes: &mut [MailPass<Note<K>, J>],
+    round: u32,
+)
+    requires shape { given.now.case.topology ≡ J.shape }
+    requires passes { let count = length (intervals_of given.now.case.topology) in
+        ArePasses count boxes.now passes.old }
+    requires book { (shared_home desk.old.seat.now.place).book ≡ J.book }
+    requires fits { Fits given.now.case
+        (shared_view desk.old.seat.now.place.me.0) node.old }
+    ensures passes { let count = length (intervals_of given.now.case.topology) in
+        ArePasses count boxes.now passes.new }
+    ensures fits { Fits given.now.case
+        (shared_view desk.new.seat.now.place.me.0) node.new }
+    ensures loan { desk.new.seat.ghost_name ≡ desk.old.seat.ghost_name }
+    ensures home { shared_home desk.new.seat.now.place ≡ shared_home desk.old.seat.now.place }
+{
+    let (case, work) = (&given.case, given.work());
+    let orders = Orders::plain(round);
+    made(
+        rt,
+        slice(
+            rt, alloc, node, desk, case, work, boxes, passes, &orders, &OpenGate,
+        ),
+    );
+}
+
 // Each worker in turn, three times.
 fn turns<R: Wait + Abort, K: Keeper, J: Office>(
     rt: &R,
@@ -89,17 +128,9 @@ fn turns<R: Wait + Abort, K: Keeper, J: Office>(
     ensures other_home { shared_home other.new.seat.now.place
         ≡ shared_home other.old.seat.now.place }
 {
-    let (case, work) = (&given.case, given.work());
     for round in 1..4u32 {
-        let orders = Orders::plain(round);
-        let done = slice(
-            rt, alloc, first, one, case, work, boxes, passes, &orders, &OpenGate,
-        );
-        must(rt, done.is_ok(), round);
-        let done = slice(
-            rt, alloc, second, other, case, work, boxes, passes, &orders, &OpenGate,
-        );
-        must(rt, done.is_ok(), round);
+        turn(rt, alloc, given, one, first, boxes, passes, round);
+        turn(rt, alloc, given, other, second, boxes, passes, round);
     }
 }
 
@@ -129,11 +160,9 @@ fn work<R: Wait + Abort, K: Keeper, J: Office>(
         ≡ shared_home other.old.seat.now.place }
 {
     let mut first = Node::new(alloc, 0);
-    let claim = [(Act::ClaimSource, Answer::Claimed(0))];
-    drive(rt, alloc, given, one, &mut first, &claim);
+    drive(rt, alloc, given, one, &mut first, SOURCE);
     let mut second = Node::new(alloc, 1);
-    let claim = [(Act::ClaimCount, Answer::Claimed(1))];
-    drive(rt, alloc, given, other, &mut second, &claim);
+    drive(rt, alloc, given, other, &mut second, COUNT);
     turns(
         rt,
         alloc,
@@ -145,6 +174,8 @@ fn work<R: Wait + Abort, K: Keeper, J: Office>(
         boxes,
         passes,
     );
+    drop(second);
+    drop(first);
 }
 
 // The same over the desks of two seats. The mailboxes are those of the book.
@@ -183,10 +214,11 @@ pub(crate) fn at_turning_seats<R: Wait + Abort, K: Keeper, J: Office>(
         &boxes,
         &mut passes,
     );
+    drop(passes);
+    drop(boxes);
 }
 
 #[test]
 fn timer_fires_behind_the_mark_of_another(rt: HostRuntime) {
-    let alloc = rt.alloc();
-    play_all(&rt, alloc, &two_lines_example(&rt, alloc), &ROWS);
+    play_all(&rt, rt.alloc(), &ROWS);
 }

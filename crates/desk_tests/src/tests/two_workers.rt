@@ -7,6 +7,7 @@ use super::busy::at_busy_seats;
 use super::crossing::cross;
 use super::entries::has_left;
 use super::example::Example;
+use super::made;
 use super::plays::{Acts, Row, Two};
 use super::turns_of_work::at_turning_seats;
 use book::{Book, Desk, Seen};
@@ -41,6 +42,8 @@ fn overtake<N: Seen, D: Desk<Note = N>>(
     let mut second = Node::new(alloc, 1);
     drive(rt, alloc, given, other, &mut second, acts.between);
     drive(rt, alloc, given, one, &mut first, acts.after);
+    drop(second);
+    drop(first);
 }
 
 // What workers do over the desks of two seats.
@@ -100,6 +103,7 @@ fn two_seats<R: Wait + Abort, K: Keeper>(
     shared.join(&mut other, one);
     let book = shared.close(other);
     has_left(rt, &book, row);
+    drop(book);
 }
 
 // Workers over a shared book of two seats.
@@ -113,8 +117,6 @@ pub(crate) fn over_two_seats<R: Wait + Abort, K: Keeper>(
 )
     requires case { book.case ≡ given.now.case }
 {
-    match Shared::start(alloc, book, 2) {
-        Ok((shared, seat)) => two_seats(rt, alloc, given, shared, seat, row, two),
-        Err(_refusal) => assert!(rt; false),
-    }
+    let (shared, seat) = made(rt, Shared::start(alloc, book, 2));
+    two_seats(rt, alloc, given, shared, seat, row, two);
 }
