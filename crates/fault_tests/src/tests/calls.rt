@@ -130,7 +130,10 @@ pub(super) fn rounds<R: Threads + Wait + Abort + Sync>(
 
 /// Whether this is what the program says of a status.
 pub(super) fn is_said(rt: &impl Abort, alloc: Global, status: &Status, message: &str) -> bool {
-    made(rt, format!(in alloc; "{status}")).as_str() == message
+    let said = made(rt, format!(in alloc; "{status}"));
+    let is_so = said.as_str() == message;
+    drop(said);
+    is_so
 }
 
 /// Whether a call with this line over these files says this, and writes this text.

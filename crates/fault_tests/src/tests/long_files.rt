@@ -18,6 +18,7 @@ fn long(rt: &impl Abort, alloc: Global, letter: &str, times: u32) -> String {
     push_times(rt, &mut piece, letter, 1024);
     let mut all = String::new(alloc);
     push_times(rt, &mut all, piece.as_str(), times / 1024);
+    drop(piece);
     push_times(rt, &mut all, letter, times % 1024);
     all
 }
@@ -41,7 +42,7 @@ pub(super) fn answers<'x>(
 
 /// Whether a replay of a plan, which is handed over, writes the text of the first example.
 pub(super) fn replays(rt: &impl Abort, alloc: Global, plan: String) -> bool {
-    answers(rt, alloc, REPLAY, plan.as_str(), EVENTS, "", TEXT)
+    plan_answers(rt, alloc, plan, "", TEXT)
 }
 
 // What is written where nothing is injected.
@@ -59,6 +60,26 @@ static LONG: [(&str, u32, &str, &str); 4] = [
     (SOLO, 33554433, "too long: e", ""),
 ];
 
+// Whether this is said and written of a call with this plan, which is handed over.
+fn plan_answers(rt: &impl Abort, alloc: Global, plan: String, message: &str, text: &str) -> bool {
+    let is_so = answers(rt, alloc, REPLAY, plan.as_str(), EVENTS, message, text);
+    drop(plan);
+    is_so
+}
+
+// The same of a call with these events.
+fn events_answer(
+    rt: &impl Abort,
+    alloc: Global,
+    events: String,
+    message: &str,
+    text: &str,
+) -> bool {
+    let is_so = answers(rt, alloc, SOLO, "", events.as_str(), message, text);
+    drop(events);
+    is_so
+}
+
 // Whether this is said and written of a call whose plan, or whose events where it has no plan, have so many letters.
 fn long_answers(
     rt: &impl Abort,
@@ -69,11 +90,9 @@ fn long_answers(
     text: &str,
 ) -> bool {
     if line == REPLAY {
-        let plan = long(rt, alloc, "#", times);
-        answers(rt, alloc, line, plan.as_str(), EVENTS, message, text)
+        plan_answers(rt, alloc, long(rt, alloc, "#", times), message, text)
     } else {
-        let events = long(rt, alloc, " ", times);
-        answers(rt, alloc, line, "", events.as_str(), message, text)
+        events_answer(rt, alloc, long(rt, alloc, " ", times), message, text)
     }
 }
 

@@ -76,13 +76,8 @@ fn world<'a>(
     keeper: MemKeeper,
 ) -> World<'a, MemKeeper, Kinds> {
     let work = made(rt, work(alloc, case));
-    let Ok(book) = Book::start(alloc, case, keeper, 1 << 32) else {
-        rt.panic("no book")
-    };
-    match World::start(alloc, book, work) {
-        Ok(world) => world,
-        Err(_) => rt.panic("no world"),
-    }
+    let book = made(rt, Book::start(alloc, case, keeper, 1 << 32));
+    made(rt, World::start(alloc, book, work))
 }
 
 // The one step of a line.
@@ -90,10 +85,12 @@ fn step(rt: &impl Abort, alloc: Global, case: &Case, line: &str) -> Step
     ensures { IsStep case.now.topology result }
 {
     let schedule = schedule(rt, alloc, case, line);
-    match schedule.steps().first() {
+    let step = match schedule.steps().first() {
         Some(step) => *step,
         None => rt.panic("no step"),
-    }
+    };
+    drop(schedule);
+    step
 }
 
 // The schedule of a text.

@@ -115,8 +115,10 @@ fn ends_by_its_events<R: Threads + Wait + Abort + Sync>(rt: &R, alloc: Global) -
     let line = "run --workers 4 --rounds 8 t.json e";
     let keeper = keeper(rt, alloc, &[]);
     let is_ok = is_ok(called(rt, alloc, line, (CUTS, ""), keeper, &mut out, &gate));
-    let is_so = is_ok && was_met(&gate);
-    is_so && is_solo(rt, alloc, "solo t.json e", (CUTS, ""), out.text())
+    let is_met = was_met(&gate);
+    let is_same = is_solo(rt, alloc, "solo t.json e", (CUTS, ""), out.text());
+    drop(out);
+    is_ok && is_met && is_same
 }
 
 // Worker 1 holds where its first work is prepared until worker 2 has committed one, and worker 2 may not end its

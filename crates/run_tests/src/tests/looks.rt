@@ -30,7 +30,9 @@ pub(super) fn write_the_same<R: Threads + Wait + Abort + Sync>(
 ) -> bool {
     let mut text = sink(alloc);
     let is_first_ok = is_ok(ended(rt, alloc, one, files, &mut text));
-    is_first_ok && is_solo(rt, alloc, other, files, text.text())
+    let is_same = is_first_ok && is_solo(rt, alloc, other, files, text.text());
+    drop(text);
+    is_same
 }
 
 /// Whether a call ends with Ok, and writes this.
@@ -42,7 +44,9 @@ pub(super) fn is_solo<R: Threads + Wait + Abort + Sync>(
     text: &[u8],
 ) -> bool {
     let mut same = sink(alloc);
-    is_ok(ended(rt, alloc, line, files, &mut same)) && same.text() == text
+    let is_same = is_ok(ended(rt, alloc, line, files, &mut same)) && same.text() == text;
+    drop(same);
+    is_same
 }
 
 /// Whether a call over a topology ends with Ok, and an audit of what it wrote says how many entries
@@ -55,7 +59,9 @@ pub(super) fn is_audited<R: Threads + Wait + Abort + Sync>(
 ) -> bool {
     let mut out = sink(alloc);
     let is_ok = is_ok(ended(rt, alloc, line, (topology, ""), &mut out));
-    is_ok && audits(rt, alloc, topology, out.text())
+    let is_so = is_ok && audits(rt, alloc, topology, out.text());
+    drop(out);
+    is_so
 }
 
 // Whether an audit of a trace, which lies in the plan's place, says how many entries there are.
@@ -71,7 +77,9 @@ fn audits<'x, R: Threads + Wait + Abort + Sync>(
     let mut out = sink(alloc);
     let line = "audit --trace p t.json e";
     let is_ok = is_ok(ended(rt, alloc, line, (topology, trace), &mut out));
-    is_ok && out.text().starts_with(b"{\"entries\":")
+    let is_so = is_ok && out.text().starts_with(b"{\"entries\":");
+    drop(out);
+    is_so
 }
 
 // Whether the claims among these entries are these.
@@ -151,7 +159,10 @@ pub(super) fn is_refused<R: Threads + Wait + Abort + Sync>(
 
 // Whether this is what the program says of a status.
 fn is_said(rt: &impl Abort, alloc: Global, status: &Status, message: &str) -> bool {
-    made(rt, format!(in alloc; "{status}")).as_str() == message
+    let said = made(rt, format!(in alloc; "{status}"));
+    let is_so = said.as_str() == message;
+    drop(said);
+    is_so
 }
 
 // Whether a call that wrote this ended with KeeperFault after so many entries, and wrote nothing.
