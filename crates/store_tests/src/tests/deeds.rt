@@ -69,6 +69,7 @@ fn put(rt: &impl Abort, alloc: Global, keeper: &mut impl Keeper, text: &str, byt
         key: key(rt, alloc, text),
     };
     made(rt, keeper.put(alloc, &name, &[byte]));
+    drop(name);
 }
 
 // The keys and the bytes of seven rows, the last in the place of an earlier one.
@@ -120,7 +121,9 @@ fn scanned(
         from: key(rt, alloc, "h"),
         to: Some(key(rt, alloc, "q")),
     };
-    keeper.scan(alloc, &bounds)
+    let found = keeper.scan(alloc, &bounds);
+    drop(bounds);
+    found
 }
 
 // Why a scan failed, if it did.
@@ -130,10 +133,12 @@ fn fault_of(found: Result<KeptRowList, KeeperFault>) -> Option<KeeperFault> {
 
 // Whether a scan found rows of these bytes, of which each has one.
 fn are_bytes(found: Result<KeptRowList, KeeperFault>, want: &[u8]) -> bool {
-    match found {
+    let are = match &found {
         Ok(rows) => are_those(rows.as_slice(), want),
         Err(_) => false,
-    }
+    };
+    drop(found);
+    are
 }
 
 // Whether these are the bytes of rows, of which each has one.
@@ -152,17 +157,26 @@ fn has_one(alloc: Global, keeper: &mut impl Keeper, bytes: &[u8]) -> bool {
         from: Key::none(alloc),
         to: None,
     };
-    is_one(keeper.scan(alloc, &whole), bytes)
+    let found = keeper.scan(alloc, &whole);
+    drop(whole);
+    is_one(found, bytes)
 }
 
 // Whether a scan found one row, of part 1 with the key `a` and these bytes.
 fn is_one(found: Result<KeptRowList, KeeperFault>, bytes: &[u8]) -> bool {
-    match found {
-        Ok(rows) => match rows.as_slice() {
-            [row] => is_a(&row.name) && row.bytes.as_slice() == bytes,
-            _ => false,
-        },
+    let is_one = match &found {
+        Ok(rows) => rows.len() == 1 && is_first(rows.as_slice(), bytes),
         Err(_) => false,
+    };
+    drop(found);
+    is_one
+}
+
+// Whether the first row is of part 1, with the key `a` and these bytes.
+fn is_first(rows: &[KeptRow], bytes: &[u8]) -> bool {
+    match rows.first() {
+        Some(row) => is_a(&row.name) && row.bytes.as_slice() == bytes,
+        None => false,
     }
 }
 

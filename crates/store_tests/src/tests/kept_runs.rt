@@ -91,16 +91,23 @@ fn parts<K: Keeper>(done: Done<K>) -> (Status, K) {
 
 // Whether the words name this file.
 fn is_named(rt: &impl Abort, alloc: Global, words: &[Name], store: &str) -> bool {
-    match made(rt, keep_name(alloc, words)) {
+    let named = made(rt, keep_name(alloc, words));
+    let is_so = match &named {
         Some(name) => name.text() == store,
         None => false,
-    }
+    };
+    drop(named);
+    is_so
 }
 
 // Runs the example over the file that its words name, and closes that.
 fn kept(host: &HostRuntime, rt: &impl Abort, store: &str, out: &mut MemSink) -> Status {
     let words = words(rt, host.alloc(), store);
-    assert!(rt; is_named(rt, host.alloc(), words.as_slice(), store));
+    must(
+        rt,
+        is_named(rt, host.alloc(), words.as_slice(), store),
+        "the file is named",
+    );
     let keeper = made(rt, SqliteKeeper::at(host, store));
     let done = run(rt, host.alloc(), words.as_slice(), keeper, out);
     drop(words);
