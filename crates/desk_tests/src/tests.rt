@@ -1,5 +1,7 @@
 //! A worker over the desk of a book of its own, over desks of a shared book, and two over the desks of
 //! two seats.
+ghost use Rattle.std.specs.Prelude.{◌≡◌, Ok};
+
 mod acts;
 mod busy;
 mod closing;
@@ -10,8 +12,27 @@ mod failing;
 mod marks;
 mod messages;
 mod overtaken;
+mod plays;
 mod same_answers;
 mod seats;
-mod starts;
 mod threads;
+mod turns_of_work;
 mod two_workers;
+
+use std::fmt::Display;
+use std::process::Abort;
+
+// Ends the test where a case does not hold, and names it.
+fn must(rt: &impl Abort, holds: bool, name: impl Display + Drop) {
+    assert!(rt; holds, "{name}");
+}
+
+// What was made. The test ends where it was not.
+fn made<T, E: Drop>(rt: &impl Abort, given: Result<T, E>) -> T
+    ensures { given ≡ Ok result }
+{
+    match given {
+        Ok(it) => it,
+        Err(_refusal) => rt.panic("it was not made"),
+    }
+}

@@ -5,6 +5,7 @@ ghost use Rattle.node.specs.Messages.{IsAddressed, IsVouchedFor};
 ghost use Rattle.node.specs.Received.{note_of, outgoing_of};
 
 use super::example::Example;
+use super::must;
 use book::{Desk, Seen};
 use node::{Message, Node, NodeFault, Outcome};
 use std::alloc::Global;
@@ -67,17 +68,17 @@ pub(crate) enum Answer {
 }
 
 // An answer of a worker in short.
-pub(crate) fn short(answer: Result<Outcome, NodeFault>) -> Answer {
+pub(crate) fn short(answer: &Result<Outcome, NodeFault>) -> Answer {
     match answer {
-        Ok(Outcome::Claimed { seq }) => Answer::Claimed(seq),
-        Ok(Outcome::Committed { commit }) => Answer::Committed(commit),
+        Ok(Outcome::Claimed { seq }) => Answer::Claimed(*seq),
+        Ok(Outcome::Committed { commit }) => Answer::Committed(*commit),
         Ok(Outcome::Prepared) => Answer::Prepared,
         Ok(Outcome::Duplicate) => Answer::Duplicate,
         Ok(Outcome::NotMine) => Answer::NotMine,
-        Ok(Outcome::Queued { count }) => Answer::Queued(count),
-        Ok(Outcome::Marked { mark }) => Answer::Marked(mark),
-        Ok(Outcome::Stale { newer }) => Answer::Stale(newer),
-        Ok(Outcome::Busy { found }) => Answer::Busy(found),
+        Ok(Outcome::Queued { count }) => Answer::Queued(*count),
+        Ok(Outcome::Marked { mark }) => Answer::Marked(*mark),
+        Ok(Outcome::Stale { newer }) => Answer::Stale(*newer),
+        Ok(Outcome::Busy { found }) => Answer::Busy(*found),
         Ok(Outcome::Nothing) => Answer::Nothing,
         Err(NodeFault::KeeperFault) => Answer::KeeperFault,
         _ => Answer::Other,
@@ -189,6 +190,7 @@ pub(crate) fn drive<N: Seen, D: Desk<Note = N>>(
         let (act, want) = *step;
         nth = nth.saturating_add(1);
         let answer = act_on(alloc, given, desk, node, act);
-        assert!(rt; short(answer) == want, "{nth}");
+        must(rt, short(&answer) == want, nth);
+        drop(answer);
     }
 }

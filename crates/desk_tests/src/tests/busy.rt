@@ -5,39 +5,50 @@ ghost use Rattle.node.specs.Fits.{Fits};
 ghost use Rattle.desk_tests.specs.DeskTests.{IsAtRest};
 
 use super::acts::{Act, Answer, drive};
-use super::entries::{Told, has_entries};
-use super::example::{Example, two_lines_example};
-use super::starts::started;
-use book::{Book, Desk, Seen};
+use super::entries::Told;
+use super::example::Example;
+use super::plays::{Acts, Kept, Play, Row, Table, Two, play_all};
+use book::{Desk, Seen};
 use node::Node;
 use row_keeper::Keeper;
 use shared_book::{Seat, Shared, SharedDesk};
 use std::alloc::Global;
 use std::process::Abort;
-use std::test::Fail;
 
 // The worker takes both intervals.
-const BEFORE: &[(Act, Answer)] = &[
+const BEFORE: Table<'static> = &[
     (Act::ClaimSource, Answer::Claimed(0)),
     (Act::ClaimCount, Answer::Claimed(1)),
 ];
 
 // The word that is found is 1 more than the number of the seat that has the turn, which is 1. A report
 // asks for no turn: the file states no watermark before its first line.
-const DURING: &[(Act, Answer)] = &[
+const DURING: Table<'static> = &[
     (Act::ClaimSource, Answer::Busy(2)),
     (Act::Inject, Answer::Busy(2)),
     (Act::ReportSource, Answer::Marked(0)),
 ];
 
 // Afterwards the line is injected under the first lease, and its record is at 10.
-const AFTER: &[(Act, Answer)] = &[
+const AFTER: Table<'static> = &[
     (Act::Inject, Answer::Committed(2)),
     (Act::ReportSource, Answer::Marked(10)),
 ];
 
 // What those appended.
 const ENTRIES: &[Told] = &[Told::Claim(0, 0), Told::Claim(0, 1), Told::Inject(0, 0)];
+
+static ROWS: [Row<'static>; 1] = [Row {
+    kept: Kept::InMemory(&[]),
+    limit: 8,
+    play: Play::Two(Two::Busy(Acts {
+        before: BEFORE,
+        between: DURING,
+        after: AFTER,
+    })),
+    entries: ENTRIES,
+    marks: [10, 0],
+}];
 
 // The worker acts while the other seat has the turn.
 fn while_taken<K: Keeper, N: Seen, D: Desk<Note = N>>(
@@ -48,6 +59,7 @@ fn while_taken<K: Keeper, N: Seen, D: Desk<Note = N>>(
     other: &mut Seat<K>,
     desk: &mut D,
     node: &mut Node<N>,
+    during: Table<'_>,
 )
     requires rest { let table = shared.now.table.shared in
         IsAtRest table.table_id shared.now.case.now 2 (1 ∷ []) other.old.place }
@@ -60,10 +72,10 @@ fn while_taken<K: Keeper, N: Seen, D: Desk<Note = N>>(
 {
     match other.try_turn(&*shared) {
         Ok(turn) => {
-            drive(rt, alloc, given, desk, node, DURING);
+            drive(rt, alloc, given, desk, node, during);
             turn.release();
         }
-        Err(_) => assert!(rt; false),
+        Err(_) => rt.panic("no turn"),
     }
 }
 
@@ -75,6 +87,7 @@ fn beside<K: Keeper, N: Seen, D: Desk<Note = N>>(
     shared: &Shared<'_, K>,
     other: &mut Seat<K>,
     desk: &mut D,
+    acts: Acts<'_>,
 )
     requires rest { let table = shared.now.table.shared in
         IsAtRest table.table_id shared.now.case.now 2 (1 ∷ []) other.old.place }
@@ -86,19 +99,30 @@ fn beside<K: Keeper, N: Seen, D: Desk<Note = N>>(
     ensures home { D.home desk.new ≡ D.home desk.old }
 {
     let mut node = Node::new(alloc, 0);
-    drive(rt, alloc, given, desk, &mut node, BEFORE);
-    while_taken(rt, alloc, given, shared, other, desk, &mut node);
-    drive(rt, alloc, given, desk, &mut node, AFTER);
+    drive(rt, alloc, given, desk, &mut node, acts.before);
+    while_taken(
+        rt,
+        alloc,
+        given,
+        shared,
+        other,
+        desk,
+        &mut node,
+        acts.between,
+    );
+    drive(rt, alloc, given, desk, &mut node, acts.after);
+    drop(node);
 }
 
 // The same, over the desk of a seat.
-fn at_seats<K: Keeper>(
+pub(crate) fn at_busy_seats<K: Keeper>(
     rt: &impl Abort,
     alloc: Global,
     given: &Example,
     shared: &Shared<'_, K>,
     one: &mut Seat<K>,
     other: &mut Seat<K>,
+    acts: Acts<'_>,
 )
     requires case { shared.now.case.now ≡ given.now.case }
     requires one { let table = shared.now.table.shared in
@@ -111,44 +135,10 @@ fn at_seats<K: Keeper>(
         IsAtRest table.table_id shared.now.case.now 2 (1 ∷ []) other.new.place }
 {
     let mut desk = SharedDesk::on(&*shared, one);
-    beside(rt, alloc, given, shared, other, &mut desk);
-}
-
-// The seats are joined, and the book comes back.
-fn two_seats<K: Keeper>(
-    rt: &impl Abort,
-    alloc: Global,
-    given: &Example,
-    shared: Shared<'_, K>,
-    seat: Seat<K>,
-)
-    requires case { shared.case.now ≡ given.now.case }
-    requires rest { let table = shared.table.shared in
-        IsAtRest table.table_id shared.case.now 2 (0 ∷ 1 ∷ []) seat.place }
-    requires first { seat.number ≡ 0 }
-{
-    let mut other = seat;
-    let mut one = shared.deal(&mut other);
-    at_seats(rt, alloc, given, &shared, &mut one, &mut other);
-    shared.join(&mut other, one);
-    let book = shared.close(other);
-    has_entries(rt, &book, ENTRIES);
-}
-
-// A book is shared among two seats.
-fn shared<K: Keeper>(rt: &impl Abort, alloc: Global, given: &Example, book: Book<'_, K>)
-    requires case { book.case ≡ given.now.case }
-{
-    match Shared::start(alloc, book, 2) {
-        Ok((shared, seat)) => two_seats(rt, alloc, given, shared, seat),
-        Err(_refusal) => assert!(rt; false),
-    }
+    beside(rt, alloc, given, shared, other, &mut desk, acts);
 }
 
 #[test]
-fn turn_of_another_is_busy(rt: HostRuntime) -> Result<(), Fail> {
-    let alloc = rt.alloc();
-    let given = two_lines_example(alloc)?;
-    shared(&rt, alloc, &given, started(alloc, &given)?);
-    Ok(())
+fn turn_of_another_is_busy(rt: HostRuntime) {
+    play_all(&rt, rt.alloc(), &ROWS);
 }

@@ -6,6 +6,7 @@ ghost use Rattle.shared_book.specs.SharedDesks.{shared_home, shared_view};
 
 use super::acts::{Act, Answer, act_on, receive, short};
 use super::example::Example;
+use super::must;
 use book::Desk;
 use node::{Node, NodeFault, Outcome};
 use row_keeper::Keeper;
@@ -175,7 +176,8 @@ fn take_steps<K: Keeper>(
         let (step, want) = *row;
         nth = nth.saturating_add(1);
         let answer = stepped(alloc, given, one, first, other, second, step);
-        assert!(rt; short(answer) == want, "{nth}");
+        must(rt, short(&answer) == want, nth);
+        drop(answer);
     }
 }
 
@@ -203,4 +205,6 @@ pub(crate) fn cross<K: Keeper>(
     let mut first = Node::new(alloc, 0);
     let mut second = Node::new(alloc, 1);
     take_steps(rt, alloc, given, one, &mut first, other, &mut second, steps);
+    drop(second);
+    drop(first);
 }

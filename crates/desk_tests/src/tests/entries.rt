@@ -1,4 +1,6 @@
 //! What stands in a history, in short.
+use super::must;
+use super::plays::Row;
 use book::Book;
 use mw_types::Entry;
 use row_keeper::Keeper;
@@ -28,16 +30,16 @@ fn in_short(entry: &Entry) -> Told {
     }
 }
 
-// The history of a book has these entries, and no other.
-pub(crate) fn has_entries<K: Keeper>(rt: &impl Abort, book: &Book<'_, K>, want: &[Told]) {
-    let entries = book.history().entries();
-    assert!(rt; entries.len() == want.len());
-    for (entry, want) in entries.iter().zip(want) {
-        assert!(rt; in_short(entry) == *want);
+// These are the entries, and no other.
+fn are_told(rt: &impl Abort, entries: &[Entry], want: &[Told]) {
+    must(rt, entries.len() == want.len(), "how many entries");
+    for (at, entry) in entries.iter().enumerate() {
+        must(rt, want.get(at) == Some(&in_short(entry)), at);
     }
 }
 
-// The marks of a book are these.
-pub(crate) fn has_marks<K: Keeper>(rt: &impl Abort, book: &Book<'_, K>, want: &[u64]) {
-    assert!(rt; book.marks() == want);
+// A book has the entries and the marks of a row.
+pub(crate) fn has_left<K: Keeper>(rt: &impl Abort, book: &Book<'_, K>, row: &Row<'_>) {
+    are_told(rt, book.history().entries(), row.entries);
+    must(rt, book.marks() == row.marks.as_slice(), "the marks");
 }

@@ -1,5 +1,5 @@
 //! The example of two lines: its case, and the computations of that case.
-ghost use Rattle.std.specs.Prelude.{◌≡◌, ◌∷◌, [], IfOk};
+ghost use Rattle.std.specs.Prelude.{◌≡◌, ◌∷◌, []};
 ghost use Rattle.computations.specs.Parts.{HasState, part_record, part_timer};
 ghost use Rattle.topology.specs.Shapes.{injectors_of};
 ghost use Rattle.node.specs.Works.{IsWorkOf};
@@ -7,11 +7,13 @@ ghost use Rattle.worked_examples.specs.First.{key_a};
 ghost use Rattle.worked_examples.specs.Rising.{item_at_time, rise_case, rise_source};
 ghost use Rattle.desk_tests.specs.DeskTests.{kinds_of};
 
+use super::made;
 use computations::Kinds;
 use injector::{Item, Items, ItemsList};
-use mw_types::{Key, NoMemory};
+use mw_types::Key;
 use run_history::Case;
 use std::alloc::Global;
+use std::process::Abort;
 use topology::Topology;
 
 // What every test is given: windows of 60 over two records, and the computations of that.
@@ -35,58 +37,55 @@ impl Example {
 }
 
 // The key a.
-fn key_a(alloc: Global) -> Result<Key, NoMemory>
-    ensures { IfOk result (λ key. key ≡ key_a) }
+fn key_a(rt: &impl Abort, alloc: Global) -> Key
+    ensures { result ≡ key_a }
 {
-    match Key::of(alloc, "a") {
-        Ok(key) => Ok(key),
-        Err(_) => Err(NoMemory),
-    }
+    made(rt, Key::of(alloc, "a"))
 }
 
 // A record line of the key a.
-fn item(alloc: Global, stamp: u64) -> Result<Item, NoMemory>
-    ensures { IfOk result (λ item. item ≡ item_at_time stamp) }
+fn item(rt: &impl Abort, alloc: Global, stamp: u64) -> Item
+    ensures { result ≡ item_at_time stamp }
 {
-    Ok(Item {
-        record_key: key_a(alloc)?,
+    Item {
+        record_key: key_a(rt, alloc),
         stamp,
         value: 1,
         late: false,
-    })
+    }
 }
 
 // A record at 10, a watermark of 60, and a record at 70.
-fn two_lines(alloc: Global) -> Result<Items, NoMemory>
-    ensures { IfOk result (λ lines. lines ≡ rise_source) }
+fn two_lines(rt: &impl Abort, alloc: Global) -> Items
+    ensures { result ≡ rise_source }
 {
     let mut lines = Items::new(alloc);
-    lines.push(item(alloc, 10)?, 0)?;
-    lines.push(item(alloc, 70)?, 60)?;
-    Ok(lines)
+    made(rt, lines.push(item(rt, alloc, 10), 0));
+    made(rt, lines.push(item(rt, alloc, 70), 60));
+    lines
 }
 
 // Windows of 60 over the two records.
-fn two_line_case(alloc: Global) -> Result<Case, NoMemory>
-    ensures { IfOk result (λ case. case ≡ rise_case) }
+fn two_line_case(rt: &impl Abort, alloc: Global) -> Case
+    ensures { result ≡ rise_case }
 {
-    let topology = Topology::one_count(alloc, 60)?;
+    let topology = made(rt, Topology::one_count(alloc, 60));
     let mut items = ItemsList::new(alloc);
-    items.push(two_lines(alloc)?)?;
-    Case::of(alloc, topology, items)
+    made(rt, items.push(two_lines(rt, alloc)));
+    made(rt, Case::of(alloc, topology, items))
 }
 
 // The computations of a case.
-fn work_of(alloc: Global, case: &Case) -> Result<Kinds, NoMemory>
-    ensures injectors { IfOk result (λ work. work.injectors ≡ injectors_of case.now.topology) }
-    ensures kinds { IfOk result (λ work. work.kinds ≡ kinds_of case.now.topology) }
+fn work_of(rt: &impl Abort, alloc: Global, case: &Case) -> Kinds
+    ensures injectors { result.injectors ≡ injectors_of case.now.topology }
+    ensures kinds { result.kinds ≡ kinds_of case.now.topology }
 {
-    Kinds::of(alloc, &case.topology)
+    made(rt, Kinds::of(alloc, &case.topology))
 }
 
 // The case of two lines with its computations.
-pub(crate) fn two_lines_example(alloc: Global) -> Result<Example, NoMemory> {
-    let case = two_line_case(alloc)?;
-    let work = work_of(alloc, &case)?;
-    Ok(Example { case, work })
+pub(crate) fn two_lines_example(rt: &impl Abort, alloc: Global) -> Example {
+    let case = two_line_case(rt, alloc);
+    let work = work_of(rt, alloc, &case);
+    Example { case, work }
 }

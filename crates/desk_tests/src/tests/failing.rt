@@ -2,13 +2,7 @@
 //! back, and the same call does it afterwards.
 use super::acts::{Act, Answer};
 use super::entries::Told;
-use super::example::two_lines_example;
-use super::seats::over_one_seat;
-use book::Book;
-use mw_types::{CallList, NoMemory};
-use row_keeper::MemKeeper;
-use std::alloc::Global;
-use std::test::Fail;
+use super::plays::{Kept, Play, Row, Table, play_all};
 
 // Call 0 of the keeper is that of the book's start. A claim is one call, which reads the interval's rows, and
 // so is a write, which puts its row; a report and what is refused before the keeper is asked are none. So
@@ -16,7 +10,7 @@ use std::test::Fail;
 const FAILING: [u64; 7] = [1, 3, 5, 7, 10, 12, 14];
 
 // Beside each answer stands the number of the call.
-const TABLE: &[(Act, Answer)] = &[
+const TABLE: Table<'static> = &[
     (Act::ClaimSource, Answer::KeeperFault), // 1
     (Act::ClaimSource, Answer::Claimed(0)), // 2
     (Act::ClaimCount, Answer::KeeperFault), // 3
@@ -49,22 +43,15 @@ const ENTRIES: &[Told] = &[
     Told::Purge(1, 7),
 ];
 
-// A keeper in memory whose calls of these numbers fail.
-fn keeper(alloc: Global) -> Result<MemKeeper, NoMemory> {
-    let mut calls = CallList::new(alloc);
-    for number in &FAILING {
-        calls.push(*number)?;
-    }
-    Ok(MemKeeper::new(alloc, calls))
-}
+static ROWS: [Row<'static>; 1] = [Row {
+    kept: Kept::InMemory(&FAILING),
+    limit: 8,
+    play: Play::One(TABLE),
+    entries: ENTRIES,
+    marks: [60, 60],
+}];
 
 #[test]
-fn keeper_fails_under_a_turn(rt: HostRuntime) -> Result<(), Fail> {
-    let alloc = rt.alloc();
-    let given = two_lines_example(alloc)?;
-    match Book::start(alloc, &given.case, keeper(alloc)?, 8) {
-        Ok(book) => over_one_seat(&rt, alloc, &given, book, TABLE, ENTRIES),
-        Err(_) => assert!(rt; false),
-    }
-    Ok(())
+fn keeper_fails_under_a_turn(rt: HostRuntime) {
+    play_all(&rt, rt.alloc(), &ROWS);
 }

@@ -3,9 +3,7 @@
 use super::acts::{Act, Answer};
 use super::crossing::Step;
 use super::entries::Told;
-use super::example::two_lines_example;
-use super::two_workers::{Play, Row, plays};
-use std::test::Fail;
+use super::plays::{Kept, Play, Row, Two, play_all};
 
 // Worker 0 injects the line, whose record is at 10, and worker 1 is to handle it. The injector's own work is that
 // record, and then the watermark of 60 before the second line; the count's is the end of the window, at 60.
@@ -16,7 +14,9 @@ use std::test::Fail;
 // it loads, is 60. Worker 0's own lease is settled under 10 too, by entry 5, until it takes a turn and gives it
 // back once the injector's mark is 60.
 const RAISED: Row<'static> = Row {
-    play: Play::Crossing(&[
+    kept: Kept::InMemory(&[]),
+    limit: 16,
+    play: Play::Two(Two::Crossing(&[
         (Step::One(Act::ClaimSource), Answer::Claimed(0)),
         (Step::One(Act::Inject), Answer::Committed(1)),
         (Step::One(Act::ReportSource), Answer::Marked(10)),
@@ -34,7 +34,7 @@ const RAISED: Row<'static> = Row {
         (Step::CatchUp, Answer::Nothing),
         (Step::One(Act::ReportCount), Answer::Marked(60)),
         (Step::One(Act::Purge), Answer::Committed(6)),
-    ]),
+    ])),
     entries: &[
         Told::Claim(0, 0),
         Told::Inject(0, 0),
@@ -47,10 +47,9 @@ const RAISED: Row<'static> = Row {
     marks: [60, 60],
 };
 
+static ROWS: [Row<'static>; 1] = [RAISED];
+
 #[test]
-fn marks_across_seats(rt: HostRuntime) -> Result<(), Fail> {
-    let alloc = rt.alloc();
-    let given = two_lines_example(alloc)?;
-    plays(&rt, alloc, &given, &RAISED);
-    Ok(())
+fn marks_across_seats(rt: HostRuntime) {
+    play_all(&rt, rt.alloc(), &ROWS);
 }

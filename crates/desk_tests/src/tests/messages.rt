@@ -2,16 +2,16 @@
 use super::acts::{Act, Answer};
 use super::crossing::Step;
 use super::entries::Told;
-use super::example::two_lines_example;
-use super::two_workers::{Play, Row, plays};
-use std::test::Fail;
+use super::plays::{Kept, Play, Row, Two, play_all};
 
 // Worker 0 claims both intervals and injects the line, whose record it handles and does not yet write. A copy
 // of its message is of no row that worker 1 has, but the note of it tells the three entries. Worker 1 claims
 // the count's interval, which is entry 3, so that the write of worker 0 is stale. The record is still pending
 // at its sender: worker 1 handles it once it is sent again, which is entry 4 under the sequencer 3.
 const CROSSED: Row<'static> = Row {
-    play: Play::Crossing(&[
+    kept: Kept::InMemory(&[]),
+    limit: 16,
+    play: Play::Two(Two::Crossing(&[
         (Step::One(Act::ClaimSource), Answer::Claimed(0)),
         (Step::One(Act::ClaimCount), Answer::Claimed(1)),
         (Step::One(Act::Inject), Answer::Committed(2)),
@@ -22,7 +22,7 @@ const CROSSED: Row<'static> = Row {
         (Step::One(Act::Sweep), Answer::Queued(1)),
         (Step::Hand, Answer::Prepared),
         (Step::Other(Act::Write), Answer::Committed(4)),
-    ]),
+    ])),
     entries: &[
         Told::Claim(0, 0),
         Told::Claim(0, 1),
@@ -37,7 +37,9 @@ const CROSSED: Row<'static> = Row {
 // is acknowledged again, and there is nothing to write. The sender settles it by the first word of that,
 // which is entry 4; by the second there is nothing left to settle, and nothing is sent again.
 const AGAIN: Row<'static> = Row {
-    play: Play::Crossing(&[
+    kept: Kept::InMemory(&[]),
+    limit: 16,
+    play: Play::Two(Two::Crossing(&[
         (Step::One(Act::ClaimSource), Answer::Claimed(0)),
         (Step::Other(Act::ClaimCount), Answer::Claimed(1)),
         (Step::One(Act::Inject), Answer::Committed(2)),
@@ -48,7 +50,7 @@ const AGAIN: Row<'static> = Row {
         (Step::Back, Answer::Committed(4)),
         (Step::Back, Answer::Nothing),
         (Step::One(Act::Sweep), Answer::Queued(0)),
-    ]),
+    ])),
     entries: &[
         Told::Claim(0, 0),
         Told::Claim(1, 1),
@@ -59,12 +61,9 @@ const AGAIN: Row<'static> = Row {
     marks: [0, 0],
 };
 
+static ROWS: [Row<'static>; 2] = [CROSSED, AGAIN];
+
 #[test]
-fn messages_cross_seats(rt: HostRuntime) -> Result<(), Fail> {
-    let alloc = rt.alloc();
-    let given = two_lines_example(alloc)?;
-    for row in &[CROSSED, AGAIN] {
-        plays(&rt, alloc, &given, row);
-    }
-    Ok(())
+fn messages_cross_seats(rt: HostRuntime) {
+    play_all(&rt, rt.alloc(), &ROWS);
 }

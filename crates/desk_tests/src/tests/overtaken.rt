@@ -2,14 +2,14 @@
 //! refused, names that claim, and changes nothing.
 use super::acts::{Act, Answer};
 use super::entries::Told;
-use super::example::two_lines_example;
-use super::two_workers::{Acts, Play, Row, plays};
-use std::test::Fail;
+use super::plays::{Acts, Kept, Play, Row, Two, play_all};
 
 // Worker 1 claims the injector's interval before worker 0 injects. The claim is entry 2, which names what
 // overtook the lease 0. Without the lease there is nothing to inject.
 const INJECT: Row<'static> = Row {
-    play: Play::Overtaking(Acts {
+    kept: Kept::InMemory(&[]),
+    limit: 16,
+    play: Play::Two(Two::Overtaking(Acts {
         before: &[
             (Act::ClaimSource, Answer::Claimed(0)),
             (Act::ClaimCount, Answer::Claimed(1)),
@@ -19,7 +19,7 @@ const INJECT: Row<'static> = Row {
             (Act::Inject, Answer::Stale(2)),
             (Act::Inject, Answer::Nothing),
         ],
-    }),
+    })),
     entries: &[Told::Claim(0, 0), Told::Claim(0, 1), Told::Claim(1, 0)],
     marks: [0, 0],
 };
@@ -27,7 +27,9 @@ const INJECT: Row<'static> = Row {
 // Worker 1 claims the count's interval when worker 0 has handled the record and not yet written that. The
 // claim is entry 3, behind the line. What was prepared under the lease is given up with it.
 const HANDLE: Row<'static> = Row {
-    play: Play::Overtaking(Acts {
+    kept: Kept::InMemory(&[]),
+    limit: 16,
+    play: Play::Two(Two::Overtaking(Acts {
         before: &[
             (Act::ClaimSource, Answer::Claimed(0)),
             (Act::ClaimCount, Answer::Claimed(1)),
@@ -39,7 +41,7 @@ const HANDLE: Row<'static> = Row {
             (Act::Write, Answer::Stale(3)),
             (Act::Write, Answer::Nothing),
         ],
-    }),
+    })),
     entries: &[
         Told::Claim(0, 0),
         Told::Claim(0, 1),
@@ -52,7 +54,9 @@ const HANDLE: Row<'static> = Row {
 // Worker 1 claims the injector's interval when worker 0 has handled the record, and the word of that is
 // still to be written. The claim is entry 4, behind the line and what handled it.
 const SETTLE: Row<'static> = Row {
-    play: Play::Overtaking(Acts {
+    kept: Kept::InMemory(&[]),
+    limit: 16,
+    play: Play::Two(Two::Overtaking(Acts {
         before: &[
             (Act::ClaimSource, Answer::Claimed(0)),
             (Act::ClaimCount, Answer::Claimed(1)),
@@ -65,7 +69,7 @@ const SETTLE: Row<'static> = Row {
             (Act::Take, Answer::Stale(4)),
             (Act::Inject, Answer::Nothing),
         ],
-    }),
+    })),
     entries: &[
         Told::Claim(0, 0),
         Told::Claim(0, 1),
@@ -79,7 +83,9 @@ const SETTLE: Row<'static> = Row {
 // Worker 1 claims the count's interval when worker 0 knows that the timer is due. The claim is entry 6,
 // behind worker 0's second one.
 const FIRE: Row<'static> = Row {
-    play: Play::Overtaking(Acts {
+    kept: Kept::InMemory(&[]),
+    limit: 16,
+    play: Play::Two(Two::Overtaking(Acts {
         before: &[
             (Act::ClaimSource, Answer::Claimed(0)),
             (Act::ClaimCount, Answer::Claimed(1)),
@@ -93,7 +99,7 @@ const FIRE: Row<'static> = Row {
         ],
         between: &[(Act::ClaimCount, Answer::Claimed(6))],
         after: &[(Act::Fire, Answer::Stale(6)), (Act::Fire, Answer::Nothing)],
-    }),
+    })),
     entries: &[
         Told::Claim(0, 0),
         Told::Claim(0, 1),
@@ -109,7 +115,9 @@ const FIRE: Row<'static> = Row {
 // Worker 1 claims the count's interval when worker 0 has fired the timer, and the row of the key a has an id
 // to forget. The claim is entry 7, behind the timer's.
 const PURGE: Row<'static> = Row {
-    play: Play::Overtaking(Acts {
+    kept: Kept::InMemory(&[]),
+    limit: 16,
+    play: Play::Two(Two::Overtaking(Acts {
         before: &[
             (Act::ClaimSource, Answer::Claimed(0)),
             (Act::ClaimCount, Answer::Claimed(1)),
@@ -127,7 +135,7 @@ const PURGE: Row<'static> = Row {
             (Act::Purge, Answer::Stale(7)),
             (Act::Purge, Answer::Nothing),
         ],
-    }),
+    })),
     entries: &[
         Told::Claim(0, 0),
         Told::Claim(0, 1),
@@ -146,7 +154,9 @@ const PURGE: Row<'static> = Row {
 // watermark before its first line. The other interval is still worker 0's, whose mark is not above 0 while
 // the injector's is 0.
 const REPORT: Row<'static> = Row {
-    play: Play::Overtaking(Acts {
+    kept: Kept::InMemory(&[]),
+    limit: 16,
+    play: Play::Two(Two::Overtaking(Acts {
         before: &[
             (Act::ClaimSource, Answer::Claimed(0)),
             (Act::ClaimCount, Answer::Claimed(1)),
@@ -157,7 +167,7 @@ const REPORT: Row<'static> = Row {
             (Act::ReportSource, Answer::Marked(0)),
             (Act::ReportCount, Answer::Marked(0)),
         ],
-    }),
+    })),
     entries: &[Told::Claim(0, 0), Told::Claim(0, 1), Told::Claim(1, 0)],
     marks: [0, 0],
 };
@@ -165,7 +175,9 @@ const REPORT: Row<'static> = Row {
 // Worker 1 claims the count's interval when the injector's mark is 60. The claim is entry 5. Worker 0's lease was
 // settled while that mark was 0, and vouches for no more.
 const RAISE: Row<'static> = Row {
-    play: Play::Overtaking(Acts {
+    kept: Kept::InMemory(&[]),
+    limit: 16,
+    play: Play::Two(Two::Overtaking(Acts {
         before: &[
             (Act::ClaimSource, Answer::Claimed(0)),
             (Act::ClaimCount, Answer::Claimed(1)),
@@ -177,7 +189,7 @@ const RAISE: Row<'static> = Row {
         ],
         between: &[(Act::ClaimCount, Answer::Claimed(5))],
         after: &[(Act::ReportCount, Answer::Marked(0))],
-    }),
+    })),
     entries: &[
         Told::Claim(0, 0),
         Told::Claim(0, 1),
@@ -189,12 +201,9 @@ const RAISE: Row<'static> = Row {
     marks: [60, 0],
 };
 
+static ROWS: [Row<'static>; 7] = [INJECT, HANDLE, SETTLE, FIRE, PURGE, REPORT, RAISE];
+
 #[test]
-fn stale_across_seats(rt: HostRuntime) -> Result<(), Fail> {
-    let alloc = rt.alloc();
-    let given = two_lines_example(alloc)?;
-    for row in &[INJECT, HANDLE, SETTLE, FIRE, PURGE, REPORT, RAISE] {
-        plays(&rt, alloc, &given, row);
-    }
-    Ok(())
+fn stale_across_seats(rt: HostRuntime) {
+    play_all(&rt, rt.alloc(), &ROWS);
 }

@@ -2,17 +2,14 @@
 ghost use Rattle.std.specs.Prelude.{◌≡◌};
 
 use super::acts::{Act, Answer, drive};
-use super::entries::{Told, has_entries};
-use super::example::{Example, two_lines_example};
-use super::seats::over_one_seat;
-use super::starts::started;
+use super::entries::{Told, has_left};
+use super::example::Example;
+use super::plays::{Kept, Play, Row, Table, play_all};
 use book::{Book, OwnDesk};
-use mw_types::{Bytes, Key, NoMemory, RowName};
 use node::Node;
-use row_keeper::{BlindKeeper, Keeper, KeptRow};
+use row_keeper::Keeper;
 use std::alloc::Global;
 use std::process::Abort;
-use std::test::Fail;
 
 // The worker claims both intervals, which are entries 0 and 1. The first line is entry 2, and its record
 // goes to the row of the key a: handled it is entry 3, and acknowledged it is entry 4. The watermark before
@@ -20,7 +17,7 @@ use std::test::Fail;
 // count's. The injector's interval is claimed anew as entry 5: with that turn the count's lease is settled under
 // the mark that the injector's has then. The timer at 60 is not due before the count's mark is 60, and fires as
 // entry 6. The row has one id to forget, which the purge takes away as entry 7.
-const TABLE: &[(Act, Answer)] = &[
+const TABLE: Table<'static> = &[
     (Act::ClaimSource, Answer::Claimed(0)),
     (Act::ClaimCount, Answer::Claimed(1)),
     (Act::Take, Answer::Nothing),
@@ -51,57 +48,65 @@ const ENTRIES: &[Told] = &[
     Told::Purge(1, 7),
 ];
 
-// A worker over a book of its own.
-fn over_own_book<K: Keeper>(
+// The same over a book of its own, over a shared book, and over one whose keeper tells no row.
+static ROWS: [Row<'static>; 3] = [
+    Row {
+        kept: Kept::InMemory(&[]),
+        limit: 8,
+        play: Play::Own(TABLE),
+        entries: ENTRIES,
+        marks: [60, 60],
+    },
+    Row {
+        kept: Kept::InMemory(&[]),
+        limit: 8,
+        play: Play::One(TABLE),
+        entries: ENTRIES,
+        marks: [60, 60],
+    },
+    Row {
+        kept: Kept::Blind,
+        limit: 8,
+        play: Play::One(TABLE),
+        entries: ENTRIES,
+        marks: [60, 60],
+    },
+];
+
+// A worker at the desk of a book.
+fn at_own_desk<K: Keeper>(
     rt: &impl Abort,
     alloc: Global,
     given: &Example,
     book: &mut Book<'_, K>,
-    table: &[(Act, Answer)],
+    table: Table<'_>,
 )
     requires case { book.old.case ≡ given.now.case }
 {
     let mut desk = OwnDesk::on(book);
     let mut node = Node::new(alloc, 0);
     drive(rt, alloc, given, &mut desk, &mut node, table);
+    drop(node);
 }
 
-// A keeper that tells no row and shows none of a part that is there.
-fn blind(alloc: Global) -> Result<BlindKeeper, NoMemory> {
-    Ok(BlindKeeper::new(KeptRow {
-        name: RowName {
-            part: 7,
-            key: Key::none(alloc),
-        },
-        bytes: Bytes::new(alloc),
-    }))
-}
-
-#[test]
-fn node_over_own_desk(rt: HostRuntime) -> Result<(), Fail> {
-    let alloc = rt.alloc();
-    let given = two_lines_example(alloc)?;
-    let mut book = started(alloc, &given)?;
-    over_own_book(&rt, alloc, &given, &mut book, TABLE);
-    has_entries(&rt, &book, ENTRIES);
-    Ok(())
+// A worker over a book of its own.
+pub(crate) fn over_own_book<K: Keeper>(
+    rt: &impl Abort,
+    alloc: Global,
+    given: &Example,
+    book: Book<'_, K>,
+    row: &Row<'_>,
+    table: Table<'_>,
+)
+    requires case { book.case ≡ given.now.case }
+{
+    let mut book = book;
+    at_own_desk(rt, alloc, given, &mut book, table);
+    has_left(rt, &book, row);
+    drop(book);
 }
 
 #[test]
-fn node_over_shared_desk(rt: HostRuntime) -> Result<(), Fail> {
-    let alloc = rt.alloc();
-    let given = two_lines_example(alloc)?;
-    over_one_seat(&rt, alloc, &given, started(alloc, &given)?, TABLE, ENTRIES);
-    Ok(())
-}
-
-#[test]
-fn node_over_shared_desk_untold(rt: HostRuntime) -> Result<(), Fail> {
-    let alloc = rt.alloc();
-    let given = two_lines_example(alloc)?;
-    match Book::start(alloc, &given.case, blind(alloc)?, 8) {
-        Ok(book) => over_one_seat(&rt, alloc, &given, book, TABLE, ENTRIES),
-        Err(_) => assert!(rt; false),
-    }
-    Ok(())
+fn node_over_each_desk(rt: HostRuntime) {
+    play_all(&rt, rt.alloc(), &ROWS);
 }

@@ -2,9 +2,11 @@
 ghost use Rattle.std.specs.Prelude.{◌≡◌, ◌∷◌, []};
 ghost use Rattle.desk_tests.specs.DeskTests.{IsAtRest};
 
-use super::acts::{Act, Answer, drive};
-use super::entries::{Told, has_entries};
+use super::acts::drive;
+use super::entries::has_left;
 use super::example::Example;
+use super::made;
+use super::plays::{Row, Table};
 use book::Book;
 use node::Node;
 use row_keeper::Keeper;
@@ -13,13 +15,13 @@ use std::alloc::Global;
 use std::process::Abort;
 
 // A worker at the desk of the one seat.
-pub(crate) fn at_seat<K: Keeper>(
+fn at_seat<K: Keeper>(
     rt: &impl Abort,
     alloc: Global,
     given: &Example,
     shared: &Shared<'_, K>,
     seat: &mut Seat<K>,
-    table: &[(Act, Answer)],
+    table: Table<'_>,
 )
     requires case { shared.now.case.now ≡ given.now.case }
     requires rest { let table = shared.now.table.shared in
@@ -30,17 +32,18 @@ pub(crate) fn at_seat<K: Keeper>(
     let mut desk = SharedDesk::on(&*shared, seat);
     let mut node = Node::new(alloc, 0);
     drive(rt, alloc, given, &mut desk, &mut node, table);
+    drop(node);
 }
 
-// The book comes back, and has these entries.
+// The book comes back with what is wanted.
 fn one_seat<K: Keeper>(
     rt: &impl Abort,
     alloc: Global,
     given: &Example,
     shared: Shared<'_, K>,
     seat: Seat<K>,
-    table: &[(Act, Answer)],
-    entries: &[Told],
+    row: &Row<'_>,
+    table: Table<'_>,
 )
     requires case { shared.case.now ≡ given.now.case }
     requires rest { let table = shared.table.shared in
@@ -49,7 +52,8 @@ fn one_seat<K: Keeper>(
     let mut seat = seat;
     at_seat(rt, alloc, given, &shared, &mut seat, table);
     let book = shared.close(seat);
-    has_entries(rt, &book, entries);
+    has_left(rt, &book, row);
+    drop(book);
 }
 
 // A worker over a shared book of one seat.
@@ -58,13 +62,11 @@ pub(crate) fn over_one_seat<K: Keeper>(
     alloc: Global,
     given: &Example,
     book: Book<'_, K>,
-    table: &[(Act, Answer)],
-    entries: &[Told],
+    row: &Row<'_>,
+    table: Table<'_>,
 )
     requires case { book.case ≡ given.now.case }
 {
-    match Shared::start(alloc, book, 1) {
-        Ok((shared, seat)) => one_seat(rt, alloc, given, shared, seat, table, entries),
-        Err(_refusal) => assert!(rt; false),
-    }
+    let (shared, seat) = made(rt, Shared::start(alloc, book, 1));
+    one_seat(rt, alloc, given, shared, seat, row, table);
 }

@@ -6,9 +6,10 @@ ghost use Rattle.node.specs.Fits.{Fits};
 ghost use Rattle.desk_tests.specs.DeskTests.{IsAtRest};
 
 use super::acts::{Answer, short};
+use super::{made, must};
 use book::{Book, Desk, Seen};
 use injector::{Items, ItemsList, read_lines};
-use mw_types::{CallList, Entry, NoMemory};
+use mw_types::{CallList, Entry};
 use node::Node;
 use row_keeper::{Keeper, MemKeeper};
 use run_history::Case;
@@ -16,7 +17,6 @@ use shared_book::{Seat, Shared, SharedDesk};
 use std::alloc::Global;
 use std::process::Abort;
 use std::sync::Wait;
-use std::test::Fail;
 use std::thread::{Threads, join, yield_now};
 use topology::read;
 
@@ -53,9 +53,11 @@ fn at_last<N: Seen, D: Desk<Note = N>, R: Wait>(
             Deed::Claim => node.claim(alloc, desk, case, part),
             Deed::Inject => node.inject(alloc, desk, case, part),
         };
-        match short(answer) {
+        let told = short(&answer);
+        drop(answer);
+        match told {
             Answer::Busy(_) => yield_now(),
-            answer => return answer,
+            told => return told,
         }
     }
     unreachable!()
@@ -123,12 +125,13 @@ fn at_desk<K: Keeper, R: Wait + Abort>(
         IsAtRest table.table_id shared.now.case.now v.basis.seats v.numbers seat.new.place }
 {
     if case.intervals().count() <= part {
-        assert!(rt; false);
-        return;
+        rt.panic("no such part")
     }
     let mut desk = SharedDesk::on(&*shared, seat);
     let mut node = Node::new(alloc, part);
-    assert!(rt; injects_all(rt, alloc, case, &mut desk, &mut node, part));
+    let all = injects_all(rt, alloc, case, &mut desk, &mut node, part);
+    drop(node);
+    must(rt, all, part);
 }
 
 // Two threads, and the seats are joined once both have ended.
@@ -207,7 +210,9 @@ fn two_threads<K: Keeper + Send, R: Threads + Wait + Abort + Sync>(
     let seat = in_threads(rt, alloc, &shared, case, one, other);
     let book = shared.close(seat);
     let entries = book.history().entries();
-    assert!(rt; entries.len() == 402 && are_in_order(entries, 0) && are_in_order(entries, 1));
+    let are_all = entries.len() == 402 && are_in_order(entries, 0) && are_in_order(entries, 1);
+    must(rt, are_all, "the entries");
+    drop(book);
 }
 
 // The book is shared among two seats.
@@ -219,10 +224,8 @@ fn shared<K: Keeper + Send, R: Threads + Wait + Abort + Sync>(
 )
     requires case { book.case ≡ case.now }
 {
-    match Shared::start(alloc, book, 2) {
-        Ok((shared, seat)) => two_threads(rt, alloc, shared, case, seat),
-        Err(_refusal) => assert!(rt; false),
-    }
+    let (shared, seat) = made(rt, Shared::start(alloc, book, 2));
+    two_threads(rt, alloc, shared, case, seat);
 }
 
 // Two injectors, and a pass that reads both.
@@ -230,44 +233,49 @@ const TOPOLOGY: &str =
     r#"{"injectors":[{"name":"clicks","stream":"raw"},{"name":"views","stream":"seen"}],"computations":[{"name":"copy","kind":"pass","reads":[{"stream":"raw","by":"key"},{"stream":"seen","by":"key"}],"stream":"copies"}]}"#;
 
 // The lines of a file.
-fn lines(alloc: Global, bytes: &[u8]) -> Result<Items, Fail> {
+fn lines(rt: &impl Abort, alloc: Global, bytes: &[u8]) -> Items {
     if bytes.len() > 100_000 {
-        return Err(Fail::from(NoMemory));
+        rt.panic("too long")
     }
-    Ok(read_lines(alloc, bytes, LINES)?)
+    made(rt, read_lines(alloc, bytes, LINES))
 }
 
 // The lines of both injectors.
-fn items(alloc: Global) -> Result<ItemsList, Fail> {
+fn items(rt: &impl Abort, alloc: Global) -> ItemsList {
     let mut text = String::new(alloc);
     for _ in 0..LINES {
-        text.push_str("{\"key\":\"a\",\"ts\":1}\n")?;
+        made(rt, text.push_str("{\"key\":\"a\",\"ts\":1}\n"));
     }
     let mut all = ItemsList::new(alloc);
     for _ in 0..2 {
-        all.push(lines(alloc, text.as_bytes())?)?;
+        made(rt, all.push(lines(rt, alloc, text.as_bytes())));
     }
-    Ok(all)
+    all
 }
 
 // The case of two injectors with these lines each.
-fn two_injectors(alloc: Global) -> Result<Case, Fail> {
-    let topology = read(alloc, TOPOLOGY.as_bytes())?;
-    let items = items(alloc)?;
+fn two_injectors(rt: &impl Abort, alloc: Global) -> Case {
+    let topology = made(rt, read(alloc, TOPOLOGY.as_bytes()));
+    let items = items(rt, alloc);
     if items.len() != topology.injectors() as usize {
-        return Err(Fail::from(NoMemory));
+        rt.panic("other injectors")
     }
-    Ok(Case::of(alloc, topology, items)?)
+    made(rt, Case::of(alloc, topology, items))
+}
+
+// A book of the case is shared.
+fn begin<R: Threads + Wait + Abort + Sync>(rt: &R, alloc: Global, case: &Case) {
+    let keeper = MemKeeper::new(alloc, CallList::new(alloc));
+    shared(
+        rt,
+        alloc,
+        case,
+        made(rt, Book::start(alloc, case, keeper, 500)),
+    );
 }
 
 #[test]
-fn threads_inject_under_one_book(rt: HostRuntime) -> Result<(), Fail> {
+fn threads_inject_under_one_book(rt: HostRuntime) {
     let alloc = rt.alloc();
-    let case = two_injectors(alloc)?;
-    let keeper = MemKeeper::new(alloc, CallList::new(alloc));
-    match Book::start(alloc, &case, keeper, 500) {
-        Ok(book) => shared(&rt, alloc, &case, book),
-        Err(_) => assert!(rt; false),
-    }
-    Ok(())
+    begin(&rt, alloc, &two_injectors(&rt, alloc));
 }

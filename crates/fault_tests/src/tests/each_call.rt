@@ -1,12 +1,13 @@
 //! Each call of the keeper, of the files and of the output that fails in turn, in each mode.
-use super::calls::{ample, answer, called, is_said, keeper, shelf, sink, steady};
+use super::calls::{ample, called, is_said, keeper, shelf, sink};
 use super::files::{FIRST, TEXT};
 use super::kept::are_kept;
+use super::{made, must};
 use millwheel_cli::{Done, Status};
-use mw_types::{Entry, NoMemory};
+use mw_types::Entry;
 use row_keeper::MemKeeper;
 use std::alloc::Global;
-use std::test::Fail;
+use std::process::Abort;
 
 // What an entry is, and for what.
 type Told = (&'static str, u64);
@@ -32,12 +33,11 @@ fn is_told(entry: &Entry, want: Told) -> bool {
 
 // Whether there are so many entries, the first of these.
 fn are_first(entries: &[Entry], want: &[Told], count: usize) -> bool {
-    for (entry, one) in entries.iter().zip(want) {
-        if !is_told(entry, *one) {
-            return false;
-        }
+    let mut are = entries.len() == count;
+    for (at, entry) in entries.iter().enumerate() {
+        are = are && at < want.len() && is_told(entry, want[at]);
     }
-    entries.len() == count
+    are
 }
 
 // The history of the first example.
@@ -109,96 +109,68 @@ static RUNS: [(&str, &[Told]); 3] = [
     ("load 7 3", &LOADED),
 ];
 
-// Whether a call whose keeper failed ended with that, after so many of the entries, and wrote nothing; or ended well
-// after all of them.
-fn has_ended(done: &Done<MemKeeper>, text: &[u8], want: &[Told], count: usize) -> bool {
-    let is_so = match &done.status {
-        Status::KeeperFault => text.is_empty() && count < want.len(),
-        Status::Ok => count == want.len(),
-        _ => false,
-    };
-    is_so && are_first(done.history.entries(), want, count)
-}
-
 /// Whether the keeper has the rows of the history, and no others.
-pub(super) fn has_its_rows(alloc: Global, done: &Done<MemKeeper>) -> Result<bool, NoMemory> {
-    let rows = done.keeper.rows(alloc)?;
+pub(super) fn has_its_rows(rt: &impl Abort, alloc: Global, done: &Done<MemKeeper>) -> bool {
+    let rows = made(rt, done.keeper.rows(alloc));
     let are_kept = are_kept(alloc, rows.as_slice(), done.history.entries());
     drop(rows);
     are_kept
 }
 
+// Whether a call whose keeper failed ended with that, after so many of the entries, and wrote nothing; or ended well
+// after all of them; and has the rows of its history.
+fn has_ended(
+    rt: &impl Abort,
+    alloc: Global,
+    done: &Done<MemKeeper>,
+    text: &[u8],
+    want: &[Told],
+    count: usize,
+) -> bool {
+    let is_so = match &done.status {
+        Status::KeeperFault => text.is_empty() && count < want.len(),
+        Status::Ok => count == want.len(),
+        _ => false,
+    };
+    is_so && are_first(done.history.entries(), want, count) && has_its_rows(rt, alloc, done)
+}
+
 // Whether a call whose keeper fails at this of its calls ends so, and leaves the rows of its history.
 fn ends_after(
+    rt: &impl Abort,
     alloc: Global,
     line: &str,
     number: u64,
     want: &[Told],
     count: usize,
-) -> Result<bool, NoMemory> {
-    let keeper = keeper(alloc, &[number])?;
+) -> bool {
     let mut out = ample(alloc);
-    let done = answer(alloc, line, FIRST, keeper, &mut out);
-    let is_so = ends_so(alloc, &done, out.text(), want, count);
+    let shelf = shelf(rt, alloc, FIRST, &[]);
+    let done = called(
+        rt,
+        alloc,
+        line,
+        shelf,
+        keeper(rt, alloc, &[number]),
+        &mut out,
+    );
+    let has_ended = has_ended(rt, alloc, &done, out.text(), want, count);
     drop(done);
     drop(out);
-    is_so
-}
-
-// Whether such a call ended so, and left the rows of its history.
-fn ends_so(
-    alloc: Global,
-    done: &Result<Done<MemKeeper>, NoMemory>,
-    text: &[u8],
-    want: &[Told],
-    count: usize,
-) -> Result<bool, NoMemory> {
-    match done {
-        Ok(done) => Ok(has_ended(done, text, want, count) && has_its_rows(alloc, done)?),
-        Err(NoMemory) => Err(NoMemory),
-    }
+    has_ended
 }
 
 // The keeper's first call is that of the book's start, and the others are one for each entry. With the one behind the
 // last failing the run ends well.
 #[test]
-fn each_keeper_call_fails(rt: HostRuntime) -> Result<(), Fail> {
+fn each_keeper_call_fails(rt: HostRuntime) {
     for (line, want) in &RUNS {
         for number in 0..(want.len() as u64).saturating_add(2) {
             let count = number.saturating_sub(1) as usize;
-            assert!(rt;
-                ends_after(rt.alloc(), line, number, want, count)?,
-                "{line}: {number}"
-            );
+            let is_so = ends_after(&rt, rt.alloc(), line, number, want, count);
+            assert!(rt; is_so, "{line}: {number}");
         }
     }
-    Ok(())
-}
-
-// What is said of a call whose read of this number fails; nothing is written then, nor is a run begun.
-fn read_says(alloc: Global, line: &str, number: u64, message: &str) -> Result<bool, NoMemory> {
-    let mut shelf = shelf(alloc, FIRST, &[number])?;
-    let mut out = ample(alloc);
-    let done = called(alloc, line, &mut shelf, steady(alloc), &mut out);
-    drop(shelf);
-    let is_so = read_said(alloc, &done, out.text(), message);
-    drop(done);
-    drop(out);
-    is_so
-}
-
-// Whether this is said of such a call, and it began only where nothing is said.
-fn read_said(
-    alloc: Global,
-    done: &Result<Done<MemKeeper>, NoMemory>,
-    text: &[u8],
-    message: &str,
-) -> Result<bool, NoMemory> {
-    let Ok(done) = done else {
-        return Err(NoMemory);
-    };
-    let is_begun = !done.history.is_empty() || !text.is_empty();
-    Ok(is_said(alloc, &done.status, message)? && is_begun == message.is_empty())
 }
 
 // Calls: of each the line, the read that fails, and what is said.
@@ -216,15 +188,34 @@ static READS: [(&str, u64, &str); 11] = [
     ("load 7 3", 0, ""),
 ];
 
+// Whether this is said of such a call; nothing is written then, nor is a run begun.
+fn is_read_said(
+    rt: &impl Abort,
+    alloc: Global,
+    done: &Done<MemKeeper>,
+    text: &[u8],
+    message: &str,
+) -> bool {
+    let is_begun = !done.history.is_empty() || !text.is_empty();
+    is_said(rt, alloc, &done.status, message) && is_begun == message.is_empty()
+}
+
+// Whether this is said of a call whose read of this number fails.
+fn read_says(rt: &impl Abort, alloc: Global, line: &str, number: u64, message: &str) -> bool {
+    let mut out = ample(alloc);
+    let shelf = shelf(rt, alloc, FIRST, &[number]);
+    let done = called(rt, alloc, line, shelf, keeper(rt, alloc, &[]), &mut out);
+    let is_said = is_read_said(rt, alloc, &done, out.text(), message);
+    drop(done);
+    drop(out);
+    is_said
+}
+
 #[test]
-fn each_read_fails(rt: HostRuntime) -> Result<(), Fail> {
-    for (line, number, message) in &READS {
-        assert!(rt;
-            read_says(rt.alloc(), line, *number, message)?,
-            "{line}: {number}"
-        );
+fn each_read_fails(rt: HostRuntime) {
+    for (at, (line, number, message)) in READS.iter().enumerate() {
+        must(&rt, read_says(&rt, rt.alloc(), line, *number, message), at);
     }
-    Ok(())
 }
 
 // What `load 7 3` writes.
@@ -238,48 +229,36 @@ static TEXTS: [(&str, &str); 4] = [
     ("load 7 3", SUMMARY),
 ];
 
-// Whether the text has that beginning of so many bytes.
-fn begins(text: &str, part: &[u8], length: usize) -> bool {
-    part.len() == length && text.as_bytes().starts_with(part)
+// Whether a call that could write so many bytes of a text ended with that.
+fn is_cut(done: &Done<MemKeeper>, written: &[u8], text: &str, length: usize) -> bool {
+    match &done.status {
+        Status::SinkFault => {
+            let is_short = length < text.len() && written.len() == length;
+            is_short && text.as_bytes().starts_with(written)
+        }
+        Status::Ok => length >= text.len() && written == text.as_bytes(),
+        _ => false,
+    }
 }
 
 // Whether a call whose output takes eight bytes a call, and fails at this of its calls, ends with that after as many
 // bytes as the calls before took; or writes the whole text where there is no such call.
-fn is_cut_at(alloc: Global, line: &str, text: &str, number: u64) -> Result<bool, NoMemory> {
-    let mut out = sink(alloc, 8, &[number], &[])?;
-    let done = answer(alloc, line, FIRST, steady(alloc), &mut out);
-    let is_cut = ends_cut(&done, out.text(), text, number.saturating_mul(8) as usize);
+fn is_cut_at(rt: &impl Abort, alloc: Global, line: &str, text: &str, number: u64) -> bool {
+    let mut out = sink(rt, alloc, 8, &[number]);
+    let shelf = shelf(rt, alloc, FIRST, &[]);
+    let done = called(rt, alloc, line, shelf, keeper(rt, alloc, &[]), &mut out);
+    let is_cut = is_cut(&done, out.text(), text, number.saturating_mul(8) as usize);
     drop(done);
     drop(out);
     is_cut
 }
 
-// Whether a call that could write so many bytes of a text ended with that.
-fn ends_cut(
-    done: &Result<Done<MemKeeper>, NoMemory>,
-    written: &[u8],
-    text: &str,
-    length: usize,
-) -> Result<bool, NoMemory> {
-    let Ok(done) = done else {
-        return Err(NoMemory);
-    };
-    Ok(match done.status {
-        Status::SinkFault => length < text.len() && begins(text, written, length),
-        Status::Ok => length >= text.len() && written == text.as_bytes(),
-        _ => false,
-    })
-}
-
 #[test]
-fn each_write_fails(rt: HostRuntime) -> Result<(), Fail> {
+fn each_write_fails(rt: HostRuntime) {
     for (line, text) in &TEXTS {
         for number in 0..=text.len().div_ceil(8) as u64 {
-            assert!(rt;
-                is_cut_at(rt.alloc(), line, text, number)?,
-                "{line}: {number}"
-            );
+            let is_so = is_cut_at(&rt, rt.alloc(), line, text, number);
+            assert!(rt; is_so, "{line}: {number}");
         }
     }
-    Ok(())
 }

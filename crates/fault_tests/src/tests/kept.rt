@@ -1,7 +1,7 @@
 //! Whether rows that a keeper holds are those of a history, by reading each back.
 //!
 //! It is of topologies in which each line is read by one computation, whose stream nobody reads.
-use mw_types::{Entry, NoMemory, RecordId, State};
+use mw_types::{Entry, RecordId, State};
 use record_codec::decode_row;
 use row_keeper::KeptRow;
 use row_parts::Row;
@@ -122,29 +122,42 @@ fn is_of(row: &Row, entries: &[Entry], kept: &KeptRow) -> bool {
 }
 
 // Whether a kept row is read back as the one of the history.
-fn is_kept(alloc: Global, kept: &KeptRow, entries: &[Entry]) -> Result<bool, NoMemory> {
-    match decode_row(alloc, kept.bytes.as_slice()) {
-        Ok(row) => Ok(is_of(&row, entries, kept)),
-        Err(_) => Ok(false),
+fn is_kept(alloc: Global, kept: &KeptRow, entries: &[Entry]) -> bool {
+    let decoded = decode_row(alloc, kept.bytes.as_slice());
+    let is_so = match &decoded {
+        Ok(row) => is_of(row, entries, kept),
+        Err(_) => false,
+    };
+    drop(decoded);
+    is_so
+}
+
+// Whether an entry is on a row.
+fn has_entry(entries: &[Entry], kept: &KeptRow) -> bool {
+    let mut has = false;
+    for entry in entries {
+        has = has || is_on(entry, kept);
     }
+    has
 }
 
 // Whether the row that an entry is on is kept, where it is on one.
 fn has_row(rows: &[KeptRow], entry: &Entry) -> bool {
-    name_of(entry).is_none() || rows.iter().any(|kept| is_on(entry, kept))
+    let mut has = name_of(entry).is_none();
+    for kept in rows {
+        has = has || is_on(entry, kept);
+    }
+    has
 }
 
 /// Whether these are the rows of a history, and no others: each row that an entry is on, as the entries leave it.
-pub(super) fn are_kept(
-    alloc: Global,
-    rows: &[KeptRow],
-    entries: &[Entry],
-) -> Result<bool, NoMemory> {
+pub(super) fn are_kept(alloc: Global, rows: &[KeptRow], entries: &[Entry]) -> bool {
+    let mut are = true;
     for kept in rows {
-        let is_there = entries.iter().any(|entry| is_on(entry, kept));
-        if !is_there || !is_kept(alloc, kept, entries)? {
-            return Ok(false);
-        }
+        are = are && has_entry(entries, kept) && is_kept(alloc, kept, entries);
     }
-    Ok(entries.iter().all(|entry| has_row(rows, entry)))
+    for entry in entries {
+        are = are && has_row(rows, entry);
+    }
+    are
 }

@@ -1,109 +1,111 @@
 //! Files at their greatest length, and plans and words at their greatest numbers, by the program's own call.
 use super::calls::says;
 use super::files::{COUNT, EVENTS, TEXT};
-use mw_types::NoMemory;
+use super::{made, must};
 use std::alloc::Global;
-use std::test::Fail;
+use std::process::Abort;
 
 // Appends so many times the same text.
-fn push_times(all: &mut String, text: &str, times: u32) -> Result<(), NoMemory> {
+fn push_times(rt: &impl Abort, all: &mut String, text: &str, times: u32) {
     for _ in 0..times {
-        all.push_str(text)?;
+        made(rt, all.push_str(text));
     }
-    Ok(())
 }
 
-// So many times the same text.
-fn repeated(alloc: Global, text: &str, times: u32) -> Result<String, NoMemory> {
+// The letter so many times, put together of pieces of 1,024.
+fn long(rt: &impl Abort, alloc: Global, letter: &str, times: u32) -> String {
+    let mut piece = String::new(alloc);
+    push_times(rt, &mut piece, letter, 1024);
     let mut all = String::new(alloc);
-    push_times(&mut all, text, times)?;
-    Ok(all)
-}
-
-// The letter so many times.
-fn long(alloc: Global, letter: &str, times: u32) -> Result<String, NoMemory> {
-    let piece = repeated(alloc, letter, 1024)?;
-    let all = repeated(alloc, piece.as_str(), times / 1024);
+    push_times(rt, &mut all, piece.as_str(), times / 1024);
     drop(piece);
-    let mut all = all?;
-    push_times(&mut all, letter, times % 1024)?;
-    Ok(all)
-}
-
-// Whether this is said and written where the plan has the letter so many times.
-fn plan_says(alloc: Global, times: u32, message: &str, text: &str) -> Result<bool, NoMemory> {
-    let plan = long(alloc, "#", times)?;
-    let is_so = planned(alloc, plan.as_str(), message, text);
-    drop(plan);
-    is_so
+    push_times(rt, &mut all, letter, times % 1024);
+    all
 }
 
 // The line of a call that has a plan.
 const REPLAY: &str = "replay --plan p t.json e";
 
-/// Whether this is said and written of a plan.
-pub(super) fn planned(
+/// Whether this is said and written of a call with this plan and these events, for which there is one lifetime.
+pub(super) fn answers<'x>(
+    rt: &impl Abort,
     alloc: Global,
-    plan: &str,
+    line: &str,
+    plan: &'x str,
+    events: &'x str,
     message: &str,
     text: &str,
-) -> Result<bool, NoMemory> {
-    let files = [("t.json", COUNT), ("p", plan), ("e", EVENTS)];
-    says(alloc, REPLAY, &files, message, text)
+) -> bool {
+    let files = [("t.json", COUNT), ("p", plan), ("e", events)];
+    says(rt, alloc, line, &files, message, text)
 }
 
-// Whether this is said and written where the event file has so many blanks.
-fn events_say(alloc: Global, times: u32, message: &str, text: &str) -> Result<bool, NoMemory> {
-    let events = long(alloc, " ", times)?;
-    let files = [("t.json", COUNT), ("e", events.as_str())];
-    let is_so = says(alloc, "solo t.json e", &files, message, text);
-    drop(events);
-    is_so
+/// Whether a replay of a plan, which is handed over, writes the text of the first example.
+pub(super) fn replays(rt: &impl Abort, alloc: Global, plan: String) -> bool {
+    plan_answers(rt, alloc, plan, "", TEXT)
 }
 
 // What is written where nothing is injected.
 const NOTHING: &str = "{\"fired\":0,\"handled\":0,\"injected\":0,\"late\":0}\n";
 
-// Whether this is said and written where that file has so many letters.
-fn file_says(
+// The line of a call that has no plan.
+const SOLO: &str = "solo t.json e";
+
+// Calls with a plan or events of so many letters: at their greatest length and one letter longer, what is said of each,
+// and what is written.
+static LONG: [(&str, u32, &str, &str); 4] = [
+    (REPLAY, 1048576, "", TEXT),
+    (REPLAY, 1048577, "too long: p", ""),
+    (SOLO, 33554432, "", NOTHING),
+    (SOLO, 33554433, "too long: e", ""),
+];
+
+// Whether this is said and written of a call with this plan, which is handed over.
+fn plan_answers(rt: &impl Abort, alloc: Global, plan: String, message: &str, text: &str) -> bool {
+    let is_so = answers(rt, alloc, REPLAY, plan.as_str(), EVENTS, message, text);
+    drop(plan);
+    is_so
+}
+
+// The same of a call with these events.
+fn events_answer(
+    rt: &impl Abort,
     alloc: Global,
-    file: &str,
+    events: String,
+    message: &str,
+    text: &str,
+) -> bool {
+    let is_so = answers(rt, alloc, SOLO, "", events.as_str(), message, text);
+    drop(events);
+    is_so
+}
+
+// Whether this is said and written of a call whose plan, or whose events where it has no plan, have so many letters.
+fn long_answers(
+    rt: &impl Abort,
+    alloc: Global,
+    line: &str,
     times: u32,
     message: &str,
     text: &str,
-) -> Result<bool, NoMemory> {
-    if file == "plan" {
-        plan_says(alloc, times, message, text)
+) -> bool {
+    if line == REPLAY {
+        plan_answers(rt, alloc, long(rt, alloc, "#", times), message, text)
     } else {
-        events_say(alloc, times, message, text)
+        events_answer(rt, alloc, long(rt, alloc, " ", times), message, text)
     }
 }
-
-// Files at their greatest length and one letter longer, what is said of each, and what is written.
-static LONG: [(&str, u32, &str, &str); 4] = [
-    ("plan", 1048576, "", TEXT),
-    ("plan", 1048577, "too long: p", ""),
-    ("events", 33554432, "", NOTHING),
-    ("events", 33554433, "too long: e", ""),
-];
 
 // One line of blanks is no record, and one of `#` is no step.
 #[test]
-fn files_go_up_to_their_lengths(rt: HostRuntime) -> Result<(), Fail> {
-    for (file, times, message, text) in &LONG {
-        assert!(rt;
-            file_says(rt.alloc(), file, *times, message, text)?,
-            "{file}: {times}"
+fn files_go_up_to_their_lengths(rt: HostRuntime) {
+    for (line, times, message, text) in &LONG {
+        must(
+            &rt,
+            long_answers(&rt, rt.alloc(), line, *times, message, text),
+            *times,
         );
     }
-    Ok(())
-}
-
-// Whether a call whose plan this is goes well, or says this.
-fn is_answered(alloc: Global, line: &str, plan: &str, message: &str) -> Result<bool, NoMemory> {
-    let files = [("t.json", COUNT), ("p", plan), ("e", EVENTS)];
-    let text = if message.is_empty() { TEXT } else { "" };
-    says(alloc, line, &files, message, text)
 }
 
 // What is said of words that are no call.
@@ -131,12 +133,13 @@ static NUMBERED: [(&str, &str, &str); 17] = [
 ];
 
 #[test]
-fn plans_and_words_go_up_to_their_numbers(rt: HostRuntime) -> Result<(), Fail> {
-    for (line, plan, message) in &NUMBERED {
-        assert!(rt;
-            is_answered(rt.alloc(), line, plan, message)?,
-            "{line}: {plan}"
+fn plans_and_words_go_up_to_their_numbers(rt: HostRuntime) {
+    for (at, (line, plan, message)) in NUMBERED.iter().enumerate() {
+        let text = if message.is_empty() { TEXT } else { "" };
+        must(
+            &rt,
+            answers(&rt, rt.alloc(), line, plan, EVENTS, message, text),
+            at,
         );
     }
-    Ok(())
 }

@@ -6,6 +6,7 @@ ghost use Rattle.computations.specs.Parts.{HasState, part_record, part_timer};
 ghost use Rattle.scripts.specs.Steps.{IsStep};
 
 use super::files::{COUNT, EVENTS};
+use super::made;
 use super::overtaken::sides;
 use book::Book;
 use computations::Kinds;
@@ -17,50 +18,43 @@ use run_history::Case;
 use schedules::{Schedule, read_schedule};
 use scripts::Step;
 use std::alloc::Global;
+use std::process::Abort;
 use topology::{Topology, read};
 use world::World;
 
 // The topology of the first example, which has one injector.
-fn topology(alloc: Global) -> Result<Topology, NoMemory>
-    ensures { IfOk result (λ topology. injectors_of topology ≡ 1) }
+fn topology(rt: &impl Abort, alloc: Global) -> Topology
+    ensures { injectors_of result ≡ 1 }
 {
-    let Ok(topology) = read(alloc, COUNT.as_bytes()) else {
-        return Err(NoMemory);
-    };
-    if topology.injectors() == 1 {
-        Ok(topology)
-    } else {
-        Err(NoMemory)
+    let topology = made(rt, read(alloc, COUNT.as_bytes()));
+    if topology.injectors() != 1 {
+        rt.panic("other injectors")
     }
+    topology
 }
 
 // Its lines.
-fn lines(alloc: Global) -> Result<Items, NoMemory> {
+fn lines(rt: &impl Abort, alloc: Global) -> Items {
     let bytes = EVENTS.as_bytes();
     if bytes.len() > 1 << 20 {
-        return Err(NoMemory);
+        rt.panic("too long")
     }
-    match read_lines(alloc, bytes, 1 << 18) {
-        Ok(items) => Ok(items),
-        Err(_) => Err(NoMemory),
-    }
-}
-
-// Its case.
-fn case(alloc: Global) -> Result<Case, NoMemory> {
-    let items = items(alloc)?;
-    let topology = topology(alloc)?;
-    Case::of(alloc, topology, items)
+    made(rt, read_lines(alloc, bytes, 1 << 18))
 }
 
 // Its lines, as those of the one injector.
-fn items(alloc: Global) -> Result<ItemsList, NoMemory>
-    ensures { IfOk result (λ items. length items ≡ 1) }
+fn items(rt: &impl Abort, alloc: Global) -> ItemsList
+    ensures { length result ≡ 1 }
 {
-    let lines = lines(alloc)?;
     let mut items = ItemsList::new(alloc);
-    items.push(lines)?;
-    Ok(items)
+    made(rt, items.push(lines(rt, alloc)));
+    items
+}
+
+// Its case.
+fn case(rt: &impl Abort, alloc: Global) -> Case {
+    let items = items(rt, alloc);
+    made(rt, Case::of(alloc, topology(rt, alloc), items))
 }
 
 // The computations of a case.
@@ -76,54 +70,50 @@ fn work(alloc: Global, case: &Case) -> Result<Kinds, NoMemory>
 
 // A world over a new book of a case.
 fn world<'a>(
+    rt: &impl Abort,
     alloc: Global,
     case: &'a Case,
     keeper: MemKeeper,
-) -> Result<World<'a, MemKeeper, Kinds>, NoMemory> {
-    let work = work(alloc, case)?;
-    let Ok(book) = Book::start(alloc, case, keeper, 1 << 32) else {
-        return Err(NoMemory);
-    };
-    match World::start(alloc, book, work) {
-        Ok(world) => Ok(world),
-        Err(_) => Err(NoMemory),
-    }
+) -> World<'a, MemKeeper, Kinds> {
+    let work = made(rt, work(alloc, case));
+    let book = made(rt, Book::start(alloc, case, keeper, 1 << 32));
+    made(rt, World::start(alloc, book, work))
 }
 
 // The one step of a line.
-fn step(alloc: Global, case: &Case, line: &str) -> Result<Step, NoMemory>
-    ensures { IfOk result (IsStep case.now.topology) }
+fn step(rt: &impl Abort, alloc: Global, case: &Case, line: &str) -> Step
+    ensures { IsStep case.now.topology result }
 {
-    let schedule = schedule(alloc, case, line)?;
-    match schedule.steps().first() {
-        Some(step) => Ok(*step),
-        None => Err(NoMemory),
-    }
+    let schedule = schedule(rt, alloc, case, line);
+    let step = match schedule.steps().first() {
+        Some(step) => *step,
+        None => rt.panic("no step"),
+    };
+    drop(schedule);
+    step
 }
 
 // The schedule of a text.
-fn schedule(alloc: Global, case: &Case, text: &str) -> Result<Schedule, NoMemory>
-    ensures { IfOk result (λ steps. All (IsStep case.now.topology) steps) }
+fn schedule(rt: &impl Abort, alloc: Global, case: &Case, text: &str) -> Schedule
+    ensures { All (IsStep case.now.topology) result }
 {
     let bytes = text.as_bytes();
     if bytes.len() > 1 << 20 {
-        return Err(NoMemory);
+        rt.panic("too long")
     }
-    match read_schedule(alloc, bytes, case) {
-        Ok(schedule) => Ok(schedule),
-        Err(_) => Err(NoMemory),
-    }
+    made(rt, read_schedule(alloc, bytes, case))
 }
 
 // What the step of a line answers. No other function does a step, since each that does carries what its clauses tell.
 fn answer(
+    rt: &impl Abort,
     alloc: Global,
     world: &mut World<'_, MemKeeper, Kinds>,
     line: &str,
-) -> Result<Result<Outcome, NodeFault>, NoMemory> {
+) -> Result<Outcome, NodeFault> {
     let case = world.book().case();
-    let step = step(alloc, case, line)?;
-    Ok(world.step(alloc, &step))
+    let step = step(rt, alloc, case, line);
+    world.step(alloc, &step)
 }
 
 // An answer, as a script has it: its word, and its number where it has one.
@@ -153,15 +143,11 @@ fn fault_said(fault: &NodeFault) -> Said {
     }
 }
 
-// How a script has what the step of a line answers.
-fn step_said(
-    alloc: Global,
-    world: &mut World<'_, MemKeeper, Kinds>,
-    line: &str,
-) -> Result<Said, NoMemory> {
-    match answer(alloc, world, line)? {
-        Ok(outcome) => Ok(outcome_said(&outcome)),
-        Err(fault) => Ok(fault_said(&fault)),
+// How a script has what a step answers.
+fn step_said(answer: &Result<Outcome, NodeFault>) -> Said {
+    match answer {
+        Ok(outcome) => outcome_said(outcome),
+        Err(fault) => fault_said(fault),
     }
 }
 
@@ -183,72 +169,51 @@ fn drain_said(alloc: Global, world: &mut World<'_, MemKeeper, Kinds>) -> Said {
 
 // What a script has beside the left side of a line.
 fn said(
+    rt: &impl Abort,
     alloc: Global,
     world: &mut World<'_, MemKeeper, Kinds>,
     asked: &str,
-) -> Result<Said, NoMemory> {
+) -> Said {
     if asked == "drain" {
-        return Ok(drain_said(alloc, world));
+        return drain_said(alloc, world);
     }
     if asked == "last" {
-        return Ok(floor_said(world.book().history().entries()));
+        return floor_said(world.book().history().entries());
     }
-    step_said(alloc, world, asked)
+    let answer = answer(rt, alloc, world, asked);
+    let said = step_said(&answer);
+    drop(answer);
+    said
 }
 
 // Whether an answer is written so.
-fn is_written(alloc: Global, said: Said, want: &str) -> Result<bool, NoMemory> {
+fn is_written(rt: &impl Abort, alloc: Global, said: Said, want: &str) -> bool {
     match said {
-        (word, None) => Ok(word == want),
-        (word, Some(number)) => {
-            let text = format!(in alloc; "{word} {number}")?;
-            let is_so = text.as_str() == want;
-            drop(text);
-            Ok(is_so)
-        }
+        (word, None) => word == want,
+        (word, Some(number)) => made(rt, format!(in alloc; "{word} {number}")).as_str() == want,
     }
 }
 
-// Whether one line of a script holds.
-fn holds(
+// Does each step of a script over a world.
+fn do_steps(
+    rt: &impl Abort,
     alloc: Global,
     world: &mut World<'_, MemKeeper, Kinds>,
-    line: &str,
-) -> Result<bool, NoMemory> {
-    let (asked, want) = sides(line);
-    let answer = said(alloc, world, asked)?;
-    is_written(alloc, answer, want)
-}
-
-// Does each step of a script, and answers the number of the first line that does not hold, from 1, or 0.
-fn first_wrong(
-    alloc: Global,
-    world: &mut World<'_, MemKeeper, Kinds>,
+    name: &str,
     script: &str,
-) -> Result<u64, NoMemory> {
-    let mut number: u64 = 0;
+) {
     for line in script.split('\n') {
-        number = number.saturating_add(1);
-        if !holds(alloc, world, line)? {
-            return Ok(number);
-        }
+        let (asked, want) = sides(line);
+        let said = said(rt, alloc, world, asked);
+        assert!(rt; is_written(rt, alloc, said, want), "{name}: {line}");
     }
-    Ok(0)
 }
 
-/// The number of the first line of a script that does not hold, or 0, over a new world of the first example and this
-/// keeper.
-pub(super) fn wrong_over(alloc: Global, keeper: MemKeeper, script: &str) -> Result<u64, NoMemory> {
-    let case = case(alloc)?;
-    let wrong = wrong_of(alloc, &case, keeper, script);
-    drop(case);
-    wrong
-}
-
-// The same over this case.
-fn wrong_of(alloc: Global, case: &Case, keeper: MemKeeper, script: &str) -> Result<u64, NoMemory> {
-    let mut world = world(alloc, case, keeper)?;
-    let wrong = first_wrong(alloc, &mut world, script);
+/// Does each step of a script over a new world of the first example and this keeper.
+pub(super) fn do_all(rt: &impl Abort, alloc: Global, keeper: MemKeeper, name: &str, script: &str) {
+    let case = case(rt, alloc);
+    let mut world = world(rt, alloc, &case, keeper);
+    do_steps(rt, alloc, &mut world, name, script);
     drop(world);
-    wrong
+    drop(case);
 }

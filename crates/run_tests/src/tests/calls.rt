@@ -1,9 +1,11 @@
 //! The program's call over files in memory, with threads.
+use super::made;
 use millwheel_cli::{Done, load_lines, millwheel};
 use mw_ports::{FileList, Gate, MemShelf, MemSink, NamedFile, OpenGate};
-use mw_types::{Bytes, CallList, Name, NoMemory, Seq};
+use mw_types::{Bytes, CallList, Name, Seq};
 use row_keeper::MemKeeper;
 use std::alloc::Global;
+use std::process::Abort;
 use std::sync::Wait;
 use std::thread::Threads;
 
@@ -20,44 +22,30 @@ pub const COUNT: &str =
 /// Which topology and which plan a call has. Its event file has sixty lines, in all three intervals.
 pub type Files<'a> = (&'a str, &'a str);
 
-// A file of this name.
-fn file(alloc: Global, name: &str, bytes: Bytes) -> Result<NamedFile, NoMemory> {
-    Ok(NamedFile {
-        name: Name::of(alloc, name)?,
-        bytes,
-    })
+// Puts a file of this name and these bytes behind the others.
+fn push_file(rt: &impl Abort, alloc: Global, list: &mut FileList, name: &str, bytes: Bytes) {
+    let name = made(rt, Name::of(alloc, name));
+    made(rt, list.push(NamedFile { name, bytes }));
 }
 
 // The bytes of a text.
-fn bytes_of(alloc: Global, text: &str) -> Result<Bytes, NoMemory> {
-    Ok(Bytes::from_vec(text.as_bytes().to_vec(alloc)?))
+fn bytes_of(rt: &impl Abort, alloc: Global, text: &str) -> Bytes {
+    Bytes::from_vec(made(rt, text.as_bytes().to_vec(alloc)))
 }
 
-// A file of this name and text.
-fn text_file(alloc: Global, name: &str, text: &str) -> Result<NamedFile, NoMemory> {
-    let bytes = bytes_of(alloc, text)?;
-    file(alloc, name, bytes)
-}
-
-// The sixty lines.
-fn lines(alloc: Global) -> Result<NamedFile, NoMemory> {
-    let bytes = load_lines(alloc, 7, 60)?;
-    file(alloc, "e", bytes)
-}
-
-// Appends the files: a topology, a plan, and sixty lines.
-fn push_files(alloc: Global, list: &mut FileList, files: Files<'_>) -> Result<(), NoMemory> {
-    list.push(text_file(alloc, "t.json", files.0)?)?;
-    list.push(text_file(alloc, "p", files.1)?)?;
-    list.push(lines(alloc)?)?;
-    Ok(())
-}
-
-// A shelf with these files, whose reads don't fail.
-fn shelf(alloc: Global, files: Files<'_>) -> Result<MemShelf, NoMemory> {
+// A shelf with these files, whose reads don't fail: a topology, a plan, and sixty lines.
+fn shelf(rt: &impl Abort, alloc: Global, files: Files<'_>) -> MemShelf {
     let mut list = FileList::new(alloc);
-    push_files(alloc, &mut list, files)?;
-    Ok(MemShelf::of(list, CallList::new(alloc)))
+    push_file(rt, alloc, &mut list, "t.json", bytes_of(rt, alloc, files.0));
+    push_file(rt, alloc, &mut list, "p", bytes_of(rt, alloc, files.1));
+    push_file(
+        rt,
+        alloc,
+        &mut list,
+        "e",
+        made(rt, load_lines(alloc, 7, 60)),
+    );
+    MemShelf::of(list, CallList::new(alloc))
 }
 
 /// An ample sink.
@@ -65,35 +53,23 @@ pub(super) fn sink(alloc: Global) -> MemSink {
     MemSink::of(alloc, 65536, CallList::new(alloc), CallList::new(alloc))
 }
 
-/// A keeper without rows that does not fail.
-pub(super) fn keeper(alloc: Global) -> MemKeeper {
-    MemKeeper::new(alloc, CallList::new(alloc))
-}
-
-/// A keeper without rows, whose call of this number fails.
-pub(super) fn failing(alloc: Global, call: u64) -> Result<MemKeeper, NoMemory> {
-    let calls = CallList::from_vec(vec![in alloc; call]?);
-    Ok(MemKeeper::new(alloc, calls))
+/// A keeper without rows, whose calls of these numbers fail.
+pub(super) fn keeper(rt: &impl Abort, alloc: Global, failing: &[u64]) -> MemKeeper {
+    MemKeeper::new(alloc, CallList::from_vec(made(rt, failing.to_vec(alloc))))
 }
 
 // The words of a line, which stand with one blank between them.
-fn words(alloc: Global, line: &str) -> Result<Seq<Name>, NoMemory> {
+fn words(rt: &impl Abort, alloc: Global, line: &str) -> Seq<Name> {
     let mut words = Seq::new(alloc);
-    push_words(alloc, &mut words, line)?;
-    Ok(words)
-}
-
-// Appends them.
-fn push_words(alloc: Global, words: &mut Seq<Name>, line: &str) -> Result<(), NoMemory> {
     for word in line.split(' ') {
-        words.push(Name::of(alloc, word)?)?;
+        made(rt, words.push(made(rt, Name::of(alloc, word))));
     }
-    Ok(())
+    words
 }
 
 /// What a call with this line answers over these files, and writes to a sink. One function calls the program, since
 /// each that does carries what its clauses tell.
-pub(super) fn called<R: Threads + Wait + Sync, G: Gate + Sync>(
+pub(super) fn called<R: Threads + Wait + Abort + Sync, G: Gate + Sync>(
     rt: &R,
     alloc: Global,
     line: &str,
@@ -101,36 +77,30 @@ pub(super) fn called<R: Threads + Wait + Sync, G: Gate + Sync>(
     keeper: MemKeeper,
     out: &mut MemSink,
     gate: &G,
-) -> Result<Done<MemKeeper>, NoMemory> {
-    let mut shelf = shelf(alloc, files)?;
-    let done = called_with(rt, alloc, line, &mut shelf, keeper, out, gate);
+) -> Done<MemKeeper> {
+    let mut shelf = shelf(rt, alloc, files);
+    let words = words(rt, alloc, line);
+    let done = millwheel(rt, alloc, words.as_slice(), &mut shelf, keeper, out, gate);
+    drop(words);
     drop(shelf);
     done
 }
 
-// The same over a shelf.
-fn called_with<R: Threads + Wait + Sync, G: Gate + Sync>(
-    rt: &R,
-    alloc: Global,
-    line: &str,
-    shelf: &mut MemShelf,
-    keeper: MemKeeper,
-    out: &mut MemSink,
-    gate: &G,
-) -> Result<Done<MemKeeper>, NoMemory> {
-    let words = words(alloc, line)?;
-    let done = millwheel(rt, alloc, words.as_slice(), shelf, keeper, out, gate);
-    drop(words);
-    Ok(done)
-}
-
 /// The same over a keeper that does not fail, with nobody held.
-pub(super) fn ended<R: Threads + Wait + Sync>(
+pub(super) fn ended<R: Threads + Wait + Abort + Sync>(
     rt: &R,
     alloc: Global,
     line: &str,
     files: Files<'_>,
     out: &mut MemSink,
-) -> Result<Done<MemKeeper>, NoMemory> {
-    called(rt, alloc, line, files, keeper(alloc), out, &OpenGate)
+) -> Done<MemKeeper> {
+    called(
+        rt,
+        alloc,
+        line,
+        files,
+        keeper(rt, alloc, &[]),
+        out,
+        &OpenGate,
+    )
 }

@@ -1,12 +1,12 @@
 //! A gate that holds workers, so that two have to run beside each other.
-use super::calls::{CUTS, called, ended, keeper, sink};
-use super::looks::is_ok;
-use mw_ports::{Gate, MemSink, Point};
-use mw_types::NoMemory;
+use super::calls::{CUTS, called, keeper, sink};
+use super::looks::{is_ok, is_solo};
+use super::must;
+use mw_ports::{Gate, Point};
 use std::alloc::Global;
+use std::process::Abort;
 use std::sync::Wait;
 use std::sync::atomic::{AtomicU64, Ordering};
-use std::test::Fail;
 use std::thread;
 use std::thread::Threads;
 
@@ -103,50 +103,27 @@ impl Gate for Held {
     }
 }
 
-// Whether the held run ends with Ok; what it writes is in the sink.
-fn run_held<R: Threads + Wait + Sync>(
-    rt: &R,
-    alloc: Global,
-    gate: &Held,
-    out: &mut MemSink,
-) -> Result<bool, NoMemory> {
-    let line = "run --workers 4 --rounds 8 t.json e";
-    let done = called(rt, alloc, line, (CUTS, ""), keeper(alloc), out, gate);
-    let is_ok = is_ok(&done);
-    drop(done);
-    is_ok
-}
-
 // Whether each hold was begun, and ended by what it waited for.
 fn was_met(gate: &Held) -> bool {
     gate.expired.load(Ordering::SeqCst) == 0 && gate.begun.load(Ordering::SeqCst) == 31
 }
 
-// Whether it ends with Ok and the text of one thread, and each hold ended by what it waited for.
-fn ends_by_its_events<R: Threads + Wait + Sync>(rt: &R, alloc: Global) -> Result<bool, NoMemory> {
+// Whether the held run ends with Ok and the text of one thread, and each hold ended by what it waited for.
+fn ends_by_its_events<R: Threads + Wait + Abort + Sync>(rt: &R, alloc: Global) -> bool {
     let gate = Held::new();
     let mut out = sink(alloc);
-    let is_ok = run_held(rt, alloc, &gate, &mut out);
-    let is_solo = is_solo(rt, alloc, out.text());
+    let line = "run --workers 4 --rounds 8 t.json e";
+    let keeper = keeper(rt, alloc, &[]);
+    let is_ok = is_ok(called(rt, alloc, line, (CUTS, ""), keeper, &mut out, &gate));
+    let is_met = was_met(&gate);
+    let is_same = is_solo(rt, alloc, "solo t.json e", (CUTS, ""), out.text());
     drop(out);
-    Ok(is_ok? && was_met(&gate) && is_solo?)
-}
-
-// Whether this is what one thread writes.
-fn is_solo<R: Threads + Wait + Sync>(rt: &R, alloc: Global, text: &[u8]) -> Result<bool, NoMemory> {
-    let mut out = sink(alloc);
-    let done = ended(rt, alloc, "solo t.json e", (CUTS, ""), &mut out);
-    let is_ok = is_ok(&done);
-    drop(done);
-    let is_same = out.text() == text;
-    drop(out);
-    Ok(is_ok? && is_same)
+    is_ok && is_met && is_same
 }
 
 // Worker 1 holds where its first work is prepared until worker 2 has committed one, and worker 2 may not end its
 // turn before that: on one thread a hold would run out.
 #[test]
-fn two_workers_run_side_by_side(rt: HostRuntime) -> Result<(), Fail> {
-    assert!(rt; ends_by_its_events(&rt, rt.alloc())?);
-    Ok(())
+fn two_workers_run_side_by_side(rt: HostRuntime) {
+    must(&rt, ends_by_its_events(&rt, rt.alloc()), "the held run");
 }

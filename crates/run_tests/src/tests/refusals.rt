@@ -1,7 +1,7 @@
 //! Runs that are refused before they begin.
 use super::calls::{COUNT, CUTS, Files};
 use super::looks::is_refused;
-use std::test::Fail;
+use super::must;
 
 // What is said of words that are no call.
 const USAGE: &str = "usage: millwheel MODE ARGS";
@@ -45,12 +45,12 @@ static REFUSED: [(&str, Files<'static>, &str); 11] = [
 ];
 
 #[test]
-fn each_run_is_refused(rt: HostRuntime) -> Result<(), Fail> {
+fn each_run_is_refused(rt: HostRuntime) {
     for (line, files, message) in &REFUSED {
-        assert!(rt;
-            is_refused(&rt, rt.alloc(), line, *files, message)?,
-            "{line}"
+        must(
+            &rt,
+            is_refused(&rt, rt.alloc(), line, *files, message),
+            *line,
         );
     }
-    Ok(())
 }

@@ -1,7 +1,7 @@
 //! Runs, each with its plan: their claims, and the text that one thread writes too.
 use super::calls::{COUNT, CUTS, Files};
 use super::looks::{Claims, has_claims, is_audited, keeper_fails, write_the_same};
-use std::test::Fail;
+use super::must;
 
 // A stall, a crash, a move, and the three that change what is sent.
 const PLAN: &str = "at 2 stall 1
@@ -115,25 +115,25 @@ static RUNS: [(&str, Files<'static>, Claims<'static>); 7] = [
 ];
 
 #[test]
-fn each_run_has_its_claims(rt: HostRuntime) -> Result<(), Fail> {
+fn each_run_has_its_claims(rt: HostRuntime) {
     for (line, files, claims) in &RUNS {
-        assert!(rt;
-            has_claims(&rt, rt.alloc(), line, *files, claims)?,
-            "{line}"
+        must(
+            &rt,
+            has_claims(&rt, rt.alloc(), line, *files, claims),
+            *line,
         );
     }
-    Ok(())
 }
 
 #[test]
-fn each_run_writes_what_one_thread_writes(rt: HostRuntime) -> Result<(), Fail> {
+fn each_run_writes_what_one_thread_writes(rt: HostRuntime) {
     for (line, files, _) in &RUNS {
-        assert!(rt;
-            write_the_same(&rt, rt.alloc(), line, SOLO, *files)?,
-            "{line}"
+        must(
+            &rt,
+            write_the_same(&rt, rt.alloc(), line, SOLO, *files),
+            *line,
         );
     }
-    Ok(())
 }
 
 // Lines of runs, and their topologies.
@@ -143,33 +143,29 @@ static AUDITED: [(&str, &str); 2] = [
 ];
 
 #[test]
-fn a_runs_own_text_is_accepted(rt: HostRuntime) -> Result<(), Fail> {
+fn a_runs_own_text_is_accepted(rt: HostRuntime) {
     for (line, topology) in &AUDITED {
-        assert!(rt; is_audited(&rt, rt.alloc(), line, topology)?, "{line}");
+        must(&rt, is_audited(&rt, rt.alloc(), line, topology), *line);
     }
-    Ok(())
 }
 
 #[test]
-fn four_threads_end_twenty_times_as_one_does(rt: HostRuntime) -> Result<(), Fail> {
-    for time in 0..20 {
-        assert!(rt;
-            write_the_same(&rt, rt.alloc(), PLANNED, SOLO, (CUTS, PLAN))?,
-            "{time}"
-        );
+fn four_threads_end_twenty_times_as_one_does(rt: HostRuntime) {
+    for time in 0..20u32 {
+        let is_same = write_the_same(&rt, rt.alloc(), PLANNED, SOLO, (CUTS, PLAN));
+        must(&rt, is_same, time);
     }
-    Ok(())
 }
 
-// The first call of the keeper asks for a row, and each claim for the rows of its interval.
+// The keeper's call that fails, and how many entries there are then. The first call of the keeper asks for a row,
+// and each claim for the rows of its interval.
+static FAILING: [(u64, usize); 5] = [(0, 0), (1, 0), (2, 1), (3, 2), (4, 3)];
+
 #[test]
-fn a_keeper_that_fails_at_a_first_claim_ends_the_run(rt: HostRuntime) -> Result<(), Fail> {
-    for (call, entries) in &[(0, 0), (1, 0), (2, 1), (3, 2), (4, 3)] {
+fn a_keeper_that_fails_at_a_first_claim_ends_the_run(rt: HostRuntime) {
+    for (call, entries) in &FAILING {
         let line = "run --workers 3 --rounds 4 t.json e";
-        assert!(rt;
-            keeper_fails(&rt, rt.alloc(), line, (CUTS, ""), *call, *entries)?,
-            "{call}"
-        );
+        let is_so = keeper_fails(&rt, rt.alloc(), line, (CUTS, ""), *call, *entries);
+        must(&rt, is_so, *call);
     }
-    Ok(())
 }

@@ -1,64 +1,66 @@
 //! What the database itself answers over a file. One function has a connection, and no other file, since each
 //! function that calls one carries what its clauses tell.
-use sqlite::{Connection, Error, Row};
+use super::made;
+use sqlite::{Connection, Row};
+use std::process::Abort;
 
-// The order in which a file's rows stand.
-const ROWS: &str = "SELECT part, key, bytes FROM rows ORDER BY part, key";
+/// A row of a file: its part, its key and its bytes.
+pub type Told = (u32, &'static [u8], &'static [u8]);
 
 // What the database answers to a query on a file, after these statements.
-fn answer(rt: &HostRuntime, name: &str, statements: &str, query: &str) -> Result<Vec<Row>, Error> {
-    let mut connection = Connection::open(rt, name)?;
-    let rows = match connection.execute_batch(statements) {
-        Ok(()) => connection.query_all(query, &[]),
-        Err(error) => Err(error),
-    };
+fn answer(
+    host: &HostRuntime,
+    rt: &impl Abort,
+    name: &str,
+    statements: &str,
+    query: &str,
+) -> Vec<Row> {
+    let mut connection = made(rt, Connection::open(host, name));
+    made(rt, connection.execute_batch(statements));
+    let rows = made(rt, connection.query_all(query, &[]));
     drop(connection);
     rows
 }
 
-/// Whether the database does these statements on a file, which has a table `rows` then.
-pub(super) fn does(rt: &HostRuntime, name: &str, statements: &str) -> bool {
-    let rows = answer(rt, name, statements, "SELECT part FROM rows");
-    let is_ok = rows.is_ok();
-    drop(rows);
-    is_ok
+/// Has the database do these statements on a file, which has a table `rows` then.
+pub(super) fn does(host: &HostRuntime, rt: &impl Abort, name: &str, statements: &str) {
+    drop(answer(host, rt, name, statements, "SELECT part FROM rows"));
 }
 
 /// How many rows a file has.
-pub(super) fn count(rt: &HostRuntime, name: &str) -> Result<usize, Error> {
-    let rows = answer(rt, name, "", ROWS)?;
+pub(super) fn count(host: &HostRuntime, rt: &impl Abort, name: &str) -> usize {
+    let rows = answer(host, rt, name, "", "SELECT part FROM rows");
     let count = rows.len();
     drop(rows);
-    Ok(count)
+    count
 }
 
-/// Whether the row of this number in a file is of this part, with this key and these bytes.
-pub(super) fn has_row(
-    rt: &HostRuntime,
-    name: &str,
-    number: usize,
-    part: u32,
-    columns: (&[u8], &[u8]),
-) -> Result<bool, Error> {
-    let rows = answer(rt, name, "", ROWS)?;
-    let has_row = match rows.get(number) {
-        Some(row) => is_row(row, part, columns.0, columns.1),
-        None => Ok(false),
-    };
+/// Whether a file has these rows, in their order, and no others.
+pub(super) fn has_rows(host: &HostRuntime, rt: &impl Abort, name: &str, want: &[Told]) -> bool {
+    let query = "SELECT part, key, bytes FROM rows ORDER BY part, key";
+    let rows = answer(host, rt, name, "", query);
+    let are_rows = are_rows(rt, rows.as_slice(), want);
     drop(rows);
-    has_row
+    are_rows
+}
+
+// Whether these are the rows.
+fn are_rows(rt: &impl Abort, rows: &[Row], want: &[Told]) -> bool {
+    let mut are = rows.len() == want.len();
+    for (at, row) in rows.iter().enumerate() {
+        are = are && at < want.len() && is_row(rt, row, &want[at]);
+    }
+    are
 }
 
 // Whether a row is of this part, with this key and these bytes.
-fn is_row(row: &Row, part: u32, key: &[u8], bytes: &[u8]) -> Result<bool, Error> {
-    let is_part = row.get::<u32>(0)? == part;
-    Ok(is_part && is_column(row, 1, key)? && is_column(row, 2, bytes)?)
+fn is_row(rt: &impl Abort, row: &Row, told: &Told) -> bool {
+    let (part, key, bytes) = *told;
+    let is_part = made(rt, row.get::<u32>(0)) == part;
+    is_part && is_column(rt, row, 1, key) && is_column(rt, row, 2, bytes)
 }
 
 // Whether a column of a row has these bytes.
-fn is_column(row: &Row, at: usize, want: &[u8]) -> Result<bool, Error> {
-    let found = row.get::<Vec<u8>>(at)?;
-    let is_so = found.as_slice() == want;
-    drop(found);
-    Ok(is_so)
+fn is_column(rt: &impl Abort, row: &Row, at: usize, want: &[u8]) -> bool {
+    made(rt, row.get::<Vec<u8>>(at)).as_slice() == want
 }

@@ -1,8 +1,10 @@
 //! What is done with a keeper, whatever keeper it is.
+use super::made;
 use key_intervals::Bounds;
-use mw_types::{Bytes, Key, NoMemory, RowName};
+use mw_types::{Key, RowName};
 use row_keeper::{Keeper, KeeperFault, KeptRow, KeptRowList};
 use std::alloc::Global;
+use std::process::Abort;
 
 /// What is done with a keeper, and looked at.
 #[derive(Clone, Copy)]
@@ -25,36 +27,49 @@ pub enum Deed {
 
 /// Whether a deed is done with a keeper.
 pub(super) fn is_done(
+    rt: &impl Abort,
     alloc: Global,
     keeper: &mut impl Keeper,
     deed: Deed,
-) -> Result<bool, KeeperFault> {
+) -> bool {
     match deed {
-        Deed::PutsSeven => puts_seven(alloc, keeper),
-        Deed::HasSeven => has_seven(alloc, keeper),
-        Deed::PutsOne(times) => puts_one(alloc, keeper, times),
-        Deed::HasFirst(byte) => Ok(first(alloc, keeper)? == byte && scans(alloc, keeper)?),
+        Deed::PutsSeven => {
+            let was_empty = first(alloc, keeper) == Ok(0);
+            fill(rt, alloc, keeper);
+            was_empty && has_seven(rt, alloc, keeper)
+        }
+        Deed::HasSeven => has_seven(rt, alloc, keeper),
+        Deed::PutsOne(times) => {
+            for time in 0..times {
+                put(rt, alloc, keeper, "h", (time % 251) as u8);
+            }
+            true
+        }
+        Deed::HasFirst(byte) => {
+            first(alloc, keeper) == Ok(byte) && fault_of(scanned(rt, alloc, keeper)).is_none()
+        }
         Deed::HasOne(bytes) => has_one(alloc, keeper, bytes),
-        Deed::FailsTwice => Ok(scan_fails(alloc, keeper) && first_fails(alloc, keeper)),
-        Deed::Fails => Ok(first_fails(alloc, keeper)),
+        Deed::FailsTwice => {
+            let fault = fault_of(scanned(rt, alloc, keeper));
+            fault == Some(KeeperFault::Failed) && first_fails(alloc, keeper)
+        }
+        Deed::Fails => first_fails(alloc, keeper),
     }
 }
 
 // The key with this text.
-fn key(alloc: Global, text: &str) -> Result<Key, NoMemory> {
-    match Key::of(alloc, text) {
-        Ok(key) => Ok(key),
-        Err(_) => Err(NoMemory),
-    }
+fn key(rt: &impl Abort, alloc: Global, text: &str) -> Key {
+    made(rt, Key::of(alloc, text))
 }
 
 // Puts a row of part 1 with one byte.
-fn put(alloc: Global, keeper: &mut impl Keeper, text: &str, byte: u8) -> Result<(), KeeperFault> {
-    let key = key(alloc, text)?;
-    let name = RowName { part: 1, key };
-    let done = keeper.put(alloc, &name, [byte].as_slice());
+fn put(rt: &impl Abort, alloc: Global, keeper: &mut impl Keeper, text: &str, byte: u8) {
+    let name = RowName {
+        part: 1,
+        key: key(rt, alloc, text),
+    };
+    made(rt, keeper.put(alloc, &name, &[byte]));
     drop(name);
-    done
 }
 
 // The keys and the bytes of seven rows, the last in the place of an earlier one.
@@ -69,126 +84,103 @@ static ROWS: [(&str, u8); 7] = [
 ];
 
 // Puts them.
-fn fill(alloc: Global, keeper: &mut impl Keeper) -> Result<(), KeeperFault> {
+fn fill(rt: &impl Abort, alloc: Global, keeper: &mut impl Keeper) {
     for (text, byte) in &ROWS {
-        put(alloc, keeper, text, *byte)?;
+        put(rt, alloc, keeper, text, *byte);
     }
-    Ok(())
-}
-
-// Puts them where there was no row, and looks at them.
-fn puts_seven(alloc: Global, keeper: &mut impl Keeper) -> Result<bool, KeeperFault> {
-    let before = first(alloc, keeper)?;
-    fill(alloc, keeper)?;
-    Ok(before == 0 && has_seven(alloc, keeper)?)
 }
 
 // Whether the first of these rows is there, and those from h to q are.
-fn has_seven(alloc: Global, keeper: &mut impl Keeper) -> Result<bool, KeeperFault> {
-    let least = first(alloc, keeper)?;
-    let rows = scanned(alloc, keeper)?;
-    let are = are_bytes(alloc, &rows, b"\x07\x04\x02".as_slice());
-    drop(rows);
-    Ok(least == 5 && are?)
-}
-
-// Puts one row so often, each time with another byte.
-fn puts_one(alloc: Global, keeper: &mut impl Keeper, times: u32) -> Result<bool, KeeperFault> {
-    for time in 0..times {
-        put(alloc, keeper, "h", (time % 251) as u8)?;
-    }
-    Ok(true)
+fn has_seven(rt: &impl Abort, alloc: Global, keeper: &mut impl Keeper) -> bool {
+    let is_first = first(alloc, keeper) == Ok(5);
+    are_bytes(scanned(rt, alloc, keeper), b"\x07\x04\x02") && is_first
 }
 
 // The byte of the first row, or 0 where there is none.
 fn first(alloc: Global, keeper: &mut impl Keeper) -> Result<u8, KeeperFault> {
-    let row = keeper.first(alloc)?;
-    let byte = row.as_ref().map(first_byte).unwrap_or(0);
-    drop(row);
-    Ok(byte)
-}
-
-// The first byte of a row, or 0.
-fn first_byte(row: &KeptRow) -> u8 {
-    row.bytes.get(0).copied().unwrap_or(0)
+    match keeper.first(alloc) {
+        Ok(Some(row)) => Ok(row.bytes.get(0).copied().unwrap_or(0)),
+        Ok(None) => Ok(0),
+        Err(fault) => Err(fault),
+    }
 }
 
 // Whether a look for the first row fails, and not for want of memory.
 fn first_fails(alloc: Global, keeper: &mut impl Keeper) -> bool {
-    first(alloc, keeper).err() == Some(KeeperFault::Failed)
-}
-
-// The keys of part 1 from h on, below q.
-fn from_h_to_q(alloc: Global) -> Result<Bounds, NoMemory> {
-    let from = key(alloc, "h")?;
-    let to = Some(key(alloc, "q")?);
-    Ok(Bounds { part: 1, from, to })
+    first(alloc, keeper) == Err(KeeperFault::Failed)
 }
 
 // The rows from h to q.
-fn scanned(alloc: Global, keeper: &mut impl Keeper) -> Result<KeptRowList, KeeperFault> {
-    let bounds = from_h_to_q(alloc)?;
-    let rows = keeper.scan(alloc, &bounds);
+fn scanned(
+    rt: &impl Abort,
+    alloc: Global,
+    keeper: &mut impl Keeper,
+) -> Result<KeptRowList, KeeperFault> {
+    let bounds = Bounds {
+        part: 1,
+        from: key(rt, alloc, "h"),
+        to: Some(key(rt, alloc, "q")),
+    };
+    let found = keeper.scan(alloc, &bounds);
     drop(bounds);
-    rows
+    found
 }
 
-// Whether a scan goes well.
-fn scans(alloc: Global, keeper: &mut impl Keeper) -> Result<bool, KeeperFault> {
-    let rows = scanned(alloc, keeper)?;
-    drop(rows);
-    Ok(true)
+// Why a scan failed, if it did.
+fn fault_of(found: Result<KeptRowList, KeeperFault>) -> Option<KeeperFault> {
+    found.err()
 }
 
-// Whether a scan fails, and not for want of memory.
-fn scan_fails(alloc: Global, keeper: &mut impl Keeper) -> bool {
-    let rows = scanned(alloc, keeper);
-    rows.err() == Some(KeeperFault::Failed)
+// Whether a scan found rows of these bytes, of which each has one.
+fn are_bytes(found: Result<KeptRowList, KeeperFault>, want: &[u8]) -> bool {
+    let are = match &found {
+        Ok(rows) => are_those(rows.as_slice(), want),
+        Err(_) => false,
+    };
+    drop(found);
+    are
 }
 
-// Whether these are the bytes of rows, one after another.
-fn are_bytes(alloc: Global, rows: &KeptRowList, want: &[u8]) -> Result<bool, NoMemory> {
-    let mut all = Bytes::new(alloc);
-    push_bytes(&mut all, rows.as_slice())?;
-    let are = all.as_slice() == want;
-    drop(all);
-    Ok(are)
-}
-
-// Appends the bytes of rows.
-fn push_bytes(all: &mut Bytes, rows: &[KeptRow]) -> Result<(), NoMemory> {
-    for row in rows {
-        for byte in row.bytes.as_slice() {
-            all.push(*byte)?;
-        }
+// Whether these are the bytes of rows, of which each has one.
+fn are_those(rows: &[KeptRow], want: &[u8]) -> bool {
+    let mut are = rows.len() == want.len();
+    for (at, row) in rows.iter().enumerate() {
+        are = are && row.bytes.len() == 1 && row.bytes.get(0) == want.get(at);
     }
-    Ok(())
+    are
 }
 
 // Whether part 1 has one row, whose key is `a`, with these bytes.
-fn has_one(alloc: Global, keeper: &mut impl Keeper, bytes: &[u8]) -> Result<bool, KeeperFault> {
+fn has_one(alloc: Global, keeper: &mut impl Keeper, bytes: &[u8]) -> bool {
     let whole = Bounds {
         part: 1,
         from: Key::none(alloc),
         to: None,
     };
-    let rows = keeper.scan(alloc, &whole);
+    let found = keeper.scan(alloc, &whole);
     drop(whole);
-    let rows = rows?;
-    let has_one = rows.len() == 1 && is_first(rows.as_slice(), bytes);
-    drop(rows);
-    Ok(has_one)
+    is_one(found, bytes)
+}
+
+// Whether a scan found one row, of part 1 with the key `a` and these bytes.
+fn is_one(found: Result<KeptRowList, KeeperFault>, bytes: &[u8]) -> bool {
+    let is_one = match &found {
+        Ok(rows) => rows.len() == 1 && is_first(rows.as_slice(), bytes),
+        Err(_) => false,
+    };
+    drop(found);
+    is_one
 }
 
 // Whether the first row is of part 1, with the key `a` and these bytes.
 fn is_first(rows: &[KeptRow], bytes: &[u8]) -> bool {
     match rows.first() {
-        Some(row) => is_row(&row.name, "a") && row.bytes.as_slice() == bytes,
+        Some(row) => is_a(&row.name) && row.bytes.as_slice() == bytes,
         None => false,
     }
 }
 
-// Whether a row is of part 1, with this key.
-fn is_row(name: &RowName, key: &str) -> bool {
-    name.part == 1 && name.key.text() == key
+// Whether a row is of part 1, with the key `a`.
+fn is_a(name: &RowName) -> bool {
+    name.part == 1 && name.key.text() == "a"
 }

@@ -1,10 +1,15 @@
 //! A folder for the files of one test.
+use super::made;
 use std::fs;
-use std::test::Fail;
+use std::process::Abort;
 
 /// An empty folder, made anew where an earlier run has left one.
-pub(super) fn empty(rt: &HostRuntime, name: &str) -> Result<(), Fail> {
-    let _ = fs::remove_dir_all(rt, name);
-    fs::create_dir(rt, name)?;
-    Ok(())
+pub(super) fn empty(host: &HostRuntime, rt: &impl Abort, name: &str) {
+    let _ = fs::remove_dir_all(host, name);
+    made(rt, fs::create_dir(host, name));
+}
+
+/// Takes it away.
+pub(super) fn remove(host: &HostRuntime, rt: &impl Abort, name: &str) {
+    made(rt, fs::remove_dir_all(host, name));
 }

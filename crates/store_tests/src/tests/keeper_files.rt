@@ -1,40 +1,35 @@
 //! Keepers over real files, and files that are none.
 use super::asking::does;
 use super::deeds::Deed;
-use super::folder;
 use super::lending::{closed, dropped, refusal, second_refusal};
+use super::{folder, made, must};
 use row_keeper::KeeperFault;
 use std::fs;
-use std::test::Fail;
 
 #[test]
-fn rows_are_kept_and_read_back(rt: HostRuntime) -> Result<(), Fail> {
-    folder::empty(&rt, "kept")?;
-    let is_put = closed(&rt, "kept/k.db", Deed::PutsSeven)?;
-    let is_there = dropped(&rt, "kept/k.db", Deed::HasSeven)?;
-    fs::remove_dir_all(&rt, "kept")?;
-    assert!(rt; is_put && is_there);
-    Ok(())
+fn rows_are_kept_and_read_back(rt: HostRuntime) {
+    folder::empty(&rt, &rt, "kept");
+    closed(&rt, &rt, "kept/k.db", Deed::PutsSeven);
+    must(
+        &rt,
+        dropped(&rt, &rt, "kept/k.db", Deed::HasSeven),
+        "seven rows",
+    );
+    folder::remove(&rt, &rt, "kept");
 }
 
-// The put that ends the first transaction has the byte 249, and the two after it are undone.
+// Files, what is done with a keeper that is not closed, and what is left. The put that ends the first transaction has
+// the byte 249, and the two after it are undone.
+static LEFT: [(&str, u32, u8); 2] = [("dropped/few", 249, 0), ("dropped/more", 252, 249)];
+
 #[test]
-fn a_keeper_that_is_not_closed_leaves_its_last_commit(rt: HostRuntime) -> Result<(), Fail> {
-    folder::empty(&rt, "dropped")?;
-    for (name, times, byte) in &[("dropped/few", 249, 0), ("dropped/more", 252, 249)] {
-        let is_put = dropped(&rt, name, Deed::PutsOne(*times))?;
-        let is_left = dropped(&rt, name, Deed::HasFirst(*byte))?;
-        assert!(rt; is_put && is_left, "{name}");
+fn a_keeper_that_is_not_closed_leaves_its_last_commit(rt: HostRuntime) {
+    folder::empty(&rt, &rt, "dropped");
+    for (name, times, byte) in &LEFT {
+        must(&rt, dropped(&rt, &rt, name, Deed::PutsOne(*times)), *name);
+        must(&rt, dropped(&rt, &rt, name, Deed::HasFirst(*byte)), *name);
     }
-    fs::remove_dir_all(&rt, "dropped")?;
-    Ok(())
-}
-
-// Makes files that have a table `rows`, and none of a keeper's.
-fn make_others(rt: &HostRuntime) -> bool {
-    let columns = "CREATE TABLE rows (part INTEGER, key BLOB)";
-    let keyless = "CREATE TABLE rows (part INTEGER, key BLOB, bytes BLOB)";
-    does(rt, "none/columns", columns) && does(rt, "none/keyless", keyless)
+    folder::remove(&rt, &rt, "dropped");
 }
 
 // Names that no keeper is had at.
@@ -49,27 +44,34 @@ static OTHERS: [&str; 7] = [
 ];
 
 #[test]
-fn a_file_that_is_no_database_of_rows_is_refused(rt: HostRuntime) -> Result<(), Fail> {
-    folder::empty(&rt, "none")?;
-    fs::create_dir(&rt, "none/folder")?;
-    fs::write(&rt, "none/text", "these are no rows of any database\n")?;
-    let are_made = make_others(&rt);
+fn a_file_that_is_no_database_of_rows_is_refused(rt: HostRuntime) {
+    folder::empty(&rt, &rt, "none");
+    made(&rt, fs::create_dir(&rt, "none/folder"));
+    made(
+        &rt,
+        fs::write(&rt, "none/text", "these are no rows of any database\n"),
+    );
+    let columns = "CREATE TABLE rows (part INTEGER, key BLOB)";
+    let keyless = "CREATE TABLE rows (part INTEGER, key BLOB, bytes BLOB)";
+    does(&rt, &rt, "none/columns", columns);
+    does(&rt, &rt, "none/keyless", keyless);
     for name in &OTHERS {
-        let is_refused = refusal(&rt, name) == Some(KeeperFault::Failed);
-        assert!(rt; are_made && is_refused, "{name}");
+        must(&rt, refusal(&rt, name) == Some(KeeperFault::Failed), *name);
     }
-    fs::remove_dir_all(&rt, "none")?;
-    Ok(())
+    folder::remove(&rt, &rt, "none");
 }
 
 #[test]
-fn a_file_is_one_keepers_at_a_time(rt: HostRuntime) -> Result<(), Fail> {
-    folder::empty(&rt, "held")?;
-    let is_held = second_refusal(&rt, "held/k.db")? == Some(KeeperFault::Failed);
-    let is_let_go = refusal(&rt, "held/k.db").is_none();
-    fs::remove_dir_all(&rt, "held")?;
-    assert!(rt; is_held && is_let_go);
-    Ok(())
+fn a_file_is_one_keepers_at_a_time(rt: HostRuntime) {
+    folder::empty(&rt, &rt, "held");
+    let second = second_refusal(&rt, &rt, "held/k.db");
+    must(
+        &rt,
+        second == Some(KeeperFault::Failed),
+        "while there is one",
+    );
+    must(&rt, refusal(&rt, "held/k.db").is_none(), "afterwards");
+    folder::remove(&rt, &rt, "held");
 }
 
 // Tables with one row whose key or part is none of ours.
@@ -88,12 +90,11 @@ static STRANGE: [(&str, &str, Deed); 2] = [
 ];
 
 #[test]
-fn rows_that_no_keeper_put_are_a_fault(rt: HostRuntime) -> Result<(), Fail> {
-    folder::empty(&rt, "strange")?;
+fn rows_that_no_keeper_put_are_a_fault(rt: HostRuntime) {
+    folder::empty(&rt, &rt, "strange");
     for (name, statements, deed) in &STRANGE {
-        let is_made = does(&rt, name, statements);
-        assert!(rt; is_made && dropped(&rt, name, *deed)?, "{name}");
+        does(&rt, &rt, name, statements);
+        must(&rt, dropped(&rt, &rt, name, *deed), *name);
     }
-    fs::remove_dir_all(&rt, "strange")?;
-    Ok(())
+    folder::remove(&rt, &rt, "strange");
 }

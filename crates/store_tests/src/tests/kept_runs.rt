@@ -1,15 +1,15 @@
 //! The first example with its rows in a file, which is read back by the database and by a keeper.
-use super::asking::{count, has_row};
+use super::asking::{Told, count, has_rows};
 use super::deeds::Deed;
-use super::folder;
 use super::lending::dropped;
-use millwheel_cli::{Done, Status, after_closing, keep_name, millwheel_alone, unopened};
+use super::{folder, made, must};
+use millwheel_cli::{Done, Status, after_closing, keep_name, millwheel_alone};
 use mw_ports::{FileList, MemShelf, MemSink, NamedFile};
-use mw_types::{Bytes, CallList, Name, NoMemory, Seq};
+use mw_types::{Bytes, CallList, Name, Seq};
+use row_keeper::Keeper;
 use sqlite_keeper::SqliteKeeper;
 use std::alloc::Global;
-use std::fs;
-use std::test::Fail;
+use std::process::Abort;
 
 // One count over windows of 60.
 const COUNT: &str =
@@ -36,32 +36,23 @@ const INJECTOR: &[u8] =
 const COUNTED: &[u8] = b"\x01\0\0\0\0\0\0\0\x0d\0\0\0\0\0\0\0\x0d\x01\0\0\0\0\0\0\0\0\0\0\0\0\
     \0\0\0\0\0\0\0\0\0\0\0\0";
 
-// The bytes of a text.
-fn bytes_of(alloc: Global, text: &str) -> Result<Bytes, NoMemory> {
-    Ok(Bytes::from_vec(text.as_bytes().to_vec(alloc)?))
-}
+// The rows that it leaves.
+static ROWS: [Told; 2] = [(0, b"", INJECTOR), (1, b"a", COUNTED)];
 
 // A file of this name and content.
-fn file(alloc: Global, name: &str, content: &str) -> Result<NamedFile, NoMemory> {
-    let bytes = bytes_of(alloc, content)?;
-    Ok(NamedFile {
-        name: Name::of(alloc, name)?,
-        bytes,
-    })
+fn file(rt: &impl Abort, alloc: Global, name: &str, content: &str) -> NamedFile {
+    NamedFile {
+        name: made(rt, Name::of(alloc, name)),
+        bytes: Bytes::from_vec(made(rt, content.as_bytes().to_vec(alloc))),
+    }
 }
 
 // The files of the example.
-fn shelf(alloc: Global) -> Result<MemShelf, NoMemory> {
+fn shelf(rt: &impl Abort, alloc: Global) -> MemShelf {
     let mut files = FileList::new(alloc);
-    push_files(alloc, &mut files)?;
-    Ok(MemShelf::of(files, CallList::new(alloc)))
-}
-
-// Appends them.
-fn push_files(alloc: Global, files: &mut FileList) -> Result<(), NoMemory> {
-    files.push(file(alloc, "t.json", COUNT)?)?;
-    files.push(file(alloc, "e", EVENTS)?)?;
-    Ok(())
+    made(rt, files.push(file(rt, alloc, "t.json", COUNT)));
+    made(rt, files.push(file(rt, alloc, "e", EVENTS)));
+    MemShelf::of(files, CallList::new(alloc))
 }
 
 // An ample sink.
@@ -70,136 +61,109 @@ fn sink(alloc: Global) -> MemSink {
 }
 
 // The words of a command line that keeps the rows in a file.
-fn words(alloc: Global, store: &str) -> Result<Seq<Name>, NoMemory> {
+fn words(rt: &impl Abort, alloc: Global, store: &str) -> Seq<Name> {
     let mut words = Seq::new(alloc);
-    push_words(alloc, &mut words, store)?;
-    Ok(words)
-}
-
-// Appends them.
-fn push_words(alloc: Global, words: &mut Seq<Name>, store: &str) -> Result<(), NoMemory> {
-    for word in &["solo", "--keep", store, "t.json", "e"] {
-        words.push(Name::of(alloc, word)?)?;
+    for word in ["solo", "--keep", store, "t.json", "e"] {
+        made(rt, words.push(made(rt, Name::of(alloc, word))));
     }
-    Ok(())
-}
-
-// The file that the words name.
-fn named(alloc: Global, store: &str) -> Result<Option<Name>, NoMemory> {
-    let words = words(alloc, store)?;
-    let name = keep_name(alloc, words.as_slice());
-    drop(words);
-    name
+    words
 }
 
 // Runs the words over this keeper. No other function calls the program.
-fn run(
+fn run<K: Keeper>(
+    rt: &impl Abort,
     alloc: Global,
     words: &[Name],
-    keeper: SqliteKeeper,
+    keeper: K,
     out: &mut MemSink,
-) -> Result<Done<SqliteKeeper>, NoMemory> {
-    let mut shelf = shelf(alloc)?;
+) -> Done<K> {
+    let mut shelf = shelf(rt, alloc);
     let done = millwheel_alone(alloc, words, &mut shelf, keeper, out);
     drop(shelf);
-    Ok(done)
+    done
 }
 
-// Runs the example over this keeper, and closes that.
-fn run_and_close(
-    alloc: Global,
-    store: &str,
-    keeper: SqliteKeeper,
-    out: &mut MemSink,
-) -> Result<Status, NoMemory> {
-    let words = words(alloc, store)?;
-    let done = run(alloc, words.as_slice(), keeper, out);
-    drop(words);
-    let Done { status, keeper, .. } = done?;
-    Ok(after_closing(status, keeper.close()))
+// How a call ended, and its keeper.
+fn parts<K: Keeper>(done: Done<K>) -> (Status, K) {
+    let Done { status, keeper, .. } = done;
+    (status, keeper)
 }
 
-// Runs the example over the file of this name.
-fn kept_in(
-    rt: &HostRuntime,
-    name: &str,
-    store: &str,
-    out: &mut MemSink,
-) -> Result<Status, NoMemory> {
-    match SqliteKeeper::at(rt, name) {
-        Ok(keeper) => run_and_close(rt.alloc(), store, keeper, out),
-        Err(fault) => Ok(unopened(fault)),
-    }
+// Whether the words name this file.
+fn is_named(rt: &impl Abort, alloc: Global, words: &[Name], store: &str) -> bool {
+    let named = made(rt, keep_name(alloc, words));
+    let is_so = match &named {
+        Some(name) => name.text() == store,
+        None => false,
+    };
+    drop(named);
+    is_so
 }
 
 // Runs the example over the file that its words name, and closes that.
-fn kept(rt: &HostRuntime, store: &str, out: &mut MemSink) -> Result<Status, NoMemory> {
-    let name = named(rt.alloc(), store)?;
-    let status = match &name {
-        Some(name) => kept_in(rt, name.text(), store, out),
-        None => Ok(Status::Usage),
-    };
-    drop(name);
-    status
+fn kept(host: &HostRuntime, rt: &impl Abort, store: &str, out: &mut MemSink) -> Status {
+    let words = words(rt, host.alloc(), store);
+    must(
+        rt,
+        is_named(rt, host.alloc(), words.as_slice(), store),
+        "the file is named",
+    );
+    let keeper = made(rt, SqliteKeeper::at(host, store));
+    let done = run(rt, host.alloc(), words.as_slice(), keeper, out);
+    drop(words);
+    let (status, keeper) = parts(done);
+    after_closing(status, keeper.close())
 }
 
-// Whether the example is run, and its text written.
-fn is_run(rt: &HostRuntime, store: &str) -> Result<bool, NoMemory> {
-    let mut out = sink(rt.alloc());
-    let status = kept(rt, store, &mut out);
-    let is_written = out.text() == TEXT.as_bytes();
-    drop(out);
-    let status = status?;
+// Whether the example is run over a file.
+fn runs(host: &HostRuntime, rt: &impl Abort, store: &str) -> bool {
+    let mut out = sink(host.alloc());
+    let status = kept(host, rt, store, &mut out);
     let is_ok = status.is_ok();
     drop(status);
-    Ok(is_ok && is_written)
+    let is_written = out.text() == TEXT.as_bytes();
+    drop(out);
+    is_ok && is_written
 }
 
-// Whether it is not run, since there are rows, and nothing is written.
-fn is_refused(rt: &HostRuntime, store: &str) -> Result<bool, NoMemory> {
-    let mut out = sink(rt.alloc());
-    let status = kept(rt, store, &mut out);
-    let is_unwritten = out.text().is_empty();
-    drop(out);
-    let status = status?;
+// Whether it is not run over a file, which has rows.
+fn runs_no_more(host: &HostRuntime, rt: &impl Abort, store: &str) -> bool {
+    let mut out = sink(host.alloc());
+    let status = kept(host, rt, store, &mut out);
     let is_refused = matches!(&status, Status::NotEmpty { .. });
     drop(status);
-    Ok(is_refused && is_unwritten)
-}
-
-// Whether the database has the two rows of the example in a file.
-fn has_rows(rt: &HostRuntime, store: &str) -> Result<bool, Fail> {
-    let injector = has_row(rt, store, 0, 0, (b"".as_slice(), INJECTOR))?;
-    let counted = has_row(rt, store, 1, 1, (b"a".as_slice(), COUNTED))?;
-    Ok(injector && counted && count(rt, store)? == 2)
+    let is_unwritten = out.text().is_empty();
+    drop(out);
+    is_refused && is_unwritten
 }
 
 #[test]
-fn a_kept_run_leaves_its_rows_in_the_file(rt: HostRuntime) -> Result<(), Fail> {
-    let store = "one_run/k.db";
-    folder::empty(&rt, "one_run")?;
-    let is_run = is_run(&rt, store)?;
-    let has_rows = has_rows(&rt, store)?;
-    let is_found = dropped(&rt, store, Deed::HasOne(COUNTED))?;
-    fs::remove_dir_all(&rt, "one_run")?;
-    assert!(rt;
-        is_run && has_rows && is_found,
-        "{is_run}, {has_rows}, {is_found}"
+fn a_kept_run_leaves_its_rows_in_the_file(rt: HostRuntime) {
+    folder::empty(&rt, &rt, "one_run");
+    must(&rt, runs(&rt, &rt, "one_run/k.db"), "it is run");
+    must(
+        &rt,
+        has_rows(&rt, &rt, "one_run/k.db", &ROWS),
+        "the database has its rows",
     );
-    Ok(())
+    let is_found = dropped(&rt, &rt, "one_run/k.db", Deed::HasOne(COUNTED));
+    must(&rt, is_found, "a keeper has its row");
+    folder::remove(&rt, &rt, "one_run");
 }
 
 #[test]
-fn a_second_kept_run_is_refused_and_writes_nothing(rt: HostRuntime) -> Result<(), Fail> {
-    let store = "two_runs/k.db";
-    folder::empty(&rt, "two_runs")?;
-    let is_run = is_run(&rt, store)?;
-    let is_refused = is_refused(&rt, store)?;
-    let rows = count(&rt, store)?;
-    fs::remove_dir_all(&rt, "two_runs")?;
-    assert!(rt;
-        is_run && is_refused && rows == 2,
-        "{is_run}, {is_refused}, {rows}"
+fn a_second_kept_run_is_refused_and_writes_nothing(rt: HostRuntime) {
+    folder::empty(&rt, &rt, "two_runs");
+    must(&rt, runs(&rt, &rt, "two_runs/k.db"), "it is run");
+    must(
+        &rt,
+        runs_no_more(&rt, &rt, "two_runs/k.db"),
+        "it is refused",
     );
-    Ok(())
+    must(
+        &rt,
+        count(&rt, &rt, "two_runs/k.db") == 2,
+        "its rows are left",
+    );
+    folder::remove(&rt, &rt, "two_runs");
 }

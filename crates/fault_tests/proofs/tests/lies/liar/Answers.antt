@@ -11,6 +11,6 @@ one_in_order rows row e = subst (λ (all : List KeptRow). AreInOrder (map entry_
 
 pub new-requires : goal.new-requires
 new-requires c = record {
-  ordered = one_in_order _ c.in_ok-row.field-0
-      (c.in_ok-push.ensures.appended ∙ ap (λ (all : List KeptRow). all ++ c.in_ok-row.field-0 ∷ []) c.new-rows.ensures.empty);
+  ordered = one_in_order _ c.args.row
+      (c.in_ok-push.ensures.appended ∙ ap (λ (all : List KeptRow). all ++ c.args.row ∷ []) c.new-rows.ensures.empty);
 }
