@@ -6,5 +6,5 @@ use Rattle.base_tests.proofs.tests.intervals.are_five.Goals as goal
 pub finds-requires : goal.finds-requires
 finds-requires c =
     let last : Bounds = record { part = 2; from = []; to = None } in
-    subst (λ (all : List Bounds). Any (λ (b : Bounds). b.part ≡ 2) all) (sym c.in_ok-intervals.ensures)
+    subst (λ (all : List Bounds). Any (λ (b : Bounds). b.part ≡ 2) all) (sym c.three_intervals-intervals.ensures)
     (4, last, omega arith, refl, refl)
