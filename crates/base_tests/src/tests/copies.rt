@@ -57,14 +57,11 @@ static THINGS: [What; 18] = [
 ];
 
 // Whether the name of a text is held, and a copy of it is equal.
-fn text_is_copied(rt: &impl Abort, alloc: Global, text: &str) -> bool {
-    let is_copied = is_copied(rt, alloc, made(rt, Name::of(alloc, text)));
-    is_copied && is_name(made(rt, Name::of(alloc, text)), text)
-}
-
-// The same of a text that is handed over.
-fn letters_are_copied(rt: &impl Abort, alloc: Global, text: String) -> bool {
-    text_is_copied(rt, alloc, text.as_str())
+fn text_is_copied(rt: &impl Abort, alloc: Global, text: String) -> bool {
+    let name = made(rt, Name::of(alloc, text.as_str()));
+    let is_held = is_name(made(rt, Name::of(alloc, text.as_str())), text.as_str());
+    drop(text);
+    is_copied(rt, alloc, name) && is_held
 }
 
 // The row of a key.
@@ -138,9 +135,9 @@ impl Holds for What {
     // A copy is equal to what was copied.
     fn holds<R: Abort>(&self, rt: &R, alloc: Global) -> bool {
         match self {
-            What::Text(text) => text_is_copied(rt, alloc, text),
+            What::Text(text) => text_is_copied(rt, alloc, text_of(rt, alloc, &[(text, 1)])),
             What::Letters(count) => {
-                letters_are_copied(rt, alloc, text_of(rt, alloc, &[("k", *count)]))
+                text_is_copied(rt, alloc, text_of(rt, alloc, &[("k", *count)]))
             }
             What::Bytes => is_copied(rt, alloc, Bytes::from_vec(made(rt, vec![in alloc; 255]))),
             What::Row => is_copied(rt, alloc, row(rt, alloc)),

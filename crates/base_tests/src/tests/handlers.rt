@@ -152,9 +152,16 @@ fn left_by(
     match deed {
         Deed::Record(stamp, value) => {
             let item = record(alloc, *stamp, *value);
-            of_record(rt, alloc, work, part, &key, state, &item)
+            let effects = of_record(rt, alloc, work, part, &key, state, &item);
+            drop(item);
+            drop(key);
+            effects
         }
-        Deed::Timer(time) => of_timer(rt, alloc, work, part, &key, state, &timer(*time)),
+        Deed::Timer(time) => {
+            let effects = of_timer(rt, alloc, work, part, &key, state, &timer(*time));
+            drop(key);
+            effects
+        }
     }
 }
 

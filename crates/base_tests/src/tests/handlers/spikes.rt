@@ -187,7 +187,8 @@ fn judges(
     let work = watched(rt, alloc);
     let (state, produced) = walked(rt, alloc, &work, 2, nothing_held(alloc, &work), deeds);
     drop(work);
-    are(produced, want) && is_spike(state, many, totals)
+    let is_spike = is_spike(state, many, totals);
+    are(produced, want) && is_spike
 }
 
 // Whether a handler that passes a record on produced that of the key `h/x` again, set no timer, and left so many late
@@ -227,7 +228,9 @@ fn passes(rt: &impl Abort, alloc: Global, late: bool, after: u64) -> bool {
         value: -3,
         late,
     };
-    is_passed(left_of(rt, alloc, &item), after)
+    let effects = left_of(rt, alloc, &item);
+    drop(item);
+    is_passed(effects, after)
 }
 
 impl Holds for Case {
