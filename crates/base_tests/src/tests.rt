@@ -93,6 +93,13 @@ fn push_parts(rt: &impl Abort, text: &mut String, parts: &[(&str, u32)]) {
     }
 }
 
+// Appends a number.
+fn push_number(rt: &impl Abort, alloc: Global, text: &mut String, number: u32) {
+    let digits = made(rt, format!(in alloc; "{number}"));
+    made(rt, text.push_str(digits.as_str()));
+    drop(digits);
+}
+
 // Texts, each so often, as one.
 fn text_of(rt: &impl Abort, alloc: Global, parts: &[(&str, u32)]) -> String {
     let mut text = String::new(alloc);

@@ -1,6 +1,6 @@
 //! Command lines, each with what it is read as.
 use super::lines::LINES;
-use super::{Holds, all_hold, made, push_parts};
+use super::{Holds, all_hold, made, push_number, push_parts};
 use command_line::{Call, Command, Inputs, WordsRefusal, read_words};
 use mw_types::{Name, Seq};
 use std::alloc::Global;
@@ -15,7 +15,7 @@ fn push_words(rt: &impl Abort, alloc: Global, words: &mut Seq<Name>, line: &str)
 }
 
 // Appends a word, and a name in brackets.
-fn say_name(rt: &impl Abort, said: &mut String, word: &str, name: &Name) {
+fn say_name<'x>(rt: &impl Abort, said: &mut String, word: &'x str, name: &'x Name) {
     push_parts(
         rt,
         said,
@@ -25,10 +25,11 @@ fn say_name(rt: &impl Abort, said: &mut String, word: &str, name: &Name) {
 
 // Appends a word, and two numbers.
 fn say_numbers(rt: &impl Abort, alloc: Global, said: &mut String, word: &str, numbers: [u32; 2]) {
-    let [first, second] = numbers;
-    let text = made(rt, format!(in alloc; "{word} {first} {second}"));
-    made(rt, said.push_str(text.as_str()));
-    drop(text);
+    made(rt, said.push_str(word));
+    for number in &numbers {
+        made(rt, said.push_str(" "));
+        push_number(rt, alloc, said, *number);
+    }
 }
 
 // Appends a word, and what a run reads.

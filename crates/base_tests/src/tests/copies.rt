@@ -100,27 +100,35 @@ fn emission(rt: &impl Abort, alloc: Global) -> Emission {
     }
 }
 
-// A count with one window.
-fn count(rt: &impl Abort, alloc: Global) -> State {
+// The windows of a count, which is one.
+fn windows(rt: &impl Abort, alloc: Global) -> WindowList {
     let window = Window { end: 60, count: 2 };
-    let windows = WindowList::of(alloc, made(rt, vec![in alloc; window]));
-    State::Count {
-        late: 1,
-        windows: made(rt, windows),
-    }
+    made(rt, WindowList::of(alloc, made(rt, vec![in alloc; window])))
 }
 
-// A spike that holds one total and knows another.
-fn spike(rt: &impl Abort, alloc: Global) -> State {
+// The one total that a spike holds.
+fn held(rt: &impl Abort, alloc: Global) -> HeldList {
     let total = HeldTotal {
         stamp: 60,
         value: -7,
     };
-    let held = HeldList::of(alloc, made(rt, vec![in alloc; total]));
-    State::Spike {
-        late: 1,
-        held: made(rt, held),
-        known: ValueList::from_vec(made(rt, vec![in alloc; 5])),
+    made(rt, HeldList::of(alloc, made(rt, vec![in alloc; total])))
+}
+
+// The state of this kind: a count with one window, or a spike that holds one total and knows another.
+fn state(rt: &impl Abort, alloc: Global, what: &What) -> State {
+    match what {
+        What::Injector => State::Injector { cursor: 3 },
+        What::Count => State::Count {
+            late: 1,
+            windows: windows(rt, alloc),
+        },
+        What::Spike => State::Spike {
+            late: 1,
+            held: held(rt, alloc),
+            known: ValueList::from_vec(made(rt, vec![in alloc; 5])),
+        },
+        _ => State::Pass { late: 2 },
     }
 }
 
@@ -135,7 +143,7 @@ impl Holds for What {
     // A copy is equal to what was copied.
     fn holds<R: Abort>(&self, rt: &R, alloc: Global) -> bool {
         match self {
-            What::Text(text) => text_is_copied(rt, alloc, text_of(rt, alloc, &[(text, 1)])),
+            What::Text(text) => text_is_copied(rt, alloc, text_of(rt, alloc, &[(*text, 1)])),
             What::Letters(count) => {
                 text_is_copied(rt, alloc, text_of(rt, alloc, &[("k", *count)]))
             }
@@ -152,10 +160,7 @@ impl Holds for What {
                     TimerList::from_vec(made(rt, vec![in alloc; TIMER])),
                 )
             }
-            What::Injector => is_copied(rt, alloc, State::Injector { cursor: 3 }),
-            What::Count => is_copied(rt, alloc, count(rt, alloc)),
-            What::Spike => is_copied(rt, alloc, spike(rt, alloc)),
-            What::Pass => is_copied(rt, alloc, State::Pass { late: 2 }),
+            _ => is_copied(rt, alloc, state(rt, alloc, self)),
         }
     }
 }

@@ -80,10 +80,10 @@ impl Holds for Found {
     }
 }
 
-// Whether there are five, of which the first and the last are of the parts beside. The key is one of the last.
-fn are_five(rt: &impl Abort, alloc: Global, key: Key) -> bool {
+// Whether there are five, of which the first and the last are of the parts beside.
+fn are_five(rt: &impl Abort, alloc: Global) -> bool {
     let intervals = three_intervals(rt, alloc);
-    let is_last = finds(&intervals, 2, key, 4);
+    let is_last = finds(&intervals, 2, key_of(rt, alloc, "h"), 4);
     let is_first = injector_interval(alloc, &intervals) == 0;
     let are_five = intervals.count() == 5 && is_first && is_last;
     drop(intervals);
@@ -180,9 +180,11 @@ fn last_is_whole(rt: &impl Abort, alloc: Global) -> bool {
 fn a_cut_begins_an_interval(rt: HostRuntime) {
     let alloc = rt.alloc();
     all_hold(&rt, alloc, &CUT);
-    let key = key_of(&rt, alloc, "h");
-    let are_so = are_five(&rt, alloc, key) && has_middle(&rt, alloc);
-    must(&rt, are_so, "there are five, with one in the middle");
+    let are_five = are_five(&rt, alloc) && has_middle(&rt, alloc);
     let are_whole = has_one(&rt, alloc) && last_is_whole(&rt, alloc);
-    must(&rt, are_whole, "parts without cuts");
+    must(
+        &rt,
+        are_five && are_whole,
+        "the middle, and parts without cuts",
+    );
 }

@@ -176,6 +176,11 @@ static DEEDS: [Deed; 19] = [
     Deed::Get(0, Some(4)),
 ];
 
+// Whether a list has these numbers, and is empty where there are none.
+fn has(list: &NumberList, want: &[u32]) -> bool {
+    list.as_slice() == want && list.is_empty() == want.is_empty()
+}
+
 // Makes it a list of a vector's numbers.
 fn begin(rt: &impl Abort, alloc: Global, list: &mut NumberList, numbers: &[u32]) {
     let new = NumberList::from_vec(made(rt, numbers.to_vec(alloc)));
@@ -202,9 +207,7 @@ impl DoneWith<NumberList> for Deed {
             Deed::Pop(number) => return list.pop() == *number,
             Deed::Remove(at, number) => return *at < list.len() && list.remove(*at) == *number,
             Deed::Get(at, number) => return list.get(*at).copied() == *number,
-            Deed::Has(numbers) => {
-                return list.as_slice() == *numbers && list.is_empty() == numbers.is_empty();
-            }
+            Deed::Has(numbers) => return has(list, numbers),
         }
         true
     }

@@ -1,5 +1,5 @@
 //! A file with a computation of each kind, with one place changed, and files of many sizes: what reading each gives.
-use crate::tests::{Holds, made, push_parts, refusal_of, text_of};
+use crate::tests::{Holds, made, push_number, push_parts, refusal_of, text_of};
 use std::alloc::Global;
 use std::process::Abort;
 use topology::{TopologyRefusal, read};
@@ -27,7 +27,14 @@ pub(crate) enum Source {
 }
 
 // The file with one place replaced by a text, and by so many times another after it.
-fn changed(rt: &impl Abort, alloc: Global, old: &str, new: &str, more: &str, times: u32) -> String {
+fn changed<'x>(
+    rt: &impl Abort,
+    alloc: Global,
+    old: &str,
+    new: &'x str,
+    more: &'x str,
+    times: u32,
+) -> String {
     match FILE.split_once(old) {
         Some((head, tail)) => text_of(rt, alloc, &[(head, 1), (new, 1), (more, times), (tail, 1)]),
         None => String::new(alloc),
@@ -56,14 +63,14 @@ fn long(rt: &impl Abort, alloc: Global, members: &str, lengths: &[u32; 3]) -> St
     )
 }
 
-// The parts of one of several, where an empty one stands for its number.
+// The parts of one of several, where an empty one stands for its number, from 100, so that each has three digits.
 type Numbered = &'static [&'static str];
 
 // An injector.
 const INJECTOR: Numbered = &[r#"{"name":"i"#, "", r#"","stream":"s"#, "", r#""}"#];
 
 // A reading of the first stream.
-const READ: Numbered = &[r#"{"stream":"s000","by":"key"}"#];
+const READ: Numbered = &[r#"{"stream":"s100","by":"key"}"#];
 
 // A cut. They ascend.
 const CUT: Numbered = &["\"", "", "\""];
@@ -77,18 +84,11 @@ const COUNT: Numbered = &[
     r#"","reads":["#,
 ];
 
-// Appends a number of three digits.
-fn push_number(rt: &impl Abort, alloc: Global, text: &mut String, number: u32) {
-    let digits = made(rt, format!(in alloc; "{number:03}"));
-    made(rt, text.push_str(digits.as_str()));
-    drop(digits);
-}
-
 // Appends the one of this number.
 fn push_one(rt: &impl Abort, alloc: Global, text: &mut String, parts: Numbered, number: u32) {
     for part in parts {
         if part.is_empty() {
-            push_number(rt, alloc, text, number);
+            push_number(rt, alloc, text, number.saturating_add(100));
         } else {
             made(rt, text.push_str(part));
         }
