@@ -6,6 +6,7 @@ ghost use Rattle.std.specs.Prelude.{◌≡◌, Ok};
 
 mod command_lines;
 mod copies;
+mod entry_copies;
 mod event_files;
 mod handlers;
 mod histories;

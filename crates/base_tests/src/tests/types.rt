@@ -22,19 +22,8 @@ enum Case {
     // An id is before that of a later entry, and as itself.
     LaterId,
     // An id is printed so.
-    Printed(RecordId, &'static str),
+    Printed(u32, u8, &'static str),
 }
-
-// Ids that are printed.
-const ELEVENTH: RecordId = RecordId {
-    commit: 11,
-    index: 0,
-};
-
-const THIRD: RecordId = RecordId {
-    commit: 3,
-    index: 1,
-};
 
 // Ids of two entries.
 const FIRST: RecordId = RecordId {
@@ -63,8 +52,8 @@ static CASES: [Case; 17] = [
     Case::LaterKey,
     Case::LaterPart,
     Case::LaterId,
-    Case::Printed(ELEVENTH, "00000000-0000-8000-8000-00000000000b"),
-    Case::Printed(THIRD, "00000000-0000-8001-8000-000000000003"),
+    Case::Printed(11, 0, "00000000-0000-8000-8000-00000000000b"),
+    Case::Printed(3, 1, "00000000-0000-8001-8000-000000000003"),
 ];
 
 // The length of the key of a text, where it has one.
@@ -109,6 +98,15 @@ fn is_before_row(rt: &impl Abort, alloc: Global, part: u32, key: Key, later: &st
     is_before(RowName { part, key }, later)
 }
 
+// Whether an id is printed so.
+fn is_printed(rt: &impl Abort, alloc: Global, commit: u32, index: u8, text: &str) -> bool {
+    let id = RecordId {
+        commit: u64::from(commit),
+        index: u32::from(index),
+    };
+    is_name(made(rt, id.uuid(alloc)), text)
+}
+
 impl Holds for Case {
     fn holds<R: Abort>(&self, rt: &R, alloc: Global) -> bool {
         match self {
@@ -121,7 +119,7 @@ impl Holds for Case {
             Case::LaterKey => is_before_row(rt, alloc, 1, key_of(rt, alloc, "a"), "b"),
             Case::LaterPart => is_before_row(rt, alloc, 0, Key::none(alloc), "a"),
             Case::LaterId => FIRST < LATER && FIRST == FIRST,
-            Case::Printed(id, text) => is_name(made(rt, id.uuid(alloc)), text),
+            Case::Printed(commit, index, text) => is_printed(rt, alloc, *commit, *index, text),
         }
     }
 }

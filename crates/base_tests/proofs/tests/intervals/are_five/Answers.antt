@@ -4,7 +4,7 @@ use Rattle.base_tests.proofs.tests.intervals.are_five.Goals as goal
 
 -- the last of the five is of the part behind the one that is cut
 pub finds-is_last-requires : goal.finds-is_last-requires
-finds-is_last-requires c =
+finds-is_last-requires g c =
     let last : Bounds = record { part = 2; from = []; to = None } in
     subst (λ (all : List Bounds). Any (λ (b : Bounds). b.part ≡ 2) all) (sym c.three_intervals-intervals.ensures)
     (4, last, omega arith, refl, refl)
