@@ -1,4 +1,4 @@
-//! What no clause says: that ample memory is enough for a copy..
+//! What no clause says: that ample memory is enough for a copy.
 use super::{Holds, all_hold, is_name, key_of, made, text_of};
 use mw_types::{
     Bytes, Delivery, Duplicate, Emission, HeldList, HeldTotal, IdList, Name, Record, RecordId,
