@@ -6,6 +6,7 @@ ghost use Rattle.std.specs.Prelude.{◌≡◌, Ok};
 
 mod command_lines;
 mod copies;
+mod entry_copies;
 mod event_files;
 mod handlers;
 mod histories;
@@ -33,6 +34,41 @@ fn must(rt: &impl Abort, holds: bool, name: impl Display + Drop) {
     assert!(rt; holds, "{name}");
 }
 
+// What holds or does not, as a row of a table.
+trait Holds {
+    // Whether it holds.
+    fn holds<R: Abort>(&self, rt: &R, alloc: Global) -> bool;
+}
+
+// Ends the test where a row of a table does not hold, and tells its number.
+fn all_hold<C: Holds>(rt: &impl Abort, alloc: Global, cases: &[C]) {
+    for (at, case) in cases.iter().enumerate() {
+        must(rt, case.holds(rt, alloc), at);
+    }
+}
+
+// The same of rows that have a name, which is told.
+fn each_holds<C: Holds>(rt: &impl Abort, alloc: Global, cases: &[(&str, C)]) {
+    for (name, case) in cases {
+        must(rt, case.holds(rt, alloc), *name);
+    }
+}
+
+// What is done with a value, or seen of it.
+trait DoneWith<T> {
+    // Does it, and tells whether what is seen is as told.
+    fn is_done<R: Abort>(&self, rt: &R, alloc: Global, value: &mut T) -> bool;
+}
+
+// Does all of it with a value, and gives it back.
+fn done<T, D: DoneWith<T>>(rt: &impl Abort, alloc: Global, value: T, deeds: &[D]) -> T {
+    let mut value = value;
+    for (at, deed) in deeds.iter().enumerate() {
+        must(rt, deed.is_done(rt, alloc, &mut value), at);
+    }
+    value
+}
+
 // What was made. The test ends where it was not.
 fn made<T: Drop, E: Drop>(rt: &impl Abort, given: Result<T, E>) -> T
     ensures { given ≡ Ok result }
@@ -49,33 +85,55 @@ fn key_of(rt: &impl Abort, alloc: Global, text: &str) -> Key {
     made(rt, Key::of(alloc, text))
 }
 
-// A text of so many letters.
-fn letters(rt: &impl Abort, alloc: Global, count: usize) -> String {
-    let mut text = String::new(alloc);
-    for _ in 0..count {
-        made(rt, text.push('k'));
+// Appends texts, each so often.
+fn push_parts(rt: &impl Abort, text: &mut String, parts: &[(&str, u32)]) {
+    for (part, times) in parts {
+        for _ in 0..*times {
+            made(rt, text.push_str(part));
+        }
     }
+}
+
+// Appends a number.
+fn push_number(rt: &impl Abort, alloc: Global, text: &mut String, number: u32) {
+    let digits = made(rt, format!(in alloc; "{number}"));
+    made(rt, text.push_str(digits.as_str()));
+    drop(digits);
+}
+
+// Texts, each so often, as one.
+fn text_of(rt: &impl Abort, alloc: Global, parts: &[(&str, u32)]) -> String {
+    let mut text = String::new(alloc);
+    push_parts(rt, &mut text, parts);
     text
 }
 
 // Whether a name has this text and its length.
 fn is_name(name: Name, text: &str) -> bool {
-    name.text() == text && name.len() == text.len()
+    let is = name.text() == text && name.len() == text.len();
+    drop(name);
+    is
 }
 
 // Whether a key has this text.
 fn is_text(key: Key, text: &str) -> bool {
-    key.text() == text
+    let is = key.text() == text;
+    drop(key);
+    is
 }
 
 // Whether a list has these elements.
 fn are<X: PartialEq + Drop>(list: Seq<X>, want: &[X]) -> bool {
-    list.as_slice() == want
+    let are = list.as_slice() == want;
+    drop(list);
+    are
 }
 
 // How many elements a list has.
 fn length_of<X: Drop>(list: Seq<X>) -> usize {
-    list.len()
+    let length = list.len();
+    drop(list);
+    length
 }
 
 // Why something was refused, if it was.

@@ -1,21 +1,12 @@
 //! Command lines, each with what it is read as.
 use super::lines::LINES;
-use super::{made, must};
+use super::{Holds, all_hold, made, push_number, push_parts};
 use command_line::{Call, Command, Inputs, WordsRefusal, read_words};
 use mw_types::{Name, Seq};
 use std::alloc::Global;
 use std::process::Abort;
 
-// The words of a line, as names.
-fn words_in(rt: &impl Abort, alloc: Global, line: &str) -> Seq<Name> {
-    let mut words = Seq::new(alloc);
-    if !line.is_empty() {
-        push_words(rt, alloc, &mut words, line);
-    }
-    words
-}
-
-// Appends the words of a line that has some.
+// Appends the words of a line that has some, as names.
 fn push_words(rt: &impl Abort, alloc: Global, words: &mut Seq<Name>, line: &str) {
     for word in line.split(' ') {
         let text = if word == "\"\"" { "" } else { word };
@@ -23,48 +14,49 @@ fn push_words(rt: &impl Abort, alloc: Global, words: &mut Seq<Name>, line: &str)
     }
 }
 
-// Appends a text.
-fn say(rt: &impl Abort, said: &mut String, text: &str) {
-    made(rt, said.push_str(text));
+// Appends a word, and a name in brackets.
+fn say_name<'x>(rt: &impl Abort, said: &mut String, word: &'x str, name: &'x Name) {
+    push_parts(
+        rt,
+        said,
+        &[(word, 1), (" [", 1), (name.text(), 1), ("]", 1)],
+    );
 }
 
-// Appends a name in brackets.
-fn say_name(rt: &impl Abort, said: &mut String, name: &Name) {
-    say(rt, said, " [");
-    say(rt, said, name.text());
-    say(rt, said, "]");
+// Appends a word, and two numbers.
+fn say_numbers(rt: &impl Abort, alloc: Global, said: &mut String, word: &str, numbers: [u32; 2]) {
+    made(rt, said.push_str(word));
+    for number in &numbers {
+        made(rt, said.push_str(" "));
+        push_number(rt, alloc, said, *number);
+    }
 }
 
-// Appends a number.
-fn say_number(rt: &impl Abort, alloc: Global, said: &mut String, number: u32) {
-    say(rt, said, made(rt, format!(in alloc; " {number}")).as_str());
-}
-
-// Appends what a run reads.
-fn say_inputs(rt: &impl Abort, said: &mut String, inputs: &Inputs) {
-    say_name(rt, said, &inputs.topology);
+// Appends a word, and what a run reads.
+fn say_inputs(rt: &impl Abort, said: &mut String, word: &str, inputs: &Inputs) {
+    say_name(rt, said, word, &inputs.topology);
     for name in inputs.events.as_slice() {
-        say_name(rt, said, name);
+        say_name(rt, said, "", name);
     }
-    if inputs.history {
-        say(rt, said, " history");
-    }
-    if inputs.live {
-        say(rt, said, " live");
+    let history = inputs.history as u32;
+    let live = inputs.live as u32;
+    push_parts(rt, said, &[(" history", history), (" live", live)]);
+}
+
+// Appends a word and a name where there is one.
+fn say_given(rt: &impl Abort, said: &mut String, word: &str, name: &Option<Name>) {
+    if let Some(name) = name {
+        say_name(rt, said, word, name);
     }
 }
 
 // Appends what a call asks for.
 fn say_call(rt: &impl Abort, alloc: Global, said: &mut String, call: &Call) {
     match call {
-        Call::Solo { inputs } => {
-            say(rt, said, "solo");
-            say_inputs(rt, said, inputs);
-        }
+        Call::Solo { inputs } => say_inputs(rt, said, "solo", inputs),
         Call::Replay { plan, inputs } => {
-            say(rt, said, "replay");
-            say_name(rt, said, plan);
-            say_inputs(rt, said, inputs);
+            say_name(rt, said, "replay", plan);
+            say_inputs(rt, said, "", inputs);
         }
         Call::Run {
             workers,
@@ -72,42 +64,17 @@ fn say_call(rt: &impl Abort, alloc: Global, said: &mut String, call: &Call) {
             plan,
             inputs,
         } => {
-            say(rt, said, "run");
-            say_number(rt, alloc, said, *workers);
-            say_number(rt, alloc, said, *rounds);
-            if let Some(name) = plan {
-                say(rt, said, " plan");
-                say_name(rt, said, name);
-            }
-            say_inputs(rt, said, inputs);
+            say_numbers(rt, alloc, said, "run", [*workers, *rounds]);
+            say_given(rt, said, " plan", plan);
+            say_inputs(rt, said, "", inputs);
         }
-        Call::Plain { inputs } => {
-            say(rt, said, "plain");
-            say_inputs(rt, said, inputs);
-        }
-        Call::Load { seed, lines } => {
-            say(rt, said, "load");
-            say_number(rt, alloc, said, *seed);
-            say_number(rt, alloc, said, *lines);
-        }
+        Call::Plain { inputs } => say_inputs(rt, said, "plain", inputs),
+        Call::Load { seed, lines } => say_numbers(rt, alloc, said, "load", [*seed, *lines]),
         Call::Audit { inputs, trace } => {
-            say(rt, said, "audit");
-            say_name(rt, said, trace);
-            say_inputs(rt, said, inputs);
+            say_name(rt, said, "audit", trace);
+            say_inputs(rt, said, "", inputs);
         }
-        Call::Collect { file } => {
-            say(rt, said, "collect");
-            say_name(rt, said, file);
-        }
-    }
-}
-
-// Appends what a command asks for.
-fn say_command(rt: &impl Abort, alloc: Global, said: &mut String, command: &Command) {
-    say_call(rt, alloc, said, &command.call);
-    if let Some(name) = &command.keep {
-        say(rt, said, " keep");
-        say_name(rt, said, name);
+        Call::Collect { file } => say_name(rt, said, "collect", file),
     }
 }
 
@@ -119,16 +86,22 @@ fn say_read(
     read: &Result<Command, WordsRefusal>,
 ) {
     match read {
-        Ok(command) => say_command(rt, alloc, said, command),
-        Err(WordsRefusal::Usage) => say(rt, said, "usage"),
-        Err(WordsRefusal::NoMemory) => say(rt, said, "no memory"),
+        Ok(command) => {
+            say_call(rt, alloc, said, &command.call);
+            say_given(rt, said, " keep", &command.keep);
+        }
+        Err(WordsRefusal::Usage) => made(rt, said.push_str("usage")),
+        Err(WordsRefusal::NoMemory) => made(rt, said.push_str("no memory")),
     }
 }
 
 // What a line is read as.
 fn said_of(rt: &impl Abort, alloc: Global, line: &str) -> String {
     let mut said = String::new(alloc);
-    let words = words_in(rt, alloc, line);
+    let mut words = Seq::new(alloc);
+    if !line.is_empty() {
+        push_words(rt, alloc, &mut words, line);
+    }
     let read = read_words(alloc, words.as_slice());
     say_read(rt, alloc, &mut said, &read);
     drop(read);
@@ -136,14 +109,20 @@ fn said_of(rt: &impl Abort, alloc: Global, line: &str) -> String {
     said
 }
 
-// Whether a line is read as this.
-fn is_said(rt: &impl Abort, alloc: Global, line: &str, wanted: &str) -> bool {
-    said_of(rt, alloc, line).as_str() == wanted
+// A line, and what it is read as.
+type Line = (&'static str, &'static str);
+
+impl Holds for Line {
+    fn holds<R: Abort>(&self, rt: &R, alloc: Global) -> bool {
+        let (line, wanted) = self;
+        let said = said_of(rt, alloc, line);
+        let is_said = said.as_str() == *wanted;
+        drop(said);
+        is_said
+    }
 }
 
 #[test]
 fn each_line_is_its_command(rt: HostRuntime) {
-    for (line, wanted) in &LINES {
-        must(&rt, is_said(&rt, rt.alloc(), line, wanted), *line);
-    }
+    all_hold(&rt, rt.alloc(), &LINES);
 }

@@ -1,15 +1,8 @@
-//! What no clause says: that ample memory is enough for a copy, and that copies of entries, which have no
-//! `==`, have each field of what was copied.
-ghost use Rattle.std.specs.Prelude.{All, ◌≤◌};
-ghost use Rattle.mw_types.specs.declared.TheConstants.{MAX_STAMP};
-ghost use Rattle.mw_types.specs.declared.record.Production.{Production};
-ghost use Rattle.mw_types.specs.declared.timer.Timer.{Timer};
-
-use super::{is_name, key_of, letters, made, must};
+//! What no clause says: that ample memory is enough for a copy.
+use super::{Holds, all_hold, is_name, key_of, made, text_of};
 use mw_types::{
-    Bytes, Delivery, Duplicate, Effects, Emission, Entry, EntryList, HeldList, HeldTotal, IdList,
-    Name, Production, ProductionList, Record, RecordId, RowName, State, Timer, TimerList,
-    ValueList, Window, WindowList,
+    Bytes, Delivery, Duplicate, Emission, HeldList, HeldTotal, IdList, Name, Record, RecordId,
+    RowName, State, Timer, TimerList, ValueList, Window, WindowList,
 };
 use std::alloc::Global;
 use std::process::Abort;
@@ -26,23 +19,23 @@ fn is_copied<T: Duplicate + PartialEq>(rt: &impl Abort, alloc: Global, value: T)
 }
 
 // What is copied.
-#[derive(Clone, Copy)]
 enum What {
     Text(&'static str),
-    Letters(usize),
+    Letters(u32),
     Bytes,
     Row,
     Record,
     Delivery,
     Emission,
     Ids,
+    Timers,
     Injector,
     Count,
     Spike,
     Pass,
 }
 
-static THINGS: [What; 17] = [
+static THINGS: [What; 18] = [
     What::Text("t.json"),
     What::Letters(0),
     What::Letters(1),
@@ -56,6 +49,7 @@ static THINGS: [What; 17] = [
     What::Delivery,
     What::Emission,
     What::Ids,
+    What::Timers,
     What::Injector,
     What::Count,
     What::Spike,
@@ -63,14 +57,11 @@ static THINGS: [What; 17] = [
 ];
 
 // Whether the name of a text is held, and a copy of it is equal.
-fn text_is_copied(rt: &impl Abort, alloc: Global, text: &str) -> bool {
-    let is_copied = is_copied(rt, alloc, made(rt, Name::of(alloc, text)));
-    is_copied && is_name(made(rt, Name::of(alloc, text)), text)
-}
-
-// The same of a text that is handed over.
-fn letters_are_copied(rt: &impl Abort, alloc: Global, text: String) -> bool {
-    text_is_copied(rt, alloc, text.as_str())
+fn text_is_copied(rt: &impl Abort, alloc: Global, text: String) -> bool {
+    let name = made(rt, Name::of(alloc, text.as_str()));
+    let is_held = is_name(made(rt, Name::of(alloc, text.as_str())), text.as_str());
+    drop(text);
+    is_copied(rt, alloc, name) && is_held
 }
 
 // The row of a key.
@@ -109,228 +100,72 @@ fn emission(rt: &impl Abort, alloc: Global) -> Emission {
     }
 }
 
-// A count with one window.
-fn count(rt: &impl Abort, alloc: Global) -> State {
+// The windows of a count, which is one.
+fn windows(rt: &impl Abort, alloc: Global) -> WindowList {
     let window = Window { end: 60, count: 2 };
-    let windows = WindowList::of(alloc, made(rt, vec![in alloc; window]));
-    State::Count {
-        late: 1,
-        windows: made(rt, windows),
-    }
+    made(rt, WindowList::of(alloc, made(rt, vec![in alloc; window])))
 }
 
-// A spike that holds one total and knows another.
-fn spike(rt: &impl Abort, alloc: Global) -> State {
+// The one total that a spike holds.
+fn held(rt: &impl Abort, alloc: Global) -> HeldList {
     let total = HeldTotal {
         stamp: 60,
         value: -7,
     };
-    let held = HeldList::of(alloc, made(rt, vec![in alloc; total]));
-    State::Spike {
-        late: 1,
-        held: made(rt, held),
-        known: ValueList::from_vec(made(rt, vec![in alloc; 5])),
-    }
+    made(rt, HeldList::of(alloc, made(rt, vec![in alloc; total])))
 }
 
-// Whether a copy of one thing is equal to it.
-fn thing_is_copied(rt: &impl Abort, alloc: Global, what: What) -> bool {
+// The state of this kind: a count with one window, or a spike that holds one total and knows another.
+fn state(rt: &impl Abort, alloc: Global, what: &What) -> State {
     match what {
-        What::Text(text) => text_is_copied(rt, alloc, text),
-        What::Letters(count) => letters_are_copied(rt, alloc, letters(rt, alloc, count)),
-        What::Bytes => is_copied(rt, alloc, Bytes::from_vec(made(rt, vec![in alloc; 255]))),
-        What::Row => is_copied(rt, alloc, row(rt, alloc)),
-        What::Record => is_copied(rt, alloc, record(rt, alloc)),
-        What::Delivery => is_copied(rt, alloc, delivery(rt, alloc)),
-        What::Emission => is_copied(rt, alloc, emission(rt, alloc)),
-        What::Ids => is_copied(rt, alloc, IdList::from_vec(made(rt, vec![in alloc; ID]))),
-        What::Injector => is_copied(rt, alloc, State::Injector { cursor: 3 }),
-        What::Count => is_copied(rt, alloc, count(rt, alloc)),
-        What::Spike => is_copied(rt, alloc, spike(rt, alloc)),
-        What::Pass => is_copied(rt, alloc, State::Pass { late: 2 }),
-    }
-}
-
-// A timer.
-fn timer(late: bool) -> Timer
-    ensures { result.time ≤ MAX_STAMP }
-{
-    Timer {
-        tag: 0,
-        time: 60,
-        late,
-    }
-}
-
-// One timer that a handler set.
-fn timers(rt: &impl Abort, alloc: Global) -> TimerList
-    ensures { All (λ (t : Timer). t.time ≤ MAX_STAMP) result }
-{
-    let mut timers = TimerList::new(alloc);
-    made(rt, timers.push(timer(true)));
-    timers
-}
-
-// One record that a handler produced.
-fn productions(rt: &impl Abort, alloc: Global) -> ProductionList
-    ensures { All (λ (p : Production). p.stamp ≤ MAX_STAMP) result }
-{
-    let mut productions = ProductionList::new(alloc);
-    let one = Production {
-        key: key_of(rt, alloc, "b"),
-        stamp: 60,
-        value: 2,
-    };
-    made(rt, productions.push(one));
-    productions
-}
-
-// What a handler leaves that set one timer and produced one record.
-fn effects(rt: &impl Abort, alloc: Global) -> Effects {
-    Effects {
-        state: State::Pass { late: 0 },
-        timers: timers(rt, alloc),
-        productions: productions(rt, alloc),
-    }
-}
-
-// The entry of this place in a list with one of each kind.
-fn entry(rt: &impl Abort, alloc: Global, at: u32) -> Entry {
-    match at {
-        0 => Entry::Claim {
-            worker: 1,
-            interval: 2,
+        What::Injector => State::Injector { cursor: 3 },
+        What::Count => State::Count {
+            late: 1,
+            windows: windows(rt, alloc),
         },
-        1 => Entry::Inject {
-            seq: 3,
-            part: 0,
-            line: 4,
-            item: record(rt, alloc),
+        What::Spike => State::Spike {
+            late: 1,
+            held: held(rt, alloc),
+            known: ValueList::from_vec(made(rt, vec![in alloc; 5])),
         },
-        2 => Entry::Handle {
-            seq: 3,
-            row: row(rt, alloc),
-            id: ID,
-            effects: effects(rt, alloc),
-        },
-        3 => Entry::Fire {
-            seq: 3,
-            row: row(rt, alloc),
-            timer: timer(false),
-            mark: 61,
-            effects: effects(rt, alloc),
-        },
-        4 => Entry::Ack {
-            seq: 3,
-            row: row(rt, alloc),
-            id: ID,
-        },
-        _ => Entry::Purge {
-            seq: 3,
-            row: row(rt, alloc),
-            floor: 5,
-        },
+        _ => State::Pass { late: 2 },
     }
 }
 
-// Whether it is the row of above.
-fn is_row(row: &RowName) -> bool {
-    row.part == 1 && row.key.text() == "a"
-}
+// A timer that was set, and is late.
+const TIMER: Timer = Timer {
+    tag: 0,
+    time: 60,
+    late: true,
+};
 
-// Whether it is the record of above.
-fn is_record(item: &Record) -> bool {
-    item.key.text() == "a" && item.stamp == 10 && item.value == -1 && !item.late
-}
-
-// Whether it is the one record that was produced above.
-fn are_productions(productions: &[Production]) -> bool {
-    match productions {
-        [one] => one.key.text() == "b" && one.stamp == 60 && one.value == 2,
-        _ => false,
+impl Holds for What {
+    // A copy is equal to what was copied.
+    fn holds<R: Abort>(&self, rt: &R, alloc: Global) -> bool {
+        match self {
+            What::Text(text) => text_is_copied(rt, alloc, text_of(rt, alloc, &[(*text, 1)])),
+            What::Letters(count) => {
+                text_is_copied(rt, alloc, text_of(rt, alloc, &[("k", *count)]))
+            }
+            What::Bytes => is_copied(rt, alloc, Bytes::from_vec(made(rt, vec![in alloc; 255]))),
+            What::Row => is_copied(rt, alloc, row(rt, alloc)),
+            What::Record => is_copied(rt, alloc, record(rt, alloc)),
+            What::Delivery => is_copied(rt, alloc, delivery(rt, alloc)),
+            What::Emission => is_copied(rt, alloc, emission(rt, alloc)),
+            What::Ids => is_copied(rt, alloc, IdList::from_vec(made(rt, vec![in alloc; ID]))),
+            What::Timers => {
+                is_copied(
+                    rt,
+                    alloc,
+                    TimerList::from_vec(made(rt, vec![in alloc; TIMER])),
+                )
+            }
+            _ => is_copied(rt, alloc, state(rt, alloc, self)),
+        }
     }
-}
-
-// Whether it is what the handler of above left.
-fn are_effects(effects: &Effects) -> bool {
-    matches!(effects.state, State::Pass { late: 0 })
-        && effects.timers.as_slice() == [timer(true)].as_slice()
-        && are_productions(effects.productions.as_slice())
-}
-
-// What kind an entry is of, and its numbers.
-fn numbers_of(entry: &Entry) -> [u64; 4] {
-    match entry {
-        Entry::Claim { worker, interval } => [0, u64::from(*worker), u64::from(*interval), 0],
-        Entry::Inject {
-            seq,
-            part,
-            line,
-            ..
-        } => [1, *seq, u64::from(*part), u64::from(*line)],
-        Entry::Handle { seq, id, .. } => [2, *seq, id.commit, u64::from(id.index)],
-        Entry::Fire { seq, mark, .. } => [3, *seq, *mark, 0],
-        Entry::Ack { seq, id, .. } => [4, *seq, id.commit, u64::from(id.index)],
-        Entry::Purge { seq, floor, .. } => [5, *seq, *floor, 0],
-    }
-}
-
-// Those of the entries of above, in their order.
-static NUMBERS: [[u64; 4]; 6] = [
-    [0, 1, 2, 0],
-    [1, 3, 0, 4],
-    [2, 3, 1, 2],
-    [3, 3, 61, 0],
-    [4, 3, 1, 2],
-    [5, 3, 5, 0],
-];
-
-// Whether an entry has the row, the record, the timer and the effects of above, where it has one.
-fn has_parts(entry: &Entry) -> bool {
-    match entry {
-        Entry::Claim { .. } => true,
-        Entry::Inject { item, .. } => is_record(item),
-        Entry::Handle { row, effects, .. } => is_row(row) && are_effects(effects),
-        Entry::Fire {
-            row,
-            timer: fired,
-            effects,
-            ..
-        } => *fired == timer(false) && is_row(row) && are_effects(effects),
-        Entry::Ack { row, .. } => is_row(row),
-        Entry::Purge { row, .. } => is_row(row),
-    }
-}
-
-// Whether each is the entry of above at its place.
-fn are_entries(entries: &[Entry]) -> bool {
-    let mut are = entries.len() == NUMBERS.len();
-    for (at, entry) in entries.iter().enumerate() {
-        are = are && NUMBERS.get(at) == Some(&numbers_of(entry)) && has_parts(entry);
-    }
-    are
-}
-
-// Whether the entries, and a copy of their list, have each entry, and each field of it.
-fn entries_are_copied(rt: &impl Abort, alloc: Global) -> bool {
-    let mut entries = EntryList::new(alloc);
-    for at in 0..6 {
-        made(rt, entries.push(entry(rt, alloc, at)));
-    }
-    let copies = made(rt, entries.copy(alloc));
-    let are_copied = are_entries(copies.as_slice());
-    drop(copies);
-    are_entries(entries.as_slice()) && are_copied
 }
 
 #[test]
 fn copies_are_equal(rt: HostRuntime) {
-    for (at, what) in THINGS.iter().enumerate() {
-        must(&rt, thing_is_copied(&rt, rt.alloc(), *what), at);
-    }
-    must(
-        &rt,
-        entries_are_copied(&rt, rt.alloc()),
-        "entries of each kind",
-    );
+    all_hold(&rt, rt.alloc(), &THINGS);
 }

@@ -1,17 +1,25 @@
 //! What event files hold, by example.
-use super::{key_of, made, must, refusal_of};
-use injector::LinesRefusal::Line;
+use super::{Holds, all_hold, each_holds, key_of, made, must, refusal_of};
 use injector::{Item, Items, LineWhy, LinesRefusal, read_lines};
 use mw_types::END;
 use std::alloc::Global;
 use std::process::Abort;
 
-// What these bytes hold, with room for two lines.
-fn read(alloc: Global, bytes: &[u8]) -> Result<Items, LinesRefusal> {
-    if bytes.len() > 1000 {
+// What these bytes hold, with room for so many record lines.
+fn read(alloc: Global, bytes: &[u8], room: u32) -> Result<Items, LinesRefusal> {
+    if bytes.len() > 1 << 20 {
         return Err(LinesRefusal::NoMemory);
     }
-    read_lines(alloc, bytes, 2)
+    read_lines(alloc, bytes, room)
+}
+
+/// Why bytes are refused, if they are, with room for so many record lines: the line, and why.
+pub(super) fn refusal(alloc: Global, bytes: &[u8], room: u32) -> Option<(u32, LineWhy)> {
+    match refusal_of(read(alloc, bytes, room)) {
+        Some(LinesRefusal::Line { line, why }) => Some((line, why)),
+        Some(LinesRefusal::NoMemory) => Some((0, LineWhy::NotJson)),
+        None => None,
+    }
 }
 
 // The key, timestamp and value of a record, and whether it is late.
@@ -47,65 +55,66 @@ fn are_marks(items: &Items, marks: &[u64]) -> bool {
     true
 }
 
-// The same of items that are handed over, so that they are let go here alone.
-fn hold(items: Items, records: &[Told], marks: &[u64]) -> bool {
-    are_told(&items, records, marks)
-}
-
-// One file, the records that it has, and the watermarks before each and after the last.
-type File = (&'static str, &'static [u8], &'static [Told], &'static [u64]);
+// A file, the records that it has, and the watermarks before each and after the last.
+type File = (&'static [u8], &'static [Told], &'static [u64]);
 
 // One record that is spelt in many ways.
 const SPELT: [Told; 1] = [("é/a", 50, 1, false)];
 
-static FILES: [File; 8] = [
-    ("an empty file has ended", b"", &[], &[END]),
+static FILES: [(&str, File); 8] = [
+    ("an empty file has ended", (b"", &[], &[END])),
     (
         "a record at the watermark is in time",
-        b"{\"key\":\"a\",\"ts\":3}\r\n \t\r\n{\"watermark\":7,\"ts\":null}\n{\"watermark\":4}\n{\"ts\":7,\"value\":-2,\"key\":\"b\"}",
-        &[("a", 3, 1, false), ("b", 7, -2, false)],
-        &[0, 7, END],
+        (
+            b"{\"key\":\"a\",\"ts\":3}\r\n \t\r\n{\"watermark\":7,\"ts\":null}\n{\"watermark\":4}\n{\"ts\":7,\"value\":-2,\"key\":\"b\"}",
+            &[("a", 3, 1, false), ("b", 7, -2, false)],
+            &[0, 7, END],
+        ),
     ),
     (
         "a record below the watermark is late",
-        b"{\"watermark\":7}\n{\"key\":\"a\",\"ts\":6}\n{\"watermark\":9}\n",
-        &[("a", 6, 1, true)],
-        &[7, END],
+        (
+            b"{\"watermark\":7}\n{\"key\":\"a\",\"ts\":6}\n{\"watermark\":9}\n",
+            &[("a", 6, 1, true)],
+            &[7, END],
+        ),
     ),
     (
         "the greatest numbers are read",
-        b"{\"watermark\":4611686018427387904}
+        (
+            b"{\"watermark\":4611686018427387904}
 {\"key\":\"a\",\"ts\":4611686018427387904,\"value\":9223372036854775807}
 {\"key\":\"a\",\"ts\":0,\"value\":-9223372036854775808}",
-        &[
-            ("a", 4611686018427387904, 9223372036854775807, false),
-            ("a", 0, -9223372036854775808, true),
-        ],
-        &[4611686018427387904, 4611686018427387904, END],
+            &[
+                ("a", 4611686018427387904, 9223372036854775807, false),
+                ("a", 0, -9223372036854775808, true),
+            ],
+            &[4611686018427387904, 4611686018427387904, END],
+        ),
     ),
     (
         "a record is spelt in bytes",
-        b"{\"key\":\"\xc3\xa9/a\",\"ts\":50}",
-        &SPELT,
-        &[0, END],
+        (b"{\"key\":\"\xc3\xa9/a\",\"ts\":50}", &SPELT, &[0, END]),
     ),
     (
         "a record is spelt with escapes",
-        b"{\"key\":\"\\u00e9\\/a\",\"ts\":50}",
-        &SPELT,
-        &[0, END],
+        (b"{\"key\":\"\\u00e9\\/a\",\"ts\":50}", &SPELT, &[0, END]),
     ),
     (
         "a record is spelt with blanks and a carriage return",
-        b" { \"ts\" : 50 , \"key\" : \"\xc3\xa9/a\" }\r",
-        &SPELT,
-        &[0, END],
+        (
+            b" { \"ts\" : 50 , \"key\" : \"\xc3\xa9/a\" }\r",
+            &SPELT,
+            &[0, END],
+        ),
     ),
     (
         "a record is spelt with two keys and another member",
-        b"{\"key\":\"b\",\"key\":\"\xc3\xa9/a\",\"ts\":50,\"more\":[{}]}",
-        &SPELT,
-        &[0, END],
+        (
+            b"{\"key\":\"b\",\"key\":\"\xc3\xa9/a\",\"ts\":50,\"more\":[{}]}",
+            &SPELT,
+            &[0, END],
+        ),
     ),
 ];
 
@@ -122,208 +131,117 @@ fn pushed(rt: &impl Abort, alloc: Global) -> Items {
     items
 }
 
+// The same of items that are handed over, so that they are let go here alone.
+fn hold(items: Items, records: &[Told], marks: &[u64]) -> bool {
+    let are = are_told(&items, records, marks);
+    drop(items);
+    are
+}
+
+impl Holds for File {
+    fn holds<R: Abort>(&self, rt: &R, alloc: Global) -> bool {
+        let (text, records, marks) = self;
+        hold(made(rt, read(alloc, text, 2)), records, marks)
+    }
+}
+
 #[test]
 fn files_hold_their_records_and_watermarks(rt: HostRuntime) {
-    for (name, text, records, marks) in &FILES {
-        must(
-            &rt,
-            hold(made(&rt, read(rt.alloc(), text)), records, marks),
-            *name,
-        );
-    }
+    each_holds(&rt, rt.alloc(), &FILES);
     let is_held = hold(pushed(&rt, rt.alloc()), &[("a", 5, 1, false)], &[0, END]);
     must(&rt, is_held, "a line that is pushed is held");
 }
 
-// What is read.
-enum Lines {
-    // These bytes.
-    Bytes(&'static [u8]),
-    // A record whose key has so many letters.
-    Key(u32),
-}
+/// Lines, the room for record lines, and the first rule that a line breaks, if one does, with its number.
+pub(super) type Lines = (&'static [u8], u32, Option<(u32, LineWhy)>);
 
-// Lines, and the first rule that one breaks, if one does, with its number.
-static READ: [(Lines, Option<LinesRefusal>); 22] = [
+static READ: [Lines; 20] = [
     (
-        Lines::Bytes(b"{\"key\":\"\xff\",\"ts\":1}"),
-        Some(Line {
-            line: 1,
-            why: LineWhy::NotJson,
-        }),
+        b"{\"key\":\"\xff\",\"ts\":1}",
+        2,
+        Some((1, LineWhy::NotJson)),
+    ),
+    (b"\r\r\n", 2, Some((1, LineWhy::NotJson))),
+    (b"{\"key\":\"a\",\"ts\":05}", 2, Some((1, LineWhy::NotJson))),
+    (
+        b"{\"key\":\"a\\\",\"ts\":5}",
+        2,
+        Some((1, LineWhy::NotJson)),
+    ),
+    (b"[1]", 2, Some((1, LineWhy::NotObject))),
+    (b"{\"ts\":1}", 2, Some((1, LineWhy::BadKey))),
+    (b"{\"key\":7,\"ts\":-1}", 2, Some((1, LineWhy::BadKey))),
+    (b"{\"key\":\"\",\"ts\":1}", 2, Some((1, LineWhy::BadKey))),
+    (
+        b"{\"key\":\"a\",\"value\":null}",
+        2,
+        Some((1, LineWhy::BadStamp)),
     ),
     (
-        Lines::Bytes(b"\r\r\n"),
-        Some(Line {
-            line: 1,
-            why: LineWhy::NotJson,
-        }),
+        b"{\"key\":\"a\",\"ts\":4611686018427387905}",
+        2,
+        Some((1, LineWhy::BadStamp)),
     ),
     (
-        Lines::Bytes(b"{\"key\":\"a\",\"ts\":05}"),
-        Some(Line {
-            line: 1,
-            why: LineWhy::NotJson,
-        }),
+        b"{\"key\":\"a\",\"ts\":-0}",
+        2,
+        Some((1, LineWhy::BadStamp)),
     ),
     (
-        Lines::Bytes(b"{\"key\":\"a\\\",\"ts\":5}"),
-        Some(Line {
-            line: 1,
-            why: LineWhy::NotJson,
-        }),
+        b"{\"watermark\":4611686018427387905}",
+        2,
+        Some((1, LineWhy::BadStamp)),
     ),
     (
-        Lines::Bytes(b"[1]"),
-        Some(Line {
-            line: 1,
-            why: LineWhy::NotObject,
-        }),
+        b"{\"watermark\":null,\"key\":7}",
+        2,
+        Some((1, LineWhy::BadStamp)),
     ),
     (
-        Lines::Bytes(b"{\"ts\":1}"),
-        Some(Line {
-            line: 1,
-            why: LineWhy::BadKey,
-        }),
+        b"{\"key\":\"a\",\"ts\":1,\"value\":null}",
+        2,
+        Some((1, LineWhy::BadValue)),
     ),
     (
-        Lines::Bytes(b"{\"key\":7,\"ts\":-1}"),
-        Some(Line {
-            line: 1,
-            why: LineWhy::BadKey,
-        }),
+        b"{\"key\":\"a\",\"ts\":1,\"value\":1.0}",
+        2,
+        Some((1, LineWhy::BadValue)),
     ),
     (
-        Lines::Bytes(b"{\"key\":\"\",\"ts\":1}"),
-        Some(Line {
-            line: 1,
-            why: LineWhy::BadKey,
-        }),
+        b"{\"key\":\"a\",\"ts\":1,\"value\":-0}",
+        2,
+        Some((1, LineWhy::BadValue)),
     ),
     (
-        Lines::Bytes(b"{\"key\":\"a\",\"value\":null}"),
-        Some(Line {
-            line: 1,
-            why: LineWhy::BadStamp,
-        }),
+        b"{\"key\":\"a\",\"ts\":1,\"value\":9223372036854775808}",
+        2,
+        Some((1, LineWhy::BadValue)),
     ),
     (
-        Lines::Bytes(b"{\"key\":\"a\",\"ts\":4611686018427387905}"),
-        Some(Line {
-            line: 1,
-            why: LineWhy::BadStamp,
-        }),
+        b"{\"key\":\"a\",\"ts\":1,\"value\":-9223372036854775809}",
+        2,
+        Some((1, LineWhy::BadValue)),
     ),
     (
-        Lines::Bytes(b"{\"key\":\"a\",\"ts\":-0}"),
-        Some(Line {
-            line: 1,
-            why: LineWhy::BadStamp,
-        }),
+        b"{\"key\":\"a\",\"ts\":1}\n{\"key\":\"a\",\"ts\"",
+        2,
+        Some((2, LineWhy::NotJson)),
     ),
     (
-        Lines::Bytes(b"{\"watermark\":4611686018427387905}"),
-        Some(Line {
-            line: 1,
-            why: LineWhy::BadStamp,
-        }),
-    ),
-    (
-        Lines::Bytes(b"{\"watermark\":null,\"key\":7}"),
-        Some(Line {
-            line: 1,
-            why: LineWhy::BadStamp,
-        }),
-    ),
-    (
-        Lines::Bytes(b"{\"key\":\"a\",\"ts\":1,\"value\":null}"),
-        Some(Line {
-            line: 1,
-            why: LineWhy::BadValue,
-        }),
-    ),
-    (
-        Lines::Bytes(b"{\"key\":\"a\",\"ts\":1,\"value\":1.0}"),
-        Some(Line {
-            line: 1,
-            why: LineWhy::BadValue,
-        }),
-    ),
-    (
-        Lines::Bytes(b"{\"key\":\"a\",\"ts\":1,\"value\":-0}"),
-        Some(Line {
-            line: 1,
-            why: LineWhy::BadValue,
-        }),
-    ),
-    (
-        Lines::Bytes(b"{\"key\":\"a\",\"ts\":1,\"value\":9223372036854775808}"),
-        Some(Line {
-            line: 1,
-            why: LineWhy::BadValue,
-        }),
-    ),
-    (
-        Lines::Bytes(b"{\"key\":\"a\",\"ts\":1,\"value\":-9223372036854775809}"),
-        Some(Line {
-            line: 1,
-            why: LineWhy::BadValue,
-        }),
-    ),
-    (
-        Lines::Bytes(b"{\"key\":\"a\",\"ts\":1}\n{\"key\":\"a\",\"ts\""),
-        Some(Line {
-            line: 2,
-            why: LineWhy::NotJson,
-        }),
-    ),
-    (
-        Lines::Bytes(
-            b"{\"key\":\"a\",\"ts\":1}\n{\"key\":\"a\",\"ts\":2}\n{\"watermark\":1}\n{\"key\":\"a\",\"ts\":3}",
-        ),
-        Some(Line {
-            line: 4,
-            why: LineWhy::TooManyLines,
-        }),
-    ),
-    (Lines::Key(256), None),
-    (
-        Lines::Key(257),
-        Some(Line {
-            line: 1,
-            why: LineWhy::BadKey,
-        }),
+        b"{\"key\":\"a\",\"ts\":1}\n{\"key\":\"a\",\"ts\":2}\n{\"watermark\":1}\n{\"key\":\"a\",\"ts\":3}",
+        2,
+        Some((4, LineWhy::TooManyLines)),
     ),
 ];
 
-// A record whose key has so many letters.
-fn long_key(rt: &impl Abort, alloc: Global, count: u32) -> String {
-    let mut text = String::new(alloc);
-    for (part, times) in [("{\"key\":\"", 1), ("k", count), ("\",\"ts\":1}", 1)] {
-        for _ in 0..times {
-            made(rt, text.push_str(part));
-        }
-    }
-    text
-}
-
-// Why a text is refused, if it is.
-fn text_refusal(alloc: Global, text: String) -> Option<LinesRefusal> {
-    refusal_of(read(alloc, text.as_bytes()))
-}
-
-// Why lines are refused, if they are.
-fn refusal(rt: &impl Abort, alloc: Global, lines: &Lines) -> Option<LinesRefusal> {
-    match lines {
-        Lines::Bytes(bytes) => refusal_of(read(alloc, bytes)),
-        Lines::Key(count) => text_refusal(alloc, long_key(rt, alloc, *count)),
+impl Holds for Lines {
+    fn holds<R: Abort>(&self, _rt: &R, alloc: Global) -> bool {
+        let (bytes, room, why) = self;
+        refusal(alloc, bytes, *room) == *why
     }
 }
 
 #[test]
 fn the_first_rule_that_a_line_breaks_is_named(rt: HostRuntime) {
-    for (at, (lines, why)) in READ.iter().enumerate() {
-        must(&rt, refusal(&rt, rt.alloc(), lines) == *why, at);
-    }
+    all_hold(&rt, rt.alloc(), &READ);
 }

@@ -134,31 +134,7 @@ fn timer(time: u64) -> Timer
     }
 }
 
-// What a part leaves of one of both in a row of this key.
-fn left_under(
-    rt: &impl Abort,
-    alloc: Global,
-    work: &Kinds,
-    part: u32,
-    key: &Key,
-    state: &State,
-    deed: &Deed,
-) -> Effects
-    requires has { HasState work.now part state.now }
-    requires within { IsWithin state.now }
-    ensures has { HasState work.now part result.state }
-    ensures within { IsWithin result.state }
-{
-    match deed {
-        Deed::Record(stamp, value) => {
-            let item = record(alloc, *stamp, *value);
-            of_record(rt, alloc, work, part, key, state, &item)
-        }
-        Deed::Timer(time) => of_timer(rt, alloc, work, part, key, state, &timer(*time)),
-    }
-}
-
-// The same of no key.
+// What a part leaves of one of both in a row of no key.
 fn left_by(
     rt: &impl Abort,
     alloc: Global,
@@ -172,7 +148,21 @@ fn left_by(
     ensures has { HasState work.now part result.state }
     ensures within { IsWithin result.state }
 {
-    left_under(rt, alloc, work, part, &Key::none(alloc), state, deed)
+    let key = Key::none(alloc);
+    match deed {
+        Deed::Record(stamp, value) => {
+            let item = record(alloc, *stamp, *value);
+            let effects = of_record(rt, alloc, work, part, &key, state, &item);
+            drop(item);
+            drop(key);
+            effects
+        }
+        Deed::Timer(time) => {
+            let effects = of_timer(rt, alloc, work, part, &key, state, &timer(*time));
+            drop(key);
+            effects
+        }
+    }
 }
 
 // The timestamps and values of records that were produced.

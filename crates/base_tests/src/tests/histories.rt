@@ -1,6 +1,6 @@
 //! The calls of `run_history`, for what no clause says: that ample memory is enough. No helper has a
 //! clause, so that no test carries what the calls before have told.
-use super::{are, made, must};
+use super::{are, length_of, made, must};
 use injector::{Items, ItemsList};
 use mw_types::{Entry, Key, Production, Record};
 use run_history::{Case, History, emissions, first_row, make, production, result_text};
@@ -48,13 +48,16 @@ fn sizes(rt: &impl Abort, alloc: Global, topology: &Topology, part: u32) -> (usi
     if topology.parts() <= part {
         return (0, 0);
     }
-    let counted = Production {
+    let counted = [Production {
         key: Key::none(alloc),
         stamp: 60,
         value: 2,
-    };
-    let made = made(rt, make(alloc, topology, part, &[counted], false, 7));
-    (made.deliveries.len(), made.emissions.len())
+    }];
+    let made = made(rt, make(alloc, topology, part, &counted, false, 7));
+    drop(counted);
+    let sizes = (made.deliveries.len(), made.emissions.len());
+    drop(made);
+    sizes
 }
 
 // Whether the injector of one count makes a delivery, and the count an emission.
@@ -88,8 +91,10 @@ const SUMMARY: &[u8] = b"{\"fired\":0,\"handled\":0,\"injected\":0,\"late\":0}\n
 // Whether a history of nothing emits nothing, and its summary is printed alone.
 fn emits_nothing(rt: &impl Abort, alloc: Global, case: &Case) -> bool {
     let nothing = History::new(alloc);
-    let is_printed = are(made(rt, result_text(alloc, case, &nothing)), SUMMARY);
-    made(rt, emissions(alloc, case, &nothing)).is_empty() && is_printed
+    let text = made(rt, result_text(alloc, case, &nothing));
+    let emitted = made(rt, emissions(alloc, case, &nothing));
+    drop(nothing);
+    are(text, SUMMARY) && length_of(emitted) == 0
 }
 
 // Whether a row of the empty case begins fresh, there are two intervals, and a run of nothing is printed. No other
@@ -104,27 +109,27 @@ fn is_empty_run(rt: &impl Abort, alloc: Global) -> bool {
 
 // Whether the record is produced as it is.
 fn is_produced(rt: &impl Abort, alloc: Global) -> bool {
-    let production = made(rt, production(alloc, &record(alloc)));
-    production.stamp == 10 && production.value == 3
+    let record = record(alloc);
+    let production = made(rt, production(alloc, &record));
+    drop(record);
+    let is_so = production.stamp == 10 && production.value == 3;
+    drop(production);
+    is_so
 }
 
 #[test]
 fn histories_are_kept_made_and_printed(rt: HostRuntime) {
     let alloc = rt.alloc();
+    let is_kept = takes_back(&rt, alloc) && is_produced(&rt, alloc);
+    let is_made = makes_one(&rt, alloc) && is_empty_run(&rt, alloc);
     must(
         &rt,
-        takes_back(&rt, alloc),
-        "a history takes its last entry back",
-    );
-    must(&rt, makes_one(&rt, alloc), "a count is sent to and emits");
-    must(
-        &rt,
-        is_empty_run(&rt, alloc),
-        "a run of nothing is printed and rows begin fresh",
+        is_kept,
+        "an entry is taken back, a record produced as it is",
     );
     must(
         &rt,
-        is_produced(&rt, alloc),
-        "an injected record is produced as it is",
+        is_made,
+        "a count is sent to and emits, nothing is printed",
     );
 }

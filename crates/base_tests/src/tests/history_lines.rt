@@ -1,5 +1,5 @@
 //! The lines of a history: each record injected, handled and acknowledged, then its window fired, and
-//! the row purged.
+//! the row purged. Each line is that of a copy of its entry, and all together are those of the entries.
 ghost use Rattle.std.specs.Prelude.{All, ◌≤◌};
 ghost use Rattle.mw_types.specs.declared.TheConstants.{MAX_STAMP};
 ghost use Rattle.mw_types.specs.declared.record.Production.{Production};
@@ -8,7 +8,7 @@ ghost use Rattle.run_history.specs.HistoryLines.{HasLine};
 
 use super::{are, key_of, made, must};
 use mw_types::{
-    Bytes, Effects, Entry, Key, Production, Record, RecordId, RowName, Seq, State, Timer,
+    Bytes, Duplicate, Effects, Entry, Key, Production, Record, RecordId, RowName, Seq, State, Timer,
 };
 use row_parts::read_state;
 use run_history::{History, entry_line, history_lines};
@@ -187,11 +187,13 @@ fn entry(rt: &impl Abort, alloc: Global, n: usize) -> Entry
     }
 }
 
-// Whether the entry of this commit number is printed so.
+// Whether a copy of the entry of this commit number is printed so.
 fn is_printed(rt: &impl Abort, alloc: Global, n: usize, line: &[u8]) -> bool {
     let entry = entry(rt, alloc, n);
-    let printed = made(rt, entry_line(alloc, &entry, n as u64));
+    let copy = made(rt, entry.copy(alloc));
     drop(entry);
+    let printed = made(rt, entry_line(alloc, &copy, n as u64));
+    drop(copy);
     are(printed, line)
 }
 
@@ -226,14 +228,11 @@ fn a_history_is_printed_line_by_line(rt: HostRuntime) {
     for (n, line) in LINES.iter().enumerate() {
         must(&rt, is_printed(&rt, rt.alloc(), n, line), n);
     }
+    let is_whole = is_whole(printed(&rt, rt.alloc(), LINES.len()));
+    let is_none = are(printed(&rt, rt.alloc(), 0), b"");
     must(
         &rt,
-        is_whole(printed(&rt, rt.alloc(), LINES.len())),
-        "all lines",
-    );
-    must(
-        &rt,
-        are(printed(&rt, rt.alloc(), 0), b""),
-        "of nothing no line",
+        is_whole && is_none,
+        "all lines, and of nothing no line",
     );
 }

@@ -1,5 +1,5 @@
 //! Keepers, called as such and through their bound.
-use super::{key_of, made, must};
+use super::{DoneWith, done, key_of, made, must};
 use key_intervals::Bounds;
 use mw_types::{Bytes, CallList, Key, RowName};
 use row_keeper::{BlindKeeper, Keeper, KeeperFault, KeptRow, KeptRowList, MemKeeper};
@@ -73,7 +73,9 @@ fn put<K: Keeper>(
     name: RowName,
     byte: u8,
 ) -> Result<(), KeeperFault> {
-    keeper.put(alloc, &name, &[byte])
+    let put = keeper.put(alloc, &name, &[byte]);
+    drop(name);
+    put
 }
 
 // What a scan finds from h to q.
@@ -87,7 +89,9 @@ fn scan<K: Keeper>(
         from: key_of(rt, alloc, "h"),
         to: Some(key_of(rt, alloc, "q")),
     };
-    keeper.scan(alloc, &bounds)
+    let found = keeper.scan(alloc, &bounds);
+    drop(bounds);
+    found
 }
 
 // Whether these are the bytes of rows, of which each has one.
@@ -101,51 +105,41 @@ fn are_bytes(rows: &[KeptRow], want: &[u8]) -> bool {
 
 // Whether a scan found rows of these bytes, or failed so.
 fn is_found(found: Result<KeptRowList, KeeperFault>, want: Result<&[u8], KeeperFault>) -> bool {
-    match found {
-        Ok(rows) => match want {
-            Ok(bytes) => are_bytes(rows.as_slice(), bytes),
-            Err(_) => false,
-        },
-        Err(fault) => want == Err(fault),
-    }
+    let is = match (&found, want) {
+        (Ok(rows), Ok(bytes)) => are_bytes(rows.as_slice(), bytes),
+        (Err(fault), Err(wanted)) => *fault == wanted,
+        _ => false,
+    };
+    drop(found);
+    is
 }
 
 // The byte of the first row, or 0 where there is none.
 fn first_byte(found: Result<Option<KeptRow>, KeeperFault>) -> Result<u8, KeeperFault> {
-    match found {
+    let byte = match &found {
         Ok(Some(row)) => Ok(row.bytes.get(0).copied().unwrap_or(0)),
         Ok(None) => Ok(0),
-        Err(fault) => Err(fault),
-    }
+        Err(fault) => Err(*fault),
+    };
+    drop(found);
+    byte
 }
 
-// Whether a keeper answers so.
-fn is_answered<K: Keeper>(rt: &impl Abort, alloc: Global, keeper: &mut K, asked: &Asked) -> bool {
-    match asked {
-        Asked::Put(part, text, byte, want) => {
-            put(alloc, keeper, name_of(rt, alloc, *part, text), *byte) == *want
+impl<K: Keeper> DoneWith<K> for Asked {
+    fn is_done<R: Abort>(&self, rt: &R, alloc: Global, keeper: &mut K) -> bool {
+        match self {
+            Asked::Put(part, text, byte, want) => {
+                put(alloc, keeper, name_of(rt, alloc, *part, text), *byte) == *want
+            }
+            Asked::Scan(want) => is_found(scan(rt, alloc, keeper), *want),
+            Asked::First(want) => first_byte(keeper.first(alloc)) == *want,
         }
-        Asked::Scan(want) => is_found(scan(rt, alloc, keeper), *want),
-        Asked::First(want) => first_byte(keeper.first(alloc)) == *want,
     }
-}
-
-// Asks a keeper one after another, and gives it back.
-fn ask<K: Keeper>(rt: &impl Abort, alloc: Global, keeper: K, all: &[Asked]) -> K {
-    let mut keeper = keeper;
-    for (at, asked) in all.iter().enumerate() {
-        must(rt, is_answered(rt, alloc, &mut keeper, asked), at);
-    }
-    keeper
 }
 
 // A keeper in memory that fails at these of its calls.
 fn in_memory(rt: &impl Abort, alloc: Global, calls: &[u64]) -> MemKeeper {
-    let mut list = CallList::new(alloc);
-    for call in calls {
-        made(rt, list.push(*call));
-    }
-    MemKeeper::new(alloc, list)
+    MemKeeper::new(alloc, CallList::from_vec(made(rt, calls.to_vec(alloc))))
 }
 
 // A blind keeper that shows this row of part 1.
@@ -159,34 +153,24 @@ fn blind(rt: &impl Abort, alloc: Global, text: &str, byte: u8) -> BlindKeeper {
 // Whether these are the bytes of all rows of a keeper in memory.
 fn has_all(rt: &impl Abort, alloc: Global, keeper: MemKeeper, want: &[u8]) -> bool {
     let rows = made(rt, keeper.rows(alloc));
-    are_bytes(rows.as_slice(), want)
+    drop(keeper);
+    let are = are_bytes(rows.as_slice(), want);
+    drop(rows);
+    are
 }
 
 #[test]
-fn a_keeper_in_memory_shows_its_rows(rt: HostRuntime) {
+fn a_keeper_in_memory_shows_its_rows_and_fails_as_told(rt: HostRuntime) {
     let alloc = rt.alloc();
-    let keeper = ask(&rt, alloc, in_memory(&rt, alloc, &[]), &IN_ORDER);
-    must(
-        &rt,
-        has_all(&rt, alloc, keeper, &[6, 5, 7, 3, 2, 1]),
-        "all rows",
-    );
+    drop(done(&rt, alloc, in_memory(&rt, alloc, &[0, 2, 4]), &FAILING));
+    let keeper = done(&rt, alloc, in_memory(&rt, alloc, &[]), &IN_ORDER);
+    let has_all = has_all(&rt, alloc, keeper, &[6, 5, 7, 3, 2, 1]);
+    must(&rt, has_all, "all rows");
 }
 
 #[test]
-fn a_keeper_in_memory_fails_as_told(rt: HostRuntime) {
+fn a_blind_keeper_shows_and_takes_its_row(rt: HostRuntime) {
     let alloc = rt.alloc();
-    drop(ask(&rt, alloc, in_memory(&rt, alloc, &[0, 2, 4]), &FAILING));
-}
-
-#[test]
-fn a_blind_keeper_shows_its_row(rt: HostRuntime) {
-    let alloc = rt.alloc();
-    drop(ask(&rt, alloc, blind(&rt, alloc, "p", 9), &BLIND));
-}
-
-#[test]
-fn a_blind_keeper_takes_its_row(rt: HostRuntime) {
-    let alloc = rt.alloc();
-    drop(ask(&rt, alloc, blind(&rt, alloc, "a", 255), &SHOWN));
+    drop(done(&rt, alloc, blind(&rt, alloc, "p", 9), &BLIND));
+    drop(done(&rt, alloc, blind(&rt, alloc, "a", 255), &SHOWN));
 }

@@ -1,8 +1,8 @@
 //! The oldest of some stamps, and what feeds an interval, with values that were worked out by hand.
-ghost use Rattle.std.specs.Prelude.{IfOk, length, ◌≡◌};
+ghost use Rattle.std.specs.Prelude.{length, ◌≡◌};
 ghost use Rattle.topology.specs.Shapes.{injectors_of};
 
-use super::{are, made, must};
+use super::{DoneWith, Holds, are, done, each_holds, made};
 use injector::{Items, ItemsList};
 use mw_types::{END, NoMemory};
 use run_history::Case;
@@ -62,32 +62,26 @@ fn add_and_remove(oldest: &mut Oldest, stamp: u64) -> Result<(), NoMemory> {
     Ok(())
 }
 
-// Does this with stamps, and tells whether what is seen is as told.
-fn is_done(rt: &impl Abort, alloc: Global, oldest: &mut Oldest, deed: &Deed) -> bool {
-    match deed {
-        Deed::Begin => drop(replace(oldest, Oldest::new(alloc))),
-        Deed::Add(stamp) => made(rt, oldest.add(*stamp)),
-        Deed::Visit(stamp) => made(rt, add_and_remove(oldest, *stamp)),
-        Deed::Take(want) => {
-            let least = oldest.least();
-            remove_least(oldest);
-            return least == *want;
+impl DoneWith<Oldest> for Deed {
+    fn is_done<R: Abort>(&self, rt: &R, alloc: Global, oldest: &mut Oldest) -> bool {
+        match self {
+            Deed::Begin => drop(replace(oldest, Oldest::new(alloc))),
+            Deed::Add(stamp) => made(rt, oldest.add(*stamp)),
+            Deed::Visit(stamp) => made(rt, add_and_remove(oldest, *stamp)),
+            Deed::Take(want) => {
+                let least = oldest.least();
+                remove_least(oldest);
+                return least == *want;
+            }
+            Deed::Least(want) => return oldest.least() == *want,
         }
-        Deed::Least(want) => return oldest.least() == *want,
-    }
-    true
-}
-
-// Does all of it, beginning with these stamps.
-fn do_all(rt: &impl Abort, alloc: Global, oldest: &mut Oldest) {
-    for (at, deed) in DEEDS.iter().enumerate() {
-        must(rt, is_done(rt, alloc, oldest, deed), at);
+        true
     }
 }
 
 #[test]
 fn the_least_stamp_is_held_as_often_as_it_was_added(rt: HostRuntime) {
-    do_all(&rt, rt.alloc(), &mut Oldest::new(rt.alloc()));
+    drop(done(&rt, rt.alloc(), Oldest::new(rt.alloc()), &DEEDS));
 }
 
 // One injector, and a count that is cut at h and at q.
@@ -101,19 +95,19 @@ const CHAIN: &str =
 // The case of a topology file, whose injectors have no lines.
 fn case_of(rt: &impl Abort, alloc: Global, text: &str) -> Case {
     let topology = made(rt, read(alloc, text.as_bytes()));
-    let items = made(rt, no_lines(alloc, &topology));
+    let items = no_lines(rt, alloc, &topology);
     made(rt, Case::of(alloc, topology, items))
 }
 
 // No lines for each injector.
-fn no_lines(alloc: Global, topology: &Topology) -> Result<ItemsList, NoMemory>
-    ensures { IfOk result (λ items. length items ≡ injectors_of topology.now) }
+fn no_lines(rt: &impl Abort, alloc: Global, topology: &Topology) -> ItemsList
+    ensures { length result ≡ injectors_of topology.now }
 {
     let mut items = ItemsList::new(alloc);
     for _ in 0..topology.injectors() {
-        items.push(Items::new(alloc))?;
+        made(rt, items.push(Items::new(alloc)));
     }
-    Ok(items)
+    items
 }
 
 // What is asked of a case.
@@ -128,35 +122,39 @@ enum Asked {
 
 // What is asked of two topologies. The slowest interval holds its part, and the injector each interval of its
 // count.
-static ASKED: [(&str, &str, Asked); 13] = [
-    ("nothing feeds an injector", CUT, Asked::Fed(0, &[])),
-    ("the injector feeds a part", CUT, Asked::Fed(1, &[0])),
-    ("the injector feeds the next part", CUT, Asked::Fed(2, &[0])),
-    ("the injector feeds the last part", CUT, Asked::Fed(3, &[0])),
-    ("the injector feeds the count", CHAIN, Asked::Fed(1, &[0])),
-    ("the count feeds the spike", CHAIN, Asked::Fed(2, &[1])),
-    ("low of the injector", CUT, Asked::Low(0, [9, 4, 7, 6], 9)),
-    ("low of the count", CUT, Asked::Low(1, [9, 4, 7, 6], 4)),
+type AskedOf = (&'static str, Asked);
+
+static ASKED: [(&str, AskedOf); 13] = [
+    ("nothing feeds an injector", (CUT, Asked::Fed(0, &[]))),
+    ("the injector feeds a part", (CUT, Asked::Fed(1, &[0]))),
+    (
+        "the injector feeds the next part",
+        (CUT, Asked::Fed(2, &[0])),
+    ),
+    (
+        "the injector feeds the last part",
+        (CUT, Asked::Fed(3, &[0])),
+    ),
+    ("the injector feeds the count", (CHAIN, Asked::Fed(1, &[0]))),
+    ("the count feeds the spike", (CHAIN, Asked::Fed(2, &[1]))),
+    ("low of the injector", (CUT, Asked::Low(0, [9, 4, 7, 6], 9))),
+    ("low of the count", (CUT, Asked::Low(1, [9, 4, 7, 6], 4))),
     (
         "low at the end",
-        CUT,
-        Asked::Low(1, [0, END, END, END], END),
+        (CUT, Asked::Low(1, [0, END, END, END], END)),
     ),
     (
         "inputs of the injector",
-        CUT,
-        Asked::Inputs(0, [9, 4, 7, 6], END),
+        (CUT, Asked::Inputs(0, [9, 4, 7, 6], END)),
     ),
-    ("inputs of a part", CUT, Asked::Inputs(1, [9, 4, 7, 6], 9)),
+    ("inputs of a part", (CUT, Asked::Inputs(1, [9, 4, 7, 6], 9))),
     (
         "inputs of the next part",
-        CUT,
-        Asked::Inputs(2, [9, 4, 7, 6], 9),
+        (CUT, Asked::Inputs(2, [9, 4, 7, 6], 9)),
     ),
     (
         "inputs of the last part",
-        CUT,
-        Asked::Inputs(3, [9, 4, 7, 6], 9),
+        (CUT, Asked::Inputs(3, [9, 4, 7, 6], 9)),
     ),
 ];
 
@@ -176,17 +174,18 @@ fn answers(rt: &impl Abort, alloc: Global, case: &Case, asked: &Asked) -> bool {
     }
 }
 
-// Whether the case of a topology does.
-fn is_answered(rt: &impl Abort, alloc: Global, text: &str, asked: &Asked) -> bool {
-    let case = case_of(rt, alloc, text);
-    let answers = answers(rt, alloc, &case, asked);
-    drop(case);
-    answers
+impl Holds for AskedOf {
+    // The case of a topology answers so.
+    fn holds<R: Abort>(&self, rt: &R, alloc: Global) -> bool {
+        let (text, asked) = self;
+        let case = case_of(rt, alloc, text);
+        let answers = answers(rt, alloc, &case, asked);
+        drop(case);
+        answers
+    }
 }
 
 #[test]
 fn the_slowest_interval_holds_its_part_and_what_it_feeds(rt: HostRuntime) {
-    for (name, text, asked) in &ASKED {
-        must(&rt, is_answered(&rt, rt.alloc(), text, asked), *name);
-    }
+    each_holds(&rt, rt.alloc(), &ASKED);
 }

@@ -1,6 +1,6 @@
 //! Shelves and sinks in memory fail as told; the real ones reach files and standard output; the words of a
 //! call are read.
-use super::{are, made, must, refusal_of};
+use super::{DoneWith, Holds, all_hold, done, made, must, refusal_of, text_of};
 use mw_ports::{
     FileList, FileShelf, MemShelf, MemSink, NamedFile, OutSink, Shelf, ShelfFault, Sink, SinkFault,
     WordsFault, words_of, write_all,
@@ -18,22 +18,22 @@ fn calls(rt: &impl Abort, alloc: Global, numbers: &[u64]) -> CallList {
 
 // Whether this was read, or failed so.
 fn is_read(found: Result<Bytes, ShelfFault>, want: Result<&[u8], ShelfFault>) -> bool {
-    match found {
-        Ok(bytes) => match want {
-            Ok(content) => are(bytes, content),
-            Err(_) => false,
-        },
-        Err(fault) => want == Err(fault),
-    }
+    let is = match &found {
+        Ok(bytes) => want == Ok(bytes.as_slice()),
+        Err(fault) => want == Err(*fault),
+    };
+    drop(found);
+    is
 }
 
 // What is asked of a shelf: a name, a limit, and what is answered.
 type Asked = (&'static str, u64, Result<&'static [u8], ShelfFault>);
 
-// Asks a shelf one after another, through its trait.
-fn ask<S: Shelf>(rt: &impl Abort, alloc: Global, shelf: &mut S, all: &[Asked]) {
-    for (at, (name, limit, want)) in all.iter().enumerate() {
-        must(rt, is_read(shelf.read(alloc, name, *limit), *want), at);
+impl<S: Shelf> DoneWith<S> for Asked {
+    // It is asked through its trait.
+    fn is_done<R: Abort>(&self, _rt: &R, alloc: Global, shelf: &mut S) -> bool {
+        let (name, limit, want) = self;
+        is_read(shelf.read(alloc, name, *limit), *want)
     }
 }
 
@@ -44,20 +44,19 @@ static FILES: [(&str, &[u8]); 3] = [
     ("t.json", b"[]"),
 ];
 
-// A file of this name and content.
-fn file(rt: &impl Abort, alloc: Global, name: &str, content: &[u8]) -> NamedFile {
-    NamedFile {
-        name: made(rt, Name::of(alloc, name)),
-        bytes: Bytes::from_vec(made(rt, content.to_vec(alloc))),
+// Appends them.
+fn push_files(rt: &impl Abort, alloc: Global, files: &mut FileList) {
+    for (name, content) in &FILES {
+        let name = made(rt, Name::of(alloc, name));
+        let bytes = Bytes::from_vec(made(rt, content.to_vec(alloc)));
+        made(rt, files.push(NamedFile { name, bytes }));
     }
 }
 
 // A shelf with these, whose second call fails.
 fn shelf(rt: &impl Abort, alloc: Global) -> MemShelf {
     let mut files = FileList::new(alloc);
-    for (name, content) in &FILES {
-        made(rt, files.push(file(rt, alloc, name, content)));
-    }
+    push_files(rt, alloc, &mut files);
     MemShelf::of(files, calls(rt, alloc, &[1]))
 }
 
@@ -72,7 +71,8 @@ static ASKED: [Asked; 5] = [
 
 #[test]
 fn a_shelf_in_memory_answers_its_files(rt: HostRuntime) {
-    ask(&rt, rt.alloc(), &mut shelf(&rt, rt.alloc()), &ASKED);
+    let shelf = shelf(&rt, rt.alloc());
+    drop(done(&rt, rt.alloc(), shelf, &ASKED));
 }
 
 const LINE: &[u8] = b"{\"key\":\"a\"}\n";
@@ -85,25 +85,26 @@ fn takes_eight(out: &mut MemSink) -> bool {
 // Whether a sink whose second call fails does, and takes the whole line after them.
 fn fails_once(rt: &impl Abort, alloc: Global) -> bool {
     let mut out = MemSink::of(alloc, 8, calls(rt, alloc, &[1]), CallList::new(alloc));
-    takes_eight(&mut out)
+    let fails = takes_eight(&mut out)
         && write_all(&mut out, LINE) == Ok(())
-        && out.text() == b"{\"key\":\"{\"key\":\"a\"}\n".as_slice()
+        && out.text() == b"{\"key\":\"{\"key\":\"a\"}\n".as_slice();
+    drop(out);
+    fails
 }
 
 // Whether a sink whose second call takes nothing does, and takes the write of nothing.
 fn takes_nothing_once(rt: &impl Abort, alloc: Global) -> bool {
     let mut out = MemSink::of(alloc, 8, CallList::new(alloc), calls(rt, alloc, &[1]));
-    takes_eight(&mut out) && out.write(b"") == Ok(0)
+    let takes = takes_eight(&mut out) && out.write(b"") == Ok(0);
+    drop(out);
+    takes
 }
 
 #[test]
 fn a_sink_of_eight_bytes_fails_at_its_second_call(rt: HostRuntime) {
-    must(&rt, fails_once(&rt, rt.alloc()), "a call that fails");
-    must(
-        &rt,
-        takes_nothing_once(&rt, rt.alloc()),
-        "a call that takes nothing",
-    );
+    let alloc = rt.alloc();
+    let are_so = fails_once(&rt, alloc) && takes_nothing_once(&rt, alloc);
+    must(&rt, are_so, "a call that fails, and one that takes nothing");
 }
 
 // What a shelf over a folder with one file of eight bytes and a folder is asked.
@@ -119,33 +120,31 @@ static REAL: [Asked; 7] = [
 
 #[test]
 fn a_real_file_is_read_within_its_limit(rt: HostRuntime) {
-    let _ = fs::remove_dir_all(&rt, "files");
+    drop(fs::remove_dir_all(&rt, "files"));
     made(&rt, fs::create_dir_all(&rt, "files/folder"));
     made(&rt, fs::write(&rt, "files/e.jsonl", "12345678"));
-    ask(&rt, rt.alloc(), &mut FileShelf::new(&rt), &REAL);
+    drop(done(&rt, rt.alloc(), FileShelf::new(&rt), &REAL));
     made(&rt, fs::remove_dir_all(&rt, "files"));
 }
 
-// Twenty thousand bytes.
-fn long_content(rt: &impl Abort, alloc: Global) -> Vec<u8> {
-    let mut content = Vec::new(alloc);
-    for at in 0..20_000u32 {
-        made(rt, content.push((at % 251) as u8));
-    }
-    content
-}
+// What a file of twenty thousand bytes has eight hundred times. A portion does not end where it does.
+const TEXT: &str = "a portion behind another ";
 
-// Whether a file that has these bytes is read within a limit that is enough, and not within one less.
-fn is_long<S: Shelf>(alloc: Global, shelf: &mut S, content: Vec<u8>) -> bool {
-    is_read(shelf.read(alloc, "long", 20_000), Ok(content.as_slice()))
-        && is_read(shelf.read(alloc, "long", 19_999), Err(ShelfFault::TooLong))
+// Whether a file that has this text is read within a limit that is enough, and not within one less.
+fn is_long<S: Shelf>(alloc: Global, shelf: S, text: String) -> bool {
+    let mut shelf = shelf;
+    let is_read = is_read(shelf.read(alloc, "long", 20_000), Ok(text.as_bytes()))
+        && is_read(shelf.read(alloc, "long", 19_999), Err(ShelfFault::TooLong));
+    drop(text);
+    drop(shelf);
+    is_read
 }
 
 #[test]
 fn a_real_file_of_several_portions_is_read(rt: HostRuntime) {
-    let content = long_content(&rt, rt.alloc());
-    made(&rt, fs::write(&rt, "long", content.as_slice()));
-    let is_long = is_long(rt.alloc(), &mut FileShelf::new(&rt), content);
+    let text = text_of(&rt, rt.alloc(), &[(TEXT, 800)]);
+    made(&rt, fs::write(&rt, "long", text.as_str()));
+    let is_long = is_long(rt.alloc(), FileShelf::new(&rt), text);
     must(&rt, is_long, "twenty thousand bytes");
     made(&rt, fs::remove_file(&rt, "long"));
 }
@@ -153,43 +152,40 @@ fn a_real_file_of_several_portions_is_read(rt: HostRuntime) {
 #[test]
 fn standard_output_takes_a_line(rt: HostRuntime) {
     let mut out = OutSink::new(&rt);
-    must(&rt, write_all(&mut out, b"one line\n") == Ok(()), "a line");
-    must(&rt, out.write(b"") == Ok(0), "nothing");
+    let takes = write_all(&mut out, b"one line\n") == Ok(()) && out.write(b"") == Ok(0);
+    must(&rt, takes, "a line, and nothing");
 }
 
 // The words with which a process is called, and those that are read, which are all after the first.
-static CALLS: [(&[&str], &[&str]); 2] = [(&["millwheel", "solo", ""], &["solo", ""]), (&[], &[])];
+type Words = (&'static [&'static str], &'static [&'static str]);
 
-// These texts, owned.
-fn owned(rt: &impl Abort, alloc: Global, texts: &[&str]) -> Vec<String> {
-    let mut all = Vec::new(alloc);
+static CALLS: [Words; 2] = [(&["millwheel", "solo", ""], &["solo", ""]), (&[], &[])];
+
+// Appends these texts, owned.
+fn push_owned(rt: &impl Abort, alloc: Global, all: &mut Vec<String>, texts: &[&str]) {
     for text in texts {
         made(rt, all.push(made(rt, String::from_str(alloc, text))));
-    }
-    all
-}
-
-// Whether there is a word, with this text.
-fn is_word(word: Option<&Name>, text: &str) -> bool {
-    match word {
-        Some(word) => word.text() == text,
-        None => false,
     }
 }
 
 // Whether there are these words and no more.
 fn are_words(words: Seq<Name>, texts: &[&str]) -> bool {
     let mut are = words.len() == texts.len();
-    for (at, text) in texts.iter().enumerate() {
-        are = are && is_word(words.get(at), text);
+    for (at, word) in words.as_slice().iter().enumerate() {
+        are = are && texts.get(at).copied() == Some(word.text());
     }
+    drop(words);
     are
 }
 
-// Whether of a process's words these are read.
-fn leaves(rt: &impl Abort, alloc: Global, args: &[&str], want: &[&str]) -> bool {
-    let words = words_of(alloc, Ok(owned(rt, alloc, args).into_iter()));
-    are_words(made(rt, words), want)
+impl Holds for Words {
+    fn holds<R: Abort>(&self, rt: &R, alloc: Global) -> bool {
+        let (args, want) = self;
+        let mut all = Vec::new(alloc);
+        push_owned(rt, alloc, &mut all, args);
+        let words = words_of(alloc, Ok(all.into_iter()));
+        are_words(made(rt, words), want)
+    }
 }
 
 // Whether this is answered where the words were not read.
@@ -200,11 +196,8 @@ fn is_unread(alloc: Global, kind: ErrorKind, fault: WordsFault) -> bool {
 #[test]
 fn the_words_of_a_call_are_without_its_own_name(rt: HostRuntime) {
     let alloc = rt.alloc();
-    for (args, want) in &CALLS {
-        must(&rt, leaves(&rt, alloc, args, want), args.len());
-    }
-    let no_text = is_unread(alloc, ErrorKind::InvalidData, WordsFault::NoText);
-    must(&rt, no_text, "words that are no text");
-    let no_memory = is_unread(alloc, ErrorKind::OutOfMemory, WordsFault::NoMemory);
-    must(&rt, no_memory, "words for which there was no memory");
+    all_hold(&rt, alloc, &CALLS);
+    let are_unread = is_unread(alloc, ErrorKind::InvalidData, WordsFault::NoText)
+        && is_unread(alloc, ErrorKind::OutOfMemory, WordsFault::NoMemory);
+    must(&rt, are_unread, "words that are no text, or have no memory");
 }

@@ -1,6 +1,7 @@
-//! The bytes of a row, as a keeper has them.
-use super::{are, made, must, refusal_of};
+//! The bytes of states, and those of a row, as a keeper has them.
+use super::{Holds, all_hold, are, each_holds, made, refusal_of};
 use record_codec::{RowRefusal, decode_row, encode_row};
+use row_parts::{StateRefusal, read_state, state_bytes};
 use std::alloc::Global;
 use std::process::Abort;
 
@@ -32,49 +33,102 @@ const LONGER: [u8; 35] = [
     0, 0, 0,
 ];
 
-// Bytes, and the last entry and the floor of the row that has them, if one has.
-static ROWS: [(&str, &[u8], Option<(u64, u64)>); 5] = [
-    ("injector", &INJECTOR, Some((10, 0))),
-    ("count", &COUNT, Some((13, 13))),
-    ("another version", &OTHER_VERSION, None),
-    ("more ids than bytes", &MORE_IDS, None),
-    ("a byte too many", &LONGER, None),
-];
-
-// Whether no row has these bytes.
-fn is_damaged(alloc: Global, bytes: &[u8]) -> bool {
-    refusal_of(decode_row(alloc, bytes)) == Some(RowRefusal::Damaged)
+// What bytes are.
+enum Told {
+    // Those of a row with this last entry and this floor.
+    Row(u64, u64),
+    // Those of no row.
+    NoRow,
+    // Those of a state.
+    State,
+    // Those of no state.
+    NoState,
 }
 
-// Whether no row has a beginning of these bytes.
-fn beginnings_are_damaged(alloc: Global, bytes: &[u8]) -> bool {
+// Bytes, and what they are.
+type Spelling = (&'static [u8], Told);
+
+static ROWS: [(&str, Spelling); 5] = [
+    ("injector", (&INJECTOR, Told::Row(10, 0))),
+    ("count", (&COUNT, Told::Row(13, 13))),
+    ("another version", (&OTHER_VERSION, Told::NoRow)),
+    ("more ids than bytes", (&MORE_IDS, Told::NoRow)),
+    ("a byte too many", (&LONGER, Told::NoRow)),
+];
+
+// A state of each kind, and bytes of none: more windows than there are bytes, no kind, and a byte too many.
+static STATES: [Spelling; 7] = [
+    (b"\0\0\0\0\x03", Told::State),
+    (b"\x01\0\0\0\0\0\0\0\0\0\0\0\0", Told::State),
+    (
+        b"\x02\0\0\0\0\0\0\0\x01\0\0\0\0\0\0\0\x01\xff\xff\xff\xff\xff\xff\xff\xfe",
+        Told::State,
+    ),
+    (b"\x03\0\0\0\0\0\0\0\x02", Told::State),
+    (b"\x01\0\0\0\0\0\0\0\0\xff\xff\xff\xff", Told::NoState),
+    (b"\x04\0\0\0\0\0\0\0\x02", Told::NoState),
+    (b"\x03\0\0\0\0\0\0\0\x02\0", Told::NoState),
+];
+
+// Whether no row has these bytes, or no state.
+fn is_damaged(alloc: Global, bytes: &[u8], of_row: bool) -> bool {
+    if of_row {
+        refusal_of(decode_row(alloc, bytes)) == Some(RowRefusal::Damaged)
+    } else {
+        refusal_of(read_state(alloc, bytes)) == Some(StateRefusal::Damaged)
+    }
+}
+
+// Whether none has a beginning of these bytes.
+fn beginnings_are_damaged(alloc: Global, bytes: &[u8], of_row: bool) -> bool {
     let mut are = true;
     for end in 0..bytes.len() {
-        are = are && is_damaged(alloc, &bytes[..end]);
+        are = are && is_damaged(alloc, &bytes[..end], of_row);
     }
     are
 }
 
-// Whether bytes are those of a row with this last entry and this floor, and no beginning of them is.
+// Whether bytes are those of a row with this last entry and this floor.
 fn is_row(rt: &impl Abort, alloc: Global, bytes: &[u8], last: u64, floor: u64) -> bool {
     let row = made(rt, decode_row(alloc, bytes));
     let numbers = (row.last, row.floor);
     let encoded = made(rt, encode_row(alloc, &row));
     drop(row);
-    are(encoded, bytes) && numbers == (last, floor) && beginnings_are_damaged(alloc, bytes)
+    are(encoded, bytes) && numbers == (last, floor)
 }
 
-// Whether bytes are as told.
-fn is_told(rt: &impl Abort, alloc: Global, bytes: &[u8], told: Option<(u64, u64)>) -> bool {
-    match told {
-        Some((last, floor)) => is_row(rt, alloc, bytes, last, floor),
-        None => is_damaged(alloc, bytes),
+// Whether bytes are the spelling of a state.
+fn is_state(rt: &impl Abort, alloc: Global, bytes: &[u8]) -> bool {
+    let state = made(rt, read_state(alloc, bytes));
+    let spelling = made(rt, state_bytes(alloc, &state));
+    drop(state);
+    are(spelling, bytes)
+}
+
+impl Holds for Spelling {
+    // No beginning of what a row or a state is spelt with spells one.
+    fn holds<R: Abort>(&self, rt: &R, alloc: Global) -> bool {
+        let (bytes, told) = self;
+        match told {
+            Told::Row(last, floor) => {
+                is_row(rt, alloc, bytes, *last, *floor)
+                    && beginnings_are_damaged(alloc, bytes, true)
+            }
+            Told::State => {
+                is_state(rt, alloc, bytes) && beginnings_are_damaged(alloc, bytes, false)
+            }
+            Told::NoRow => is_damaged(alloc, bytes, true),
+            Told::NoState => is_damaged(alloc, bytes, false),
+        }
     }
 }
 
 #[test]
 fn row_bytes(rt: HostRuntime) {
-    for (name, bytes, told) in &ROWS {
-        must(&rt, is_told(&rt, rt.alloc(), bytes, *told), *name);
-    }
+    each_holds(&rt, rt.alloc(), &ROWS);
+}
+
+#[test]
+fn states_are_written_and_read(rt: HostRuntime) {
+    all_hold(&rt, rt.alloc(), &STATES);
 }

@@ -1,8 +1,8 @@
-//! The row of one key, and the bytes of states. No helper has a clause, so that no test carries what the
+//! The row of one key. No helper has a clause, so that no test carries what the
 //! calls before have told.
-use super::{are, key_of, made, must, refusal_of};
+use super::{DoneWith, done, key_of, made};
 use mw_types::{Delivery, Duplicate, Key, Record, RecordId, RowName, State, Timer};
-use row_parts::{Row, StateRefusal, read_state, state_bytes};
+use row_parts::Row;
 use std::alloc::Global;
 use std::mem::replace;
 use std::process::Abort;
@@ -87,8 +87,16 @@ const ID: RecordId = RecordId {
     index: 0,
 };
 
+// A row to which nothing has happened yet.
+fn new_row(alloc: Global) -> Row {
+    Row::new(alloc, State::Pass { late: 0 })
+}
+
 // Adds a delivery with that id to a row that has none.
 fn add(rt: &impl Abort, alloc: Global, row: &mut Row) {
+    if !row.pending.is_empty() {
+        return;
+    }
     let key = key_of(rt, alloc, "a");
     let item = Record {
         key: Key::none(alloc),
@@ -101,9 +109,7 @@ fn add(rt: &impl Abort, alloc: Global, row: &mut Row) {
         to: RowName { part: 1, key },
         item,
     };
-    if row.pending.is_empty() {
-        made(rt, row.add_pending(delivery));
-    }
+    made(rt, row.add_pending(delivery));
 }
 
 // Sets a timer of the tag 7.
@@ -150,90 +156,26 @@ fn is_seen(rt: &impl Abort, alloc: Global, row: &mut Row, seen: &Seen) -> bool {
     }
 }
 
-// Does this with a row, where that can be done, and tells whether there is what is seen.
-fn is_done(rt: &impl Abort, alloc: Global, row: &mut Row, deed: &Deed) -> bool {
-    match deed {
-        Deed::Begin => drop(replace(row, Row::new(alloc, State::Pass { late: 0 }))),
-        Deed::Set(time, late) => set(rt, row, *time, *late),
-        Deed::Handle(commit) => handle(rt, row, *commit),
-        Deed::Purge(floor) => {
-            if row.floor <= *floor && *floor < 100 {
-                row.purge(*floor);
+impl DoneWith<Row> for Deed {
+    // It is done where it can be.
+    fn is_done<R: Abort>(&self, rt: &R, alloc: Global, row: &mut Row) -> bool {
+        match self {
+            Deed::Begin => drop(replace(row, new_row(alloc))),
+            Deed::Set(time, late) => set(rt, row, *time, *late),
+            Deed::Handle(commit) => handle(rt, row, *commit),
+            Deed::Purge(floor) => {
+                if row.floor <= *floor && *floor < 100 {
+                    row.purge(*floor);
+                }
             }
+            Deed::Add => add(rt, alloc, row),
+            Deed::See(seen) => return is_seen(rt, alloc, row, seen),
         }
-        Deed::Add => add(rt, alloc, row),
-        Deed::See(seen) => return is_seen(rt, alloc, row, seen),
+        true
     }
-    true
-}
-
-// Does all of it, beginning with this row.
-fn do_all(rt: &impl Abort, alloc: Global, row: &mut Row) {
-    for (at, deed) in DEEDS.iter().enumerate() {
-        must(rt, is_done(rt, alloc, row, deed), at);
-    }
-}
-
-// Does all of it with a row.
-fn do_all_with_a_row(rt: &impl Abort, alloc: Global) {
-    let mut row = Row::new(alloc, State::Pass { late: 0 });
-    do_all(rt, alloc, &mut row);
-    drop(row);
 }
 
 #[test]
 fn a_row_keeps_its_timers_deliveries_and_ids(rt: HostRuntime) {
-    do_all_with_a_row(&rt, rt.alloc());
-}
-
-// Whether no state has these bytes.
-fn is_damaged(alloc: Global, bytes: &[u8]) -> bool {
-    refusal_of(read_state(alloc, bytes)) == Some(StateRefusal::Damaged)
-}
-
-// Whether no beginning of the bytes is those of a state.
-fn beginnings_are_damaged(alloc: Global, bytes: &[u8]) -> bool {
-    let mut are = true;
-    for end in 0..bytes.len() {
-        are = are && is_damaged(alloc, &bytes[..end]);
-    }
-    are
-}
-
-// Whether bytes are the spelling of a state, and no beginning of them is.
-fn is_spelt(rt: &impl Abort, alloc: Global, bytes: &[u8]) -> bool {
-    let state = made(rt, read_state(alloc, bytes));
-    let spelling = made(rt, state_bytes(alloc, &state));
-    drop(state);
-    are(spelling, bytes) && beginnings_are_damaged(alloc, bytes)
-}
-
-// A state of each kind, and bytes of none: more windows than there are bytes, no kind, and a byte too many.
-static STATES: [(&[u8], bool); 7] = [
-    (b"\0\0\0\0\x03", true),
-    (b"\x01\0\0\0\0\0\0\0\0\0\0\0\0", true),
-    (
-        b"\x02\0\0\0\0\0\0\0\x01\0\0\0\0\0\0\0\x01\xff\xff\xff\xff\xff\xff\xff\xfe",
-        true,
-    ),
-    (b"\x03\0\0\0\0\0\0\0\x02", true),
-    (b"\x01\0\0\0\0\0\0\0\0\xff\xff\xff\xff", false),
-    (b"\x04\0\0\0\0\0\0\0\x02", false),
-    (b"\x03\0\0\0\0\0\0\0\x02\0", false),
-];
-
-// Whether bytes are as told.
-fn is_told(rt: &impl Abort, alloc: Global, bytes: &[u8], is_state: bool) -> bool {
-    if is_state {
-        is_spelt(rt, alloc, bytes)
-    } else {
-        is_damaged(alloc, bytes)
-    }
-}
-
-#[test]
-fn states_are_written_and_read(rt: HostRuntime) {
-    for (at, (bytes, is_state)) in STATES.iter().enumerate() {
-        must(&rt, is_told(&rt, rt.alloc(), bytes, *is_state), at);
-    }
+    drop(done(&rt, rt.alloc(), new_row(rt.alloc()), &DEEDS));
 }

@@ -20,23 +20,28 @@ fn are_alike(list: &SharedList<u64>, xs: &[u64]) -> bool {
 }
 
 // What is done at a place.
-#[derive(Drop)]
 enum Edit {
-    // A number is put there.
-    Insert(u64),
+    // The number of those that are there is put there.
+    Insert,
     // It is put in the place of another.
     Set(u64),
     // The number there is taken out.
     Remove,
 }
 
+// What is done at a place in the first 300 steps, and in those behind them.
+const PUT: &[Edit] = &[Edit::Insert];
+
+const TAKE: &[Edit] = &[Edit::Set(999), Edit::Remove];
+
 // Does it to a list and to a vector of one length. What is changed or taken out has to be there.
 fn apply(rt: &impl Abort, list: &mut SharedList<u64>, xs: &mut Vec<u64>, at: usize, edit: &Edit) {
     assert!(rt; list.len() == xs.len() && at <= xs.len());
     match edit {
-        Edit::Insert(x) => {
-            made(rt, list.insert(at, *x));
-            made(rt, xs.insert(at, *x));
+        Edit::Insert => {
+            let number = xs.len() as u64;
+            made(rt, list.insert(at, number));
+            made(rt, xs.insert(at, number));
         }
         Edit::Set(x) => {
             if at < xs.len() {
@@ -107,30 +112,6 @@ fn is_kept(
     are_edited && is_kept && is_whole(rt, alloc, list, xs)
 }
 
-// Puts 300 numbers in, each at a place as if by chance, as into a vector, and takes all out again, each from
-// such a place and changed before.
-fn edit_at_every_place(
-    rt: &impl Abort,
-    alloc: Global,
-    list: &mut SharedList<u64>,
-    xs: &mut Vec<u64>,
-) {
-    for step in 0..300u64 {
-        let at = place(step, xs.len().saturating_add(1));
-        must(
-            rt,
-            is_kept(rt, alloc, list, xs, at, &[Edit::Insert(step)]),
-            step,
-        );
-    }
-    for step in 0..300u64 {
-        let at = place(step, xs.len());
-        let edits = [Edit::Set(999), Edit::Remove];
-        must(rt, is_kept(rt, alloc, list, xs, at, &edits), step);
-    }
-    must(rt, list.is_empty(), "all are out");
-}
-
 // Puts a hundred numbers into a list, and notes what a walk by pieces meets.
 fn walk(rt: &impl Abort, list: &mut SharedList<u64>, met: &mut Vec<u64>) {
     for x in 0..100u64 {
@@ -141,6 +122,23 @@ fn walk(rt: &impl Abort, list: &mut SharedList<u64>, met: &mut Vec<u64>) {
             made(rt, met.extend_from_slice(list.run_at(met.len())));
         }
     }
+}
+
+// Puts 300 numbers in, each at a place as if by chance, as into a vector, and takes all out again, each from
+// such a place and changed before.
+fn edit_at_every_place(
+    rt: &impl Abort,
+    alloc: Global,
+    list: &mut SharedList<u64>,
+    xs: &mut Vec<u64>,
+) {
+    for step in 0..600u64 {
+        let edits = if step < 300 { PUT } else { TAKE };
+        let places = if step < 300 { 1 } else { 0 };
+        let at = place(step % 300, xs.len().saturating_add(places));
+        must(rt, is_kept(rt, alloc, list, xs, at, edits), step);
+    }
+    must(rt, list.is_empty(), "all are out");
 }
 
 // Edits a list beside a vector, which is empty again then, and walks over it once it has a hundred numbers. The walk

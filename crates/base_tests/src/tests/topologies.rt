@@ -1,5 +1,5 @@
 //! Keys that extractors make, files that are read, and files that are refused.
-mod changes;
+pub(super) mod changes;
 mod extractors;
 mod parts;
 mod refusals;

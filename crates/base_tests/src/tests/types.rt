@@ -1,5 +1,5 @@
 //! What no clause says: that ample memory is enough, and keys at their limits.
-use super::{is_name, is_text, key_of, letters, made, must};
+use super::{DoneWith, Holds, all_hold, done, is_name, is_text, key_of, made, text_of};
 use mw_types::{Key, KeyRefusal, Name, NumberList, RecordId, RowName};
 use std::alloc::Global;
 use std::mem::replace;
@@ -8,9 +8,9 @@ use std::process::Abort;
 // What is looked at.
 enum Case {
     // The length of the key of so many letters.
-    Key(usize, Result<usize, KeyRefusal>),
+    Key(u32, Result<usize, KeyRefusal>),
     // The name of so many letters comes before that of one letter more.
-    Longer(usize),
+    Longer(u32),
     // A name that is new has no text.
     NewName,
     // The key that is none has no text.
@@ -24,6 +24,17 @@ enum Case {
     // An id is printed so.
     Printed(u32, u8, &'static str),
 }
+
+// Ids of two entries.
+const FIRST: RecordId = RecordId {
+    commit: 2,
+    index: 9,
+};
+
+const LATER: RecordId = RecordId {
+    commit: 3,
+    index: 0,
+};
 
 static CASES: [Case; 17] = [
     Case::Key(0, Err(KeyRefusal::BadLength)),
@@ -47,32 +58,44 @@ static CASES: [Case; 17] = [
 
 // The length of the key of a text, where it has one.
 fn key_length(alloc: Global, text: String) -> Result<usize, KeyRefusal> {
-    match Key::of(alloc, text.as_str()) {
+    let key = Key::of(alloc, text.as_str());
+    drop(text);
+    let length = match &key {
         Ok(key) => Ok(key.text().len()),
-        Err(refusal) => Err(refusal),
-    }
-}
-
-// The name of a text.
-fn name_of(rt: &impl Abort, alloc: Global, text: String) -> Name {
-    made(rt, Name::of(alloc, text.as_str()))
-}
-
-// Whether the name of so many letters is less than that of one letter more, and another.
-fn is_less(rt: &impl Abort, alloc: Global, count: usize) -> bool {
-    let text = name_of(rt, alloc, letters(rt, alloc, count));
-    let longer = name_of(rt, alloc, letters(rt, alloc, count.saturating_add(1)));
-    text.len() == count && text < longer && text != longer
-}
-
-// The row of a key, which may be none.
-fn row(part: u32, key: Key) -> RowName {
-    RowName { part, key }
+        Err(refusal) => Err(*refusal),
+    };
+    drop(key);
+    length
 }
 
 // Whether one comes before another.
 fn is_before<T: PartialOrd + Drop>(first: T, later: T) -> bool {
     first < later
+}
+
+// The name of so many letters.
+fn long_name(rt: &impl Abort, alloc: Global, count: u32) -> Name {
+    let text = text_of(rt, alloc, &[("k", count)]);
+    let name = made(rt, Name::of(alloc, text.as_str()));
+    drop(text);
+    name
+}
+
+// Whether the name of so many letters is less than that of one letter more, and another.
+fn is_less(rt: &impl Abort, alloc: Global, count: u32) -> bool {
+    let name = long_name(rt, alloc, count);
+    let longer = long_name(rt, alloc, count.saturating_add(1));
+    let is_so = name.len() == count as usize && name != longer;
+    is_before(name, longer) && is_so
+}
+
+// Whether the row of a key, which may be none, comes before that of a key in part 1.
+fn is_before_row(rt: &impl Abort, alloc: Global, part: u32, key: Key, later: &str) -> bool {
+    let later = RowName {
+        part: 1,
+        key: key_of(rt, alloc, later),
+    };
+    is_before(RowName { part, key }, later)
 }
 
 // Whether an id is printed so.
@@ -84,41 +107,26 @@ fn is_printed(rt: &impl Abort, alloc: Global, commit: u32, index: u8, text: &str
     is_name(made(rt, id.uuid(alloc)), text)
 }
 
-// Whether an id is before that of a later entry, and as itself.
-fn ids_ascend() -> bool {
-    let first = RecordId {
-        commit: 2,
-        index: 9,
-    };
-    let later = RecordId {
-        commit: 3,
-        index: 0,
-    };
-    first < later && first == first
-}
-
-// Whether it is as told.
-fn holds(rt: &impl Abort, alloc: Global, case: &Case) -> bool {
-    match case {
-        Case::Key(count, want) => key_length(alloc, letters(rt, alloc, *count)) == *want,
-        Case::Longer(count) => is_less(rt, alloc, *count),
-        Case::NewName => is_name(Name::new(alloc), ""),
-        Case::NoKey => is_text(Key::none(alloc), ""),
-        Case::LaterKey => {
-            let later = row(1, key_of(rt, alloc, "b"));
-            is_before(row(1, key_of(rt, alloc, "a")), later)
+impl Holds for Case {
+    fn holds<R: Abort>(&self, rt: &R, alloc: Global) -> bool {
+        match self {
+            Case::Key(count, want) => {
+                key_length(alloc, text_of(rt, alloc, &[("k", *count)])) == *want
+            }
+            Case::Longer(count) => is_less(rt, alloc, *count),
+            Case::NewName => is_name(Name::new(alloc), ""),
+            Case::NoKey => is_text(Key::none(alloc), ""),
+            Case::LaterKey => is_before_row(rt, alloc, 1, key_of(rt, alloc, "a"), "b"),
+            Case::LaterPart => is_before_row(rt, alloc, 0, Key::none(alloc), "a"),
+            Case::LaterId => FIRST < LATER && FIRST == FIRST,
+            Case::Printed(commit, index, text) => is_printed(rt, alloc, *commit, *index, text),
         }
-        Case::LaterPart => is_before(row(0, Key::none(alloc)), row(1, key_of(rt, alloc, "a"))),
-        Case::LaterId => ids_ascend(),
-        Case::Printed(commit, index, text) => is_printed(rt, alloc, *commit, *index, text),
     }
 }
 
 #[test]
 fn keys_names_rows_and_ids(rt: HostRuntime) {
-    for (at, case) in CASES.iter().enumerate() {
-        must(&rt, holds(&rt, rt.alloc(), case), at);
-    }
+    all_hold(&rt, rt.alloc(), &CASES);
 }
 
 // What is done with a list of numbers.
@@ -177,38 +185,33 @@ fn begin(rt: &impl Abort, alloc: Global, list: &mut NumberList, numbers: &[u32])
     drop(replace(list, new));
 }
 
-// Does this with a list, at a place that is there, and tells whether what is taken or seen is as told.
-fn is_done(rt: &impl Abort, alloc: Global, list: &mut NumberList, deed: &Deed) -> bool {
-    match deed {
-        Deed::Begin(numbers) => begin(rt, alloc, list, numbers),
-        Deed::Push(number) => made(rt, list.push(*number)),
-        Deed::Insert(at, number) => {
-            if *at <= list.len() {
-                made(rt, list.insert(*at, *number));
+impl DoneWith<NumberList> for Deed {
+    // Each place is there.
+    fn is_done<R: Abort>(&self, rt: &R, alloc: Global, list: &mut NumberList) -> bool {
+        match self {
+            Deed::Begin(numbers) => begin(rt, alloc, list, numbers),
+            Deed::Push(number) => made(rt, list.push(*number)),
+            Deed::Insert(at, number) => {
+                if *at <= list.len() {
+                    made(rt, list.insert(*at, *number));
+                }
             }
-        }
-        Deed::Set(at, number) => {
-            if *at < list.len() {
-                list.set(*at, *number);
+            Deed::Set(at, number) => {
+                if *at < list.len() {
+                    list.set(*at, *number);
+                }
             }
+            Deed::Keep(number) => list.retain(|it| *it == *number),
+            Deed::Pop(number) => return list.pop() == *number,
+            Deed::Remove(at, number) => return *at < list.len() && list.remove(*at) == *number,
+            Deed::Get(at, number) => return list.get(*at).copied() == *number,
+            Deed::Has(numbers) => return has(list, numbers),
         }
-        Deed::Keep(number) => list.retain(|it| *it == *number),
-        Deed::Pop(number) => return list.pop() == *number,
-        Deed::Remove(at, number) => return *at < list.len() && list.remove(*at) == *number,
-        Deed::Get(at, number) => return list.get(*at).copied() == *number,
-        Deed::Has(numbers) => return has(list, numbers),
-    }
-    true
-}
-
-// Does all of it, beginning with this list.
-fn do_all(rt: &impl Abort, alloc: Global, list: &mut NumberList) {
-    for (at, deed) in DEEDS.iter().enumerate() {
-        must(rt, is_done(rt, alloc, list, deed), at);
+        true
     }
 }
 
 #[test]
 fn lists_keep_their_elements_and_are_edited_in_place(rt: HostRuntime) {
-    do_all(&rt, rt.alloc(), &mut NumberList::new(rt.alloc()));
+    drop(done(&rt, rt.alloc(), NumberList::new(rt.alloc()), &DEEDS));
 }

@@ -6,9 +6,9 @@ ghost use Rattle.mw_types.specs.Bounds.{IsWithin};
 ghost use Rattle.computations.specs.Parts.{HasState, kind_at};
 
 use super::{Deed, fresh, of_record, walked, watched};
-use crate::tests::{are, key_of, must};
+use crate::tests::{Holds, are, each_holds, key_of};
 use computations::Kinds;
-use mw_types::{Effects, HeldList, Key, Production, Record, State, ValueList};
+use mw_types::{Effects, HeldList, Key, Record, State, ValueList};
 use std::alloc::Global;
 use std::process::Abort;
 
@@ -157,19 +157,22 @@ fn counts(rt: &impl Abort, alloc: Global, deeds: &[Deed], want: &[(u64, i64)]) -
     let work = watched(rt, alloc);
     let (state, produced) = walked(rt, alloc, &work, 1, fresh(alloc, &work), deeds);
     drop(state);
+    drop(work);
     are(produced, want)
 }
 
-// Whether a spike holds so many totals, and knows these.
-fn holds(state: &State, many: usize, totals: &[i64]) -> bool {
-    match state {
+// Whether a spike that is handed over holds so many totals, and knows these.
+fn is_spike(state: State, many: usize, totals: &[i64]) -> bool {
+    let is = match &state {
         State::Spike {
             late: _,
             held,
             known,
         } => held.len() == many && known.as_slice() == totals,
         _ => false,
-    }
+    };
+    drop(state);
+    is
 }
 
 // Whether a spike holds so many totals after these, and knows these; and it produced these.
@@ -183,26 +186,24 @@ fn judges(
 ) -> bool {
     let work = watched(rt, alloc);
     let (state, produced) = walked(rt, alloc, &work, 2, nothing_held(alloc, &work), deeds);
-    let are_held = holds(&state, many, totals);
-    drop(state);
-    are(produced, want) && are_held
+    drop(work);
+    let is_spike = is_spike(state, many, totals);
+    are(produced, want) && is_spike
 }
 
-// Whether a record is the one of the key `h/x`.
-fn is_repeated(one: &Production) -> bool {
-    one.key.text() == "h/x" && one.stamp == 5 && one.value == -3
-}
-
-// Whether a handler produced that record again, set no timer, and left so many late ones.
-fn is_passed(effects: &Effects, after: u64) -> bool {
+// Whether a handler that passes a record on produced that of the key `h/x` again, set no timer, and left so many late
+// ones.
+fn is_passed(effects: Effects, after: u64) -> bool {
     let is_left = match &effects.state {
-        State::Pass { late } => *late == after,
+        State::Pass { late } => *late == after && effects.timers.is_empty(),
         _ => false,
     };
-    match effects.productions.as_slice() {
-        [one] => is_left && effects.timers.is_empty() && is_repeated(one),
+    let is_repeated = match effects.productions.as_slice() {
+        [one] => one.key.text() == "h/x" && one.stamp == 5 && one.value == -3,
         _ => false,
-    }
+    };
+    drop(effects);
+    is_left && is_repeated
 }
 
 // What a pass leaves of a record in a row of another key.
@@ -228,23 +229,23 @@ fn passes(rt: &impl Abort, alloc: Global, late: bool, after: u64) -> bool {
         late,
     };
     let effects = left_of(rt, alloc, &item);
-    let is_passed = is_passed(&effects, after);
-    drop(effects);
-    is_passed
+    drop(item);
+    is_passed(effects, after)
 }
 
-// Whether it comes so.
-fn is_so(rt: &impl Abort, alloc: Global, case: &Case) -> bool {
-    match case {
-        Case::Counts(deeds, want) => counts(rt, alloc, deeds, want),
-        Case::Judges(deeds, many, totals, want) => judges(rt, alloc, deeds, *many, totals, want),
-        Case::Passes(late, after) => passes(rt, alloc, *late, *after),
+impl Holds for Case {
+    fn holds<R: Abort>(&self, rt: &R, alloc: Global) -> bool {
+        match self {
+            Case::Counts(deeds, want) => counts(rt, alloc, deeds, want),
+            Case::Judges(deeds, many, totals, want) => {
+                judges(rt, alloc, deeds, *many, totals, want)
+            }
+            Case::Passes(late, after) => passes(rt, alloc, *late, *after),
+        }
     }
 }
 
 #[test]
 fn a_count_a_spike_and_a_pass(rt: HostRuntime) {
-    for (name, case) in &CASES {
-        must(&rt, is_so(&rt, rt.alloc(), case), *name);
-    }
+    each_holds(&rt, rt.alloc(), &CASES);
 }

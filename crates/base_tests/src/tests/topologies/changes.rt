@@ -1,5 +1,5 @@
-//! A file with a computation of each kind, and what reading it gives with one place changed.
-use crate::tests::{made, refusal_of};
+//! A file with a computation of each kind, with one place changed, and files of many sizes: what reading each gives.
+use crate::tests::{Holds, made, push_number, push_parts, refusal_of, text_of};
 use std::alloc::Global;
 use std::process::Abort;
 use topology::{TopologyRefusal, read};
@@ -18,50 +18,145 @@ pub(crate) enum Source {
     Changed(&'static str, &'static str),
     /// The file with so many readings more.
     Readings(u32),
-}
-
-// Appends so many times the same.
-fn push_times(rt: &impl Abort, text: &mut String, part: &str, count: u32) {
-    for _ in 0..count {
-        made(rt, text.push_str(part));
-    }
-}
-
-// So many arrays, one in another.
-fn nested(rt: &impl Abort, alloc: Global, depth: u32) -> String {
-    let mut text = String::new(alloc);
-    push_times(rt, &mut text, "[", depth);
-    push_times(rt, &mut text, "]", depth);
-    text
+    /// A file with so many injectors and counts, of which each reads the first stream so often, and the first has so
+    /// many cuts.
+    Sized([u32; 4]),
+    /// A file whose computation has these members beside others, and so many bytes after the first of its name, of its
+    /// stream's name and of its cut.
+    Long(&'static str, [u32; 3]),
 }
 
 // The file with one place replaced by a text, and by so many times another after it.
-fn changed(rt: &impl Abort, alloc: Global, old: &str, new: &str, more: &str, times: u32) -> String {
-    let mut text = String::new(alloc);
-    if let Some((head, tail)) = FILE.split_once(old) {
-        push_times(rt, &mut text, head, 1);
-        push_times(rt, &mut text, new, 1);
-        push_times(rt, &mut text, more, times);
-        push_times(rt, &mut text, tail, 1);
+fn changed<'x>(
+    rt: &impl Abort,
+    alloc: Global,
+    old: &str,
+    new: &'x str,
+    more: &'x str,
+    times: u32,
+) -> String {
+    match FILE.split_once(old) {
+        Some((head, tail)) => text_of(rt, alloc, &[(head, 1), (new, 1), (more, times), (tail, 1)]),
+        None => String::new(alloc),
     }
+}
+
+// The file whose computation has these members, and so many bytes after the first of what has a length.
+fn long(rt: &impl Abort, alloc: Global, members: &str, lengths: &[u32; 3]) -> String {
+    let [name, stream, cut] = *lengths;
+    let head =
+        r#"{"injectors":[{"name":"i","stream":"s"}],"computations":[{"reads":[{"stream":"s","by":"key"}],"#;
+    text_of(
+        rt,
+        alloc,
+        &[
+            (head, 1),
+            (members, 1),
+            (r#","name":"n"#, 1),
+            ("n", name),
+            (r#"","stream":"o"#, 1),
+            ("o", stream),
+            (r#"","cuts":["c"#, 1),
+            ("c", cut),
+            (r#""]}]}"#, 1),
+        ],
+    )
+}
+
+// The parts of one of several, where an empty one stands for its number, from 100, so that each has three digits.
+type Numbered = &'static [&'static str];
+
+// An injector.
+const INJECTOR: Numbered = &[r#"{"name":"i"#, "", r#"","stream":"s"#, "", r#""}"#];
+
+// A reading of the first stream.
+const READ: Numbered = &[r#"{"stream":"s100","by":"key"}"#];
+
+// A cut. They ascend.
+const CUT: Numbered = &["\"", "", "\""];
+
+// What a count has before its readings.
+const COUNT: Numbered = &[
+    r#"{"name":"c"#,
+    "",
+    r#"","kind":"count","size":60,"stream":"o"#,
+    "",
+    r#"","reads":["#,
+];
+
+// Appends the one of this number.
+fn push_one(rt: &impl Abort, alloc: Global, text: &mut String, parts: Numbered, number: u32) {
+    for part in parts {
+        if part.is_empty() {
+            push_number(rt, alloc, text, number.saturating_add(100));
+        } else {
+            made(rt, text.push_str(part));
+        }
+    }
+}
+
+// Appends so many, with a comma before each but the first.
+fn push_all(rt: &impl Abort, alloc: Global, text: &mut String, parts: Numbered, count: u32) {
+    for at in 0..count {
+        push_parts(rt, text, &[(",", at.min(1))]);
+        push_one(rt, alloc, text, parts, at);
+    }
+}
+
+// Appends a count of this number, with as many readings and cuts.
+fn push_count(rt: &impl Abort, alloc: Global, text: &mut String, at: u32, reads: u32, cuts: u32) {
+    push_parts(rt, text, &[(",", at.min(1))]);
+    push_one(rt, alloc, text, COUNT, at);
+    push_all(rt, alloc, text, READ, reads);
+    push_parts(rt, text, &[(r#"],"cuts":["#, 1)]);
+    push_all(rt, alloc, text, CUT, cuts);
+    push_parts(rt, text, &[("]}", 1)]);
+}
+
+// Appends a file with so many injectors and counts, readings of each, and cuts of the first.
+fn push_sized(rt: &impl Abort, alloc: Global, text: &mut String, numbers: &[u32; 4]) {
+    let [injectors, counts, reads, cuts] = *numbers;
+    push_parts(rt, text, &[(r#"{"injectors":["#, 1)]);
+    push_all(rt, alloc, text, INJECTOR, injectors);
+    push_parts(rt, text, &[(r#"],"computations":["#, 1)]);
+    for at in 0..counts {
+        push_count(rt, alloc, text, at, reads, if at == 0 { cuts } else { 0 });
+    }
+    push_parts(rt, text, &[("]}", 1)]);
+}
+
+// Such a file.
+fn sized(rt: &impl Abort, alloc: Global, numbers: &[u32; 4]) -> String {
+    let mut text = String::new(alloc);
+    push_sized(rt, alloc, &mut text, numbers);
     text
 }
 
 // Why a text is refused, if it is. It is handed over, so that it is let go here alone.
 fn text_refusal(alloc: Global, text: String) -> Option<TopologyRefusal> {
-    refusal_of(read(alloc, text.as_bytes()))
+    let topology = read(alloc, text.as_bytes());
+    drop(text);
+    refusal_of(topology)
 }
 
-/// Why this is refused, if it is.
-pub(crate) fn refusal(rt: &impl Abort, alloc: Global, source: &Source) -> Option<TopologyRefusal> {
-    match source {
-        Source::Bytes(bytes) => refusal_of(read(alloc, bytes)),
-        Source::Nested(depth) => text_refusal(alloc, nested(rt, alloc, *depth)),
-        Source::Changed(old, new) => text_refusal(alloc, changed(rt, alloc, old, new, "", 0)),
-        Source::Readings(more) => {
-            let last = "\"tail\"}";
-            let reading = ",{\"stream\":\"raw\",\"by\":\"tail\"}";
-            text_refusal(alloc, changed(rt, alloc, last, last, reading, *more))
-        }
+// Why this is refused, if it is.
+fn refusal(rt: &impl Abort, alloc: Global, source: &Source) -> Option<TopologyRefusal> {
+    let last = r#""tail"}"#;
+    let reading = r#",{"stream":"raw","by":"tail"}"#;
+    let text = match source {
+        Source::Bytes(bytes) => return refusal_of(read(alloc, bytes)),
+        Source::Nested(depth) => text_of(rt, alloc, &[("[", *depth), ("]", *depth)]),
+        Source::Changed(old, new) => changed(rt, alloc, old, new, "", 0),
+        Source::Readings(more) => changed(rt, alloc, last, last, reading, *more),
+        Source::Sized(numbers) => sized(rt, alloc, numbers),
+        Source::Long(members, lengths) => long(rt, alloc, members, lengths),
+    };
+    text_refusal(alloc, text)
+}
+
+impl Holds for (Source, Option<TopologyRefusal>) {
+    fn holds<R: Abort>(&self, rt: &R, alloc: Global) -> bool {
+        let (source, why) = self;
+        refusal(rt, alloc, source) == *why
     }
 }

@@ -1,11 +1,13 @@
 //! The keys that the three extractors make.
-use crate::tests::{is_text, key_of, made, must};
+use crate::tests::{Holds, all_hold, is_text, key_of, made};
 use std::alloc::Global;
 use std::process::Abort;
 use topology::{By, extract};
 
-// What an extractor makes of keys.
-static KEYS: [(By, &str, &str); 9] = [
+// An extractor, a key, and what is made of it.
+type Extracted = (By, &'static str, &'static str);
+
+static KEYS: [Extracted; 9] = [
     (By::Key, "a/b/c", "a/b/c"),
     (By::Head, "a/b/c", "a"),
     (By::Head, "/x", "/x"),
@@ -17,15 +19,17 @@ static KEYS: [(By, &str, &str); 9] = [
     (By::Tail, "x", "x"),
 ];
 
-// Whether an extractor makes this of a key.
-fn extracts(rt: &impl Abort, alloc: Global, by: By, text: &str, want: &str) -> bool {
-    let key = key_of(rt, alloc, text);
-    is_text(made(rt, extract(alloc, by, &key)), want)
+impl Holds for Extracted {
+    fn holds<R: Abort>(&self, rt: &R, alloc: Global) -> bool {
+        let (by, text, want) = self;
+        let key = key_of(rt, alloc, text);
+        let extracted = made(rt, extract(alloc, *by, &key));
+        drop(key);
+        is_text(extracted, want)
+    }
 }
 
 #[test]
 fn extractors(rt: HostRuntime) {
-    for (at, (by, text, want)) in KEYS.iter().enumerate() {
-        must(&rt, extracts(&rt, rt.alloc(), *by, text, want), at);
-    }
+    all_hold(&rt, rt.alloc(), &KEYS);
 }

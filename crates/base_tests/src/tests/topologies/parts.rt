@@ -1,7 +1,7 @@
 //! What a topology tells of its parts. No helper has a clause, so that no test carries what the calls
 //! before have told.
 use super::changes::FILE;
-use crate::tests::{length_of, made, must};
+use crate::tests::{Holds, all_hold, length_of, made};
 use mw_types::{Kind, KindTable};
 use std::alloc::Global;
 use std::process::Abort;
@@ -55,16 +55,11 @@ static TOLD: [Told; 12] = [
     Told::Feeds(2, &[0, 1]),
 ];
 
-// How many parts a table of kinds has, and how many of them are injectors.
-fn counts<T: KindTable>(table: &T) -> [u32; 2] {
-    [table.parts(), table.injectors()]
-}
-
 // Whether a topology tells this. A part that it speaks of is there.
 fn tells(rt: &impl Abort, alloc: Global, topology: &Topology, told: &Told) -> bool {
     let parts = topology.parts();
     match told {
-        Told::Counts(want) => counts(topology) == *want,
+        Told::Counts(want) => [parts, topology.injectors()] == *want,
         Told::Listed(count) => length_of(made(rt, topology.part_cuts(alloc))) == *count,
         Told::Kind(part, kind) => {
             topology.injectors() <= *part && *part < parts && topology.kind(*part) == *kind
@@ -79,17 +74,16 @@ fn tells(rt: &impl Abort, alloc: Global, topology: &Topology, told: &Told) -> bo
     }
 }
 
-// Whether that of the file does.
-fn is_told(rt: &impl Abort, alloc: Global, told: &Told) -> bool {
-    let topology = made(rt, read(alloc, FILE.as_bytes()));
-    let is_told = tells(rt, alloc, &topology, told);
-    drop(topology);
-    is_told
+impl Holds for Told {
+    fn holds<R: Abort>(&self, rt: &R, alloc: Global) -> bool {
+        let topology = made(rt, read(alloc, FILE.as_bytes()));
+        let is_told = tells(rt, alloc, &topology, self);
+        drop(topology);
+        is_told
+    }
 }
 
 #[test]
 fn a_file_of_each_kind_is_read(rt: HostRuntime) {
-    for (at, told) in TOLD.iter().enumerate() {
-        must(&rt, is_told(&rt, rt.alloc(), told), at);
-    }
+    all_hold(&rt, rt.alloc(), &TOLD);
 }

@@ -1,6 +1,6 @@
 //! What is refused, by which rule.
-use super::changes::{Source, refusal};
-use crate::tests::must;
+use super::changes::Source;
+use crate::tests::all_hold;
 use topology::TopologyRefusal;
 
 // What is read, and the first rule that it breaks, if it breaks one.
@@ -202,7 +202,5 @@ static READ: [(Source, Option<TopologyRefusal>); 55] = [
 
 #[test]
 fn the_first_broken_rule_is_named(rt: HostRuntime) {
-    for (at, (source, why)) in READ.iter().enumerate() {
-        must(&rt, refusal(&rt, rt.alloc(), source) == *why, at);
-    }
+    all_hold(&rt, rt.alloc(), &READ);
 }

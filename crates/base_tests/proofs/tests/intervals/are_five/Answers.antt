@@ -3,8 +3,8 @@ use Rattle.key_intervals.specs.declared.bounds.Bounds.{Bounds}
 use Rattle.base_tests.proofs.tests.intervals.are_five.Goals as goal
 
 -- the last of the five is of the part behind the one that is cut
-pub finds-requires : goal.finds-requires
-finds-requires c =
+pub finds-is_last-requires : goal.finds-is_last-requires
+finds-is_last-requires g c =
     let last : Bounds = record { part = 2; from = []; to = None } in
-    subst (λ (all : List Bounds). Any (λ (b : Bounds). b.part ≡ 2) all) (sym c.in_ok-intervals.ensures)
+    subst (λ (all : List Bounds). Any (λ (b : Bounds). b.part ≡ 2) all) (sym c.three_intervals-intervals.ensures)
     (4, last, omega arith, refl, refl)

@@ -20,4 +20,4 @@ all_cut : All P three
 all_cut = All-from_recursion P three (no_cuts, (two_cuts, (no_cuts, tt)))
 
 pub of-requires-clause-cuts : goal.of-requires-clause-cuts
-of-requires-clause-cuts c = subst (All P) (sym (c.as_slice.ensures.elements ∙ c.in_ok-parts.ensures)) all_cut
+of-requires-clause-cuts g c = subst (All P) (sym (c.as_slice.ensures.elements ∙ c.three_parts-parts.ensures)) all_cut

@@ -3,4 +3,4 @@ use Rattle.base_tests.proofs.tests.marks.no_lines.Given as goal
 
 -- as many as the loop has counted
 abbrev pub invariant-loop : goal.invariant-loop
-invariant-loop l = length l.items ≡ l.counter
+invariant-loop g l = length l.items ≡ l.counter
