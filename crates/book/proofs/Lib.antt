@@ -19,5 +19,6 @@ pub mod DeskLaws
 pub mod OwnLaws
 pub mod OwnReasons
 pub mod FirstLaws
+pub mod Begun
 pub mod PutMarks
 pub mod Sending

@@ -6,6 +6,7 @@ ghost use Rattle.row_parts.specs.Contents.{same_id, found_delivery};
 ghost use Rattle.run_history.specs.Fences.{interval_of};
 ghost use Rattle.run_history.specs.Finished.{handles, is_handled};
 ghost use Rattle.run_history.specs.Legal.{floor_of};
+ghost use Rattle.run_history.specs.Lent.{lent};
 ghost use Rattle.run_history.specs.Runs.{cached, row_in, run_of};
 ghost use Rattle.book.specs.Desking.{IsKnownOf};
 ghost use Rattle.book.specs.OwnDesks.{own_view};
@@ -23,11 +24,11 @@ use crate::writes::{purge_row, settle, write};
 use book::{Book, Proposal};
 use computations::Computation;
 use holdings::Holdings;
-use mw_types::{Delivery, Duplicate, Effects, Entry, NoMemory, RecordId, RowName};
+use mw_types::{Delivery, Duplicate, Effects, NoMemory, RecordId, RowName};
 use node::NodeFault;
 use row_keeper::Keeper;
 use row_parts::Row;
-use run_history::History;
+use run_history::{EntryRef, History};
 use std::alloc::Global;
 
 // Works on the least id that is not acknowledged: it is acknowledged, where its record is handled;
@@ -214,18 +215,16 @@ fn is_same(a: RecordId, b: RecordId) -> bool
 fn is_last_handled(history: &History, id: RecordId) -> bool
     ensures { IsTrue result → is_handled id history.now ≡ true }
 {
-    match history.entries().last() {
-        Some(entry) => is_handle_of(entry, id),
-        None => false,
-    }
+    let count = history.len();
+    0 < count && is_handle_of(&history.at(count - 1), id)
 }
 
 // Whether an entry says that the record of an id was handled.
-fn is_handle_of(entry: &Entry, id: RecordId) -> bool
-    ensures { result ≡ handles id entry.now }
+fn is_handle_of(entry: &EntryRef<'_>, id: RecordId) -> bool
+    ensures { result ≡ handles id (lent entry.now) }
 {
-    match entry {
-        Entry::Handle { id: handled, .. } => is_same(id, *handled),
+    match *entry {
+        EntryRef::Handle { id: handled, .. } => is_same(id, handled),
         _ => false,
     }
 }

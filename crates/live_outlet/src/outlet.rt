@@ -200,10 +200,10 @@ impl Outlet {
         ensures extends { IsPumpedFrom case.now.topology self.new history.now }
     {
         if !self.ready {
-            let entry = &history.entries()[self.place as usize];
+            let entry = history.at(self.place as usize);
             let mut waiting = Seq::new(alloc);
             self.emitter
-                .follow(alloc, &case.topology, entry, self.place, &mut waiting)?;
+                .follow(alloc, &case.topology, &entry, self.place, &mut waiting)?;
             self.waiting = waiting;
             self.ready = true;
         }

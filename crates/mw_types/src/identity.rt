@@ -1,5 +1,5 @@
 //! The names of records and rows.
-ghost use Rattle.std.specs.Prelude.{◌≡◌, ◌<◌, ◌^◌, IfOk};
+ghost use Rattle.std.specs.Prelude.{◌≡◌, ◌↔◌, ◌<◌, ◌≤◌, ◌^◌, length, IfOk, IfSome, IsSome};
 ghost use Rattle.mw_types.specs.PrintedIds.{printed_id};
 
 use crate::key::Key;
@@ -60,6 +60,23 @@ pub struct RowName {
     pub part: u32,
     /// The row's key.
     pub key: Key,
+}
+
+impl RowName {
+    /// An equal name where its key has at most 30 bytes, which takes no memory, and none where it has
+    /// more.
+    pub fn short_copy(&self) -> Option<RowName>
+        ensures copy { IfSome result (λ name. name ≡ self.now) }
+        ensures short { IsSome result ↔ (length self.now.key ≤ 30) }
+    {
+        match self.key.short_copy() {
+            Some(key) => Some(RowName {
+                part: self.part,
+                key,
+            }),
+            None => None,
+        }
+    }
 }
 
 impl Duplicate for RowName {

@@ -1,5 +1,5 @@
 //! A key: the bytes by which a stream's records are told apart, Akidau et al., VLDB 2013, section 4.2.
-ghost use Rattle.std.specs.Prelude.{◌≡◌, ◌↔◌, ◌⊎◌, ◌<◌, ◌≤◌, [], length, IfOk, IsErrOf};
+ghost use Rattle.std.specs.Prelude.{◌≡◌, ◌↔◌, ◌⊎◌, ◌<◌, ◌≤◌, [], length, IfOk, IfSome, IsErrOf, IsSome};
 
 use crate::memory::{Duplicate, NoMemory};
 use crate::refusal::KeyRefusal;
@@ -62,6 +62,18 @@ impl Key {
         ensures short { length self.now ≤ 256 }
     {
         self.text.text()
+    }
+
+    /// An equal key where this one has at most 30 bytes, which takes no memory, and none where it has
+    /// more.
+    pub fn short_copy(&self) -> Option<Key>
+        ensures copy { IfSome result (λ key. key ≡ self.now) }
+        ensures short { IsSome result ↔ (length self.now ≤ 30) }
+    {
+        match self.text.short_copy() {
+            Some(text) => Some(Key { text }),
+            None => None,
+        }
     }
 }
 

@@ -1,5 +1,5 @@
 //! A text in UTF-8, which contracts see as its bytes.
-ghost use Rattle.std.specs.Prelude.{◌≡◌, length, IfOk, []};
+ghost use Rattle.std.specs.Prelude.{◌≡◌, ◌↔◌, ◌≤◌, length, IfOk, IfSome, IsSome, []};
 ghost use Rattle.std.specs.Cmp.Lexicographic.{slice_cmp};
 ghost use Rattle.std.specs.Ordering.{nat_cmp};
 
@@ -79,6 +79,21 @@ impl Text {
             Held::Short(text) => text.text(),
             Held::Long(text) => text.as_str(),
         }
+    }
+
+    /// An equal text where this one has at most 30 bytes, which takes no memory, and none where it has
+    /// more.
+    pub fn short_copy(&self) -> Option<Text>
+        ensures copy { IfSome result (λ text. text ≡ self.now) }
+        ensures short { IsSome result ↔ (length self.now ≤ 30) }
+    {
+        let text = self.text();
+        if text.len() > SHORT_MAX {
+            return None;
+        }
+        Some(Text {
+            held: Held::Short(ShortText::of(text)),
+        })
     }
 }
 

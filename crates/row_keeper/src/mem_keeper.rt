@@ -172,7 +172,8 @@ fn put_over(alloc: Global, held: &mut Bytes, bytes: &[u8]) -> Result<(), NoMemor
     done
 }
 
-// Has room for these bytes before it lets the old ones go, and not for much more than twice as many.
+// Has room for these bytes before it lets the old ones go: where it has to take memory an eighth more, so that
+// a row that grows takes some seldom, and never for much more than twice as many.
 fn overwrite(alloc: Global, list: &mut Vec<u8>, bytes: &[u8]) -> Result<(), NoMemory>
     ensures put { OnOk result (list.new.items ≡ bytes.now) }
     ensures unchanged { OnErr result (list.new.items ≡ list.old.items) }
@@ -181,7 +182,10 @@ fn overwrite(alloc: Global, list: &mut Vec<u8>, bytes: &[u8]) -> Result<(), NoMe
         *list = list_of(alloc, bytes)?.into_vec();
         return Ok(());
     }
-    list.reserve(bytes.len().saturating_sub(list.len()))?;
+    if list.capacity() < bytes.len() {
+        let room = bytes.len().saturating_add(bytes.len() / 8);
+        list.reserve_exact(room.saturating_sub(list.len()))?;
+    }
     list.clear();
     list.extend_from_slice(bytes)?;
     Ok(())

@@ -13,3 +13,4 @@ pub mod Fitting
 pub mod EntryTexts
 pub mod LineSteps
 pub mod LineTokens
+pub mod Packings

@@ -12,3 +12,6 @@ pub mod Stored
 pub mod Texts
 pub mod Printing
 pub mod HistoryLines
+pub mod Lent
+pub mod Naming
+pub mod Packing

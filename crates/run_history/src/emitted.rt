@@ -7,7 +7,7 @@ ghost use Rattle.run_history.specs.Printing.{IsPrintable};
 use crate::case::Case;
 use crate::emitter::Emitter;
 use crate::history::History;
-use mw_types::{EmissionList, Entry, NoMemory, Seq};
+use mw_types::{EmissionList, NoMemory, Seq};
 use std::alloc::Global;
 use topology::Topology;
 
@@ -18,20 +18,20 @@ pub fn emissions(alloc: Global, case: &Case, history: &History) -> Result<Emissi
     ensures emitted { IfOk result (λ all. all ≡ (run_of case.now.topology history.now).emissions) }
     ensures parts { IfOk result (λ all. All (λ e. e.part < parts_of case.now.topology) all) }
 {
-    let all = emitted(alloc, &case.topology, history.entries())?;
-    Ok(all)
+    emitted(alloc, &case.topology, history)
 }
 
 // The emissions of all entries.
-fn emitted(alloc: Global, topology: &Topology, entries: &[Entry]) -> Result<EmissionList, NoMemory>
-    requires { IsPrintable topology.now entries.now }
-    ensures emitted { IfOk result (λ all. all ≡ (run_of topology.now entries.now).emissions) }
+fn emitted(alloc: Global, topology: &Topology, history: &History) -> Result<EmissionList, NoMemory>
+    requires { IsPrintable topology.now history.now }
+    ensures emitted { IfOk result (λ all. all ≡ (run_of topology.now history.now).emissions) }
     ensures parts { IfOk result (λ all. All (λ e. e.part < parts_of topology.now) all) }
 {
     let mut emitter = Emitter::new(alloc);
     let mut emissions = Seq::new(alloc);
-    for (commit, entry) in entries.iter().enumerate() {
-        emitter.follow(alloc, topology, entry, commit as u64, &mut emissions)?;
+    for commit in 0..history.len() {
+        let entry = history.at(commit);
+        emitter.follow(alloc, topology, &entry, commit as u64, &mut emissions)?;
     }
     Ok(emissions)
 }

@@ -4,13 +4,15 @@ ghost use Rattle.mw_types.specs.declared.delivery.Delivery.{Delivery as Sent};
 ghost use Rattle.mw_types.specs.declared.entry.Entry.{Entry as Happened};
 ghost use Rattle.topology.specs.Shapes.{Shape, parts_of, consumers_of};
 ghost use Rattle.row_parts.specs.Contents.{IsId};
+ghost use Rattle.run_history.specs.Lent.{lent};
 ghost use Rattle.run_history.specs.Made.{productions_of, late_cause, emissions_made, emissions_of};
 ghost use Rattle.run_history.specs.Runs.{run_of};
 ghost use Rattle.run_history.specs.Printing.{IsOnPart, HasFollowed, KnowsLate, emissions_by, is_late_id, sends_made};
 
+use crate::entry_ref::EntryRef;
 use crate::made::{consumers, emit, production};
 use mw_types::{
-    EmissionList, Entry, NoMemory, NumberList, Production, ProductionList, Record, RecordId, Seq,
+    EmissionList, NoMemory, NumberList, Production, ProductionList, Record, RecordId, Seq,
 };
 use std::alloc::Global;
 use std::marker::Model;
@@ -56,20 +58,20 @@ impl Emitter {
         &mut self,
         alloc: Global,
         topology: &Topology,
-        entry: &Entry,
+        entry: &EntryRef<'_>,
         commit: u64,
         emissions: &mut EmissionList,
     ) -> Result<(), NoMemory>
-        requires part { IsOnPart topology.now entry.now }
-        requires few { length (productions_of entry.now) ≤ 8 }
+        requires part { IsOnPart topology.now (lent entry.now) }
+        requires few { length (productions_of (lent entry.now)) ≤ 8 }
         requires commit { commit < 2 ^ 32 }
 
         ensures emitted { OnOk result ((history : List Happened) →
             HasFollowed topology.now history self.old → emissions.new ≡ emissions.old
-            ++ emissions_of topology.now (run_of topology.now history).made commit entry.now) }
+            ++ emissions_of topology.now (run_of topology.now history).made commit (lent entry.now)) }
         ensures followed { OnOk result ((history : List Happened) →
             HasFollowed topology.now history self.old →
-            HasFollowed topology.now (history ++ entry.now ∷ []) self.new) }
+            HasFollowed topology.now (history ++ (lent entry.now) ∷ []) self.new) }
         ensures parts { OnOk result (All (λ e. e.part < parts_of topology.now) emissions.old →
             All (λ e. e.part < parts_of topology.now) emissions.new) }
         ensures ids { OnOk result (All (λ e. IsId e.id) emissions.old →
@@ -83,14 +85,14 @@ impl Emitter {
 }
 
 // Whether the cause of an entry is late.
-fn is_late(late: &NumberList, entry: &Entry) -> bool
-    ensures { (made : List Sent) → KnowsLate late.now made → result ≡ late_cause made entry.now }
+fn is_late(late: &NumberList, entry: &EntryRef<'_>) -> bool
+    ensures { (made : List Sent) → KnowsLate late.now made → result ≡ late_cause made (lent entry.now) }
 {
-    match entry {
-        Entry::Inject { item, .. } => item.late,
-        Entry::Handle { id, .. } => was_late(late, *id),
-        Entry::Fire { timer, .. } => timer.late,
-        Entry::Claim { .. } | Entry::Ack { .. } | Entry::Purge { .. } => false,
+    match *entry {
+        EntryRef::Inject { item, .. } => item.late,
+        EntryRef::Handle { id, .. } => was_late(late, id),
+        EntryRef::Fire { timer, .. } => timer.late,
+        EntryRef::Claim { .. } | EntryRef::Ack { .. } | EntryRef::Purge { .. } => false,
     }
 }
 
@@ -105,25 +107,25 @@ fn was_late(late: &NumberList, id: RecordId) -> bool
 }
 
 // How many late deliveries an entry makes, by whether its cause is late.
-fn late_sends(topology: &Topology, entry: &Entry, late: bool) -> u32
-    requires part { IsOnPart topology.now entry.now }
-    requires few { length (productions_of entry.now) ≤ 8 }
-    ensures { result ≡ (if late then sends_made topology.now entry.now else 0) }
+fn late_sends(topology: &Topology, entry: &EntryRef<'_>, late: bool) -> u32
+    requires part { IsOnPart topology.now (lent entry.now) }
+    requires few { length (productions_of (lent entry.now)) ≤ 8 }
+    ensures { result ≡ (if late then sends_made topology.now (lent entry.now) else 0) }
 {
     if late { sends(topology, entry) } else { 0 }
 }
 
 // How many deliveries an entry makes: one of each production to each consumer.
-fn sends(topology: &Topology, entry: &Entry) -> u32
-    requires part { IsOnPart topology.now entry.now }
-    requires few { length (productions_of entry.now) ≤ 8 }
-    ensures { result ≡ sends_made topology.now entry.now }
+fn sends(topology: &Topology, entry: &EntryRef<'_>) -> u32
+    requires part { IsOnPart topology.now (lent entry.now) }
+    requires few { length (productions_of (lent entry.now)) ≤ 8 }
+    ensures { result ≡ sends_made topology.now (lent entry.now) }
 {
-    match entry {
-        Entry::Inject { part, .. } => consumers(topology, *part).len() as u32,
-        Entry::Handle { row, effects, .. } => sends_of(topology, row.part, &effects.productions),
-        Entry::Fire { row, effects, .. } => sends_of(topology, row.part, &effects.productions),
-        Entry::Claim { .. } | Entry::Ack { .. } | Entry::Purge { .. } => 0,
+    match *entry {
+        EntryRef::Inject { part, .. } => consumers(topology, part).len() as u32,
+        EntryRef::Handle { row, effects, .. } => sends_of(topology, row.part, &effects.productions),
+        EntryRef::Fire { row, effects, .. } => sends_of(topology, row.part, &effects.productions),
+        EntryRef::Claim { .. } | EntryRef::Ack { .. } | EntryRef::Purge { .. } => 0,
     }
 }
 
@@ -141,21 +143,21 @@ fn emit_all(
     alloc: Global,
     topology: &Topology,
     emissions: &mut EmissionList,
-    entry: &Entry,
+    entry: &EntryRef<'_>,
     late: bool,
     commit: u64,
 ) -> Result<(), NoMemory>
-    requires part { IsOnPart topology.now entry.now }
-    requires few { length (productions_of entry.now) ≤ 8 }
+    requires part { IsOnPart topology.now (lent entry.now) }
+    requires few { length (productions_of (lent entry.now)) ≤ 8 }
 
     ensures emitted { OnOk result (emissions.new
-        ≡ emissions.old ++ emissions_by topology.now late commit entry.now) }
+        ≡ emissions.old ++ emissions_by topology.now late commit (lent entry.now)) }
 {
-    match entry {
-        Entry::Inject { part, item, .. } => {
-            emit_item(alloc, topology, emissions, *part, item, late, commit)
+    match *entry {
+        EntryRef::Inject { part, item, .. } => {
+            emit_item(alloc, topology, emissions, part, item, late, commit)
         }
-        Entry::Handle { row, effects, .. } => {
+        EntryRef::Handle { row, effects, .. } => {
             let productions = effects.productions.as_slice();
             emit_unread(
                 alloc,
@@ -167,7 +169,7 @@ fn emit_all(
                 commit,
             )
         }
-        Entry::Fire { row, effects, .. } => {
+        EntryRef::Fire { row, effects, .. } => {
             let productions = effects.productions.as_slice();
             emit_unread(
                 alloc,
@@ -179,7 +181,7 @@ fn emit_all(
                 commit,
             )
         }
-        Entry::Claim { .. } | Entry::Ack { .. } | Entry::Purge { .. } => Ok(()),
+        EntryRef::Claim { .. } | EntryRef::Ack { .. } | EntryRef::Purge { .. } => Ok(()),
     }
 }
 

@@ -5,20 +5,22 @@ ghost use Rattle.row_parts.specs.Contents.{IsId};
 ghost use Rattle.row_parts.specs.Spelling.{state_spelling};
 ghost use Rattle.hex.specs.Hex.{encode_lower};
 ghost use Rattle.run_history.specs.HistoryLines.{array_data, production_data, state_data, timer_data, claim_data, inject_data, handle_data, fire_data, ack_data, purge_data, entry_data, HasLine};
+ghost use Rattle.run_history.specs.Lent.{lent};
 ghost use Rattle.serde_json.specs.Data.{boolean, number, object, put, string, unsigned};
 ghost use Rattle.serde_json.specs.Find.{of_integer};
 ghost use Rattle.serde_json.specs.View.{members_view, view};
 
+use crate::entry_ref::EntryRef;
 use crate::members::{put_flag, put_id, put_integer, put_number, put_row, put_text};
-use mw_types::{Effects, Entry, NoMemory, Production, Record, RecordId, RowName, State, Timer};
+use mw_types::{Effects, NoMemory, Production, Record, RecordId, RowName, State, Timer};
 use row_parts::state_bytes;
 use serde_json::{Map, Value};
 use std::alloc::Global;
 
 // An entry under its commit number.
-pub(crate) fn entry_value(alloc: Global, entry: &Entry, n: u64) -> Result<Value, NoMemory>
-    requires { HasLine entry.now }
-    ensures { IfOk result (λ value. view value ≡ entry_data n entry.now) }
+pub(crate) fn entry_value(alloc: Global, entry: &EntryRef<'_>, n: u64) -> Result<Value, NoMemory>
+    requires { HasLine (lent entry.now) }
+    ensures { IfOk result (λ value. view value ≡ entry_data n (lent entry.now)) }
 {
     let mut map = Map::new(alloc);
     put_entry(alloc, &mut map, entry, n)?;
@@ -29,36 +31,36 @@ pub(crate) fn entry_value(alloc: Global, entry: &Entry, n: u64) -> Result<Value,
 fn put_entry(
     alloc: Global,
     map: &mut Map<String, Value>,
-    entry: &Entry,
+    entry: &EntryRef<'_>,
     n: u64,
 ) -> Result<(), NoMemory>
-    requires line { HasLine entry.now }
+    requires line { HasLine (lent entry.now) }
     requires empty { map.old.entries ≡ [] }
-    ensures { OnOk result (object (members_view map.new.entries) ≡ entry_data n entry.now) }
+    ensures { OnOk result (object (members_view map.new.entries) ≡ entry_data n (lent entry.now)) }
 {
-    match entry {
-        Entry::Claim { worker, interval } => put_claim(alloc, map, n, *worker, *interval),
-        Entry::Inject {
+    match *entry {
+        EntryRef::Claim { worker, interval } => put_claim(alloc, map, n, worker, interval),
+        EntryRef::Inject {
             seq,
             part,
             line,
             item,
-        } => put_inject(alloc, map, n, *seq, *part, *line, item),
-        Entry::Handle {
+        } => put_inject(alloc, map, n, seq, part, line, item),
+        EntryRef::Handle {
             seq,
             row,
             id,
             effects,
-        } => put_handle(alloc, map, n, *seq, row, *id, effects),
-        Entry::Fire {
+        } => put_handle(alloc, map, n, seq, row, id, effects),
+        EntryRef::Fire {
             seq,
             row,
             timer,
             mark,
             effects,
-        } => put_fire(alloc, map, n, *seq, row, *timer, *mark, effects),
-        Entry::Ack { seq, row, id } => put_ack(alloc, map, n, *seq, row, *id),
-        Entry::Purge { seq, row, floor } => put_purge(alloc, map, n, *seq, row, *floor),
+        } => put_fire(alloc, map, n, seq, row, timer, mark, effects),
+        EntryRef::Ack { seq, row, id } => put_ack(alloc, map, n, seq, row, id),
+        EntryRef::Purge { seq, row, floor } => put_purge(alloc, map, n, seq, row, floor),
     }
 }
 

@@ -1,6 +1,10 @@
 //! The list of what happened.
-ghost use Rattle.std.specs.Prelude.{◌≡◌, ◌++◌, ◌∷◌, ◌↔◌, ◌<◌, ◌-◌, ◌==◌, [], length, take, OnErr, OnOk, IsSome, option_to_list};
+ghost use Rattle.std.specs.Prelude.{◌≡◌, ◌++◌, ◌∷◌, ◌↔◌, ◌<◌, ◌-◌, ◌==◌, [], length, option_map, slice_get, slice_index_or, take, IfOk, OnErr, OnOk, IsSome, option_to_list};
+ghost use Rattle.run_history.specs.Lent.{lent};
 
+use crate::details::Details;
+use crate::entry_ref::EntryRef;
+use crate::packed::Packed;
 use mw_types::{Entry, EntryList, NoMemory, Seq};
 use std::alloc::Global;
 use std::marker::Model;
@@ -8,16 +12,20 @@ use std::marker::Model;
 /// A history: what happened in a run, one entry for each atomic step.
 #[derive(Drop)]
 pub struct History {
-    entries: EntryList,
+    details: Details,
+    entries: Seq<Packed>,
 }
 
 impl Model for History {
-    ghost use Rattle.std.specs.Prelude.{List};
+    ghost use Rattle.std.specs.Prelude.{List, map};
     ghost use Rattle.mw_types.specs.declared.entry.Entry.{Entry};
+    ghost use Rattle.run_history.specs.Packing.{ArePacked, unpacked};
 
     ghost Value = { List Entry };
 
-    ghost view = { λ history. history.entries };
+    ghost view = { λ history. map (unpacked history.details) history.entries };
+
+    ghost invariant = { λ history. ArePacked history.details history.entries };
 }
 
 impl History {
@@ -26,15 +34,38 @@ impl History {
         ensures empty { result ≡ [] }
     {
         History {
+            details: Details::new(alloc),
             entries: Seq::new(alloc),
         }
     }
 
-    /// The entries; the place of each, from 0, is its commit number.
-    pub fn entries(&self) -> &[Entry]
-        ensures entries { result.now ≡ self.now }
+    /// The entry of a commit number, which is its place from 0, or none past the end.
+    pub fn get(&self, number: usize) -> Option<EntryRef<'_>>
+        ensures entry { option_map lent result ≡ slice_get self.now number }
     {
-        self.entries.as_slice()
+        match self.entries.get(number) {
+            Some(packed) => Some(self.details.lend(*packed)),
+            None => None,
+        }
+    }
+
+    /// The entry of a commit number that there is.
+    pub fn at(&self, number: usize) -> EntryRef<'_>
+        requires { number < length self.now }
+        ensures { lent result ≡ slice_index_or self.now number (lent result) }
+    {
+        self.details.lend(self.entries.as_slice()[number])
+    }
+
+    /// The entries, as a list of its own.
+    pub fn entries(&self, alloc: Global) -> Result<EntryList, NoMemory>
+        ensures entries { IfOk result (λ entries. entries ≡ self.now) }
+    {
+        let mut entries = Seq::new(alloc);
+        for number in 0..self.len() {
+            entries.push(self.at(number).copied(alloc)?)?;
+        }
+        Ok(entries)
     }
 
     /// Appends what happened next.
@@ -42,7 +73,12 @@ impl History {
         ensures appended { OnOk result (self.new ≡ self.old ++ entry ∷ []) }
         ensures unchanged { OnErr result (self.new ≡ self.old) }
     {
-        self.entries.push(entry)
+        let packed = self.details.pack(entry)?;
+        if let Err(NoMemory) = self.entries.push(packed) {
+            drop(self.details.unpack(packed));
+            return Err(NoMemory);
+        }
+        Ok(())
     }
 
     /// Takes the last entry away.
@@ -51,7 +87,10 @@ impl History {
         ensures some { IsSome result ↔ (0 < length self.old) }
         ensures rest { self.new ≡ take (length self.old - 1) self.old }
     {
-        self.entries.pop()
+        match self.entries.pop() {
+            Some(packed) => Some(self.details.unpack(packed)),
+            None => None,
+        }
     }
 
     /// How many entries there are.

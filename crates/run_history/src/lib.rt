@@ -9,15 +9,19 @@
 #![tactic(auto)]
 
 mod case;
+mod details;
 mod emitted;
 mod emitter;
 mod entry_lines;
+mod entry_ref;
 mod entry_values;
 mod first;
 mod history;
 mod line;
 mod made;
 mod members;
+mod names;
+mod packed;
 mod summary;
 mod text;
 
@@ -25,6 +29,7 @@ pub use case::Case;
 pub use emitted::emissions;
 pub use emitter::Emitter;
 pub use entry_lines::{entry_line, history_lines};
+pub use entry_ref::EntryRef;
 pub use first::first_row;
 pub use history::History;
 pub use line::ResultLine;

@@ -1,13 +1,15 @@
 //! The summary line of a history.
 ghost use Rattle.std.specs.Prelude.{◌≡◌, ◌+◌, ◌++◌, ◌<◌, ◌^◌, [], ◌∷◌, if◌then◌else◌, count_by, IfOk, OnOk, string_bytes};
+ghost use Rattle.run_history.specs.Lent.{lent};
 ghost use Rattle.run_history.specs.Texts.{as_line, is_fire, is_handle, is_inject, is_late, summary_data};
 ghost use Rattle.serde_json.specs.Data.{object};
 ghost use Rattle.serde_json.specs.View.{members_view, view};
 
+use crate::entry_ref::EntryRef;
 use crate::history::History;
 use crate::members::put_number;
 use crate::text::value_line;
-use mw_types::{Bytes, Entry, NoMemory};
+use mw_types::{Bytes, NoMemory};
 use serde_json::{Map, Value};
 use std::alloc::Global;
 
@@ -15,30 +17,30 @@ use std::alloc::Global;
 pub fn summary_line(alloc: Global, history: &History) -> Result<Bytes, NoMemory>
     ensures written { IfOk result (λ text. text ≡ as_line (summary_data history.now)) }
 {
-    let value = summary(alloc, history.entries())?;
+    let value = summary(alloc, history)?;
     let line = value_line(alloc, &value)?;
     Ok(Bytes::from_vec(line.into_bytes()))
 }
 
-// The summary of entries, as an object.
-fn summary(alloc: Global, entries: &[Entry]) -> Result<Value, NoMemory>
-    ensures { IfOk result (λ value. view value ≡ summary_data entries.now) }
+// The summary of a history, as an object.
+fn summary(alloc: Global, history: &History) -> Result<Value, NoMemory>
+    ensures { IfOk result (λ value. view value ≡ summary_data history.now) }
 {
     let mut map = Map::new(alloc);
-    put_counts(alloc, &mut map, entries)?;
+    put_counts(alloc, &mut map, history)?;
     Ok(Value::Object(map))
 }
 
-// Puts the counts of entries into an object that has nothing yet.
+// Puts the counts of a history into an object that has nothing yet.
 fn put_counts(
     alloc: Global,
     map: &mut Map<String, Value>,
-    entries: &[Entry],
+    history: &History,
 ) -> Result<(), NoMemory>
     requires empty { map.old.entries ≡ [] }
-    ensures { OnOk result (object (members_view map.new.entries) ≡ summary_data entries.now) }
+    ensures { OnOk result (object (members_view map.new.entries) ≡ summary_data history.now) }
 {
-    let counts = counted(entries);
+    let counts = counted(history);
     put_number(alloc, map, "fired", counts.fired)?;
     put_number(alloc, map, "handled", counts.handled)?;
     put_number(alloc, map, "injected", counts.injected)?;
@@ -54,12 +56,12 @@ struct Counts {
     late: u64,
 }
 
-// The counts of entries.
-fn counted(entries: &[Entry]) -> Counts
-    ensures fired { result.fired ≡ count_by is_fire entries.now }
-    ensures handled { result.handled ≡ count_by is_handle entries.now }
-    ensures injected { result.injected ≡ count_by is_inject entries.now }
-    ensures late { result.late ≡ count_by is_late entries.now }
+// The counts of a history.
+fn counted(history: &History) -> Counts
+    ensures fired { result.fired ≡ count_by is_fire history.now }
+    ensures handled { result.handled ≡ count_by is_handle history.now }
+    ensures injected { result.injected ≡ count_by is_inject history.now }
+    ensures late { result.late ≡ count_by is_late history.now }
 {
     let mut counts = Counts {
         fired: 0,
@@ -67,36 +69,36 @@ fn counted(entries: &[Entry]) -> Counts
         injected: 0,
         late: 0,
     };
-    for entry in entries {
-        counts = counts.with(entry);
+    for n in 0..history.len() {
+        counts = counts.with(&history.at(n));
     }
     counts
 }
 
 impl Counts {
     // The counts with one more entry.
-    fn with(self, entry: &Entry) -> Counts
+    fn with(self, entry: &EntryRef<'_>) -> Counts
         requires fired { self.fired + 1 < 2 ^ 64 }
         requires handled { self.handled + 1 < 2 ^ 64 }
         requires injected { self.injected + 1 < 2 ^ 64 }
         requires late { self.late + 1 < 2 ^ 64 }
 
-        ensures fired { result.fired ≡ self.fired + count_by is_fire (entry.now ∷ []) }
-        ensures handled { result.handled ≡ self.handled + count_by is_handle (entry.now ∷ []) }
-        ensures injected { result.injected ≡ self.injected + count_by is_inject (entry.now ∷ []) }
-        ensures late { result.late ≡ self.late + count_by is_late (entry.now ∷ []) }
+        ensures fired { result.fired ≡ self.fired + count_by is_fire (lent entry.now ∷ []) }
+        ensures handled { result.handled ≡ self.handled + count_by is_handle (lent entry.now ∷ []) }
+        ensures injected { result.injected ≡ self.injected + count_by is_inject (lent entry.now ∷ []) }
+        ensures late { result.late ≡ self.late + count_by is_late (lent entry.now ∷ []) }
     {
-        match entry {
-            Entry::Inject { item, .. } => self.with_inject(item.late),
-            Entry::Handle { .. } => Counts {
+        match *entry {
+            EntryRef::Inject { item, .. } => self.with_inject(item.late),
+            EntryRef::Handle { .. } => Counts {
                 handled: self.handled + 1,
                 ..self
             },
-            Entry::Fire { .. } => Counts {
+            EntryRef::Fire { .. } => Counts {
                 fired: self.fired + 1,
                 ..self
             },
-            Entry::Claim { .. } | Entry::Ack { .. } | Entry::Purge { .. } => self,
+            EntryRef::Claim { .. } | EntryRef::Ack { .. } | EntryRef::Purge { .. } => self,
         }
     }
 

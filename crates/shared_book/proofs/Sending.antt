@@ -12,7 +12,12 @@ use Rattle.mw_types.proofs.record.Record.TheSendSync as records
 use Rattle.mw_types.proofs.identity.RowName.TheSendSync as names
 use Rattle.mw_types.proofs.identity.RecordId.TheSendSync as ids
 use Rattle.mw_types.specs.contracts.entry.Entry as Entry
+use Rattle.run_history.specs.contracts.details.Details as Details
+use Rattle.run_history.specs.contracts.details.Fired as Fired
+use Rattle.run_history.specs.contracts.details.Handled as Handled
 use Rattle.run_history.specs.contracts.history.History as History
+use Rattle.run_history.specs.contracts.names.Names as Names
+use Rattle.run_history.proofs.packed.Packed.TheSendSync as packs
 use Rattle.book.specs.contracts.book_core.Core as Core
 use Rattle.book.proofs.Sending.{effects_send}
 use Rattle.shared_book.specs.contracts.seats.Note as Note
@@ -35,9 +40,25 @@ entry_send =
     search (sendable, effects_send, timers.the_field_send, records.the_field_send, names.the_field_send, ids.the_field_send)
     depth 30 fits 100000
 
+-- what an entry has beside its numbers
+handled_send : IsSend Handled.the_row
+handled_send = search (sendable, effects_send) depth 30 fits 100000
+
+fired_send : IsSend Fired.the_row
+fired_send = search (sendable, effects_send, timers.the_field_send) depth 30 fits 100000
+
+-- the names of rows
+held_send : IsSend Names.the_row
+held_send = search (sendable, crosses, names.the_send) depth 30
+
+-- all that, as a field
+details_field_send : IsSend Details.the_field.row
+details_field_send =
+    search (sendable, crosses, held_send, handled_send, fired_send, entry_send, records.the_send) depth 30
+
 -- a history
 pub history_send : IsSend History.the_row
-history_send = search (sendable, crosses, entry_send) depth 30
+history_send = search (sendable, crosses, details_field_send, packs.the_send) depth 30
 
 -- a book but for its case, where its keeper may cross
 pub core_send : (K : RattleType) (g : Ghosts K.Denot) → IsSend K → IsSend (Core.the_row K g)

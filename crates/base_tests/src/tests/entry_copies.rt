@@ -10,27 +10,26 @@ use mw_types::{
     Duplicate, Effects, Entry, EntryList, Production, ProductionList, Record, RecordId, RowName,
     State, Timer, TimerList,
 };
+use run_history::EntryRef;
 use std::alloc::Global;
 use std::process::Abort;
 
-// The id of the third record that the second entry made.
-const ID: RecordId = RecordId {
-    commit: 1,
-    index: 2,
-};
+// What an entry is made of: its kind, its sequencer, the key of its row or record, the commit number of its
+// id or its floor, and a number of its own: an interval, a line, an index or a mark.
+pub(super) type Told = (u32, u64, &'static str, u64, u32);
 
 // The row of a key.
-fn row(rt: &impl Abort, alloc: Global) -> RowName {
+fn row(rt: &impl Abort, alloc: Global, key: &str) -> RowName {
     RowName {
         part: 1,
-        key: key_of(rt, alloc, "a"),
+        key: key_of(rt, alloc, key),
     }
 }
 
 // The record of a key.
-fn record(rt: &impl Abort, alloc: Global) -> Record {
+fn record(rt: &impl Abort, alloc: Global, key: &str) -> Record {
     Record {
-        key: key_of(rt, alloc, "a"),
+        key: key_of(rt, alloc, key),
         stamp: 10,
         value: -1,
         late: false,
@@ -71,62 +70,71 @@ fn productions(rt: &impl Abort, alloc: Global) -> ProductionList
     productions
 }
 
-// What a handler leaves that set one timer and produced one record.
-fn effects(rt: &impl Abort, alloc: Global) -> Effects {
+// What a handler leaves that found so many late records, set one timer and produced one record.
+fn effects(rt: &impl Abort, alloc: Global, late: u32) -> Effects {
     Effects {
-        state: State::Pass { late: 0 },
+        state: State::Pass {
+            late: u64::from(late),
+        },
         timers: timers(rt, alloc),
         productions: productions(rt, alloc),
     }
 }
 
-// The entry of this place in a list with one of each kind.
-fn entry(rt: &impl Abort, alloc: Global, at: u32) -> Entry {
-    match at {
+// The entry that is made of this.
+pub(super) fn entry(rt: &impl Abort, alloc: Global, told: &Told) -> Entry {
+    let (kind, seq, key, commit, index) = *told;
+    let id = RecordId { commit, index };
+    match kind {
         0 => Entry::Claim {
             worker: 1,
-            interval: 2,
+            interval: index,
         },
         1 => Entry::Inject {
-            seq: 3,
+            seq,
             part: 0,
-            line: 4,
-            item: record(rt, alloc),
+            line: index,
+            item: record(rt, alloc, key),
         },
         2 => Entry::Handle {
-            seq: 3,
-            row: row(rt, alloc),
-            id: ID,
-            effects: effects(rt, alloc),
+            seq,
+            row: row(rt, alloc, key),
+            id,
+            effects: effects(rt, alloc, index),
         },
-        3 => Entry::Fire {
-            seq: 3,
-            row: row(rt, alloc),
-            timer: timer(false),
-            mark: 61,
-            effects: effects(rt, alloc),
-        },
+        3 => fired(rt, alloc, seq, key, index),
         4 => Entry::Ack {
-            seq: 3,
-            row: row(rt, alloc),
-            id: ID,
+            seq,
+            row: row(rt, alloc, key),
+            id,
         },
         _ => Entry::Purge {
-            seq: 3,
-            row: row(rt, alloc),
-            floor: 5,
+            seq,
+            row: row(rt, alloc, key),
+            floor: commit,
         },
     }
 }
 
-// Whether it is the row of above.
-fn is_row(row: &RowName) -> bool {
-    row.part == 1 && row.key.text() == "a"
+// The entry of a timer that fired.
+fn fired(rt: &impl Abort, alloc: Global, seq: u64, key: &str, mark: u32) -> Entry {
+    Entry::Fire {
+        seq,
+        row: row(rt, alloc, key),
+        timer: timer(false),
+        mark: u64::from(mark),
+        effects: effects(rt, alloc, mark),
+    }
 }
 
-// Whether it is the record of above.
-fn is_record(item: &Record) -> bool {
-    item.key.text() == "a" && item.stamp == 10 && item.value == -1 && !item.late
+// Whether it is the row of this key.
+fn is_row(row: &RowName, key: &str) -> bool {
+    row.part == 1 && row.key.text() == key
+}
+
+// Whether it is the record of this key.
+fn is_record(item: &Record, key: &str) -> bool {
+    item.key.text() == key && item.stamp == 10 && item.value == -1 && !item.late
 }
 
 // Whether it is the one record that was produced above.
@@ -137,62 +145,71 @@ fn are_productions(productions: &[Production]) -> bool {
     }
 }
 
-// Whether it is what the handler of above left.
-fn are_effects(effects: &Effects) -> bool {
-    matches!(effects.state, State::Pass { late: 0 })
+// Whether it is what the handler of above left, which found so many late records.
+fn are_effects(effects: &Effects, count: u32) -> bool {
+    matches!(effects.state, State::Pass { late } if late == u64::from(count))
         && effects.timers.as_slice() == [timer(true)].as_slice()
         && are_productions(effects.productions.as_slice())
 }
 
 // What kind an entry is of, and its numbers.
-fn numbers_of(entry: &Entry) -> [u64; 4] {
-    match entry {
-        Entry::Claim { worker, interval } => [0, u64::from(*worker), u64::from(*interval), 0],
-        Entry::Inject {
+fn numbers_of(entry: &EntryRef<'_>) -> [u64; 4] {
+    match *entry {
+        EntryRef::Claim { worker, interval } => [0, u64::from(worker), u64::from(interval), 0],
+        EntryRef::Inject {
             seq,
             part,
             line,
             ..
-        } => [1, *seq, u64::from(*part), u64::from(*line)],
-        Entry::Handle { seq, id, .. } => [2, *seq, id.commit, u64::from(id.index)],
-        Entry::Fire { seq, mark, .. } => [3, *seq, *mark, 0],
-        Entry::Ack { seq, id, .. } => [4, *seq, id.commit, u64::from(id.index)],
-        Entry::Purge { seq, floor, .. } => [5, *seq, *floor, 0],
+        } => [1, seq, u64::from(part), u64::from(line)],
+        EntryRef::Handle { seq, id, .. } => [2, seq, id.commit, u64::from(id.index)],
+        EntryRef::Fire { seq, mark, .. } => [3, seq, mark, 0],
+        EntryRef::Ack { seq, id, .. } => [4, seq, id.commit, u64::from(id.index)],
+        EntryRef::Purge { seq, floor, .. } => [5, seq, floor, 0],
     }
 }
 
-// Those of the entries of above, in their order.
-static NUMBERS: [[u64; 4]; 6] = [
-    [0, 1, 2, 0],
-    [1, 3, 0, 4],
-    [2, 3, 1, 2],
-    [3, 3, 61, 0],
-    [4, 3, 1, 2],
-    [5, 3, 5, 0],
+// An entry, by what it is made of, and its kind and numbers.
+pub(super) type Numbered = (Told, [u64; 4]);
+
+// One entry of each kind.
+static KINDS: [Numbered; 6] = [
+    ((0, 0, "", 0, 2), [0, 1, 2, 0]),
+    ((1, 3, "a", 0, 4), [1, 3, 0, 4]),
+    ((2, 3, "a", 1, 2), [2, 3, 1, 2]),
+    ((3, 3, "a", 0, 61), [3, 3, 61, 0]),
+    ((4, 3, "a", 1, 2), [4, 3, 1, 2]),
+    ((5, 3, "a", 5, 0), [5, 3, 5, 0]),
 ];
 
 // Whether an entry has the row, the record, the timer and the effects of above, where it has one.
-fn has_parts(entry: &Entry) -> bool {
-    match entry {
-        Entry::Claim { .. } => true,
-        Entry::Inject { item, .. } => is_record(item),
-        Entry::Handle { row, effects, .. } => is_row(row) && are_effects(effects),
-        Entry::Fire {
+fn has_parts(entry: &EntryRef<'_>, key: &str, late: u32) -> bool {
+    match *entry {
+        EntryRef::Claim { .. } => true,
+        EntryRef::Inject { item, .. } => is_record(item, key),
+        EntryRef::Handle { row, effects, .. } => is_row(row, key) && are_effects(effects, late),
+        EntryRef::Fire {
             row,
             timer: fired,
             effects,
             ..
-        } => *fired == timer(false) && is_row(row) && are_effects(effects),
-        Entry::Ack { row, .. } => is_row(row),
-        Entry::Purge { row, .. } => is_row(row),
+        } => fired == timer(false) && is_row(row, key) && are_effects(effects, late),
+        EntryRef::Ack { row, .. } => is_row(row, key),
+        EntryRef::Purge { row, .. } => is_row(row, key),
     }
 }
 
-// Whether each is the entry of above at its place.
-fn are_entries(entries: &[Entry]) -> bool {
-    let mut are = entries.len() == NUMBERS.len();
-    for (at, entry) in entries.iter().enumerate() {
-        are = are && NUMBERS.get(at) == Some(&numbers_of(entry)) && has_parts(entry);
+// Whether it is this entry.
+pub(super) fn is_entry(entry: &EntryRef<'_>, want: &Numbered) -> bool {
+    let ((_, _, key, _, late), numbers) = *want;
+    numbers_of(entry) == numbers && has_parts(entry, key, late)
+}
+
+// Whether each is the entry of its place.
+pub(super) fn are_entries(entries: &[Entry], want: &[Numbered]) -> bool {
+    let mut are = entries.len() == want.len();
+    for (entry, one) in entries.iter().zip(want) {
+        are = are && is_entry(&EntryRef::of(entry), one);
     }
     are
 }
@@ -200,13 +217,13 @@ fn are_entries(entries: &[Entry]) -> bool {
 // Whether the entries, and a copy of their list, have each entry, and each field of it.
 fn entries_are_copied(rt: &impl Abort, alloc: Global) -> bool {
     let mut entries = EntryList::new(alloc);
-    for at in 0..6 {
-        made(rt, entries.push(entry(rt, alloc, at)));
+    for (told, _) in &KINDS {
+        made(rt, entries.push(entry(rt, alloc, told)));
     }
     let copies = made(rt, entries.copy(alloc));
-    let are_copied = are_entries(copies.as_slice());
+    let are_copied = are_entries(copies.as_slice(), &KINDS);
     drop(copies);
-    are_entries(entries.as_slice()) && are_copied
+    are_entries(entries.as_slice(), &KINDS) && are_copied
 }
 
 #[test]

@@ -1,9 +1,10 @@
 //! The calls of `run_history`, for what no clause says: that ample memory is enough. No helper has a
 //! clause, so that no test carries what the calls before have told.
+use super::entry_copies::{Numbered, are_entries, entry, is_entry};
 use super::{are, length_of, made, must};
 use injector::{Items, ItemsList};
 use mw_types::{Entry, Key, Production, Record};
-use run_history::{Case, History, emissions, first_row, make, production, result_text};
+use run_history::{Case, EntryRef, History, emissions, first_row, make, production, result_text};
 use std::alloc::Global;
 use std::process::Abort;
 use topology::Topology;
@@ -36,7 +37,7 @@ fn takes_back(rt: &impl Abort, alloc: Global) -> bool {
         item: record(alloc),
     };
     made(rt, history.push(entry));
-    let holds = history.entries().len() == 1;
+    let holds = length_of(made(rt, history.entries(alloc))) == 1;
     let is_first = is_there(history.pop());
     let is_more = is_there(history.pop());
     drop(history);
@@ -132,4 +133,127 @@ fn histories_are_kept_made_and_printed(rt: HostRuntime) {
         is_made,
         "a count is sent to and emits, nothing is printed",
     );
+}
+
+// 2^32 - 1, and one more.
+const BELOW: u64 = 4_294_967_295;
+
+const ABOVE: u64 = 4_294_967_296;
+
+// Keys of 30 bytes, and of one more.
+const SHORT: &str = "abcdefghijklmnopqrstuvwxyz1234";
+
+const LONG: &str = "abcdefghijklmnopqrstuvwxyz12345";
+
+// Entries of rows that come again, with others between.
+static GIVEN: [Numbered; 31] = [
+    // Each kind, with short keys and small numbers.
+    ((0, 0, "", 0, 1), [0, 1, 1, 0]),
+    ((1, 3, "a", 0, 2), [1, 3, 0, 2]),
+    ((2, 3, "a", 1, 3), [2, 3, 1, 3]),
+    ((3, 3, SHORT, 0, 4), [3, 3, 4, 0]),
+    ((4, 3, "a", 1, 5), [4, 3, 1, 5]),
+    ((5, 3, SHORT, 5, 6), [5, 3, 5, 0]),
+    // The greatest numbers below 2^32.
+    ((1, BELOW, SHORT, 0, 7), [1, BELOW, 0, 7]),
+    ((2, BELOW, "b", BELOW, 8), [2, BELOW, BELOW, 8]),
+    ((3, BELOW, "a", 0, 9), [3, BELOW, 9, 0]),
+    ((4, BELOW, SHORT, BELOW, 10), [4, BELOW, BELOW, 10]),
+    ((5, BELOW, "a", BELOW, 11), [5, BELOW, BELOW, 0]),
+    // A sequencer of 2^32.
+    ((1, ABOVE, "a", 0, 12), [1, ABOVE, 0, 12]),
+    ((2, ABOVE, "a", 1, 13), [2, ABOVE, 1, 13]),
+    ((3, ABOVE, "b", 0, 14), [3, ABOVE, 14, 0]),
+    ((4, ABOVE, "a", 1, 15), [4, ABOVE, 1, 15]),
+    ((5, ABOVE, SHORT, 5, 16), [5, ABOVE, 5, 0]),
+    // A commit number or a floor of 2^32.
+    ((2, 3, "a", ABOVE, 17), [2, 3, ABOVE, 17]),
+    ((4, 3, "b", ABOVE, 18), [4, 3, ABOVE, 18]),
+    ((5, 3, SHORT, ABOVE, 19), [5, 3, ABOVE, 0]),
+    // A long key.
+    ((1, 3, LONG, 0, 20), [1, 3, 0, 20]),
+    ((2, 3, LONG, 1, 21), [2, 3, 1, 21]),
+    ((3, 3, LONG, 0, 22), [3, 3, 22, 0]),
+    ((4, 3, LONG, 1, 23), [4, 3, 1, 23]),
+    ((5, 3, LONG, 5, 24), [5, 3, 5, 0]),
+    // Each kind once more.
+    ((0, 0, "", 0, 25), [0, 1, 25, 0]),
+    ((1, 4, "b", 0, 26), [1, 4, 0, 26]),
+    ((2, 4, SHORT, 2, 27), [2, 4, 2, 27]),
+    ((3, 4, "a", 0, 28), [3, 4, 28, 0]),
+    ((4, 4, SHORT, 2, 29), [4, 4, 2, 29]),
+    ((5, 4, "b", 6, 30), [5, 4, 6, 0]),
+    ((2, 4, "a", 2, 31), [2, 4, 2, 31]),
+];
+
+// Appends each of the entries.
+fn push_all(rt: &impl Abort, alloc: Global, history: &mut History) {
+    for (told, _) in &GIVEN {
+        made(rt, history.push(entry(rt, alloc, told)));
+    }
+}
+
+// Whether an entry is lent, and is this one.
+fn is_lent(lent: Option<EntryRef<'_>>, want: &Numbered) -> bool {
+    match lent {
+        Some(entry) => is_entry(&entry, want),
+        None => false,
+    }
+}
+
+// Whether a history lends each of the entries, and none past its end.
+fn lends_all(history: &History) -> bool {
+    let mut lends = history.get(GIVEN.len()).is_none();
+    for (number, want) in GIVEN.iter().enumerate() {
+        lends = lends && is_lent(history.get(number), want);
+    }
+    lends
+}
+
+// Whether a history lists the entries.
+fn lists_all(rt: &impl Abort, alloc: Global, history: &History) -> bool {
+    let entries = made(rt, history.entries(alloc));
+    let lists = are_entries(entries.as_slice(), &GIVEN);
+    drop(entries);
+    lists
+}
+
+// Whether an entry was there, and is this one. It is handed over, so that it is let go here alone.
+fn is_popped(entry: Option<Entry>, want: &Numbered) -> bool {
+    let is_popped = match &entry {
+        Some(entry) => is_entry(&EntryRef::of(entry), want),
+        None => false,
+    };
+    drop(entry);
+    is_popped
+}
+
+// Whether a history gives the entries back in the other order, until none is left.
+fn pops_all(history: &mut History) -> bool {
+    let mut pops = true;
+    for want in GIVEN.iter().rev() {
+        pops = pops && is_popped(history.pop(), want);
+    }
+    pops && history.is_empty() && !is_there(history.pop())
+}
+
+// Whether a history has the entries after they are pushed.
+fn takes_all(rt: &impl Abort, alloc: Global, history: &mut History) -> bool {
+    push_all(rt, alloc, history);
+    lends_all(history) && lists_all(rt, alloc, history)
+}
+
+// Whether a history has the entries that it is given, gives them back, and takes them again.
+fn gives_back(rt: &impl Abort, alloc: Global) -> bool {
+    let mut history = History::new(alloc);
+    let has_all = takes_all(rt, alloc, &mut history);
+    let pops_all = pops_all(&mut history);
+    let has_again = takes_all(rt, alloc, &mut history);
+    drop(history);
+    has_all && pops_all && has_again
+}
+
+#[test]
+fn a_history_gives_each_entry_back(rt: HostRuntime) {
+    must(&rt, gives_back(&rt, rt.alloc()), "each entry is given back");
 }

@@ -9,9 +9,8 @@ use super::must;
 use super::seats::{Tried, are_tried, claim_with};
 use super::starts::{in_memory, shared_among};
 use book::Book;
-use mw_types::Entry;
 use row_keeper::Keeper;
-use run_history::Case;
+use run_history::{Case, EntryRef, History};
 use shared_book::{Seat, Shared};
 use std::alloc::Global;
 use std::process::Abort;
@@ -93,25 +92,25 @@ fn claim_twice<K: Keeper>(
 }
 
 // Whether an entry is the claim of a worker, of the interval that is its own.
-fn is_claim_of(entry: Option<&Entry>, of: u32) -> bool {
+fn is_claim_of(entry: Option<EntryRef<'_>>, of: u32) -> bool {
     match entry {
-        Some(Entry::Claim { worker, interval }) => *worker == of && *interval == of % 2,
+        Some(EntryRef::Claim { worker, interval }) => worker == of && interval == of % 2,
         _ => false,
     }
 }
 
-// Whether the entries are claims of these workers.
-fn are_left(entries: &[Entry], left: &[u32]) -> bool {
-    let mut are = entries.len() == left.len();
+// Whether the entries of a history are claims of these workers.
+fn are_left(history: &History, left: &[u32]) -> bool {
+    let mut are = history.len() == left.len();
     for (number, worker) in left.iter().enumerate() {
-        are = are && is_claim_of(entries.get(number), *worker);
+        are = are && is_claim_of(history.get(number), *worker);
     }
     are
 }
 
 // Whether the history of a book has the claims of these workers, which is let go here.
 fn has_left<K: Keeper>(book: Book<'_, K>, left: &[u32]) -> bool {
-    let has = are_left(book.history().entries(), left);
+    let has = are_left(book.history(), left);
     drop(book);
     has
 }

@@ -200,13 +200,16 @@ fn in_threads<K: Keeper + Send, R: Threads + Wait + Abort + Sync>(
 // The history of a book has what the workers were answered. Both are let go here.
 fn has_shares<K: Keeper>(
     rt: &impl Abort,
+    alloc: Global,
     book: Book<'_, K>,
     numbers: Vec<Vec<u64>>,
     shares: &Shares,
 ) {
-    expect_shares(rt, book.history().entries(), numbers.as_slice(), shares);
-    drop(numbers);
+    let entries = made(rt, book.history().entries(alloc));
     drop(book);
+    expect_shares(rt, entries.as_slice(), numbers.as_slice(), shares);
+    drop(numbers);
+    drop(entries);
 }
 
 // The threads of a shared book, which comes back with what all of them appended.
@@ -225,7 +228,7 @@ fn all_threads<R: Threads + Wait + Abort + Sync>(
     let (shared, seat) = shared_among(rt, alloc, case, keeper, 10_000, seats);
     let Ended { seat, numbers } = in_threads(rt, alloc, &shared, seat, shares, seats - 1);
     let book = shared.close(seat);
-    has_shares(rt, book, numbers, &shares);
+    has_shares(rt, alloc, book, numbers, &shares);
 }
 
 // So many threads, and how often each claims.

@@ -2,8 +2,8 @@
 use super::must;
 use super::plays::Row;
 use book::Book;
-use mw_types::Entry;
 use row_keeper::Keeper;
+use run_history::{EntryRef, History};
 use std::process::Abort;
 
 // An entry in short. A claim has the worker and the interval; each other has the sequencer under which it
@@ -19,27 +19,35 @@ pub(crate) enum Told {
 }
 
 // An entry in short.
-fn in_short(entry: &Entry) -> Told {
-    match entry {
-        Entry::Claim { worker, interval } => Told::Claim(*worker, *interval),
-        Entry::Inject { seq, line, .. } => Told::Inject(*seq, *line),
-        Entry::Handle { seq, id, .. } => Told::Handle(*seq, id.commit),
-        Entry::Ack { seq, id, .. } => Told::Ack(*seq, id.commit),
-        Entry::Fire { seq, mark, .. } => Told::Fire(*seq, *mark),
-        Entry::Purge { seq, floor, .. } => Told::Purge(*seq, *floor),
+fn in_short(entry: &EntryRef<'_>) -> Told {
+    match *entry {
+        EntryRef::Claim { worker, interval } => Told::Claim(worker, interval),
+        EntryRef::Inject { seq, line, .. } => Told::Inject(seq, line),
+        EntryRef::Handle { seq, id, .. } => Told::Handle(seq, id.commit),
+        EntryRef::Ack { seq, id, .. } => Told::Ack(seq, id.commit),
+        EntryRef::Fire { seq, mark, .. } => Told::Fire(seq, mark),
+        EntryRef::Purge { seq, floor, .. } => Told::Purge(seq, floor),
     }
 }
 
-// These are the entries, and no other.
-fn are_told(rt: &impl Abort, entries: &[Entry], want: &[Told]) {
-    must(rt, entries.len() == want.len(), "how many entries");
-    for (at, entry) in entries.iter().enumerate() {
-        must(rt, want.get(at) == Some(&in_short(entry)), at);
+// Whether an entry is there, and is this one.
+fn is_told(entry: Option<EntryRef<'_>>, want: Told) -> bool {
+    match entry {
+        Some(entry) => in_short(&entry) == want,
+        None => false,
+    }
+}
+
+// These are the entries of a history, and no other.
+fn are_told(rt: &impl Abort, history: &History, want: &[Told]) {
+    must(rt, history.len() == want.len(), "how many entries");
+    for (at, told) in want.iter().enumerate() {
+        must(rt, is_told(history.get(at), *told), at);
     }
 }
 
 // A book has the entries and the marks of a row.
 pub(crate) fn has_left<K: Keeper>(rt: &impl Abort, book: &Book<'_, K>, row: &Row<'_>) {
-    are_told(rt, book.history().entries(), row.entries);
+    are_told(rt, book.history(), row.entries);
     must(rt, book.marks() == row.marks.as_slice(), "the marks");
 }

@@ -192,7 +192,17 @@ fn are_in_order(entries: &[Entry], of: u32) -> bool {
     next == LINES
 }
 
-// The book comes back with two claims, and each line of both injectors.
+// A book has two claims, and each line of both injectors. It is let go here.
+fn has_all<K: Keeper>(rt: &impl Abort, alloc: Global, book: Book<'_, K>) {
+    let entries = made(rt, book.history().entries(alloc));
+    drop(book);
+    let all = entries.as_slice();
+    let are_all = all.len() == 402 && are_in_order(all, 0) && are_in_order(all, 1);
+    drop(entries);
+    must(rt, are_all, "the entries");
+}
+
+// The book comes back with what both have injected.
 fn two_threads<K: Keeper + Send, R: Threads + Wait + Abort + Sync>(
     rt: &R,
     alloc: Global,
@@ -209,10 +219,7 @@ fn two_threads<K: Keeper + Send, R: Threads + Wait + Abort + Sync>(
     let one = shared.deal(&mut other);
     let seat = in_threads(rt, alloc, &shared, case, one, other);
     let book = shared.close(seat);
-    let entries = book.history().entries();
-    let are_all = entries.len() == 402 && are_in_order(entries, 0) && are_in_order(entries, 1);
-    must(rt, are_all, "the entries");
-    drop(book);
+    has_all(rt, alloc, book);
 }
 
 // The book is shared among two seats.

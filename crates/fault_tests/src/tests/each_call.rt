@@ -4,8 +4,8 @@ use super::files::{FIRST, TEXT};
 use super::kept::are_kept;
 use super::{made, must};
 use millwheel_cli::{Done, Status};
-use mw_types::Entry;
-use row_keeper::MemKeeper;
+use row_keeper::{KeptRow, MemKeeper};
+use run_history::{EntryRef, History};
 use std::alloc::Global;
 use std::process::Abort;
 
@@ -14,28 +14,33 @@ type Told = (&'static str, u64);
 
 // How an entry is told: a claim by its interval, a line by its number, a record or an acknowledgement by the number of the
 // entry that made it, a timer by its mark, a purge by its floor.
-fn told(entry: &Entry) -> Told {
-    match entry {
-        Entry::Claim { interval, .. } => ("claim", u64::from(*interval)),
-        Entry::Inject { line, .. } => ("inject", u64::from(*line)),
-        Entry::Handle { id, .. } => ("handle", id.commit),
-        Entry::Fire { mark, .. } => ("fire", *mark),
-        Entry::Ack { id, .. } => ("ack", id.commit),
-        Entry::Purge { floor, .. } => ("purge", *floor),
+fn told(entry: &EntryRef<'_>) -> Told {
+    match *entry {
+        EntryRef::Claim { interval, .. } => ("claim", u64::from(interval)),
+        EntryRef::Inject { line, .. } => ("inject", u64::from(line)),
+        EntryRef::Handle { id, .. } => ("handle", id.commit),
+        EntryRef::Fire { mark, .. } => ("fire", mark),
+        EntryRef::Ack { id, .. } => ("ack", id.commit),
+        EntryRef::Purge { floor, .. } => ("purge", floor),
     }
 }
 
-// Whether an entry is told so.
-fn is_told(entry: &Entry, want: Told) -> bool {
-    let (kind, number) = told(entry);
-    kind == want.0 && number == want.1
+// Whether an entry is there, and is told so.
+fn is_told(entry: Option<EntryRef<'_>>, want: Told) -> bool {
+    match entry {
+        Some(entry) => {
+            let (kind, number) = told(&entry);
+            kind == want.0 && number == want.1
+        }
+        None => false,
+    }
 }
 
-// Whether there are so many entries, the first of these.
-fn are_first(entries: &[Entry], want: &[Told], count: usize) -> bool {
-    let mut are = entries.len() == count;
-    for (at, entry) in entries.iter().enumerate() {
-        are = are && at < want.len() && is_told(entry, want[at]);
+// Whether a history has so many entries, the first of these.
+fn are_first(history: &History, want: &[Told], count: usize) -> bool {
+    let mut are = history.len() == count;
+    for at in 0..history.len() {
+        are = are && at < want.len() && is_told(history.get(at), want[at]);
     }
     are
 }
@@ -109,12 +114,20 @@ static RUNS: [(&str, &[Told]); 3] = [
     ("load 7 3", &LOADED),
 ];
 
+// Whether these are the rows of a history, and no others.
+fn are_its_rows(rt: &impl Abort, alloc: Global, rows: &[KeptRow], history: &History) -> bool {
+    let entries = made(rt, history.entries(alloc));
+    let are_kept = are_kept(alloc, rows, entries.as_slice());
+    drop(entries);
+    are_kept
+}
+
 /// Whether the keeper has the rows of the history, and no others.
 pub(super) fn has_its_rows(rt: &impl Abort, alloc: Global, done: &Done<MemKeeper>) -> bool {
     let rows = made(rt, done.keeper.rows(alloc));
-    let are_kept = are_kept(alloc, rows.as_slice(), done.history.entries());
+    let are_its_rows = are_its_rows(rt, alloc, rows.as_slice(), &done.history);
     drop(rows);
-    are_kept
+    are_its_rows
 }
 
 // Whether a call whose keeper failed ended with that, after so many of the entries, and wrote nothing; or ended well
@@ -132,7 +145,7 @@ fn has_ended(
         Status::Ok => count == want.len(),
         _ => false,
     };
-    is_so && are_first(done.history.entries(), want, count) && has_its_rows(rt, alloc, done)
+    is_so && are_first(&done.history, want, count) && has_its_rows(rt, alloc, done)
 }
 
 // Whether a call whose keeper fails at this of its calls ends so, and leaves the rows of its history.

@@ -11,10 +11,10 @@ use super::overtaken::sides;
 use book::Book;
 use computations::Kinds;
 use injector::{Items, ItemsList, read_lines};
-use mw_types::{Entry, NoMemory};
+use mw_types::NoMemory;
 use node::{NodeFault, Outcome};
 use row_keeper::{Keeper, MemKeeper};
-use run_history::Case;
+use run_history::{Case, EntryRef, History};
 use schedules::{Schedule, read_schedule};
 use scripts::Step;
 use std::alloc::Global;
@@ -152,9 +152,9 @@ fn step_said(answer: &Result<Outcome, NodeFault>) -> Said {
 }
 
 // How a script has the floor of the last entry.
-fn floor_said(entries: &[Entry]) -> Said {
-    match entries.last() {
-        Some(Entry::Purge { floor, .. }) => ("floor", Some(*floor)),
+fn floor_said(history: &History) -> Said {
+    match history.get(history.len().wrapping_sub(1)) {
+        Some(EntryRef::Purge { floor, .. }) => ("floor", Some(floor)),
         _ => ("no floor", None),
     }
 }
@@ -178,7 +178,7 @@ fn said(
         return drain_said(alloc, world);
     }
     if asked == "last" {
-        return floor_said(world.book().history().entries());
+        return floor_said(world.book().history());
     }
     let answer = answer(rt, alloc, world, asked);
     let said = step_said(&answer);

@@ -122,26 +122,26 @@ fn has_left(
     text: &[u8],
     look: Look<'_>,
 ) -> Result<bool, NoMemory> {
-    let entries = done.history.entries();
     match look {
-        Look::Entries(count) => Ok(entries.len() == count),
-        Look::Entry(number, want) => Ok(has_entry(entries, number, want)),
+        Look::Entries(count) => Ok(done.history.len() == count),
+        Look::Entry(number, want) => has_entry(alloc, done, number, want),
         Look::Leaves(rows) => holds_rows(alloc, &done.keeper, rows),
         Look::LastRow(count, name) => has_last_row(alloc, &done.keeper, count, name),
         Look::Counted(rows) => {
-            let is_counted = done.status.is_ok() && entries.is_empty();
+            let is_counted = done.status.is_ok() && done.history.is_empty();
             Ok(is_counted && holds_rows(alloc, &done.keeper, rows)?)
         }
         Look::Left(want, rows) => {
-            Ok(are_entries(entries, want) && holds_rows(alloc, &done.keeper, rows)?)
+            Ok(has_entries(alloc, done, want)? && holds_rows(alloc, &done.keeper, rows)?)
         }
         Look::Cut(count, want) => Ok(is_cut(done, text, count, want)),
         Look::Failed(count) => {
             let has_failed = matches!(done.status, Status::KeeperFault);
-            Ok(has_failed && entries.len() == count && text.is_empty())
+            Ok(has_failed && done.history.len() == count && text.is_empty())
         }
         _ => {
-            let is_unbegun = entries.is_empty() && text.is_empty() && names_the_row(&done.status);
+            let is_empty = done.history.is_empty() && text.is_empty();
+            let is_unbegun = is_empty && names_the_row(&done.status);
             Ok(is_unbegun && holds_rows(alloc, &done.keeper, ONE_ROW)?)
         }
     }
@@ -162,11 +162,27 @@ fn is_cut(done: &Done<MemKeeper>, text: &[u8], count: usize, want: &str) -> bool
 }
 
 // Whether the entry of this number is this one.
-fn has_entry(entries: &[Entry], number: usize, want: Kind<'_>) -> bool {
-    match entries.get(number) {
+fn has_entry(
+    alloc: Global,
+    done: &Done<MemKeeper>,
+    number: usize,
+    want: Kind<'_>,
+) -> Result<bool, NoMemory> {
+    let entries = done.history.entries(alloc)?;
+    let has = match entries.get(number) {
         Some(entry) => is_entry(entry, want),
         None => false,
-    }
+    };
+    drop(entries);
+    Ok(has)
+}
+
+// Whether a call has these entries, and no others.
+fn has_entries(alloc: Global, done: &Done<MemKeeper>, want: &[Kind<'_>]) -> Result<bool, NoMemory> {
+    let entries = done.history.entries(alloc)?;
+    let has = are_entries(entries.as_slice(), want);
+    drop(entries);
+    Ok(has)
 }
 
 // Whether these are the entries.

@@ -108,9 +108,12 @@ fn injected(entries: &[Entry]) -> u64 {
 }
 
 // Whether a call ended with Ok, has these claims, and has as many lines injected as there are.
-fn has_them(done: &Done<MemKeeper>, claims: Claims<'_>) -> bool {
-    let entries = done.history.entries();
-    done.status.is_ok() && are_claims(entries, claims) && injected(entries) == 60
+fn has_them(rt: &impl Abort, alloc: Global, done: &Done<MemKeeper>, claims: Claims<'_>) -> bool {
+    let entries = made(rt, done.history.entries(alloc));
+    let all = entries.as_slice();
+    let are_so = are_claims(all, claims) && injected(all) == 60;
+    drop(entries);
+    done.status.is_ok() && are_so
 }
 
 /// Whether a call does.
@@ -124,7 +127,7 @@ pub(super) fn has_claims<R: Threads + Wait + Abort + Sync>(
     let mut out = sink(alloc);
     let done = ended(rt, alloc, line, files, &mut out);
     drop(out);
-    let has_them = has_them(&done, claims);
+    let has_them = has_them(rt, alloc, &done, claims);
     drop(done);
     has_them
 }

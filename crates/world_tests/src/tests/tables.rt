@@ -9,10 +9,9 @@ ghost use Rattle.scripts.specs.Steps.{IsStep};
 use super::fixtures::{COUNT, EVENTS, MOST, case, keeper, world};
 use super::made;
 use computations::Kinds;
-use mw_types::Entry;
 use node::{NodeFault, Outcome};
 use row_keeper::Keeper;
-use run_history::Case;
+use run_history::{Case, EntryRef, History};
 use schedules::{Schedule, read_schedule};
 use std::alloc::Global;
 use std::process::Abort;
@@ -86,17 +85,22 @@ fn fault_word(fault: &NodeFault) -> &'static str {
     }
 }
 
-// How a table has the last entry: what it is, and for what.
-pub(crate) fn last_said(entries: &[Entry]) -> Said {
-    match entries.last() {
-        Some(Entry::Claim { interval, .. }) => ("Claim", Some(u64::from(*interval))),
-        Some(Entry::Inject { line, .. }) => ("Inject", Some(u64::from(*line))),
-        Some(Entry::Handle { id, .. }) => ("Handle", Some(id.commit)),
-        Some(Entry::Fire { mark, .. }) => ("Fire", Some(*mark)),
-        Some(Entry::Ack { id, .. }) => ("Ack", Some(id.commit)),
-        Some(Entry::Purge { floor, .. }) => ("Purge", Some(*floor)),
+// How a table has an entry: what it is, and for what.
+pub(crate) fn entry_said(entry: Option<EntryRef<'_>>) -> Said {
+    match entry {
+        Some(EntryRef::Claim { interval, .. }) => ("Claim", Some(u64::from(interval))),
+        Some(EntryRef::Inject { line, .. }) => ("Inject", Some(u64::from(line))),
+        Some(EntryRef::Handle { id, .. }) => ("Handle", Some(id.commit)),
+        Some(EntryRef::Fire { mark, .. }) => ("Fire", Some(mark)),
+        Some(EntryRef::Ack { id, .. }) => ("Ack", Some(id.commit)),
+        Some(EntryRef::Purge { floor, .. }) => ("Purge", Some(floor)),
         None => ("none", None),
     }
+}
+
+// How a table has the last entry.
+fn last_said(history: &History) -> Said {
+    entry_said(history.get(history.len().wrapping_sub(1)))
 }
 
 // How a table has the end of a drain.
@@ -136,7 +140,7 @@ fn said<K: Keeper>(
     match asked {
         "drain" => drain_said(alloc, world),
         "count" => ("entries", Some(world.book().history().len() as u64)),
-        "last" => last_said(world.book().history().entries()),
+        "last" => last_said(world.book().history()),
         _ => step_said(rt, alloc, world, asked),
     }
 }

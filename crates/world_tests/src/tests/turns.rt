@@ -3,24 +3,23 @@ ghost use Rattle.std.specs.Prelude.{◌≡◌, OnSome, true};
 ghost use Rattle.world.specs.WorldDrains.{HasDrain};
 
 use super::fixtures::{CHAIN, COUNT, EVENTS, MARKED, MOST, case, keeper, world};
-use super::tables::last_said;
+use super::tables::entry_said;
 use super::whole_scripts::{is_drained, runs};
 use super::{made, must};
 use computations::Kinds;
-use mw_types::Entry;
 use row_keeper::{Keeper, MemKeeper};
-use run_history::Case;
+use run_history::{Case, History};
 use std::alloc::Global;
 use std::process::Abort;
 use world::{Drain, World};
 
-// Whether the next turn writes one entry, which is the one that these have at its place, or none where it
-// has to write none.
+// Whether the next turn writes one entry, which is the one that a whole history has at its place, or none
+// where it has to write none.
 fn turns<K: Keeper>(
     alloc: Global,
     world: &mut World<'_, K, Kinds>,
     drain: &mut Drain,
-    whole: &[Entry],
+    whole: &History,
     is_more: bool,
 ) -> bool
     requires drain { HasDrain world.old drain.old }
@@ -34,8 +33,8 @@ fn turns<K: Keeper>(
     let Some(more) = turn(alloc, world, drain) else {
         return false;
     };
-    let entries = world.book().history().entries();
-    more == is_more && entries.len() == count && is_as(entries, whole)
+    let history = world.book().history();
+    more == is_more && history.len() == count && is_as(history, whole)
 }
 
 // Whether the next turn writes an entry, or none after a fault.
@@ -50,19 +49,18 @@ fn turn<K: Keeper>(
     world.drain_turn(alloc, drain).ok()
 }
 
-// Whether a history ends as these entries do at its length.
-fn is_as(entries: &[Entry], whole: &[Entry]) -> bool {
-    match whole.get(..entries.len()) {
-        Some(front) => last_said(entries) == last_said(front),
-        None => false,
-    }
+// Whether a history ends as a whole one does at its length.
+fn is_as(history: &History, whole: &History) -> bool {
+    let last = history.len().wrapping_sub(1);
+    entry_said(history.get(last)) == entry_said(whole.get(last))
 }
 
-// Whether a drain by turns writes these entries, one a turn, and then none, however often it is asked.
+// Whether a drain by turns writes the entries of a whole history, one a turn, and then none, however often
+// it is asked.
 fn is_drained_as<K: Keeper>(
     alloc: Global,
     world: &mut World<'_, K, Kinds>,
-    whole: &[Entry],
+    whole: &History,
 ) -> bool {
     let left = whole.len().saturating_sub(world.book().history().len());
     let mut drain = world.begin_drain(alloc);
@@ -71,12 +69,12 @@ fn is_drained_as<K: Keeper>(
     holds
 }
 
-// Whether so many turns write one of these entries each, and two more write none.
+// Whether so many turns write one entry of a whole history each, and two more write none.
 fn turns_on<K: Keeper>(
     alloc: Global,
     world: &mut World<'_, K, Kinds>,
     drain: &mut Drain,
-    whole: &[Entry],
+    whole: &History,
     left: usize,
 ) -> bool
     requires drain { HasDrain world.old drain.old }
@@ -107,7 +105,7 @@ fn after<'a>(
 fn agrees<K: Keeper>(
     alloc: Global,
     world: &mut World<'_, K, Kinds>,
-    whole: &[Entry],
+    whole: &History,
     is_faulty: bool,
 ) -> bool {
     let first = is_drained_as(alloc, world, whole);
@@ -142,26 +140,19 @@ fn is_one(
 fn is_one_of(rt: &impl Abort, alloc: Global, case: &Case, failing: &[u64], script: &str) -> bool {
     let mut twin = after(rt, alloc, case, failing, script);
     let holds = ends(alloc, &mut twin, !failing.is_empty())
-        && turns_as(
-            rt,
-            alloc,
-            case,
-            failing,
-            script,
-            twin.book().history().entries(),
-        );
+        && turns_as(rt, alloc, case, failing, script, twin.book().history());
     drop(twin);
     holds
 }
 
-// Whether a drain by turns of a world behind a script writes these entries.
+// Whether a drain by turns of a world behind a script writes the entries of a whole history.
 fn turns_as(
     rt: &impl Abort,
     alloc: Global,
     case: &Case,
     failing: &[u64],
     script: &str,
-    whole: &[Entry],
+    whole: &History,
 ) -> bool {
     let mut world = after(rt, alloc, case, failing, script);
     let holds = agrees(alloc, &mut world, whole, !failing.is_empty());

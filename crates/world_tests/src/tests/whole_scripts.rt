@@ -3,10 +3,9 @@ use super::fixtures::{COUNT, EVENTS, MOST, case, keeper, world};
 use super::must;
 use super::tables::schedule;
 use computations::Kinds;
-use mw_types::Entry;
 use node::NodeFault;
 use row_keeper::Keeper;
-use run_history::Case;
+use run_history::{Case, EntryRef};
 use std::alloc::Global;
 use std::process::Abort;
 use world::{World, run_script};
@@ -64,10 +63,10 @@ pub(crate) fn is_drained<K: Keeper>(alloc: Global, world: &mut World<'_, K, Kind
     is_ok
 }
 
-// Whether the entry of this number is that the record of that one was handled.
-fn handles(entries: &[Entry], number: usize, commit: u64) -> bool {
-    match entries.get(number) {
-        Some(Entry::Handle { id, .. }) => id.commit == commit,
+// Whether an entry is that the record of this number was handled.
+fn handles(entry: Option<EntryRef<'_>>, commit: u64) -> bool {
+    match entry {
+        Some(EntryRef::Handle { id, .. }) => id.commit == commit,
         _ => false,
     }
 }
@@ -87,7 +86,7 @@ fn is_handled_of(rt: &impl Abort, alloc: Global, case: &Case) -> bool {
     let is_left = leaves(rt, alloc, &mut world, UNWRITTEN, true, 3);
     let is_drained = drains(alloc, &mut world, 16);
     let book = world.into_book();
-    let is_handled = handles(book.history().entries(), 5, 2);
+    let is_handled = handles(book.history().get(5), 2);
     drop(book);
     is_left && is_drained && is_handled
 }

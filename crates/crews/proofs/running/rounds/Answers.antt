@@ -1,4 +1,4 @@
-use Rattle.std.proofs.Common.{◌≡◌, ◌⊎◌, ◌∙◌, ◌≤◌, ◌+◌, [], ℕ, List, inl, length, refl, sym, ap, subst, arith}
+use Rattle.std.proofs.Common.{◌≡◌, ◌⊎◌, ◌∙◌, ◌≤◌, ◌+◌, [], ℕ, List, inl, length, refl, sym, ap, subst, arith, append-nil}
 use Rattle.std.specs.Prelude.{IfNone, IfSome, true}
 use Rattle.run_history.specs.Cases.{CaseShape}
 use Rattle.run_history.specs.Fences.{Begins}
@@ -19,6 +19,10 @@ close-requires-clause-all g c n below =
     let run = c.shared_rounds-fault.ensures.run in
     let seats = ap (λ (b : Basis). b.seats) run.basis in
     run.numbers n (omega (arith, below, seats))
+
+pub returns-in-Err-clause-grown : goal.returns-in-Err-clause-grown
+returns-in-Err-clause-grown g c =
+    ([], append-nil c.args.book.history ∙ sym (ap (λ (b : BookView). b.history) c.in-Err.ensures.book))
 
 pub returns-in-Err-clause-first : goal.returns-in-Err-clause-first
 returns-in-Err-clause-first g c none =

@@ -4,6 +4,7 @@ use Rattle.mw_types.specs.declared.entry.Entry.{Entry}
 use Rattle.topology.specs.Shapes.{Shape, parts_of}
 use Rattle.row_parts.specs.Contents.{IsId}
 use Rattle.run_history.specs.Cases.{CaseShape}
+use Rattle.run_history.specs.Lent.{lent}
 use Rattle.run_history.specs.Made.{emissions_of}
 use Rattle.run_history.specs.Runs.{run_of}
 use Rattle.run_history.specs.Printing.{HasFollowed}
@@ -28,9 +29,8 @@ returns-in_ok-follow-clause-extends c =
     (subst (λ (v : OutletView). IsPumpedFrom c.args.case.now.topology v history) (sym c.self.view_is) c.requires.extends) in
     let next : o.place < length history =
     subst (λ (v : OutletView). v.place < length history) (sym c.self.view_is) c.requires.next in
-    let entry : Entry = c.index-entries-self.result in
-    let is : entry ≡ get_or history o.place entry =
-    subst (λ (h : List Entry). entry ≡ get_or h o.place entry) c.entries.ensures.entries c.index-entries-self.is in
+    let entry : Entry = lent c.at-entry.result in
+    let is : entry ≡ get_or history o.place entry = c.at-entry.ensures in
     subst (λ (s : CaseShape). IsPumpedFrom s.topology new history) c.case.view_is (record {
       place = before.place;
       known = followed-next shape history o.place entry o.followed new.followed new.waiting next is
