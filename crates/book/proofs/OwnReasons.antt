@@ -18,7 +18,6 @@ use Rattle.book.specs.Lawful.{IsLawful}
 use Rattle.book.specs.Marks.{reported, with_mark}
 use Rattle.book.specs.OwnDesks.{own_view}
 use Rattle.book.specs.declared.answers.Claimed.{Claimed}
-use Rattle.book.specs.declared.answers.Written.{Written}
 use Rattle.book.specs.declared.desk_refusal.DeskRefusal.TheVariants as refusals
 use Rattle.book.specs.declared.refusals.ClaimRefusal.{ClaimRefusal}
 use Rattle.book.specs.declared.refusals.ClaimRefusal.TheVariants as claims
@@ -68,13 +67,13 @@ of_write-Damage writes.NoMemory = tt
 of_write-Damage writes.KeeperFault = tt
 
 -- a write that was refused
-abbrev refused : WriteRefusal → Result Written WriteRefusal
+abbrev refused : {T : Type 0} → WriteRefusal → Result T WriteRefusal
 refused why = Err why
 
 -- why a write was refused
-pub reason : (old new : BookView) (lease : LeaseView) (why : WriteRefusal) → HasStayed old new → IsSameBook old new
-    → HasCause old.faults new.faults (refused why) writes.KeeperFault → IsStaleWhere old.history lease (refused why)
-    → IsFullWhere old.limit old.history lease (refused why)
+pub reason : {T : Type 0} (old new : BookView) (lease : LeaseView) (why : WriteRefusal) → HasStayed old new → IsSameBook old new
+    → HasCause {T = T} old.faults new.faults (refused why) writes.KeeperFault → IsStaleWhere {T = T} old.history lease (refused why)
+    → IsFullWhere {T = T} old.limit old.history lease (refused why)
     → HasReason (own_view old) (own_view new) lease (of_write why)
 reason old new lease why stayed same cause stale full = record {
   stale = λ _ newer. (

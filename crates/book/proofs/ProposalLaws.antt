@@ -38,8 +38,7 @@ use Rattle.book.specs.Books.{BookView, LeaseView, core_of}
 use Rattle.run_history.specs.Fits.{fits, suits_part, is_cursor_within, is_sent_before}
 use Rattle.book.specs.Lawful.{HoldsRowsOf, IsLawful}
 use Rattle.book.specs.Conditions.{MayUseAt, IsRowSeenAt}
-use Rattle.book.specs.Answers.{IsWritten}
-use Rattle.book.specs.declared.answers.Written.{Written}
+use Rattle.book.specs.Answers.{IsWritten, answer_of}
 use Rattle.book.specs.declared.refusals.WriteRefusal.{WriteRefusal}
 use Rattle.book.specs.Proposals.{IsNextLine, IsHandling, IsFiring, IsDueUnder, IsProposable, IsProposedOf, IsEntryOf, IsWrittenBy, left_by}
 use Rattle.book.specs.Appending.{IsNext}
@@ -358,18 +357,18 @@ IsNext-proposed book lease front name row left (proposals.Fire timer mark effect
     (next-fired book lease front name row left timer mark effects lawful uses seen last room may told
     (leaves ∙ ap (λ (e : Entry). left_by book.case.topology name (proposals.Fire timer mark effects) (length book.history) e row) is))
 
--- an accepted proposal, by what appending answered
-pub IsWrittenBy-result : (old new : BookView) (lease : LeaseView) (name : RowName) (proposal : Proposal) (row left : Contents)
-    (entry : Entry) (result : Result Written WriteRefusal)
+-- an accepted proposal, by what changing the row answered
+pub IsWrittenBy-result : (old new : BookView) (lease : LeaseView) (name : RowName) (proposal : Proposal) (row left after : Contents)
+    (entry : Entry) (result : Result ℕ WriteRefusal)
     → IsNext old.case (core_of old) name entry left → last_claim lease.interval old.history ≡ Some lease.seq
     → IsEntryOf old.case lease.seq name proposal entry → left ≡ left_by old.case.topology name proposal (length old.history) entry row
-    → OnOk result (new.history ≡ old.history ++ entry ∷ []) → IfOk result (λ w. w.commit ≡ length old.history)
-    → IfOk result (λ w. w.row ≡ left)
-    → IfOk result (IsWrittenBy old.case old.rows old.history new.history lease name proposal row)
-IsWrittenBy-result old new lease name proposal row left entry (Err why) next last of leaves appended commit is = tt
-IsWrittenBy-result old new lease name proposal row left entry (Ok answer) next last of leaves appended commit is = record {
+    → OnOk result (new.history ≡ old.history ++ entry ∷ []) → IfOk result (λ commit. commit ≡ length old.history)
+    → OnOk result (after ≡ left)
+    → IfOk result (λ commit. IsWrittenBy old.case old.rows old.history new.history lease name proposal row (answer_of commit after))
+IsWrittenBy-result old new lease name proposal row left after entry (Err why) next last of leaves appended commit is = tt
+IsWrittenBy-result old new lease name proposal row left after entry (Ok n) next last of leaves appended commit is = record {
   entry = entry;
   of_proposal = of;
-  written = subst (λ (c : Contents). IsWritten old.case old.rows old.history new.history lease name entry c answer) leaves
-      (IsWritten-next old new lease name entry left answer next last appended commit is);
+  written = subst (λ (c : Contents). IsWritten old.case old.rows old.history new.history lease name entry c (answer_of n after)) leaves
+      (IsWritten-next old new lease name entry left (answer_of n after) next last appended commit is);
 }

@@ -35,7 +35,7 @@ use Rattle.run_history.specs.Fits.{fits, suits_part, is_cursor_within}
 use Rattle.computations.specs.Handlers.{has_kind}
 use Rattle.book.specs.Lawful.{HoldsRowsOf, IsLawful}
 use Rattle.book.specs.Conditions.{MayUseAt, IsRowSeenAt, MaySettleAt, MayForgetAt}
-use Rattle.book.specs.Answers.{IsWritten}
+use Rattle.book.specs.Answers.{IsWritten, answer_of}
 use Rattle.book.specs.declared.answers.Written.{Written}
 use Rattle.book.specs.declared.refusals.WriteRefusal.{WriteRefusal}
 use Rattle.book.specs.Appending.{IsNext}
@@ -251,22 +251,17 @@ IsWritten-next old new lease name entry left answer next last appended commit ro
       last = last;
     }
 
--- an accepted write, by what appending answered
-pub IsWritten-result : (old new : BookView) (lease : LeaseView) (name : RowName) (entry given : Entry) (left : Contents)
-    (result : Result Written WriteRefusal)
+-- an accepted write, by what changing the row answered
+pub IsWritten-result : (old new : BookView) (lease : LeaseView) (name : RowName) (entry given : Entry) (left after : Contents)
+    (result : Result ℕ WriteRefusal)
     → IsNext old.case (core_of old) name entry left → last_claim lease.interval old.history ≡ Some lease.seq → given ≡ entry
-    → OnOk result (new.history ≡ old.history ++ given ∷ []) → IfOk result (λ w. w.commit ≡ length old.history)
-    → IfOk result (λ w. w.row ≡ left)
-    → IfOk result (IsWritten old.case old.rows old.history new.history lease name entry left)
-IsWritten-result old new lease name entry given left (Err why) next last same appended commit row = tt
-IsWritten-result old new lease name entry given left (Ok answer) next last same appended commit row =
-    IsWritten-next old new lease name entry left answer next last (appended ∙ ap (λ (e : Entry). old.history ++ e ∷ []) same) commit row
-
--- a row that was answered, under another name
-pub IfOk-row : {one other : Contents} → one ≡ other → (result : Result Written WriteRefusal) → IfOk result (λ w. w.row ≡ one)
-    → IfOk result (λ w. w.row ≡ other)
-IfOk-row same (Err why) row = tt
-IfOk-row same (Ok answer) row = row ∙ same
+    → OnOk result (new.history ≡ old.history ++ given ∷ []) → IfOk result (λ commit. commit ≡ length old.history)
+    → OnOk result (after ≡ left)
+    → IfOk result (λ commit. IsWritten old.case old.rows old.history new.history lease name entry left (answer_of commit after))
+IsWritten-result old new lease name entry given left after (Err why) next last same appended commit row = tt
+IsWritten-result old new lease name entry given left after (Ok n) next last same appended commit row =
+    IsWritten-next old new lease name entry left (answer_of n after) next last (appended ∙ ap (λ (e : Entry). old.history ++ e ∷ []) same)
+    commit row
 
 -- the row that is handed in is that of the history, where a contract can see the keeper's rows
 pub row-was : (book : BookView) (lease : LeaseView) (front : ℕ) (name : RowName) (row : Contents) → IsLawful book.case (core_of book)
@@ -279,7 +274,7 @@ row-was book lease front name row lawful uses seen last =
     (λ r is. is ∙ row-front book lease front name uses last ∙ row-whole book lease front name lawful.fenced uses last)
 
 -- what holds of an accepted write, where it holds anyway
-pub when-written : {A : Type 0} (result : Result Written WriteRefusal) → A → OnOk result A
+pub when-written : {T A : Type 0} (result : Result T WriteRefusal) → A → OnOk result A
 when-written (Ok written) holds = holds
 when-written (Err why) holds = tt
 

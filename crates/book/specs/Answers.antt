@@ -38,6 +38,10 @@ pub record IsWritten {X : Type 0} (case : CaseShape) (told : Option X) (before a
   -- the lease was the last of its interval
   pub last : IsCurrent lease.interval lease.seq before
 
+-- what a write answers of the row that it leaves
+abbrev pub answer_of : ℕ → Contents → Written
+answer_of commit row = record { commit = commit; row = row }
+
 -- a write is stale exactly where a later claim of the lease's interval is there, whose number is
 -- then answered
 abbrev pub IsStaleWhere : {T : Type 0} → List Entry → LeaseView → Result T WriteRefusal → Type 0

@@ -10,7 +10,8 @@ use Rattle.run_history.specs.Runs.{run_of}
 use Rattle.run_history.specs.Legal.{MayFollow}
 use Rattle.run_history.specs.Fences.{IsUnderLastClaim, last_claim}
 use Rattle.run_history.specs.HistoryLines.{HasLine}
-use Rattle.book.specs.Books.{CoreView}
+use Rattle.run_history.specs.Finished.{work_in}
+use Rattle.book.specs.Books.{BookView, CoreView}
 use Rattle.run_history.specs.Fits.{fits}
 use Rattle.book.specs.Conditions.{IsRowOf}
 
@@ -35,6 +36,11 @@ pub record IsNext (case : CaseShape) (core : CoreView) (name : RowName) (entry :
   pub fit : fits case (length core.history + 1) name row ≡ true
   pub may : IfSome core.rows (λ _. MayFollow case (run_of case.topology core.history) entry)
   pub of_history : IsRowOf case core.rows (core.history ++ entry ∷ []) name row
+
+-- so much work is in a row, which is that of the history where a contract can see the keeper's rows
+abbrev pub HadWork : BookView → RowName → ℕ → Type 0
+HadWork book name gone = (before : Contents)
+    × (IsRowOf book.case book.rows book.history name before × (gone ≡ work_in book.case name before))
 
 -- the last claim, where it is later than this one
 abbrev pub later_than : ℕ → Option ℕ → Option ℕ

@@ -16,7 +16,7 @@ ghost use Rattle.book.specs.Appending.{KnowsClaims};
 ghost use Rattle.book.specs.Sending.{HasSent, IsAfterEntry, IsLeastKnown, IsUnsent, KnowsSame};
 
 use crate::sender_map::{Senders, forget_sent, note_sent, settle, settled_by};
-use crate::work_left::work_after;
+use crate::work_left::work_with;
 use mw_types::{Entry, NoMemory, RecordId, RowName};
 use record_codec::encode_over;
 use row_keeper::{Keeper, KeeperFault};
@@ -77,14 +77,14 @@ impl<K: Keeper> Core<K> {
     }
 
     // Appends an entry on a row, which has made so many deliveries, and stores the bytes of the row that
-    // it leaves.
+    // it leaves, in which so much work was before.
     pub(crate) fn append(
         &mut self,
         alloc: Global,
         case: &Case,
         entry: Entry,
         name: &RowName,
-        before: &Row,
+        gone: u64,
         row: &Row,
         sent: u32,
     ) -> Result<(), KeeperFault>
@@ -95,8 +95,7 @@ impl<K: Keeper> Core<K> {
             (self.new.rows ≡ option_map (with_row name.now (spelling_of row.now)) self.old.rows) }
         ensures own { OnOk result (IsSpelledRow row.now) }
         ensures left { OnOk result (self.new.work
-            ≡ (self.old.work + work_in case.now name.now row.now)
-            - work_in case.now name.now before.now) }
+            ≡ (self.old.work + work_in case.now name.now row.now) - gone) }
         ensures senders { OnOk result (IsAfterEntry (length self.old.history) entry name.now sent
             self.old.unacknowledged self.new.unacknowledged) }
         ensures limit { self.new.limit ≡ self.old.limit }
@@ -125,7 +124,7 @@ impl<K: Keeper> Core<K> {
             &mut self.work,
             case,
             name,
-            before,
+            gone,
             row,
         ) {
             forget_sent(&mut self.unacknowledged, commit, sent);
@@ -220,8 +219,8 @@ fn forget_last(history: &mut History)
     drop(history.pop());
 }
 
-// Stores the bytes of a row in the place of another's, made in a buffer that is used again, and counts
-// the work that is left then.
+// Stores the bytes of a row, made in a buffer that is used again, and counts the work that is left once it
+// stands where so much was.
 fn store<K: Keeper>(
     alloc: Global,
     keeper: &mut K,
@@ -229,7 +228,7 @@ fn store<K: Keeper>(
     work: &mut u64,
     case: &Case,
     name: &RowName,
-    before: &Row,
+    gone: u64,
     row: &Row,
 ) -> Result<(), KeeperFault>
     ensures stored { OnOk result
@@ -239,11 +238,11 @@ fn store<K: Keeper>(
     ensures unchanged { OnErr result (K.rows keeper.new ≡ K.rows keeper.old) }
     ensures failed { HasCause (K.faults keeper.old) (K.faults keeper.new)
         result KeeperFault.Failed }
-    ensures left { OnOk result (work.new ≡ (work.old + work_in case.now name.now row.now)
-        - work_in case.now name.now before.now) }
+    ensures left { OnOk result
+        (work.new ≡ (work.old + work_in case.now name.now row.now) - gone) }
     ensures same_left { OnErr result (work.new ≡ work.old) }
 {
-    let left = work_after(case, name, before, row, *work)?;
+    let left = work_with(case, name, gone, row, *work)?;
     let bytes = encode_over(replace(buffer, Vec::new(alloc)), row)?;
     keeper.put(alloc, name, bytes.as_slice())?;
     *buffer = bytes.into_vec();

@@ -5,6 +5,7 @@ ghost use Rattle.run_history.specs.Cases.{intervals_of};
 ghost use Rattle.run_history.specs.Legal.{MayClaim};
 ghost use Rattle.run_history.specs.Runs.{written_row};
 ghost use Rattle.watermark.specs.Marks.{mark_of};
+ghost use Rattle.book.specs.Answers.{answer_of};
 ghost use Rattle.book.specs.Conditions.{IsOwnWork, MaySettle};
 ghost use Rattle.book.specs.Desking.{HasClaimed, HasStored, HasWritten, IsKnownOf, IsPurgeKnown, IsReported, IsRowKnown, MayAsk};
 ghost use Rattle.book.specs.DeskReasons.{HasClaimReason, HasReason, IsReportRefusal};
@@ -82,6 +83,36 @@ pub trait Desk: Drop {
         ensures loan { loan self.new ≡ loan self.old }
         ensures home { home self.new ≡ home self.old };
 
+    /// Does what `write` does on a row that is changed where it lies, and answers the commit number. A
+    /// refusal leaves the row as it was.
+    fn write_in(
+        &mut self,
+        alloc: Global,
+        lease: &Lease,
+        name: &RowName,
+        row: &mut Row,
+        proposal: &Proposal,
+    ) -> Result<u64, DeskRefusal>
+        requires lease { MayAsk (view self.old) lease.now name.now }
+        requires row { IsRowKnown (view self.old) lease.now name.now row.old }
+        requires proposal { IsProposable (view self.old).case name.now row.old proposal.now }
+        requires known { IsKnownOf (view self.old) name.now proposal.now }
+
+        ensures written { IfOk result (λ commit. HasWritten (view self.old) (view self.new)
+            lease.now name.now proposal.now row.old (answer_of commit row.new)) }
+        ensures row { OnErr result (row.new ≡ row.old) }
+        ensures looked { OnErr result (HasLooked (view self.old) (view self.new)) }
+        ensures reason { IfErr result (HasReason (view self.old) (view self.new) lease.now) }
+        ensures marks { KeepsMarks (view self.old) (view self.new) }
+        ensures loan { loan self.new ≡ loan self.old }
+        ensures home { home self.new ≡ home self.old }
+    {
+        match self.write(alloc, lease, name, row, proposal) {
+            Ok(written) => Ok(put_written(row, written)),
+            Err(why) => Err(why),
+        }
+    }
+
     /// A sender learns that what it made was handled: the row no longer waits for the id.
     fn settle(
         &mut self,
@@ -104,6 +135,37 @@ pub trait Desk: Drop {
         ensures loan { loan self.new ≡ loan self.old }
         ensures home { home self.new ≡ home self.old };
 
+    /// Does what `settle` does on a row that is changed where it lies, and answers the commit number. A
+    /// refusal leaves the row as it was.
+    fn settle_in(
+        &mut self,
+        alloc: Global,
+        lease: &Lease,
+        name: &RowName,
+        row: &mut Row,
+        id: RecordId,
+    ) -> Result<u64, DeskRefusal>
+        requires lease { MayAsk (view self.old) lease.now name.now }
+        requires row { IsRowKnown (view self.old) lease.now name.now row.old }
+        requires id { MaySettle (view self.old).told (view self.old).seen row.old id }
+
+        ensures written { let entry = Ack lease.now.seq name.now id in
+            IfOk result (λ commit. HasStored (view self.old) (view self.new) lease.now name.now
+            entry row.old (λ number. written_row number entry [] row.old)
+            (answer_of commit row.new)) }
+        ensures row { OnErr result (row.new ≡ row.old) }
+        ensures looked { OnErr result (HasLooked (view self.old) (view self.new)) }
+        ensures reason { IfErr result (HasReason (view self.old) (view self.new) lease.now) }
+        ensures marks { KeepsMarks (view self.old) (view self.new) }
+        ensures loan { loan self.new ≡ loan self.old }
+        ensures home { home self.new ≡ home self.old }
+    {
+        match self.settle(alloc, lease, name, row, id) {
+            Ok(written) => Ok(put_written(row, written)),
+            Err(why) => Err(why),
+        }
+    }
+
     /// A row forgets the ids of records that are finished: those below the floor.
     fn purge(
         &mut self,
@@ -125,6 +187,37 @@ pub trait Desk: Drop {
         ensures marks { KeepsMarks (view self.old) (view self.new) }
         ensures loan { loan self.new ≡ loan self.old }
         ensures home { home self.new ≡ home self.old };
+
+    /// Does what `purge` does on a row that is changed where it lies, and answers the commit number. A
+    /// refusal leaves the row as it was.
+    fn purge_in(
+        &mut self,
+        alloc: Global,
+        lease: &Lease,
+        name: &RowName,
+        row: &mut Row,
+        floor: u64,
+    ) -> Result<u64, DeskRefusal>
+        requires lease { MayAsk (view self.old) lease.now name.now }
+        requires row { IsRowKnown (view self.old) lease.now name.now row.old }
+        requires floor { IsPurgeKnown (view self.old) name.now row.old floor }
+
+        ensures written { let entry = Purge lease.now.seq name.now floor in
+            IfOk result (λ commit. HasStored (view self.old) (view self.new) lease.now name.now
+            entry row.old (λ number. written_row number entry [] row.old)
+            (answer_of commit row.new)) }
+        ensures row { OnErr result (row.new ≡ row.old) }
+        ensures looked { OnErr result (HasLooked (view self.old) (view self.new)) }
+        ensures reason { IfErr result (HasReason (view self.old) (view self.new) lease.now) }
+        ensures marks { KeepsMarks (view self.old) (view self.new) }
+        ensures loan { loan self.new ≡ loan self.old }
+        ensures home { home self.new ≡ home self.old }
+    {
+        match self.purge(alloc, lease, name, row, floor) {
+            Ok(written) => Ok(put_written(row, written)),
+            Err(why) => Err(why),
+        }
+    }
 
     /// A worker reports the own work of an interval that it has, in whole microseconds: the oldest that
     /// is left in the interval's rows, or the end where there is none. The interval's mark, which may
@@ -186,4 +279,14 @@ pub trait Desk: Drop {
         ensures marks { KeepsMarks (view self.old) (view self.new) }
         ensures loan { loan self.new ≡ loan self.old }
         ensures home { home self.new ≡ home self.old };
+}
+
+// Puts the row that a write answered in the place of the one that it found, and answers the commit number.
+fn put_written(row: &mut Row, written: Written) -> u64
+    ensures commit { result ≡ written.commit }
+    ensures row { row.new ≡ written.row }
+{
+    let Written { commit, row: left } = written;
+    *row = left;
+    commit
 }

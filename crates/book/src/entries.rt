@@ -2,9 +2,9 @@
 ghost use Rattle.std.specs.Prelude.{◌≡◌, ◌+◌, ◌<◌, ◌≤◌, ◌^◌, All, IfOk, OnOk, false, true};
 ghost use Rattle.mw_types.specs.Bounds.{IsWithin};
 ghost use Rattle.mw_types.specs.declared.TheConstants.{MAX_STAMP};
-ghost use Rattle.mw_types.specs.declared.entry.Entry.TheVariants.{Ack, Fire, Handle, Purge};
+ghost use Rattle.mw_types.specs.declared.entry.Entry.TheVariants.{Fire, Handle};
 ghost use Rattle.mw_types.specs.declared.state.State.TheVariants.{Injector};
-ghost use Rattle.row_parts.specs.Contents.{IsId, ids_from, is_finished, with_id, without_delivery, without_timer};
+ghost use Rattle.row_parts.specs.Contents.{IsId, is_finished, with_id, without_timer};
 ghost use Rattle.run_history.specs.Made.{produced};
 ghost use Rattle.run_history.specs.Runs.{with_timers};
 ghost use Rattle.run_history.specs.Fits.{fits};
@@ -12,7 +12,6 @@ ghost use Rattle.book.specs.Proposals.{IsEntryOf, IsFiring, IsHandling, IsNextLi
 
 use crate::pending::with_sent;
 use crate::proposal::Proposal;
-use crate::rows::{purged, settled};
 use mw_types::{
     Delivery, Duplicate, Effects, Entry, IdList, NoMemory, Production, Record, RecordId, RowName,
     State, Timer,
@@ -117,7 +116,7 @@ pub fn production_of(item: Record) -> Production
 }
 
 // The record that was produced, which is late or not.
-fn record_of(production: Production, late: bool) -> Record
+pub(crate) fn record_of(production: Production, late: bool) -> Record
     ensures { result ≡ produced late production }
 {
     let Production { key, stamp, value } = production;
@@ -179,7 +178,7 @@ fn handled(
 }
 
 // The entry of a handled record.
-fn handle_entry(
+pub(crate) fn handle_entry(
     alloc: Global,
     seq: u64,
     name: &RowName,
@@ -306,7 +305,7 @@ fn fired(
 }
 
 // The entry of a fired timer.
-fn fire_entry(
+pub(crate) fn fire_entry(
     alloc: Global,
     seq: u64,
     name: &RowName,
@@ -335,59 +334,4 @@ fn taken(alloc: Global, row: &Row, timer: Timer, effects: &Effects) -> Result<Ro
     let mut taken = with_state(alloc, row, &effects.state)?;
     taken.take_timer(timer.tag, timer.time);
     Ok(taken)
-}
-
-// What it writes that an id is settled.
-pub(crate) fn settling(
-    alloc: Global,
-    seq: u64,
-    name: &RowName,
-    row: &Row,
-    id: RecordId,
-    commit: u64,
-) -> Result<Step, NoMemory>
-    requires { commit < 2 ^ 32 }
-    ensures entry { IfOk result (λ step. step.entry ≡ Ack seq name.now id) }
-    ensures left { IfOk result (λ step. step.left ≡ record row.now {
-      pending = without_delivery id row.now.pending;
-      last = commit;
-    }) }
-{
-    let row_name = name.copy(alloc)?;
-    let left = settled(alloc, row, id, commit)?;
-    let entry = Entry::Ack {
-        seq,
-        row: row_name,
-        id,
-    };
-    Ok(Step { entry, left })
-}
-
-// What it writes that a row forgets the ids below a floor.
-pub(crate) fn purging(
-    alloc: Global,
-    seq: u64,
-    name: &RowName,
-    row: &Row,
-    floor: u64,
-    commit: u64,
-) -> Result<Step, NoMemory>
-    requires commit { commit < 2 ^ 32 }
-    requires rises { row.now.floor ≤ floor }
-    requires few { floor ≤ 2 ^ 32 }
-    ensures entry { IfOk result (λ step. step.entry ≡ Purge seq name.now floor) }
-    ensures left { IfOk result (λ step. step.left ≡ record row.now {
-      floor = floor;
-      seen = ids_from floor row.now.seen;
-      last = commit;
-    }) }
-{
-    let row_name = name.copy(alloc)?;
-    let left = purged(alloc, row, floor, commit)?;
-    let entry = Entry::Purge {
-        seq,
-        row: row_name,
-        floor,
-    };
-    Ok(Step { entry, left })
 }

@@ -13,6 +13,7 @@
 mod answers;
 mod book_core;
 mod books;
+mod changes;
 mod claims;
 mod desk;
 mod desk_refusal;

@@ -109,6 +109,52 @@ impl<'b, 'a, K: Keeper> Desk for OwnDesk<'b, 'a, K> {
         }
     }
 
+    fn write_in(
+        &mut self,
+        alloc: Global,
+        lease: &Lease,
+        name: &RowName,
+        row: &mut Row,
+        proposal: &Proposal,
+    ) -> Result<u64, DeskRefusal> {
+        self.book.sound();
+        let front = self.book.history().len() as u64;
+        match self.book.write_in(alloc, lease, front, name, row, proposal) {
+            Ok(commit) => Ok(commit),
+            Err(why) => Err(DeskRefusal::of_write(why)),
+        }
+    }
+
+    fn settle_in(
+        &mut self,
+        alloc: Global,
+        lease: &Lease,
+        name: &RowName,
+        row: &mut Row,
+        id: RecordId,
+    ) -> Result<u64, DeskRefusal> {
+        let front = self.book.history().len() as u64;
+        match self.book.settle_in(alloc, lease, front, name, row, id) {
+            Ok(commit) => Ok(commit),
+            Err(why) => Err(DeskRefusal::of_write(why)),
+        }
+    }
+
+    fn purge_in(
+        &mut self,
+        alloc: Global,
+        lease: &Lease,
+        name: &RowName,
+        row: &mut Row,
+        floor: u64,
+    ) -> Result<u64, DeskRefusal> {
+        let front = self.book.history().len() as u64;
+        match self.book.purge_in(alloc, lease, front, name, row, floor) {
+            Ok(commit) => Ok(commit),
+            Err(why) => Err(DeskRefusal::of_write(why)),
+        }
+    }
+
     fn report(&mut self, lease: &Lease, own: u64) -> Result<u64, DeskRefusal> {
         let front = self.book.history().len() as u64;
         match self.book.report(lease, front, own) {

@@ -41,7 +41,7 @@ pub(crate) fn with_sent(
 }
 
 // What these productions become.
-fn sent(
+pub(crate) fn sent(
     alloc: Global,
     case: &Case,
     part: u32,

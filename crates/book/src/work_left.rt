@@ -19,14 +19,28 @@ pub fn work_after(
     ensures { IfOk result (λ left. left ≡ (work + work_in case.now name.now after.now)
         - work_in case.now name.now before.now) }
 {
-    let old = work_in(case, name, before)?;
+    let gone = work_in(case, name, before)?;
+    work_with(case, name, gone, after, work)
+}
+
+// How much work is left of so much, once a row stands where so much of it was. Where it cannot be counted
+// there is no memory.
+pub(crate) fn work_with(
+    case: &Case,
+    name: &RowName,
+    gone: u64,
+    after: &Row,
+    work: u64,
+) -> Result<u64, NoMemory>
+    ensures { IfOk result (λ left. left ≡ (work + work_in case.now name.now after.now) - gone) }
+{
     let new = work_in(case, name, after)?;
     let both = added(work, new)?;
-    Ok(both.saturating_sub(old))
+    Ok(both.saturating_sub(gone))
 }
 
 // The work in a row.
-fn work_in(case: &Case, name: &RowName, row: &Row) -> Result<u64, NoMemory>
+pub(crate) fn work_in(case: &Case, name: &RowName, row: &Row) -> Result<u64, NoMemory>
     ensures { IfOk result (λ work. work ≡ work_in case.now name.now row.now) }
 {
     let lists = added(row.pending.len() as u64, row.timers.len() as u64)?;

@@ -1,25 +1,30 @@
 //! Writes: each appends one entry and stores its row, or is refused.
-ghost use Rattle.std.specs.Prelude.{◌≡◌, ◌<◌, ◌^◌, ◌↔◌, ℕ, None, ◌++◌, ◌∷◌, ◌⊎◌, [], length, take, IfErr, IfOk, IfSome, IsErrOf, OnErr, OnOk, Some};
+ghost use Rattle.std.specs.Prelude.{◌≡◌, ◌<◌, ◌-◌, ◌^◌, ◌↔◌, ℕ, None, ◌++◌, ◌∷◌, ◌⊎◌, [], length, take, IfErr, IfOk, IfSome, IsErrOf, OnErr, OnOk, Some};
 ghost use Rattle.mw_types.specs.Causes.{HasCause};
 ghost use Rattle.mw_types.specs.declared.entry.Entry.TheVariants.{Ack, Purge};
+ghost use Rattle.row_parts.specs.Changes.{MayMove, moved, taken_back};
+ghost use Rattle.row_parts.specs.Contents.{IsRow};
+ghost use Rattle.run_history.specs.Finished.{work_in};
 ghost use Rattle.run_history.specs.Runs.{run_of, written_row};
 ghost use Rattle.run_history.specs.Fences.{IsClaimed, IsCurrent, IsOvertakenBy};
 ghost use Rattle.book.specs.Books.{core_of};
 ghost use Rattle.book.specs.Conditions.{IsRowOf, IsRowSeenAt, MayForgetAt, MaySettleAt, MayUseAt};
-ghost use Rattle.book.specs.Answers.{HasStayed, IsFullWhere, IsSameBook, IsStaleWhere, IsWritten};
+ghost use Rattle.book.specs.Answers.{HasStayed, IsFullWhere, IsSameBook, IsStaleWhere, IsWritten, answer_of};
 ghost use Rattle.book.specs.Lawful.{IsLawful};
 ghost use Rattle.book.specs.Proposals.{IsProposable, IsProposedOf, IsWrittenBy};
-ghost use Rattle.book.specs.Appending.{IsNext, later_than, sent_by};
+ghost use Rattle.book.specs.Appending.{HadWork, IsNext, later_than, sent_by};
 
 use crate::answers::Written;
 use crate::books::Book;
-use crate::entries::{Step, purging, settling, step_of};
+use crate::changes::{Change, change_of, purging, settling};
 use crate::lease::Lease;
 use crate::proposal::Proposal;
 use crate::refusals::WriteRefusal;
-use mw_types::{Entry, RecordId, RowName};
+use crate::work_left::work_in;
+use mw_types::{Duplicate, Entry, NoMemory, RecordId, RowName};
 use row_keeper::Keeper;
-use row_parts::Row;
+use row_parts::{Moves, Row};
+use run_history::Case;
 use std::alloc::Global;
 
 impl<'a, K: Keeper> Book<'a, K> {
@@ -52,15 +57,55 @@ impl<'a, K: Keeper> Book<'a, K> {
         ensures unchanged { OnErr result (HasStayed self.old self.new) }
         ensures same { IsSameBook self.old self.new }
     {
+        let mut left = match self.copy_for(alloc, lease, row) {
+            Ok(left) => left,
+            Err(why) => return Err(why),
+        };
+        match self.write_in(alloc, lease, front, name, &mut left, proposal) {
+            Ok(commit) => Ok(Written { commit, row: left }),
+            Err(why) => {
+                drop(left);
+                Err(why)
+            }
+        }
+    }
+
+    /// Does the same on a row that is changed where it lies, and answers the commit number.
+    pub fn write_in(
+        &mut self,
+        alloc: Global,
+        lease: &Lease,
+        front: u64,
+        name: &RowName,
+        row: &mut Row,
+        proposal: &Proposal,
+    ) -> Result<u64, WriteRefusal>
+        requires lease { MayUseAt self.old lease.now front name.now }
+        requires row { IsRowSeenAt self.old lease.now front name.now row.old }
+        requires proposal { IsProposable self.old.case name.now row.old proposal.now }
+        requires seen { let run = run_of self.old.case.topology (take front self.old.history) in
+            IfSome self.old.rows (λ _. IsProposedOf self.old.case name.now proposal.now run) }
+
+        ensures written { let old = self.old in IfOk result (λ commit.
+            IsWrittenBy old.case old.rows old.history self.new.history
+            lease.now name.now proposal.now row.old (answer_of commit row.new)) }
+        ensures row { OnErr result (row.new ≡ row.old) }
+        ensures found { let old = self.old in
+            OnOk result (IsRowOf old.case old.rows old.history name.now row.old) }
+        ensures stale { IsStaleWhere self.old.history lease.now result }
+        ensures full { IsFullWhere self.old.limit self.old.history lease.now result }
+        ensures keeper_fault { HasCause self.old.faults self.new.faults result
+            WriteRefusal.KeeperFault }
+        ensures unchanged { OnErr result (HasStayed self.old self.new) }
+        ensures same { IsSameBook self.old self.new }
+    {
         let commit = match self.admit(lease) {
             Ok(commit) => commit,
             Err(why) => return Err(why),
         };
         let case = self.case();
-        let made = step_of(alloc, case, lease.seq, name, row, proposal, commit)?;
-        let Step { entry, left } = made;
-        let sent = (left.pending.len() - row.pending.len()) as u32;
-        self.append_row(alloc, name, row, entry, left, sent)
+        let made = change_of(alloc, case, lease, name, row, proposal, commit)?;
+        self.change_row(alloc, name, row, made)
     }
 
     /// A sender learns that what it made was handled: the row no longer waits for the id.
@@ -91,15 +136,56 @@ impl<'a, K: Keeper> Book<'a, K> {
         ensures unchanged { OnErr result (HasStayed self.old self.new) }
         ensures same { IsSameBook self.old self.new }
     {
+        let mut left = match self.copy_for(alloc, lease, row) {
+            Ok(left) => left,
+            Err(why) => return Err(why),
+        };
+        match self.settle_in(alloc, lease, front, name, &mut left, id) {
+            Ok(commit) => Ok(Written { commit, row: left }),
+            Err(why) => {
+                drop(left);
+                Err(why)
+            }
+        }
+    }
+
+    /// Does the same on a row that is changed where it lies, and answers the commit number.
+    pub fn settle_in(
+        &mut self,
+        alloc: Global,
+        lease: &Lease,
+        front: u64,
+        name: &RowName,
+        row: &mut Row,
+        id: RecordId,
+    ) -> Result<u64, WriteRefusal>
+        requires lease { MayUseAt self.old lease.now front name.now }
+        requires row { IsRowSeenAt self.old lease.now front name.now row.old }
+        requires id { MaySettleAt self.old front row.old id }
+
+        ensures written { let entry = Ack lease.now.seq name.now id in
+            let left = written_row (length self.old.history) entry [] row.old in
+            let old = self.old in IfOk result (λ commit.
+            IsWritten old.case old.rows old.history self.new.history
+            lease.now name.now entry left (answer_of commit row.new)) }
+        ensures row { OnErr result (row.new ≡ row.old) }
+        ensures found { let old = self.old in
+            OnOk result (IsRowOf old.case old.rows old.history name.now row.old) }
+        ensures stale { IsStaleWhere self.old.history lease.now result }
+        ensures full { IsFullWhere self.old.limit self.old.history lease.now result }
+        ensures keeper_fault { HasCause self.old.faults self.new.faults result
+            WriteRefusal.KeeperFault }
+        ensures unchanged { OnErr result (HasStayed self.old self.new) }
+        ensures same { IsSameBook self.old self.new }
+    {
         // That the id can be printed is known of what is pending in a row.
-        let _pending = row.pending.len();
+        row.sound();
         let commit = match self.admit(lease) {
             Ok(commit) => commit,
             Err(why) => return Err(why),
         };
-        let made = settling(alloc, lease.seq, name, row, id, commit)?;
-        let Step { entry, left } = made;
-        self.append_row(alloc, name, row, entry, left, 0)
+        let made = settling(alloc, lease, name, row, id, commit)?;
+        self.change_row(alloc, name, row, made)
     }
 
     /// A row forgets the ids of records that are finished: those below the floor.
@@ -130,13 +216,68 @@ impl<'a, K: Keeper> Book<'a, K> {
         ensures unchanged { OnErr result (HasStayed self.old self.new) }
         ensures same { IsSameBook self.old self.new }
     {
+        let mut left = match self.copy_for(alloc, lease, row) {
+            Ok(left) => left,
+            Err(why) => return Err(why),
+        };
+        match self.purge_in(alloc, lease, front, name, &mut left, floor) {
+            Ok(commit) => Ok(Written { commit, row: left }),
+            Err(why) => {
+                drop(left);
+                Err(why)
+            }
+        }
+    }
+
+    /// Does the same on a row that is changed where it lies, and answers the commit number.
+    pub fn purge_in(
+        &mut self,
+        alloc: Global,
+        lease: &Lease,
+        front: u64,
+        name: &RowName,
+        row: &mut Row,
+        floor: u64,
+    ) -> Result<u64, WriteRefusal>
+        requires lease { MayUseAt self.old lease.now front name.now }
+        requires row { IsRowSeenAt self.old lease.now front name.now row.old }
+        requires floor { MayForgetAt self.old front name.now row.old floor }
+
+        ensures written { let entry = Purge lease.now.seq name.now floor in
+            let left = written_row (length self.old.history) entry [] row.old in
+            let old = self.old in IfOk result (λ commit.
+            IsWritten old.case old.rows old.history self.new.history
+            lease.now name.now entry left (answer_of commit row.new)) }
+        ensures row { OnErr result (row.new ≡ row.old) }
+        ensures found { let old = self.old in
+            OnOk result (IsRowOf old.case old.rows old.history name.now row.old) }
+        ensures stale { IsStaleWhere self.old.history lease.now result }
+        ensures full { IsFullWhere self.old.limit self.old.history lease.now result }
+        ensures keeper_fault { HasCause self.old.faults self.new.faults result
+            WriteRefusal.KeeperFault }
+        ensures unchanged { OnErr result (HasStayed self.old self.new) }
+        ensures same { IsSameBook self.old self.new }
+    {
         let commit = match self.admit(lease) {
             Ok(commit) => commit,
             Err(why) => return Err(why),
         };
-        let made = purging(alloc, lease.seq, name, row, floor, commit)?;
-        let Step { entry, left } = made;
-        self.append_row(alloc, name, row, entry, left, 0)
+        let made = purging(alloc, lease, name, row, floor, commit)?;
+        self.change_row(alloc, name, row, made)
+    }
+
+    // A copy of a row that is to be written. The sequencer comes first, as in each write.
+    fn copy_for(&self, alloc: Global, lease: &Lease, row: &Row) -> Result<Row, WriteRefusal>
+        requires claimed { IsClaimed lease.now.interval lease.now.seq self.now.history }
+        ensures copied { IfOk result (λ left. left ≡ row.now) }
+        ensures stale { IsStaleWhere self.now.history lease.now result }
+        ensures full { IsFullWhere self.now.limit self.now.history lease.now result }
+        ensures no_fault { IsErrOf result WriteRefusal.KeeperFault → ⊥ }
+    {
+        match self.admit(lease) {
+            Ok(_) => Ok(row.copy(alloc)?),
+            Err(why) => Err(why),
+        }
     }
 
     // Tests the sequencer of a write, and then whether there is room for its entry, which will have
@@ -176,23 +317,107 @@ impl<'a, K: Keeper> Book<'a, K> {
         later(lease.seq(), newest)
     }
 
-    // Appends an entry that may come next and makes so many deliveries, and stores its row.
+    // Changes a row, and appends the entry that changes it so, which may come next. The row is as before
+    // where that is refused.
+    fn change_row(
+        &mut self,
+        alloc: Global,
+        name: &RowName,
+        row: &mut Row,
+        change: Change,
+    ) -> Result<u64, WriteRefusal>
+        requires may { MayMove row.old change.moves }
+        requires next { let left = moved change.moves row.old in
+            IsNext self.old.case (core_of self.old) name.now change.entry left }
+        requires sent { let left = moved change.moves row.old in
+            length left.pending - length row.old.pending
+            ≡ sent_by self.old.case.topology self.old.history change.entry }
+        requires was { let old = self.old in
+            IsRowOf old.case old.rows old.history name.now row.old }
+        ensures appended { OnOk result
+            (self.new.history ≡ self.old.history ++ change.entry ∷ []) }
+        ensures commit { IfOk result (λ commit. commit ≡ length self.old.history) }
+        ensures changed { OnOk result (row.new ≡ moved change.moves row.old) }
+        ensures row { OnErr result (row.new ≡ row.old) }
+        ensures refused { IfErr result (λ why.
+            (why ≡ WriteRefusal.NoMemory) ⊎ (why ≡ WriteRefusal.KeeperFault)) }
+        ensures keeper_fault { HasCause self.old.faults self.new.faults result
+            WriteRefusal.KeeperFault }
+        ensures unchanged { OnErr result (HasStayed self.old self.new) }
+        ensures same { IsSameBook self.old self.new }
+    {
+        let Change { entry, moves } = change;
+        let mut moves = moves;
+        let count = count_pending(row);
+        let case = self.case();
+        match applied(alloc, case, name, row, &mut moves) {
+            Ok(gone) => {
+                let done = self.append_moved(alloc, name, gone, entry, row, &mut moves, count);
+                drop(moves);
+                done
+            }
+            Err(NoMemory) => {
+                drop(entry);
+                drop(moves);
+                Err(WriteRefusal::NoMemory)
+            }
+        }
+    }
+
+    // Appends the entry that changed a row, in which so much work was, and so many were pending. Takes the
+    // change back where that is refused.
+    fn append_moved(
+        &mut self,
+        alloc: Global,
+        name: &RowName,
+        gone: u64,
+        entry: Entry,
+        row: &mut Row,
+        moves: &mut Moves,
+        count: usize,
+    ) -> Result<u64, WriteRefusal>
+        requires next { IsNext self.old.case (core_of self.old) name.now entry row.old }
+        requires sent { length row.old.pending - count
+            ≡ sent_by self.old.case.topology self.old.history entry }
+        requires was { HadWork self.old name.now gone }
+        requires back { IsRow (taken_back moves.old count row.old) }
+        ensures appended { OnOk result (self.new.history ≡ self.old.history ++ entry ∷ []) }
+        ensures commit { IfOk result (λ commit. commit ≡ length self.old.history) }
+        ensures kept { OnOk result (row.new ≡ row.old) }
+        ensures back { OnErr result (row.new ≡ taken_back moves.old count row.old) }
+        ensures refused { IfErr result (λ why.
+            (why ≡ WriteRefusal.NoMemory) ⊎ (why ≡ WriteRefusal.KeeperFault)) }
+        ensures keeper_fault { HasCause self.old.faults self.new.faults result
+            WriteRefusal.KeeperFault }
+        ensures unchanged { OnErr result (HasStayed self.old self.new) }
+        ensures same { IsSameBook self.old self.new }
+    {
+        let sent = sent_since(row, count);
+        match self.append_row(alloc, name, gone, entry, row, sent) {
+            Ok(commit) => Ok(commit),
+            Err(why) => {
+                row.take_back(alloc, moves, count);
+                Err(why)
+            }
+        }
+    }
+
+    // Appends an entry that may come next and makes so many deliveries, and stores its row, in which so
+    // much work was before. Answers the commit number.
     fn append_row(
         &mut self,
         alloc: Global,
         name: &RowName,
-        before: &Row,
+        gone: u64,
         entry: Entry,
-        row: Row,
+        row: &Row,
         sent: u32,
-    ) -> Result<Written, WriteRefusal>
-        requires next { IsNext self.old.case (core_of self.old) name.now entry row }
+    ) -> Result<u64, WriteRefusal>
+        requires next { IsNext self.old.case (core_of self.old) name.now entry row.now }
         requires sent { sent ≡ sent_by self.old.case.topology self.old.history entry }
-        requires was { let old = self.old in
-            IsRowOf old.case old.rows old.history name.now before.now }
+        requires was { HadWork self.old name.now gone }
         ensures appended { OnOk result (self.new.history ≡ self.old.history ++ entry ∷ []) }
-        ensures commit { IfOk result (λ written. written.commit ≡ length self.old.history) }
-        ensures row { IfOk result (λ written. written.row ≡ row) }
+        ensures commit { IfOk result (λ commit. commit ≡ length self.old.history) }
         ensures refused { IfErr result (λ why.
             (why ≡ WriteRefusal.NoMemory) ⊎ (why ≡ WriteRefusal.KeeperFault)) }
         ensures keeper_fault { HasCause self.old.faults self.new.faults result
@@ -202,17 +427,47 @@ impl<'a, K: Keeper> Book<'a, K> {
     {
         let commit = self.core.history.len() as u64;
         let case = self.case;
-        match self
-            .core
-            .append(alloc, case, entry, name, before, &row, sent)
-        {
-            Ok(()) => Ok(Written { commit, row }),
-            Err(fault) => {
-                drop(row);
-                Err(fault.into())
-            }
+        match self.core.append(alloc, case, entry, name, gone, row, sent) {
+            Ok(()) => Ok(commit),
+            Err(fault) => Err(fault.into()),
         }
     }
+}
+
+// How many are pending in a row. It can be kept, as each row can.
+fn count_pending(row: &Row) -> usize
+    ensures count { result ≡ length row.now.pending }
+    ensures row { IsRow row.now }
+{
+    row.sound();
+    row.pending.len()
+}
+
+// How many are pending in a row more than so many.
+fn sent_since(row: &Row, count: usize) -> u32
+    ensures { result ≡ length row.now.pending - count }
+{
+    row.pending.len().saturating_sub(count) as u32
+}
+
+// Changes a row, and answers how much work was in it.
+fn applied(
+    alloc: Global,
+    case: &Case,
+    name: &RowName,
+    row: &mut Row,
+    moves: &mut Moves,
+) -> Result<u64, NoMemory>
+    requires { MayMove row.old moves.old }
+    ensures gone { IfOk result (λ gone. gone ≡ work_in case.now name.now row.old) }
+    ensures ok { OnOk result (row.new ≡ moved moves.old row.old) }
+    ensures back { OnOk result
+        (taken_back moves.new (length row.old.pending) row.new ≡ row.old) }
+    ensures err { OnErr result (row.new ≡ row.old) }
+{
+    let gone = work_in(case, name, row)?;
+    row.apply(alloc, moves)?;
+    Ok(gone)
 }
 
 // The last claim, where it is later than this one.

@@ -33,13 +33,6 @@ under_way-first book drain from fits free first = inl (record {
   claiming = claims-first book drain.node fits free first;
 })
 
--- it began before all that stands
-pub under_way-from : (book : BookView) (drain : DrainView) → IsUnderWay book drain → drain.from ≤ length book.history
-under_way-from book drain (inl is) =
-    let from = is.from in
-    let next = is.claiming.next in omega (arith, from, next)
-under_way-from book drain (inr is) = let claimed = is.claimed in omega (arith, claimed)
-
 -- while fewer entries came since than there are intervals, so many are claimed
 pub under_way-claim : (book : BookView) (drain : DrainView) (claimed : ℕ) → IsUnderWay book drain → claimed ≡ length book.history - drain.from
     → claimed < interval_count book.case.topology → IsAtClaim book drain claimed

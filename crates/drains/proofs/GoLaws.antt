@@ -1,5 +1,5 @@
 -- How a drain goes on: turns one after another, and what holds once each interval is claimed.
-use Rattle.std.proofs.Common.{◌≡◌, ◌<◌, ◌≤◌, ◌-◌, ◌+◌, ◌⊎◌, ℕ, Bool, true, false, not, cond, List, [], ◌∷◌, length, refl, sym, ◌∙◌, ap, subst, arith, inl, inr}
+use Rattle.std.proofs.Common.{◌≡◌, ◌<◌, ◌≤◌, ◌+◌, ◌⊎◌, ℕ, Bool, true, false, not, cond, List, [], ◌∷◌, length, refl, sym, ◌∙◌, ap, subst, arith, inl, inr}
 use Rattle.std.specs.Prelude.{Option, Some, None, IsSome, IfSome, ◌==◌}
 use Rattle.std.specs.Option.{is_some}
 use Rattle.std.proofs.lemmas.Bool.{cases_lt, le-ltb}
@@ -99,23 +99,6 @@ gone-step start old new own gone stepped = record {
     longer : (o : Option Entry) (h : List Entry) → Begins h (with_own o h)
     longer None h = Begins-itself h
     longer (Some entry) h = (entry ∷ [], refl)
-
--- a turn that wrote an entry brings the history nearer to its limit
-pub nearer : (old new : BookView) → HasTurned old new true → length new.history ≤ new.limit
-    → new.limit - length new.history < old.limit - length old.history
-nearer old new turned few = by_own turned.own turned.is_more turned.stepped
-  where
-    by_own : (own : Option Entry) → is_some own ≡ true → HasStepped old new own
-        → new.limit - length new.history < old.limit - length old.history
-    by_own None some stepped = absurd (cc)
-    by_own (Some entry) some stepped =
-        let long : length new.history ≡ length old.history + 1 = ap length stepped.appended ∙ length_push old.history entry in
-        let same = stepped.limit in omega (arith, long, same, few)
-
--- and so one that tells so, over a lawful book
-pub nearer-more : (old new : BookView) (more : Bool) → HasTurned old new more → IsLawful new.case (core_of new) → more ≡ true
-    → new.limit - length new.history < old.limit - length old.history
-nearer-more old new more turned lawful is = nearer old new (subst (HasTurned old new) is turned) lawful.few
 
 -- ---- the claims
 

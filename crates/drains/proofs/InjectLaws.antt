@@ -197,10 +197,6 @@ best-more case node count best is = by_best best is (line_at case node count) re
     }
     by_best (Some b) is (Some o) at = by_both b o is at (nat_le b.0 o.0) refl
 
--- none of no injectors
-pub best-none : (case : CaseShape) (node : NodeView) → IsBestLine case node 0 None
-best-none case node = record { there = tt; least = λ part line less there. absurd (omega (arith, less)) }
-
 -- ---- the next entry
 
 module _ (book : BookView) (node : NodeView) (at : IsAtWork book node) (told : IsSome book.rows) where

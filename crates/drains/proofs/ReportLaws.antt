@@ -28,7 +28,7 @@ use Rattle.drains.proofs.HeldLaws.{if-held}
 use Rattle.drains.proofs.KnownLaws.{told-fact}
 use Rattle.drains.proofs.Marked.{mark-same}
 use Rattle.drains.proofs.RoundLaws.{marks_after_reports, marks_after_reports-all, marks_after_reports-next}
-use Rattle.drains.proofs.TurnLaws.{stepped-not, stepped-on}
+use Rattle.drains.proofs.TurnLaws.{stepped-on}
 
 -- what was found is own work, by the case that a book tells
 pub own-is : (case : CaseShape) (book : BookView) (all : List (Option HeldView)) (interval own : ℕ) → case ≡ book.case
@@ -89,10 +89,6 @@ pub record IsReporting (start book : BookView) (node : NodeView) (count : ℕ) :
   pub stepped : HasStepped start book None
   pub at_work : IsAtWork book node
   pub marks : IsSome start.rows → book.marks ≡ marks_after_reports start.case (run_of start.case.topology start.history) start.marks count
-
--- nothing is reported yet
-pub reports-first : (book : BookView) (node : NodeView) → IsAtWork book node → IsReporting book book node 0
-reports-first book node at = record { stepped = stepped-not book; at_work = at; marks = λ told. refl }
 
 -- a report more
 pub reports-on : (start old new : BookView) (was node : NodeView) (interval : ℕ)

@@ -58,42 +58,8 @@ pub fn drain<'a, K: Keeper, C: Computation>(
     ensures damaged { IfErr result (λ why. IsDamageOf (own_view book.new) (refusal_of why)) }
 {
     let mut drain = begin_drain(alloc, book);
-    let drained = drain_by(alloc, book, work, &mut drain);
+    let drained = turn_all(alloc, book, work, &mut drain);
     drop(drain);
-    drained
-}
-
-// Works off all that a book has left to do, in a drain of it that was begun.
-fn drain_by<'a, K: Keeper, C: Computation>(
-    alloc: Global,
-    book: &mut Book<'a, K>,
-    work: &C,
-    drain: &mut Drain,
-) -> Result<(), NodeFault>
-    requires work { IsWorkOf book.old.case.topology (C.has work.now)
-        (C.gives_record work.now) (C.gives_timer work.now) }
-    requires under_way { IsUnderWay book.old drain.old }
-    requires from { drain.old.from ≡ length book.old.history }
-    ensures case { book.new.case ≡ book.old.case }
-    ensures limit { book.new.limit ≡ book.old.limit }
-    ensures tells { is_some book.new.rows ≡ is_some book.old.rows }
-    ensures grown { Begins book.old.history book.new.history }
-    ensures faults { book.old.faults ≤ book.new.faults }
-    ensures draining { IfSome book.old.rows
-        (λ _. IsDraining book.old.case (length book.old.history) book.new.history) }
-    ensures ended { OnOk result (IfSome book.old.rows
-        (λ _. HasEnded book.old.case (length book.old.history) book.new.history)) }
-    ensures finished { OnOk result (IfSome book.old.rows (λ _. let shape = book.new.case.topology in
-        IsFinished book.new.case (run_of shape book.new.history))) }
-    ensures keeper_fault { result ≡ Err NodeFault.KeeperFault →
-        Rose book.old.faults book.new.faults }
-    ensures full { result ≡ Err NodeFault.HistoryFull →
-        length book.new.history ≡ book.new.limit }
-    ensures more { result ≡ Err NodeFault.HistoryFull → IfSome book.old.rows
-        (λ _. HasEnded book.old.case (length book.old.history) book.new.history → ⊥) }
-    ensures damaged { IfErr result (λ why. IsDamageOf (own_view book.new) (refusal_of why)) }
-{
-    let drained = turn_all(alloc, book, work, drain);
     // Its clauses say what always holds of a book.
     book.history();
     drained

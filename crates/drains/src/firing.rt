@@ -15,15 +15,13 @@ ghost use Rattle.node.specs.FireSteps.{IsLeftByHandler, IsSetAt, IsTimerToFire};
 ghost use Rattle.drains.specs.ReportRounds.{marks_after_round};
 ghost use Rattle.drains.specs.Turns.{AreExact, HasAskedOne, HasFailed, HasReported, HasStepped, HasTurned, IsAtWork, IsFullAsking, IsFullUnended, IsOwnOf, IsQuiet, IsQuietAt, IsSettled, WhereTold, worker_of};
 
-use crate::first_timers::first_due;
 use crate::writes::write;
 use book::{Book, Desk, OwnDesk, Proposal};
 use computations::Computation;
 use holdings::{Holdings, RowTimer};
 use mw_types::{Effects, NoMemory};
-use node::{NodeFault, fired};
+use node::{NodeFault, effects_of, first_due};
 use row_keeper::Keeper;
-use run_history::Case;
 use std::alloc::Global;
 use watermark::{inputs, low};
 
@@ -304,23 +302,4 @@ fn write_fire<'a, K: Keeper>(
     drop(proposal);
     written?;
     Ok(true)
-}
-
-// What a handler leaves of a timer of a row that is held of an interval.
-fn effects_of<C: Computation>(
-    held: &Holdings,
-    alloc: Global,
-    case: &Case,
-    work: &C,
-    interval: u32,
-    found: &RowTimer,
-) -> Result<Effects, NoMemory>
-    requires work { IsWorkOf case.now.topology (C.has work.now)
-        (C.gives_record work.now) (C.gives_timer work.now) }
-    requires set { IsSetAt case.now.topology held.now interval found.now.name found.now.timer }
-    ensures does { IfOk result
-        (IsLeftByHandler case.now held.now interval found.now.name found.now.timer) }
-{
-    let row = held.get(interval).unwrap().row(&found.name).unwrap();
-    fired(alloc, work, case, &found.name, row, &found.timer)
 }

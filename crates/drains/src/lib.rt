@@ -17,7 +17,6 @@ mod draining;
 mod drains;
 mod examples;
 mod firing;
-mod first_timers;
 mod injecting;
 mod least_work;
 mod purging;

@@ -1,5 +1,5 @@
 //! One turn of a drain.
-ghost use Rattle.std.specs.Prelude.{◌≡◌, ◌<◌, ◌-◌, ℕ, IfErr, IfOk, OnOk, false, true, length};
+ghost use Rattle.std.specs.Prelude.{◌≡◌, IfErr, IfOk, OnOk, false};
 ghost use Rattle.node.specs.Works.{IsWorkOf};
 ghost use Rattle.drains.specs.Turns.{AreExact, HasFailed, HasTurned, IsAtWork, IsEndOf, IsFullUnended, IsQuiet, IsSettled, WhereTold, worker_of};
 
@@ -15,33 +15,9 @@ use node::NodeFault;
 use row_keeper::Keeper;
 use std::alloc::Global;
 
-// Writes the one entry that comes next, and tells whether there was one.
+// Writes the one entry that comes next, and tells whether there was one: it works on one delivery,
+// where one is not acknowledged, and else goes on to what comes after that.
 pub(crate) fn turn<'a, K: Keeper, C: Computation>(
-    alloc: Global,
-    book: &mut Book<'a, K>,
-    work: &C,
-    held: &mut Holdings,
-) -> Result<bool, NodeFault>
-    requires work { IsWorkOf book.old.case.topology (C.has work.now)
-        (C.gives_record work.now) (C.gives_timer work.now) }
-    requires at_work { IsAtWork book.old (worker_of held.old) }
-    ensures turned { IfOk result (HasTurned book.old book.new) }
-    ensures at_work { OnOk result (IsAtWork book.new (worker_of held.new)) }
-    ensures ended { IfOk result (λ more. more ≡ false →
-        WhereTold book.old (IsEndOf book.old.case book.old.history)) }
-    ensures nearer { IfOk result (λ more. more ≡ true →
-        book.new.limit - length book.new.history < book.old.limit - length book.old.history) }
-    ensures failed { IfErr result (HasFailed book.old book.new) }
-    ensures unended { IfErr result (IsFullUnended book.old) }
-{
-    let turned = turn_once(alloc, book, work, held)?;
-    // Its clauses say that the history is within its limit.
-    book.history();
-    Ok(turned)
-}
-
-// Works on one delivery, where one is not acknowledged, and else goes on to what comes after that.
-fn turn_once<'a, K: Keeper, C: Computation>(
     alloc: Global,
     book: &mut Book<'a, K>,
     work: &C,

@@ -2,7 +2,7 @@
 use Rattle.std.proofs.Common.{◌≡◌, ◌≢◌, ◌<◌, ◌≤◌, ℕ, zero, suc, List, [], ◌∷◌, ◌++◌, length, get_or, refl, sym, ◌∙◌, ap, arith, inl, inr}
 use Rattle.std.specs.Prelude.{Option, Some, None, slice_set, unwrap_or, ◌⊎◌}
 use Rattle.std.proofs.lemmas.Bool.{cases_lt}
-use Rattle.std.proofs.lemmas.List.{length-set, get_or-set_same, get_or-set_other}
+use Rattle.std.proofs.lemmas.List.{length-set, get_or-set_same, get_or-set_other, get_or_default}
 use Rattle.std.proofs.lemmas.Option.{slice_get_past, unwrap_or-slice_get}
 use Rattle.list_lemmas.proofs.Lists.{none_some}
 use Rattle.holdings.specs.Holding.{HeldView, KeepsOthers, held_at}
@@ -10,6 +10,10 @@ use Rattle.holdings.specs.Holding.{HeldView, KeepsOthers, held_at}
 -- what is held of an interval is what stands at its place
 held-is : (all : List (Option HeldView)) (i : ℕ) → held_at all i ≡ get_or all i None
 held-is all i = unwrap_or-slice_get all i None
+
+-- what is read at a place is held there
+pub held-read : (all : List (Option HeldView)) (i : ℕ) (x : Option HeldView) → i < length all → x ≡ get_or all i x → x ≡ held_at all i
+held-read all i x within read = read ∙ get_or_default all i x None within ∙ sym (held-is all i)
 
 -- what is put in a place is held there
 pub held-here : (all : List (Option HeldView)) (i : ℕ) (x : Option HeldView) → i < length all → held_at (slice_set all i x) i ≡ x

@@ -63,9 +63,14 @@ name_or_not a b = elim (is_at (row_cmp a) b) as (λ x. is_at (row_cmp a) b ≡ x
 ] refl
 
 -- a row that is put is found
+pub found-put : (rows : List (RowName × Contents)) (name : RowName) (row : Contents)
+    → row_in (cached (insert_entry row_cmp rows name row)) name ≡ Some row
+found-put rows name row = lookup-insert_entry row_cmp-total rows name row name
+    ∙ ap (λ o. cond (is_eq o) (Some row) (lookup (is_at (row_cmp name)) rows)) (tied_itself row_cmp-total name)
+
+-- and so it is among those that are held
 pub found-here : (name : RowName) (row : Contents) (held : HeldView) → row_in (cached (with_row name row held).rows) name ≡ Some row
-found-here name row held = lookup-insert_entry row_cmp-total held.rows name row name
-    ∙ ap (λ o. cond (is_eq o) (Some row) (lookup (is_at (row_cmp name)) held.rows)) (tied_itself row_cmp-total name)
+found-here name row held = found-put held.rows name row
 
 -- of another name what was there is found
 pub found-other : (name other : RowName) (row : Contents) (held : HeldView) → (other ≡ name → ⊥)
@@ -93,7 +98,7 @@ row_held-same shape name other held = elim (name_or_not other name) [
 ]
 
 -- a value that is put where it is changes nothing
-insert-same : (es : List (RowName × Contents)) (name : RowName) (v : Contents) → IsStrictlySortedBy row_cmp (keys_of es)
+pub insert-same : (es : List (RowName × Contents)) (name : RowName) (v : Contents) → IsStrictlySortedBy row_cmp (keys_of es)
     → lookup (is_at (row_cmp name)) es ≡ Some v → insert_entry row_cmp es name v ≡ es
 insert-same es name v ordered found =
     same_entries row_cmp-total tied_row (insert_entry row_cmp es name v) es (sorted-insert_entry row_cmp-total es name v ordered) ordered

@@ -1,33 +1,37 @@
 -- What is held fits its desk after each call.
-use Rattle.std.proofs.Common.{◌≡◌, ◌≢◌, ◌<◌, ℕ, List, [], ◌∷◌, refl, sym, ◌∙◌, ap, arith, subst, inl, inr}
-use Rattle.std.specs.Prelude.{Err, IfOk, IfSome, IsSome, MatchResult, None, Ok, OnErr, Option, Result, Some, unwrap_or}
+use Rattle.std.proofs.Common.{◌≡◌, ◌≢◌, ◌<◌, ℕ, List, [], ◌∷◌, length, get_or, refl, sym, ◌∙◌, ap, arith, subst, inl, inr}
+use Rattle.std.specs.Prelude.{Err, IfErr, IfOk, IfSome, IsSome, MatchResult, None, Ok, OnErr, Option, Result, Some, slice_set, unwrap_or}
 use Rattle.std.specs.Option.{is_some}
 use Rattle.std.specs.BTreeMap.{insert_entry}
 use Rattle.std.specs.Ordering.{match_ordering}
 use Rattle.std.specs.Cmp.{tied_itself}
 use Rattle.std.specs.declared.cmp.Ordering.TheVariants.{Less, Equal, Greater}
-use Rattle.std.proofs.lemmas.List.{append-nil}
+use Rattle.std.proofs.lemmas.List.{append-nil, length-set}
 use Rattle.std.proofs.lemmas.List.Elements.{All-from_recursion}
+use Rattle.std.proofs.lemmas.Result.{IfErr-weaker}
 use Rattle.mw_types.specs.declared.entry.Entry.{Entry}
 use Rattle.mw_types.specs.Orders.{row_cmp}
 use Rattle.mw_types.specs.declared.identity.RowName.{RowName}
 use Rattle.mw_types.proofs.OrderLaws.{row_cmp-total}
-use Rattle.topology.specs.Shapes.{parts_of}
+use Rattle.topology.specs.Shapes.{Shape, parts_of}
 use Rattle.row_parts.specs.Contents.{Contents, fresh}
 use Rattle.run_history.specs.Cases.{CaseShape, fresh_of}
 use Rattle.run_history.specs.Runs.{cached, row_in}
 use Rattle.run_history.specs.Fences.{IsFenced, interval_of, sequencer_of}
 use Rattle.list_lemmas.proofs.Lists.{none_some, some_same}
+use Rattle.book.specs.Answers.{answer_of}
 use Rattle.book.specs.Books.{LeaseView}
 use Rattle.book.specs.Desking.{IsRowKnown, MayAsk}
+use Rattle.book.specs.DeskReasons.{HasReason}
 use Rattle.book.specs.Desks.{DeskView, HasLooked, IsSound}
 use Rattle.book.specs.declared.answers.Written.{Written}
 use Rattle.book.specs.declared.desk_refusal.DeskRefusal.{DeskRefusal}
 use Rattle.book.proofs.Numbers.{own-stays}
-use Rattle.holdings.specs.Holding.{AreAllHeld, HasSeenOthers, HeldView, HoldsEntry, IsHeld, KeepsHeld, KeepsOthers, held_at, row_held, with_row}
-use Rattle.holdings.specs.Steps.{IsReady, KeepsAll}
-use Rattle.holdings.proofs.HeldRows.{AreRowsHeld-cached, AreRowsHeld-elsewhere, AreRowsHeld-entered, AreRowsHeld-looked, AreRowsHeld-more, HasEntered, found-here, held-known, row_held-same}
-use Rattle.holdings.proofs.HeldPlaces.{held-here, held-others, held-within, number_or_not}
+use Rattle.holdings.specs.Holding.{AreAllHeld, HasSeenOthers, HeldView, HoldsEntry, IsHeld, IsRefusedOf, KeepsHeld, KeepsOthers, held_at, row_held, with_row}
+use Rattle.holdings.specs.Steps.{IsReady, KeepsAll, with_cached}
+use Rattle.holdings.specs.Writing.{HasPutAt}
+use Rattle.holdings.proofs.HeldRows.{AreRowsHeld-cached, AreRowsHeld-elsewhere, AreRowsHeld-entered, AreRowsHeld-looked, AreRowsHeld-more, HasEntered, found-here, held-known, row_held-here, row_held-same}
+use Rattle.holdings.proofs.HeldPlaces.{held-here, held-others, held-read, held-within, number_or_not}
 
 -- ---- one row put twice
 
@@ -166,10 +170,6 @@ module _ (case : CaseShape) (desk : DeskView) (all mid : List (Option HeldView))
   there-ready = subst (λ (h : HeldView). IsSome (row_in (cached h.rows) name)) (sym left-ready)
       (ap is_some (found-here name (row_held case.topology ready.held name) ready.held))
 
-  -- the row is cached at the interval's place
-  pub stays-ready : IfSome (held_at mid i) (λ held. IsSome (row_in (cached held.rows) name))
-  stays-ready = subst (λ (o : Option HeldView). IfSome o (λ held. IsSome (row_in (cached held.rows) name))) (sym at) there-ready
-
   -- the row that is read is the one that is held
   pub read-ready : (row : Contents) → row_in (cached left.rows) name ≡ Some row → row ≡ row_held case.topology left name
   read-ready row found = sym (ap (λ o. unwrap_or o (fresh (fresh_of case.topology name.part))) found)
@@ -292,3 +292,176 @@ module _ (case : CaseShape) (old new : DeskView) (all mid after : List (Option H
             ∙ ap Some (with_row-again name (row_held case.topology ready.held name) answer.row ready.held);
         others = kept-others;
       })
+
+-- ---- a write on a row where it lies
+
+-- what is said of what is there, where this is there
+pub there-so : {T : Type 0} (P : T → Type 0) (o : Option T) (x : T) → o ≡ Some x → P x → IfSome o P
+there-so P o x is so = subst (λ p. IfSome p P) (sym is) so
+
+-- and back
+pub so-there : {T : Type 0} (P : T → Type 0) (o : Option T) (x : T) → o ≡ Some x → IfSome o P → P x
+so-there P o x is so = subst (λ p. IfSome p P) is so
+
+-- the same places are ready
+pub ready-same : (shape : Shape) (i : ℕ) (name : RowName) (all mid items : List (Option HeldView)) → items ≡ mid
+    → IsReady shape i name all mid → IsReady shape i name all items
+ready-same shape i name all mid items same ready = record { held = ready.held; was = ready.was; is = same ∙ ready.is }
+
+module _ (case : CaseShape) (desk : DeskView) (all mid : List (Option HeldView)) (i : ℕ) (name : RowName)
+    (lies : interval_of case.topology name ≡ Some i) (ready : IsReady case.topology i name all mid) (are : AreAllHeld case desk all) where
+  -- the interval has a place
+  pub ready-within : i < length mid
+  ready-within = subst (λ (l : List (Option HeldView)). i < length l) (sym ready.is)
+      (let within = held-within all i ready.held ready.was in
+      let long = length-set all i (Some (with_cached case.topology name ready.held)) in omega (arith, within, long))
+
+  -- what is held there has the row cached
+  pub ready-at : held_at mid i ≡ Some (with_cached case.topology name ready.held)
+  ready-at = ap (λ l. held_at l i) ready.is
+      ∙ held-here all i (Some (with_cached case.topology name ready.held)) (held-within all i ready.held ready.was)
+
+  -- what is asked of the row that was held is true of it
+  pub ready-said : (P : Contents → Type 0) → IfSome (held_at all i) (λ held. P (row_held case.topology held name))
+      → P (row_held case.topology (with_cached case.topology name ready.held) name)
+  ready-said P said = subst P (sym (row_held-here case.topology name (row_held case.topology ready.held name) ready.held))
+      (so-there (λ (held : HeldView). P (row_held case.topology held name)) (held_at all i) ready.held ready.was said)
+
+module _ (case : CaseShape) (desk : DeskView) (all mid : List (Option HeldView)) (i : ℕ) (name : RowName)
+    (lies : interval_of case.topology name ≡ Some i) (ready : IsReady case.topology i name all mid) (are : AreAllHeld case desk all)
+    (was : Option HeldView) (read : was ≡ get_or mid i was) where
+  -- what is held of the interval, with the row cached
+  abbrev pub place_held : HeldView
+  place_held = with_cached case.topology name ready.held
+
+  -- what is read at the interval's place is held
+  pub place-is : was ≡ Some place_held
+  place-is = held-read mid i was (ready-within case desk all mid i name lies ready are) read
+      ∙ ready-at case desk all mid i name lies ready are
+
+  -- something is held there
+  pub place-held : IsSome was
+  place-held = ap is_some place-is
+
+  -- the row is cached
+  pub place-there : IfSome was (λ held. IsSome (row_in (cached held.rows) name))
+  place-there = there-so (λ (held : HeldView). IsSome (row_in (cached held.rows) name)) was place_held place-is
+      (there-ready case desk all mid i name place_held lies ready (ready-at case desk all mid i name lies ready are) are)
+
+  -- the lease may be used on it
+  pub place-lease : desk.case ≡ case → IfSome was (λ held. MayAsk desk held.lease name)
+  place-lease same = there-so (λ (held : HeldView). MayAsk desk held.lease name) was place_held place-is
+      (may-ready case desk all mid i name place_held lies ready (ready-at case desk all mid i name lies ready are) are place_held.lease refl same)
+
+  -- it is the row as it is known
+  pub place-row : desk.case ≡ case → name.part < parts_of case.topology
+      → IfSome was (λ held. IfSome (row_in (cached held.rows) name) (IsRowKnown desk held.lease name))
+  place-row same part = there-so (λ (held : HeldView). IfSome (row_in (cached held.rows) name) (IsRowKnown desk held.lease name)) was place_held
+      place-is
+      (some-so (IsRowKnown desk place_held.lease name) (row_in (cached place_held.rows) name)
+      (λ row found. known-ready case desk all mid i name place_held lies ready (ready-at case desk all mid i name lies ready are) are
+      place_held.lease row refl same part found))
+
+  -- what is asked of the row that was held is true of it
+  pub place-said : (P : Contents → Type 0) → IfSome (held_at all i) (λ held. P (row_held case.topology held name))
+      → IfSome was (λ held. IfSome (row_in (cached held.rows) name) P)
+  place-said P said = there-so (λ (held : HeldView). IfSome (row_in (cached held.rows) name) P) was place_held place-is
+      (some-so P (row_in (cached place_held.rows) name)
+      (λ row found. said-ready case desk all mid i name place_held lies ready (ready-at case desk all mid i name lies ready are) are P row found
+      said))
+
+  -- a refusal is by the lease that is held
+  pub place-refused : {T : Type 0} (new : DeskView) (result : Result T DeskRefusal)
+      → IfErr result (λ why. IfSome was (λ held. HasReason desk new held.lease why)) → IfErr result (IsRefusedOf desk new all i)
+  place-refused new result refused =
+      IfErr-weaker result (λ why. IfSome was (λ (held : HeldView). HasReason desk new held.lease why)) (IsRefusedOf desk new all i)
+      (λ why reason. there-so (λ (held : HeldView). HasReason desk new held.lease why) (held_at all i) ready.held ready.was
+      (so-there (λ (held : HeldView). HasReason desk new held.lease why) was place_held place-is reason)) refused
+
+-- what is said where a write is refused is said where its answer refuses
+err-as : (A : Type 0) (written : Result Written DeskRefusal) (result : Result ℕ DeskRefusal)
+    → MatchResult written (λ (w : Written). result ≡ Ok w.commit) (λ why. result ≡ Err why) → OnErr result A → OnErr written A
+err-as A (Ok w) result is said = tt
+err-as A (Err why) result is said = subst (λ (r : Result ℕ DeskRefusal). OnErr r A) is said
+
+-- what a write in place answers, as an answer with the row that is held then
+as-written : (shape : Shape) (after : List (Option HeldView)) (i : ℕ) (name : RowName) (held : HeldView) (place : Option HeldView)
+    (result : Result ℕ DeskRefusal) (IsWrite : Contents → Written → Type 0)
+    → held_at after i ≡ place → IfOk result (λ commit. HasPutAt name (λ row left. IsWrite row (answer_of commit left)) held place)
+    → OnErr result (place ≡ Some held)
+    → (written : Result Written DeskRefusal)
+    × (MatchResult written (λ (w : Written). result ≡ Ok w.commit) (λ why. result ≡ Err why)
+    × (MatchResult written (λ (w : Written). held_at after i ≡ Some (with_row name w.row held)) (λ _. held_at after i ≡ Some held)
+    × IfOk written (IsWrite (row_held shape held name))))
+as-written shape after i name held place (Ok n) IsWrite at put kept =
+    let p = put.1.1 in
+    let write : IsWrite (row_held shape held name) (answer_of n p.left) = subst (λ (r : Contents). IsWrite r (answer_of n p.left))
+    (sym (ap (λ o. unwrap_or o (fresh (fresh_of shape name.part))) p.was)) p.write in
+    (Ok (answer_of n p.left), (refl, (at ∙ put.1.0 ∙ ap Some p.is, write)))
+as-written shape after i name held place (Err why) IsWrite at put kept = (Err why, (refl, (at ∙ kept, tt)))
+
+module _ (case : CaseShape) (old new : DeskView) (all mid : List (Option HeldView)) (i : ℕ) (name : RowName)
+    (lies : interval_of case.topology name ≡ Some i) (ready : IsReady case.topology i name all mid) (are : AreAllHeld case old all)
+    (was : Option HeldView) (read : was ≡ get_or mid i was) (place : Option HeldView) (result : Result ℕ DeskRefusal)
+    (IsEntry : LeaseView → Contents → Written → Type 0)
+    (put : IfOk result (λ commit. IfSome was (λ (held : HeldView).
+    HasPutAt name (λ row left. IsEntry held.lease row (answer_of commit left)) held place)))
+    (kept : OnErr result (place ≡ was)) where
+  -- what was held has the row cached, as it was
+  abbrev pub put_held : HeldView
+  put_held = with_cached case.topology name ready.held
+
+  -- what is held once the place is written
+  abbrev pub put_all : List (Option HeldView)
+  put_all = slice_set mid i place
+
+  -- it was held in the place
+  put_held-is : was ≡ Some put_held
+  put_held-is = place-is case old all mid i name lies ready are was read
+
+  -- and of the interval
+  put_held-at : held_at mid i ≡ Some put_held
+  put_held-at = ready-at case old all mid i name lies ready are
+
+  -- of every other interval the same is held
+  put_all-others : KeepsOthers i mid put_all
+  put_all-others = held-others mid i place
+
+  -- the answer with the row that is held then
+  answered : (written : Result Written DeskRefusal)
+      × (MatchResult written (λ (w : Written). result ≡ Ok w.commit) (λ why. result ≡ Err why)
+      × (MatchResult written (λ (w : Written). held_at put_all i ≡ Some (with_row name w.row put_held)) (λ _. held_at put_all i ≡ Some put_held)
+      × IfOk written (IsEntry ready.held.lease (row_held case.topology put_held name))))
+  answered = as-written case.topology put_all i name put_held place result (IsEntry ready.held.lease)
+      (held-here mid i place (ready-within case old all mid i name lies ready are))
+      (subst (λ (o : Option HeldView). IfOk result (λ commit. IfSome o (λ (held : HeldView).
+      HasPutAt name (λ row left. IsEntry held.lease row (answer_of commit left)) held place))) put_held-is put)
+      (subst (λ (o : Option HeldView). OnErr result (place ≡ o)) put_held-is kept)
+
+  -- what is held then
+  answered-here : IfSome (held_at mid i) (λ held. MatchResult answered.0
+      (λ (w : Written). held_at put_all i ≡ Some (with_row name w.row held)) (λ _. held_at put_all i ≡ Some held))
+  answered-here = there-so (λ (held : HeldView). MatchResult answered.0
+      (λ (w : Written). held_at put_all i ≡ Some (with_row name w.row held)) (λ _. held_at put_all i ≡ Some held))
+      (held_at mid i) put_held put_held-at answered.1.1.0
+
+  -- all that is held fits
+  pub AreAllHeld-put : old.case ≡ case → IsSound old → IsSound new
+      → ((w : Written) → IsEntry ready.held.lease (row_held case.topology put_held name) w → HasEntered old new ready.held.lease name w)
+      → OnErr result (HasLooked old new) → AreAllHeld case new put_all
+  AreAllHeld-put same sound now enters looked =
+      AreAllHeld-kept case old new all mid put_all i name put_held lies ready put_held-at are put_all-others ready.held.lease refl
+      same sound now answered.0 answered-here
+      (ok-so (IsEntry ready.held.lease (row_held case.topology put_held name)) (HasEntered old new ready.held.lease name) answered.0 enters
+      answered.1.1.1)
+      (err-as (HasLooked old new) answered.0 result answered.1.0 looked)
+
+  -- a refused write keeps what is held
+  pub KeepsHeld-put : OnErr result (KeepsHeld case.topology all put_all)
+  KeepsHeld-put = KeepsHeld-refused case old new all mid put_all i name put_held lies ready put_held-at are put_all-others
+      ready.held.lease refl answered.0 result answered.1.0 answered-here
+
+  -- an accepted write is held
+  pub HoldsEntry-put : IfOk result (λ commit. HoldsEntry case.topology i name commit IsEntry all put_all)
+  HoldsEntry-put = HoldsEntry-written case old new all mid put_all i name put_held lies ready put_held-at are put_all-others
+      ready.held.lease refl IsEntry (row_held case.topology put_held name) answered.0 result answered.1.0 answered-here refl answered.1.1.1

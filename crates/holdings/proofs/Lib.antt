@@ -3,6 +3,7 @@ pub mod SlotLaws
 pub mod HeldRows
 pub mod HeldPlaces
 pub mod HeldSteps
+pub mod PutRows
 pub mod ClaimSteps
 pub mod TimeLaws
 pub mod WorkLaws

@@ -10,3 +10,5 @@ pub mod Keyed
 pub mod Dues
 pub mod Indexes
 pub mod Seens
+pub mod Lending
+pub mod Writing

@@ -1,5 +1,6 @@
 //! The rows of one interval that are cached.
-ghost use Rattle.std.specs.Prelude.{◌≡◌, ◌++◌, IfOk, IsSome, None, OnErr, OnOk, fold, map, option_copied};
+ghost use Rattle.std.specs.Prelude.{◌≡◌, ◌++◌, IfOk, IsSome, None, OnErr, OnOk, Some, fold, map, option_copied};
+ghost use Rattle.std.specs.Borrow.{sem};
 ghost use Rattle.std.specs.List.{flat_map};
 ghost use Rattle.std.specs.List.Sorted.{IsStrictlySortedBy};
 ghost use Rattle.std.specs.Map.{keys_of, lookup, set_value};
@@ -11,6 +12,7 @@ ghost use Rattle.row_parts.specs.Places.{IsHitOrGap};
 ghost use Rattle.run_history.specs.Runs.{cached, row_in};
 ghost use Rattle.book.specs.Claims.{named};
 ghost use Rattle.book.specs.declared.answers.NamedRow.{NamedRow};
+ghost use Rattle.holdings.specs.Lending.{LendsCached};
 ghost use Rattle.holdings.specs.Firsts.{earlier};
 ghost use Rattle.holdings.specs.Indexes.{HasStamped, IsIndexOf};
 ghost use Rattle.holdings.specs.Pendings.{ArePendingAmong, sent_in};
@@ -92,14 +94,18 @@ impl Cache {
         Ok(())
     }
 
-    // Puts another row in the place of one that is cached.
-    pub(crate) fn set(&mut self, name: &RowName, row: Row)
+    // The row of this name, which is cached, to be changed where it lies.
+    pub(crate) fn row_mut(&mut self, name: &RowName) -> &mut Row
         requires there { IsSome (row_in (cached self.old) name.now) }
-        ensures { self.new ≡ insert_entry row_cmp self.old name.now row }
+        ensures* lends { sem 𝓛 (LendsCached self.entry name.now result) }
+        ensures row { row_in (cached self.old) name.now ≡ Some result.now }
     {
         match place_of(&self.answered, name) {
-            Ok(at) => set_at(&mut self.answered[at], row),
-            Err(_) => self.others.set(name, row),
+            Ok(at) => {
+                let place = &mut self.answered[at];
+                &mut place.row
+            }
+            Err(_) => self.others.row_mut(name),
         }
     }
 
@@ -177,11 +183,4 @@ fn place_of(rows: &[NamedRow], name: &RowName) -> Result<usize, usize>
     ensures { IsHitOrGap (λ (r : NamedRow). row_cmp r.name name.now) rows.now result }
 {
     rows.binary_search_by(|row| row.name.cmp(name))
-}
-
-// Another row under the same name.
-fn set_at(place: &mut NamedRow, row: Row)
-    ensures { place.new ≡ record place.old { row = row } }
-{
-    place.row = row;
 }

@@ -1,20 +1,16 @@
 //! What a worker holds of each interval.
-ghost use Rattle.std.specs.Prelude.{◌≡◌, ◌<◌, ℕ, [], IfOk, IfSome, IsSome, MatchResult, None, Ok, Err, OnErr, OnOk, Some, length, option_copied, slice_set};
+ghost use Rattle.std.specs.Prelude.{◌≡◌, ◌<◌, ℕ, [], IfOk, IfSome, IsSome, None, OnErr, OnOk, Some, length, option_copied, slice_set};
 ghost use Rattle.std.specs.List.Sorted.{IsStrictlySortedBy};
 ghost use Rattle.std.specs.Option.{option_map};
 ghost use Rattle.std.specs.Map.{keys_of};
 ghost use Rattle.mw_types.specs.Orders.{row_cmp};
 ghost use Rattle.run_history.specs.Cases.{CaseShape};
-ghost use Rattle.run_history.specs.Runs.{cached, row_in};
 ghost use Rattle.book.specs.Desks.{DeskView};
-ghost use Rattle.book.specs.declared.answers.Written.{Written};
-ghost use Rattle.holdings.specs.Holding.{AreAllHeld, HeldView, KeepsOthers, held_at, with_row};
+ghost use Rattle.holdings.specs.Holding.{AreAllHeld, HeldView, KeepsOthers, held_at};
 ghost use Rattle.holdings.specs.Steps.{IsReady, KeepsAll, with_cached};
 
 use crate::held::Held;
-use book::{DeskRefusal, Written};
 use mw_types::{NoMemory, RowName};
-use row_parts::Row;
 use run_history::Case;
 use std::alloc::Global;
 use std::marker::Model;
@@ -122,40 +118,6 @@ impl Holdings {
     {
         self.get(interval).unwrap()
     }
-
-    // Keeps the row that a write left, where it was accepted.
-    pub(crate) fn keep(
-        &mut self,
-        alloc: Global,
-        interval: u32,
-        name: &RowName,
-        written: Result<Written, DeskRefusal>,
-    ) -> Result<u64, DeskRefusal>
-        requires there { IfSome (held_at self.old interval)
-            (λ held. IsSome (row_in (cached held.rows) name.now)) }
-        ensures result { MatchResult written (λ w. result ≡ Ok w.commit) (λ why. result ≡ Err why) }
-        ensures here { IfSome (held_at self.old interval) (λ held. MatchResult written
-            (λ w. held_at self.new interval ≡ Some (with_row name.now w.row held))
-            (λ _. held_at self.new interval ≡ Some held)) }
-        ensures others { KeepsOthers interval self.old self.new }
-    {
-        let Written { commit, row } = written?;
-        self.set(alloc, interval, name, row);
-        Ok(commit)
-    }
-
-    // Puts another row in the place of one that is cached.
-    fn set(&mut self, alloc: Global, interval: u32, name: &RowName, row: Row)
-        requires there { IfSome (held_at self.old interval)
-            (λ held. IsSome (row_in (cached held.rows) name.now)) }
-        ensures { self.new ≡ slice_set self.old interval
-            (option_map (with_row name.now row) (held_at self.old interval)) }
-    {
-        let Some(place) = self.all.get_mut(interval as usize) else {
-            return;
-        };
-        set_in(place, alloc, name, row);
-    }
 }
 
 // Sees to it that a row is cached in a place where something is held.
@@ -173,16 +135,6 @@ fn cache_in(
     match place {
         Some(held) => held.cache(alloc, case, name),
         None => Ok(()),
-    }
-}
-
-// Puts another row in the place of one that is cached where something is held.
-fn set_in(place: &mut Option<Held>, alloc: Global, name: &RowName, row: Row)
-    requires there { IfSome place.old (λ held. IsSome (row_in (cached held.rows) name.now)) }
-    ensures { place.new ≡ option_map (with_row name.now row) place.old }
-{
-    if let Some(held) = place {
-        held.set(alloc, name, row);
     }
 }
 

@@ -1,17 +1,19 @@
 //! What is kept beside the rows of an interval, so that the own work and the first timer of all of
 //! them are found without going over them.
-ghost use Rattle.std.specs.Prelude.{◌≡◌, ◌≢◌, [], Contains, IfOk, IfSome, None, OnOk, Some, option_copied};
+ghost use Rattle.std.specs.Prelude.{◌≡◌, ◌≢◌, [], Contains, IfOk, IfSome, IsSome, None, OnOk, Some, option_copied};
 ghost use Rattle.std.specs.Option.{option_and_then, option_map};
 ghost use Rattle.std.specs.List.Sorted.{IsStrictlySortedBy};
 ghost use Rattle.std.specs.Map.{keys_of};
 ghost use Rattle.std.specs.BTreeMap.{insert_entry};
 ghost use Rattle.mw_types.specs.Orders.{row_cmp};
 ghost use Rattle.row_parts.specs.Contents.{Contents};
-ghost use Rattle.holdings.specs.Dues.{due_of, due_order};
+ghost use Rattle.run_history.specs.Runs.{cached, row_in};
+ghost use Rattle.holdings.specs.Dues.{due_at, due_of, due_order};
 ghost use Rattle.holdings.specs.Keyed.{HasRekeyed, IsThere};
 ghost use Rattle.holdings.specs.Timers.{timer_of};
 ghost use Rattle.holdings.specs.Indexes.{HasRestamped, HasUnstamped, IsIndexOf, work_of};
-ghost use Rattle.holdings.specs.Seens.{had_seen, seen_of};
+ghost use Rattle.holdings.specs.Seens.{had_seen, name_if, seen_of};
+ghost use Rattle.holdings.specs.Writing.{IsBefore, WasNoted};
 
 use crate::cache::Cache;
 use crate::due::{Dues, add_due, set_due};
@@ -30,6 +32,14 @@ pub(crate) struct Index {
     pub(crate) work: Oldest,
     pub(crate) dues: Dues,
     pub(crate) seen: Names,
+}
+
+// What an index has of a row: its oldest work, its first timer, and whether it has seen ids.
+#[derive(Clone, Copy, Drop)]
+pub(crate) struct Before {
+    pub(crate) work: u64,
+    pub(crate) timer: Option<Timer>,
+    pub(crate) seen: bool,
 }
 
 impl Index {
@@ -64,6 +74,34 @@ impl Index {
         add_seen(alloc, &mut self.seen, name, row)
     }
 
+    // Keeps what there is of a row in the place of what there was of it.
+    fn rekey(
+        &mut self,
+        alloc: Global,
+        name: &RowName,
+        before: Before,
+        row: &Row,
+    ) -> Result<(), NoMemory>
+        requires held { END ≢ before.work → Contains self.old.work before.work }
+        requires ordered { IsStrictlySortedBy due_order (keys_of self.old.dues.entries) }
+        requires ascending { IsStrictlySortedBy row_cmp (keys_of self.old.seen.entries) }
+        requires due { IsThere due_order
+            (option_map (due_at name.now) before.timer) self.old.dues.entries }
+        requires named { IsThere row_cmp (name_if before.seen name.now) self.old.seen.entries }
+        ensures work { OnOk result
+            (HasRestamped (Some before.work) (work_of row.now) self.old.work self.new.work) }
+        ensures dues { OnOk result (HasRekeyed due_order
+            (option_map (due_at name.now) before.timer) (due_of name.now row.now)
+            self.old.dues.entries self.new.dues.entries) }
+        ensures seen { OnOk result (HasRekeyed row_cmp
+            (name_if before.seen name.now) (seen_of name.now row.now)
+            self.old.seen.entries self.new.seen.entries) }
+    {
+        restamp(&mut self.work, Some(before.work), row_work(row))?;
+        set_due(alloc, &mut self.dues, name, before.timer, row.least_timer())?;
+        set_seen(alloc, &mut self.seen, name, before.seen, has_seen(row))
+    }
+
     // Keeps what there is of a row in the place of what there was of it before, if it was there.
     fn put(
         &mut self,
@@ -96,6 +134,41 @@ impl Index {
         set_due(alloc, &mut self.dues, name, old, row.least_timer())?;
         let old = seen_before(before);
         set_seen(alloc, &mut self.seen, name, old, has_seen(row))
+    }
+}
+
+// What an index has of a row.
+pub(crate) fn before_of(row: &Row) -> Before
+    ensures { IsBefore row.now result }
+{
+    Before {
+        work: row_work(row),
+        timer: row.least_timer(),
+        seen: has_seen(row),
+    }
+}
+
+// The index once a row was changed, or none where there was no memory for it.
+pub(crate) fn rekeyed(
+    alloc: Global,
+    index: Option<Box<Index>>,
+    rows: &Cache,
+    name: &RowName,
+    before: Before,
+) -> Option<Box<Index>>
+    requires there { IsSome (row_in (cached rows.now) name.now) }
+    requires noted { WasNoted name.now rows.now before index }
+    ensures { IfSome result (λ index. IsIndexOf rows.now index.value) }
+{
+    match index {
+        Some(index) => {
+            let mut index = index;
+            match index.rekey(alloc, name, before, rows.get(name).unwrap()) {
+                Ok(()) => Some(index),
+                Err(NoMemory) => None,
+            }
+        }
+        None => None,
     }
 }
 

@@ -1,5 +1,6 @@
 //! The rows of one interval that are cached, and what is kept beside them.
-ghost use Rattle.std.specs.Prelude.{◌≡◌, IfOk, IsSome, None, OnErr, OnOk, map, option_copied};
+ghost use Rattle.std.specs.Prelude.{◌≡◌, IfOk, IsSome, None, OnErr, OnOk, Some, map, option_copied};
+ghost use Rattle.std.specs.Borrow.{sem};
 ghost use Rattle.std.specs.List.{flat_map};
 ghost use Rattle.std.specs.List.Sorted.{IsStrictlySortedBy};
 ghost use Rattle.std.specs.BTreeMap.{insert_entry};
@@ -12,14 +13,16 @@ ghost use Rattle.run_history.specs.Watermarks.{least};
 ghost use Rattle.book.specs.Claims.{named};
 ghost use Rattle.book.specs.declared.answers.NamedRow.{NamedRow};
 ghost use Rattle.holdings.specs.Indexes.{IsIndexOf};
+ghost use Rattle.holdings.specs.Lending.{LendsIndexed};
 ghost use Rattle.holdings.specs.Pendings.{ArePendingAmong};
 ghost use Rattle.holdings.specs.Purges.{IsFirstToPurge};
 ghost use Rattle.holdings.specs.Timers.{IsFirstTimer};
+ghost use Rattle.holdings.specs.Writing.{IsNoted, WasNoted};
 
 use crate::cache::Cache;
 use crate::due::first_timer;
 use crate::first_timer::RowTimer;
-use crate::index::{Index, changed};
+use crate::index::{Before, Index, before_of, changed, rekeyed};
 use crate::pending::SentList;
 use crate::seen::first_seen;
 use book::NamedRowList;
@@ -31,7 +34,7 @@ use std::mem::replace;
 
 // Rows by their names, with an index of them. There is no index right after a claim, and where there
 // was no memory to change it; it is made anew once it is asked for. It lies in a box, since it is
-// taken out and put back at each write.
+// taken out at each write, and put back.
 #[derive(Drop)]
 pub(crate) struct Indexed {
     rows: Cache,
@@ -83,14 +86,39 @@ impl Indexed {
         Ok(())
     }
 
-    // Puts another row in the place of one that is cached.
-    pub(crate) fn set(&mut self, alloc: Global, name: &RowName, row: Row)
+    // Takes the index out, with what it has of a row that is to be changed.
+    pub(crate) fn note(&mut self, name: &RowName) -> (Before, Option<Box<Index>>)
         requires there { IsSome (row_in (cached self.old) name.now) }
-        ensures { self.new ≡ insert_entry row_cmp self.old name.now row }
+        ensures noted { IsNoted name.now self.old result.0 result.1 }
+        ensures same { self.new ≡ self.old }
     {
-        let index = replace(&mut self.index, None);
-        self.index = changed(alloc, index, &self.rows, name, &row);
-        self.rows.set(name, row);
+        let before = before_of(self.rows.get(name).unwrap());
+        (before, replace(&mut self.index, None))
+    }
+
+    // The row of this name, which is cached, to be changed where it lies. Its index was taken out.
+    pub(crate) fn row_mut(&mut self, name: &RowName) -> &mut Row
+        requires there { IsSome (row_in (cached self.old) name.now) }
+        ensures* lends { sem 𝓛 (LendsIndexed self.entry name.now result) }
+        ensures row { row_in (cached self.old) name.now ≡ Some result.now }
+    {
+        self.index = None;
+        self.rows.row_mut(name)
+    }
+
+    // Puts the index back once a row was changed, with what there is of the row now.
+    pub(crate) fn reindex(
+        &mut self,
+        alloc: Global,
+        name: &RowName,
+        before: Before,
+        index: Option<Box<Index>>,
+    )
+        requires there { IsSome (row_in (cached self.old) name.now) }
+        requires noted { WasNoted name.now self.old before index }
+        ensures same { self.new ≡ self.old }
+    {
+        self.index = rekeyed(alloc, index, &self.rows, name, before);
     }
 
     // The oldest work of all rows, or the end where there is none.

@@ -1,11 +1,13 @@
 //! Rows by their names, each at a place of its own.
-ghost use Rattle.std.specs.Prelude.{◌≡◌, ◌++◌, ◌<◌, All, [], IfSome, IsSome, IsTrue, None, OnErr, OnOk, fold, length, map, option_copied, vec_capacity, vec_len};
+ghost use Rattle.std.specs.Prelude.{◌≡◌, ◌++◌, ◌<◌, All, [], IfSome, IsSome, IsTrue, None, Some, OnErr, OnOk, fold, length, map, option_copied, vec_capacity, vec_len};
+ghost use Rattle.std.specs.Borrow.{sem};
 ghost use Rattle.std.specs.List.{flat_map};
 ghost use Rattle.std.specs.List.Sorted.{IsStrictlySortedBy};
 ghost use Rattle.std.specs.Map.{keys_of, lookup};
 ghost use Rattle.std.specs.BTreeMap.{insert_entry, is_at};
 ghost use Rattle.mw_types.specs.Orders.{row_cmp};
 ghost use Rattle.holdings.specs.Slots.{AreSlots, AreWithin, IsPlaceOf, placed, row_at};
+ghost use Rattle.holdings.specs.Lending.{LendsSlot};
 ghost use Rattle.holdings.specs.Firsts.{earlier};
 ghost use Rattle.holdings.specs.Indexes.{HasStamped};
 ghost use Rattle.holdings.specs.Pendings.{sent_in};
@@ -105,13 +107,15 @@ impl Slots {
         }
     }
 
-    // Puts another row in the place of one that is there.
-    pub(crate) fn set(&mut self, name: &RowName, row: Row)
+    // The row of this name, which is there, to be changed where it lies.
+    pub(crate) fn row_mut(&mut self, name: &RowName) -> &mut Row
         requires there { IsSome (lookup (is_at (row_cmp name.now)) self.old) }
-        ensures { self.new ≡ insert_entry row_cmp self.old name.now row }
+        ensures* lends { sem 𝓛 (LendsSlot self.entry name.now result) }
+        ensures row { lookup (is_at (row_cmp name.now)) self.old ≡ Some result.now }
     {
         let at = place_in(&self.rows, &self.places, &self.last, name).unwrap();
-        set_at(&mut self.rows[at], row);
+        let place = &mut self.rows[at];
+        &mut place.row
     }
 }
 
@@ -183,13 +187,6 @@ fn row_in(rows: &[NamedRow], at: usize) -> &Row
     ensures { result.now ≡ row_at rows.now at }
 {
     &rows[at].row
-}
-
-// Another row under the same name.
-fn set_at(place: &mut NamedRow, row: Row)
-    ensures { place.new ≡ record place.old { row = row } }
-{
-    place.row = row;
 }
 
 // Keeps what there is of the rows.

@@ -3,13 +3,17 @@ ghost use Rattle.std.specs.Prelude.{◌≡◌, ◌<◌, [], IfErr, IfOk, IfSome,
 ghost use Rattle.mw_types.specs.declared.entry.Entry.TheVariants.{Ack, Purge};
 ghost use Rattle.topology.specs.Shapes.{parts_of};
 ghost use Rattle.run_history.specs.Fences.{interval_of};
-ghost use Rattle.run_history.specs.Runs.{written_row};
+ghost use Rattle.run_history.specs.Runs.{cached, row_in, written_row};
+ghost use Rattle.book.specs.Answers.{answer_of};
 ghost use Rattle.book.specs.Conditions.{MaySettle};
-ghost use Rattle.book.specs.Desking.{HasStored, HasWritten, IsKnownOf, IsPurgeKnown};
+ghost use Rattle.book.specs.Desking.{HasStored, HasWritten, IsKnownOf, IsPurgeKnown, IsRowKnown, MayAsk};
+ghost use Rattle.book.specs.DeskReasons.{HasReason};
 ghost use Rattle.book.specs.Desks.{HasLooked, KeepsMarks};
 ghost use Rattle.book.specs.Proposals.{IsProposable};
 ghost use Rattle.holdings.specs.Holding.{AreAllHeld, HoldsEntry, IsRefusedOf, KeepsHeld, held_at, row_held};
+ghost use Rattle.holdings.specs.Writing.{HasPutAt};
 
+use crate::held::Held;
 use crate::holdings::Holdings;
 use book::{Desk, DeskRefusal, Proposal};
 use mw_types::{RecordId, RowName};
@@ -54,10 +58,10 @@ impl Holdings {
     {
         desk.sound();
         self.ready(alloc, case, interval, name)?;
-        let held = self.held(interval);
-        let written = desk.write(alloc, held.lease(), name, held.cached(name), proposal);
+        let place = &mut self.all[interval as usize];
+        let written = write_at(place, alloc, desk, name, proposal);
         desk.sound();
-        self.keep(alloc, interval, name, written)
+        written
     }
 
     /// A sender learns that what it made was handled: the row no longer waits for the id. Answers
@@ -98,10 +102,10 @@ impl Holdings {
     {
         desk.sound();
         self.ready(alloc, case, interval, name)?;
-        let held = self.held(interval);
-        let written = desk.settle(alloc, held.lease(), name, held.cached(name), id);
+        let place = &mut self.all[interval as usize];
+        let written = settle_at(place, alloc, desk, name, id);
         desk.sound();
-        self.keep(alloc, interval, name, written)
+        written
     }
 
     /// A row forgets the ids of records that are finished: those below the floor. Answers the
@@ -142,9 +146,116 @@ impl Holdings {
     {
         desk.sound();
         self.ready(alloc, case, interval, name)?;
-        let held = self.held(interval);
-        let written = desk.purge(alloc, held.lease(), name, held.cached(name), floor);
+        let place = &mut self.all[interval as usize];
+        let written = purge_at(place, alloc, desk, name, floor);
         desk.sound();
-        self.keep(alloc, interval, name, written)
+        written
+    }
+}
+
+// Writes a row that is cached in a place where something is held.
+fn write_at<D: Desk>(
+    place: &mut Option<Held>,
+    alloc: Global,
+    desk: &mut D,
+    name: &RowName,
+    proposal: &Proposal,
+) -> Result<u64, DeskRefusal>
+    requires held { IsSome place.old }
+    requires there { IfSome place.old (λ held. IsSome (row_in (cached held.rows) name.now)) }
+    requires lease { IfSome place.old (λ held. MayAsk (D.view desk.old) held.lease name.now) }
+    requires row { IfSome place.old (λ held. IfSome (row_in (cached held.rows) name.now)
+        (IsRowKnown (D.view desk.old) held.lease name.now)) }
+    requires proposal { IfSome place.old (λ held. IfSome (row_in (cached held.rows) name.now)
+        (λ row. IsProposable (D.view desk.old).case name.now row proposal.now)) }
+    requires known { IsKnownOf (D.view desk.old) name.now proposal.now }
+
+    ensures written { IfOk result (λ commit. IfSome place.old (λ held. HasPutAt name.now
+        (λ row left. HasWritten (D.view desk.old) (D.view desk.new) held.lease name.now
+        proposal.now row (answer_of commit left)) held place.new)) }
+
+    ensures kept { OnErr result (place.new ≡ place.old) }
+    ensures looked { OnErr result (HasLooked (D.view desk.old) (D.view desk.new)) }
+    ensures reason { IfErr result (λ why. IfSome place.old (λ held.
+        HasReason (D.view desk.old) (D.view desk.new) held.lease why)) }
+    ensures marks { KeepsMarks (D.view desk.old) (D.view desk.new) }
+    ensures loan { D.loan desk.new ≡ D.loan desk.old }
+    ensures home { D.home desk.new ≡ D.home desk.old }
+{
+    match place {
+        Some(held) => held.write(alloc, desk, name, proposal),
+        None => Err(DeskRefusal::NoMemory),
+    }
+}
+
+// Settles an id of a row that is cached in a place where something is held.
+fn settle_at<D: Desk>(
+    place: &mut Option<Held>,
+    alloc: Global,
+    desk: &mut D,
+    name: &RowName,
+    id: RecordId,
+) -> Result<u64, DeskRefusal>
+    requires held { IsSome place.old }
+    requires there { IfSome place.old (λ held. IsSome (row_in (cached held.rows) name.now)) }
+    requires lease { IfSome place.old (λ held. MayAsk (D.view desk.old) held.lease name.now) }
+    requires row { IfSome place.old (λ held. IfSome (row_in (cached held.rows) name.now)
+        (IsRowKnown (D.view desk.old) held.lease name.now)) }
+    requires id { IfSome place.old (λ held. IfSome (row_in (cached held.rows) name.now)
+        (λ row. MaySettle (D.view desk.old).told (D.view desk.old).seen row id)) }
+
+    ensures settled { IfOk result (λ commit. IfSome place.old (λ held.
+        let entry = Ack held.lease.seq name.now id in HasPutAt name.now
+        (λ row left. HasStored (D.view desk.old) (D.view desk.new) held.lease name.now
+        entry row (λ number. written_row number entry [] row) (answer_of commit left))
+        held place.new)) }
+
+    ensures kept { OnErr result (place.new ≡ place.old) }
+    ensures looked { OnErr result (HasLooked (D.view desk.old) (D.view desk.new)) }
+    ensures reason { IfErr result (λ why. IfSome place.old (λ held.
+        HasReason (D.view desk.old) (D.view desk.new) held.lease why)) }
+    ensures marks { KeepsMarks (D.view desk.old) (D.view desk.new) }
+    ensures loan { D.loan desk.new ≡ D.loan desk.old }
+    ensures home { D.home desk.new ≡ D.home desk.old }
+{
+    match place {
+        Some(held) => held.settle(alloc, desk, name, id),
+        None => Err(DeskRefusal::NoMemory),
+    }
+}
+
+// Purges a row that is cached in a place where something is held.
+fn purge_at<D: Desk>(
+    place: &mut Option<Held>,
+    alloc: Global,
+    desk: &mut D,
+    name: &RowName,
+    floor: u64,
+) -> Result<u64, DeskRefusal>
+    requires held { IsSome place.old }
+    requires there { IfSome place.old (λ held. IsSome (row_in (cached held.rows) name.now)) }
+    requires lease { IfSome place.old (λ held. MayAsk (D.view desk.old) held.lease name.now) }
+    requires row { IfSome place.old (λ held. IfSome (row_in (cached held.rows) name.now)
+        (IsRowKnown (D.view desk.old) held.lease name.now)) }
+    requires floor { IfSome place.old (λ held. IfSome (row_in (cached held.rows) name.now)
+        (λ row. IsPurgeKnown (D.view desk.old) name.now row floor)) }
+
+    ensures purged { IfOk result (λ commit. IfSome place.old (λ held.
+        let entry = Purge held.lease.seq name.now floor in HasPutAt name.now
+        (λ row left. HasStored (D.view desk.old) (D.view desk.new) held.lease name.now
+        entry row (λ number. written_row number entry [] row) (answer_of commit left))
+        held place.new)) }
+
+    ensures kept { OnErr result (place.new ≡ place.old) }
+    ensures looked { OnErr result (HasLooked (D.view desk.old) (D.view desk.new)) }
+    ensures reason { IfErr result (λ why. IfSome place.old (λ held.
+        HasReason (D.view desk.old) (D.view desk.new) held.lease why)) }
+    ensures marks { KeepsMarks (D.view desk.old) (D.view desk.new) }
+    ensures loan { D.loan desk.new ≡ D.loan desk.old }
+    ensures home { D.home desk.new ≡ D.home desk.old }
+{
+    match place {
+        Some(held) => held.purge(alloc, desk, name, floor),
+        None => Err(DeskRefusal::NoMemory),
     }
 }

@@ -1,5 +1,5 @@
 -- What a row that is held tells of a record: it is finished there only where it was handled.
-use Rattle.std.proofs.Common.{◌≡◌, ◌∙◌, ◌≤◌, ◌+◌, ℕ, true, List, [], ◌++◌, fold, refl, sym, ap, subst, arith}
+use Rattle.std.proofs.Common.{◌≡◌, ◌∙◌, ◌≤◌, ℕ, true, List, ◌++◌, fold, refl, sym, ap, subst, arith}
 use Rattle.std.specs.Prelude.{IfSome, Option, Some, None}
 use Rattle.std.specs.List.{AllByRecursion}
 use Rattle.mw_types.specs.declared.delivery.Delivery.{Delivery}

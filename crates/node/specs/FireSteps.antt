@@ -1,4 +1,5 @@
--- The steps by which a node finds the timer that fires. No public clause cites this module.
+-- The steps by which a node finds the timer that fires. Of this module public clauses cite which timer it may
+-- fire, that the rows that are cached lie in their intervals, and what a handler leaves of a timer of a row.
 use Rattle.std.specs.Prelude.{◌≡◌, ◌<◌, ℕ, Bool, true, false, List, Option, Some, None, if◌then◌else◌, nat_le, slice_get}
 use Rattle.std.specs.Ordering.{is_lt}
 use Rattle.mw_types.specs.Outcomes.{EffectsView}

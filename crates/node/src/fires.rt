@@ -1,5 +1,5 @@
 //! Timers that fire.
-ghost use Rattle.std.specs.Prelude.{◌≡◌, ◌<◌, ◌^◌, ◌++◌, ℕ, All, IfErr, IfOk, OnErr, OnOk, Some, length};
+ghost use Rattle.std.specs.Prelude.{◌≡◌, ◌<◌, ◌^◌, ◌++◌, ℕ, All, IfErr, IfOk, None, OnErr, OnOk, Some, length};
 ghost use Rattle.std.specs.Ordering.{is_lt};
 ghost use Rattle.run_history.specs.Cases.{intervals_of};
 ghost use Rattle.book.specs.Desking.{IsDueKnown};
@@ -14,6 +14,7 @@ ghost use Rattle.node.specs.Asking.{IsNextTimer, MayAskFire};
 ghost use Rattle.node.specs.FireSteps.{AreAllWithin, IsFirstIn, IsLeftByHandler, HoldsFire, IsLeastTimerBelow, IsSetAt, IsTimerToFire, due_under, earlier_timer, lesser_timer};
 ghost use Rattle.node.specs.Messages.{IsAddressed, IsComputation};
 ghost use Rattle.node.specs.WorkSteps.{handler_sends};
+ghost use Rattle.node.specs.Workers.{NodeView};
 ghost use Rattle.node.specs.Works.{IsWorkOf};
 
 use crate::handling::fired;
@@ -90,8 +91,7 @@ impl<N: Seen> Node<N> {
         if self.prepared.is_some() {
             return Ok(None);
         }
-        let first = first_of_part(&mut self.held, alloc, case, part)?;
-        Ok(due(first, mark))
+        first_due(&mut self.held, alloc, case, part, mark)
     }
 
     // Fires a timer that is due: its handler is called, and what it leaves is written.
@@ -208,8 +208,9 @@ fn write_fire<D: Desk>(
     written
 }
 
-// What a handler leaves of a timer of a row that is held of an interval.
-fn effects_of<C: Computation>(
+/// What a handler leaves of a timer of a row that is held of an interval, for a caller that then
+/// writes itself that the timer fired. It fails for lack of memory alone.
+pub fn effects_of<C: Computation>(
     held: &Holdings,
     alloc: Global,
     case: &Case,
@@ -225,6 +226,27 @@ fn effects_of<C: Computation>(
 {
     let row = held.get(interval).unwrap().row(&found.name).unwrap();
     fired(alloc, work, case, &found.name, row, &found.timer)
+}
+
+/// The next timer of a part, by time, tag and key, of the rows that are held, where it is due under a
+/// mark in whole microseconds: what a caller that holds rows fires next. None comes where no row has
+/// a timer, and where the first is set for a time above the mark. It fails for lack of memory alone.
+pub fn first_due(
+    held: &mut Holdings,
+    alloc: Global,
+    case: &Case,
+    part: u32,
+    mark: u64,
+) -> Result<Option<RowTimer>, NoMemory>
+    requires within { AreAllWithin case.now.topology held.old }
+
+    // It is what each worker may fire that holds these rows and has nothing prepared.
+    ensures found { (node : NodeView) → node.held ≡ held.old → node.prepared ≡ None →
+        IfOk result (IsTimerToFire case.now.topology node part mark) }
+    ensures same { held.new ≡ held.old }
+{
+    let first = first_of_part(held, alloc, case, part)?;
+    Ok(due(first, mark))
 }
 
 // The first timer of a part, of the intervals that are held.

@@ -34,6 +34,7 @@ mod writes;
 mod yields;
 
 pub use beside::node_fits_beside;
+pub use fires::{effects_of, first_due};
 pub use handling::{fired, handled};
 pub use message::{Message, Parcel, Receipt};
 pub use node::Node;

@@ -1,6 +1,7 @@
 pub mod PlaceLemmas
 pub mod Ranks
 pub mod RowLemmas
+pub mod ChangeLaws
 pub mod Times
 pub mod Written
 pub mod KeyLemmas

@@ -1,4 +1,5 @@
 pub mod Contents
+pub mod Changes
 pub mod Spelling
 pub mod Orders
 pub mod Places

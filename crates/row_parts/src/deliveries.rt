@@ -1,13 +1,15 @@
 //! The deliveries that a row waits for: adding one and settling one.
-ghost use Rattle.std.specs.Prelude.{◌≡◌, ◌≤◌, ◌++◌, ◌∷◌, [], All, OnOk, OnErr};
+ghost use Rattle.std.specs.Prelude.{◌≡◌, ◌≤◌, ◌++◌, ◌∷◌, [], All, IfOk, IsTrue, OnOk, OnErr, take};
 ghost use Rattle.std.specs.List.{list_any};
 ghost use Rattle.std.specs.List.Sorted.{IsStrictlySortedBy};
 ghost use Rattle.std.specs.Option.{is_some};
 ghost use Rattle.std.specs.declared.cmp.Ordering.TheVariants.{Less};
 ghost use Rattle.row_parts.specs.Contents.{ArePending, IsId, IsKey, delivery_cmp, found_delivery, same_id, without_delivery};
 
-use crate::places::{delivery_place, room};
-use mw_types::{Delivery, DeliveryList, Key, MAX_STAMP, NoMemory, RecordId};
+use crate::places::{delivery_place, room, room_for};
+use mw_types::{Delivery, DeliveryList, Duplicate, Key, MAX_STAMP, NoMemory, RecordId};
+use std::alloc::Global;
+use std::mem::replace;
 
 // Tells of a key what each key is: at most 256 bytes of UTF-8.
 fn is_key(key: &Key)
@@ -48,6 +50,89 @@ pub fn add_delivery(deliveries: &mut DeliveryList, delivery: Delivery) -> Result
     room(deliveries.len())?;
     deliveries.push(delivery)?;
     Ok(())
+}
+
+/// Appends deliveries whose ids ascend from above all of these. Refuses where memory ran out, or
+/// 2^32 would be there, and leaves the deliveries as they were.
+pub fn add_deliveries(
+    alloc: Global,
+    deliveries: &mut DeliveryList,
+    more: DeliveryList,
+) -> Result<(), NoMemory>
+    requires deliveries { ArePending deliveries.old }
+    requires ids { All (λ d. IsId d.id) more }
+    requires stamps { All (λ d. d.item.stamp ≤ MAX_STAMP) more }
+    requires ascending { IsStrictlySortedBy delivery_cmp (deliveries.old ++ more) }
+    ensures ok { OnOk result (deliveries.new ≡ deliveries.old ++ more) }
+    ensures err { OnErr result (deliveries.new ≡ deliveries.old) }
+    ensures deliveries { ArePending deliveries.new }
+{
+    have_keys(more.as_slice());
+    if let Err(NoMemory) = room_for(deliveries.len(), more.len()) {
+        drop(more);
+        return Err(NoMemory);
+    }
+    join(alloc, deliveries, more)?;
+    Ok(())
+}
+
+// Tells of each key of deliveries what each key is.
+fn have_keys(deliveries: &[Delivery])
+    ensures { All (λ d. IsKey d.to.key × IsKey d.item.key) deliveries.now }
+{
+    for delivery in deliveries {
+        has_keys(delivery);
+    }
+}
+
+// Appends the deliveries of another list, or none of them where memory ran out.
+fn join(alloc: Global, deliveries: &mut DeliveryList, more: DeliveryList) -> Result<(), NoMemory>
+    ensures ok { OnOk result (deliveries.new ≡ deliveries.old ++ more) }
+    ensures err { OnErr result (deliveries.new ≡ deliveries.old) }
+{
+    let mut own = replace(deliveries, DeliveryList::new(alloc)).into_vec();
+    let mut rest = more.into_vec();
+    let done = own.append(&mut rest);
+    *deliveries = DeliveryList::from_vec(own);
+    drop(rest);
+    Ok(done?)
+}
+
+/// Keeps the first so many of these.
+pub fn keep_first(alloc: Global, deliveries: &mut DeliveryList, count: usize)
+    ensures { deliveries.new ≡ take count deliveries.old }
+{
+    let mut own = replace(deliveries, DeliveryList::new(alloc)).into_vec();
+    own.truncate(count);
+    *deliveries = DeliveryList::from_vec(own);
+}
+
+/// Copies of these but for the one with this id. A list of that one alone has none, which takes no memory.
+pub fn deliveries_but(
+    alloc: Global,
+    deliveries: &DeliveryList,
+    id: RecordId,
+) -> Result<DeliveryList, NoMemory>
+    requires { ArePending deliveries.now }
+    ensures rest { IfOk result (λ rest. rest ≡ without_delivery id deliveries.now) }
+    ensures deliveries { IfOk result ArePending }
+{
+    if is_alone(deliveries.as_slice(), id) {
+        return Ok(DeliveryList::new(alloc));
+    }
+    let mut rest = deliveries.copy(alloc)?;
+    take_delivery(&mut rest, id);
+    Ok(rest)
+}
+
+// Whether the delivery of this id is there and no other is.
+fn is_alone(deliveries: &[Delivery], id: RecordId) -> bool
+    ensures { IsTrue result → without_delivery id deliveries.now ≡ [] }
+{
+    match deliveries {
+        [only] => only.id == id,
+        _ => false,
+    }
 }
 
 /// Takes the delivery with this id away, and tells whether it was there.

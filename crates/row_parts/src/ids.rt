@@ -1,9 +1,10 @@
 //! The ids that a row handled: looking one up, adding one and forgetting the finished ones.
-ghost use Rattle.std.specs.Prelude.{◌≡◌, ◌≤◌, OnOk, OnErr};
+ghost use Rattle.std.specs.Prelude.{◌≡◌, ◌≤◌, OnOk, OnErr, Some};
 ghost use Rattle.std.specs.List.{list_any};
 ghost use Rattle.std.specs.List.Sorted.{IsStrictlySortedBy};
 ghost use Rattle.mw_types.specs.Orders.{id_cmp};
 ghost use Rattle.row_parts.specs.Contents.{AreSeen, IsId, same_id, with_id, ids_from};
+ghost use Rattle.row_parts.specs.Changes.{without_ids};
 
 use crate::places::{id_place, room};
 use mw_types::{IdList, NoMemory, RecordId};
@@ -31,6 +32,20 @@ pub fn add_id(ids: &mut IdList, floor: u64, id: RecordId) -> Result<(), NoMemory
         ids.insert(at, id)?;
     }
     Ok(())
+}
+
+/// Takes an id away from these, if it is there. It looks at each of them.
+pub fn take_id(ids: &mut IdList, id: RecordId)
+    ensures { ids.new ≡ without_ids (Some id) ids.old }
+{
+    ids.retain(|other| !is_same(id, *other));
+}
+
+// Whether two ids are the same.
+fn is_same(id: RecordId, other: RecordId) -> bool
+    ensures { result ≡ same_id id other }
+{
+    id.commit == other.commit && id.index == other.index
 }
 
 /// Forgets the ids below a floor, a commit number. Those that are left stand in order, and none is

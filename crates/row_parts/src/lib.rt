@@ -8,6 +8,7 @@
 //! happens to its lists; `specs/Spelling.antt`, the bytes of a row and of a state.
 #![tactic(auto)]
 
+mod changes;
 mod deliveries;
 mod ids;
 mod lists;
@@ -20,8 +21,12 @@ mod states;
 mod timers;
 mod words;
 
+pub use changes::{Moves, Parts};
+pub use deliveries::deliveries_but;
+pub use ids::forget_below;
 pub use lists::{InFours, Ranked, put_in_fours, put_list, take_ascending, take_list};
 pub use refusal::StateRefusal;
 pub use row::Row;
 pub use spelled::Spelled;
 pub use states::{put_state, read_state, state_bytes, take_state};
+pub use timers::{is_set, set_timer, take_timer};

@@ -22,6 +22,17 @@ pub fn room(len: usize) -> Result<(), NoMemory>
     }
 }
 
+/// Whether a list of this length may have so many elements more. Refuses, as if memory ran out, where it
+/// would have 2^32.
+pub fn room_for(len: usize, more: usize) -> Result<(), NoMemory>
+    ensures { OnOk result (len + more < 2 ^ 32) }
+{
+    match len.checked_add(more) {
+        Some(all) if all <= LIST_MAX => Ok(()),
+        _ => Err(NoMemory),
+    }
+}
+
 /// The place of the timer with this tag and time, in whole microseconds; `Err` has the place where
 /// it would stand.
 pub fn timer_place(timers: &[Timer], tag: u64, time: u64) -> Result<usize, usize>

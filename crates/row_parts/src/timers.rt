@@ -1,5 +1,5 @@
 //! The timers of a row: setting one and taking one away.
-ghost use Rattle.std.specs.Prelude.{◌≡◌, ◌≤◌, OnOk, OnErr};
+ghost use Rattle.std.specs.Prelude.{◌≡◌, ◌≤◌, ◌||◌, IsTrue, OnOk, OnErr, not};
 ghost use Rattle.std.specs.List.{list_any};
 ghost use Rattle.row_parts.specs.Contents.{AreTimers, is_timer, set_again, with_timer, without_timer};
 
@@ -14,6 +14,13 @@ fn again(new: Timer, old: Timer) -> Timer
         late: new.late && old.late,
         ..old
     }
+}
+
+// Whether a timer that is set again stays what it is.
+fn stays(new: Timer, old: Timer) -> bool
+    ensures { result ≡ (new.late || not old.late) }
+{
+    new.late || !old.late
 }
 
 /// Sets a timer among these, in order; its time is in whole microseconds. A pair that is set already
@@ -37,6 +44,17 @@ pub fn set_timer(timers: &mut TimerList, timer: Timer) -> Result<(), NoMemory>
         }
     }
     Ok(())
+}
+
+/// Whether a timer is set already, so that to set it again changes nothing.
+pub fn is_set(timers: &[Timer], timer: Timer) -> bool
+    requires { AreTimers timers.now }
+    ensures { IsTrue result → with_timer timer timers.now ≡ timers.now }
+{
+    match timer_place(timers, timer.tag, timer.time) {
+        Ok(at) => stays(timer, timers[at]),
+        Err(_) => false,
+    }
 }
 
 /// Takes the timer with this tag and time, in whole microseconds, away, and tells whether it was

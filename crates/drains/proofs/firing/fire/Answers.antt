@@ -1,11 +1,11 @@
-use Rattle.std.proofs.Common.{◌≡◌, rules, subst, sym}
+use Rattle.std.proofs.Common.{◌≡◌, refl, rules, subst, sym}
 use Rattle.std.specs.Prelude.{IfErr, IfOk}
 use Rattle.run_history.specs.Cases.{CaseShape}
 use Rattle.run_history.specs.Watermarks.{least}
 use Rattle.watermark.specs.Marks.{marks_of}
 use Rattle.book.specs.OwnDesks.{own_view}
 use Rattle.node.specs.Asking.{MayAskFire}
-use Rattle.node.specs.FireSteps.{AreAllWithin}
+use Rattle.node.specs.FireSteps.{AreAllWithin, IsTimerToFire}
 use Rattle.node.specs.declared.outcome.NodeFault.TheVariants as faults
 use Rattle.node.proofs.FirstLaws.{rows-within}
 use Rattle.drains.specs.Turns.{HasAskedOne, IsFullAsking, worker_of}
@@ -21,6 +21,13 @@ first_due-requires g c =
       within = subst (λ (k : CaseShape). AreAllWithin k.topology c.args.held.now) (sym c.case-case.ensures.case)
           (λ interval. rows-within book.case (own_view book) (worker_of c.args.held.now) interval c.requires.at_work.fits);
     }
+
+-- what was found is the next timer of the worker that the drain is
+pub fire_found-requires-clause-found : goal.fire_found-requires-clause-found
+fire_found-requires-clause-found g c =
+    let worker = worker_of c.args.held.now in
+    let next : IsTimerToFire c.case-case.result.now.topology worker c.args.part c.low-mark.result c.in_ok-found.found =
+    c.in_ok-found.ensures.found worker refl refl in search rules
 
 -- a timer that was asked for under the mark has fired under the least
 pub returns-clause-asked : goal.returns-clause-asked

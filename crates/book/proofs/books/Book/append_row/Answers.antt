@@ -1,4 +1,4 @@
-use Rattle.std.proofs.Common.{◌≡◌, ◌+◌, ◌-◌, List, subst, sym, ◌∙◌}
+use Rattle.std.proofs.Common.{◌≡◌, ◌+◌, ◌-◌, List, ap, subst, sym, ◌∙◌}
 use Rattle.std.specs.Prelude.{IfSome}
 use Rattle.run_history.specs.Runs.{run_of, row_of}
 use Rattle.mw_types.specs.declared.entry.Entry.{Entry}
@@ -15,15 +15,17 @@ use Rattle.book.proofs.books.Book.append_row.Goals as goal
 pub invariant_of-self : goal.invariant_of-self
 invariant_of-self g c = elim c.match-append.branch [
   | in-Ok w ↦
-      IsLawful-next c.self.inside.case.now c.self.inside.core c.append.new.self c.args.name.now c.args.entry c.args.before.now c.args.row
+      IsLawful-next c.self.inside.case.now c.self.inside.core c.append.new.self c.args.name.now c.args.entry c.requires.was.0 c.args.row.now
       c.self.invariant
-      (subst (λ (b : BookView). IsNext b.case (core_of b) c.args.name.now c.args.entry c.args.row) (sym c.self.view_is) c.requires.next)
+      (subst (λ (b : BookView). IsNext b.case (core_of b) c.args.name.now c.args.entry c.args.row.now) (sym c.self.view_is)
+      c.requires.next)
       w.in-Ok.ensures.own
-      (subst (λ (b : BookView). IfSome b.rows (λ _. c.args.before.now ≡ row_of b.case.topology
-      (run_of b.case.topology b.history) c.args.name.now)) (sym c.self.view_is) c.requires.was)
+      (subst (λ (b : BookView). IfSome b.rows (λ _. c.requires.was.0 ≡ row_of b.case.topology
+      (run_of b.case.topology b.history) c.args.name.now)) (sym c.self.view_is) c.requires.was.1.0)
       (w.in-Ok.ensures.left
-      ∙ (λ i. (c.self.inside.core.work + work_in (c.self-inside.view_is i).case.now c.args.name.now c.args.row)
-      - work_in (c.self-inside.view_is i).case.now c.args.name.now c.args.before.now))
+      ∙ (λ i. (c.self.inside.core.work + work_in (c.self-inside.view_is i).case.now c.args.name.now c.args.row.now) - c.args.gone)
+      ∙ ap (λ n. (c.self.inside.core.work + work_in c.self.inside.case.now c.args.name.now c.args.row.now) - n)
+      (c.requires.was.1.1 ∙ ap (λ (b : BookView). work_in b.case c.args.name.now c.requires.was.0) (sym c.self.view_is)))
       w.in-Ok.ensures.appended
       w.in-Ok.ensures.stored
       c.append.ensures.limit

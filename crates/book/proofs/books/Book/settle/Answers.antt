@@ -1,61 +1,48 @@
-use Rattle.std.proofs.Common.{◌≡◌, [], length, ap, refl, subst, sym, ◌∙◌}
-use Rattle.mw_types.specs.declared.entry.Entry.{Entry}
+use Rattle.std.proofs.Common.{[], length, subst, sym}
+use Rattle.row_parts.specs.Contents.{Contents}
 use Rattle.mw_types.specs.declared.entry.Entry.TheVariants.{Ack}
-use Rattle.std.specs.Prelude.{All}
-use Rattle.row_parts.specs.Contents.{Contents, IsId, IsDelivery}
-use Rattle.book.specs.Books.{core_of}
 use Rattle.run_history.specs.Runs.{written_row}
-use Rattle.book.specs.Appending.{IsNext, sent_by}
+use Rattle.book.specs.Answers.{IsWritten, answer_of}
+use Rattle.book.specs.Conditions.{IsRowOf, IsRowSeenAt, MaySettleAt}
 use Rattle.book.proofs.ClaimLaws.{stale-again}
-use Rattle.book.proofs.LineLaws.{found-id}
-use Rattle.book.proofs.SeenRows.{IsNext-settled, IsWritten-result, IfOk-row, row-was, when-written, claimed-whole}
+use Rattle.book.proofs.SeenRows.{claimed-whole}
 use Rattle.book.proofs.books.Book.settle.Goals as goal
 
--- the refusal is that of the test of the sequencer
+-- the claim that was seen is there
+pub copy_for-requires : goal.copy_for-requires
+copy_for-requires g c = record {
+  claimed = claimed-whole c.args.lease.now.interval c.args.lease.now.seq c.args.front c.args.self.now.history c.requires.lease.seen_all.claimed;
+}
+
+-- the refusal is that of the copy
 pub returns-in-Err-clause-stale : goal.returns-in-Err-clause-stale
 returns-in-Err-clause-stale g c = stale-again c.args.self.now.history c.args.lease.now c.in-Err.why c.in-Err.ensures.stale
 
--- the entry may come next
-pub append_row-requires : goal.append_row-requires
-append_row-requires g c =
-    let entry = Ack c.args.lease.now.seq c.args.name.now c.args.id in
-    let is : IsId c.args.id = found-id c.args.id c.args.row.now.pending
-    (subst (λ (r : Contents). All IsDelivery r.pending) c.row.view_is c.row.invariant.pending.each) c.requires.id.pending in
-    let same : c.in_ok-made.made.entry ≡ entry
-    = c.in_ok-made.ensures.entry ∙ (λ i. Ack (c.lease.view_is i).seq c.args.name.now c.args.id) in record {
-      next = subst (λ (e : Entry). IsNext c.args.self.now.case (core_of c.args.self.now) c.args.name.now e c.in_ok-made.made.left) (sym same)
-          (IsNext-settled c.args.self.now c.args.lease.now c.args.front c.args.name.now c.args.row.now c.in_ok-made.made.left c.args.id
-          c.admit.ensures.lawful c.requires.lease c.requires.row c.requires.id c.in-Ok.ensures.last c.in-Ok.ensures.room is
-          (c.in_ok-made.ensures.left ∙ ap (λ n. written_row n entry [] c.args.row.now) c.in-Ok.ensures.commit));
-      sent = subst (λ (e : Entry). 0 ≡ sent_by c.args.self.now.case.topology c.args.self.now.history e) (sym same) refl;
-      was = row-was c.args.self.now c.args.lease.now c.args.front c.args.name.now c.args.row.now c.admit.ensures.lawful c.requires.lease
-          c.requires.row c.in-Ok.ensures.last;
+-- what is known of the row is known of its copy
+pub settle_in-requires : goal.settle_in-requires
+settle_in-requires g c =
+    let same = sym c.in-Ok.ensures.copied in record {
+      lease = c.requires.lease;
+      row = subst (λ (r : Contents). IsRowSeenAt c.args.self.now c.args.lease.now c.args.front c.args.name.now r) same c.requires.row;
+      id = subst (λ (r : Contents). MaySettleAt c.args.self.now c.args.front r c.args.id) same
+          c.requires.id;
     }
 
--- what was appended is the entry
-pub returns-clause-written : goal.returns-clause-written
-returns-clause-written g c =
+-- what was appended to the copy is appended to the row
+pub returns-in-Ok-settle_in-clause-written : goal.returns-in-Ok-settle_in-clause-written
+returns-in-Ok-settle_in-clause-written g c =
+    let old = c.args.self.now in
     let entry = Ack c.args.lease.now.seq c.args.name.now c.args.id in
-    let is : IsId c.args.id = found-id c.args.id c.args.row.now.pending
-    (subst (λ (r : Contents). All IsDelivery r.pending) c.row.view_is c.row.invariant.pending.each) c.requires.id.pending in
-    let same : c.in_ok-made.made.entry ≡ entry
-    = c.in_ok-made.ensures.entry ∙ (λ i. Ack (c.lease.view_is i).seq c.args.name.now c.args.id) in
-    let left : c.in_ok-made.made.left ≡ written_row (length c.args.self.now.history) entry [] c.args.row.now
-    = c.in_ok-made.ensures.left ∙ ap (λ n. written_row n entry [] c.args.row.now) c.in-Ok.ensures.commit in
-    IsWritten-result c.args.self.now c.append_row.new.self c.args.lease.now c.args.name.now entry _ _ c.append_row.result
-    (IsNext-settled c.args.self.now c.args.lease.now c.args.front c.args.name.now c.args.row.now _ c.args.id
-    c.admit.ensures.lawful c.requires.lease c.requires.row c.requires.id c.in-Ok.ensures.last c.in-Ok.ensures.room is refl)
-    c.in-Ok.ensures.last same c.append_row.ensures.appended c.append_row.ensures.commit
-    (IfOk-row left c.append_row.result c.append_row.ensures.row)
+    subst (λ (r : Contents). IsWritten old.case old.rows old.history c.settle_in.new.self.history
+    c.args.lease.now c.args.name.now entry (written_row (length old.history) entry [] r) (answer_of c.in-Ok-settle_in.commit c.settle_in.new.row))
+    c.in-Ok.ensures.copied c.in-Ok-settle_in.ensures.written
 
 -- the row that was handed in was the history's
-pub returns-clause-found : goal.returns-clause-found
-returns-clause-found g c = when-written c.append_row.result
-    (row-was c.args.self.now c.args.lease.now c.args.front c.args.name.now c.args.row.now c.admit.ensures.lawful
-    c.requires.lease c.requires.row c.in-Ok.ensures.last)
+pub returns-in-Ok-settle_in-clause-found : goal.returns-in-Ok-settle_in-clause-found
+returns-in-Ok-settle_in-clause-found g c =
+    let old = c.args.self.now in
+    subst (λ (r : Contents). IsRowOf old.case old.rows old.history c.args.name.now r) c.in-Ok.ensures.copied c.in-Ok-settle_in.ensures.found
 
--- the claim that was seen is there
-pub admit-requires : goal.admit-requires
-admit-requires g c = record {
-  claimed = claimed-whole c.args.lease.now.interval c.args.lease.now.seq c.args.front c.args.self.now.history c.requires.lease.seen_all.claimed;
-}
+-- the refusal is that of the write in place
+pub returns-in-Err-settle_in-clause-stale : goal.returns-in-Err-settle_in-clause-stale
+returns-in-Err-settle_in-clause-stale g c = stale-again c.args.self.now.history c.args.lease.now c.in-Err-settle_in.why c.in-Err-settle_in.ensures.stale

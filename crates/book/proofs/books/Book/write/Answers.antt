@@ -1,73 +1,47 @@
-use Rattle.std.proofs.Common.{◌≡◌, ℕ, length, ap, subst, arith, ◌∙◌}
+use Rattle.std.proofs.Common.{subst, sym}
 use Rattle.row_parts.specs.Contents.{Contents}
-use Rattle.run_history.specs.Cases.{CaseShape}
-use Rattle.book.specs.Books.{core_of}
-use Rattle.book.specs.Appending.{IsNext}
-use Rattle.book.specs.Proposals.{IsEntryOf, left_by}
+use Rattle.book.specs.Answers.{answer_of}
+use Rattle.book.specs.Conditions.{IsRowOf, IsRowSeenAt}
+use Rattle.book.specs.Proposals.{IsProposable, IsWrittenBy}
 use Rattle.book.proofs.ClaimLaws.{stale-again}
-use Rattle.book.proofs.SentCounts.{left-more}
-use Rattle.book.proofs.SeenRows.{row-was, when-written, claimed-whole}
-use Rattle.book.proofs.ProposalLaws.{IsNext-proposed, IsWrittenBy-result}
+use Rattle.book.proofs.SeenRows.{claimed-whole}
 use Rattle.book.proofs.books.Book.write.Goals as goal
 
--- the refusal is that of the test of the sequencer
+-- the claim that was seen is there
+pub copy_for-requires : goal.copy_for-requires
+copy_for-requires g c = record {
+  claimed = claimed-whole c.args.lease.now.interval c.args.lease.now.seq c.args.front c.args.self.now.history c.requires.lease.seen_all.claimed;
+}
+
+-- the refusal is that of the copy
 pub returns-in-Err-clause-stale : goal.returns-in-Err-clause-stale
 returns-in-Err-clause-stale g c = stale-again c.args.self.now.history c.args.lease.now c.in-Err.why c.in-Err.ensures.stale
 
--- the entry of the proposal may come next, and sends what its row has pending more than before
-pub append_row-requires : goal.append_row-requires
-append_row-requires g c =
-    let of : IsEntryOf c.args.self.now.case c.args.lease.now.seq c.args.name.now c.args.proposal.now c.in_ok-made.made.entry
-    = subst (λ (p : CaseShape × ℕ). IsEntryOf p.0 p.1 c.args.name.now c.args.proposal.now c.in_ok-made.made.entry)
-    (λ i. (c.case-case.ensures.case i, (c.lease.view_is i).seq)) c.in_ok-made.ensures.entry in
-    let leaves : c.in_ok-made.made.left ≡ left_by c.args.self.now.case.topology c.args.name.now c.args.proposal.now
-    (length c.args.self.now.history) c.in_ok-made.made.entry c.args.row.now
-    = c.in_ok-made.ensures.left ∙ (λ i. left_by (c.case-case.ensures.case i).topology c.args.name.now c.args.proposal.now
-    (c.in-Ok.ensures.commit i) c.in_ok-made.made.entry c.args.row.now) in
-    let next : IsNext c.args.self.now.case (core_of c.args.self.now) c.args.name.now c.in_ok-made.made.entry c.in_ok-made.made.left
-    = IsNext-proposed c.args.self.now c.args.lease.now c.args.front c.args.name.now c.args.row.now c.in_ok-made.made.left
-    c.args.proposal.now c.in_ok-made.made.entry
-    c.admit.ensures.lawful c.requires.lease c.requires.row c.in-Ok.ensures.last c.in-Ok.ensures.room c.requires.proposal c.requires.seen
-    of leaves in
-    let more = left-more c.args.self.now.case c.args.self.now.history c.args.lease.now.seq c.args.name.now c.args.proposal.now
-    c.in_ok-made.made.entry
-    c.args.row.now c.in_ok-made.made.left of next.on_row leaves in
-    let after : c.len.result ≡ length c.in_ok-made.made.left.pending = c.len.ensures.count
-    ∙ ap (λ (r : Contents). length r.pending) c.left.view_is in
-    let before : c.len-2.result ≡ length c.args.row.now.pending = c.len-2.ensures.count
-    ∙ ap (λ (r : Contents). length r.pending) c.row.view_is in record {
-      next = next;
-      sent = omega (arith, more, after, before);
-      was = row-was c.args.self.now c.args.lease.now c.args.front c.args.name.now c.args.row.now c.admit.ensures.lawful c.requires.lease
-          c.requires.row c.in-Ok.ensures.last;
+-- what is known of the row is known of its copy
+pub write_in-requires : goal.write_in-requires
+write_in-requires g c =
+    let same = sym c.in-Ok.ensures.copied in record {
+      lease = c.requires.lease;
+      row = subst (λ (r : Contents). IsRowSeenAt c.args.self.now c.args.lease.now c.args.front c.args.name.now r) same c.requires.row;
+      proposal = subst (λ (r : Contents). IsProposable c.args.self.now.case c.args.name.now r c.args.proposal.now) same
+          c.requires.proposal;
+      seen = c.requires.seen;
     }
 
--- what was appended is the proposal's
-pub returns-clause-written : goal.returns-clause-written
-returns-clause-written g c =
-    let of : IsEntryOf c.args.self.now.case c.args.lease.now.seq c.args.name.now c.args.proposal.now c.in_ok-made.made.entry
-    = subst (λ (p : CaseShape × ℕ). IsEntryOf p.0 p.1 c.args.name.now c.args.proposal.now c.in_ok-made.made.entry)
-    (λ i. (c.case-case.ensures.case i, (c.lease.view_is i).seq)) c.in_ok-made.ensures.entry in
-    let leaves : c.in_ok-made.made.left ≡ left_by c.args.self.now.case.topology c.args.name.now c.args.proposal.now
-    (length c.args.self.now.history) c.in_ok-made.made.entry c.args.row.now
-    = c.in_ok-made.ensures.left ∙ (λ i. left_by (c.case-case.ensures.case i).topology c.args.name.now c.args.proposal.now
-    (c.in-Ok.ensures.commit i) c.in_ok-made.made.entry c.args.row.now) in
-    IsWrittenBy-result c.args.self.now c.append_row.new.self c.args.lease.now c.args.name.now c.args.proposal.now c.args.row.now
-    c.in_ok-made.made.left c.in_ok-made.made.entry c.append_row.result
-    (IsNext-proposed c.args.self.now c.args.lease.now c.args.front c.args.name.now c.args.row.now c.in_ok-made.made.left
-    c.args.proposal.now c.in_ok-made.made.entry
-    c.admit.ensures.lawful c.requires.lease c.requires.row c.in-Ok.ensures.last c.in-Ok.ensures.room c.requires.proposal c.requires.seen
-    of leaves)
-    c.in-Ok.ensures.last of leaves c.append_row.ensures.appended c.append_row.ensures.commit c.append_row.ensures.row
+-- what was appended to the copy is appended to the row
+pub returns-in-Ok-write_in-clause-written : goal.returns-in-Ok-write_in-clause-written
+returns-in-Ok-write_in-clause-written g c =
+    let old = c.args.self.now in
+    subst (λ (r : Contents). IsWrittenBy old.case old.rows old.history c.write_in.new.self.history
+    c.args.lease.now c.args.name.now c.args.proposal.now r (answer_of c.in-Ok-write_in.commit c.write_in.new.row))
+    c.in-Ok.ensures.copied c.in-Ok-write_in.ensures.written
 
 -- the row that was handed in was the history's
-pub returns-clause-found : goal.returns-clause-found
-returns-clause-found g c = when-written c.append_row.result
-    (row-was c.args.self.now c.args.lease.now c.args.front c.args.name.now c.args.row.now c.admit.ensures.lawful
-    c.requires.lease c.requires.row c.in-Ok.ensures.last)
+pub returns-in-Ok-write_in-clause-found : goal.returns-in-Ok-write_in-clause-found
+returns-in-Ok-write_in-clause-found g c =
+    let old = c.args.self.now in
+    subst (λ (r : Contents). IsRowOf old.case old.rows old.history c.args.name.now r) c.in-Ok.ensures.copied c.in-Ok-write_in.ensures.found
 
--- the claim that was seen is there
-pub admit-requires : goal.admit-requires
-admit-requires g c = record {
-  claimed = claimed-whole c.args.lease.now.interval c.args.lease.now.seq c.args.front c.args.self.now.history c.requires.lease.seen_all.claimed;
-}
+-- the refusal is that of the write in place
+pub returns-in-Err-write_in-clause-stale : goal.returns-in-Err-write_in-clause-stale
+returns-in-Err-write_in-clause-stale g c = stale-again c.args.self.now.history c.args.lease.now c.in-Err-write_in.why c.in-Err-write_in.ensures.stale

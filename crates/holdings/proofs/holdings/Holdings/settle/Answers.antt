@@ -1,13 +1,15 @@
-use Rattle.std.proofs.Common.{◌∙◌, sym, [], refl}
+use Rattle.std.proofs.Common.{[], refl, ◌∙◌, arith, sym}
 use Rattle.mw_types.specs.declared.entry.Entry.TheVariants.{Ack}
 use Rattle.row_parts.specs.Contents.{Contents}
 use Rattle.run_history.specs.Runs.{written_row}
 use Rattle.book.specs.Books.{LeaseView}
-use Rattle.book.specs.Desking.{HasStored}
 use Rattle.book.specs.Conditions.{MaySettle}
+use Rattle.book.specs.Desking.{HasStored}
 use Rattle.book.specs.declared.answers.Written.{Written}
-use Rattle.holdings.proofs.HeldRows.{HasEntered, entered-stored}
-use Rattle.holdings.proofs.HeldSteps.{AreAllHeld-kept, HoldsEntry-written, KeepsHeld-refused, known-ready, may-ready, ok-so, read-ready, said-ready, stays-ready, there-ready}
+use Rattle.holdings.specs.Holding.{row_held}
+use Rattle.holdings.specs.Steps.{with_cached}
+use Rattle.holdings.proofs.HeldRows.{entered-stored}
+use Rattle.holdings.proofs.HeldSteps.{AreAllHeld-put, HoldsEntry-put, KeepsHeld-put, place-held, place-lease, place-refused, place-row, place-said, place-there, ready-same, ready-within}
 use Rattle.holdings.proofs.holdings.Holdings.settle.Goals as goal
 
 -- what is held stands in order
@@ -19,77 +21,82 @@ pub returns-in_err-ready-clause-fits : goal.returns-in_err-ready-clause-fits
 returns-in_err-ready-clause-fits g c =
     record { each = λ i held is. c.requires.fits.each i held (sym (c.in_err-ready.ensures.same i) ∙ is) }
 
--- the row is cached
-pub cached-requires : goal.cached-requires
-cached-requires g c = record {
-  there =
-      there-ready c.args.case.now (g.D.Desk.view c.args.desk.now) c.args.self.now c.ready.new.self c.args.interval c.args.name.now
-      c.held-held.result.now c.requires.covers c.in_ok-ready.ensures.ready c.held-held.ensures.held c.requires.fits;
-}
+-- the interval has a place
+pub index_mut-place-requires : goal.index_mut-place-requires
+index_mut-place-requires g c =
+    let ready = ready-same c.args.case.now.topology c.args.interval c.args.name.now c.args.self.now c.ready.new.self c.self.inside.all.items
+    c.self.view_is c.in_ok-ready.ensures.ready in
+    let within = ready-within c.args.case.now (g.D.Desk.view c.args.desk.now) c.args.self.now c.self.inside.all.items c.args.interval c.args.name.now
+    c.requires.covers ready c.requires.fits in
+    let long = c.self.inside.all.ok.0 in omega (arith, within, long)
 
--- the lease may be used on the row
-pub settle-written-requires-clause-lease : goal.settle-written-requires-clause-lease
-settle-written-requires-clause-lease g c =
-    may-ready c.args.case.now (g.D.Desk.view c.args.desk.now) c.args.self.now c.ready.new.self c.args.interval c.args.name.now
-    c.held-held.result.now c.requires.covers c.in_ok-ready.ensures.ready c.held-held.ensures.held c.requires.fits c.lease.result.now c.lease.ensures.lease c.requires.case
-
--- the row is the one that is known
-pub settle-written-requires-clause-row : goal.settle-written-requires-clause-row
-settle-written-requires-clause-row g c =
-    known-ready c.args.case.now (g.D.Desk.view c.args.desk.now) c.args.self.now c.ready.new.self c.args.interval c.args.name.now
-    c.held-held.result.now c.requires.covers c.in_ok-ready.ensures.ready c.held-held.ensures.held c.requires.fits c.lease.result.now c.cached.result.now
-    c.lease.ensures.lease c.requires.case c.requires.part c.cached.ensures.row
-
--- what is asked of the row is true of it
-pub settle-written-requires-clause-id : goal.settle-written-requires-clause-id
-settle-written-requires-clause-id g c =
-    (said-ready c.args.case.now (g.D.Desk.view c.args.desk.now) c.args.self.now c.ready.new.self c.args.interval c.args.name.now
-    c.held-held.result.now c.requires.covers c.in_ok-ready.ensures.ready c.held-held.ensures.held c.requires.fits
-    (λ (r : Contents). MaySettle (g.D.Desk.view c.args.desk.now).told (g.D.Desk.view c.args.desk.now).seen r c.args.id)
-    c.cached.result.now c.cached.ensures.row c.requires.id)
-
--- the row is still cached
-pub keep-requires : goal.keep-requires
-keep-requires g c = record {
-  there =
-      stays-ready c.args.case.now (g.D.Desk.view c.args.desk.now) c.args.self.now c.ready.new.self c.args.interval c.args.name.now
-      c.held-held.result.now c.requires.covers c.in_ok-ready.ensures.ready c.held-held.ensures.held c.requires.fits;
-}
+-- what is held there has the row cached, as it was
+pub settle_at-written-requires : goal.settle_at-written-requires
+settle_at-written-requires g c =
+    let ready = ready-same c.args.case.now.topology c.args.interval c.args.name.now c.args.self.now c.ready.new.self c.self.inside.all.items
+    c.self.view_is c.in_ok-ready.ensures.ready in
+    let was = c.index_mut-place.result.now in
+    let read = c.index_mut-place.ensures.value in
+    let desk = g.D.Desk.view c.args.desk.now in record {
+      held = place-held c.args.case.now desk c.args.self.now c.self.inside.all.items c.args.interval c.args.name.now c.requires.covers ready c.requires.fits was read;
+      there = place-there c.args.case.now desk c.args.self.now c.self.inside.all.items c.args.interval c.args.name.now c.requires.covers ready c.requires.fits was read;
+      lease = place-lease c.args.case.now desk c.args.self.now c.self.inside.all.items c.args.interval c.args.name.now c.requires.covers ready c.requires.fits was read c.requires.case;
+      row = place-row c.args.case.now desk c.args.self.now c.self.inside.all.items c.args.interval c.args.name.now c.requires.covers ready c.requires.fits was read c.requires.case c.requires.part;
+      id = place-said c.args.case.now desk c.args.self.now c.self.inside.all.items c.args.interval c.args.name.now c.requires.covers ready c.requires.fits was read
+          (λ (r : Contents). MaySettle desk.told desk.seen r c.args.id) c.requires.id;
+    }
 
 -- all that is held fits
 pub returns-clause-fits : goal.returns-clause-fits
 returns-clause-fits g c =
     let old = g.D.Desk.view c.args.desk.now in
-    let new = g.D.Desk.view c.settle-written.new.self in
-    let lease = c.lease.result.now in
-    AreAllHeld-kept c.args.case.now old new c.args.self.now c.ready.new.self c.keep.new.self c.args.interval c.args.name.now
-    c.held-held.result.now c.requires.covers c.in_ok-ready.ensures.ready c.held-held.ensures.held c.requires.fits c.keep.ensures.others lease c.lease.ensures.lease
-    c.requires.case c.sound.ensures.sound c.sound-2.ensures.sound c.settle-written.result c.keep.ensures.here
-    (ok-so (HasStored old new lease c.args.name.now (Ack lease.seq c.args.name.now c.args.id) c.cached.result.now
-    (λ number. written_row number (Ack lease.seq c.args.name.now c.args.id) [] c.cached.result.now))
-    (HasEntered old new lease c.args.name.now) c.settle-written.result
-    (λ w. entered-stored old new lease c.args.name.now (Ack lease.seq c.args.name.now c.args.id) c.cached.result.now
-    (λ number. written_row number (Ack lease.seq c.args.name.now c.args.id) [] c.cached.result.now) w refl refl)
-    c.settle-written.ensures.written) c.settle-written.ensures.looked
+    let new = g.D.Desk.view c.settle_at-written.new.desk in
+    let ready = ready-same c.args.case.now.topology c.args.interval c.args.name.now c.args.self.now c.ready.new.self c.self.inside.all.items
+    c.self.view_is c.in_ok-ready.ensures.ready in
+    AreAllHeld-put c.args.case.now old new c.args.self.now c.self.inside.all.items c.args.interval c.args.name.now c.requires.covers ready
+    c.requires.fits c.index_mut-place.result.now c.index_mut-place.ensures.value c.settle_at-written.new.place c.settle_at-written.result
+    (λ (l : LeaseView) (r : Contents) (w : Written). HasStored old new l c.args.name.now (Ack l.seq c.args.name.now c.args.id) r
+    (λ number. written_row number (Ack l.seq c.args.name.now c.args.id) [] r) w)
+    c.settle_at-written.ensures.settled c.settle_at-written.ensures.kept
+    c.requires.case c.sound.ensures.sound c.sound-2.ensures.sound
+    (λ w by. entered-stored old new ready.held.lease c.args.name.now (Ack ready.held.lease.seq c.args.name.now c.args.id)
+    (row_held c.args.case.now.topology (with_cached c.args.case.now.topology c.args.name.now ready.held) c.args.name.now)
+    (λ number. written_row number (Ack ready.held.lease.seq c.args.name.now c.args.id) []
+    (row_held c.args.case.now.topology (with_cached c.args.case.now.topology c.args.name.now ready.held) c.args.name.now)) w refl refl by)
+    c.settle_at-written.ensures.looked
 
 -- what was written is held
 pub returns-clause-settled : goal.returns-clause-settled
 returns-clause-settled g c =
     let old = g.D.Desk.view c.args.desk.now in
-    let new = g.D.Desk.view c.settle-written.new.self in
-    HoldsEntry-written c.args.case.now old new c.args.self.now c.ready.new.self c.keep.new.self c.args.interval c.args.name.now
-    c.held-held.result.now c.requires.covers c.in_ok-ready.ensures.ready c.held-held.ensures.held c.requires.fits c.keep.ensures.others c.lease.result.now c.lease.ensures.lease
+    let new = g.D.Desk.view c.settle_at-written.new.desk in
+    let ready = ready-same c.args.case.now.topology c.args.interval c.args.name.now c.args.self.now c.ready.new.self c.self.inside.all.items
+    c.self.view_is c.in_ok-ready.ensures.ready in
+    HoldsEntry-put c.args.case.now old new c.args.self.now c.self.inside.all.items c.args.interval c.args.name.now c.requires.covers ready
+    c.requires.fits c.index_mut-place.result.now c.index_mut-place.ensures.value c.settle_at-written.new.place c.settle_at-written.result
     (λ (l : LeaseView) (r : Contents) (w : Written). HasStored old new l c.args.name.now (Ack l.seq c.args.name.now c.args.id) r
     (λ number. written_row number (Ack l.seq c.args.name.now c.args.id) [] r) w)
-    c.cached.result.now c.settle-written.result c.keep.result c.keep.ensures.result c.keep.ensures.here
-    (read-ready c.args.case.now old c.args.self.now c.ready.new.self c.args.interval c.args.name.now c.held-held.result.now
-    c.requires.covers c.in_ok-ready.ensures.ready c.held-held.ensures.held c.requires.fits c.cached.result.now c.cached.ensures.row)
-    c.settle-written.ensures.written
+    c.settle_at-written.ensures.settled c.settle_at-written.ensures.kept
 
 -- a refusal keeps what is held
 pub returns-clause-kept : goal.returns-clause-kept
 returns-clause-kept g c =
-    KeepsHeld-refused c.args.case.now (g.D.Desk.view c.args.desk.now) (g.D.Desk.view c.settle-written.new.self) c.args.self.now
-    c.ready.new.self c.keep.new.self c.args.interval c.args.name.now c.held-held.result.now c.requires.covers c.in_ok-ready.ensures.ready c.held-held.ensures.held
-    c.requires.fits c.keep.ensures.others c.lease.result.now c.lease.ensures.lease c.settle-written.result c.keep.result
-    c.keep.ensures.result c.keep.ensures.here
+    let old = g.D.Desk.view c.args.desk.now in
+    let new = g.D.Desk.view c.settle_at-written.new.desk in
+    let ready = ready-same c.args.case.now.topology c.args.interval c.args.name.now c.args.self.now c.ready.new.self c.self.inside.all.items
+    c.self.view_is c.in_ok-ready.ensures.ready in
+    KeepsHeld-put c.args.case.now old new c.args.self.now c.self.inside.all.items c.args.interval c.args.name.now c.requires.covers ready
+    c.requires.fits c.index_mut-place.result.now c.index_mut-place.ensures.value c.settle_at-written.new.place c.settle_at-written.result
+    (λ (l : LeaseView) (r : Contents) (w : Written). HasStored old new l c.args.name.now (Ack l.seq c.args.name.now c.args.id) r
+    (λ number. written_row number (Ack l.seq c.args.name.now c.args.id) [] r) w)
+    c.settle_at-written.ensures.settled c.settle_at-written.ensures.kept
+
+-- the reason is by the lease that is held
+pub returns-clause-reason : goal.returns-clause-reason
+returns-clause-reason g c =
+    place-refused c.args.case.now (g.D.Desk.view c.args.desk.now) c.args.self.now c.self.inside.all.items c.args.interval c.args.name.now
+    c.requires.covers
+    (ready-same c.args.case.now.topology c.args.interval c.args.name.now c.args.self.now c.ready.new.self c.self.inside.all.items
+    c.self.view_is c.in_ok-ready.ensures.ready)
+    c.requires.fits c.index_mut-place.result.now c.index_mut-place.ensures.value (g.D.Desk.view c.settle_at-written.new.desk)
+    c.settle_at-written.result c.settle_at-written.ensures.reason
