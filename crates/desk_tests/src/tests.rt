@@ -1,5 +1,5 @@
 //! A worker over the desk of a book of its own, over desks of a shared book, and two over the desks of
-//! two seats.
+//! two seats; a mailbox; and the texts of plans.
 ghost use Rattle.std.specs.Prelude.{◌≡◌, Ok};
 
 mod acts;
@@ -9,9 +9,11 @@ mod crossing;
 mod entries;
 mod example;
 mod failing;
+mod mailbox_of_one;
 mod marks;
 mod messages;
 mod overtaken;
+mod plan_texts;
 mod plays;
 mod same_answers;
 mod seats;

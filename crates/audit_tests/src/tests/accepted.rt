@@ -1,5 +1,6 @@
 //! Texts that are accepted.
-use super::cases::{Answer, ONE, RECORDS, TWO, answer_of, is_same};
+use super::RECORDS;
+use super::cases::{Answer, ONE, TWO, answer_of, is_same};
 use super::traces::{MARKED, NONE, REPLAYED, THREE};
 use mw_types::NoMemory;
 

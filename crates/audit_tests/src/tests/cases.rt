@@ -1,6 +1,7 @@
 //! Cases, and what an audit answers.
+use super::lines;
 use audit::audit;
-use injector::{Items, ItemsList, read_lines};
+use injector::ItemsList;
 use mw_types::NoMemory;
 use run_history::{Case, History};
 use std::alloc::Global;
@@ -9,18 +10,6 @@ use trace_lines::{AuditRefusal, AuditWhy};
 
 // An answer: how many entries, or the line that is wrong, and what it says.
 pub(super) type Answer = (usize, &'static str);
-
-// The lines of an event file.
-fn lines(alloc: Global, events: &str) -> Result<Items, NoMemory> {
-    let bytes = events.as_bytes();
-    if bytes.len() > 1 << 20 {
-        return Err(NoMemory);
-    }
-    match read_lines(alloc, bytes, 1 << 18) {
-        Ok(items) => Ok(items),
-        Err(_) => Err(NoMemory),
-    }
-}
 
 // Windows of 60 over an event file.
 fn case_of(alloc: Global, events: &str) -> Result<Case, NoMemory> {
@@ -34,12 +23,6 @@ fn case_of(alloc: Global, events: &str) -> Result<Case, NoMemory> {
 pub(super) const TWO: &str = r#"{"key":"a","ts":10}
 {"watermark":60}
 {"key":"a","ts":70}
-"#;
-
-/// Three records: at 10, 59 and 60.
-pub(super) const RECORDS: &str = r#"{"key":"a","ts":10}
-{"key":"a","ts":59}
-{"key":"a","ts":60}
 "#;
 
 /// One record, at 10.

@@ -1,5 +1,6 @@
 //! The worked examples as tables of choices.
-use injector::{Items, ItemsList, read_lines};
+use super::{RECORDS, lines};
+use injector::ItemsList;
 use mw_types::{Entry, Key, NoMemory, RecordId, RowName};
 use run_history::Case;
 use standing::Standing;
@@ -100,27 +101,9 @@ fn id(commit: u64) -> RecordId {
     RecordId { commit, index: 0 }
 }
 
-// The lines of three records of the key a.
-const EVENTS: &str = r#"{"key":"a","ts":10}
-{"key":"a","ts":59}
-{"key":"a","ts":60}
-"#;
-
-// The lines of an event file.
-fn lines(alloc: Global, events: &str) -> Result<Items, NoMemory> {
-    let bytes = events.as_bytes();
-    if bytes.len() > 1 << 20 {
-        return Err(NoMemory);
-    }
-    match read_lines(alloc, bytes, 1 << 18) {
-        Ok(items) => Ok(items),
-        Err(_) => Err(NoMemory),
-    }
-}
-
 // Windows of 60 over the three records.
 fn case(alloc: Global) -> Result<Case, NoMemory> {
-    let lines = lines(alloc, EVENTS)?;
+    let lines = lines(alloc, RECORDS)?;
     let mut items = ItemsList::new(alloc);
     items.push(lines)?;
     Case::of(alloc, Topology::one_count(alloc, 60)?, items)

@@ -2,7 +2,7 @@ use Rattle.std.proofs.Common.{◌≤◌, All, length}
 use Rattle.topology.specs.Samples.{one_count}
 use Rattle.run_history.specs.Made.{productions_of}
 use Rattle.run_history.specs.Printing.{IsOnPart}
-use Rattle.outlet_tests.proofs.tests.pumped.history.Given as goal
+use Rattle.audit_tests.proofs.tests.pumped.history.Given as goal
 
 -- the entries so far can be printed
 abbrev pub invariant-loop-n : goal.invariant-loop-n

@@ -1,4 +1,5 @@
 //! A line that stands twice, one that was cut off, and one that differs.
+use super::MOST;
 use live_outlet::{CollectRefusal, collect};
 use mw_types::NoMemory;
 use std::alloc::Global;
@@ -6,9 +7,6 @@ use std::alloc::Global;
 // The line of a window of two records.
 const FIRST: &[u8] =
     b"{\"id\":\"00000000-0000-8000-8000-00000000000b\",\"key\":\"a\",\"stream\":\"windows\",\"ts\":60,\"value\":2}\n";
-
-// A text has fewer bytes.
-const MOST: usize = 1 << 32;
 
 // What a text collects to: how many lines, and how many others; or which line differs from which.
 fn collected(alloc: Global, text: &[u8]) -> Result<(usize, u32, u32, u32), NoMemory> {

@@ -4,7 +4,7 @@ use Rattle.mw_types.specs.declared.entry.Entry.{Entry}
 use Rattle.topology.specs.Samples.{one_count}
 use Rattle.run_history.specs.Made.{productions_of}
 use Rattle.run_history.specs.Printing.{IsOnPart}
-use Rattle.outlet_tests.proofs.tests.pumped.history.Goals as goal
+use Rattle.audit_tests.proofs.tests.pumped.history.Goals as goal
 
 -- each entry more can be printed
 pub loop-n-preserved : goal.loop-n-preserved

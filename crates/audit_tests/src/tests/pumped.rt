@@ -7,6 +7,7 @@ ghost use Rattle.topology.specs.Samples.{one_count};
 ghost use Rattle.run_history.specs.Made.{productions_of};
 ghost use Rattle.run_history.specs.Printing.{IsOnPart, IsPrintable};
 
+use super::MOST;
 use injector::{Items, ItemsList};
 use live_outlet::{CollectRefusal, Outlet, collect};
 use mw_ports::{MemSink, SinkFault};
@@ -24,9 +25,6 @@ const LINES: &[u8] =
 
 // How many entries the history has.
 const ENTRIES: u32 = 13;
-
-// A text has fewer bytes.
-const MOST: usize = 1 << 32;
 
 // The key a.
 fn key(alloc: Global) -> Result<Key, NoMemory> {
