@@ -1,5 +1,8 @@
 //! The program's own call, over files, text and rows in memory.
+ghost use Rattle.std.specs.Prelude.{◌≡◌, Ok};
+
 mod audits;
+mod bad_days;
 mod calls;
 mod collections;
 mod events;
@@ -12,15 +15,66 @@ mod many_lines;
 mod plain_counts;
 mod refusals;
 mod replays;
+mod runs;
 mod several_files;
 mod statuses;
 mod texts;
 mod topologies;
 
+use millwheel_cli::Status;
+use mw_ports::{FileList, NamedFile};
+use mw_types::{Bytes, Name, Seq};
+use std::alloc::Global;
 use std::fmt::Display;
 use std::process::Abort;
+
+// What is said of words that are no command.
+const USAGE: &str = "usage: millwheel MODE ARGS";
 
 // Ends the test where a case does not hold, or there was no memory to tell, and names it.
 fn must<E: Drop>(rt: &impl Abort, holds: Result<bool, E>, name: impl Display + Drop) {
     assert!(rt; matches!(holds, Ok(true)), "{name}");
+}
+
+// Ends the test where a case does not hold, and names it.
+fn must_hold(rt: &impl Abort, holds: bool, name: impl Display + Drop) {
+    assert!(rt; holds, "{name}");
+}
+
+// What was made. The test ends where it was not.
+fn made<T: Drop, E: Drop>(rt: &impl Abort, given: Result<T, E>) -> T
+    ensures { given ≡ Ok result }
+{
+    match given {
+        Ok(it) => it,
+        Err(_) => rt.panic("it was not made"),
+    }
+}
+
+// Puts a file of this name and these bytes behind the others.
+fn push_file(rt: &impl Abort, alloc: Global, list: &mut FileList, name: &str, bytes: Bytes) {
+    let name = made(rt, Name::of(alloc, name));
+    made(rt, list.push(NamedFile { name, bytes }));
+}
+
+// The bytes of a text.
+fn bytes_of(rt: &impl Abort, alloc: Global, text: &str) -> Bytes {
+    Bytes::from_vec(made(rt, text.as_bytes().to_vec(alloc)))
+}
+
+// The words of a line, which stand with one blank between them.
+fn words(rt: &impl Abort, alloc: Global, line: &str) -> Seq<Name> {
+    let mut words = Seq::new(alloc);
+    for word in line.split(' ') {
+        made(rt, words.push(made(rt, Name::of(alloc, word))));
+    }
+    words
+}
+
+// Whether this is what the program says of a status.
+fn is_said(rt: &impl Abort, alloc: Global, status: &Status, message: &str) -> bool {
+    let said = made(rt, format!(in alloc; "{status}"));
+    let is_so = said.as_str() == message;
+    drop(said);
+    is_so
 }

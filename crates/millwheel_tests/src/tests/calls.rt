@@ -92,8 +92,8 @@ fn push_words(alloc: Global, words: &mut Seq<Name>, line: &str) -> Result<(), No
     Ok(())
 }
 
-/// What a call with this line answers, and writes to a sink. No other function calls the program, since
-/// each that does carries what its clauses tell.
+/// What a call with this line answers, and writes to a sink. No other function here calls the program,
+/// since each that does carries what its clauses tell.
 pub(super) fn called<K: Keeper>(
     alloc: Global,
     line: &str,

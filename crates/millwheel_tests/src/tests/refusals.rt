@@ -2,8 +2,8 @@
 use super::calls::{FIRST, Files, SOLO, called, keeper, shelf, sink};
 use super::events::{EVENTS, repeated};
 use super::looks::{Look, ended_so, seen};
-use super::must;
 use super::topologies::{COUNT, TWO};
+use super::{USAGE, must};
 use mw_types::NoMemory;
 use std::alloc::Global;
 
@@ -126,9 +126,6 @@ const ONE_MORE: Files<'static> = &[("t.json", COUNT), ("l", EVENTS), ("r", EVENT
 const TWO_FILES: &str = "solo t.json l r";
 
 const PLAN: &str = "replay --plan p t.json e";
-
-// What is said of words that are no command.
-const USAGE: &str = "usage: millwheel MODE ARGS";
 
 // Calls that are refused: words that are no command, files that are not there, and files with a bad line.
 static REFUSED: [(&str, Files<'static>, &str); 31] = [

@@ -6,8 +6,8 @@ use super::topologies::COUNT;
 use mw_types::NoMemory;
 use std::alloc::Global;
 
-// The second worker claims the row while the first has its record prepared, whose write is then stale.
-const OLD_OWNER: &str = "claim 0 0
+/// The second worker claims the row while the first has its record prepared, whose write is then stale.
+pub const OLD_OWNER: &str = "claim 0 0
 claim 0 1
 inject 0 0
 send 0
@@ -58,8 +58,8 @@ take 0 0
 crash 0
 ";
 
-// What is written of the first example.
-const TEXT: &str = r#"{"key":"a","stream":"windows","ts":60,"value":2}
+/// What is written of the first example, 145 bytes.
+pub const TEXT: &str = r#"{"key":"a","stream":"windows","ts":60,"value":2}
 {"key":"a","stream":"windows","ts":120,"value":1}
 {"fired":2,"handled":3,"injected":3,"late":0}
 "#;

@@ -1,8 +1,9 @@
 //! Each call of the keeper, of the files and of the output that fails in turn, in each mode.
-use super::calls::{ample, called, is_said, keeper, shelf, sink};
-use super::files::{FIRST, TEXT};
+use super::calls::{ample, called, keeper, shelf, sink};
+use super::files::FIRST;
 use super::kept::are_kept;
-use super::{made, must};
+use crate::tests::replays::TEXT;
+use crate::tests::{is_said, made, must_hold};
 use millwheel_cli::{Done, Status};
 use row_keeper::{KeptRow, MemKeeper};
 use run_history::{EntryRef, History};
@@ -227,7 +228,7 @@ fn read_says(rt: &impl Abort, alloc: Global, line: &str, number: u64, message: &
 #[test]
 fn each_read_fails(rt: HostRuntime) {
     for (at, (line, number, message)) in READS.iter().enumerate() {
-        must(&rt, read_says(&rt, rt.alloc(), line, *number, message), at);
+        must_hold(&rt, read_says(&rt, rt.alloc(), line, *number, message), at);
     }
 }
 

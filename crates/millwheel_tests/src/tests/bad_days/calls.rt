@@ -1,27 +1,15 @@
 //! The program's call over files in memory.
-use super::made;
-use millwheel_cli::{Done, Status, load_lines, millwheel, millwheel_alone};
-use mw_ports::{FileList, MemShelf, MemSink, NamedFile, OpenGate};
-use mw_types::{Bytes, CallList, Name, Seq};
+use crate::tests::calls::Files;
+use crate::tests::topologies::CUTS;
+use crate::tests::{bytes_of, is_said, made, push_file, words};
+use millwheel_cli::{Done, load_lines, millwheel, millwheel_alone};
+use mw_ports::{FileList, MemShelf, MemSink, OpenGate};
+use mw_types::CallList;
 use row_keeper::{Keeper, MemKeeper};
 use std::alloc::Global;
 use std::process::Abort;
 use std::sync::Wait;
 use std::thread::Threads;
-
-/// Files in memory: the name of each, and what it holds.
-pub type Files<'a> = &'a [(&'a str, &'a str)];
-
-// Puts a file of this name and these bytes behind the others.
-fn push_file(rt: &impl Abort, alloc: Global, list: &mut FileList, name: &str, bytes: Bytes) {
-    let name = made(rt, Name::of(alloc, name));
-    made(rt, list.push(NamedFile { name, bytes }));
-}
-
-// The bytes of a text.
-fn bytes_of(rt: &impl Abort, alloc: Global, text: &str) -> Bytes {
-    Bytes::from_vec(made(rt, text.as_bytes().to_vec(alloc)))
-}
 
 // The calls of these numbers.
 fn numbers(rt: &impl Abort, alloc: Global, of: &[u64]) -> CallList {
@@ -57,17 +45,8 @@ pub(super) fn keeper(rt: &impl Abort, alloc: Global, failing: &[u64]) -> MemKeep
     MemKeeper::new(alloc, numbers(rt, alloc, failing))
 }
 
-// The words of a line, which stand with one blank between them.
-fn words(rt: &impl Abort, alloc: Global, line: &str) -> Seq<Name> {
-    let mut words = Seq::new(alloc);
-    for word in line.split(' ') {
-        made(rt, words.push(made(rt, Name::of(alloc, word))));
-    }
-    words
-}
-
-/// What a call with this line answers over a shelf, and writes to a sink. No other function calls the program, since
-/// each that does carries what its clauses tell.
+/// What a call with this line answers over a shelf, and writes to a sink. No other function here calls the program,
+/// since each that does carries what its clauses tell.
 pub(super) fn called<K: Keeper>(
     rt: &impl Abort,
     alloc: Global,
@@ -84,15 +63,10 @@ pub(super) fn called<K: Keeper>(
     done
 }
 
-// One count over windows of 60, whose keys are cut in three intervals.
-const CUT: &str =
-    r#"{"injectors":[{"name":"clicks","stream":"raw"}],"computations":[{"name":"per_minute","kind":"count","size":60,"reads":[{"stream":"raw","by":"key"}],"stream":"windows","cuts":["h","q"]}]}
-"#;
-
-// A shelf with that count and the fifty lines of the seed 7.
+// A shelf with the count in three intervals and the fifty lines of the seed 7.
 fn shelf_of_fifty(rt: &impl Abort, alloc: Global) -> MemShelf {
     let mut list = FileList::new(alloc);
-    push_file(rt, alloc, &mut list, "t.json", bytes_of(rt, alloc, CUT));
+    push_file(rt, alloc, &mut list, "t.json", bytes_of(rt, alloc, CUTS));
     push_file(
         rt,
         alloc,
@@ -103,8 +77,8 @@ fn shelf_of_fifty(rt: &impl Abort, alloc: Global) -> MemShelf {
     MemShelf::of(list, CallList::new(alloc))
 }
 
-/// What a call with this line answers over that count and those lines, on several threads. No other function calls
-/// the program so.
+/// What a call with this line answers over that count and those lines, on several threads. No other function here
+/// calls the program so.
 pub(super) fn rounds<R: Threads + Wait + Abort + Sync>(
     rt: &R,
     alloc: Global,
@@ -126,14 +100,6 @@ pub(super) fn rounds<R: Threads + Wait + Abort + Sync>(
     drop(words);
     drop(shelf);
     done
-}
-
-/// Whether this is what the program says of a status.
-pub(super) fn is_said(rt: &impl Abort, alloc: Global, status: &Status, message: &str) -> bool {
-    let said = made(rt, format!(in alloc; "{status}"));
-    let is_so = said.as_str() == message;
-    drop(said);
-    is_so
 }
 
 /// Whether a call with this line over these files says this, and writes this text.

@@ -3,7 +3,7 @@ use super::calls::keeper;
 use super::long_files::replays;
 use super::overtaken::{SCRIPTS, sides};
 use super::worlds::do_all;
-use super::{made, must};
+use crate::tests::{made, must_hold};
 use std::alloc::Global;
 use std::process::Abort;
 
@@ -31,7 +31,7 @@ fn plan(rt: &impl Abort, alloc: Global, script: &str) -> String {
 #[test]
 fn former_owners_change_no_text(rt: HostRuntime) {
     for (name, _, script) in &SCRIPTS {
-        must(
+        must_hold(
             &rt,
             replays(&rt, rt.alloc(), plan(&rt, rt.alloc(), script)),
             *name,

@@ -1,7 +1,15 @@
-//! Runs, each with its plan: their claims, and the text that one thread writes too.
-use super::calls::{COUNT, CUTS, Files};
-use super::looks::{Claims, has_claims, is_audited, keeper_fails, write_the_same};
-use super::must;
+//! The mode `run`, whose workers are threads: the claims of each run with its plan, and the text that one thread
+//! writes too.
+mod calls;
+mod gates;
+mod looks;
+mod refusals;
+
+use self::calls::Files;
+use self::looks::{Claims, has_claims, is_audited, keeper_fails, write_the_same};
+use crate::tests::calls::SOLO;
+use crate::tests::must_hold;
+use crate::tests::topologies::{COUNT, CUTS};
 
 // A stall, a crash, a move, and the three that change what is sent.
 const PLAN: &str = "at 2 stall 1
@@ -20,9 +28,6 @@ at 5 repeat 1
 at 6 lose 0
 at 7 hold 1
 ";
-
-// The line of the call that one thread works off.
-const SOLO: &str = "solo t.json e";
 
 // The line of the worked plan's call.
 const PLANNED: &str = "run --workers 4 --rounds 12 --plan p t.json e";
@@ -117,7 +122,7 @@ static RUNS: [(&str, Files<'static>, Claims<'static>); 7] = [
 #[test]
 fn each_run_has_its_claims(rt: HostRuntime) {
     for (line, files, claims) in &RUNS {
-        must(
+        must_hold(
             &rt,
             has_claims(&rt, rt.alloc(), line, *files, claims),
             *line,
@@ -128,7 +133,7 @@ fn each_run_has_its_claims(rt: HostRuntime) {
 #[test]
 fn each_run_writes_what_one_thread_writes(rt: HostRuntime) {
     for (line, files, _) in &RUNS {
-        must(
+        must_hold(
             &rt,
             write_the_same(&rt, rt.alloc(), line, SOLO, *files),
             *line,
@@ -145,7 +150,7 @@ static AUDITED: [(&str, &str); 2] = [
 #[test]
 fn a_runs_own_text_is_accepted(rt: HostRuntime) {
     for (line, topology) in &AUDITED {
-        must(&rt, is_audited(&rt, rt.alloc(), line, topology), *line);
+        must_hold(&rt, is_audited(&rt, rt.alloc(), line, topology), *line);
     }
 }
 
@@ -153,7 +158,7 @@ fn a_runs_own_text_is_accepted(rt: HostRuntime) {
 fn four_threads_end_twenty_times_as_one_does(rt: HostRuntime) {
     for time in 0..20u32 {
         let is_same = write_the_same(&rt, rt.alloc(), PLANNED, SOLO, (CUTS, PLAN));
-        must(&rt, is_same, time);
+        must_hold(&rt, is_same, time);
     }
 }
 
@@ -166,6 +171,6 @@ fn a_keeper_that_fails_at_a_first_claim_ends_the_run(rt: HostRuntime) {
     for (call, entries) in &FAILING {
         let line = "run --workers 3 --rounds 4 t.json e";
         let is_so = keeper_fails(&rt, rt.alloc(), line, (CUTS, ""), *call, *entries);
-        must(&rt, is_so, *call);
+        must_hold(&rt, is_so, *call);
     }
 }

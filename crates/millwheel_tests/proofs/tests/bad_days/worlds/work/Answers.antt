@@ -1,6 +1,6 @@
 use Rattle.std.proofs.Common.{◌∙◌, rules}
 use Rattle.node.proofs.KindLaws.{kinds_work}
-use Rattle.fault_tests.proofs.tests.worlds.work.Goals as goal
+use Rattle.millwheel_tests.proofs.tests.bad_days.worlds.work.Goals as goal
 
 -- the parts are those of the case's topology
 pub returns-in-Ok : goal.returns-in-Ok

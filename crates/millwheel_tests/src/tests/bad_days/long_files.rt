@@ -1,7 +1,10 @@
 //! Files at their greatest length, and plans and words at their greatest numbers, by the program's own call.
 use super::calls::says;
-use super::files::{COUNT, EVENTS, TEXT};
-use super::{made, must};
+use crate::tests::calls::SOLO;
+use crate::tests::events::EVENTS;
+use crate::tests::replays::TEXT;
+use crate::tests::topologies::COUNT;
+use crate::tests::{USAGE, made, must_hold};
 use std::alloc::Global;
 use std::process::Abort;
 
@@ -47,9 +50,6 @@ pub(super) fn replays(rt: &impl Abort, alloc: Global, plan: String) -> bool {
 
 // What is written where nothing is injected.
 const NOTHING: &str = "{\"fired\":0,\"handled\":0,\"injected\":0,\"late\":0}\n";
-
-// The line of a call that has no plan.
-const SOLO: &str = "solo t.json e";
 
 // Calls with a plan or events of so many letters: at their greatest length and one letter longer, what is said of each,
 // and what is written.
@@ -100,16 +100,13 @@ fn long_answers(
 #[test]
 fn files_go_up_to_their_lengths(rt: HostRuntime) {
     for (line, times, message, text) in &LONG {
-        must(
+        must_hold(
             &rt,
             long_answers(&rt, rt.alloc(), line, *times, message, text),
             *times,
         );
     }
 }
-
-// What is said of words that are no call.
-const USAGE: &str = "usage: millwheel MODE ARGS";
 
 // Calls with their plans, and what is said of each.
 static NUMBERED: [(&str, &str, &str); 17] = [
@@ -136,7 +133,7 @@ static NUMBERED: [(&str, &str, &str); 17] = [
 fn plans_and_words_go_up_to_their_numbers(rt: HostRuntime) {
     for (at, (line, plan, message)) in NUMBERED.iter().enumerate() {
         let text = if message.is_empty() { TEXT } else { "" };
-        must(
+        must_hold(
             &rt,
             answers(&rt, rt.alloc(), line, plan, EVENTS, message, text),
             at,

@@ -1,6 +1,7 @@
 //! What a test asks of one call: each look is a call of its own, and answers a `bool`.
-use super::calls::{Files, called, ended, keeper, sink};
-use super::made;
+use super::calls::{Files, called, ended, keeper};
+use crate::tests::calls::sink;
+use crate::tests::{is_said, made};
 use millwheel_cli::{Done, Status};
 use mw_ports::OpenGate;
 use mw_types::Entry;
@@ -158,14 +159,6 @@ pub(super) fn is_refused<R: Threads + Wait + Abort + Sync>(
     drop(done);
     drop(out);
     was_refused
-}
-
-// Whether this is what the program says of a status.
-fn is_said(rt: &impl Abort, alloc: Global, status: &Status, message: &str) -> bool {
-    let said = made(rt, format!(in alloc; "{status}"));
-    let is_so = said.as_str() == message;
-    drop(said);
-    is_so
 }
 
 // Whether a call that wrote this ended with KeeperFault after so many entries, and wrote nothing.

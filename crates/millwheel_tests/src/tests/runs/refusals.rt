@@ -1,10 +1,8 @@
 //! Runs that are refused before they begin.
-use super::calls::{COUNT, CUTS, Files};
+use super::calls::Files;
 use super::looks::is_refused;
-use super::must;
-
-// What is said of words that are no call.
-const USAGE: &str = "usage: millwheel MODE ARGS";
+use crate::tests::topologies::{COUNT, CUTS};
+use crate::tests::{USAGE, must_hold};
 
 // The line of a run that has a plan.
 const PLANNED: &str = "run --workers 4 --rounds 12 --plan p t.json e";
@@ -47,7 +45,7 @@ static REFUSED: [(&str, Files<'static>, &str); 11] = [
 #[test]
 fn each_run_is_refused(rt: HostRuntime) {
     for (line, files, message) in &REFUSED {
-        must(
+        must_hold(
             &rt,
             is_refused(&rt, rt.alloc(), line, *files, message),
             *line,

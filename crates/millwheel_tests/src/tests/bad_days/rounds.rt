@@ -1,7 +1,7 @@
 //! Rounds of two workers over a keeper whose call of each number fails, and the rows that it holds then.
 use super::calls::{ample, keeper, rounds};
 use super::each_call::has_its_rows;
-use super::must;
+use crate::tests::must_hold;
 use millwheel_cli::{Done, Status};
 use row_keeper::MemKeeper;
 use std::alloc::Global;
@@ -35,7 +35,7 @@ fn leave_their_rows<R: Threads + Wait + Abort + Sync>(rt: &R, alloc: Global, num
 #[test]
 fn rounds_whose_keeper_fails_leave_the_rows_of_their_history(rt: HostRuntime) {
     for number in 0..20 {
-        must(&rt, leave_their_rows(&rt, rt.alloc(), number), number);
+        must_hold(&rt, leave_their_rows(&rt, rt.alloc(), number), number);
     }
 }
 
@@ -59,6 +59,6 @@ fn is_taken<R: Threads + Wait + Abort + Sync>(rt: &R, alloc: Global, line: &str)
 #[test]
 fn runs_have_up_to_sixteen_workers_and_a_thousand_rounds(rt: HostRuntime) {
     for line in &RUNS {
-        must(&rt, is_taken(&rt, rt.alloc(), line), *line);
+        must_hold(&rt, is_taken(&rt, rt.alloc(), line), *line);
     }
 }

@@ -1,7 +1,7 @@
 //! Keepers that show a row which the run did not write.
 use super::calls::{ample, called, shelf};
 use super::files::FIRST;
-use super::{made, must};
+use crate::tests::{made, must_hold};
 use hex::decode;
 use millwheel_cli::Status;
 use mw_types::{Bytes, Key, NoMemory, RowName};
@@ -182,6 +182,6 @@ fn ends_so(rt: &impl Abort, alloc: Global, shown: &Shown, fits: bool) -> bool {
 #[test]
 fn a_keeper_that_lies_is_used_or_named(rt: HostRuntime) {
     for (name, fits, shown) in &LIES {
-        must(&rt, ends_so(&rt, rt.alloc(), shown, *fits), *name);
+        must_hold(&rt, ends_so(&rt, rt.alloc(), shown, *fits), *name);
     }
 }

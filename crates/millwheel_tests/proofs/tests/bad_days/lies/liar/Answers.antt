@@ -2,7 +2,7 @@ use Rattle.std.proofs.Common.{◌≡◌, ◌∙◌, ◌++◌, ◌∷◌, [], Lis
 use Rattle.std.specs.List.Sorted.{IsStrictlySortedBy}
 use Rattle.row_keeper.specs.Rows.{AreInOrder, entry_of}
 use Rattle.row_keeper.specs.declared.keeper.KeptRow.{KeptRow}
-use Rattle.fault_tests.proofs.tests.lies.liar.Goals as goal
+use Rattle.millwheel_tests.proofs.tests.bad_days.lies.liar.Goals as goal
 
 -- one row stands in order
 one_in_order : (rows : List KeptRow) (row : KeptRow) → rows ≡ row ∷ [] → AreInOrder (map entry_of rows)

@@ -1,7 +1,9 @@
 //! A gate that holds workers, so that two have to run beside each other.
-use super::calls::{CUTS, called, keeper, sink};
+use super::calls::{called, keeper};
 use super::looks::{is_ok, is_solo};
-use super::must;
+use crate::tests::calls::sink;
+use crate::tests::must_hold;
+use crate::tests::topologies::CUTS;
 use mw_ports::{Gate, Point};
 use std::alloc::Global;
 use std::process::Abort;
@@ -125,5 +127,5 @@ fn ends_by_its_events<R: Threads + Wait + Abort + Sync>(rt: &R, alloc: Global) -
 // turn before that: on one thread a hold would run out.
 #[test]
 fn two_workers_run_side_by_side(rt: HostRuntime) {
-    must(&rt, ends_by_its_events(&rt, rt.alloc()), "the held run");
+    must_hold(&rt, ends_by_its_events(&rt, rt.alloc()), "the held run");
 }

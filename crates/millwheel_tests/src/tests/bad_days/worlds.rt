@@ -5,9 +5,10 @@ ghost use Rattle.node.specs.Works.{IsWorkOf};
 ghost use Rattle.computations.specs.Parts.{HasState, part_record, part_timer};
 ghost use Rattle.scripts.specs.Steps.{IsStep};
 
-use super::files::{COUNT, EVENTS};
-use super::made;
 use super::overtaken::sides;
+use crate::tests::events::EVENTS;
+use crate::tests::made;
+use crate::tests::topologies::COUNT;
 use book::Book;
 use computations::Kinds;
 use injector::{Items, ItemsList, read_lines};

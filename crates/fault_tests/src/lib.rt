@@ -1,9 +1,0 @@
-//! Runs on a bad day: each call of keeper, files and output that fails in turn, the acts of former owners, a keeper that
-//! lies, and files at their greatest length.
-//!
-//! Stands on `millwheel_cli` and `world`, and has tests alone, since there each crate would be proved once more for
-//! them. No call is public.
-#![tactic(auto)]
-
-#[cfg(test)]
-mod tests;
