@@ -2,7 +2,7 @@
 -- Akidau et al., VLDB 2013, section 6.2, where a sequencer is checked at each write, and section 7.1 for
 -- the intervals. Own: a sequencer is the commit number of a claim, and what is known under a claim that
 -- was overtaken.
-use Rattle.std.specs.Prelude.{◌≡◌, ◌≢◌, ℕ, ◌+◌, ◌<◌, ◌==◌, not, if◌then◌else◌, Bool, false, List, [], ◌∷◌, ◌++◌, length, slice_get, take, drop, fold, All, Option, Some, None}
+use Rattle.std.specs.Prelude.{◌≡◌, ◌≢◌, ℕ, ◌+◌, ◌<◌, ◌==◌, not, if◌then◌else◌, Bool, false, List, [], ◌∷◌, ◌++◌, slice_get, take, drop, fold, All, Option, Some, None}
 use Rattle.std.specs.Option.{option_and_then}
 use Rattle.std.specs.List.{enumerate_from, position_from, take_while}
 use Rattle.mw_types.specs.declared.identity.RowName.{RowName}

@@ -1,6 +1,6 @@
 -- How a history keeps its entries: their numbers in 32 bits, each row's short name once where that is cheap, and what
 -- is longer in lists of its kind, in the order of the entries. No public clause cites this module. Own.
-use Rattle.std.specs.Prelude.{ℕ, ◌≡◌, ◌<◌, ◌≤◌, ◌+◌, [], ◌∷◌, List, All, ⊤, length, slice_index_or, false, pos}
+use Rattle.std.specs.Prelude.{ℕ, ◌≡◌, ◌<◌, ◌+◌, [], ◌∷◌, List, All, ⊤, length, slice_index_or, false, pos}
 use Rattle.mw_types.specs.declared.identity.RowName.{RowName}
 use Rattle.mw_types.specs.declared.record.Record.{Record}
 use Rattle.mw_types.specs.declared.state.State.TheVariants.{Injector}

@@ -1,6 +1,6 @@
 use Rattle.std.proofs.Common.{◌<◌, length, arith}
 use Rattle.run_history.specs.Lent.{lent}
-use Rattle.run_history.proofs.Reaching.{reached_all, reached_none, reached_step}
+use Rattle.run_history.proofs.Reaching.{reached_none, reached_step}
 use Rattle.run_history.proofs.emitted.emitted.Goals as goal
 
 pub loop-commit-init : goal.loop-commit-init

@@ -1,7 +1,6 @@
 use Rattle.std.proofs.Common.{◌∷◌, ◌++◌, [], ap, map, subst, sym, ◌∙◌}
 use Rattle.mw_types.specs.declared.entry.Entry.{Entry}
 use Rattle.std.specs.Prelude.{List}
-use Rattle.run_history.specs.declared.packed.Packed.{Packed}
 use Rattle.run_history.specs.Packing.{ArePacked, unpacked}
 use Rattle.run_history.proofs.Packings.{anyway, map_kept, packed_more, put_back, unpacked_more}
 use Rattle.run_history.proofs.history.History.push.Goals as goal
