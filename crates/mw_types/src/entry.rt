@@ -110,8 +110,8 @@ impl Duplicate for Entry {
     }
 }
 
-// A line that was injected, with an equal record.
-fn copied_inject(
+/// A line that was injected, with an equal record.
+pub fn copied_inject(
     alloc: Global,
     seq: u64,
     part: u32,
@@ -129,8 +129,8 @@ fn copied_inject(
     })
 }
 
-// A record that was handled, with an equal row and equal effects.
-fn copied_handle(
+/// A record that was handled, with an equal row and equal effects.
+pub fn copied_handle(
     alloc: Global,
     seq: u64,
     row: &RowName,
@@ -149,8 +149,8 @@ fn copied_handle(
     })
 }
 
-// A timer that fired, with an equal row and equal effects.
-fn copied_fire(
+/// A timer that fired, with an equal row and equal effects.
+pub fn copied_fire(
     alloc: Global,
     seq: u64,
     row: &RowName,
@@ -171,16 +171,26 @@ fn copied_fire(
     })
 }
 
-// What a sender learnt, with an equal row.
-fn copied_ack(alloc: Global, seq: u64, row: &RowName, id: RecordId) -> Result<Entry, NoMemory>
+/// What a sender learnt, with an equal row.
+pub fn copied_ack(
+    alloc: Global,
+    seq: u64,
+    row: &RowName,
+    id: RecordId,
+) -> Result<Entry, NoMemory>
     ensures { IfOk result (λ entry. entry ≡ Ack seq row.now id) }
 {
     let row = row.copy(alloc)?;
     Ok(Entry::Ack { seq, row, id })
 }
 
-// What a row forgot, with an equal row.
-fn copied_purge(alloc: Global, seq: u64, row: &RowName, floor: u64) -> Result<Entry, NoMemory>
+/// What a row forgot, with an equal row.
+pub fn copied_purge(
+    alloc: Global,
+    seq: u64,
+    row: &RowName,
+    floor: u64,
+) -> Result<Entry, NoMemory>
     ensures { IfOk result (λ entry. entry ≡ Purge seq row.now floor) }
 {
     let row = row.copy(alloc)?;

@@ -125,15 +125,19 @@ pub record ArePacked (d : Details) (ps : List Packed) : Type 0 where
 abbrev pub no_item : Record
 no_item = record { key = []; stamp = 0; value = pos 0; late = false }
 
+-- what a handler leaves that does nothing
 abbrev pub no_effects : EffectsView
 no_effects = record { state = Injector 0; timers = []; productions = [] }
 
+-- the detail of a handled record under a number that nothing has
 abbrev pub no_handled : Handled
 no_handled = record { index = 0; effects = no_effects }
 
+-- the detail of a fired timer under such a number
 abbrev pub no_fired : Fired
 no_fired = record { timer = record { tag = 0; time = 0; late = false }; mark = 0; effects = no_effects }
 
+-- the entry at a place that a history has not
 abbrev pub no_entry : Entry
 no_entry = entries.Claim 0 0
 

@@ -233,7 +233,8 @@ impl Details {
         ensures entry { result ≡ unpacked self.old (Fire seq row fired) }
         ensures kept { KeepsDetails self.new self.old }
         ensures names { self.new.names ≡ self.old.names }
-        ensures counted { counts_of self.old ≡ with_entry (Fire seq row fired) (counts_of self.new) }
+        ensures counted { counts_of self.old
+            ≡ with_entry (Fire seq row fired) (counts_of self.new) }
     {
         let Fired {
             timer,

@@ -68,7 +68,8 @@ impl Emitter {
 
         ensures emitted { OnOk result ((history : List Happened) →
             HasFollowed topology.now history self.old → emissions.new ≡ emissions.old
-            ++ emissions_of topology.now (run_of topology.now history).made commit (lent entry.now)) }
+            ++ emissions_of topology.now (run_of topology.now history).made commit
+                (lent entry.now)) }
         ensures followed { OnOk result ((history : List Happened) →
             HasFollowed topology.now history self.old →
             HasFollowed topology.now (history ++ (lent entry.now) ∷ []) self.new) }
@@ -86,7 +87,8 @@ impl Emitter {
 
 // Whether the cause of an entry is late.
 fn is_late(late: &NumberList, entry: &EntryRef<'_>) -> bool
-    ensures { (made : List Sent) → KnowsLate late.now made → result ≡ late_cause made (lent entry.now) }
+    ensures { (made : List Sent) → KnowsLate late.now made →
+        result ≡ late_cause made (lent entry.now) }
 {
     match *entry {
         EntryRef::Inject { item, .. } => item.late,

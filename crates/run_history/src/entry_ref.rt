@@ -2,6 +2,7 @@
 ghost use Rattle.std.specs.Prelude.{◌≡◌, IfOk};
 ghost use Rattle.run_history.specs.Lent.{lent};
 
+use mw_types::{copied_ack, copied_fire, copied_handle, copied_inject, copied_purge};
 use mw_types::{Duplicate, Effects, Entry, NoMemory, Record, RecordId, RowName, Timer};
 use std::alloc::Global;
 
@@ -139,46 +140,22 @@ impl<'a> EntryRef<'a> {
                 part,
                 line,
                 item,
-            } => Ok(Entry::Inject {
-                seq,
-                part,
-                line,
-                item: item.copy(alloc)?,
-            }),
+            } => copied_inject(alloc, seq, part, line, item),
             EntryRef::Handle {
                 seq,
                 row,
                 id,
                 effects,
-            } => Ok(Entry::Handle {
-                seq,
-                row: row.copy(alloc)?,
-                id,
-                effects: effects.copy(alloc)?,
-            }),
+            } => copied_handle(alloc, seq, row, id, effects),
             EntryRef::Fire {
                 seq,
                 row,
                 timer,
                 mark,
                 effects,
-            } => Ok(Entry::Fire {
-                seq,
-                row: row.copy(alloc)?,
-                timer,
-                mark,
-                effects: effects.copy(alloc)?,
-            }),
-            EntryRef::Ack { seq, row, id } => Ok(Entry::Ack {
-                seq,
-                row: row.copy(alloc)?,
-                id,
-            }),
-            EntryRef::Purge { seq, row, floor } => Ok(Entry::Purge {
-                seq,
-                row: row.copy(alloc)?,
-                floor,
-            }),
+            } => copied_fire(alloc, seq, row, timer, mark, effects),
+            EntryRef::Ack { seq, row, id } => copied_ack(alloc, seq, row, id),
+            EntryRef::Purge { seq, row, floor } => copied_purge(alloc, seq, row, floor),
         }
     }
 }

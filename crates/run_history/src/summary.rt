@@ -85,7 +85,8 @@ impl Counts {
 
         ensures fired { result.fired ≡ self.fired + count_by is_fire (lent entry.now ∷ []) }
         ensures handled { result.handled ≡ self.handled + count_by is_handle (lent entry.now ∷ []) }
-        ensures injected { result.injected ≡ self.injected + count_by is_inject (lent entry.now ∷ []) }
+        ensures injected { result.injected
+            ≡ self.injected + count_by is_inject (lent entry.now ∷ []) }
         ensures late { result.late ≡ self.late + count_by is_late (lent entry.now ∷ []) }
     {
         match *entry {
