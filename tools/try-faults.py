@@ -18,7 +18,7 @@ WORDS = {
     "the first example": ["solo", "t.json", "e"],
     "a replay": ["replay", "--plan", "old_owner.plan", "t.json", "e"],
     "the plain count": ["plain", "t.json", "e"],
-    "the log job": ["solo", *("../crates/millwheel_in_memory/data/" + it for it in ("topology.json", "front1.jsonl", "front2.jsonl"))],
+    "the log job": ["solo", *("requests/" + it for it in ("topology.json", "front1.jsonl", "front2.jsonl"))],
 }
 # More calls than this are tried in even steps.
 MOST = 400
