@@ -277,8 +277,7 @@ fn sending(
     requires id { IfSome id IsId }
     requires new { IfSome id (λ id. is_finished id row.now ≡ false) }
     ensures may { IfOk result (MayMove row.now) }
-    ensures left {
-        let sent = deliveries_made case.now.topology name.now.part made.now late commit in
+    ensures left { let sent = deliveries_made case.now.topology name.now.part made.now late commit in
         IfOk result (λ moves. moved moves row.now ≡ record row.now {
           state = state;
           timers = unwrap_or timers row.now.timers;

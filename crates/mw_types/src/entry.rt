@@ -172,12 +172,7 @@ pub fn copied_fire(
 }
 
 /// What a sender learnt, with an equal row.
-pub fn copied_ack(
-    alloc: Global,
-    seq: u64,
-    row: &RowName,
-    id: RecordId,
-) -> Result<Entry, NoMemory>
+pub fn copied_ack(alloc: Global, seq: u64, row: &RowName, id: RecordId) -> Result<Entry, NoMemory>
     ensures { IfOk result (λ entry. entry ≡ Ack seq row.now id) }
 {
     let row = row.copy(alloc)?;
@@ -185,12 +180,7 @@ pub fn copied_ack(
 }
 
 /// What a row forgot, with an equal row.
-pub fn copied_purge(
-    alloc: Global,
-    seq: u64,
-    row: &RowName,
-    floor: u64,
-) -> Result<Entry, NoMemory>
+pub fn copied_purge(alloc: Global, seq: u64, row: &RowName, floor: u64) -> Result<Entry, NoMemory>
     ensures { IfOk result (λ entry. entry ≡ Purge seq row.now floor) }
 {
     let row = row.copy(alloc)?;

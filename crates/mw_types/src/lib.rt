@@ -27,8 +27,9 @@ mod tree;
 
 pub use delivery::{Delivery, DeliveryList, Emission, EmissionList};
 pub use effects::Effects;
-pub use entry::{copied_ack, copied_fire, copied_handle, copied_inject, copied_purge};
-pub use entry::{Entry, EntryList};
+pub use entry::{
+    Entry, EntryList, copied_ack, copied_fire, copied_handle, copied_inject, copied_purge,
+};
 pub use identity::{IdList, RecordId, RowName};
 pub use key::{Key, KeyList, PartCuts, PartCutsList};
 pub use kind::{Kind, KindTable};

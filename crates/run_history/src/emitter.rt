@@ -69,7 +69,7 @@ impl Emitter {
         ensures emitted { OnOk result ((history : List Happened) →
             HasFollowed topology.now history self.old → emissions.new ≡ emissions.old
             ++ emissions_of topology.now (run_of topology.now history).made commit
-                (lent entry.now)) }
+            (lent entry.now)) }
         ensures followed { OnOk result ((history : List Happened) →
             HasFollowed topology.now history self.old →
             HasFollowed topology.now (history ++ (lent entry.now) ∷ []) self.new) }

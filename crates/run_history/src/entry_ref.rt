@@ -2,8 +2,10 @@
 ghost use Rattle.std.specs.Prelude.{◌≡◌, IfOk};
 ghost use Rattle.run_history.specs.Lent.{lent};
 
-use mw_types::{copied_ack, copied_fire, copied_handle, copied_inject, copied_purge};
-use mw_types::{Duplicate, Effects, Entry, NoMemory, Record, RecordId, RowName, Timer};
+use mw_types::{
+    Duplicate, Effects, Entry, NoMemory, Record, RecordId, RowName, Timer, copied_ack, copied_fire,
+    copied_handle, copied_inject, copied_purge,
+};
 use std::alloc::Global;
 
 /// One entry of the history, whose longer parts are lent. Its place in the history, from 0, is its
