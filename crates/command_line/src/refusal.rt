@@ -4,7 +4,7 @@ use mw_types::NoMemory;
 use std::alloc::AllocError;
 
 /// Why there is no command.
-#[derive(Clone, Copy, Debug, PartialEq, Eq)]
+#[derive(Clone, Copy, PartialEq, Eq)]
 pub enum WordsRefusal {
     /// The words are no command.
     Usage,

@@ -2,7 +2,7 @@
 use mw_types::{KeyRefusal, NoMemory};
 
 /// The rules of a line, in the order in which they are tried: the first that it breaks.
-#[derive(Clone, Copy, Debug, PartialEq, Eq)]
+#[derive(Clone, Copy, PartialEq, Eq)]
 pub enum LineWhy {
     /// The line is not one JSON text in UTF-8.
     NotJson,
@@ -19,7 +19,7 @@ pub enum LineWhy {
 }
 
 /// Why an event file was refused.
-#[derive(Clone, Copy, Debug, PartialEq, Eq)]
+#[derive(Clone, Copy, PartialEq, Eq)]
 pub enum LinesRefusal {
     /// This line, counted from 1, is the first that breaks a rule.
     Line {

@@ -3,7 +3,7 @@
 use mw_types::NoMemory;
 
 /// Why a text was not collected.
-#[derive(Clone, Copy, Debug, PartialEq, Eq)]
+#[derive(Clone, Copy, PartialEq, Eq)]
 pub enum CollectRefusal {
     /// A live line has the id of an earlier one, and other bytes.
     Differs {

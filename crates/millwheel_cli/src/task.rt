@@ -7,7 +7,7 @@ use run_history::Case;
 use schedules::Schedule;
 
 /// What is to be written of a run.
-#[derive(Debug, Drop, Clone, Copy)]
+#[derive(Drop, Clone, Copy)]
 pub enum Wanted {
     /// Its result.
     ResultAlone,

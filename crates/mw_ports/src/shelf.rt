@@ -7,7 +7,7 @@ use mw_types::{Bytes, NoMemory};
 use std::alloc::Global;
 
 /// Why a file was not read.
-#[derive(Clone, Copy, Debug, PartialEq, Eq)]
+#[derive(Clone, Copy, PartialEq, Eq)]
 pub enum ShelfFault {
     /// There is no file of that name.
     Missing,

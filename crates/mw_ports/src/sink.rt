@@ -8,7 +8,7 @@ use mw_types::NoMemory;
 use std::alloc::AllocError;
 
 /// Why a piece was not written.
-#[derive(Clone, Copy, Debug, PartialEq, Eq)]
+#[derive(Clone, Copy, PartialEq, Eq)]
 pub enum SinkFault {
     /// The outside world failed.
     Failed,

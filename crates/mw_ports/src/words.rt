@@ -10,7 +10,7 @@ use std::env::Args;
 use std::io::{Error, ErrorKind};
 
 /// Why the words of a call were not read.
-#[derive(Clone, Copy, Debug, PartialEq, Eq)]
+#[derive(Clone, Copy, PartialEq, Eq)]
 pub enum WordsFault {
     /// Memory ran out.
     NoMemory,

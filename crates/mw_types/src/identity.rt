@@ -11,7 +11,7 @@ use uuid::Uuid;
 
 /// The id that a record gets when it is produced: the commit number of the entry that made it, and
 /// its place among what that entry made.
-#[derive(Clone, Copy, Debug, PartialEq, Eq, PartialOrd, Ord)]
+#[derive(Clone, Copy, PartialEq, Eq, PartialOrd, Ord)]
 pub struct RecordId {
     /// The entry's commit number, below 2^32.
     pub commit: u64,

@@ -2,7 +2,7 @@
 use crate::memory::NoMemory;
 
 /// Why a text is no key.
-#[derive(Clone, Copy, Debug, PartialEq, Eq)]
+#[derive(Clone, Copy, PartialEq, Eq)]
 pub enum KeyRefusal {
     /// The text has no byte, or more than 256.
     BadLength,
@@ -22,7 +22,7 @@ impl From<NoMemory> for KeyRefusal {
 }
 
 /// Why a plan was refused.
-#[derive(Clone, Copy, Debug, PartialEq, Eq)]
+#[derive(Clone, Copy, PartialEq, Eq)]
 pub enum PlanRefusal {
     /// This line, counted from 1, is the first that is out of form.
     Line {

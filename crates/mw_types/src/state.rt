@@ -8,7 +8,7 @@ use crate::shared_list::SharedList;
 use std::alloc::Global;
 
 /// A window that is open, and how many records it has.
-#[derive(Clone, Copy, Debug, PartialEq, Eq)]
+#[derive(Clone, Copy, PartialEq, Eq)]
 pub struct Window {
     /// The first timestamp after the window, in whole microseconds.
     pub end: u64,
@@ -26,7 +26,7 @@ impl Duplicate for Window {
 }
 
 /// A total that waits for its timer.
-#[derive(Clone, Copy, Debug, PartialEq, Eq)]
+#[derive(Clone, Copy, PartialEq, Eq)]
 pub struct HeldTotal {
     /// The timestamp of the record that brought it, in whole microseconds.
     pub stamp: u64,

@@ -5,7 +5,7 @@ use crate::seq::Seq;
 use std::alloc::Global;
 
 /// A timer of one row, which is the same timer as another of that row with this tag and time.
-#[derive(Clone, Copy, Debug, PartialEq, Eq)]
+#[derive(Clone, Copy, PartialEq, Eq)]
 pub struct Timer {
     /// What its computation knows it by.
     pub tag: u64,

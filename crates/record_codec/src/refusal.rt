@@ -1,7 +1,7 @@
 //! Why bytes gave no row.
 
 /// Why bytes gave no row.
-#[derive(Clone, Copy, Debug, PartialEq, Eq)]
+#[derive(Clone, Copy, PartialEq, Eq)]
 pub enum RowRefusal {
     /// The bytes are no row's spelling.
     Damaged,

@@ -9,7 +9,7 @@ use mw_types::{Bytes, Duplicate, NoMemory, RowName, Seq};
 use std::alloc::Global;
 
 /// Why a keeper did not do a call.
-#[derive(Clone, Copy, Debug, PartialEq, Eq)]
+#[derive(Clone, Copy, PartialEq, Eq)]
 pub enum KeeperFault {
     /// The keeper failed.
     Failed,

@@ -3,7 +3,7 @@ use mw_types::NoMemory;
 use std::alloc::{AllocError, AllocFailed};
 
 /// Why bytes gave no state.
-#[derive(Clone, Copy, Debug, PartialEq, Eq)]
+#[derive(Clone, Copy, PartialEq, Eq)]
 pub enum StateRefusal {
     /// The bytes are no state's spelling.
     Damaged,

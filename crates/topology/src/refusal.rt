@@ -2,7 +2,7 @@
 use mw_types::NoMemory;
 
 /// The rules of a topology file, in the order in which they are tried: the first that it breaks.
-#[derive(Clone, Copy, Debug, PartialEq, Eq)]
+#[derive(Clone, Copy, PartialEq, Eq)]
 pub enum TopologyRefusal {
     /// The bytes are not one JSON text in UTF-8.
     NotJson,

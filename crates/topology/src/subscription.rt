@@ -1,7 +1,7 @@
 //! What a computation reads, and how it extracts its keys, Akidau et al., VLDB 2013, section 4.2.
 
 /// How a consumer extracts its key from a record's.
-#[derive(Clone, Copy, Debug, PartialEq, Eq)]
+#[derive(Clone, Copy, PartialEq, Eq)]
 pub enum By {
     /// The whole key.
     Key,
@@ -12,7 +12,7 @@ pub enum By {
 }
 
 /// One reading of a stream by a computation.
-#[derive(Clone, Copy, Debug, PartialEq, Eq)]
+#[derive(Clone, Copy, PartialEq, Eq)]
 pub struct Subscription {
     /// The part that reads.
     pub to: u32,

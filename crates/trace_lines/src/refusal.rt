@@ -3,7 +3,7 @@
 use mw_types::NoMemory;
 
 /// What is wrong with the first wrong line of a printed history.
-#[derive(Clone, Copy, Debug, PartialEq, Eq)]
+#[derive(Clone, Copy, PartialEq, Eq)]
 pub enum AuditWhy {
     /// It begins as the line of an entry, and is that of none under its number.
     NotALine,
@@ -16,7 +16,7 @@ pub enum AuditWhy {
 }
 
 /// Why an audit was refused.
-#[derive(Clone, Copy, Debug, PartialEq, Eq)]
+#[derive(Clone, Copy, PartialEq, Eq)]
 pub enum AuditRefusal {
     /// The text is not that of a lawful run.
     Bad {
